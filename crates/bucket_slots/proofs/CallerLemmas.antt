@@ -1,0 +1,128 @@
+-- What callers of a bucket cite: its live pairs after a call, and what a search says of them.
+use Rattle.std.proofs.Common.{ℕ, ◌+◌, ◌-◌, ◌<◌, ◌≡◌, ◌==◌, ◌&&◌, Bool, true, false, cond, Option, Some, None, List, [], ◌∷◌, ◌++◌, length, map, get_or, set, refl, sym, ap, subst, ◌∙◌, arith, suc, zero}
+use Rattle.std.specs.List.{All, AllByRecursion, Contains, position, remove}
+use Rattle.std.specs.List.Sorted.{IsPermutation}
+use Rattle.std.proofs.lemmas.List.Elements.{All-append, All-from_recursion}
+use Rattle.std.proofs.lemmas.List.Sorted.{IsPermutation-middle, IsPermutation-sym, IsPermutation-trans, IsPermutation-map, Contains-permutation}
+use Rattle.std.proofs.lemmas.Bool.{and_parts}
+use Rattle.bucket_slots.specs.declared.bucket.TheConstants.{INDEX}
+use Rattle.bucket_slots.specs.BucketView.{BucketView, Place, all_slots, block_at, entries_in, first_from, first_place, flattened, pairs_in, place_at_position, slot_in, with_slot_at}
+use Rattle.bucket_slots.specs.Clearing.{slots_after_insertion}
+use Rattle.bucket_slots.specs.Placing.{head_with, slots_with, with_slot_placed}
+use Rattle.bucket_slots.specs.Removing.{slots_without, slots_without_at}
+use Rattle.bucket_slots.specs.Searching.{is_wanted, place_wanted}
+use Rattle.bucket_slots.specs.Slots.{Slot, all_free, free, is_free, live, live_entries, live_pair, marked, slot_at}
+use Rattle.bucket_slots.proofs.BucketPlacing.{free_at, no_marks_looked_at}
+use Rattle.bucket_slots.proofs.ChainRows.{rows_without-empty, rows_without-full}
+use Rattle.bucket_slots.proofs.Entries.{exchanged, live_entries-append, live_entries-put, live_entries-remove, live_entries-take, map-live_entries}
+use Rattle.bucket_slots.proofs.FirstPlaces.{first_from-Some, passes}
+use Rattle.bucket_slots.proofs.Pointing.{row_there}
+use Rattle.bucket_slots.proofs.Positions.{position-None}
+
+nowhere : (block : ℕ) (q : Option ℕ) (later : Option Place) → place_at_position block q later ≡ None → (q ≡ None) × (later ≡ None)
+nowhere block None later e = (refl, e)
+nowhere block (Some pos) later e = absurd cc
+
+module _ {K V : Type 0} where
+  -- the live pairs are the entries without their bytes
+  pub map-entries_in : (s : BucketView K V) → map (λ (e : (K × V) × ℕ). e.0) (entries_in s) ≡ pairs_in s
+  map-entries_in s = map-live_entries (all_slots s)
+
+  -- another slot at a place exchanges ys for xs, where it does so in its row
+  with_slot_exchanges : (xs ys : List ((K × V) × ℕ)) (s : BucketView K V) (b pos : ℕ) (x : Slot K V) → b < length (s.own ∷ s.chain) → IsPermutation (xs ++ live_entries (block_at s b)) (ys ++ live_entries (set (block_at s b) pos x))
+      → IsPermutation (xs ++ entries_in s) (ys ++ entries_in (with_slot_at s b pos x))
+  with_slot_exchanges xs ys s zero pos x h moved = exchanged xs ys (s.own ∷ s.chain) zero (set s.own pos x) h moved
+  with_slot_exchanges xs ys s (suc i) pos x h moved = exchanged xs ys (s.own ∷ s.chain) (suc i) (set (get_or s.chain i []) pos x) h moved
+
+  block_of_rows : (s : BucketView K V) (b : ℕ) → get_or (s.own ∷ s.chain) b [] ≡ block_at s b
+  block_of_rows s zero = refl
+  block_of_rows s (suc n) = refl
+
+  placed : (s : BucketView K V) (p : K × V) (b : ℕ) (found : Option Place) → first_place is_free s ≡ found → IsPermutation ((p, b) ∷ entries_in s) (entries_in (with_slot_placed s (live p b) found))
+  placed s p b None e =
+      rw (live_entries-append s.own (flattened s.chain), live_entries-append s.own (head_with (live p b) ++ flattened s.chain)) (IsPermutation-sym _ _ (IsPermutation-middle (live_entries s.own) (p, b) (live_entries (flattened s.chain))))
+  placed s p b (Some at) e =
+      let found = first_from-Some is_free 0 (s.own ∷ s.chain) at e in
+      let off : at.block - 0 ≡ at.block = omega arith in
+      let vacant = free_at (block_at s at.block) at.pos (rw (← block_of_rows s at.block) (rw off at found.2)) in
+      with_slot_exchanges ((p, b) ∷ []) [] s at.block at.pos (live p b) (rw off at found.1) (live_entries-put (block_at s at.block) at.pos p b vacant.within vacant.slot)
+
+  -- an insertion adds its pair and nothing else
+  pub entries_in-slots_with : (s : BucketView K V) (p : K × V) (b : ℕ) → IsPermutation ((p, b) ∷ entries_in s) (entries_in (slots_with s p b))
+  entries_in-slots_with s p b = placed s p b (first_place is_free s) refl
+
+  -- an insertion into a bucket that is no index looks at no marks
+  pub slots_after_insertion-unmarked : (kind : ℕ) (keeps : ℕ → Bool) (s : BucketView K V) (p : K × V) (b : ℕ) → (kind ≡ INDEX → ⊥) → slots_after_insertion kind keeps s p b ≡ slots_with s p b
+  slots_after_insertion-unmarked kind keeps s p b other = let e = no_marks_looked_at kind s other in rw e refl
+
+  live_is : (x : Slot K V) (p : K × V) → live_pair x ≡ Some p → (b : ℕ) × (x ≡ live p b)
+  live_is free p e = absurd cc
+  live_is (live q b) p e = let same : q ≡ p = cc in (b, ap (λ r. live r b) same)
+  live_is (marked q b) p e = absurd cc
+
+  linked_taken : (s : BucketView K V) (i pos : ℕ) (p : K × V) (b : ℕ) (empty : Bool) → i < length s.chain → all_free (set (get_or s.chain i []) pos free) ≡ empty → slot_at (get_or s.chain i []) pos ≡ live p b
+      → IsPermutation (entries_in s) ((p, b) ∷ entries_in (slots_without_at s (suc i) pos))
+  linked_taken s i pos p b true within e here =
+      let row = set (get_or s.chain i []) pos free in
+      let gone = live_entries-remove (s.own ∷ s.chain) (suc i) row (omega arith) e in
+      rw (rows_without-empty s.chain i pos e, ← gone) (with_slot_exchanges [] ((p, b) ∷ []) s (suc i) pos free (omega arith) (live_entries-take (get_or s.chain i []) pos p b here))
+  linked_taken s i pos p b false within e here =
+      rw (rows_without-full s.chain i pos e) (with_slot_exchanges [] ((p, b) ∷ []) s (suc i) pos free (omega arith) (live_entries-take (get_or s.chain i []) pos p b here))
+
+  not_free : (x : Slot K V) (p : K × V) (b : ℕ) → x ≡ live p b → is_free x ≡ false
+  not_free x p b e = ap is_free e
+
+  taken : (s : BucketView K V) (block pos : ℕ) (p : K × V) (b : ℕ) → slot_at (block_at s block) pos ≡ live p b → IsPermutation (entries_in s) ((p, b) ∷ entries_in (slots_without_at s block pos))
+  taken s zero pos p b here = with_slot_exchanges [] ((p, b) ∷ []) s zero pos free (omega arith) (live_entries-take s.own pos p b here)
+  taken s (suc i) pos p b here =
+      linked_taken s i pos p b (all_free (set (get_or s.chain i []) pos free)) (row_there s.chain i pos (not_free (slot_at (get_or s.chain i []) pos) p b here)) refl here
+
+  -- a removal takes its pair and nothing else
+  pub entries_in-slots_without : (s : BucketView K V) (at : Place) (p : K × V) → live_pair (slot_in s at) ≡ Some p → (b : ℕ) × IsPermutation (entries_in s) ((p, b) ∷ entries_in (slots_without s at))
+  entries_in-slots_without s at p e = let h = live_is (slot_in s at) p e in (h.0, taken s at.block at.pos p h.0 h.1)
+
+  -- the same of pairs alone
+  pub pairs_in-slots_with : (s : BucketView K V) (p : K × V) (b : ℕ) → IsPermutation (p ∷ pairs_in s) (pairs_in (slots_with s p b))
+  pairs_in-slots_with s p b =
+      rw (← map-entries_in s, ← map-entries_in (slots_with s p b)) (IsPermutation-map (λ (e : (K × V) × ℕ). e.0) ((p, b) ∷ entries_in s) (entries_in (slots_with s p b)) (entries_in-slots_with s p b))
+
+  pub pairs_in-slots_without : (s : BucketView K V) (at : Place) (p : K × V) → live_pair (slot_in s at) ≡ Some p → IsPermutation (pairs_in s) (p ∷ pairs_in (slots_without s at))
+  pairs_in-slots_without s at p e =
+      let h = entries_in-slots_without s at p e in
+      rw (← map-entries_in s, ← map-entries_in (slots_without s at)) (IsPermutation-map (λ (e : (K × V) × ℕ). e.0) (entries_in s) ((p, h.0) ∷ entries_in (slots_without s at)) h.1)
+
+  -- p stands at a place, and its key passes
+  pub record IsFound (test : K → Bool) (s : BucketView K V) (at : Place) (p : K × V) : Type 0 where
+    pub slot : live_pair (slot_in s at) ≡ Some p
+    pub wanted : test p.0 ≡ true
+    pub contained : Contains (pairs_in s) p
+
+  wanted_pair : (test : K → Bool) (byte : ℕ) (x : Slot K V) → is_wanted test byte x ≡ true → (p : K × V) × (live_pair x ≡ Some p) × (test p.0 ≡ true)
+  wanted_pair test byte free h = absurd cc
+  wanted_pair test byte (live p b) h = (p, refl, (and_parts (b == byte) (test p.0) h).1)
+  wanted_pair test byte (marked p b) h = absurd cc
+
+  -- what a search finds
+  pub found_pair : (test : K → Bool) (byte : ℕ) (s : BucketView K V) (at : Place) → place_wanted test byte s ≡ Some at → (p : K × V) × IsFound test s at p
+  found_pair test byte s at e =
+      let w = wanted_pair test byte (slot_in s at) (passes (is_wanted test byte) s at e) in
+      let out = pairs_in-slots_without s at w.0 w.1 in
+      (w.0, record { slot = w.1; wanted = w.2; contained = Contains-permutation (w.0 ∷ pairs_in (slots_without s at)) (pairs_in s) w.0 (IsPermutation-sym _ _ out) (0, omega arith, refl) })
+
+  none_of_row : (test : K → Bool) (byte : ℕ) (xs : List (Slot K V)) → ((k : ℕ) → k < length xs → is_wanted test byte (slot_at xs k) ≡ false) → AllByRecursion (λ (e : (K × V) × ℕ). ((e.1 == byte) && test e.0.0) ≡ false) (live_entries xs)
+  none_of_row test byte [] each = tt
+  none_of_row test byte (free ∷ xs) each = none_of_row test byte xs (λ k h. each (suc k) (omega arith))
+  none_of_row test byte (live p b ∷ xs) each = (each 0 (omega arith), none_of_row test byte xs (λ k h. each (suc k) (omega arith)))
+  none_of_row test byte (marked p b ∷ xs) each = none_of_row test byte xs (λ k h. each (suc k) (omega arith))
+
+  none_of_rows : (test : K → Bool) (byte block : ℕ) (rows : List (List (Slot K V))) → first_from (is_wanted test byte) block rows ≡ None → All (λ (e : (K × V) × ℕ). ((e.1 == byte) && test e.0.0) ≡ false) (live_entries (flattened rows))
+  none_of_rows test byte block [] e = λ k d below. absurd (omega arith)
+  none_of_rows test byte block (r ∷ rows) e =
+      let both = nowhere block (position (is_wanted test byte) r) (first_from (is_wanted test byte) (block + 1) rows) e in
+      let here = All-from_recursion (λ (e : (K × V) × ℕ). ((e.1 == byte) && test e.0.0) ≡ false) (live_entries r) (none_of_row test byte r (λ k h. position-None (is_wanted test byte) r k free both.0 h)) in
+      let later = none_of_rows test byte (block + 1) rows both.1 in
+      rw (live_entries-append r (flattened rows)) (All-append (λ (e : (K × V) × ℕ). ((e.1 == byte) && test e.0.0) ≡ false) (live_entries r) (live_entries (flattened rows)) here later)
+
+  -- where a search finds nothing, no live pair with this byte passes
+  pub none_found : (test : K → Bool) (byte : ℕ) (s : BucketView K V) → place_wanted test byte s ≡ None → All (λ (e : (K × V) × ℕ). ((e.1 == byte) && test e.0.0) ≡ false) (entries_in s)
+  none_found test byte s e = none_of_rows test byte 0 (s.own ∷ s.chain) e

@@ -1,0 +1,16 @@
+pub mod Matching
+pub mod CellsMemory
+pub mod EmptyPlaces
+pub mod Positions
+pub mod Bitmaps
+pub mod RowSlots
+pub mod RowFields
+pub mod RowSearch
+pub mod Counting
+pub mod ChainRows
+pub mod FirstPlaces
+pub mod Pointing
+pub mod BucketPlacing
+pub mod BucketRemoving
+pub mod Entries
+pub mod CallerLemmas

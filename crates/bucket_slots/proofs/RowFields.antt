@@ -1,0 +1,78 @@
+-- What the bitmaps of a row keep where a place is filled or emptied.
+use Rattle.std.proofs.Common.{ℕ, ◌+◌, ◌<◌, ◌≤◌, ◌≡◌, ◌≢◌, ◌-◌, min, ◌*◌, ◌%◌, ◌^◌, ◌⊎◌, inl, inr, Bool, true, false, cond, List, [], ◌∷◌, Option, Some, None, is_some, IsSome, replicate, length, get_or, set, map, refl, sym, ap, ◌∙◌, arith, bit_or, bit_and, w32, eqb, not, ◌&&◌, ◌==◌, zero, suc}
+use Rattle.std.specs.Borrow.{Bor}
+use Rattle.std.specs.Int.{bit_at, bit_not}
+use Rattle.std.specs.List.{range_with_len, position}
+use Rattle.std.proofs.lemmas.List.{ext_get_or, length-set, length-map, get_or-set_same, get_or-set_other, get_or-map, get_or_past, get_or-replicate}
+use Rattle.std.proofs.lemmas.Simd.{length-replicate}
+use Rattle.std.proofs.lemmas.Bool.{cases_eq, cases_lt, and_parts}
+use Rattle.std.proofs.lemmas.Bool.Decides.{nat_tests}
+use Rattle.std.proofs.lemmas.List.FromFn.{get_or-map-range_with_len, length-map-range_with_len}
+use Rattle.std.proofs.lemmas.Nat.Bits.{bit_at_and, bit_at_not, bit_at-lt, bit_at-zero, same_from_bits}
+use Rattle.std.proofs.lemmas.Grind.{common_steps}
+use Rattle.bucket_slots.specs.Layout.Bitmaps.{ClearsBit, SetsBit}
+use Rattle.bucket_slots.specs.Layout.Blocks.{IsRow}
+
+module _ {K V : Type 0} where
+  pub unmarked_where_empty : (len : ℕ) (places : List (Option (K × V))) (bytes : List ℕ) (occupied marks i : ℕ) → i < len → IsRow len places bytes occupied marks → get_or places i None ≡ None → bit_at marks i ≡ 0
+  unmarked_where_empty len places bytes occupied marks i h r empty =
+      r.only_filled i h (r.filled i h ∙ ap (λ (p : Option (K × V)). cond (is_some p) 1 0) empty)
+
+  -- the row that `put` leaves
+  pub IsRow-put : (len : ℕ) (places : List (Option (K × V))) (bytes : List ℕ) (occupied marks pos : ℕ) (p : K × V) (b after : ℕ) → pos < len → IsRow len places bytes occupied marks → get_or places pos None ≡ None → SetsBit occupied pos after → after < 2 ^ 32 → IsRow len (set places pos (Some p)) (set bytes pos b) after marks
+  IsRow-put len places bytes occupied marks pos p b after h r empty s fits = record {
+    few = r.few;
+    some = r.some;
+    long = simp length-set r.long;
+    bytes_long = simp length-set r.bytes_long;
+    occupied_past = λ i past. s.others i (omega arith) ∙ r.occupied_past i past;
+    marks_below = r.marks_below;
+    filled = λ i below. elim (cases_eq i pos) [
+      | inl same ↦
+          let e = get_or-set_same places pos (Some p) None (omega (arith, r.long)) in
+          rw same (rw (s.same, e))
+      | inr other ↦
+          let o = get_or-set_other places pos i (Some p) None other in
+          rw (s.others i other, o) (r.filled i below)
+    ];
+    only_filled = λ i below. elim (cases_eq i pos) [
+      | inl same ↦ rw same (λ clear. absurd (omega (arith, s.same)))
+      | inr other ↦ rw (s.others i other) (r.only_filled i below)
+    ];
+  }
+
+  -- the row that `take` leaves
+  pub IsRow-take : (len : ℕ) (places : List (Option (K × V))) (bytes : List ℕ) (occupied marks pos after : ℕ) → pos < len → IsRow len places bytes occupied marks → bit_at marks pos ≡ 0 → ClearsBit occupied pos after → IsRow len (set places pos None) bytes after marks
+  IsRow-take len places bytes occupied marks pos after h r unmarked s = record {
+    few = r.few;
+    some = r.some;
+    long = simp length-set r.long;
+    bytes_long = r.bytes_long;
+    occupied_past = λ i past. s.others i (omega arith) ∙ r.occupied_past i past;
+    marks_below = r.marks_below;
+    filled = λ i below. elim (cases_eq i pos) [
+      | inl same ↦
+          let e = get_or-set_same places pos None None (omega (arith, r.long)) in
+          rw same (rw (s.same, e))
+      | inr other ↦
+          let o = get_or-set_other places pos i None None other in
+          rw (s.others i other, o) (r.filled i below)
+    ];
+    only_filled = λ i below. elim (cases_eq i pos) [
+      | inl same ↦ rw same (λ _. unmarked)
+      | inr other ↦ rw (s.others i other) (r.only_filled i below)
+    ];
+  }
+
+  -- a row of free slots
+  pub IsRow-new : (len : ℕ) → 0 < len → len ≤ 32 → IsRow len (replicate {A = Option (K × V)} len None) (replicate len 0) 0 0
+  IsRow-new len some few = record {
+    few = few;
+    some = some;
+    long = length-replicate len None;
+    bytes_long = length-replicate len 0;
+    occupied_past = λ i past. bit_at-zero i;
+    marks_below = omega arith;
+    filled = λ i below. let e : get_or (replicate {A = Option (K × V)} len None) i None ≡ None = get_or-replicate len i None None below in rw e (bit_at-zero i);
+    only_filled = λ i below h. bit_at-zero i;
+  }

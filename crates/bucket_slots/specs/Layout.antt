@@ -1,0 +1,7 @@
+-- How fields hold what contracts see. No public clause cites a module below this one.
+pub mod Bitmaps
+pub mod Blocks
+pub mod BucketFields
+pub mod Elements
+pub mod Masks
+pub mod Room

@@ -1,0 +1,11 @@
+pub mod Matching
+pub mod Recency
+pub mod Places
+pub mod Slots
+pub mod BucketView
+pub mod Placing
+pub mod Clearing
+pub mod Removing
+pub mod Searching
+pub mod Loans
+pub mod Layout
