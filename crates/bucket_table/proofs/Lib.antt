@@ -1,0 +1,2 @@
+pub mod OneMapSteps
+pub mod RunSteps

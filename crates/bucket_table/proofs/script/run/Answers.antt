@@ -1,0 +1,14 @@
+use Rattle.std.proofs.Common.{◌≡◌, ◌+◌, ◌++◌, ◌∷◌, [], length, arith, ap, ◌∙◌, length-append}
+use Rattle.bucket_table.proofs.RunSteps.{run_next}
+use Rattle.bucket_table.proofs.script.run.Goals as goal
+
+pub loop-call-preserved : goal.loop-call-preserved
+loop-call-preserved g c =
+    let pushed : c.push.new.self.items ≡ c.loop-call.replies.items ++ c.step-reply.result ∷ [] = c.in-Ok-push.ensures.items in
+    let longer = ap length pushed ∙ length-append c.loop-call.replies.items (c.step-reply.result ∷ []) in
+    record {
+      ran = run_next g.K.PartialEq.eq _ _ _ c.deref-call-items.result.now c.loop-call.call-index c.loop-call.replies.items _ _ c.step-reply.result c.loop-call-test.true c.call-item.is pushed c.loop-call.invariant.ran c.step-reply.ensures.step;
+      same_hasher = c.step-reply.ensures.hasher ∙ c.loop-call.invariant.same_hasher;
+      told = longer ∙ ap (λ n. n + 1) c.loop-call.invariant.told;
+      room = omega (arith, c.in-Ok-push.ensures.capacity, c.loop-call.invariant.room);
+    }

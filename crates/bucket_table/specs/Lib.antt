@@ -1,0 +1,7 @@
+pub mod TableView
+pub mod MapState
+pub mod OneMap
+pub mod Calls
+pub mod Runs
+pub mod Hashes
+pub mod HashLaws

@@ -1,0 +1,152 @@
+//! A hash table: a hasher, a least and a greatest capacity, and for now one bucket.
+//!
+//! Model: `TableView`, whose pairs are the table's map.
+//! Invariant: the law of one map (`IsOneMap`: no two live pairs have equal keys, and each stands
+//! with the low byte of its key's hash), and `IsCapacityRange` of the two capacities.
+//!
+//! Ports the trait `HashTable` of scc's `src/hash_table.rs`, as a struct that owns its parts.
+ghost use Rattle.std.specs.Prelude.{◌≡◌, ◌≢◌, ◌≤◌, ◌↔◌, [], Some, IsTrue, IfNone, IfSome, IfErr, OnOk, OnErr, length};
+ghost use Rattle.std.specs.Int.{IsPowerOfTwo};
+ghost use Rattle.bucket_slots.specs.BucketView.{slot_in};
+ghost use Rattle.bucket_slots.specs.Slots.{is_live, live_pair};
+ghost use Rattle.bucket_table.specs.MapState.{AddsPair, IsAbsent, IsThere, TakesPair};
+ghost use Rattle.bucket_table.specs.OneMap.{IsOneMap, pairs_of, state_of};
+
+use crate::key_hash::KeyHash;
+use bucket_slots::bucket::{BUCKET_LEN, Bucket, EntryPtr, Generation, INDEX};
+use bucket_slots::lru::LruList;
+use std::alloc::Global;
+use std::marker::Model;
+
+/// A map from keys to values, in buckets of the kind `TYPE` with recency lists `L`.
+#[derive(Drop)]
+pub struct HashTable<K: Eq, V, H: KeyHash<K>, L: LruList, const TYPE: u8> {
+    hasher: H,
+    minimum: usize,
+    maximum: usize,
+    bucket: Bucket<K, V, L, TYPE>,
+}
+
+impl<K: Eq, V, H: KeyHash<K>, L: LruList, const TYPE: u8> Model for HashTable<K, V, H, L, TYPE> {
+    ghost use Rattle.bucket_table.specs.TableView.{IsCapacityRange, TableView};
+    ghost use Rattle.bucket_table.specs.OneMap.{IsOneMap};
+
+    ghost Value = { TableView K V H };
+
+    ghost view = { λ table. record { hasher = table.hasher; minimum = table.minimum; maximum = table.maximum; bucket = table.bucket } };
+
+    ghost invariant = { λ table. IsCapacityRange table.minimum table.maximum × IsOneMap K.eq (H.hash_of table.hasher) (record { hasher = table.hasher; minimum = table.minimum; maximum = table.maximum; bucket = table.bucket }) };
+}
+
+impl<K: Eq + Drop, V: Drop, H: KeyHash<K> + Drop, L: LruList + Drop, const TYPE: u8> HashTable<
+    K,
+    V,
+    H,
+    L,
+    TYPE,
+> {
+    /// Returns a table with no pair.
+    ///
+    /// `minimum` and `maximum` are numbers of slots. The allocator serves all that the table
+    /// will hold. Takes no memory. O(1). Own.
+    pub fn new(alloc: Global, hasher: H, minimum: usize, maximum: usize) -> Self
+        requires power { IsPowerOfTwo maximum }
+        requires large { 64 ≤ maximum }
+        requires bounded { minimum ≤ maximum }
+        ensures map { pairs_of result ≡ [] }
+        ensures hasher { result.hasher ≡ hasher }
+        ensures minimum { result.minimum ≡ minimum }
+        ensures maximum { result.maximum ≡ maximum }
+    {
+        HashTable {
+            hasher,
+            minimum,
+            maximum,
+            bucket: Bucket::new(alloc),
+        }
+    }
+
+    /// Returns the hasher.
+    ///
+    /// O(1). scc: `HashTable::hasher`.
+    pub fn hasher(&self) -> &H
+        ensures { result.now ≡ self.now.hasher }
+    {
+        &self.hasher
+    }
+
+    /// Returns the hash of a key.
+    ///
+    /// O(1). scc: `HashTable::hash`.
+    pub fn hash(&self, key: &K) -> u64
+        ensures { result ≡ H.hash_of self.now.hasher key.now }
+    {
+        self.hasher.hash_one(key)
+    }
+
+    /// Returns the pair whose key is equal; `None` where the map has none.
+    ///
+    /// Compares only keys whose hash has the same low byte. Takes no memory.
+    /// O(blocks in the chain). scc: `HashTable::peek_entry`.
+    pub fn peek_entry(&self, key: &K) -> Option<(&K, &V)>
+        ensures found { IfSome result
+            (λ pair. IsThere K.eq key.now (pairs_of self.now) (pair.0.now, pair.1.now)) }
+        ensures absent { IfNone result (IsAbsent K.eq key.now (pairs_of self.now)) }
+    {
+        self.bucket.peek_entry(key, self.hasher.hash_one(key))
+    }
+
+    /// No work: a proof learns what every table keeps.
+    pub(crate) fn sound(&self)
+        ensures { IsOneMap K.eq (H.hash_of self.now.hasher) self.now }
+    {
+        let _ = &self.hasher;
+    }
+
+    /// Whether 32 pairs or more are in the bucket.
+    pub(crate) fn is_full(&self) -> bool
+        ensures { IsTrue result ↔ (BUCKET_LEN ≤ length (pairs_of self.now)) }
+    {
+        self.bucket.len() >= BUCKET_LEN
+    }
+
+    /// Returns a pointer to the pair whose key is equal, or the null pointer.
+    pub(crate) fn find(&self, key: &K, hash: u64) -> EntryPtr<K, V, TYPE>
+        requires own_hash { hash ≡ H.hash_of self.now.hasher key.now }
+        ensures found { result.pos ≢ BUCKET_LEN → (pair : K × V)
+            × (live_pair (slot_in self.now.bucket result) ≡ Some pair)
+            × IsThere K.eq key.now (pairs_of self.now) pair }
+        ensures absent { result.pos ≡ BUCKET_LEN → IsAbsent K.eq key.now (pairs_of self.now) }
+    {
+        self.bucket.get_entry_ptr(key, hash)
+    }
+
+    /// Inserts a pair whose key the map hasn't.
+    pub(crate) fn insert<G: Generation>(
+        &mut self,
+        hash: u64,
+        pair: (K, V),
+        generation: &G,
+    ) -> Result<EntryPtr<K, V, TYPE>, (K, V)>
+        requires not_index { TYPE ≢ INDEX }
+        requires own_hash { hash ≡ H.hash_of self.old.hasher pair.0 }
+        requires key_absent { IsAbsent K.eq pair.0 (pairs_of self.old) }
+        ensures map { OnOk result (AddsPair (state_of TYPE self.old) pair (state_of TYPE self.new)) }
+        ensures hasher { self.new.hasher ≡ self.old.hasher }
+        ensures pair_returned { IfErr result (λ back. back ≡ pair) }
+        ensures unchanged { OnErr result (self.new ≡ self.old) }
+    {
+        self.bucket.insert(hash, pair, generation)
+    }
+
+    /// Takes out the pair at a live slot and returns it.
+    pub(crate) fn remove(&mut self, at: &mut EntryPtr<K, V, TYPE>) -> (K, V)
+        requires not_index { TYPE ≢ INDEX }
+        requires live_slot { IsTrue (is_live (slot_in self.old.bucket at.old)) }
+        ensures pair { live_pair (slot_in self.old.bucket at.old) ≡ Some result }
+        ensures map { TakesPair (state_of TYPE self.old) result (state_of TYPE self.new) }
+        ensures hasher { self.new.hasher ≡ self.old.hasher }
+    {
+        self.bucket.remove(at)
+    }
+}
