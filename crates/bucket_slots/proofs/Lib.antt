@@ -1,5 +1,7 @@
 pub mod Matching
 pub mod CellsMemory
+pub mod OptionWalks
+pub mod BodyParts
 pub mod EmptyPlaces
 pub mod Positions
 pub mod Bitmaps

@@ -1,6 +1,7 @@
--- What a row of places ends as, where one of its values is lent for writing.
-use Rattle.std.specs.Prelude.{ℕ, List, Option}
-use Rattle.std.specs.Borrow.{Lends, LendsIf, Fml, RattleType, MutBor, Bor}
+-- What a row of places ends as, where a pair or a value of it is lent for writing.
+use Rattle.std.specs.Prelude.{ℕ, List, [], ◌∷◌, Option, Some, slice_set}
+use Rattle.std.specs.Borrow.{Lends, LendsIf, follows_if, name_if_some, Fml, RattleType, MutBor, Bor}
+use denote.Struct.Tuple.{Tuple}
 use Rattle.bucket_slots.specs.Places.{value_set}
 use Rattle.bucket_slots.specs.contracts.data_block.DataBlock.{the_row}
 
@@ -9,6 +10,12 @@ module _ (K V LEN : RattleType) (places : MutBor (List (Option (K.Denot × V.Den
   abbrev pub LendsValue : ℕ → Option (MutBor V.Denot) → Fml
   LendsValue pos loan = LendsIf (the_row K V LEN) V places loan (value_set places.now pos) places.now
 
-  -- the place has the last value written through the loan
-  abbrev pub LendsPair : ℕ → (Bor K.Denot × MutBor V.Denot) → Fml
-  LendsPair pos parts = Lends (the_row K V LEN) V places parts.1 (value_set places.now pos)
+  -- the same of a loan beside the key
+  abbrev pub LendsPairIf : ℕ → Option (Bor K.Denot × MutBor V.Denot) → Fml
+  LendsPairIf pos parts =
+      follows_if (the_row K V LEN) V places.ghost_name (name_if_some (λ loan. loan.1.ghost_name) parts) (value_set places.now pos) places.now
+
+  -- the same of a loan of the whole pair
+  abbrev pub LendsPlace : ℕ → Option (MutBor (K.Denot × V.Denot)) → Fml
+  LendsPlace pos loan =
+      LendsIf (the_row K V LEN) (Tuple (K ∷ V ∷ [])) places loan (λ pair. slice_set places.now pos (Some pair)) places.now

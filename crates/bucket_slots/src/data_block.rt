@@ -10,6 +10,7 @@ ghost use Rattle.bucket_slots.specs.Places.{
   IsFilled,
   IsKeyOf,
   IsPairLent,
+  IsPlaceLent,
   IsValueLent,
   IsValueOf,
   place_at,
@@ -19,7 +20,7 @@ mod cells;
 mod lent;
 
 use cells::Cells;
-use lent::{filled_mut, parts, second};
+use lent::{parts, second};
 use std::array;
 use std::marker::Model;
 
@@ -40,8 +41,7 @@ impl<K, V, const LEN: usize> Model for DataBlock<K, V, LEN> {
 }
 
 impl<K: Drop, V: Drop, const LEN: usize> DataBlock<K, V, LEN> {
-    ghost use Rattle.std.specs.Prelude.{is_some};
-    ghost use Rattle.bucket_slots.specs.Loans.{LendsPair, LendsValue};
+    ghost use Rattle.bucket_slots.specs.Loans.{LendsPairIf, LendsPlace, LendsValue};
 
     /// Returns a row with every place empty.
     ///
@@ -102,12 +102,12 @@ impl<K: Drop, V: Drop, const LEN: usize> DataBlock<K, V, LEN> {
     ///
     /// O(1). Own.
     pub fn pair_mut(&mut self, pos: usize) -> Option<(&K, &mut V)>
-        ensures { IsPairLent (place_at self.old pos) result }
+        ensures* writes_back { sem 𝓛 (LendsPairIf K.row V.row LEN.row self.entry pos result) }
+        ensures pair { IsPairLent (place_at self.old pos) result }
     {
-        if self.is_filled(pos) {
-            Some(self.filled(pos))
-        } else {
-            None
+        match self.place_mut(pos) {
+            Some(pair) => Some(parts(pair)),
+            None => None,
         }
     }
 
@@ -157,19 +157,15 @@ impl<K: Drop, V: Drop, const LEN: usize> DataBlock<K, V, LEN> {
         }
     }
 
-    /// Lends the pair at a filled place, its value for writing.
-    pub(crate) fn filled(&mut self, pos: usize) -> (&K, &mut V)
-        requires { IsFilled self.old pos }
-        ensures* writes_back { sem 𝓛 (LendsPair K.row V.row LEN.row self.entry pos result) }
-        ensures pair { place_at self.old pos ≡ Some (result.0.now, result.1.now) }
+    /// Lends the pair at `pos`; `None` where the place is empty or past the end.
+    pub(crate) fn place_mut(&mut self, pos: usize) -> Option<&mut (K, V)>
+        ensures* writes_back { sem 𝓛 (LendsPlace K.row V.row LEN.row self.entry pos result) }
+        ensures pair { IsPlaceLent (place_at self.old pos) result }
     {
-        parts(filled_mut(self.places.at_mut(pos)))
-    }
-
-    /// Whether a place has a pair.
-    fn is_filled(&self, pos: usize) -> bool
-        ensures { result ≡ is_some (place_at self.now pos) }
-    {
-        matches!(self.places.xs.get(pos), Some(Some(_)))
+        if pos < LEN {
+            self.places.at_mut(pos).as_mut()
+        } else {
+            None
+        }
     }
 }

@@ -1,7 +1,6 @@
--- What an array, an option or a pair ends as, where a part of it is lent.
-use Rattle.std.specs.Prelude.{ℕ, [], ◌∷◌, Option, Some, slice_set}
+-- What an array or a pair ends as, where a part of it is lent.
+use Rattle.std.specs.Prelude.{ℕ, [], ◌∷◌, slice_set}
 use Rattle.std.specs.Borrow.{Lends, Fml, RattleType, MutBor, Bor}
-use Rattle.std.specs.contracts.option.Option.{the_row as option_row}
 use denote.Struct.Tuple.{Tuple}
 use Rattle.bucket_slots.specs.contracts.data_block.cells.Cells.{the_row}
 
@@ -9,10 +8,6 @@ module _ (T N : RattleType) (cells : MutBor (the_row T N).Denot) where
   -- the array ends with the last value written through the loan at the index
   abbrev pub LendsElement : ℕ → MutBor T.Denot → Fml
   LendsElement index loan = Lends (the_row T N) T cells loan (λ element. record { xs = slice_set cells.now.xs index element })
-
-module _ (T : RattleType) (place : MutBor (Option T.Denot)) where
-  abbrev pub LendsFilled : MutBor T.Denot → Fml
-  LendsFilled loan = Lends (option_row T) T place loan Some
 
 module _ (K V : RattleType) (pair : MutBor (K.Denot × V.Denot)) where
   abbrev pub LendsSecond : MutBor V.Denot → Fml

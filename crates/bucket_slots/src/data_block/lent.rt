@@ -1,19 +1,7 @@
-//! Parts of an option and of a pair, lent for writing.
-ghost use Rattle.std.specs.Prelude.{◌≡◌, IsSome, Some};
+//! Parts of a pair, lent for writing.
+ghost use Rattle.std.specs.Prelude.{◌≡◌};
 ghost use Rattle.std.specs.Borrow.{sem};
-ghost use Rattle.bucket_slots.specs.Layout.Elements.{LendsFilled, LendsParts, LendsSecond};
-
-/// Lends what an option holds.
-pub(crate) fn filled_mut<T>(place: &mut Option<T>) -> &mut T
-    requires { IsSome place.old }
-    ensures* writes_back { sem 𝓛 (LendsFilled T.row place.entry result) }
-    ensures value { place.old ≡ Some result.now }
-{
-    match place {
-        Some(x) => x,
-        None => unreachable!(),
-    }
-}
+ghost use Rattle.bucket_slots.specs.Layout.Elements.{LendsParts, LendsSecond};
 
 /// Lends the second part of a pair.
 pub(crate) fn second<K, V>(pair: &mut (K, V)) -> &mut V
