@@ -5,6 +5,7 @@ use Rattle.std.proofs.lemmas.Bool.{cases_eq, cases_lt}
 use Rattle.std.proofs.lemmas.Nat.{and_le_l, pow_pos}
 use Rattle.std.proofs.lemmas.Nat.Bits.{bit_at_set_same, bit_at_set_other, bit_at_clear_same, bit_at_clear_other, bit_at-trailing_zeros, bit_at_not, bit_at_above, bit_at_and, bit_at-lt, bit_at_ones, bit_at_ones_above}
 use Rattle.bucket_slots.specs.Layout.Bitmaps.{ClearsBit, IsLowest, IsLowestClear, SetsBit}
+use Rattle.bucket_slots.proofs.BodyParts.{after}
 
 pub sets : (bits k : ℕ) → k < 32 → SetsBit bits k (bit_or bits (1 * 2 ^ k % 2 ^ 32))
 sets bits k h = record { same = bit_at_set_same w32 bits k h; others = λ i ne. bit_at_set_other w32 bits k h i ne }

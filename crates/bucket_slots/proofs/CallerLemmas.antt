@@ -8,14 +8,14 @@ use Rattle.std.proofs.lemmas.Bool.{and_parts}
 use Rattle.bucket_slots.specs.declared.bucket.TheConstants.{INDEX}
 use Rattle.bucket_slots.specs.BucketView.{BucketView, Place, all_slots, block_at, entries_in, first_from, first_place, flattened, pairs_in, place_at_position, slot_in, with_slot_at}
 use Rattle.bucket_slots.specs.Clearing.{slots_after_insertion}
-use Rattle.bucket_slots.specs.Placing.{head_with, slots_with, with_slot_placed}
+use Rattle.bucket_slots.specs.Placing.{free_block, place_for_next, slots_with, with_head_for, with_place_made}
 use Rattle.bucket_slots.specs.Removing.{slots_without, slots_without_at}
 use Rattle.bucket_slots.specs.Searching.{is_wanted, place_wanted}
 use Rattle.bucket_slots.specs.Slots.{Slot, all_free, free, is_free, live, live_entries, live_pair, marked, slot_at}
-use Rattle.bucket_slots.proofs.BucketPlacing.{free_at, no_marks_looked_at}
+use Rattle.bucket_slots.proofs.BucketPlacing.{linked_row, no_marks_looked_at, place_made}
 use Rattle.bucket_slots.proofs.ChainRows.{rows_without-empty, rows_without-full}
 use Rattle.bucket_slots.proofs.Entries.{exchanged, live_entries-append, live_entries-put, live_entries-remove, live_entries-take, map-live_entries}
-use Rattle.bucket_slots.proofs.FirstPlaces.{first_from-Some, passes}
+use Rattle.bucket_slots.proofs.FirstPlaces.{passes}
 use Rattle.bucket_slots.proofs.Pointing.{row_there}
 use Rattle.bucket_slots.proofs.Positions.{position-None}
 
@@ -34,22 +34,21 @@ module _ {K V : Type 0} where
   with_slot_exchanges xs ys s zero pos x h moved = exchanged xs ys (s.own ∷ s.chain) zero (set s.own pos x) h moved
   with_slot_exchanges xs ys s (suc i) pos x h moved = exchanged xs ys (s.own ∷ s.chain) (suc i) (set (get_or s.chain i []) pos x) h moved
 
-  block_of_rows : (s : BucketView K V) (b : ℕ) → get_or (s.own ∷ s.chain) b [] ≡ block_at s b
-  block_of_rows s zero = refl
-  block_of_rows s (suc n) = refl
+  entries_made : (s : BucketView K V) (found : Option Place) → entries_in (with_head_for s found) ≡ entries_in s
+  entries_made s None = live_entries-append s.own (free_block ++ flattened s.chain) ∙ sym (live_entries-append s.own (flattened s.chain))
+  entries_made s (Some p) = refl
 
-  placed : (s : BucketView K V) (p : K × V) (b : ℕ) (found : Option Place) → first_place is_free s ≡ found → IsPermutation ((p, b) ∷ entries_in s) (entries_in (with_slot_placed s (live p b) found))
-  placed s p b None e =
-      rw (live_entries-append s.own (flattened s.chain), live_entries-append s.own (head_with (live p b) ++ flattened s.chain)) (IsPermutation-sym _ _ (IsPermutation-middle (live_entries s.own) (p, b) (live_entries (flattened s.chain))))
-  placed s p b (Some at) e =
-      let found = first_from-Some is_free 0 (s.own ∷ s.chain) at e in
-      let off : at.block - 0 ≡ at.block = omega arith in
-      let vacant = free_at (block_at s at.block) at.pos (rw (← block_of_rows s at.block) (rw off at found.2)) in
-      with_slot_exchanges ((p, b) ∷ []) [] s at.block at.pos (live p b) (rw off at found.1) (live_entries-put (block_at s at.block) at.pos p b vacant.within vacant.slot)
+  there : (s : BucketView K V) (b pos : ℕ) → pos < length (block_at s b) → b < length (s.own ∷ s.chain)
+  there s zero pos h = omega arith
+  there s (suc i) pos h = let within = linked_row s.chain i pos h in omega arith
 
   -- an insertion adds its pair and nothing else
   pub entries_in-slots_with : (s : BucketView K V) (p : K × V) (b : ℕ) → IsPermutation ((p, b) ∷ entries_in s) (entries_in (slots_with s p b))
-  entries_in-slots_with s p b = placed s p b (first_place is_free s) refl
+  entries_in-slots_with s p b =
+      let made = with_place_made s in
+      let at = place_for_next s in
+      let vacant = place_made s in
+      rw (← entries_made s (first_place is_free s)) (with_slot_exchanges ((p, b) ∷ []) [] made at.block at.pos (live p b) (there made at.block at.pos vacant.within) (live_entries-put (block_at made at.block) at.pos p b vacant.within vacant.slot))
 
   -- an insertion into a bucket that is no index looks at no marks
   pub slots_after_insertion-unmarked : (kind : ℕ) (keeps : ℕ → Bool) (s : BucketView K V) (p : K × V) (b : ℕ) → (kind ≡ INDEX → ⊥) → slots_after_insertion kind keeps s p b ≡ slots_with s p b

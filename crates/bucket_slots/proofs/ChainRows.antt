@@ -4,6 +4,7 @@ use Rattle.std.specs.List.{remove, insert, position}
 use Rattle.std.proofs.lemmas.Bool.{cases_eq, cases_lt, lt-ltb}
 use Rattle.std.proofs.lemmas.Bool.Decides.{nat_tests}
 use Rattle.std.proofs.lemmas.List.{get_or-set_same, get_or-set_other, length-set, length-take, length-drop, length-append, take-set, drop-set-lt}
+use Rattle.std.proofs.lemmas.Grind.{common_steps}
 use Rattle.std.proofs.lemmas.List.Edits.{get_or-remove_below, get_or-remove_above}
 use Rattle.bucket_slots.specs.BucketView.{rows_with}
 use Rattle.bucket_slots.specs.Layout.BucketFields.{IsChain}
@@ -43,6 +44,18 @@ module _ {K V : Type 0} where
       | suc n ↦ λ h. s.long n (omega arith)
     ] below;
     few = omega arith;
+  }
+
+  pub IsChain-push : (rows : List (List (Slot K V))) (r : List (Slot K V)) → IsChain rows → length rows < 2 ^ 28 → length r ≡ 4 → IsChain (rows ++ r ∷ [])
+  IsChain-push rows r s short four = record {
+    long = λ j below. elim (cases_lt j (length rows)) [
+      | inl lt ↦ let e : get_or (rows ++ r ∷ []) j [] ≡ get_or rows j [] = grind (arith, common_steps) in rw e (s.long j lt)
+      | inr ge ↦
+          let last : j ≡ length rows = omega (arith, length-append rows (r ∷ [])) in
+          let e : get_or (rows ++ r ∷ []) j [] ≡ r = grind (arith, common_steps) in
+          rw e four
+    ];
+    few = omega (arith, length-append rows (r ∷ []));
   }
 
   pub remove-set : (rows : List (List (Slot K V))) (i : ℕ) (r : List (Slot K V)) → remove (set rows i r) i ≡ remove rows i

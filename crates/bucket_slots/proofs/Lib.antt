@@ -9,10 +9,12 @@ pub mod RowSlots
 pub mod RowFields
 pub mod RowSearch
 pub mod Counting
+pub mod FreeCounting
 pub mod ChainRows
 pub mod FirstPlaces
 pub mod Pointing
 pub mod BucketPlacing
 pub mod BucketRemoving
+pub mod BucketMoving
 pub mod Entries
 pub mod CallerLemmas

@@ -12,6 +12,7 @@ use Rattle.std.proofs.lemmas.Nat.Bits.{bit_at_and, bit_at_not, bit_at-lt, bit_at
 use Rattle.std.proofs.lemmas.Grind.{common_steps}
 use Rattle.bucket_slots.specs.Layout.Bitmaps.{ClearsBit, SetsBit}
 use Rattle.bucket_slots.specs.Layout.Blocks.{IsRow}
+use Rattle.bucket_slots.proofs.BodyParts.{after}
 
 module _ {K V : Type 0} where
   pub unmarked_where_empty : (len : ℕ) (places : List (Option (K × V))) (bytes : List ℕ) (occupied marks i : ℕ) → i < len → IsRow len places bytes occupied marks → get_or places i None ≡ None → bit_at marks i ≡ 0

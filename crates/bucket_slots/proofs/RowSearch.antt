@@ -16,6 +16,7 @@ use Rattle.bucket_slots.specs.Matching.{IsMatchMask}
 use Rattle.bucket_slots.specs.Places.{IsKeyOf}
 use Rattle.bucket_slots.specs.Searching.{is_wanted}
 use Rattle.bucket_slots.specs.Slots.{Slot, all_free, free, is_free, live, marked, slot_at}
+use Rattle.bucket_slots.proofs.BodyParts.{after}
 use Rattle.bucket_slots.proofs.FirstPlaces.{passes}
 use Rattle.bucket_slots.proofs.Positions.{position_at, position_nowhere}
 use Rattle.bucket_slots.proofs.RowSlots.{length-row_slots, slot_at-row_slots}
@@ -44,7 +45,7 @@ module _ {K V : Type 0} where
     | inr past ↦ let e : p (slot_at slots i) ≡ false = rw (get_or_past slots i free past) vacant in absurd cc
   ]
 
-  free_of : (q : Option (K × V)) (b m : ℕ) → is_free (slot_of q b m) ≡ not (is_some q)
+  pub free_of : (q : Option (K × V)) (b m : ℕ) → is_free (slot_of q b m) ≡ not (is_some q)
   free_of None b m = refl
   free_of (Some p) b zero = refl
   free_of (Some p) b (suc m) = refl

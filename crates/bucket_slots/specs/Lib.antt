@@ -6,6 +6,8 @@ pub mod BucketView
 pub mod Placing
 pub mod Clearing
 pub mod Removing
+pub mod Reserving
+pub mod Moving
 pub mod Searching
 pub mod Loans
 pub mod Layout

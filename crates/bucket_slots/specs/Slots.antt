@@ -62,6 +62,13 @@ abbrev pub all_free : {K V : Type 0} → List (Slot K V) → Bool
 all_free [] = true
 all_free (slot ∷ slots) = is_free slot && all_free slots
 
+-- the number of free slots
+abbrev pub free_len : {K V : Type 0} → List (Slot K V) → ℕ
+free_len [] = 0
+free_len (free ∷ slots) = 1 + free_len slots
+free_len (live pair byte ∷ slots) = free_len slots
+free_len (marked pair byte ∷ slots) = free_len slots
+
 -- the pairs of a row's slots, marked ones among them
 abbrev pub places_of : {K V : Type 0} → List (Slot K V) → List (Option (K × V))
 places_of slots = map pair_of slots

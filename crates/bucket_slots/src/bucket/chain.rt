@@ -5,15 +5,16 @@
 //!
 //! Ports `LinkedBucket` of scc's `src/hash_table/bucket.rs`, where each block owns the next; here
 //! the blocks stand in one vector, in the chain's order.
-ghost use Rattle.std.specs.Prelude.{◌≡◌, ◌<◌, ◌∷◌, [], Some, length, IsTrue, false, OnOk, OnErr, IfErr};
-ghost use Rattle.bucket_slots.specs.BucketView.{first_from, row_at, rows_with};
+ghost use Rattle.std.specs.Prelude.{◌≡◌, ℕ, ◌<◌, ◌∷◌, ◌++◌, [], Some, length, IsTrue, false, OnOk, OnErr, replicate};
+ghost use Rattle.bucket_slots.specs.BucketView.{first_from, flattened, row_at, rows_with};
 ghost use Rattle.bucket_slots.specs.Layout.BucketFields.{IsChain};
-ghost use Rattle.bucket_slots.specs.Placing.{head_with};
+ghost use Rattle.bucket_slots.specs.Placing.{free_block};
 ghost use Rattle.bucket_slots.specs.Removing.{place_in_chain_after, rows_without};
 ghost use Rattle.bucket_slots.specs.Searching.{is_wanted};
 ghost use Rattle.bucket_slots.specs.Slots.{
   byte_of,
   free,
+  free_len,
   is_free,
   is_live,
   live,
@@ -22,11 +23,11 @@ ghost use Rattle.bucket_slots.specs.Slots.{
   slot_at,
 };
 
-use crate::bucket::BUCKET_LEN;
 use crate::bucket::entry_ptr::EntryPtr;
 use crate::bucket::room::fits_in_memory;
 use crate::bucket::row::Row;
-use std::alloc::{AllocFailed, Global};
+use crate::bucket::{AllocError, BUCKET_LEN};
+use std::alloc::Global;
 use std::marker::Model;
 use std::mem::ManuallyDrop;
 
@@ -153,26 +154,89 @@ impl<K: Drop, V: Drop> Chain<K, V> {
         row.put(pos, byte, key, value);
     }
 
-    /// Puts a new block with a live pair in front. Where there is no memory for it, or the chain
-    /// has its most blocks, the pair comes back.
-    pub(crate) fn push_front(&mut self, byte: u8, key: K, value: V) -> Result<(), (K, V)>
-        ensures slots { OnOk result (self.new ≡ head_with (live (key, value) byte) ∷ self.old) }
-        ensures pair_returned { IfErr result (λ back. back ≡ (key, value)) }
+    /// Puts a block of free slots in front.
+    ///
+    /// # Errors
+    ///
+    /// Want of memory, or the chain has its most blocks: it is as it was.
+    pub(crate) fn push_front(&mut self) -> Result<(), AllocError>
+        ensures blocks { OnOk result (self.new ≡ free_block ∷ self.old) }
         ensures unchanged { OnErr result (self.new ≡ self.old) }
     {
-        if self.blocks.len() >= MAX_BLOCKS {
-            return Err((key, value));
+        if self.blocks.len() >= MAX_BLOCKS || !fits_in_memory::<Row<K, V, BLOCK_LEN>>() {
+            return Err(AllocError);
         }
-        if fits_in_memory::<Row<K, V, BLOCK_LEN>>() {
-            let mut row = Row::new();
-            row.put(0, byte, key, value);
-            if let Err(refused) = self.blocks.insert(0, row) {
-                let AllocFailed { value: mut row } = refused;
-                return Err(row.take(0));
-            }
-            return Ok(());
+        let Ok(()) = self.blocks.insert(0, Row::new()) else {
+            return Err(AllocError);
+        };
+        Ok(())
+    }
+
+    /// Puts a block of free slots at the end.
+    ///
+    /// # Errors
+    ///
+    /// Want of memory, or the chain has its most blocks: it is as it was.
+    fn push_back(&mut self) -> Result<(), AllocError>
+        ensures blocks { OnOk result (self.new ≡ self.old ++ free_block ∷ []) }
+        ensures unchanged { OnErr result (self.new ≡ self.old) }
+    {
+        if self.blocks.len() >= MAX_BLOCKS || !fits_in_memory::<Row<K, V, BLOCK_LEN>>() {
+            return Err(AllocError);
         }
-        Err((key, value))
+        let Ok(()) = self.blocks.push(Row::new()) else {
+            return Err(AllocError);
+        };
+        Ok(())
+    }
+
+    /// Puts blocks of free slots at the end.
+    ///
+    /// # Errors
+    ///
+    /// Want of memory, or the chain has its most blocks: fewer blocks were put there.
+    pub(crate) fn append(&mut self, count: usize) -> Result<(), AllocError>
+        ensures blocks { OnOk result (self.new ≡ self.old ++ replicate count free_block) }
+        ensures fewer { OnErr result
+            ((some : ℕ) × (some < count) × (self.new ≡ self.old ++ replicate some free_block)) }
+    {
+        for _i in 0..count {
+            self.push_back()?;
+        }
+        Ok(())
+    }
+
+    /// Gives all blocks up.
+    pub(crate) fn clear(&mut self)
+        ensures { self.new ≡ [] }
+    {
+        let alloc = *self.blocks.allocator();
+        *self = Chain::new(alloc);
+    }
+
+    /// Returns the number of free slots.
+    pub(crate) fn free_len(&self) -> usize
+        ensures { result ≡ free_len (flattened self.now) }
+    {
+        let mut free = 0;
+        for i in 0..self.blocks.len() {
+            self.room();
+            free += self.blocks[i].free_len();
+        }
+        free
+    }
+
+    /// Takes the pair out of a live slot of a block and returns it. No block goes.
+    pub(crate) fn vacate(&mut self, block: usize, pos: usize) -> (K, V)
+        requires within { block < length self.old }
+        requires pos { pos < 4 }
+        requires live_slot { IsTrue (is_live (slot_at (row_at self.old block) pos)) }
+        ensures pair { live_pair (slot_at (row_at self.old block) pos) ≡ Some result }
+        ensures slots { self.new ≡ rows_with self.old block pos free }
+    {
+        self.room();
+        let row = &mut self.blocks[block];
+        row.take(pos)
     }
 
     /// Takes the pair out of a live slot of a block, and unlinks the block where that leaves it

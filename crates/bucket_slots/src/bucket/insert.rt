@@ -1,11 +1,11 @@
 //! Insertion into a bucket.
-ghost use Rattle.std.specs.Prelude.{◌≡◌, ◌≢◌, ◌%◌, None, OnOk, OnErr, IfErr, IfOk};
-ghost use Rattle.bucket_slots.specs.BucketView.{first_place};
+ghost use Rattle.std.specs.Prelude.{◌≡◌, ◌≢◌, ◌%◌, ◌<◌, None, OnOk, OnErr, IfErr, IfOk, length};
+ghost use Rattle.bucket_slots.specs.BucketView.{block_at, first_place, slot_in, with_slot};
 ghost use Rattle.bucket_slots.specs.Clearing.{slots_after_insertion, slots_for_insertion};
-ghost use Rattle.bucket_slots.specs.Placing.{place_for_next, slots_with};
-ghost use Rattle.bucket_slots.specs.Slots.{is_free};
+ghost use Rattle.bucket_slots.specs.Placing.{place_for_next, slots_with, with_place_made};
+ghost use Rattle.bucket_slots.specs.Slots.{free, is_free, live};
 
-use crate::bucket::{Bucket, EntryPtr, Generation, INDEX};
+use crate::bucket::{AllocError, Bucket, EntryPtr, Generation, INDEX};
 use crate::lru::LruList;
 
 impl<K: Drop, V: Drop, L: LruList + Drop, const TYPE: u8> Bucket<K, V, L, TYPE> {
@@ -50,23 +50,50 @@ impl<K: Drop, V: Drop, L: LruList + Drop, const TYPE: u8> Bucket<K, V, L, TYPE> 
         ensures unchanged { OnErr result (self.new ≡ self.old) }
         ensures no_free_slot { OnErr result (first_place is_free self.old ≡ None) }
     {
-        let byte = (hash % 256) as u8;
-        let (key, value) = pair;
-        self.chain.sound();
+        let Ok(at) = self.free_place() else {
+            return Err(pair);
+        };
+        self.fill(&at, (hash % 256) as u8, pair);
+        Ok(at)
+    }
+
+    /// Returns the first free slot; where there is none, a block of free slots becomes the head of
+    /// the chain first.
+    ///
+    /// # Errors
+    ///
+    /// Want of memory: the bucket is as it was.
+    pub(crate) fn free_place(&mut self) -> Result<EntryPtr<K, V, TYPE>, AllocError>
+        ensures place { IfOk result (λ at. at ≡ place_for_next self.old) }
+        ensures slots { OnOk result (self.new ≡ with_place_made self.old) }
+        ensures unchanged { OnErr result (self.new ≡ self.old) }
+        ensures no_free_slot { OnErr result (first_place is_free self.old ≡ None) }
+    {
         if let Some(pos) = self.own.first_free() {
-            self.own.put(pos, byte, key, value);
-            self.len += 1;
             return Ok(EntryPtr::at(0, pos));
         }
         if let Some(at) = self.chain.first_free() {
-            self.chain.put(at.block() - 1, at.pos(), byte, key, value);
-            self.len += 1;
             return Ok(at);
         }
-        if let Err(pair) = self.chain.push_front(byte, key, value) {
-            return Err(pair);
-        }
-        self.len += 1;
+        self.chain.push_front()?;
         Ok(EntryPtr::at(1, 0))
+    }
+
+    /// Puts a live pair into a free slot.
+    pub(crate) fn fill(&mut self, at: &EntryPtr<K, V, TYPE>, byte: u8, pair: (K, V))
+        requires within { at.now.pos < length (block_at self.old at.now.block) }
+        requires free_slot { slot_in self.old at.now ≡ free }
+        ensures { self.new ≡ with_slot self.old at.now (live pair byte) }
+    {
+        self.chain.sound();
+        let (key, value) = pair;
+        let block = at.block();
+        let pos = at.pos();
+        self.len += 1;
+        if block == 0 {
+            self.own.put(pos, byte, key, value);
+        } else {
+            self.chain.put(block - 1, pos, byte, key, value);
+        }
     }
 }

@@ -38,7 +38,7 @@ impl<K: Drop, V: Drop, L: LruList + Drop, const TYPE: u8> Bucket<K, V, L, TYPE> 
 }
 
 /// Takes a slot off the recency list, where the kind lists any, and returns the list's tail.
-fn unlist<L: LruList, const TYPE: u8>(lru: &mut L, tail: u32, entry: u8) -> u32
+pub(crate) fn unlist<L: LruList, const TYPE: u8>(lru: &mut L, tail: u32, entry: u8) -> u32
     requires own_tail { L.IsTail lru.old tail }
     requires own_slot { entry < 32 }
     requires unlisted { TYPE ≢ CACHE → L.listed lru.old tail ≡ [] }

@@ -12,6 +12,7 @@ ghost use Rattle.bucket_slots.specs.Slots.{
   all_free,
   byte_of,
   free,
+  free_len,
   is_free,
   is_live,
   live,
@@ -160,5 +161,12 @@ impl<K: Drop, V: Drop, const LEN: usize> Row<K, V, LEN> {
         ensures { result ≡ all_free self.now }
     {
         self.occupied == 0
+    }
+
+    /// Returns the number of free slots.
+    pub(crate) fn free_len(&self) -> usize
+        ensures { result ≡ free_len self.now }
+    {
+        LEN - self.occupied.count_ones() as usize
     }
 }

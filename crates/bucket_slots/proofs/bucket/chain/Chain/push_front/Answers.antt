@@ -2,7 +2,7 @@ use Rattle.std.proofs.Common.{arith, ◌≡◌, length}
 use Rattle.bucket_slots.proofs.ChainRows.{IsChain-cons}
 use Rattle.bucket_slots.proofs.bucket.chain.Chain.push_front.Goals as goal
 
-pub invariant_of-self-then-fits_in_memory : goal.invariant_of-self-then-fits_in_memory
-invariant_of-self-then-fits_in_memory g c =
-    let four : length c.put.new.self ≡ 4 = rw (c.put.ensures, c.new-row.ensures) in
-    rw c.in_default.ensures.items (IsChain-cons c.self.inside.blocks.items c.put.new.self c.self.invariant (omega arith) four)
+pub invariant_of-self-2 : goal.invariant_of-self-2
+invariant_of-self-2 g c =
+    let four : length c.new.result ≡ 4 = rw c.new.ensures in
+    rw c.in-Ok.ensures.items (IsChain-cons c.self.inside.blocks.items c.new.result c.self.invariant (omega arith) four)

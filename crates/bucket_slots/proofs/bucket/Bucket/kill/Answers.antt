@@ -1,0 +1,7 @@
+use Rattle.std.proofs.Common.{arith, ap, ◌≡◌, length, ◌∙◌}
+use Rattle.bucket_slots.proofs.BucketMoving.{IsBucket-emptied}
+use Rattle.bucket_slots.proofs.bucket.Bucket.kill.Goals as goal
+
+pub invariant_of-self : goal.invariant_of-self
+invariant_of-self g c =
+    (c.self.invariant.0, rw c.clear.ensures (IsBucket-emptied g.row.TYPE _ _ c.self.inside.len c.self.view_is c.self.invariant.1 c.requires.empty))
