@@ -10,6 +10,7 @@ use Rattle.bucket_slots.specs.Slots.{Slot, free, free_len, is_live, live_pairs, 
 use Rattle.bucket_slots.proofs.BucketPlacing.{IsBucket-chained}
 use Rattle.bucket_slots.proofs.Counting.{flattened-set, live_pairs-append, live_pairs-take}
 use Rattle.bucket_slots.proofs.FreeCounting.{free_len-append, free_len-blocks, live_pairs-blocks}
+use Rattle.bucket_slots.proofs.MarkCounting.{marked_len-append, marked_len-blocks, marked_len-rows_with}
 
 -- a quarter of what is missing, rounded up, is the fewest
 pub fewest : (free_slots wanted blocks : ℕ) → blocks ≡ div_ceil (wanted - free_slots) 4 → free_slots < wanted → IsFewestBlocks free_slots wanted blocks
@@ -25,6 +26,7 @@ module _ {K V : Type 0} where
         own_long = h.own_long;
         listed_live = h.listed_live;
         unlisted = h.unlisted;
+        unmarked = λ other. omega (arith, h.unmarked other, marked_len-append s.own (flattened s.chain), marked_len-append s.own (flattened (rows_with s.chain i pos free)), marked_len-rows_with s.chain i pos free refl);
       }
 
   slots_vacated_at-chain : (s : BucketView K V) (b pos : ℕ) → (b ≡ 0 → ⊥) → slots_vacated_at s b pos ≡ record s { chain = rows_with s.chain (b - 1) pos free }
@@ -40,7 +42,7 @@ module _ {K V : Type 0} where
   pub IsBucket-emptied : (kind : ℕ) (s t : BucketView K V) (len : ℕ) → s ≡ t → IsBucket kind s len → pairs_in t ≡ [] → IsBucket kind (record { own = s.own; chain = []; listed = s.listed; killed = true }) len
   IsBucket-emptied kind s t len is h none =
       let all : length (live_pairs (s.own ++ flattened s.chain)) ≡ 0 = ap (λ x. length (pairs_in x)) is ∙ ap length none in
-      IsBucket-chained kind s len [] true h (omega (arith, all, live_pairs-append s.own (flattened s.chain)))
+      IsBucket-chained kind s len [] true h (omega (arith, all, live_pairs-append s.own (flattened s.chain))) (omega arith)
 
   -- the free slots of the parts are those of the bucket
   pub free_len-parts : (s t : BucketView K V) (own chain : ℕ) → s ≡ t → own ≡ free_len s.own → chain ≡ free_len (flattened s.chain) → own + chain ≡ free_len_in t
@@ -51,7 +53,7 @@ module _ {K V : Type 0} where
   with_free_blocks-is s t chain n is chain_is = rw (chain_is, ← is) refl
 
   pub IsBucket-blocks : (kind : ℕ) (s : BucketView K V) (len : ℕ) (chain : List (List (Slot K V))) (n : ℕ) → IsBucket kind s len → chain ≡ s.chain ++ replicate n free_block → IsBucket kind (record { own = s.own; chain = chain; listed = s.listed; killed = s.killed }) len
-  IsBucket-blocks kind s len chain n h chain_is = rw chain_is (IsBucket-chained kind s len (s.chain ++ replicate n free_block) s.killed h (live_pairs-blocks s.chain n))
+  IsBucket-blocks kind s len chain n h chain_is = rw chain_is (IsBucket-chained kind s len (s.chain ++ replicate n free_block) s.killed h (live_pairs-blocks s.chain n) (omega (arith, marked_len-blocks s.chain n)))
 
   -- fewer blocks make too few free slots
   pub too_few : (t new : BucketView K V) (wanted blocks some : ℕ) → IsFewestBlocks (free_len_in t) wanted blocks → some < blocks → new ≡ with_free_blocks t some → free_len_in new < wanted

@@ -10,9 +10,10 @@ use Rattle.bucket_slots.specs.BucketView.{BucketView, Place, block_at, first_fro
 use Rattle.bucket_slots.specs.Clearing.{looks_at_marks}
 use Rattle.bucket_slots.specs.Layout.BucketFields.{IsBucket, IsChain}
 use Rattle.bucket_slots.specs.Placing.{place_for_next, place_or_head, with_head_for, with_place_made}
-use Rattle.bucket_slots.specs.Slots.{Slot, free, is_free, is_live, live, live_pairs, marked, slot_at}
+use Rattle.bucket_slots.specs.Slots.{Slot, free, is_free, is_live, live, live_pairs, marked, marked_len, slot_at}
 use Rattle.bucket_slots.proofs.Counting.{flattened-set, length-flattened, live_pairs-append, live_pairs-put, live_pairs_few}
 use Rattle.bucket_slots.proofs.FirstPlaces.{first_from-Some}
+use Rattle.bucket_slots.proofs.MarkCounting.{marked_len-append, marked_len-rows_with, marked_len-set}
 use Rattle.bucket_slots.proofs.Pointing.{block_at-chain}
 
 all_more : {P Q : ℕ → Type 0} (xs : List ℕ) → ((x : ℕ) → P x → Q x) → All P xs → All Q xs
@@ -40,6 +41,7 @@ module _ {K V : Type 0} where
     own_long = rw own_is refl;
     listed_live = rw listed_is (λ k d below. absurd (omega arith));
     unlisted = λ _. listed_is;
+    unmarked = λ _. rw (own_is, chain_is) refl;
   }
 
   other_slot : (own : List (Slot K V)) (pos x : ℕ) (y : Slot K V) → slot_at own pos ≡ free → IsTrue (is_live (slot_at own x)) → IsTrue (is_live (slot_at (set own pos y) x))
@@ -54,6 +56,7 @@ module _ {K V : Type 0} where
     own_long = simp length-set h.own_long;
     listed_live = all_more {P = λ x. IsTrue (is_live (slot_at s.own x))} {Q = λ x. IsTrue (is_live (slot_at (set s.own pos (live p b)) x))} s.listed (λ x. other_slot s.own pos x (live p b) found.slot) h.listed_live;
     unlisted = h.unlisted;
+    unmarked = λ other. omega (arith, h.unmarked other, marked_len-append s.own (flattened s.chain), marked_len-append (set s.own pos (live p b)) (flattened s.chain), marked_len-set s.own pos (live p b) refl);
   }
 
   pub IsBucket-chain : (kind : ℕ) (s : BucketView K V) (len i pos : ℕ) (p : K × V) (b : ℕ) → IsBucket kind s len → i < length s.chain → IsFreeAt (get_or s.chain i []) pos → IsBucket kind (record s { chain = rows_with s.chain i pos (live p b) }) (len + 1)
@@ -64,16 +67,18 @@ module _ {K V : Type 0} where
         own_long = h.own_long;
         listed_live = h.listed_live;
         unlisted = h.unlisted;
+        unmarked = λ other. omega (arith, h.unmarked other, marked_len-append s.own (flattened s.chain), marked_len-append s.own (flattened (rows_with s.chain i pos (live p b))), marked_len-rows_with s.chain i pos (live p b) refl);
       }
 
-  -- another chain with as many live slots
-  pub IsBucket-chained : (kind : ℕ) (s : BucketView K V) (len : ℕ) (chain : List (List (Slot K V))) (killed : Bool) → IsBucket kind s len → length (live_pairs (flattened chain)) ≡ length (live_pairs (flattened s.chain))
+  -- another chain with as many live slots and no more marked ones
+  pub IsBucket-chained : (kind : ℕ) (s : BucketView K V) (len : ℕ) (chain : List (List (Slot K V))) (killed : Bool) → IsBucket kind s len → length (live_pairs (flattened chain)) ≡ length (live_pairs (flattened s.chain)) → marked_len (flattened chain) ≤ marked_len (flattened s.chain)
       → IsBucket kind (record { own = s.own; chain = chain; listed = s.listed; killed = killed }) len
-  IsBucket-chained kind s len chain killed h same = record {
+  IsBucket-chained kind s len chain killed h same fewer = record {
     counted = omega (arith, h.counted, same, live_pairs-append s.own (flattened s.chain), live_pairs-append s.own (flattened chain));
     own_long = h.own_long;
     listed_live = h.listed_live;
     unlisted = h.unlisted;
+    unmarked = λ other. omega (arith, h.unmarked other, fewer, marked_len-append s.own (flattened s.chain), marked_len-append s.own (flattened chain));
   }
 
   -- one more fits the stored length

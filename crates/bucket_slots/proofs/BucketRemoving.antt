@@ -8,9 +8,10 @@ use Rattle.bucket_slots.specs.BucketView.{BucketView, Place, flattened, slot_in}
 use Rattle.bucket_slots.specs.Layout.BucketFields.{IsBucket, IsChain}
 use Rattle.bucket_slots.specs.Recency.{order_without}
 use Rattle.bucket_slots.specs.Removing.{place_after, place_after_at, place_in_chain_after, rows_without, slots_without, slots_without_at}
-use Rattle.bucket_slots.specs.Slots.{Slot, all_free, free, is_live, live_pairs, slot_at}
+use Rattle.bucket_slots.specs.Slots.{Slot, all_free, free, is_live, live_pairs, marked_len, slot_at}
 use Rattle.bucket_slots.proofs.ChainRows.{rows_without-empty, rows_without-full}
 use Rattle.bucket_slots.proofs.Counting.{flattened-remove, flattened-set, live_pairs-all_free, live_pairs-append, live_pairs-take}
+use Rattle.bucket_slots.proofs.MarkCounting.{marked_len-append, marked_len-remove, marked_len-rows_with, marked_len-set}
 use Rattle.bucket_slots.proofs.Pointing.{chain_live, own_live}
 
 module _ {K V : Type 0} where
@@ -56,6 +57,7 @@ module _ {K V : Type 0} where
     own_long = simp length-set h.own_long;
     listed_live = rw is (kept_listed s.own pos s.listed h.listed_live);
     unlisted = λ other. let none = h.unlisted other in is ∙ rw none refl;
+    unmarked = λ other. omega (arith, h.unmarked other, marked_len-append s.own (flattened s.chain), marked_len-append (set s.own pos free) (flattened s.chain), marked_len-set s.own pos free refl);
   }
 
   rows_live : (rows : List (List (Slot K V))) (i pos : ℕ) (empty : Bool) → all_free (set (get_or rows i []) pos free) ≡ empty → i < length rows → pos < length (get_or rows i []) → is_live (slot_at (get_or rows i []) pos) ≡ true
@@ -67,6 +69,10 @@ module _ {K V : Type 0} where
       let row = set (get_or rows i []) pos free in
       rw (rows_without-full rows i pos e) (omega (arith, flattened-set rows i row within, live_pairs-take (get_or rows i []) pos below alive))
 
+  rows_marked : (rows : List (List (Slot K V))) (i pos : ℕ) (empty : Bool) → all_free (set (get_or rows i []) pos free) ≡ empty → marked_len (flattened (rows_without rows i pos)) ≤ marked_len (flattened rows)
+  rows_marked rows i pos true e = rw (rows_without-empty rows i pos e) (marked_len-remove rows i)
+  rows_marked rows i pos false e = rw (rows_without-full rows i pos e) (marked_len-rows_with rows i pos free refl)
+
   pub IsBucket-without-chain : (kind : ℕ) (s : BucketView K V) (len i pos : ℕ) → IsBucket kind s len → i < length s.chain → pos < length (get_or s.chain i []) → is_live (slot_at (get_or s.chain i []) pos) ≡ true
       → IsBucket kind (record s { chain = rows_without s.chain i pos }) (len - 1)
   IsBucket-without-chain kind s len i pos h within below alive = record {
@@ -74,6 +80,7 @@ module _ {K V : Type 0} where
     own_long = h.own_long;
     listed_live = h.listed_live;
     unlisted = h.unlisted;
+    unmarked = λ other. omega (arith, h.unmarked other, marked_len-append s.own (flattened s.chain), marked_len-append s.own (flattened (rows_without s.chain i pos)), rows_marked s.chain i pos (all_free (set (get_or s.chain i []) pos free)) refl);
   }
 
   -- s is what the bucket t is made of, p the pointer to a slot of it

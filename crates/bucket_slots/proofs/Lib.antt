@@ -1,4 +1,5 @@
 pub mod Matching
+pub mod Recency
 pub mod CellsMemory
 pub mod OptionWalks
 pub mod BodyParts
@@ -10,11 +11,13 @@ pub mod RowFields
 pub mod RowSearch
 pub mod Counting
 pub mod FreeCounting
+pub mod MarkCounting
 pub mod ChainRows
 pub mod FirstPlaces
 pub mod Pointing
 pub mod BucketPlacing
 pub mod BucketRemoving
 pub mod BucketMoving
+pub mod BucketRecency
 pub mod Entries
 pub mod CallerLemmas

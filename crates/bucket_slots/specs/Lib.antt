@@ -1,5 +1,7 @@
 pub mod Matching
 pub mod Recency
+pub mod RecencyLinks
+pub mod RecencyLaws
 pub mod Places
 pub mod Slots
 pub mod BucketView
@@ -8,6 +10,7 @@ pub mod Clearing
 pub mod Removing
 pub mod Reserving
 pub mod Moving
+pub mod Evicting
 pub mod Searching
 pub mod Loans
 pub mod Layout

@@ -69,6 +69,13 @@ free_len (free ∷ slots) = 1 + free_len slots
 free_len (live pair byte ∷ slots) = free_len slots
 free_len (marked pair byte ∷ slots) = free_len slots
 
+-- the number of marked slots
+abbrev pub marked_len : {K V : Type 0} → List (Slot K V) → ℕ
+marked_len [] = 0
+marked_len (free ∷ slots) = marked_len slots
+marked_len (live pair byte ∷ slots) = marked_len slots
+marked_len (marked pair byte ∷ slots) = 1 + marked_len slots
+
 -- the pairs of a row's slots, marked ones among them
 abbrev pub places_of : {K V : Type 0} → List (Slot K V) → List (Option (K × V))
 places_of slots = map pair_of slots

@@ -14,6 +14,7 @@ mod bits;
 mod chain;
 mod entry_ptr;
 mod insert;
+mod recency;
 mod remove;
 mod room;
 mod row;
