@@ -7,6 +7,7 @@ pub mod Positions
 pub mod Bitmaps
 pub mod RowSlots
 pub mod RowFields
+pub mod RowValues
 pub mod RowSearch
 pub mod Counting
 pub mod ChainRows
