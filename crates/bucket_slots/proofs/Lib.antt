@@ -15,5 +15,6 @@ pub mod FirstPlaces
 pub mod Pointing
 pub mod BucketPlacing
 pub mod BucketRemoving
+pub mod BucketValues
 pub mod Entries
 pub mod CallerLemmas

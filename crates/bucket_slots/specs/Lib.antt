@@ -8,4 +8,5 @@ pub mod Clearing
 pub mod Removing
 pub mod Searching
 pub mod Loans
+pub mod BucketLoans
 pub mod Layout
