@@ -8,6 +8,7 @@ pub mod Positions
 pub mod Bitmaps
 pub mod RowSlots
 pub mod RowFields
+pub mod RowValues
 pub mod RowSearch
 pub mod Counting
 pub mod FreeCounting
@@ -19,5 +20,6 @@ pub mod BucketPlacing
 pub mod BucketRemoving
 pub mod BucketMoving
 pub mod BucketRecency
+pub mod BucketValues
 pub mod Entries
 pub mod CallerLemmas

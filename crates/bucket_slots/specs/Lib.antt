@@ -13,4 +13,5 @@ pub mod Moving
 pub mod Evicting
 pub mod Searching
 pub mod Loans
+pub mod BucketLoans
 pub mod Layout

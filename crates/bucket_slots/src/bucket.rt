@@ -12,6 +12,7 @@ ghost use Rattle.bucket_slots.specs.Slots.{places_of};
 
 mod bits;
 mod chain;
+mod entry;
 mod entry_ptr;
 mod insert;
 mod recency;

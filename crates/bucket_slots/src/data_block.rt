@@ -20,7 +20,7 @@ mod cells;
 mod lent;
 
 use cells::Cells;
-use lent::{parts, second};
+use lent::{filled_mut, parts, second};
 use std::array;
 use std::marker::Model;
 
@@ -41,7 +41,7 @@ impl<K, V, const LEN: usize> Model for DataBlock<K, V, LEN> {
 }
 
 impl<K: Drop, V: Drop, const LEN: usize> DataBlock<K, V, LEN> {
-    ghost use Rattle.bucket_slots.specs.Loans.{LendsPairIf, LendsPlace, LendsValue};
+    ghost use Rattle.bucket_slots.specs.Loans.{LendsPair, LendsPairIf, LendsPlace, LendsValue};
 
     /// Returns a row with every place empty.
     ///
@@ -155,6 +155,15 @@ impl<K: Drop, V: Drop, const LEN: usize> DataBlock<K, V, LEN> {
             Some(Some((key, value))) => (key, value),
             _ => unreachable!(),
         }
+    }
+
+    /// Lends the pair at a filled place, its value for writing.
+    pub(crate) fn filled(&mut self, pos: usize) -> (&K, &mut V)
+        requires { IsFilled self.old pos }
+        ensures* writes_back { sem 𝓛 (LendsPair K.row V.row LEN.row self.entry pos result) }
+        ensures pair { place_at self.old pos ≡ Some (result.0.now, result.1.now) }
+    {
+        parts(filled_mut(self.places.at_mut(pos)))
     }
 
     /// Lends the pair at `pos`; `None` where the place is empty or past the end.

@@ -5,9 +5,12 @@
 //!
 //! Ports `LinkedBucket` of scc's `src/hash_table/bucket.rs`, where each block owns the next; here
 //! the blocks stand in one vector, in the chain's order.
-ghost use Rattle.std.specs.Prelude.{◌≡◌, ℕ, ◌<◌, ◌∷◌, ◌++◌, [], Some, length, IsTrue, false, OnOk, OnErr, replicate};
+ghost use Rattle.std.specs.Prelude.{◌≡◌, ℕ, ◌<◌, ◌∷◌, ◌++◌, [], Some, length, IsTrue, false, OnOk, OnErr, replicate, vec_len};
+ghost use Rattle.std.specs.Borrow.{sem};
 ghost use Rattle.bucket_slots.specs.BucketView.{first_from, flattened, row_at, rows_with};
+ghost use Rattle.bucket_slots.specs.Layout.BlockLoans.{LendsEntryIn};
 ghost use Rattle.bucket_slots.specs.Layout.BucketFields.{IsChain};
+ghost use Rattle.bucket_slots.specs.Layout.Room.{BlockFits};
 ghost use Rattle.bucket_slots.specs.Placing.{free_block};
 ghost use Rattle.bucket_slots.specs.Removing.{place_in_chain_after, rows_without};
 ghost use Rattle.bucket_slots.specs.Searching.{is_wanted};
@@ -66,7 +69,7 @@ impl<K: Drop, V: Drop> Drop for Chain<K, V> {
 }
 
 impl<K: Drop, V: Drop> Chain<K, V> {
-    ghost use Rattle.bucket_slots.specs.Layout.Room.{BlockFits};
+    ghost use Rattle.bucket_slots.specs.Layout.ChainLoans.{LendsEntry};
 
     /// Returns a chain of no blocks. Takes no memory.
     pub(crate) fn new(alloc: Global) -> Self
@@ -129,6 +132,18 @@ impl<K: Drop, V: Drop> Chain<K, V> {
     {
         self.room();
         self.blocks[block].pair(pos)
+    }
+
+    /// Lends the pair in a live slot of a block, its value for writing.
+    pub(crate) fn entry_mut(&mut self, block: usize, pos: usize) -> (&K, &mut V)
+        requires within { block < length self.old }
+        requires pos { pos < 4 }
+        requires live_slot { IsTrue (is_live (slot_at (row_at self.old block) pos)) }
+        ensures* writes_back { sem 𝓛 (LendsEntry K.row V.row self.entry block pos result) }
+        ensures pair { live_pair (slot_at (row_at self.old block) pos) ≡ Some (result.0.now, result.1.now) }
+    {
+        self.room();
+        entry_in(&mut self.blocks, block, pos)
     }
 
     /// Returns the byte in an occupied slot of a block.
@@ -265,4 +280,21 @@ impl<K: Drop, V: Drop> Chain<K, V> {
         }
         (pair, EntryPtr::at(block, BUCKET_LEN - 1))
     }
+}
+
+/// Lends the pair in a live slot of one of the blocks, its value for writing.
+fn entry_in<K: Drop, V: Drop>(
+    blocks: &mut Vec<Row<K, V, BLOCK_LEN>>,
+    block: usize,
+    pos: usize,
+) -> (&K, &mut V)
+    requires fits { BlockFits K.row V.row }
+    requires within { block < vec_len blocks.old }
+    requires pos { pos < 4 }
+    requires live_slot { IsTrue (is_live (slot_at (row_at blocks.old.items block) pos)) }
+    ensures* writes_back { sem 𝓛 (LendsEntryIn K.row V.row blocks.entry block pos result) }
+    ensures pair { live_pair (slot_at (row_at blocks.old.items block) pos) ≡ Some (result.0.now, result.1.now) }
+{
+    let row = &mut blocks[block];
+    row.entry_mut(pos)
 }

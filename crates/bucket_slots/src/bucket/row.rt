@@ -50,6 +50,9 @@ impl<K, V, const LEN: usize> Model for Row<K, V, LEN> {
 }
 
 impl<K: Drop, V: Drop, const LEN: usize> Row<K, V, LEN> {
+    ghost use Rattle.std.specs.Borrow.{sem};
+    ghost use Rattle.bucket_slots.specs.Layout.RowLoans.{LendsEntry};
+
     /// Returns a row with every slot free.
     pub(crate) fn new() -> Self
         requires some { 0 < LEN }
@@ -145,6 +148,16 @@ impl<K: Drop, V: Drop, const LEN: usize> Row<K, V, LEN> {
         ensures { pair_of (slot_at self.now pos) ≡ Some (result.0.now, result.1.now) }
     {
         self.block.pair(pos)
+    }
+
+    /// Lends the pair in a live slot, its value for writing.
+    pub(crate) fn entry_mut(&mut self, pos: usize) -> (&K, &mut V)
+        requires within { pos < LEN }
+        requires live_slot { IsTrue (is_live (slot_at self.old pos)) }
+        ensures* writes_back { sem 𝓛 (LendsEntry K.row V.row LEN.row self.entry pos result) }
+        ensures pair { live_pair (slot_at self.old pos) ≡ Some (result.0.now, result.1.now) }
+    {
+        self.block.filled(pos)
     }
 
     /// Returns the byte in an occupied slot.
