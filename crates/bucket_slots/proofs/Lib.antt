@@ -13,6 +13,9 @@ pub mod ChainRows
 pub mod FirstPlaces
 pub mod Pointing
 pub mod BucketPlacing
+pub mod NextInRow
+pub mod NextSlots
 pub mod BucketRemoving
+pub mod AheadAfterRemoval
 pub mod Entries
 pub mod CallerLemmas

@@ -5,3 +5,4 @@ pub mod BucketFields
 pub mod Elements
 pub mod Masks
 pub mod Room
+pub mod Walks

@@ -7,5 +7,6 @@ pub mod Placing
 pub mod Clearing
 pub mod Removing
 pub mod Searching
+pub mod Walking
 pub mod Loans
 pub mod Layout

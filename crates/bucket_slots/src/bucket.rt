@@ -18,6 +18,7 @@ mod remove;
 mod room;
 mod row;
 mod search;
+mod walk;
 
 use crate::data_block::DataBlock;
 use crate::lru::LruList;
