@@ -15,6 +15,7 @@ pub mod Pointing
 pub mod BucketPlacing
 pub mod NextInRow
 pub mod NextSlots
+pub mod NextPlaces
 pub mod BucketRemoving
 pub mod AheadAfterRemoval
 pub mod Entries

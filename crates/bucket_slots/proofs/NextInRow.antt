@@ -14,8 +14,8 @@ use Rattle.bucket_slots.proofs.RowSlots.{length-row_slots, slot_at-row_slots}
 
 module _ {A : Type 0} (test : A → Bool) where
   -- the first element from a position on that passes, count elements behind it
-  found_from : (count : ℕ) (xs : List A) (from pos : ℕ) (d : A) → from + count ≡ pos → pos < length xs → ((i : ℕ) → from ≤ i → i < pos → test (get_or xs i d) ≡ false) → test (get_or xs pos d) ≡ true
-      → position_from test from (drop from xs) ≡ Some pos
+  found_from : (count : ℕ) (xs : List A) (from pos : ℕ) (d : A) → from + count ≡ pos → pos < length xs
+      → ((i : ℕ) → from ≤ i → i < pos → test (get_or xs i d) ≡ false) → test (get_or xs pos d) ≡ true → position_from test from (drop from xs) ≡ Some pos
   found_from zero xs from pos d e below before here =
       let same : pos ≡ from = omega arith in
       let first = drop_more xs from d (omega arith) in
@@ -24,9 +24,11 @@ module _ {A : Type 0} (test : A → Bool) where
   found_from (suc count) xs from pos d e below before here =
       let first = drop_more xs from d (omega arith) in
       let fails : test (get_or xs from d) ≡ false = before from (omega arith) (omega arith) in
-      rw (first, fails) (found_from count xs (from + 1) pos d (omega arith) below (λ i past less. before i (omega arith) less) here)
+      let later = λ (i : ℕ) (past : from + 1 ≤ i) (less : i < pos). before i (omega arith) less in
+      rw (first, fails) (found_from count xs (from + 1) pos d (omega arith) below later here)
 
-  nowhere_from : (count : ℕ) (xs : List A) (from : ℕ) (d : A) → length xs ≤ from + count → ((i : ℕ) → from ≤ i → i < length xs → test (get_or xs i d) ≡ false) → position_from test from (drop from xs) ≡ None
+  nowhere_from : (count : ℕ) (xs : List A) (from : ℕ) (d : A) → length xs ≤ from + count
+      → ((i : ℕ) → from ≤ i → i < length xs → test (get_or xs i d) ≡ false) → position_from test from (drop from xs) ≡ None
   nowhere_from zero xs from d past never = let none = drop_all from xs (omega arith) in rw none refl
   nowhere_from (suc count) xs from d past never = elim (cases_lt from (length xs)) [
     | inl below ↦
@@ -47,18 +49,22 @@ live_from-below occupied marks from i few h =
     rw (both, masked) (omega arith)
 
 module _ {K V : Type 0} where
-  live_of : (place : Option (K × V)) (byte mark : ℕ) → mark < 2 → min (min (cond (is_some place) 1 0) (1 - mark)) 1 ≡ cond (is_live (slot_of place byte mark)) 1 0
+  live_of : (place : Option (K × V)) (byte mark : ℕ) → mark < 2
+      → min (min (cond (is_some place) 1 0) (1 - mark)) 1 ≡ cond (is_live (slot_of place byte mark)) 1 0
   live_of None byte mark h = omega arith
   live_of (Some pair) byte zero h = omega arith
   live_of (Some pair) byte (suc more) h = omega arith
 
-  module _ (len : ℕ) (places : List (Option (K × V))) (bytes : List ℕ) (occupied marks from : ℕ) (row : IsRow len places bytes occupied marks) where
-    live_from-within : (i : ℕ) → i < len → from ≤ i → bit_at (live_from occupied marks from) i ≡ cond (is_live (slot_at (row_slots places bytes marks) i)) 1 0
+  module _ (len : ℕ) (places : List (Option (K × V))) (bytes : List ℕ) (occupied marks from : ℕ)
+      (row : IsRow len places bytes occupied marks) where
+    live_from-within : (i : ℕ) → i < len → from ≤ i
+        → bit_at (live_from occupied marks from) i ≡ cond (is_live (slot_at (row_slots places bytes marks) i)) 1 0
     live_from-within i below ge =
         let both = bit_at_and (bit_and occupied (2 ^ 32 - 1 - marks)) ((2 ^ 32 - 1) * 2 ^ from % 2 ^ 32) i in
         let unmasked = bit_at_and occupied (2 ^ 32 - 1 - marks) i in
         let unmarked = bit_at_not w32 marks i row.marks_below (omega (arith, row.few)) in
-        let masked : bit_at ((2 ^ 32 - 1) * 2 ^ from % 2 ^ 32) i ≡ 1 = rw (ones_shl 32 from (omega (arith, row.few))) (bit_at_mask_inside from 32 i ge (omega (arith, row.few))) in
+        let masked : bit_at ((2 ^ 32 - 1) * 2 ^ from % 2 ^ 32) i ≡ 1 =
+        rw (ones_shl 32 from (omega (arith, row.few))) (bit_at_mask_inside from 32 i ge (omega (arith, row.few))) in
         rw (both, unmasked, unmarked, masked, row.filled i below, slot_at-row_slots places bytes marks i (omega (arith, row.long)))
         (live_of (get_or places i None) (get_or bytes i 0) (bit_at marks i) (bit_at-lt marks i))
 
@@ -87,8 +93,14 @@ module _ {K V : Type 0} where
     pub next_in-Some : (pos : ℕ) → from < len → IsLowest (live_from occupied marks from) pos → next_in from (row_slots places bytes marks) ≡ Some pos
     next_in-Some pos short low =
         let slots = row_slots places bytes marks in
-        let within : pos < len = elim (cases_lt pos len) [ inl below ↦ below | inr past ↦ absurd (omega (arith, live_from-past pos past, low.set)) ] in
-        let ge : from ≤ pos = elim (cases_lt pos from) [ inl below ↦ absurd (omega (arith, live_from-below occupied marks from pos (omega (arith, row.few)) below, low.set)) | inr ge ↦ ge ] in
+        let within : pos < len = elim (cases_lt pos len) [
+          | inl below ↦ below
+          | inr past ↦ absurd (omega (arith, live_from-past pos past, low.set))
+        ] in
+        let ge : from ≤ pos = elim (cases_lt pos from) [
+          | inl below ↦ absurd (omega (arith, live_from-below occupied marks from pos (omega (arith, row.few)) below, low.set))
+          | inr ge ↦ ge
+        ] in
         found_from is_live (pos - from) slots from pos free (omega arith) (simp length-row_slots (omega (arith, row.long)))
         (λ i past less. bit_is_not (is_live (slot_at slots i)) (sym (live_from-within i (omega arith) past) ∙ low.lower i less))
         (bit_is (is_live (slot_at slots pos)) (sym (live_from-within pos within ge) ∙ low.set))
