@@ -6,12 +6,13 @@ use Rattle.std.proofs.lemmas.List.Elements.{All-append, All-from_recursion}
 use Rattle.std.proofs.lemmas.List.Sorted.{IsPermutation-middle, IsPermutation-sym, IsPermutation-trans, IsPermutation-map, Contains-permutation}
 use Rattle.std.proofs.lemmas.Bool.{and_parts}
 use Rattle.bucket_slots.specs.declared.bucket.TheConstants.{INDEX}
-use Rattle.bucket_slots.specs.BucketView.{BucketView, Place, all_slots, block_at, entries_in, first_from, first_place, flattened, pairs_in, place_at_position, slot_in, with_slot_at}
+use Rattle.bucket_slots.specs.BucketView.{BucketView, Place, all_slots, block_at, entries_in, first_from, first_place, flattened, null_place, pairs_in, place_at_position, slot_in, with_slot_at}
 use Rattle.bucket_slots.specs.Clearing.{slots_after_insertion}
 use Rattle.bucket_slots.specs.Placing.{free_block, place_for_next, slots_with, with_head_for, with_place_made}
 use Rattle.bucket_slots.specs.Removing.{slots_without, slots_without_at}
 use Rattle.bucket_slots.specs.Searching.{is_wanted, place_wanted}
 use Rattle.bucket_slots.specs.Slots.{Slot, all_free, free, is_free, live, live_entries, live_pair, marked, slot_at}
+use Rattle.bucket_slots.specs.Walking.{pairs_ahead}
 use Rattle.bucket_slots.proofs.BucketPlacing.{linked_row, no_marks_looked_at, place_made}
 use Rattle.bucket_slots.proofs.ChainRows.{rows_without-empty, rows_without-full}
 use Rattle.bucket_slots.proofs.Entries.{exchanged, live_entries-append, live_entries-put, live_entries-remove, live_entries-take, map-live_entries}
@@ -125,3 +126,7 @@ module _ {K V : Type 0} where
   -- where a search finds nothing, no live pair with this byte passes
   pub none_found : (test : K → Bool) (byte : ℕ) (s : BucketView K V) → place_wanted test byte s ≡ None → All (λ (e : (K × V) × ℕ). ((e.1 == byte) && test e.0.0) ≡ false) (entries_in s)
   none_found test byte s e = none_of_rows test byte 0 (s.own ∷ s.chain) e
+
+  -- all live pairs are ahead of the null pointer
+  pub pairs_ahead-null_place : (s : BucketView K V) → pairs_ahead s null_place ≡ pairs_in s
+  pairs_ahead-null_place s = refl

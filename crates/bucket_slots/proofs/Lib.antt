@@ -17,9 +17,13 @@ pub mod ChainRows
 pub mod FirstPlaces
 pub mod Pointing
 pub mod BucketPlacing
+pub mod NextInRow
+pub mod NextSlots
+pub mod NextPlaces
 pub mod BucketRemoving
 pub mod BucketMoving
 pub mod BucketRecency
 pub mod BucketValues
+pub mod AheadAfterRemoval
 pub mod Entries
 pub mod CallerLemmas

@@ -25,11 +25,11 @@ false_by : (b : Bool) → (b ≡ true → ⊥) → b ≡ false
 false_by true h = absurd (h refl)
 false_by false h = refl
 
-bit_is : (x : Bool) → ◌≡◌ {A = ℕ} (cond x 1 0) 1 → x ≡ true
+pub bit_is : (x : Bool) → ◌≡◌ {A = ℕ} (cond x 1 0) 1 → x ≡ true
 bit_is true e = refl
 bit_is false e = absurd (omega arith)
 
-bit_is_not : (x : Bool) → ◌≡◌ {A = ℕ} (cond x 1 0) 0 → x ≡ false
+pub bit_is_not : (x : Bool) → ◌≡◌ {A = ℕ} (cond x 1 0) 0 → x ≡ false
 bit_is_not true e = absurd (omega arith)
 bit_is_not false e = refl
 

@@ -8,3 +8,4 @@ pub mod Elements
 pub mod Masks
 pub mod Room
 pub mod RowLoans
+pub mod Walks

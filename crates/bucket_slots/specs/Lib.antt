@@ -12,6 +12,7 @@ pub mod Reserving
 pub mod Moving
 pub mod Evicting
 pub mod Searching
+pub mod Walking
 pub mod Loans
 pub mod BucketLoans
 pub mod Layout

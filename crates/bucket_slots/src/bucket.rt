@@ -21,6 +21,7 @@ mod room;
 mod row;
 mod search;
 mod transfer;
+mod walk;
 
 use crate::data_block::DataBlock;
 use crate::lru::LruList;

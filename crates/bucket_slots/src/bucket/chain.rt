@@ -5,12 +5,13 @@
 //!
 //! Ports `LinkedBucket` of scc's `src/hash_table/bucket.rs`, where each block owns the next; here
 //! the blocks stand in one vector, in the chain's order.
-ghost use Rattle.std.specs.Prelude.{◌≡◌, ℕ, ◌<◌, ◌∷◌, ◌++◌, [], Some, length, IsTrue, false, OnOk, OnErr, replicate, vec_len};
+ghost use Rattle.std.specs.Prelude.{◌≡◌, ℕ, ◌+◌, ◌<◌, ◌∷◌, ◌++◌, [], Some, drop, length, IsTrue, false, OnOk, OnErr, replicate, vec_len};
 ghost use Rattle.std.specs.Borrow.{sem};
 ghost use Rattle.bucket_slots.specs.BucketView.{first_from, flattened, row_at, rows_with};
 ghost use Rattle.bucket_slots.specs.Layout.BlockLoans.{LendsEntryIn};
 ghost use Rattle.bucket_slots.specs.Layout.BucketFields.{IsChain};
 ghost use Rattle.bucket_slots.specs.Layout.Room.{BlockFits};
+ghost use Rattle.bucket_slots.specs.Layout.Walks.{next_from, next_in};
 ghost use Rattle.bucket_slots.specs.Placing.{free_block};
 ghost use Rattle.bucket_slots.specs.Removing.{place_in_chain_after, rows_without};
 ghost use Rattle.bucket_slots.specs.Searching.{is_wanted};
@@ -117,6 +118,30 @@ impl<K: Drop, V: Drop> Chain<K, V> {
         for i in 0..self.blocks.len() {
             self.room();
             if let Some(pos) = self.blocks[i].first_free() {
+                return Some(EntryPtr::at(i + 1, pos));
+            }
+        }
+        None
+    }
+
+    /// Returns the first live slot of a block from a position on; `None` past the chain's end.
+    pub(crate) fn next_live(&self, block: usize, from: usize) -> Option<usize>
+        ensures { result ≡ next_in from (row_at self.now block) }
+    {
+        if block >= self.blocks.len() {
+            return None;
+        }
+        self.room();
+        self.blocks[block].next_live(from)
+    }
+
+    /// Returns the first live slot from a block on.
+    pub(crate) fn next<const TYPE: u8>(&self, block: usize) -> Option<EntryPtr<K, V, TYPE>>
+        ensures { result ≡ next_from (block + 1) (drop block self.now) }
+    {
+        for i in block..self.blocks.len() {
+            self.room();
+            if let Some(pos) = self.blocks[i].next_live(0) {
                 return Some(EntryPtr::at(i + 1, pos));
             }
         }

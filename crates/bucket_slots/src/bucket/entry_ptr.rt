@@ -9,6 +9,7 @@
 ghost use Rattle.std.specs.Prelude.{◌≡◌, ◌≢◌, ◌↔◌, IsTrue, Some, false, option_map};
 ghost use Rattle.bucket_slots.specs.BucketView.{Place, null_place, slot_in};
 ghost use Rattle.bucket_slots.specs.Slots.{byte_of, is_free, pair_of};
+ghost use Rattle.bucket_slots.specs.Walking.{IsEnd, MovesToNext};
 
 use crate::bucket::{BUCKET_LEN, Bucket};
 use crate::lru::LruList;
@@ -106,6 +107,26 @@ impl<K, V, const TYPE: u8> EntryPtr<K, V, TYPE> {
 }
 
 impl<K: Drop, V: Drop, const TYPE: u8> EntryPtr<K, V, TYPE> {
+    /// Moves to the next live slot in slot order and returns true; at the end it returns false and
+    /// is the null pointer, from which a further call starts anew.
+    ///
+    /// O(blocks in the chain). scc: `EntryPtr::find_next`.
+    pub fn find_next<L: LruList + Drop>(&mut self, bucket: &Bucket<K, V, L, TYPE>) -> bool
+        ensures found { IsTrue result → MovesToNext bucket.now self.old self.new }
+        ensures end { result ≡ false → IsEnd bucket.now self.old self.new }
+    {
+        match bucket.next_after(self) {
+            Some(next) => {
+                self.set(next.block(), next.pos());
+                true
+            }
+            None => {
+                self.set(0, BUCKET_LEN);
+                false
+            }
+        }
+    }
+
     /// Returns the byte of the slot that it points to: the low byte of the hash, or the epoch
     /// where the slot is marked.
     ///

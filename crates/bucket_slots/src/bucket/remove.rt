@@ -4,6 +4,7 @@ ghost use Rattle.bucket_slots.specs.BucketView.{slot_in};
 ghost use Rattle.bucket_slots.specs.Recency.{order_without};
 ghost use Rattle.bucket_slots.specs.Removing.{place_after, slots_without};
 ghost use Rattle.bucket_slots.specs.Slots.{is_live, live_pair};
+ghost use Rattle.bucket_slots.specs.Walking.{pairs_ahead};
 
 use crate::bucket::{Bucket, CACHE, EntryPtr, INDEX};
 use crate::lru::LruList;
@@ -22,6 +23,9 @@ impl<K: Drop, V: Drop, L: LruList + Drop, const TYPE: u8> Bucket<K, V, L, TYPE> 
         ensures pair { live_pair (slot_in self.old at.old) ≡ Some result }
         ensures slots { self.new ≡ slots_without self.old at.old }
         ensures place { at.new ≡ place_after self.old at.old }
+
+        // What a walk has yet to visit is the same.
+        ensures pairs_ahead { pairs_ahead self.new at.new ≡ pairs_ahead self.old at.old }
     {
         self.chain.sound();
         self.len -= 1;

@@ -7,6 +7,7 @@
 ghost use Rattle.std.specs.Prelude.{◌≡◌, ◌<◌, ◌≤◌, Some, IsTrue, false, replicate, slice_set};
 ghost use Rattle.std.specs.List.{position};
 ghost use Rattle.bucket_slots.specs.Layout.Blocks.{IsCandidateMask, has_byte};
+ghost use Rattle.bucket_slots.specs.Layout.Walks.{next_in};
 ghost use Rattle.bucket_slots.specs.Searching.{is_wanted};
 ghost use Rattle.bucket_slots.specs.Slots.{
   all_free,
@@ -139,6 +140,21 @@ impl<K: Drop, V: Drop, const LEN: usize> Row<K, V, LEN> {
             Some(found) => found == key,
             None => false,
         }
+    }
+
+    /// Returns the first live slot from a position on.
+    pub(crate) fn next_live(&self, from: usize) -> Option<usize>
+        ensures { result ≡ next_in from self.now }
+    {
+        let live = self.occupied & !self.marks;
+        if from >= LEN {
+            return None;
+        }
+        let left = live & (u32::MAX << from);
+        if left == 0 {
+            return None;
+        }
+        Some(lowest_bit(left) as usize)
     }
 
     /// Returns the pair in an occupied slot.
