@@ -4,8 +4,9 @@ use Rattle.std.proofs.lemmas.Bool.{cases_eq}
 use Rattle.std.proofs.lemmas.List.{get_or-set_other, get_or-set_same, length-set}
 use Rattle.bucket_slots.specs.BucketView.{BucketView, Place, bucket_with_value, flattened, row_at, rows_with_value}
 use Rattle.bucket_slots.specs.Layout.BucketFields.{IsBucket}
-use Rattle.bucket_slots.specs.Slots.{Slot, free, is_live, live, live_pairs, marked, row_with_value, slot_at, slot_with_value}
+use Rattle.bucket_slots.specs.Slots.{Slot, free, is_live, live, live_pairs, marked, marked_len, row_with_value, slot_at, slot_with_value}
 use Rattle.bucket_slots.proofs.Counting.{flattened-set, live_pairs-append}
+use Rattle.bucket_slots.proofs.MarkCounting.{marked_len-append, marked_len-set_row}
 
 module _ {K V : Type 0} where
   -- as many slots are live

@@ -5,7 +5,7 @@ use Rattle.std.proofs.lemmas.List.{ext_get_or, length-set, get_or-set_same, get_
 use Rattle.std.proofs.lemmas.Bool.{cases_eq}
 use Rattle.bucket_slots.specs.Layout.Blocks.{IsRow, row_slots, slot_of}
 use Rattle.bucket_slots.specs.Places.{value_set, with_value}
-use Rattle.bucket_slots.specs.Slots.{Slot, free, row_with_value, slot_at, slot_with_value}
+use Rattle.bucket_slots.specs.Slots.{free, row_with_value, slot_at, slot_with_value}
 use Rattle.bucket_slots.proofs.RowSlots.{length-row_slots, slot_at-row_slots}
 
 module _ {K V : Type 0} where
