@@ -5,19 +5,22 @@ use Rattle.std.specs.List.Sorted.{IsPermutation}
 use Rattle.std.proofs.lemmas.List.Elements.{All-append, All-from_recursion}
 use Rattle.std.proofs.lemmas.List.Sorted.{IsPermutation-middle, IsPermutation-sym, IsPermutation-trans, IsPermutation-map, Contains-permutation}
 use Rattle.std.proofs.lemmas.Bool.{and_parts}
+use Rattle.std.proofs.lemmas.List.{get_or-set_same, length-set, set-set}
 use Rattle.bucket_slots.specs.declared.bucket.TheConstants.{INDEX}
-use Rattle.bucket_slots.specs.BucketView.{BucketView, Place, all_slots, block_at, entries_in, first_from, first_place, flattened, null_place, pairs_in, place_at_position, slot_in, with_slot_at}
+use Rattle.bucket_slots.specs.BucketView.{BucketView, Place, all_slots, block_at, bucket_with_value, entries_in, first_from, first_place, flattened, null_place, pairs_in, place_at_position, slot_in, with_slot_at}
 use Rattle.bucket_slots.specs.Clearing.{slots_after_insertion}
+use Rattle.bucket_slots.specs.Evicting.{slot_to_evict, slots_evicted}
 use Rattle.bucket_slots.specs.Placing.{free_block, place_for_next, slots_with, with_head_for, with_place_made}
 use Rattle.bucket_slots.specs.Removing.{slots_without, slots_without_at}
 use Rattle.bucket_slots.specs.Searching.{is_wanted, place_wanted}
-use Rattle.bucket_slots.specs.Slots.{Slot, all_free, free, is_free, live, live_entries, live_pair, marked, slot_at}
+use Rattle.bucket_slots.specs.Slots.{Slot, all_free, free, is_free, live, live_entries, live_pair, marked, slot_at, slot_with_value}
 use Rattle.bucket_slots.specs.Walking.{pairs_ahead}
+use Rattle.bucket_slots.proofs.BodyParts.{after}
 use Rattle.bucket_slots.proofs.BucketPlacing.{linked_row, no_marks_looked_at, place_made}
 use Rattle.bucket_slots.proofs.ChainRows.{rows_without-empty, rows_without-full}
 use Rattle.bucket_slots.proofs.Entries.{exchanged, live_entries-append, live_entries-put, live_entries-remove, live_entries-take, map-live_entries}
 use Rattle.bucket_slots.proofs.FirstPlaces.{passes}
-use Rattle.bucket_slots.proofs.Pointing.{row_there}
+use Rattle.bucket_slots.proofs.Pointing.{inside_row, row_there}
 use Rattle.bucket_slots.proofs.Positions.{position-None}
 
 nowhere : (block : ℕ) (q : Option ℕ) (later : Option Place) → place_at_position block q later ≡ None → (q ≡ None) × (later ≡ None)
@@ -90,6 +93,57 @@ module _ {K V : Type 0} where
   pairs_in-slots_without s at p e =
       let h = entries_in-slots_without s at p e in
       rw (← map-entries_in s, ← map-entries_in (slots_without s at)) (IsPermutation-map (λ (e : (K × V) × ℕ). e.0) (entries_in s) ((p, h.0) ∷ entries_in (slots_without s at)) h.1)
+
+  set_again : (s : BucketView K V) (block pos : ℕ) (x y : Slot K V) → block < length (s.own ∷ s.chain) → with_slot_at (with_slot_at s block pos x) block pos y ≡ with_slot_at s block pos y
+  set_again s zero pos x y h = ap (λ own. record { own = own; chain = s.chain; listed = s.listed; killed = s.killed }) (set-set s.own pos x y)
+  set_again s (suc i) pos x y h =
+      let row = get_or-set_same s.chain i (set (get_or s.chain i []) pos x) [] (omega arith) in
+      let chain = set-set s.chain i (set (get_or s.chain i []) pos x) (set (get_or s.chain i []) pos y) in
+      ap (λ r. record { own = s.own; chain = set (set s.chain i (set (get_or s.chain i []) pos x)) i (set r pos y); listed = s.listed; killed = s.killed }) row
+          ∙ ap (λ r. record { own = s.own; chain = set (set s.chain i (set (get_or s.chain i []) pos x)) i r; listed = s.listed; killed = s.killed }) (set-set (get_or s.chain i []) pos x y)
+          ∙ ap (λ c. record { own = s.own; chain = c; listed = s.listed; killed = s.killed }) chain
+
+  freed_block : (s : BucketView K V) (block pos : ℕ) (x : Slot K V) → block < length (s.own ∷ s.chain) → block_at (with_slot_at s block pos x) block ≡ set (block_at s block) pos x
+  freed_block s zero pos x h = refl
+  freed_block s (suc i) pos x h = get_or-set_same s.chain i (set (get_or s.chain i []) pos x) [] (omega arith)
+
+  freed_count : (s : BucketView K V) (block pos : ℕ) (x : Slot K V) → block < length (s.own ∷ s.chain) → block < length ((with_slot_at s block pos x).own ∷ (with_slot_at s block pos x).chain)
+  freed_count s zero pos x h = omega arith
+  freed_count s (suc i) pos x h = omega (arith, length-set s.chain i (set (get_or s.chain i []) pos x))
+
+  -- another value at a live slot: that pair goes, the pair with the other value comes, and the rest stays
+  pub record IsRewritten (s : BucketView K V) (p : K × V) (w : V) (after : BucketView K V) : Type 0 where
+    pub byte : ℕ
+    pub rest : List ((K × V) × ℕ)
+    pub before_is : IsPermutation (entries_in s) ((p, byte) ∷ rest)
+    pub after_is : IsPermutation (((p.0, w), byte) ∷ rest) (entries_in after)
+
+  put_after : (s : BucketView K V) (block pos : ℕ) (p : K × V) (b : ℕ) (w : V) → block < length (s.own ∷ s.chain) → pos < length (block_at s block) → slot_at (block_at s block) pos ≡ live p b
+      → IsPermutation (((p.0, w), b) ∷ entries_in (with_slot_at s block pos free)) (entries_in (with_slot_at s block pos (slot_with_value (slot_at (block_at s block) pos) w)))
+  put_after s block pos p b w h within here =
+      let freed = with_slot_at s block pos free in
+      let row = freed_block s block pos free h in
+      let short : pos < length (block_at freed block) = rw (row, length-set) within in
+      let vacant : slot_at (block_at freed block) pos ≡ free = rw row (get_or-set_same (block_at s block) pos free free within) in
+      let put = with_slot_exchanges (((p.0, w), b) ∷ []) [] freed block pos (live (p.0, w) b) (freed_count s block pos free h) (live_entries-put (block_at freed block) pos (p.0, w) b short vacant) in
+      let after = set_again s block pos free (live (p.0, w) b) h ∙ ap (λ x. with_slot_at s block pos (slot_with_value x w)) (sym here) in
+      subst (λ x. IsPermutation (((p.0, w), b) ∷ entries_in freed) (entries_in x)) after put
+
+  pub rewritten : (s : BucketView K V) (at : Place) (p : K × V) (w : V) → live_pair (slot_in s at) ≡ Some p → IsRewritten s p w (bucket_with_value s at w)
+  rewritten s at p w e =
+      let slot = live_is (slot_in s at) p e in
+      let short = inside_row (block_at s at.block) at.pos (not_free (slot_at (block_at s at.block) at.pos) p slot.0 slot.1) in
+      let h = there s at.block at.pos short in
+      record {
+        byte = slot.0;
+        rest = entries_in (with_slot_at s at.block at.pos free);
+        before_is = with_slot_exchanges [] ((p, slot.0) ∷ []) s at.block at.pos free h (live_entries-take (block_at s at.block) at.pos p slot.0 slot.1);
+        after_is = put_after s at.block at.pos p slot.0 w h short slot.1;
+      }
+
+  -- an eviction leaves the pairs that a removal of its slot leaves
+  pub pairs_in-slots_evicted : (s : BucketView K V) (p : K × V) → live_pair (slot_at s.own (slot_to_evict s)) ≡ Some p → (b : ℕ) × IsPermutation (entries_in s) ((p, b) ∷ entries_in (slots_evicted s))
+  pairs_in-slots_evicted s p e = entries_in-slots_without s (record { block = 0; pos = slot_to_evict s }) p e
 
   -- p stands at a place, and its key passes
   pub record IsFound (test : K → Bool) (s : BucketView K V) (at : Place) (p : K × V) : Type 0 where
