@@ -1,23 +1,24 @@
 -- The law of one map, and the map itself, where the bucket changes by one pair; and what searches say of the map.
-use Rattle.std.proofs.Common.{ℕ, ◌+◌, ◌<◌, ◌≡◌, ◌%◌, ◌==◌, ◌&&◌, Bool, true, false, Option, Some, None, Result, Ok, Err, OnOk, OnErr, IfSome, IfNone, List, [], ◌∷◌, length, map, get_or, refl, sym, ap, subst, ◌∙◌, arith, suc, zero}
+use Rattle.std.proofs.Common.{OnSome, ℕ, ◌<◌, ◌≡◌, ◌%◌, ◌==◌, ◌&&◌, Bool, true, false, Option, Some, None, Result, Ok, Err, OnOk, OnErr, IfSome, IfNone, List, ◌∷◌, length, map, get_or, refl, sym, ap, subst, ◌∙◌, arith, suc, zero}
 use Rattle.std.specs.Borrow.{Bor}
 use Rattle.std.specs.Cmp.{IsEquivalence}
-use Rattle.std.specs.List.{All, Contains, IsDistinct}
+use Rattle.std.specs.List.{All, IsDistinct}
 use Rattle.std.specs.List.Sorted.{IsPermutation}
 use Rattle.std.proofs.lemmas.Bool.Decides.{nat_tests}
-use Rattle.std.proofs.lemmas.List.Elements.{All-nil, All-tail, All-map, recursion_from_All}
+use Rattle.std.proofs.lemmas.List.Elements.{All-tail, All-map, recursion_from_All}
 use Rattle.std.proofs.lemmas.List.Sorted.{All-permutation, IsPermutation-map}
 use Rattle.std.proofs.lemmas.Map.Keys.{IsDistinct-cons, IsDistinct-tail, IsDistinct-IsPermutation}
 use Rattle.bucket_slots.specs.declared.bucket.TheConstants.{INDEX}
-use Rattle.bucket_slots.specs.BucketView.{BucketView, Place, empty_bucket, entries_in, pair_at, pairs_in, slot_in}
+use Rattle.bucket_slots.specs.BucketView.{BucketView, Place, bucket_with_value, empty_bucket, entries_in, pair_at, pairs_in, slot_in}
 use Rattle.bucket_slots.specs.Clearing.{slots_after_insertion}
+use Rattle.bucket_slots.specs.Evicting.{slot_to_evict, slots_evicted, slots_touched}
 use Rattle.bucket_slots.specs.Places.{IsPairOf}
 use Rattle.bucket_slots.specs.Placing.{slots_with}
 use Rattle.bucket_slots.specs.Removing.{slots_without}
 use Rattle.bucket_slots.specs.Searching.{place_wanted}
-use Rattle.bucket_slots.specs.Slots.{live_pair}
-use Rattle.bucket_slots.proofs.CallerLemmas.{IsFound, entries_in-slots_with, entries_in-slots_without, found_pair, map-entries_in, none_found, pairs_in-slots_with, pairs_in-slots_without, slots_after_insertion-unmarked}
-use Rattle.bucket_table.specs.MapState.{AddsPair, IsAbsent, IsThere, TakesPair}
+use Rattle.bucket_slots.specs.Slots.{live_pair, slot_at}
+use Rattle.bucket_slots.proofs.CallerLemmas.{entries_in-slots_with, entries_in-slots_without, found_pair, map-entries_in, none_found, pairs_in-slots_evicted, pairs_in-slots_with, rewritten, slots_after_insertion-unmarked}
+use Rattle.bucket_table.specs.MapState.{AddsPair, ChangesValue, IsAbsent, IsThere, TakesPair}
 use Rattle.bucket_table.specs.OneMap.{IsOneMap, entries_of, pairs_of, state_of}
 use Rattle.bucket_table.specs.TableView.{TableView}
 
@@ -87,18 +88,70 @@ module _ {K V H : Type 0} (eq : K → K → Bool) (hash : H → K → ℕ) where
     pub one_map : IsOneMap eq (hash t.hasher) (with_bucket t b)
     pub pairs : TakesPair (state_of kind s) p (state_of kind (with_bucket t b))
 
-  pub removed : IsEquivalence eq → (kind : ℕ) (t s : TableView K V H) (p : K × V) (at : Place) (b : BucketView K V) → t ≡ s → IsOneMap eq (hash t.hasher) t → live_pair (slot_in t.bucket at) ≡ Some p → b ≡ slots_without t.bucket at → IsRemoved kind t s p b
-  removed laws kind t s p at b is one here gone =
-      let out = pairs_in-slots_without t.bucket at p here in
-      let entries = entries_in-slots_without t.bucket at p here in
-      let bytes = All-permutation (λ (e : (K × V) × ℕ). e.1 ≡ hash t.hasher e.0.0 % 256) _ _ entries.1 one.own_bytes in
-      rw gone (record {
+  -- where one entry is taken out, however
+  taken_out : IsEquivalence eq → (kind : ℕ) (t s : TableView K V H) (p : K × V) (byte : ℕ) (b : BucketView K V) → t ≡ s → IsOneMap eq (hash t.hasher) t → IsPermutation (entries_of t) ((p, byte) ∷ entries_in b) → IsRemoved kind t s p b
+  taken_out laws kind t s p byte b is one moved =
+      let out : IsPermutation (pairs_of t) (p ∷ pairs_in b) = rw (← map-entries_in t.bucket, ← map-entries_in b) (IsPermutation-map (λ (e : (K × V) × ℕ). e.0) (entries_of t) ((p, byte) ∷ entries_in b) moved) in
+      let bytes = All-permutation (λ (e : (K × V) × ℕ). e.1 ≡ hash t.hasher e.0.0 % 256) _ _ moved one.own_bytes in
+      record {
         one_map = record {
-          distinct = distinct_taken eq laws (pairs_of t) (pairs_in (slots_without t.bucket at)) p one.distinct out;
-          own_bytes = All-tail (λ (e : (K × V) × ℕ). e.1 ≡ hash t.hasher e.0.0 % 256) (p, entries.0) (entries_in (slots_without t.bucket at)) bytes;
+          distinct = distinct_taken eq laws (pairs_of t) (pairs_in b) p one.distinct out;
+          own_bytes = All-tail (λ (e : (K × V) × ℕ). e.1 ≡ hash t.hasher e.0.0 % 256) (p, byte) (entries_in b) bytes;
         };
         pairs = rw (← is) (record { pairs = out; others = refl });
-      })
+      }
+
+  pub removed : IsEquivalence eq → (kind : ℕ) (t s : TableView K V H) (p : K × V) (at : Place) (b : BucketView K V) → t ≡ s → IsOneMap eq (hash t.hasher) t → live_pair (slot_in t.bucket at) ≡ Some p → b ≡ slots_without t.bucket at → IsRemoved kind t s p b
+  removed laws kind t s p at b is one here gone =
+      let out = entries_in-slots_without t.bucket at p here in
+      rw gone (taken_out laws kind t s p out.0 (slots_without t.bucket at) is one out.1)
+
+  -- what an eviction leaves, by its result
+  pub record IsEvicted (kind : ℕ) (t s : TableView K V H) (b : BucketView K V) (r : Option (K × V)) : Type 0 where
+    pub one_map : IsOneMap eq (hash t.hasher) (with_bucket t b)
+    pub pairs : IfSome r (λ p. TakesPair (state_of kind s) p (state_of kind (with_bucket t b)))
+
+  pub evicted : IsEquivalence eq → (kind : ℕ) (t s : TableView K V H) (b : BucketView K V) (r : Option (K × V)) → t ≡ s → IsOneMap eq (hash t.hasher) t
+      → IfSome r (λ p. live_pair (slot_at t.bucket.own (slot_to_evict t.bucket)) ≡ Some p) → OnSome r (b ≡ slots_evicted t.bucket) → IfNone r (b ≡ t.bucket) → IsEvicted kind t s b r
+  evicted laws kind t s b None is one here gone same = rw same (record { one_map = one; pairs = tt })
+  evicted laws kind t s b (Some p) is one here gone same =
+      let out = pairs_in-slots_evicted t.bucket p here in
+      let left = taken_out laws kind t s p out.0 (slots_evicted t.bucket) is one out.1 in
+      rw gone (record { one_map = left.one_map; pairs = left.pairs })
+
+  -- a touch moves no pair
+  pub touched : (keeps : Bool) (t : TableView K V H) (at : Place) (b : BucketView K V) → IsOneMap eq (hash t.hasher) t → b ≡ slots_touched keeps t.bucket at → IsOneMap eq (hash t.hasher) (with_bucket t b)
+  touched keeps t at b one moved = rw moved (record { distinct = one.distinct; own_bytes = one.own_bytes })
+
+  -- what a write leaves
+  pub record IsWritten (kind : ℕ) (t s : TableView K V H) (p : K × V) (value : V) (b : BucketView K V) : Type 0 where
+    pub one_map : IsOneMap eq (hash t.hasher) (with_bucket t b)
+    pub pairs : ChangesValue (state_of kind s) p value (state_of kind (with_bucket t b))
+
+  pub written : IsEquivalence eq → (kind : ℕ) (t s : TableView K V H) (p : K × V) (value : V) (at : Place) → t ≡ s → IsOneMap eq (hash t.hasher) t → live_pair (slot_in t.bucket at) ≡ Some p → IsWritten kind t s p value (bucket_with_value t.bucket at value)
+  written laws kind t s p value at is one here =
+      let r = rewritten t.bucket at p value here in
+      let new = bucket_with_value t.bucket at value in
+      let rest = map (λ (e : (K × V) × ℕ). e.0) r.rest in
+      let before : IsPermutation (pairs_of t) (p ∷ rest) = rw (← map-entries_in t.bucket) (IsPermutation-map (λ (e : (K × V) × ℕ). e.0) (entries_of t) ((p, r.byte) ∷ r.rest) r.before_is) in
+      let after : IsPermutation ((p.0, value) ∷ rest) (pairs_in new) = rw (← map-entries_in new) (IsPermutation-map (λ (e : (K × V) × ℕ). e.0) (((p.0, value), r.byte) ∷ r.rest) (entries_in new) r.after_is) in
+      let keys = IsDistinct-IsPermutation eq laws.symm _ _ (IsPermutation-map (λ (q : K × V). q.0) (pairs_of t) (p ∷ rest) before) one.distinct in
+      let bytes = All-permutation (λ (e : (K × V) × ℕ). e.1 ≡ hash t.hasher e.0.0 % 256) _ _ r.before_is one.own_bytes in
+      let others = All-tail (λ (e : (K × V) × ℕ). e.1 ≡ hash t.hasher e.0.0 % 256) (p, r.byte) r.rest bytes in
+      let own : r.byte ≡ hash t.hasher p.0 % 256 = bytes 0 (p, r.byte) (omega arith) in
+      record {
+        one_map = record {
+          distinct = IsDistinct-IsPermutation eq laws.symm _ _ (IsPermutation-map (λ (q : K × V). q.0) ((p.0, value) ∷ rest) (pairs_in new) after) keys;
+          own_bytes = All-permutation (λ (e : (K × V) × ℕ). e.1 ≡ hash t.hasher e.0.0 % 256) _ _ r.after_is (All-cons (λ (e : (K × V) × ℕ). e.1 ≡ hash t.hasher e.0.0 % 256) ((p.0, value), r.byte) r.rest own others);
+        };
+        pairs = rw (← is) (record { rest = rest; before_is = before; after_is = after; others = refl });
+      }
+
+  -- the same where r is the value that was there and w the one that is
+  pub wrote : IsEquivalence eq → (kind : ℕ) (t s : TableView K V H) (key : K) (was value r w : V) (at : Place) → t ≡ s → IsOneMap eq (hash t.hasher) t → live_pair (slot_in t.bucket at) ≡ Some (key, was) → r ≡ was → w ≡ value
+      → (k : K) × (live_pair (slot_in s.bucket at) ≡ Some (k, r)) × ChangesValue (state_of kind s) (k, r) value (state_of kind (with_bucket t (bucket_with_value t.bucket at w)))
+  wrote laws kind t s key was value r w at is one here out in_place =
+      rw (out, in_place, ← is) (key, here, (written laws kind t t (key, was) value at refl one here).pairs)
 
   differs : (k : K) (byte : ℕ) (e : (K × V) × ℕ) (same : Bool) → eq e.0.0 k ≡ same → (eq e.0.0 k ≡ true → e.1 ≡ byte) → ((e.1 == byte) && eq e.0.0 k) ≡ false → eq e.0.0 k ≡ false
   differs k byte e false is own none = is

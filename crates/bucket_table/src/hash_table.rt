@@ -9,14 +9,15 @@ ghost use Rattle.std.specs.Prelude.{◌≡◌, ◌≢◌, ◌≤◌, ◌↔◌, 
 ghost use Rattle.std.specs.Int.{IsPowerOfTwo};
 ghost use Rattle.bucket_slots.specs.BucketView.{slot_in};
 ghost use Rattle.bucket_slots.specs.Slots.{is_live, live_pair};
-ghost use Rattle.bucket_table.specs.MapState.{AddsPair, IsAbsent, IsThere, TakesPair};
+ghost use Rattle.bucket_table.specs.MapState.{AddsPair, ChangesValue, IsAbsent, IsThere, KeepsPairs, TakesPair};
 ghost use Rattle.bucket_table.specs.OneMap.{IsOneMap, pairs_of, state_of};
 
 use crate::key_hash::KeyHash;
-use bucket_slots::bucket::{BUCKET_LEN, Bucket, EntryPtr, Generation, INDEX};
+use bucket_slots::bucket::{BUCKET_LEN, Bucket, CACHE, EntryPtr, Generation, INDEX};
 use bucket_slots::lru::LruList;
 use std::alloc::Global;
 use std::marker::Model;
+use std::mem;
 
 /// A map from keys to values, in buckets of the kind `TYPE` with recency lists `L`.
 #[derive(Drop)]
@@ -103,11 +104,11 @@ impl<K: Eq + Drop, V: Drop, H: KeyHash<K> + Drop, L: LruList + Drop, const TYPE:
         let _ = &self.hasher;
     }
 
-    /// Whether 32 pairs or more are in the bucket.
-    pub(crate) fn is_full(&self) -> bool
-        ensures { IsTrue result ↔ (BUCKET_LEN ≤ length (pairs_of self.now)) }
+    /// Returns the number of pairs.
+    pub(crate) fn len(&self) -> usize
+        ensures { result ≡ length (pairs_of self.now) }
     {
-        self.bucket.len() >= BUCKET_LEN
+        self.bucket.len()
     }
 
     /// Returns a pointer to the pair whose key is equal, or the null pointer.
@@ -148,5 +149,37 @@ impl<K: Eq + Drop, V: Drop, H: KeyHash<K> + Drop, L: LruList + Drop, const TYPE:
         ensures hasher { self.new.hasher ≡ self.old.hasher }
     {
         self.bucket.remove(at)
+    }
+
+    /// Writes the value at a live slot and returns the earlier one.
+    pub(crate) fn write(&mut self, at: &EntryPtr<K, V, TYPE>, value: V) -> V
+        requires live_slot { IsTrue (is_live (slot_in self.old.bucket at.now)) }
+        ensures map { (key : K)
+            × (live_pair (slot_in self.old.bucket at.now) ≡ Some (key, result))
+            × ChangesValue (state_of TYPE self.old) (key, result) value (state_of TYPE self.new) }
+        ensures hasher { self.new.hasher ≡ self.old.hasher }
+    {
+        mem::replace(self.bucket.entry_mut(at).1, value)
+    }
+
+    /// Makes a live slot the one touched last.
+    pub(crate) fn touch(&mut self, at: &EntryPtr<K, V, TYPE>)
+        requires cache { TYPE ≡ CACHE }
+        requires live_slot { IsTrue (is_live (slot_in self.old.bucket at.now)) }
+        ensures map { KeepsPairs (state_of TYPE self.old) (state_of TYPE self.new) }
+        ensures hasher { self.new.hasher ≡ self.old.hasher }
+    {
+        self.bucket.update_lru_tail(at);
+    }
+
+    /// Takes out the pair touched longest ago, where all own slots are occupied, and returns it.
+    pub(crate) fn evict(&mut self) -> Option<(K, V)>
+        requires cache { TYPE ≡ CACHE }
+        ensures map { IfSome result
+            (λ pair. TakesPair (state_of TYPE self.old) pair (state_of TYPE self.new)) }
+        ensures unchanged { IfNone result (self.new ≡ self.old) }
+        ensures hasher { self.new.hasher ≡ self.old.hasher }
+    {
+        self.bucket.evict_lru_head()
     }
 }

@@ -15,7 +15,7 @@ mod reply;
 
 use crate::hash_table::HashTable;
 use crate::key_hash::KeyHash;
-use bucket_slots::bucket::{AllocError, Generation, INDEX};
+use bucket_slots::bucket::{AllocError, CACHE, Generation, INDEX};
 use bucket_slots::lru::LruList;
 pub use call::Call;
 pub use hashes::ScriptHash;
@@ -81,8 +81,13 @@ fn step<
 {
     match *call {
         Call::Put(key, value) => put(table, key, value, generation),
-        Call::Peek(key) => peek(table, key),
+        Call::Write(key, value) => write(table, key, value),
+        Call::Read(key) | Call::Peek(key) => peek(table, key),
         Call::Remove(key) => remove(table, key),
+        Call::Touch(key) => touch(table, key),
+        Call::Evict(_) => evict(table),
+        Call::Count => Reply::Number(table.len()),
+        Call::Has => Reply::Truth(table.len() > 0),
     }
 }
 
@@ -103,9 +108,6 @@ fn put<
     let at = table.find(&key, hash);
     if at.is_valid() {
         return Reply::Present;
-    }
-    if table.is_full() {
-        return Reply::Full;
     }
     match table.insert(hash, (key, value), generation) {
         Ok(_) => Reply::Done,
@@ -142,4 +144,57 @@ fn remove<K: Eq + Copy, V: Copy, H: KeyHash<K> + Drop, L: LruList + Drop, const 
     }
     let (found, value) = table.remove(&mut at);
     Reply::Pair(found, value)
+}
+
+/// Writes a value.
+fn write<K: Eq + Copy, V: Copy, H: KeyHash<K> + Drop, L: LruList + Drop, const TYPE: u8>(
+    table: &mut HashTable<K, V, H, L, TYPE>,
+    key: K,
+    value: V,
+) -> Reply<K, V>
+    ensures step { Step K.eq (state_of TYPE table.old) (Call.Write key value) result (state_of TYPE table.new) }
+    ensures hasher { table.new.hasher ≡ table.old.hasher }
+{
+    let hash = table.hash(&key);
+    let at = table.find(&key, hash);
+    if !at.is_valid() {
+        return Reply::Absent;
+    }
+    Reply::Old(table.write(&at, value))
+}
+
+/// Touches a pair of a cache.
+fn touch<K: Eq + Copy, V: Copy, H: KeyHash<K> + Drop, L: LruList + Drop, const TYPE: u8>(
+    table: &mut HashTable<K, V, H, L, TYPE>,
+    key: K,
+) -> Reply<K, V>
+    ensures step { Step K.eq (state_of TYPE table.old) (Call.Touch key) result (state_of TYPE table.new) }
+    ensures hasher { table.new.hasher ≡ table.old.hasher }
+{
+    if TYPE != CACHE {
+        return Reply::WrongKind;
+    }
+    let hash = table.hash(&key);
+    let at = table.find(&key, hash);
+    if !at.is_valid() {
+        return Reply::Absent;
+    }
+    table.touch(&at);
+    Reply::Done
+}
+
+/// Evicts a pair of a cache.
+fn evict<K: Eq + Copy, V: Copy, H: KeyHash<K> + Drop, L: LruList + Drop, const TYPE: u8>(
+    table: &mut HashTable<K, V, H, L, TYPE>,
+) -> Reply<K, V>
+    ensures step { (key : K) → Step K.eq (state_of TYPE table.old) (Call.Evict key) result (state_of TYPE table.new) }
+    ensures hasher { table.new.hasher ≡ table.old.hasher }
+{
+    if TYPE != CACHE {
+        return Reply::WrongKind;
+    }
+    match table.evict() {
+        Some((key, value)) => Reply::Pair(key, value),
+        None => Reply::Nothing,
+    }
 }

@@ -1,4 +1,4 @@
-use Rattle.std.proofs.Common.{◌≡◌, rules}
+use Rattle.std.proofs.Common.{rules}
 use Rattle.bucket_table.proofs.RunSteps.{kept, null_is}
 use Rattle.bucket_table.proofs.script.put.Goals as goal
 
@@ -6,11 +6,6 @@ pub returns-then-is_valid-clause-step : goal.returns-then-is_valid-clause-step
 returns-then-is_valid-clause-step g c =
     let found = c.find-at.ensures.found (c.is_valid.ensures.0 c.if-is_valid.true) in
     ((found.0, found.2), kept _)
-
-pub returns-then-is_full-clause-step : goal.returns-then-is_full-clause-step
-returns-then-is_full-clause-step g c =
-    let none = c.find-at.ensures.absent (null_is _ _ c.is_valid.ensures.1 c.if-is_valid.false) in
-    (none, c.is_full.ensures.0 c.if-is_full.true, kept _)
 
 pub insert-requires : goal.insert-requires
 insert-requires g c =

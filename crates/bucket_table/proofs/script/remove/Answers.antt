@@ -1,4 +1,4 @@
-use Rattle.std.proofs.Common.{◌≡◌, rules}
+use Rattle.std.proofs.Common.{rules}
 use Rattle.bucket_table.proofs.RunSteps.{kept, live_from_pair, null_is, taken_is}
 use Rattle.bucket_table.proofs.script.remove.Goals as goal
 

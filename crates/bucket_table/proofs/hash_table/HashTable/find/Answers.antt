@@ -1,4 +1,3 @@
-use Rattle.std.proofs.Common.{◌≡◌, ◌%◌, Bool, ap, sym, subst, ◌∙◌}
 use Rattle.bucket_table.proofs.OneMapSteps.{absent_here, found_here}
 use Rattle.bucket_table.proofs.hash_table.HashTable.find.Goals as goal
 

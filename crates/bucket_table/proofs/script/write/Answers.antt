@@ -1,0 +1,17 @@
+use Rattle.std.proofs.Common.{rules}
+use Rattle.bucket_table.proofs.RunSteps.{kept, live_from_pair, null_is, taken_is}
+use Rattle.bucket_table.proofs.script.write.Goals as goal
+
+pub returns-then-not-is_valid-clause-step : goal.returns-then-not-is_valid-clause-step
+returns-then-not-is_valid-clause-step g c =
+    (c.find-at.ensures.absent (null_is _ _ c.is_valid.ensures.1 c.if-not-is_valid.true), kept _)
+
+pub write-requires : goal.write-requires
+write-requires g c =
+    let found = c.find-at.ensures.found (c.is_valid.ensures.0 c.if-not-is_valid.false) in
+    (search rules, (search rules, live_from_pair _ _ found.1))
+
+pub returns-clause-step : goal.returns-clause-step
+returns-clause-step g c =
+    let found = c.find-at.ensures.found (c.is_valid.ensures.0 c.if-not-is_valid.false) in
+    (c.write.ensures.map.0, taken_is g.K.PartialEq.eq c.args.key _ _ _ found.1 c.write.ensures.map.1 found.2.1, c.write.ensures.map.2)
