@@ -1,0 +1,129 @@
+//! A table: its hashes, and a script of calls on it.
+ghost use Rattle.std.specs.Prelude.{◌≤◌};
+
+use bucket_slots::bucket::MAP;
+use bucket_table::hash_table::HashTable;
+use bucket_table::script::{Call, Reply, ScriptHash, run};
+use std::alloc::Global;
+use std::process::Abort;
+use std::test::Fail;
+
+/// A table of numbers.
+pub(crate) type Table = HashTable<u64, u64, ScriptHash, (), MAP>;
+
+type Row = (Call<u64, u64>, Reply<u64, u64>);
+
+// A hasher, a key and its hash. Spread puts the key's low byte at both ends of 64 bits.
+const HASHES: [(ScriptHash, u64, u64); 8] = [
+    (ScriptHash::Zero, 0, 0),
+    (ScriptHash::Zero, 18446744073709551615, 0),
+    (ScriptHash::Id, 0, 0),
+    (ScriptHash::Id, 18446744073709551615, 18446744073709551615),
+    (ScriptHash::Spread, 0, 0),
+    (ScriptHash::Spread, 128, 128 << 56 | 128),
+    (ScriptHash::Spread, 255, 255 << 56 | 255),
+    (ScriptHash::Spread, 257, 1 << 56 | 1),
+];
+
+#[test]
+fn hashes_keys_as_its_hasher_says(rt: HostRuntime) {
+    for (hasher, key, hash) in HASHES {
+        let table = table_of(rt.alloc(), hasher, 0);
+        assert_eq!(rt; *table.hasher(), hasher);
+        assert_eq!(rt; table.hash(&key), hash, "key {key} under {hasher:?}");
+    }
+}
+
+// A key that is put once, and one that never is.
+const ONE_PAIR: [Row; 10] = [
+    (Call::Peek(1), Reply::Absent),
+    (Call::Remove(1), Reply::Absent),
+    (Call::Put(1, 10), Reply::Done),
+    (Call::Put(1, 11), Reply::Present),
+    (Call::Peek(1), Reply::Value(10)),
+    (Call::Peek(2), Reply::Absent),
+    (Call::Remove(2), Reply::Absent),
+    (Call::Remove(1), Reply::Pair(1, 10)),
+    (Call::Peek(1), Reply::Absent),
+    (Call::Put(1, 12), Reply::Done),
+];
+
+#[test]
+fn a_pair_stays_as_it_was_put_until_it_is_taken(rt: HostRuntime) -> Result<(), Fail> {
+    for hasher in [ScriptHash::Zero, ScriptHash::Id, ScriptHash::Spread] {
+        let mut table = table_of(rt.alloc(), hasher, 0);
+        check_replies(&rt, rt.alloc(), &mut table, &ONE_PAIR)?;
+        assert_eq!(rt; table.peek_entry(&1), Some((&1, &12)), "under {hasher:?}");
+        assert_eq!(rt; table.peek_entry(&2), None, "under {hasher:?}");
+    }
+    Ok(())
+}
+
+// On a table of the keys 0 to 31, each with value 0.
+const FULL_BUCKET: [Row; 7] = [
+    (Call::Put(32, 0), Reply::Full),
+    (Call::Peek(32), Reply::Absent),
+    (Call::Put(31, 9), Reply::Present),
+    (Call::Peek(31), Reply::Value(0)),
+    (Call::Remove(4), Reply::Pair(4, 0)),
+    (Call::Put(32, 0), Reply::Done),
+    (Call::Peek(32), Reply::Value(0)),
+];
+
+#[test]
+fn a_bucket_of_32_pairs_takes_one_more_after_a_removal(rt: HostRuntime) -> Result<(), Fail> {
+    for hasher in [ScriptHash::Zero, ScriptHash::Id] {
+        let mut table = table_of(rt.alloc(), hasher, 0);
+        for key in 0..32 {
+            check_replies(
+                &rt,
+                rt.alloc(),
+                &mut table,
+                &[(Call::Put(key, 0), Reply::Done)],
+            )?;
+        }
+        check_replies(&rt, rt.alloc(), &mut table, &FULL_BUCKET)?;
+    }
+    Ok(())
+}
+
+#[test]
+fn no_calls_have_no_replies(rt: HostRuntime) -> Result<(), Fail> {
+    let mut table = table_of(rt.alloc(), ScriptHash::Id, 0);
+    check_replies(&rt, rt.alloc(), &mut table, &ONE_PAIR)?;
+    check_replies(&rt, rt.alloc(), &mut table, &[])?;
+    assert_eq!(rt; table.peek_entry(&1), Some((&1, &12)));
+    Ok(())
+}
+
+#[test]
+fn a_table_may_have_its_least_capacity_at_its_greatest(rt: HostRuntime) -> Result<(), Fail> {
+    let mut table = table_of(rt.alloc(), ScriptHash::Id, 64);
+    check_replies(&rt, rt.alloc(), &mut table, &ONE_PAIR)
+}
+
+/// A table with no pair, whose greatest capacity is 64 slots.
+pub(crate) fn table_of(alloc: Global, hasher: ScriptHash, minimum: usize) -> Table
+    requires { minimum ≤ 64 }
+{
+    HashTable::new(alloc, hasher, minimum, 64)
+}
+
+// Runs the calls as one script, and compares each reply with the one beside its call.
+fn check_replies(
+    rt: &impl Abort,
+    alloc: Global,
+    table: &mut Table,
+    rows: &[Row],
+) -> Result<(), Fail> {
+    let mut calls = Vec::with_capacity(alloc, rows.len())?;
+    for (call, _) in rows {
+        calls.push(*call)?;
+    }
+    let replies = run(alloc, table, calls, &())?;
+    assert_eq!(rt; replies.len(), rows.len());
+    for (i, (call, wanted)) in rows.iter().enumerate() {
+        assert_eq!(rt; replies.get(i), Some(wanted), "row {i}, {call:?}");
+    }
+    Ok(())
+}
