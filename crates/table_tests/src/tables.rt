@@ -59,19 +59,21 @@ fn a_pair_stays_as_it_was_put_until_it_is_taken(rt: HostRuntime) -> Result<(), F
     Ok(())
 }
 
-// On a table of the keys 0 to 31, each with value 0.
-const FULL_BUCKET: [Row; 7] = [
-    (Call::Put(32, 0), Reply::Full),
-    (Call::Peek(32), Reply::Absent),
-    (Call::Put(31, 9), Reply::Present),
-    (Call::Peek(31), Reply::Value(0)),
-    (Call::Remove(4), Reply::Pair(4, 0)),
+// On a table of the keys 0 to 31, each with value 0: the next two go into a chain.
+const BEYOND_ITS_OWN_SLOTS: [Row; 9] = [
     (Call::Put(32, 0), Reply::Done),
+    (Call::Put(33, 5), Reply::Done),
     (Call::Peek(32), Reply::Value(0)),
+    (Call::Put(31, 9), Reply::Present),
+    (Call::Remove(4), Reply::Pair(4, 0)),
+    (Call::Count, Reply::Number(33)),
+    (Call::Write(33, 6), Reply::Old(5)),
+    (Call::Remove(32), Reply::Pair(32, 0)),
+    (Call::Read(33), Reply::Value(6)),
 ];
 
 #[test]
-fn a_bucket_of_32_pairs_takes_one_more_after_a_removal(rt: HostRuntime) -> Result<(), Fail> {
+fn a_bucket_takes_pairs_beyond_its_own_slots(rt: HostRuntime) -> Result<(), Fail> {
     for hasher in [ScriptHash::Zero, ScriptHash::Id] {
         let mut table = table_of(rt.alloc(), hasher, 0);
         for key in 0..32 {
@@ -82,7 +84,33 @@ fn a_bucket_of_32_pairs_takes_one_more_after_a_removal(rt: HostRuntime) -> Resul
                 &[(Call::Put(key, 0), Reply::Done)],
             )?;
         }
-        check_replies(&rt, rt.alloc(), &mut table, &FULL_BUCKET)?;
+        check_replies(&rt, rt.alloc(), &mut table, &BEYOND_ITS_OWN_SLOTS)?;
+    }
+    Ok(())
+}
+
+// What the calls that change no key answer, on a map.
+const VALUES_AND_NUMBERS: [Row; 12] = [
+    (Call::Has, Reply::Truth(false)),
+    (Call::Count, Reply::Number(0)),
+    (Call::Write(1, 10), Reply::Absent),
+    (Call::Read(1), Reply::Absent),
+    (Call::Put(1, 10), Reply::Done),
+    (Call::Has, Reply::Truth(true)),
+    (Call::Count, Reply::Number(1)),
+    (Call::Write(1, 11), Reply::Old(10)),
+    (Call::Read(1), Reply::Value(11)),
+    (Call::Peek(1), Reply::Value(11)),
+    (Call::Touch(1), Reply::WrongKind),
+    (Call::Evict(1), Reply::WrongKind),
+];
+
+#[test]
+fn a_map_answers_writes_and_counts_and_touches_nothing(rt: HostRuntime) -> Result<(), Fail> {
+    for hasher in [ScriptHash::Zero, ScriptHash::Id, ScriptHash::Spread] {
+        let mut table = table_of(rt.alloc(), hasher, 0);
+        check_replies(&rt, rt.alloc(), &mut table, &VALUES_AND_NUMBERS)?;
+        assert_eq!(rt; table.peek_entry(&1), Some((&1, &11)), "under {hasher:?}");
     }
     Ok(())
 }
