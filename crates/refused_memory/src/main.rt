@@ -1,10 +1,15 @@
-//! Two scripts on one table, for runs in which a request for memory is refused.
+//! Scripts on tables and calls on buckets, for runs in which a request for memory is refused.
 //!
 //! The program judges its own outcome, and prints it in one line. A right outcome with a request
 //! refused has a status of its own, so that of two runs with status 0 both printed `done`, unless
 //! one of them was wrong: a trial that refuses one request after another reports such a run.
 #![tactic(auto)]
 
+mod buckets;
+mod outcome;
+
+use crate::buckets::two_buckets;
+use crate::outcome::Outcome;
 use bucket_slots::bucket::{AllocError, MAP};
 use bucket_table::hash_table::HashTable;
 use bucket_table::script::{Call, Reply, ScriptHash, run};
@@ -41,45 +46,26 @@ const SECOND: [Row; 5] = [
 
 const AFTER_SECOND: [Holding; 4] = [(1, None), (2, None), (3, Some(40)), (258, Some(30))];
 
-/// What came of a script.
-#[derive(Clone, Copy)]
-enum Outcome {
-    /// Every reply and every pair is the expected one.
-    Done,
-    /// The run was refused, and the table is as it was.
-    AsBefore,
-    /// The program had no memory for the list of calls, and the table is as it was.
-    NoScript,
-    /// A reply or a pair isn't the expected one.
-    Wrong,
-}
-
-impl Outcome {
-    /// One line that says it.
-    fn text(&self) -> &'static str {
-        match self {
-            Outcome::Done => "done",
-            Outcome::AsBefore => "as before",
-            Outcome::NoScript => "no script",
-            Outcome::Wrong => "wrong",
-        }
-    }
-
-    /// A status of its own for each right outcome. A wrong one has that of `Done`.
-    fn status(&self) -> u8 {
-        match self {
-            Outcome::Done | Outcome::Wrong => 0,
-            Outcome::AsBefore => 10,
-            Outcome::NoScript => 11,
-        }
-    }
-}
+// The keys of a script that puts one pair more than a bucket has slots of its own.
+const OVERFLOWING: u64 = 33;
 
 fn main(rt: HostRuntime) -> ExitCode {
-    let outcome = both_scripts(rt.alloc());
+    let outcome = all_parts(rt.alloc());
     match println!(rt; "{}", outcome.text()) {
         Ok(()) => ExitCode::from(outcome.status()),
         Err(_) => ExitCode::from(12),
+    }
+}
+
+/// Does the parts one after another, each where the one before was done.
+fn all_parts(alloc: Global) -> Outcome {
+    match both_scripts(alloc) {
+        Outcome::Done => {}
+        outcome => return outcome,
+    }
+    match two_buckets(alloc) {
+        Outcome::Done => overflowing_script(alloc),
+        outcome => outcome,
     }
 }
 
@@ -152,4 +138,50 @@ fn holds(table: &Table, holdings: &[Holding]) -> bool {
         }
     }
     true
+}
+
+/// Puts the keys 0 to 32 under one hash, the last of which needs a block.
+fn overflowing_script(alloc: Global) -> Outcome {
+    let mut table = HashTable::new(alloc, ScriptHash::Zero, 0, 64);
+    let Ok(mut calls) = Vec::with_capacity(alloc, 33) else {
+        return Outcome::NoScript;
+    };
+    for key in 0..OVERFLOWING {
+        if calls.push(Call::Put(key, key)).is_err() {
+            return Outcome::NoScript;
+        }
+    }
+    match run(alloc, &mut table, calls, &()) {
+        Ok(replies) => judged_puts(&table, &replies),
+        Err(AllocError) => judged(&table, 0, Outcome::AsBefore),
+    }
+}
+
+/// All puts were done, or all but the last, which was refused.
+fn judged_puts(table: &Table, replies: &[Reply<u64, u64>]) -> Outcome {
+    if replies.len() != 33 {
+        return Outcome::Wrong;
+    }
+    for (key, reply) in replies.iter().enumerate() {
+        match reply {
+            Reply::Done => {}
+            Reply::Refused if key == 32 => return judged(table, 32, Outcome::AsBefore),
+            _ => return Outcome::Wrong,
+        }
+    }
+    judged(table, OVERFLOWING, Outcome::Done)
+}
+
+/// The outcome, where the table has the keys below `keys`, each with itself as its value, and not
+/// the next.
+fn judged(table: &Table, keys: u64, outcome: Outcome) -> Outcome {
+    for key in 0..keys {
+        if table.peek_entry(&key) != Some((&key, &key)) {
+            return Outcome::Wrong;
+        }
+    }
+    if table.peek_entry(&keys).is_some() {
+        return Outcome::Wrong;
+    }
+    outcome
 }
