@@ -1,0 +1,62 @@
+-- Reading a number digit by digit.
+use Rattle.std.proofs.Common.{◌≡◌, ℕ, ◌+◌, ◌-◌, ◌*◌, ◌<◌, ◌≤◌, ◌^◌, List, [], ◌∷◌, ◌&&◌, Bool, true, false, ◌↔◌, IsSome, Option, None, length, drop, get_or, subst, sym, ap, ◌∙◌, arith}
+use Rattle.std.proofs.lemmas.Bool.{and_parts, false≢true}
+use Rattle.std.proofs.lemmas.List.{drop_all, at_drop_more}
+use Rattle.std.specs.Char.{is_ascii_digit}
+use Rattle.std.specs.Str.{all_ascii_digits}
+use Rattle.bhtable.proofs.PowersOfTwo.{refused}
+use Rattle.bhtable.specs.Numbers.{IsNumber, value_after, value_of}
+
+-- `number` is read so far, and `left` isn't read yet
+pub record IsReadTo (word : List ℕ) (number : ℕ) (left : List ℕ) : Type 0 where
+  pub value : value_after number left ≡ value_of word
+  pub digits : all_ascii_digits left ≡ all_ascii_digits word
+  pub fits : number < 2 ^ 64
+
+pub one_read : (word : List ℕ) (number byte : ℕ) (left : List ℕ) → IsReadTo word number (byte ∷ left)
+    → is_ascii_digit byte ≡ true → number * 10 + (byte - 48) < 2 ^ 64
+    → IsReadTo word (number * 10 + (byte - 48)) left
+one_read word number byte left so_far digit small = record {
+  value = so_far.value;
+  digits = sym (ap (λ (b : Bool). b && all_ascii_digits left) digit) ∙ so_far.digits;
+  fits = small;
+}
+
+-- more digits make no smaller number
+pub value_after-le : (number : ℕ) (digits : List ℕ) → number ≤ value_after number digits
+value_after-le number [] = omega arith
+value_after-le number (digit ∷ digits) = omega (arith, value_after-le (number * 10 + (digit - 48)) digits)
+
+pub no_digit : (word : List ℕ) (number byte : ℕ) (left : List ℕ) → IsReadTo word number (byte ∷ left)
+    → is_ascii_digit byte ≡ false → IsNumber word → ⊥
+no_digit word number byte left so_far other is_number =
+    false≢true (sym other ∙ (and_parts (is_ascii_digit byte) (all_ascii_digits left) (so_far.digits ∙ is_number.digits)).0)
+
+pub too_large : (word : List ℕ) (number byte : ℕ) (left : List ℕ) → IsReadTo word number (byte ∷ left)
+    → 2 ^ 64 ≤ number * 10 + (byte - 48) → IsNumber word → ⊥
+too_large word number byte left so_far large is_number =
+    omega (arith, value_after-le (number * 10 + (byte - 48)) left, so_far.value, is_number.fits)
+
+-- the same where the word is read up to an index
+next_byte : (word : List ℕ) (at : ℕ) → at < length word → drop at word ≡ get_or word at 0 ∷ drop (at + 1) word
+next_byte word at inside = at_drop_more (λ (left : List ℕ). left) word at 0 inside
+
+pub too_large_at : (word : List ℕ) (number at : ℕ) → IsReadTo word number (drop at word) → at < length word
+    → 2 ^ 64 ≤ number * 10 + (get_or word at 0 - 48) → IsNumber word → ⊥
+too_large_at word number at so_far inside =
+    too_large word number (get_or word at 0) (drop (at + 1) word) (subst (λ (left : List ℕ). IsReadTo word number left) (next_byte word at inside) so_far)
+
+pub one_read_at : (word : List ℕ) (number at : ℕ) → IsReadTo word number (drop at word) → at < length word
+    → is_ascii_digit (get_or word at 0) ≡ true
+    → number * 10 + (get_or word at 0 - 48) < 2 ^ 64 → IsReadTo word (number * 10 + (get_or word at 0 - 48)) (drop (at + 1) word)
+one_read_at word number at so_far inside =
+    one_read word number (get_or word at 0) (drop (at + 1) word) (subst (λ (left : List ℕ). IsReadTo word number left) (next_byte word at inside) so_far)
+
+pub all_read : (word : List ℕ) (number at : ℕ) → IsReadTo word number (drop at word) → length word ≤ at
+    → 0 < length word → length word ≤ 20 → IsNumber word
+all_read word number at so_far end some few =
+    let read : IsReadTo word number [] = subst (λ (left : List ℕ). IsReadTo word number left) (drop_all at word end) so_far in
+    record { some = some; few = few; digits = sym read.digits; fits = omega (arith, read.value, read.fits) }
+
+pub none_if : {P : Type 0} (answer : Option ℕ) → answer ≡ None → (P → ⊥) → IsSome answer ↔ P
+none_if {P} answer none never = rw none (refused never)

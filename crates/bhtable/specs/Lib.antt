@@ -1,0 +1,10 @@
+pub mod Left
+pub mod Limits
+pub mod Lines
+pub mod Numbers
+pub mod Replies
+pub mod Requests
+pub mod Status
+pub mod Texts
+pub mod Window
+pub mod Words

@@ -1,0 +1,24 @@
+-- The text of replies.
+use Rattle.std.specs.Prelude.{ℕ, true, false, List, [], ◌∷◌, ◌++◌, codes}
+use Rattle.std.specs.Fmt.{decimal}
+use Rattle.bucket_table.specs.declared.script.reply.Reply.{Reply}
+use Rattle.bucket_table.specs.declared.script.reply.Reply.TheVariants.{Done, Present, Absent, Value, Old, Pair, Nothing, Number, Truth, Refused, WrongKind}
+
+-- a reply in words
+abbrev pub text_of : Reply ℕ ℕ → List ℕ
+text_of Done = codes "ok"
+text_of Present = codes "present"
+text_of Absent = codes "absent"
+text_of (Value value) = codes "value " ++ decimal value
+text_of (Old value) = codes "old " ++ decimal value
+text_of (Pair key value) = codes "pair " ++ decimal key ++ codes " " ++ decimal value
+text_of Nothing = codes "nothing"
+text_of (Number number) = decimal number
+text_of (Truth true) = codes "true"
+text_of (Truth false) = codes "false"
+text_of Refused = codes "refused 3"
+text_of WrongKind = codes "wrong kind"
+
+-- a text, and what ends its line
+abbrev pub line_of : List ℕ → List ℕ
+line_of text = text ++ 10 ∷ []

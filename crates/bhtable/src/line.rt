@@ -1,0 +1,135 @@
+//! The lines of a reader.
+//!
+//! A line is found first, as a value, and passed once its bytes are used, so that a caller can
+//! answer what it has before it asks for more.
+ghost use Rattle.std.specs.Prelude.{◌≡◌, ◌≤◌, ◌==◌, length, position};
+
+use crate::stop::Stop;
+use crate::window::Window;
+use std::alloc::{AllocError, Global};
+use std::io::Read;
+
+/// The most bytes of a line, without its newline and the one carriage return before that.
+pub(crate) const LONGEST_LINE: usize = 4096;
+
+/// The lines of a reader.
+#[derive(Drop)]
+pub(crate) struct Lines<R: Read> {
+    input: R,
+    window: Window,
+    is_ended: bool,
+}
+
+/// A whole line at the front of the window: its length with what ends it, and without.
+#[derive(Clone, Copy)]
+pub(crate) struct Line {
+    whole_len: usize,
+    len: usize,
+    ghost ordered: { len ≤ whole_len },
+}
+
+/// What stands at the front of the window.
+#[derive(Clone, Copy)]
+pub(crate) enum Found {
+    /// A whole line.
+    Line(Line),
+    /// A line that is longer than `LONGEST_LINE`.
+    TooLong,
+    /// A line that isn't whole yet, or nothing yet.
+    Cut,
+    /// Nothing, and nothing more comes.
+    End,
+}
+
+impl<R: Read + Drop> Lines<R> {
+    ghost use Rattle.std.specs.Prelude.{◌⊎◌, true, take, drop, IfErr, OnOk};
+    ghost use Rattle.std.specs.Io.KnownBytes.{IsAtEnd, Keeps};
+    ghost use Rattle.bhtable.specs.Left.{bytes_left};
+    ghost use Rattle.bhtable.specs.Lines.{IsFoundIn, IsWithin};
+    ghost use Rattle.bhtable.specs.Window.{unread};
+
+    /// The lines of a reader of which nothing is read yet.
+    pub(crate) fn new(alloc: Global, input: R) -> Result<Self, AllocError> {
+        Ok(Lines {
+            input,
+            window: Window::new(alloc)?,
+            is_ended: false,
+        })
+    }
+
+    /// What stands at the front.
+    pub(crate) fn find(&self) -> Found
+        ensures found { IsFoundIn self.now.is_ended (unread self.now.window) result }
+        ensures within { IsWithin (unread self.now.window) result }
+    {
+        let unread = self.window.unread();
+        match newline_in(unread) {
+            Some(at) => Found::of(unread, at, at + 1),
+            None if unread.len() > LONGEST_LINE + 1 => Found::TooLong,
+            None if !self.is_ended => Found::Cut,
+            None if unread.is_empty() => Found::End,
+            None => Found::of(unread, unread.len(), unread.len()),
+        }
+    }
+
+    /// The bytes of a line that was found.
+    pub(crate) fn bytes(&self, line: Line) -> &[u8]
+        requires { line.whole_len ≤ length (unread self.now.window) }
+        ensures { result.now ≡ take line.len (unread self.now.window) }
+    {
+        &self.window.unread()[..line.len]
+    }
+
+    /// Passes a line that was found.
+    pub(crate) fn pass(&mut self, line: Line)
+        requires { line.whole_len ≤ length (unread self.old.window) }
+        ensures { unread self.new.window ≡ drop line.whole_len (unread self.old.window) }
+    {
+        self.window.pass(line.whole_len);
+    }
+
+    /// Reads once, behind what isn't passed yet; a read that is interrupted is repeated.
+    pub(crate) fn read_more(&mut self) -> Result<(), Stop>
+        requires { length (unread self.old.window) ≤ 4097 }
+        ensures ended { OnOk result (self.new.is_ended ≡ true
+            → (self.old.is_ended ≡ true) ⊎ IsAtEnd (R.remaining self.new.input)) }
+        ensures kept { Keeps (bytes_left R.remaining self.old) (bytes_left R.remaining self.new) }
+        ensures stop { IfErr result (λ stop. stop ≡ Stop.InputFailed) }
+    {
+        match self.window.read_from(&mut self.input) {
+            Ok(0) => self.is_ended = true,
+            Ok(_) => {}
+            Err(_) => return Err(Stop::InputFailed),
+        }
+        Ok(())
+    }
+}
+
+fn newline_in(bytes: &[u8]) -> Option<usize>
+    ensures { result ≡ position (λ byte. byte == 10) bytes.now }
+{
+    bytes.iter().position(|byte| *byte == b'\n')
+}
+
+impl Found {
+    ghost use Rattle.std.specs.Prelude.{take};
+    ghost use Rattle.bhtable.specs.Lines.{IsFound, IsWithin};
+
+    // A line of `len` bytes but for the one carriage return that may end them.
+    fn of(bytes: &[u8], len: usize, whole_len: usize) -> Found
+        requires bytes { whole_len ≤ length bytes.now }
+        requires end { len ≤ whole_len }
+        ensures found { IsFound (take len bytes.now) whole_len result }
+        ensures within { IsWithin bytes.now result }
+    {
+        let len = if len > 0 && bytes[len - 1] == b'\r' {
+            len - 1
+        } else {
+            len
+        };
+        if len > LONGEST_LINE {
+            return Found::TooLong;
+        }
+        Found::Line(Line { whole_len, len })
+    }
+}

@@ -1,0 +1,51 @@
+//! Scripts, and what `serve` answers them.
+use crate::serve;
+use std::alloc::{AllocError, Global};
+use std::process::Abort;
+use std::test::Fail;
+
+mod bad_lines;
+mod caches;
+mod devices;
+mod forms;
+mod maps;
+
+// The script of the lines, each ended by a newline.
+fn script(alloc: Global, lines: &[(&str, &str)]) -> Result<Vec<u8>, AllocError> {
+    let mut input = Vec::new(alloc);
+    for (line, _) in lines {
+        input.extend_from_slice(line.as_bytes())?;
+        input.push(b'\n')?;
+    }
+    Ok(input)
+}
+
+// Line in, line out: serves the lines in order, and compares each reply.
+fn check_lines(rt: &impl Abort, alloc: Global, lines: &[(&str, &str)]) -> Result<(), Fail> {
+    let input = script(alloc, lines)?;
+    let mut output: Vec<u8> = Vec::new(alloc);
+    let status = serve(alloc, input.as_slice(), &mut output);
+    assert_eq!(rt; status, 0);
+    let text = std::str::from_utf8(output.as_slice())?;
+    let mut replies = text.lines();
+    for (line, reply) in lines {
+        assert_eq!(rt; replies.next(), Some(*reply), "at {line}");
+    }
+    assert_eq!(rt; replies.next(), None);
+    Ok(())
+}
+
+// An input, and all of its output.
+fn check_text(
+    rt: &impl Abort,
+    alloc: Global,
+    input: &[u8],
+    text: &str,
+    status: u8,
+) -> Result<(), Fail> {
+    let mut output: Vec<u8> = Vec::new(alloc);
+    let ended = serve(alloc, input, &mut output);
+    assert_eq!(rt; std::str::from_utf8(output.as_slice())?, text);
+    assert_eq!(rt; ended, status, "after {text}");
+    Ok(())
+}

@@ -1,0 +1,111 @@
+//! Lines that can't be read.
+use super::check_text;
+use std::test::Fail;
+
+// Input, and all of its output; the status is 2.
+const UNREADABLE: [(&str, &str); 56] = [
+    // Before the first table.
+    ("peek 1", "bad line 1\n"),
+    ("count", "bad line 1\n"),
+    ("put 1 2\nnew map id 0 64", "bad line 1\n"),
+    ("\n \n\r\nremove 1", "bad line 4\n"),
+    // Tables.
+    ("new map id 0 100", "bad line 1\n"),
+    ("new map id 65 64", "bad line 1\n"),
+    ("new map id 0 32", "bad line 1\n"),
+    ("new map id 0 0", "bad line 1\n"),
+    ("new map id 0 18446744073709551615", "bad line 1\n"),
+    (
+        "new map id 9223372036854775809 9223372036854775808",
+        "bad line 1\n",
+    ),
+    ("NEW map id 0 64", "bad line 1\n"),
+    ("new", "bad line 1\n"),
+    ("new map id 64", "bad line 1\n"),
+    ("new map id 0 64 0", "bad line 1\n"),
+    ("new map Id 0 64", "bad line 1\n"),
+    ("new index id 0 64", "bad line 1\n"),
+    ("new caches id 0 64", "bad line 1\n"),
+    ("new cache id 0 100", "bad line 1\n"),
+    ("new cache 0 64", "bad line 1\n"),
+    ("newmap id 0 64", "bad line 1\n"),
+    // Calls.
+    ("\nnew map id 0 64\nput 1", "ok\nbad line 3\n"),
+    ("new map id 0 64\nput", "ok\nbad line 2\n"),
+    ("new map id 0 64\nput 1 2 3", "ok\nbad line 2\n"),
+    ("new map id 0 64\npeek", "ok\nbad line 2\n"),
+    ("new map id 0 64\npeek 1 2", "ok\nbad line 2\n"),
+    ("new map id 0 64\nremove 1 2", "ok\nbad line 2\n"),
+    ("new map id 0 64\nwrite 1", "ok\nbad line 2\n"),
+    ("new map id 0 64\nwrite 1 2 3", "ok\nbad line 2\n"),
+    ("new map id 0 64\nread", "ok\nbad line 2\n"),
+    ("new map id 0 64\nread 1 2", "ok\nbad line 2\n"),
+    ("new cache id 0 64\ntouch", "ok\nbad line 2\n"),
+    ("new cache id 0 64\ntouch 1 2", "ok\nbad line 2\n"),
+    ("new cache id 0 64\nevict", "ok\nbad line 2\n"),
+    ("new cache id 0 64\nevict 1 2", "ok\nbad line 2\n"),
+    ("new map id 0 64\ncount 1", "ok\nbad line 2\n"),
+    ("new map id 0 64\nhas 1", "ok\nbad line 2\n"),
+    ("new map id 0 64\nCount", "ok\nbad line 2\n"),
+    ("new map id 0 64\nslots", "ok\nbad line 2\n"),
+    ("new map id 0 64\nepoch 0 keep", "ok\nbad line 2\n"),
+    (
+        "new map id 0 64\nput 1 5\npeek 1\nwrong\npeek 1",
+        "ok\nok\nvalue 5\nbad line 4\n",
+    ),
+    ("new map id 0 64\npee 1", "ok\nbad line 2\n"),
+    ("new map id 0 64\npeeks 1", "ok\nbad line 2\n"),
+    // Numbers.
+    ("new map id 0 64\nput 1 +2", "ok\nbad line 2\n"),
+    ("new map id 0 64\nput 1 -2", "ok\nbad line 2\n"),
+    (
+        "new map id 0 64\nput 1 18446744073709551616",
+        "ok\nbad line 2\n",
+    ),
+    (
+        "new map id 0 64\nput 1 99999999999999999999",
+        "ok\nbad line 2\n",
+    ),
+    (
+        "new map id 0 64\nput 1 000000000000000000001",
+        "ok\nbad line 2\n",
+    ),
+    ("new map id 0 64\npeek 0x1", "ok\nbad line 2\n"),
+    ("new map id 0 64\npeek 1_0", "ok\nbad line 2\n"),
+    // Bytes that are part of a word.
+    ("new map id 0 64\npeek 1\r\r\n", "ok\nbad line 2\n"),
+    ("new map id 0 64\npeek\r1\n", "ok\nbad line 2\n"),
+    ("new map id 0 64\npeek 1\0\n", "ok\nbad line 2\n"),
+    ("new map id 0 64\npeek\u{b}1\n", "ok\nbad line 2\n"),
+    ("new map id 0 64\npeek\u{c}1\n", "ok\nbad line 2\n"),
+    ("new map id 0 64\npeek\u{a0}1\n", "ok\nbad line 2\n"),
+    ("new map id 0 64\n\0\n", "ok\nbad line 2\n"),
+];
+
+#[test]
+fn ends_at_a_line_that_cannot_be_read(rt: HostRuntime) -> Result<(), Fail> {
+    for (input, output) in UNREADABLE {
+        check_text(&rt, rt.alloc(), input.as_bytes(), output, 2)?;
+    }
+    Ok(())
+}
+
+#[test]
+fn reads_no_line_that_is_not_text(rt: HostRuntime) -> Result<(), Fail> {
+    let output = "ok\nbad line 2\n";
+    check_text(
+        &rt,
+        rt.alloc(),
+        b"new map id 0 64\npeek 1 \xff\n",
+        output,
+        2,
+    )?;
+    check_text(&rt, rt.alloc(), b"new map id 0 64\n\xc2\n", output, 2)?;
+    check_text(
+        &rt,
+        rt.alloc(),
+        b"new map id 0 64\npeek \xc0\xb1\n",
+        output,
+        2,
+    )
+}

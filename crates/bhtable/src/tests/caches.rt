@@ -1,0 +1,102 @@
+//! What a cache answers.
+use super::{check_lines, check_text};
+use std::alloc::Global;
+use std::io::Write;
+use std::process::Abort;
+use std::test::Fail;
+
+// Serves a fresh cache of one hash, puts of the keys below `keys` with the key as the value, and
+// then the lines, and compares their replies.
+fn check_cache(
+    rt: &impl Abort,
+    alloc: Global,
+    keys: u8,
+    lines: &str,
+    replies: &str,
+) -> Result<(), Fail> {
+    let mut input: Vec<u8> = Vec::new(alloc);
+    let mut text: Vec<u8> = Vec::new(alloc);
+    input.extend_from_slice(b"new cache zero 64 64\n")?;
+    text.extend_from_slice(b"ok\n")?;
+    for key in 0..keys {
+        writeln!(input, "put {key} {key}")?;
+        text.extend_from_slice(b"ok\n")?;
+    }
+    input.extend_from_slice(lines.as_bytes())?;
+    text.extend_from_slice(replies.as_bytes())?;
+    check_text(
+        rt,
+        alloc,
+        input.as_slice(),
+        std::str::from_utf8(text.as_slice())?,
+        0,
+    )
+}
+
+// How many keys are put, the lines after that, and their replies.
+const EVICTIONS: [(u8, &str, &str); 5] = [
+    // The pair that was touched goes, and then the bucket isn't full.
+    (32, "touch 7\nevict 0\nevict 0\n", "ok\npair 7 7\nnothing\n"),
+    // No pair was touched, so that of the first slot goes.
+    (
+        32,
+        "evict 0\nput 32 32\nevict 0\ncount\n",
+        "pair 0 0\nok\npair 32 32\n31\n",
+    ),
+    // Too few pairs.
+    (31, "evict 0\nevict 30\ncount\n", "nothing\nnothing\n31\n"),
+    (0, "evict 0\nhas\n", "nothing\nfalse\n"),
+    // The pair touched longest ago goes first; a read, a peek and a write touch nothing.
+    (
+        32,
+        "touch 9\ntouch 4\nread 9\npeek 9\nwrite 9 1\nevict 99\nput 9 2\nevict 99\n",
+        "ok\nok\nvalue 9\nvalue 9\nold 9\npair 9 1\nok\npair 4 4\n",
+    ),
+];
+
+#[test]
+fn evicts_the_pair_touched_longest_ago(rt: HostRuntime) -> Result<(), Fail> {
+    for (keys, lines, replies) in EVICTIONS {
+        check_cache(&rt, rt.alloc(), keys, lines, replies)?;
+    }
+    Ok(())
+}
+
+#[test]
+fn evicts_none_of_the_pairs_that_overflow(rt: HostRuntime) -> Result<(), Fail> {
+    let mut touches: Vec<u8> = Vec::new(rt.alloc());
+    let mut replies: Vec<u8> = Vec::new(rt.alloc());
+    for key in 0..40u8 {
+        writeln!(touches, "touch {key}")?;
+        replies.extend_from_slice(b"ok\n")?;
+    }
+    touches.extend_from_slice(b"evict 0\ncount\nevict 0\n")?;
+    replies.extend_from_slice(b"pair 0 0\n39\nnothing\n")?;
+    let lines = std::str::from_utf8(touches.as_slice())?;
+    let text = std::str::from_utf8(replies.as_slice())?;
+    check_cache(&rt, rt.alloc(), 40, lines, text)
+}
+
+const A_PAIR_COMES_AND_GOES: [(&str, &str); 16] = [
+    ("new cache spread 0 9223372036854775808", "ok"),
+    ("touch 1", "absent"),
+    ("evict 1", "nothing"),
+    ("write 1 2", "absent"),
+    ("put 1 2", "ok"),
+    ("put 1 3", "present"),
+    ("touch 1", "ok"),
+    ("write 1 4", "old 2"),
+    ("peek 1", "value 4"),
+    ("count", "1"),
+    ("has", "true"),
+    ("remove 1", "pair 1 4"),
+    ("touch 1", "absent"),
+    ("has", "false"),
+    ("new map id 0 64", "ok"),
+    ("touch 1", "wrong kind"),
+];
+
+#[test]
+fn answers_each_call_on_a_cache(rt: HostRuntime) -> Result<(), Fail> {
+    check_lines(&rt, rt.alloc(), &A_PAIR_COMES_AND_GOES)
+}

@@ -1,0 +1,65 @@
+//! The text of a reply.
+ghost use Rattle.std.specs.Prelude.{◌≡◌, ◌++◌, OnOk, codes};
+ghost use Rattle.std.specs.Fmt.{decimal};
+ghost use Rattle.bhtable.specs.Texts.{text_of, line_of};
+
+use bucket_table::script::Reply;
+use std::alloc::AllocError;
+
+/// Appends a reply's line.
+pub(crate) fn append_reply(text: &mut Vec<u8>, reply: &Reply<u64, u64>) -> Result<(), AllocError>
+    ensures { OnOk result (text.new.items ≡ text.old.items ++ line_of (text_of reply.now)) }
+{
+    match *reply {
+        Reply::Done => text.extend_from_slice(b"ok"),
+        Reply::Present => text.extend_from_slice(b"present"),
+        Reply::Absent => text.extend_from_slice(b"absent"),
+        Reply::Value(value) => append_numbered(text, b"value ", value),
+        Reply::Old(value) => append_numbered(text, b"old ", value),
+        Reply::Pair(key, value) => append_pair(text, key, value),
+        Reply::Nothing => text.extend_from_slice(b"nothing"),
+        Reply::Number(number) => append_number(text, number as u64),
+        Reply::Truth(true) => text.extend_from_slice(b"true"),
+        Reply::Truth(false) => text.extend_from_slice(b"false"),
+        Reply::Refused => text.extend_from_slice(b"refused 3"),
+        Reply::WrongKind => text.extend_from_slice(b"wrong kind"),
+    }?;
+    text.push(b'\n')?;
+    Ok(())
+}
+
+fn append_pair(text: &mut Vec<u8>, key: u64, value: u64) -> Result<(), AllocError>
+    ensures { OnOk result (text.new.items
+        ≡ text.old.items ++ (codes "pair " ++ decimal key ++ codes " " ++ decimal value)) }
+{
+    append_numbered(text, b"pair ", key)?;
+    append_numbered(text, b" ", value)
+}
+
+/// Appends a word, with the blank behind it, and a number.
+pub(crate) fn append_numbered(
+    text: &mut Vec<u8>,
+    word: &[u8],
+    number: u64,
+) -> Result<(), AllocError>
+    ensures { OnOk result (text.new.items ≡ text.old.items ++ (word.now ++ decimal number)) }
+{
+    text.extend_from_slice(word)?;
+    append_number(text, number)
+}
+
+// Appends a number's decimal digits, which are made from the last to the first.
+fn append_number(text: &mut Vec<u8>, number: u64) -> Result<(), AllocError>
+    ensures { OnOk result (text.new.items ≡ text.old.items ++ decimal number) }
+{
+    let mut digits = [0; 20];
+    let mut start = 19;
+    let mut rest = number;
+    while rest >= 10 {
+        digits[start] = b'0' + (rest % 10) as u8;
+        rest /= 10;
+        start -= 1;
+    }
+    digits[start] = b'0' + rest as u8;
+    text.extend_from_slice(&digits[start..])
+}

@@ -1,0 +1,104 @@
+//! The words of a line, and the numbers that they write.
+ghost use Rattle.std.specs.Prelude.{◌≡◌, ℕ, ◌-◌, ◌<◌, ◌≤◌, ◌↔◌, true, false, List, [], ◌∷◌, length, take, drop, slice_index, IfNone, IfSome, IsSome, MatchOption};
+ghost use Rattle.std.specs.Char.{is_ascii_digit};
+ghost use Rattle.bhtable.specs.Numbers.{IsNumber, NoNumberIsNext, Writes, value_of};
+ghost use Rattle.bhtable.specs.Words.{is_blank, with_word, words_of};
+
+// The most digits of a number.
+const LONGEST_NUMBER: usize = 20;
+
+/// The words of a line that aren't read yet.
+#[derive(Drop)]
+pub(crate) struct Words<'a> {
+    rest: &'a [u8],
+}
+
+impl<'a> Words<'a> {
+    /// The words of a line, of which none is read yet.
+    pub(crate) fn of(line: &'a [u8]) -> Self
+        ensures { result.rest.now ≡ line.now }
+    {
+        Words { rest: line }
+    }
+
+    /// Reads the next word.
+    pub(crate) fn next_word(&mut self) -> Option<&'a [u8]>
+        ensures { MatchOption result (words_of self.old.rest.now ≡ [])
+            (λ word. words_of self.old.rest.now ≡ word.now ∷ words_of self.new.rest.now) }
+    {
+        let rest = &self.rest[blanks_len(self.rest)..];
+        let len = word_len(rest);
+        self.rest = &rest[len..];
+        if len == 0 { None } else { Some(&rest[..len]) }
+    }
+
+    /// Reads the next word as a number.
+    pub(crate) fn number(&mut self) -> Option<u64>
+        ensures read { IfSome result (λ number. (word : List ℕ)
+            × (words_of self.old.rest.now ≡ word ∷ words_of self.new.rest.now) × Writes word number) }
+        ensures refused { IfNone result (NoNumberIsNext (words_of self.old.rest.now)) }
+    {
+        number_of(self.next_word()?)
+    }
+}
+
+fn is_blank(byte: u8) -> bool
+    ensures { result ≡ is_blank byte }
+{
+    byte == b' ' || byte == b'\t'
+}
+
+// How many blanks the bytes begin with.
+fn blanks_len(bytes: &[u8]) -> usize
+    ensures bound { result ≤ length bytes.now }
+    ensures words { words_of (drop result bytes.now) ≡ words_of bytes.now }
+    ensures end { result < length bytes.now → is_blank (slice_index bytes.now result) ≡ false }
+{
+    for (at, byte) in bytes.iter().enumerate() {
+        if !is_blank(*byte) {
+            return at;
+        }
+    }
+    bytes.len()
+}
+
+// How many bytes stand before the first blank.
+fn word_len(bytes: &[u8]) -> usize
+    ensures bound { result ≤ length bytes.now }
+    ensures words { words_of bytes.now
+        ≡ with_word (take result bytes.now) (words_of (drop result bytes.now)) }
+    ensures end { result < length bytes.now → is_blank (slice_index bytes.now result) ≡ true }
+{
+    for (at, byte) in bytes.iter().enumerate() {
+        if is_blank(*byte) {
+            return at;
+        }
+    }
+    bytes.len()
+}
+
+// A number of 1 to 20 decimal digits below 2^64.
+fn number_of(word: &[u8]) -> Option<u64>
+    ensures accepted { IsSome result ↔ IsNumber word.now }
+    ensures value { IfSome result (λ number. number ≡ value_of word.now) }
+{
+    if word.is_empty() || word.len() > LONGEST_NUMBER {
+        return None;
+    }
+    let mut number: u64 = 0;
+    for byte in word {
+        let digit = digit_of(*byte)?;
+        number = number.checked_mul(10)?.checked_add(digit)?;
+    }
+    Some(number)
+}
+
+fn digit_of(byte: u8) -> Option<u64>
+    ensures { MatchOption result (is_ascii_digit byte ≡ false)
+        (λ digit. (is_ascii_digit byte ≡ true) × (digit ≡ byte - 48)) }
+{
+    match byte {
+        b'0'..=b'9' => Some((byte - b'0') as u64),
+        _ => None,
+    }
+}
