@@ -1,5 +1,5 @@
 -- What a bucket is after a slot was vacated, and after it was killed.
-use Rattle.std.proofs.Common.{ℕ, ◌+◌, ◌-◌, ◌/◌, ◌<◌, ◌≡◌, true, List, [], ◌∷◌, ◌++◌, length, get_or, set, replicate, refl, sym, ap, ◌∙◌, append-nil, arith, suc, zero}
+use Rattle.std.proofs.Common.{ℕ, ◌+◌, ◌-◌, ◌<◌, ◌≡◌, true, List, [], ◌++◌, length, get_or, set, replicate, refl, sym, ap, ◌∙◌, append-nil, arith, suc, zero}
 use Rattle.std.specs.Int.{div_ceil}
 use Rattle.bucket_slots.specs.BucketView.{BucketView, Place, flattened, pairs_in, rows_with}
 use Rattle.bucket_slots.specs.Layout.BucketFields.{IsBucket}

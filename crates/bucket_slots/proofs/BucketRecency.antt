@@ -1,5 +1,5 @@
 -- What a bucket is after a touch and after an eviction.
-use Rattle.std.proofs.Common.{ℕ, ◌+◌, ◌-◌, ◌<◌, ◌≤◌, ◌≡◌, ◌==◌, inl, inr, Bool, true, false, IsTrue, not, is_some, if◌then◌else◌, Option, Some, None, unwrap_or, List, [], ◌∷◌, length, get_or, set, refl, sym, ap, ◌∙◌, arith, suc, zero}
+use Rattle.std.proofs.Common.{ℕ, ◌<◌, ◌≡◌, ◌==◌, Bool, true, false, IsTrue, not, is_some, if◌then◌else◌, Option, Some, None, unwrap_or, List, [], ◌∷◌, length, get_or, refl, ap, ◌∙◌, arith, suc, zero}
 use Rattle.std.specs.List.{All, Contains, position}
 use Rattle.std.proofs.lemmas.Bool.Decides.{nat_tests}
 use Rattle.std.proofs.lemmas.List.Elements.{All-filter}

@@ -1,5 +1,5 @@
 -- What a bucket is after a pair was taken out.
-use Rattle.std.proofs.Common.{ℕ, ◌+◌, ◌-◌, ◌<◌, ◌≤◌, ◌≡◌, ◌==◌, not, inl, inr, Bool, true, false, IsTrue, Some, List, [], ◌∷◌, length, get_or, set, refl, sym, ap, ◌∙◌, arith, suc, zero}
+use Rattle.std.proofs.Common.{ℕ, ◌+◌, ◌-◌, ◌<◌, ◌≤◌, ◌≡◌, ◌==◌, not, inl, inr, Bool, true, false, IsTrue, List, [], ◌∷◌, length, get_or, set, refl, sym, ◌∙◌, arith, suc, zero}
 use Rattle.std.specs.List.{All}
 use Rattle.std.proofs.lemmas.Bool.{cases_eq}
 use Rattle.std.proofs.lemmas.Bool.Decides.{nat_tests}

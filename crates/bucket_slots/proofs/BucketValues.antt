@@ -1,5 +1,5 @@
 -- What a bucket is where one value changes.
-use Rattle.std.proofs.Common.{ℕ, ◌+◌, ◌-◌, ◌<◌, ◌≡◌, inl, inr, IsTrue, List, [], ◌∷◌, length, get_or, set, refl, sym, ap, ◌∙◌, arith, suc, zero}
+use Rattle.std.proofs.Common.{ℕ, ◌-◌, ◌<◌, ◌≡◌, inl, inr, IsTrue, List, [], ◌∷◌, length, get_or, set, refl, sym, arith, suc, zero}
 use Rattle.std.proofs.lemmas.Bool.{cases_eq}
 use Rattle.std.proofs.lemmas.List.{get_or-set_other, get_or-set_same, length-set}
 use Rattle.bucket_slots.specs.BucketView.{BucketView, Place, bucket_with_value, flattened, row_at, rows_with_value}

@@ -1,9 +1,9 @@
 -- What callers of a bucket cite: its live pairs after a call, and what a search says of them.
-use Rattle.std.proofs.Common.{ℕ, ◌+◌, ◌-◌, ◌<◌, ◌≡◌, ◌==◌, ◌&&◌, Bool, true, false, cond, Option, Some, None, List, [], ◌∷◌, ◌++◌, length, map, get_or, set, refl, sym, ap, subst, ◌∙◌, arith, suc, zero}
-use Rattle.std.specs.List.{All, AllByRecursion, Contains, position, remove}
+use Rattle.std.proofs.Common.{ℕ, ◌+◌, ◌<◌, ◌≡◌, ◌==◌, ◌&&◌, Bool, true, false, Option, Some, None, List, [], ◌∷◌, ◌++◌, length, map, get_or, set, refl, sym, ap, subst, ◌∙◌, arith, suc, zero}
+use Rattle.std.specs.List.{All, AllByRecursion, Contains, position}
 use Rattle.std.specs.List.Sorted.{IsPermutation}
 use Rattle.std.proofs.lemmas.List.Elements.{All-append, All-from_recursion}
-use Rattle.std.proofs.lemmas.List.Sorted.{IsPermutation-middle, IsPermutation-sym, IsPermutation-trans, IsPermutation-map, Contains-permutation}
+use Rattle.std.proofs.lemmas.List.Sorted.{IsPermutation-sym, IsPermutation-map, Contains-permutation}
 use Rattle.std.proofs.lemmas.Bool.{and_parts}
 use Rattle.std.proofs.lemmas.List.{get_or-set_same, length-set, set-set}
 use Rattle.bucket_slots.specs.declared.bucket.TheConstants.{INDEX}
@@ -15,7 +15,6 @@ use Rattle.bucket_slots.specs.Removing.{slots_without, slots_without_at}
 use Rattle.bucket_slots.specs.Searching.{is_wanted, place_wanted}
 use Rattle.bucket_slots.specs.Slots.{Slot, all_free, free, is_free, live, live_entries, live_pair, marked, slot_at, slot_with_value}
 use Rattle.bucket_slots.specs.Walking.{pairs_ahead}
-use Rattle.bucket_slots.proofs.BodyParts.{after}
 use Rattle.bucket_slots.proofs.BucketPlacing.{linked_row, no_marks_looked_at, place_made}
 use Rattle.bucket_slots.proofs.ChainRows.{rows_without-empty, rows_without-full}
 use Rattle.bucket_slots.proofs.Entries.{exchanged, live_entries-append, live_entries-put, live_entries-remove, live_entries-take, map-live_entries}
@@ -100,8 +99,8 @@ module _ {K V : Type 0} where
       let row = get_or-set_same s.chain i (set (get_or s.chain i []) pos x) [] (omega arith) in
       let chain = set-set s.chain i (set (get_or s.chain i []) pos x) (set (get_or s.chain i []) pos y) in
       ap (λ r. record { own = s.own; chain = set (set s.chain i (set (get_or s.chain i []) pos x)) i (set r pos y); listed = s.listed; killed = s.killed }) row
-          ∙ ap (λ r. record { own = s.own; chain = set (set s.chain i (set (get_or s.chain i []) pos x)) i r; listed = s.listed; killed = s.killed }) (set-set (get_or s.chain i []) pos x y)
-          ∙ ap (λ c. record { own = s.own; chain = c; listed = s.listed; killed = s.killed }) chain
+      ∙ ap (λ r. record { own = s.own; chain = set (set s.chain i (set (get_or s.chain i []) pos x)) i r; listed = s.listed; killed = s.killed }) (set-set (get_or s.chain i []) pos x y)
+      ∙ ap (λ c. record { own = s.own; chain = c; listed = s.listed; killed = s.killed }) chain
 
   freed_block : (s : BucketView K V) (block pos : ℕ) (x : Slot K V) → block < length (s.own ∷ s.chain) → block_at (with_slot_at s block pos x) block ≡ set (block_at s block) pos x
   freed_block s zero pos x h = refl

@@ -1,10 +1,7 @@
 -- The first place in slot order at which a test passes.
-use Rattle.std.proofs.Common.{ℕ, ◌+◌, ◌-◌, ◌<◌, ◌≤◌, ◌≡◌, ◌≢◌, ◌^◌, inl, inr, Bool, true, false, cond, Option, Some, None, List, [], ◌∷◌, ◌++◌, length, get_or, set, take, drop, refl, sym, ap, ◌∙◌, arith, suc, zero}
+use Rattle.std.proofs.Common.{ℕ, ◌+◌, ◌-◌, ◌<◌, ◌≤◌, ◌≡◌, Bool, true, false, Option, Some, None, List, [], ◌∷◌, length, get_or, refl, sym, ap, ◌∙◌, arith, suc, zero}
 use Rattle.std.specs.Borrow.{Bor}
-use Rattle.std.specs.List.{remove, insert, position}
-use Rattle.std.proofs.lemmas.Bool.{cases_eq, cases_lt}
-use Rattle.std.proofs.lemmas.List.{get_or-set_same, get_or-set_other, length-set, length-take, length-drop, length-append, take-set, drop-set-lt}
-use Rattle.std.proofs.lemmas.List.Edits.{get_or-remove_below, get_or-remove_above}
+use Rattle.std.specs.List.{position}
 use Rattle.bucket_slots.specs.BucketView.{BucketView, Place, block_at, first_from, first_place, flattened, pair_at, place_at_position, slot_in}
 use Rattle.bucket_slots.specs.Layout.BucketFields.{IsBucket, IsChain}
 use Rattle.bucket_slots.specs.Places.{IsPairOf}

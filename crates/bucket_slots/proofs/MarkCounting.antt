@@ -1,5 +1,5 @@
 -- How many slots are marked, and that no change but a mark makes it more.
-use Rattle.std.proofs.Common.{ℕ, ◌+◌, ◌<◌, ◌≤◌, ◌≡◌, true, false, List, [], ◌∷◌, ◌++◌, length, get_or, set, replicate, refl, arith, suc, zero}
+use Rattle.std.proofs.Common.{ℕ, ◌+◌, ◌≤◌, ◌≡◌, true, false, List, [], ◌∷◌, ◌++◌, get_or, set, replicate, refl, arith, suc, zero}
 use Rattle.std.specs.List.{remove}
 use Rattle.bucket_slots.specs.BucketView.{flattened, rows_with}
 use Rattle.bucket_slots.specs.Placing.{free_block}

@@ -1,6 +1,6 @@
 -- Where a pointer to an occupied slot stands: among the own slots, or in a block of the chain.
-use Rattle.std.proofs.Common.{ℕ, ◌+◌, ◌-◌, ◌<◌, ◌≤◌, ◌≡◌, inl, inr, true, false, List, [], length, get_or, set, refl, sym, ap, ◌∙◌, arith, suc, zero}
-use Rattle.std.proofs.lemmas.Bool.{cases_eq, cases_lt}
+use Rattle.std.proofs.Common.{ℕ, ◌-◌, ◌<◌, ◌≡◌, inl, inr, true, false, List, [], length, get_or, refl, sym, ap, ◌∙◌, arith, suc, zero}
+use Rattle.std.proofs.lemmas.Bool.{cases_lt}
 use Rattle.std.proofs.lemmas.List.{get_or_past}
 use Rattle.bucket_slots.specs.BucketView.{BucketView, Place, block_at, slot_in}
 use Rattle.bucket_slots.specs.Layout.BucketFields.{IsChain}

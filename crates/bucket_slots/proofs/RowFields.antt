@@ -1,15 +1,10 @@
 -- What the bitmaps of a row keep where a place is filled or emptied.
-use Rattle.std.proofs.Common.{ℕ, ◌+◌, ◌<◌, ◌≤◌, ◌≡◌, ◌≢◌, ◌-◌, min, ◌*◌, ◌%◌, ◌^◌, ◌⊎◌, inl, inr, Bool, true, false, cond, List, [], ◌∷◌, Option, Some, None, is_some, IsSome, replicate, length, get_or, set, map, refl, sym, ap, ◌∙◌, arith, bit_or, bit_and, w32, eqb, not, ◌&&◌, ◌==◌, zero, suc}
-use Rattle.std.specs.Borrow.{Bor}
-use Rattle.std.specs.Int.{bit_at, bit_not}
-use Rattle.std.specs.List.{range_with_len, position}
-use Rattle.std.proofs.lemmas.List.{ext_get_or, length-set, length-map, get_or-set_same, get_or-set_other, get_or-map, get_or_past, get_or-replicate}
+use Rattle.std.proofs.Common.{ℕ, ◌<◌, ◌≤◌, ◌≡◌, ◌^◌, inl, inr, cond, List, Option, Some, None, is_some, replicate, get_or, set, ap, ◌∙◌, arith}
+use Rattle.std.specs.Int.{bit_at}
+use Rattle.std.proofs.lemmas.List.{length-set, get_or-set_same, get_or-set_other, get_or-replicate}
 use Rattle.std.proofs.lemmas.Simd.{length-replicate}
-use Rattle.std.proofs.lemmas.Bool.{cases_eq, cases_lt, and_parts}
-use Rattle.std.proofs.lemmas.Bool.Decides.{nat_tests}
-use Rattle.std.proofs.lemmas.List.FromFn.{get_or-map-range_with_len, length-map-range_with_len}
-use Rattle.std.proofs.lemmas.Nat.Bits.{bit_at_and, bit_at_not, bit_at-lt, bit_at-zero, same_from_bits}
-use Rattle.std.proofs.lemmas.Grind.{common_steps}
+use Rattle.std.proofs.lemmas.Bool.{cases_eq}
+use Rattle.std.proofs.lemmas.Nat.Bits.{bit_at-zero}
 use Rattle.bucket_slots.specs.Layout.Bitmaps.{ClearsBit, SetsBit}
 use Rattle.bucket_slots.specs.Layout.Blocks.{IsRow}
 use Rattle.bucket_slots.proofs.BodyParts.{after}

@@ -1,13 +1,11 @@
 -- What the bitmaps of a row say of its slots: which are free, which may be wanted.
-use Rattle.std.proofs.Common.{ℕ, ◌+◌, ◌<◌, ◌≤◌, ◌≡◌, ◌≢◌, ◌-◌, min, ◌*◌, ◌%◌, ◌^◌, ◌⊎◌, inl, inr, Bool, true, false, cond, List, [], ◌∷◌, Option, Some, None, is_some, IsSome, replicate, length, get_or, set, map, refl, sym, ap, ◌∙◌, arith, bit_or, bit_and, w32, eqb, not, ◌&&◌, ◌==◌, zero, suc}
+use Rattle.std.proofs.Common.{ℕ, ◌<◌, ◌≤◌, ◌≡◌, ◌-◌, min, ◌^◌, inl, inr, Bool, true, false, cond, List, [], ◌∷◌, Option, Some, None, is_some, length, get_or, refl, sym, ap, ◌∙◌, arith, bit_and, w32, eqb, not, ◌==◌, zero, suc}
 use Rattle.std.specs.Borrow.{Bor}
-use Rattle.std.specs.Int.{bit_at, bit_not}
-use Rattle.std.specs.List.{range_with_len, position}
-use Rattle.std.proofs.lemmas.List.{ext_get_or, length-set, length-map, get_or-set_same, get_or-set_other, get_or-map, get_or_past, get_or-replicate}
-use Rattle.std.proofs.lemmas.Simd.{length-replicate}
+use Rattle.std.specs.Int.{bit_at}
+use Rattle.std.specs.List.{position}
+use Rattle.std.proofs.lemmas.List.{get_or_past}
 use Rattle.std.proofs.lemmas.Bool.{cases_eq, cases_lt, and_parts}
 use Rattle.std.proofs.lemmas.Bool.Decides.{nat_tests}
-use Rattle.std.proofs.lemmas.List.FromFn.{get_or-map-range_with_len, length-map-range_with_len}
 use Rattle.std.proofs.lemmas.Nat.Bits.{bit_at_and, bit_at_not, bit_at-lt, bit_at-zero, same_from_bits}
 use Rattle.std.proofs.lemmas.Grind.{common_steps}
 use Rattle.bucket_slots.specs.Layout.Bitmaps.{ClearsBit, IsLowest, IsLowestClear}

@@ -1,5 +1,5 @@
 -- What the slots and the bitmaps of a row are where one value changes.
-use Rattle.std.proofs.Common.{ℕ, ◌<◌, ◌≡◌, inl, inr, List, Option, Some, None, is_some, length, get_or, set, refl, ◌∙◌, arith, zero, suc}
+use Rattle.std.proofs.Common.{ℕ, ◌<◌, ◌≡◌, inl, inr, List, Option, Some, None, is_some, length, get_or, set, refl, arith, zero, suc}
 use Rattle.std.specs.Int.{bit_at}
 use Rattle.std.proofs.lemmas.List.{ext_get_or, length-set, get_or-set_same, get_or-set_other}
 use Rattle.std.proofs.lemmas.Bool.{cases_eq}

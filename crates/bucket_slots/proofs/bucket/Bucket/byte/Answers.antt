@@ -1,4 +1,4 @@
-use Rattle.std.proofs.Common.{rules, sym, ap, ◌∙◌, ◌≡◌, false, [], Some}
+use Rattle.std.proofs.Common.{rules, sym, ap, ◌∙◌}
 use Rattle.bucket_slots.specs.BucketView.{slot_in}
 use Rattle.bucket_slots.specs.Slots.{byte_of}
 use Rattle.bucket_slots.proofs.Pointing.{in_chain, in_own}

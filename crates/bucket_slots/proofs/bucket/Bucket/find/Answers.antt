@@ -1,4 +1,4 @@
-use Rattle.std.proofs.Common.{sym, ◌∙◌, ◌≡◌, ap, ◌%◌}
+use Rattle.std.proofs.Common.{sym, ◌∙◌, ◌%◌}
 use Rattle.bucket_slots.specs.Searching.{is_wanted}
 use Rattle.bucket_slots.proofs.FirstPlaces.{first_chain, first_own, none_wanted}
 use Rattle.bucket_slots.proofs.bucket.Bucket.find.Goals as goal

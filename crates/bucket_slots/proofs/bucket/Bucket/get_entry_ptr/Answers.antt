@@ -1,4 +1,4 @@
-use Rattle.std.proofs.Common.{arith, sym, ◌∙◌, ◌≡◌, ◌<◌, ◌%◌, Some}
+use Rattle.std.proofs.Common.{arith, sym, ◌∙◌, ◌%◌}
 use Rattle.bucket_slots.specs.Searching.{is_wanted}
 use Rattle.bucket_slots.proofs.FirstPlaces.{found_short}
 use Rattle.bucket_slots.proofs.bucket.Bucket.get_entry_ptr.Goals as goal

@@ -1,4 +1,4 @@
-use Rattle.std.proofs.Common.{◌≡◌, rules}
+use Rattle.std.proofs.Common.{rules}
 use Rattle.bucket_slots.proofs.BucketPlacing.{no_marks_looked_at}
 use Rattle.bucket_slots.proofs.bucket.Bucket.insert.Goals as goal
 

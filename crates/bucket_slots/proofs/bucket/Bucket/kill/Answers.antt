@@ -1,4 +1,3 @@
-use Rattle.std.proofs.Common.{arith, ap, ◌≡◌, length, ◌∙◌}
 use Rattle.bucket_slots.proofs.BucketMoving.{IsBucket-emptied}
 use Rattle.bucket_slots.proofs.bucket.Bucket.kill.Goals as goal
 

@@ -1,8 +1,7 @@
-use Rattle.std.proofs.Common.{arith, rules, sym, ap, ◌∙◌, ◌≡◌, ◌%◌, true}
+use Rattle.std.proofs.Common.{rules, sym, ap, ◌∙◌, ◌≡◌}
 use Rattle.bucket_slots.specs.BucketView.{slot_in}
 use Rattle.bucket_slots.specs.Removing.{place_after}
 use Rattle.bucket_slots.specs.Slots.{live_pair}
-use Rattle.bucket_slots.specs.Walking.{pairs_ahead}
 use Rattle.bucket_slots.proofs.AheadAfterRemoval.{pairs_ahead-slots_without}
 use Rattle.bucket_slots.proofs.BucketRemoving.{IsBucket-without-chain, IsBucket-without-own, place_after-chain, place_after-own, slots_without-chain, slots_without-own, some_live}
 use Rattle.bucket_slots.proofs.Pointing.{chain_live, own_live}

@@ -1,4 +1,4 @@
-use Rattle.std.proofs.Common.{sym, ap, ◌∙◌, ◌≡◌}
+use Rattle.std.proofs.Common.{sym, ◌∙◌}
 use Rattle.bucket_slots.proofs.BucketRecency.{IsBucket-touched, slots_touched-chain, slots_touched-own}
 use Rattle.bucket_slots.proofs.Pointing.{own_live}
 use Rattle.bucket_slots.proofs.bucket.Bucket.update_lru_tail.Goals as goal

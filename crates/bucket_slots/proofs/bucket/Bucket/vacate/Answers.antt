@@ -1,4 +1,4 @@
-use Rattle.std.proofs.Common.{arith, rules, sym, ap, ◌∙◌, ◌≡◌, true}
+use Rattle.std.proofs.Common.{sym, ap, ◌∙◌}
 use Rattle.bucket_slots.specs.BucketView.{slot_in}
 use Rattle.bucket_slots.specs.Slots.{live_pair}
 use Rattle.bucket_slots.proofs.BucketMoving.{IsBucket-vacated, slots_vacated-chain}

@@ -1,4 +1,4 @@
-use Rattle.std.proofs.Common.{arith, ap, ◌≡◌, ◌<◌, length}
+use Rattle.std.proofs.Common.{arith, ap, ◌<◌, length}
 use Rattle.std.proofs.lemmas.List.{length-set}
 use Rattle.bucket_slots.specs.BucketView.{row_at}
 use Rattle.bucket_slots.specs.Slots.{row_with_value}

@@ -1,4 +1,4 @@
-use Rattle.std.proofs.Common.{arith, ◌≡◌, ◌<◌, ◌≤◌, true, sym, ap, ◌∙◌, length, get_or, set, []}
+use Rattle.std.proofs.Common.{arith, ◌≡◌, ◌<◌, ◌≤◌, sym, ap, ◌∙◌, length, []}
 use Rattle.std.specs.List.{remove}
 use Rattle.std.proofs.lemmas.List.{get_or_read, length-set}
 use Rattle.bucket_slots.proofs.ChainRows.{IsChain-remove, IsChain-set, emptied, place_in_chain-last, place_in_chain-next, remove-set, rows_without-empty}

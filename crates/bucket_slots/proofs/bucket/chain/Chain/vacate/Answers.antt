@@ -1,4 +1,4 @@
-use Rattle.std.proofs.Common.{ap, arith, ◌≡◌, length, get_or, set, []}
+use Rattle.std.proofs.Common.{ap, arith, ◌≡◌, length, []}
 use Rattle.std.proofs.lemmas.List.{length-set, get_or_read}
 use Rattle.bucket_slots.proofs.ChainRows.{IsChain-set}
 use Rattle.bucket_slots.proofs.bucket.chain.Chain.vacate.Goals as goal

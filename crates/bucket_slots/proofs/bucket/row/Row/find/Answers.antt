@@ -1,4 +1,4 @@
-use Rattle.std.proofs.Common.{sym, ◌≡◌, ◌∙◌, ℕ, Bool, true, false}
+use Rattle.std.proofs.Common.{sym, ◌≡◌, ◌∙◌, true, false}
 use Rattle.bucket_slots.specs.Layout.Blocks.{IsStillLeft}
 use Rattle.bucket_slots.specs.Searching.{is_wanted}
 use Rattle.bucket_slots.specs.Slots.{slot_at}

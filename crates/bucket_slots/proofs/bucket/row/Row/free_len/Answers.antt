@@ -1,4 +1,4 @@
-use Rattle.std.proofs.Common.{arith, ap, ◌≡◌}
+use Rattle.std.proofs.Common.{arith, ap}
 use Rattle.bucket_slots.specs.Slots.{free_len}
 use Rattle.bucket_slots.proofs.FreeCounting.{occupied_len}
 use Rattle.bucket_slots.proofs.bucket.row.Row.free_len.Goals as goal

@@ -1,4 +1,4 @@
-use Rattle.std.proofs.Common.{sym, ◌∙◌}
+use Rattle.std.proofs.Common.{sym}
 use Rattle.bucket_slots.proofs.RowSearch.{empty_is}
 use Rattle.bucket_slots.proofs.bucket.row.Row.is_empty.Goals as goal
 

@@ -1,4 +1,4 @@
-use Rattle.std.proofs.Common.{arith, ◌≡◌, ◌<◌, ◌^◌, true, ◌∙◌, length}
+use Rattle.std.proofs.Common.{arith, ◌≡◌, ◌<◌, true, ◌∙◌, length}
 use Rattle.bucket_slots.specs.Slots.{is_live, slot_at}
 use Rattle.bucket_slots.proofs.RowFields.{IsRow-take}
 use Rattle.bucket_slots.proofs.RowSlots.{live_place, row_slots-take, some_is}
