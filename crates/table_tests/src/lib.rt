@@ -8,6 +8,10 @@ mod beside_btree_map;
 #[cfg(test)]
 mod buckets;
 #[cfg(test)]
+mod by_key;
+#[cfg(test)]
+mod chains;
+#[cfg(test)]
 mod data_blocks;
 #[cfg(test)]
 mod entry_pointers;
