@@ -19,4 +19,6 @@ mod entry_pointers;
 mod matching;
 pub mod probe;
 #[cfg(test)]
+mod recency;
+#[cfg(test)]
 mod tables;
