@@ -8,11 +8,17 @@ mod beside_btree_map;
 #[cfg(test)]
 mod buckets;
 #[cfg(test)]
+mod by_key;
+#[cfg(test)]
+mod chains;
+#[cfg(test)]
 mod data_blocks;
 #[cfg(test)]
 mod entry_pointers;
 #[cfg(test)]
 mod matching;
 pub mod probe;
+#[cfg(test)]
+mod recency;
 #[cfg(test)]
 mod tables;
