@@ -18,3 +18,8 @@ pub mod BucketRemoving
 pub mod BucketMoving
 pub mod Entries
 pub mod CallerLemmas
+pub mod PowersOfTwo
+pub mod Intervals
+pub mod Doublings
+pub mod Sampled
+pub mod ArrayCallerLemmas

@@ -5,3 +5,5 @@ pub mod BucketFields
 pub mod Elements
 pub mod Masks
 pub mod Room
+pub mod ArrayFields
+pub mod ArrayRoom

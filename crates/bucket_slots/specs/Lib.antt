@@ -10,4 +10,9 @@ pub mod Reserving
 pub mod Moving
 pub mod Searching
 pub mod Loans
+pub mod Homes
+pub mod Sizing
+pub mod Sampling
+pub mod ArrayView
+pub mod ArrayLoans
 pub mod Layout

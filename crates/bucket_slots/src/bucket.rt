@@ -15,7 +15,7 @@ mod chain;
 mod entry_ptr;
 mod insert;
 mod remove;
-mod room;
+pub(crate) mod room;
 mod row;
 mod search;
 mod transfer;
