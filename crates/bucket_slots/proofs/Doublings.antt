@@ -14,6 +14,7 @@ pub record IsDoubled (start entries maximum reached : ℕ) : Type 0 where
   pub at_most : reached ≤ maximum
   pub too_small : (k : ℕ) → start * 2 ^ k < reached → (start * 2 ^ k) / 2 < entries
 
+-- nothing is doubled yet
 pub doubled_none : (start entries maximum : ℕ) → IsPowerOfTwo start → start ≤ maximum → IsDoubled start entries maximum start
 doubled_none start entries maximum power le = record {
   is_doubling = (0, sym (mul-one start));
@@ -34,11 +35,13 @@ double_fits m n (i, m_is) (j, n_is) less =
     let more = power_more i in
     omega arith
 
-pub doubled_more : (start entries maximum reached next : ℕ) → IsPowerOfTwo start → IsPowerOfTwo maximum → IsDoubled start entries maximum reached
+-- one doubling more
+pub doubled_more : (start entries maximum reached next : ℕ) → IsPowerOfTwo maximum → IsDoubled start entries maximum reached
     → reached / 2 < entries → reached < maximum → next ≡ reached * 2 → IsDoubled start entries maximum next
-doubled_more start entries maximum reached next power max_power d small less next_is =
+doubled_more start entries maximum reached next max_power d small less next_is =
     let (k, is) = d.is_doubling in
-    let twice : start * 2 ^ (k + 1) ≡ next = ap (λ (x : ℕ). start * x) (pow-add 2 k 1) ∙ sym (mul_assoc start (2 ^ k) 2) ∙ ap (λ (x : ℕ). x * 2) (sym is) ∙ sym next_is in
+    let more : start * 2 ^ (k + 1) ≡ start * 2 ^ k * 2 = ap (λ (x : ℕ). start * x) (pow-add 2 k 1) ∙ sym (mul_assoc start (2 ^ k) 2) in
+    let twice : start * 2 ^ (k + 1) ≡ next = more ∙ ap (λ (x : ℕ). x * 2) (sym is) ∙ sym next_is in
     let (e, reached_is) = d.is_power in
     record {
       is_doubling = (k + 1, sym twice);
@@ -57,10 +60,15 @@ doubled_more start entries maximum reached next power max_power d small less nex
           (cases_lt (start * 2 ^ j) reached);
     }
 
-pub doubled_all : (start entries maximum reached : ℕ) → IsDoubled start entries maximum reached → (entries ≤ reached / 2) ⊎ (maximum ≤ reached) → IsLeastDoubling start entries maximum reached
+-- doubling ends with the least doubling
+pub doubled_all : (start entries maximum reached : ℕ) → IsDoubled start entries maximum reached → (entries ≤ reached / 2) ⊎ (maximum ≤ reached)
+    → IsLeastDoubling start entries maximum reached
 doubled_all start entries maximum reached d ended = record {
   is_doubling = d.is_doubling;
   at_most = d.at_most;
-  enough = ⊎_elim (λ (h : entries ≤ reached / 2). inl h) (λ (h : maximum ≤ reached). let most = d.at_most in inr (omega arith)) ended;
+  enough = ⊎_elim
+      (λ (half : entries ≤ reached / 2). inl half)
+      (λ (all : maximum ≤ reached). let most = d.at_most in inr (omega arith))
+      ended;
   least = d.too_small;
 }

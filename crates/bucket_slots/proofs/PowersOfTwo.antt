@@ -10,10 +10,16 @@ power_more k = pow-add 2 k 1 ∙ omega arith
 
 -- the order of powers is that of their exponents
 pub exponent_lt : (i j : ℕ) → 2 ^ i < 2 ^ j → i < j
-exponent_lt i j h = ⊎_elim (λ (less : i < j). less) (λ (le : j ≤ i). let most : 2 ^ j ≤ 2 ^ i = pow_mono le in absurd (omega arith)) (cases_lt i j)
+exponent_lt i j h =
+    ⊎_elim (λ (less : i < j). less)
+    (λ (le : j ≤ i). let most : 2 ^ j ≤ 2 ^ i = pow_mono le in absurd (omega arith))
+    (cases_lt i j)
 
 pub exponent_le : (i j : ℕ) → 2 ^ i ≤ 2 ^ j → i ≤ j
-exponent_le i j h = ⊎_elim (λ (less : j < i). let more : 2 ^ j < 2 ^ i = pow_below j i less in absurd (omega arith)) (λ (le : i ≤ j). le) (cases_lt j i)
+exponent_le i j h =
+    ⊎_elim (λ (less : j < i). let more : 2 ^ j < 2 ^ i = pow_below j i less in absurd (omega arith))
+    (λ (le : i ≤ j). le)
+    (cases_lt j i)
 
 pub exponent_is : (e k : ℕ) → 2 ^ e ≤ 2 ^ k → 2 ^ k < 2 * 2 ^ e → k ≡ e
 exponent_is e k low high =
@@ -46,17 +52,22 @@ power_of_quotient n k (j, is) le =
     let order : k ≤ j = exponent_le k j (subst (λ (x : ℕ). 2 ^ k ≤ x) is le) in
     (j - k, ap (λ (x : ℕ). x / 2 ^ k) is ∙ power_quotient k j order)
 
-pub power_max : (m n : ℕ) → IsPowerOfTwo m → IsPowerOfTwo n → IsPowerOfTwo (max m n)
+power_max : (m n : ℕ) → IsPowerOfTwo m → IsPowerOfTwo n → IsPowerOfTwo (max m n)
 power_max m n p q =
     ⊎_elim (λ (h : m < n). let e : n ≡ max m n = omega arith in subst IsPowerOfTwo e q)
     (λ (h : n ≤ m). let e : m ≡ max m n = omega arith in subst IsPowerOfTwo e p)
     (cases_lt m n)
 
-pub power_min : (m n : ℕ) → IsPowerOfTwo m → IsPowerOfTwo n → IsPowerOfTwo (min m n)
+power_min : (m n : ℕ) → IsPowerOfTwo m → IsPowerOfTwo n → IsPowerOfTwo (min m n)
 power_min m n p q =
     ⊎_elim (λ (h : m < n). let e : m ≡ min m n = omega arith in subst IsPowerOfTwo e p)
     (λ (h : n ≤ m). let e : n ≡ min m n = omega arith in subst IsPowerOfTwo e q)
     (cases_lt m n)
+
+-- where a growth starts is a power of two
+pub power_start : (least capacity maximum : ℕ) → IsPowerOfTwo least → IsPowerOfTwo capacity → IsPowerOfTwo maximum
+    → IsPowerOfTwo (min (max least capacity) maximum)
+power_start least capacity maximum p q r = power_min (max least capacity) maximum (power_max least capacity p q) r
 
 -- a power of two that is n or more is the least one where half of it is below n
 pub least_from_half : (n p : ℕ) → IsPowerOfTwo p → n ≤ p → p / 2 < max 1 n → IsLeastPowerOfTwo n p

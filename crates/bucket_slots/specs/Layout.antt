@@ -6,4 +6,3 @@ pub mod Elements
 pub mod Masks
 pub mod Room
 pub mod ArrayFields
-pub mod ArrayRoom

@@ -15,4 +15,5 @@ pub mod Sizing
 pub mod Sampling
 pub mod ArrayView
 pub mod ArrayLoans
+pub mod ArrayRoom
 pub mod Layout

@@ -6,9 +6,9 @@
 //!
 //! Ports scc's `src/hash_table/bucket_array.rs`. The buckets stand in a vector, where scc asks for
 //! raw memory, aligns it and writes buckets and data blocks into it.
-ghost use Rattle.std.specs.Prelude.{◌≡◌, ◌*◌, ◌^◌, ◌<◌, ◌≤◌, ◌↔◌, IfOk, IsTrue, Some, length, slice_get};
+ghost use Rattle.std.specs.Prelude.{◌≡◌, ◌*◌, ◌^◌, ◌<◌, ◌≤◌, ◌↔◌, IfOk, IsTrue, length};
 ghost use Rattle.std.specs.Borrow.{sem};
-ghost use Rattle.bucket_slots.specs.ArrayView.{IsNewArray, data_blocks_of};
+ghost use Rattle.bucket_slots.specs.ArrayView.{IsNewArray, bucket_at};
 ghost use Rattle.bucket_slots.specs.Homes.{IsHome};
 ghost use Rattle.bucket_slots.specs.Sampling.{
   IsLargeSample,
@@ -23,6 +23,7 @@ ghost use Rattle.bucket_slots.specs.Sizing.{
   IsTooEmpty,
   IsTooFull,
 };
+ghost use Rattle.bucket_slots.specs.Slots.{places_of};
 
 mod sizing;
 
@@ -72,7 +73,7 @@ impl<K: Drop, V: Drop, L: LruList + Drop, const TYPE: u8> Drop for BucketArray<K
 
 impl<K: Drop, V: Drop, L: LruList + Drop, const TYPE: u8> BucketArray<K, V, L, TYPE> {
     ghost use Rattle.bucket_slots.specs.ArrayLoans.{LendsBucket};
-    ghost use Rattle.bucket_slots.specs.Layout.ArrayRoom.{BucketFits};
+    ghost use Rattle.bucket_slots.specs.ArrayRoom.{BucketFits};
 
     /// Returns an array for a capacity in slots, all of its buckets empty.
     ///
@@ -177,7 +178,7 @@ impl<K: Drop, V: Drop, L: LruList + Drop, const TYPE: u8> BucketArray<K, V, L, T
     /// O(1). scc: `BucketArray::bucket`.
     pub fn bucket(&self, index: usize) -> &Bucket<K, V, L, TYPE>
         requires { index < length self.now }
-        ensures { slice_get self.now index ≡ Some result.now }
+        ensures { result.now ≡ bucket_at self.now index }
     {
         &self.buckets[index]
     }
@@ -191,7 +192,7 @@ impl<K: Drop, V: Drop, L: LruList + Drop, const TYPE: u8> BucketArray<K, V, L, T
             (LendsBucket K.row V.row L.row TYPE.row
             (record { KEEPS = L.KEEPS; listed = L.listed; IsTail = L.IsTail }) L.Default
             self.entry index result) }
-        ensures bucket { slice_get self.old index ≡ Some result.now }
+        ensures bucket { result.now ≡ bucket_at self.old index }
     {
         &mut self.buckets[index]
     }
@@ -201,7 +202,7 @@ impl<K: Drop, V: Drop, L: LruList + Drop, const TYPE: u8> BucketArray<K, V, L, T
     /// O(1). scc: `BucketArray::data_block`.
     pub fn data_block(&self, index: usize) -> &DataBlock<K, V, BUCKET_LEN>
         requires { index < length self.now }
-        ensures { slice_get (data_blocks_of self.now) index ≡ Some result.now }
+        ensures { result.now ≡ places_of (bucket_at self.now index).own }
     {
         self.room();
         self.buckets[index].data_block()
@@ -252,8 +253,11 @@ impl<K: Drop, V: Drop, L: LruList + Drop, const TYPE: u8> BucketArray<K, V, L, T
         sizing::optimal_capacity(capacity, num_entries, minimum_capacity, maximum_capacity)
     }
 
-    /// No work: a proof learns that a bucket takes fewer than 2^63 bytes, as each slice's member.
-    fn room(&self)
+    /// No work: a proof of generic code learns that a bucket takes fewer than 2^63 bytes, as each
+    /// slice's member, before it calls a method of one.
+    ///
+    /// O(1). Own.
+    pub fn room(&self)
         ensures { BucketFits K.row V.row L.row TYPE.row
             (record { KEEPS = L.KEEPS; listed = L.listed; IsTail = L.IsTail }) L.Default }
     {

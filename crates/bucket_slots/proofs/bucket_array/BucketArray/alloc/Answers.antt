@@ -9,7 +9,8 @@ use Rattle.bucket_slots.proofs.bucket_array.BucketArray.alloc.Goals as goal
 
 pub loop-i-preserved : goal.loop-i-preserved
 loop-i-preserved g c =
-    let made = c.in-Ok-push.ensures.items ∙ ap (λ buckets. buckets ++ c.new.result ∷ []) c.loop-i.invariant.made ∙ ap (λ bucket. replicate c.loop-i._i empty_bucket ++ bucket ∷ []) c.new.ensures in
+    let grown = c.in-Ok-push.ensures.items ∙ ap (λ buckets. buckets ++ c.new.result ∷ []) c.loop-i.invariant.made in
+    let made = grown ∙ ap (λ bucket. replicate c.loop-i._i empty_bucket ++ bucket ∷ []) c.new.ensures in
     record {
       room = omega (arith, c.in-Ok-push.ensures.capacity, c.loop-i.invariant.room);
       made = made ∙ replicate_more c.loop-i._i empty_bucket;

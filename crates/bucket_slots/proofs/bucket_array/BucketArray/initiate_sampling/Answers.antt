@@ -6,4 +6,5 @@ use Rattle.bucket_slots.proofs.bucket_array.BucketArray.initiate_sampling.Goals 
 pub returns : goal.returns
 returns g c =
     let size = c.self.inside.sample_size in
-    mask_starts_sampling c.args.hash (length c.args.self.now) size (subst (λ (n : ℕ). IsLargeSample n size) (ap length c.self.view_is) c.self.invariant.sampled)
+    let sampled = subst (λ (n : ℕ). IsLargeSample n size) (ap length c.self.view_is) c.self.invariant.sampled in
+    mask_starts_sampling c.args.hash (length c.args.self.now) size sampled
