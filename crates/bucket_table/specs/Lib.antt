@@ -1,4 +1,5 @@
 pub mod TableView
+pub mod TableCapacity
 pub mod MapState
 pub mod OneMap
 pub mod Calls
