@@ -96,10 +96,8 @@ pub(crate) fn optimal_capacity(
     if capacity < minimum_capacity || need_enlarge(capacity, num_entries) {
         grown_capacity(capacity, num_entries, minimum_capacity, maximum_capacity)
     } else if need_shrink(capacity, num_entries) {
-        let slots = (num_entries * 2)
-            .max(minimum_capacity)
-            .max(MINIMUM_CAPACITY);
-        least_power_of_two(slots)
+        let wanted = (num_entries * 2).max(minimum_capacity);
+        least_power_of_two(wanted.max(MINIMUM_CAPACITY))
     } else {
         capacity
     }
