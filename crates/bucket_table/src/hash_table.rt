@@ -13,6 +13,7 @@ ghost use Rattle.bucket_table.specs.MapState.{AddsPair, IsAbsent, IsThere, Takes
 ghost use Rattle.bucket_table.specs.OneMap.{IsOneMap, pairs_of, state_of};
 
 mod capacity;
+mod sampling;
 
 use crate::key_hash::KeyHash;
 use bucket_slots::bucket::{BUCKET_LEN, Bucket, EntryPtr, Generation, INDEX};
@@ -21,6 +22,7 @@ pub use capacity::{
     from_index_to_range, num_entries_from_hint, ranges_part_the_indices,
     table_capacity_from_num_entries,
 };
+pub use sampling::sample;
 use std::alloc::Global;
 use std::marker::Model;
 
