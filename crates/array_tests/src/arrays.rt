@@ -2,6 +2,9 @@
 use crate::probe::{insert_at, len_at};
 use bucket_slots::bucket::{CACHE, INDEX, MAP};
 use bucket_slots::bucket_array::BucketArray;
+use bucket_table::hash_table::sample;
+use std::alloc::Global;
+use std::process::Abort;
 use std::rc::Rc;
 use std::test::Fail;
 
@@ -81,14 +84,7 @@ fn new_buckets_are_empty_and_not_killed(rt: HostRuntime) -> Result<(), Fail> {
 
 #[test]
 fn a_change_of_one_bucket_leaves_the_others(rt: HostRuntime) -> Result<(), Fail> {
-    let mut array = Array::alloc(rt.alloc(), 128)?;
-    assert_eq!(rt; array.len(), 4);
-    for (index, pairs) in [(2, 3), (0, 40), (3, 1)] {
-        for key in 0..pairs {
-            assert!(rt; index < array.len());
-            insert_at(&mut array, index, key, (key, key * 10), &())?;
-        }
-    }
+    let mut array = unequal_buckets(&rt, rt.alloc())?;
     for (index, pairs) in [(0, 40), (1, 0), (2, 3), (3, 1)] {
         assert!(rt; index < array.len());
         assert_eq!(rt; len_at(&array, index), pairs, "bucket {index}");
@@ -103,6 +99,31 @@ fn a_change_of_one_bucket_leaves_the_others(rt: HostRuntime) -> Result<(), Fail>
     for (index, killed) in [(0, false), (1, true), (2, false), (3, false)] {
         assert!(rt; index < array.len());
         assert_eq!(rt; array.bucket(index).is_killed(), killed, "bucket {index}");
+    }
+    Ok(())
+}
+
+// The start and the size of a sample of four buckets with 40, 0, 3 and 1 live slots, and the
+// estimate.
+const ESTIMATES: [(usize, usize, usize); 6] = [
+    (0, 1, 160),
+    (1, 1, 0),
+    (0, 2, 80),
+    (2, 2, 8),
+    (0, 4, 44),
+    (1, 3, 4),
+];
+
+#[test]
+fn an_estimate_scales_a_sample_up(rt: HostRuntime) -> Result<(), Fail> {
+    let array = unequal_buckets(&rt, rt.alloc())?;
+    for (start, size, estimate) in ESTIMATES {
+        assert!(rt; start < 4 && size > 0 && size <= 4 && start + size <= array.len());
+        assert_eq!(rt;
+            sample(&array, start, size),
+            estimate,
+            "{size} buckets from {start}"
+        );
     }
     Ok(())
 }
@@ -129,4 +150,16 @@ fn pairs_still_held_are_dropped_with_the_array(rt: HostRuntime) -> Result<(), Fa
     drop(array);
     assert_eq!(rt; Rc::strong_count(&counted), 1);
     Ok(())
+}
+
+// Four buckets with 40, 0, 3 and 1 pairs.
+fn unequal_buckets(rt: &impl Abort, alloc: Global) -> Result<Array, Fail> {
+    let mut array = Array::alloc(alloc, 128)?;
+    for (index, pairs) in [(2, 3), (0, 40), (3, 1)] {
+        for key in 0..pairs {
+            assert!(rt; index < array.len());
+            insert_at(&mut array, index, key, (key, key * 10), &())?;
+        }
+    }
+    Ok(array)
 }
