@@ -27,3 +27,8 @@ pub mod BucketValues
 pub mod AheadAfterRemoval
 pub mod Entries
 pub mod CallerLemmas
+pub mod PowersOfTwo
+pub mod Intervals
+pub mod Doublings
+pub mod Sampled
+pub mod ArrayCallerLemmas

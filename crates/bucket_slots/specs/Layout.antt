@@ -9,3 +9,4 @@ pub mod Masks
 pub mod Room
 pub mod RowLoans
 pub mod Walks
+pub mod ArrayFields

@@ -15,4 +15,10 @@ pub mod Searching
 pub mod Walking
 pub mod Loans
 pub mod BucketLoans
+pub mod Homes
+pub mod Sizing
+pub mod Sampling
+pub mod ArrayView
+pub mod ArrayLoans
+pub mod ArrayRoom
 pub mod Layout

@@ -17,7 +17,7 @@ mod entry_ptr;
 mod insert;
 mod recency;
 mod remove;
-mod room;
+pub(crate) mod room;
 mod row;
 mod search;
 mod transfer;

@@ -1,2 +1,3 @@
 pub mod OneMapSteps
 pub mod RunSteps
+pub mod SampleSums

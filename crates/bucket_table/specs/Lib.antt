@@ -1,4 +1,6 @@
 pub mod TableView
+pub mod TableCapacity
+pub mod Sampling
 pub mod MapState
 pub mod OneMap
 pub mod Calls

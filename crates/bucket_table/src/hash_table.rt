@@ -12,9 +12,17 @@ ghost use Rattle.bucket_slots.specs.Slots.{is_live, live_pair};
 ghost use Rattle.bucket_table.specs.MapState.{AddsPair, ChangesValue, IsAbsent, IsThere, KeepsPairs, TakesPair};
 ghost use Rattle.bucket_table.specs.OneMap.{IsOneMap, pairs_of, state_of};
 
+mod capacity;
+mod sampling;
+
 use crate::key_hash::KeyHash;
 use bucket_slots::bucket::{BUCKET_LEN, Bucket, CACHE, EntryPtr, Generation, INDEX};
 use bucket_slots::lru::LruList;
+pub use capacity::{
+    from_index_to_range, num_entries_from_hint, ranges_part_the_indices,
+    table_capacity_from_num_entries,
+};
+pub use sampling::sample;
 use std::alloc::Global;
 use std::marker::Model;
 use std::mem;

@@ -1,0 +1,266 @@
+//! An array of buckets: each hash has its home among them, by its upper bits.
+//!
+//! Model: the list of the buckets, in the order of the intervals of hashes that they are home to.
+//! Invariant (`IsArray`): the length is a power of two from 2 to 2^57, the stored offset shifts a
+//! hash to the index of its home, and the stored sample size is that of the length.
+//!
+//! Ports scc's `src/hash_table/bucket_array.rs`. The buckets stand in a vector, where scc asks for
+//! raw memory, aligns it and writes buckets and data blocks into it.
+ghost use Rattle.std.specs.Prelude.{◌≡◌, ◌*◌, ◌^◌, ◌<◌, ◌≤◌, ◌↔◌, IfOk, IsTrue, length};
+ghost use Rattle.std.specs.Borrow.{sem};
+ghost use Rattle.bucket_slots.specs.ArrayView.{IsNewArray, bucket_at};
+ghost use Rattle.bucket_slots.specs.Homes.{IsHome};
+ghost use Rattle.bucket_slots.specs.Sampling.{
+  IsLargeSample,
+  IsSmallSample,
+  StartsSampling,
+  full_sample,
+};
+ghost use Rattle.bucket_slots.specs.Sizing.{
+  IsLength,
+  IsOptimalCapacity,
+  IsPowerIn,
+  IsTooEmpty,
+  IsTooFull,
+};
+ghost use Rattle.bucket_slots.specs.Slots.{places_of};
+
+mod sizing;
+
+use crate::bucket::room::fits_in_memory;
+use crate::bucket::{AllocError, BUCKET_LEN, Bucket};
+use crate::data_block::DataBlock;
+use crate::lru::LruList;
+use sizing::MINIMUM_CAPACITY;
+pub use sizing::{full_sample_size_of, large_sample_size_of, small_sample_size_of};
+use std::alloc::Global;
+use std::marker::Model;
+use std::mem::ManuallyDrop;
+
+/// Buckets of the kind `TYPE` with recency lists `L`, each the home of an interval of hashes.
+pub struct BucketArray<K, V, L: LruList, const TYPE: u8> {
+    hash_offset: u32,
+    sample_size: u8,
+    buckets: Vec<Bucket<K, V, L, TYPE>>,
+}
+
+impl<K, V, L: LruList, const TYPE: u8> Model for BucketArray<K, V, L, TYPE> {
+    ghost use Rattle.std.specs.Prelude.{List, length};
+    ghost use Rattle.bucket_slots.specs.BucketView.{BucketView};
+    ghost use Rattle.bucket_slots.specs.Layout.ArrayFields.{IsArray};
+
+    ghost Value = { List (BucketView K V) };
+
+    ghost view = { λ array. array.buckets.items };
+
+    ghost invariant = { λ array. IsArray (length array.buckets.items) array.hash_offset array.sample_size };
+}
+
+impl<K: Drop, V: Drop, L: LruList + Drop, const TYPE: u8> Drop for BucketArray<K, V, L, TYPE> {
+    fn drop(self) {
+        let BucketArray {
+            hash_offset: _,
+            sample_size: _,
+            buckets,
+        } = self;
+        if fits_in_memory::<Bucket<K, V, L, TYPE>>() {
+            drop(buckets);
+        } else {
+            let _kept = unsafe { ManuallyDrop::new_unchecked(buckets) };
+        }
+    }
+}
+
+impl<K: Drop, V: Drop, L: LruList + Drop, const TYPE: u8> BucketArray<K, V, L, TYPE> {
+    ghost use Rattle.bucket_slots.specs.ArrayLoans.{LendsBucket};
+    ghost use Rattle.bucket_slots.specs.ArrayRoom.{BucketFits};
+
+    /// Returns an array for a capacity in slots, all of its buckets empty.
+    ///
+    /// Its slots are the least power of two that is at least the capacity, from 64 to 2^62. The
+    /// allocator serves the buckets and their chains.
+    ///
+    /// # Errors
+    ///
+    /// Want of memory: nothing is kept. All memory is asked for at once, before a bucket is made.
+    ///
+    /// O(buckets). scc: `BucketArray::new`.
+    pub fn alloc(alloc: Global, capacity: usize) -> Result<Self, AllocError>
+        ensures { IfOk result (IsNewArray capacity) }
+    {
+        if !fits_in_memory::<Bucket<K, V, L, TYPE>>() {
+            return Err(AllocError);
+        }
+        let len = sizing::len_for(capacity);
+        let Ok(mut buckets) = Vec::with_capacity(alloc, len) else {
+            return Err(AllocError);
+        };
+        for _i in 0..len {
+            let Ok(()) = buckets.push(Bucket::new(alloc)) else {
+                unreachable!()
+            };
+        }
+        Ok(BucketArray {
+            hash_offset: 64 - len.ilog2(),
+            sample_size: large_sample_size_of(len) as u8,
+            buckets,
+        })
+    }
+
+    /// Returns the number of buckets.
+    ///
+    /// O(1). scc: `BucketArray::len`.
+    pub fn len(&self) -> usize
+        ensures value { result ≡ length self.now }
+        ensures length { IsLength result }
+    {
+        self.buckets.len()
+    }
+
+    /// Returns the number of own slots of all buckets.
+    ///
+    /// O(1). scc: `BucketArray::num_slots`.
+    pub fn num_slots(&self) -> usize
+        ensures { result ≡ BUCKET_LEN * length self.now }
+    {
+        self.buckets.len() * BUCKET_LEN
+    }
+
+    /// Returns the index of a hash's home: the hash's upper bits.
+    ///
+    /// O(1), one shift. scc: `BucketArray::bucket_index`.
+    pub fn bucket_index(&self, hash: u64) -> usize
+        ensures { IsHome (length self.now) hash result }
+    {
+        (hash >> self.hash_offset) as usize
+    }
+
+    /// Returns whether an insertion under this hash samples the array: for one low byte of a hash
+    /// in as many as the large sample has buckets.
+    ///
+    /// O(1). scc: `BucketArray::initiate_sampling`.
+    pub fn initiate_sampling(&self, hash: u64) -> bool
+        ensures { IsTrue result ↔ StartsSampling (length self.now) hash }
+    {
+        (hash % 256) as u8 & (self.sample_size - 1) == 0
+    }
+
+    /// Returns how many buckets a first estimate of the number of entries looks at.
+    ///
+    /// O(1). scc: `BucketArray::small_sample_size`.
+    pub fn small_sample_size(&self) -> usize
+        ensures { IsSmallSample (length self.now) result }
+    {
+        small_sample_size_of(self.buckets.len())
+    }
+
+    /// Returns how many buckets an accurate estimate of the number of entries looks at.
+    ///
+    /// O(1). scc: `BucketArray::large_sample_size`.
+    pub fn large_sample_size(&self) -> usize
+        ensures { IsLargeSample (length self.now) result }
+    {
+        usize::from(self.sample_size)
+    }
+
+    /// Returns how many buckets an estimate for a resize looks at: all, or 128 where there are
+    /// more.
+    ///
+    /// O(1). scc: `BucketArray::full_sample_size`.
+    pub fn full_sample_size(&self) -> usize
+        ensures { result ≡ full_sample (length self.now) }
+    {
+        full_sample_size_of(self.buckets.len())
+    }
+
+    /// Returns the bucket with an index.
+    ///
+    /// O(1). scc: `BucketArray::bucket`.
+    pub fn bucket(&self, index: usize) -> &Bucket<K, V, L, TYPE>
+        requires { index < length self.now }
+        ensures { result.now ≡ bucket_at self.now index }
+    {
+        &self.buckets[index]
+    }
+
+    /// Lends the bucket with an index for writing. No other bucket changes.
+    ///
+    /// O(1). Own.
+    pub fn bucket_mut(&mut self, index: usize) -> &mut Bucket<K, V, L, TYPE>
+        requires { index < length self.old }
+        ensures* writes_back { sem 𝓛
+            (LendsBucket K.row V.row L.row TYPE.row
+            (record { KEEPS = L.KEEPS; listed = L.listed; IsTail = L.IsTail }) L.Default
+            self.entry index result) }
+        ensures bucket { result.now ≡ bucket_at self.old index }
+    {
+        &mut self.buckets[index]
+    }
+
+    /// Returns the pairs of the own slots of the bucket with an index, marked ones among them.
+    ///
+    /// O(1). scc: `BucketArray::data_block`.
+    pub fn data_block(&self, index: usize) -> &DataBlock<K, V, BUCKET_LEN>
+        requires { index < length self.now }
+        ensures { result.now ≡ places_of (bucket_at self.now index).own }
+    {
+        self.room();
+        self.buckets[index].data_block()
+    }
+
+    /// Returns the least number of slots of an array.
+    ///
+    /// O(1). scc: `BucketArray::minimum_capacity`.
+    pub fn minimum_capacity() -> usize
+        ensures { result ≡ 64 }
+    {
+        MINIMUM_CAPACITY
+    }
+
+    /// Returns whether more than 13 of 16 slots are taken.
+    ///
+    /// O(1). scc: `HashTable::try_enlarge`.
+    pub fn need_enlarge(capacity: usize, num_entries: usize) -> bool
+        ensures { IsTrue result ↔ IsTooFull capacity num_entries }
+    {
+        sizing::need_enlarge(capacity, num_entries)
+    }
+
+    /// Returns whether fewer than one of 8 slots is taken.
+    ///
+    /// O(1). scc: `HashTable::try_shrink`.
+    pub fn need_shrink(capacity: usize, num_entries: usize) -> bool
+        ensures { IsTrue result ↔ IsTooEmpty capacity num_entries }
+    {
+        sizing::need_shrink(capacity, num_entries)
+    }
+
+    /// Returns the capacity that fits a number of entries best, between a least and a greatest
+    /// capacity.
+    ///
+    /// O(log of the greatest capacity). scc: `HashTable::try_resize`.
+    pub fn optimal_capacity(
+        capacity: usize,
+        num_entries: usize,
+        minimum_capacity: usize,
+        maximum_capacity: usize,
+    ) -> usize
+        requires maximum { IsPowerIn 64 (2 ^ 63) maximum_capacity }
+        requires bounded { minimum_capacity ≤ maximum_capacity }
+        requires capacity { IsPowerIn 1 maximum_capacity capacity }
+        ensures { IsOptimalCapacity capacity num_entries minimum_capacity maximum_capacity result }
+    {
+        sizing::optimal_capacity(capacity, num_entries, minimum_capacity, maximum_capacity)
+    }
+
+    /// No work: a proof of generic code learns that a bucket takes fewer than 2^63 bytes, as each
+    /// slice's member, before it calls a method of one.
+    ///
+    /// O(1). Own.
+    pub fn room(&self)
+        ensures { BucketFits K.row V.row L.row TYPE.row
+            (record { KEEPS = L.KEEPS; listed = L.listed; IsTail = L.IsTail }) L.Default }
+    {
+        let _ = self.buckets.as_slice();
+    }
+}

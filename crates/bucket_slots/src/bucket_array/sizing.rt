@@ -1,0 +1,134 @@
+//! The length of an array, when it is too full or too empty, the best capacity, and how many
+//! buckets are looked at for an estimate: numbers from numbers.
+//!
+//! Ports the arithmetic of scc's `src/hash_table/bucket_array.rs`, and `HashTable`'s test whether
+//! and to what capacity it is resized.
+ghost use Rattle.std.specs.Prelude.{◌≡◌, ◌*◌, ◌/◌, ◌^◌, ◌<◌, ◌≤◌, ◌↔◌, IsTrue};
+ghost use Rattle.std.specs.Int.{IsPowerOfTwo};
+ghost use Rattle.bucket_slots.specs.Sampling.{IsLargeSample, IsSmallSample, full_sample};
+ghost use Rattle.bucket_slots.specs.Sizing.{
+  IsGrownCapacity,
+  IsLeastPowerOfTwo,
+  IsLength,
+  IsLengthFor,
+  IsOptimalCapacity,
+  IsPowerIn,
+  IsTooEmpty,
+  IsTooFull,
+};
+
+use crate::bucket::BUCKET_LEN;
+
+/// The least number of slots of an array: two buckets.
+pub(crate) const MINIMUM_CAPACITY: usize = 2 * BUCKET_LEN;
+
+/// The greatest number of slots of an array. A greater capacity is cut to it.
+const MAXIMUM_SLOTS: usize = 1 << 62;
+
+/// The greatest number of buckets that a full estimate looks at.
+const FULL_SAMPLE: usize = 128;
+
+/// Returns how many buckets a first estimate of the number of entries looks at.
+///
+/// `len` is the length of an array. Takes no memory. O(1). scc: `BucketArray::small_sample_size`.
+pub fn small_sample_size_of(len: usize) -> usize
+    requires { IsPowerIn 2 (2 ^ 58) len }
+    ensures { IsSmallSample len result }
+{
+    least_power_of_two(1 + large_sample_size_of(len).ilog2() as usize)
+}
+
+/// Returns how many buckets an accurate estimate of the number of entries looks at.
+///
+/// `len` is the length of an array. Takes no memory. O(1). scc: `BucketArray::large_sample_size`.
+pub fn large_sample_size_of(len: usize) -> usize
+    requires { IsPowerIn 2 (2 ^ 58) len }
+    ensures { IsLargeSample len result }
+{
+    least_power_of_two(len.ilog2() as usize)
+}
+
+/// Returns how many buckets an estimate for a resize looks at: all, or 128 where there are more.
+///
+/// `len` is the length of an array. Takes no memory. O(1). scc: `BucketArray::full_sample_size`.
+pub fn full_sample_size_of(len: usize) -> usize
+    requires { IsPowerIn 2 (2 ^ 58) len }
+    ensures { result ≡ full_sample len }
+{
+    len.min(FULL_SAMPLE)
+}
+
+/// Returns the length of an array for a capacity in slots.
+pub(crate) fn len_for(capacity: usize) -> usize
+    ensures value { IsLengthFor capacity result }
+    ensures length { IsLength result }
+{
+    let slots = least_power_of_two(capacity.min(MAXIMUM_SLOTS)).max(MINIMUM_CAPACITY);
+    slots / BUCKET_LEN
+}
+
+/// Whether the slots are too full for a number of entries.
+pub(crate) fn need_enlarge(capacity: usize, num_entries: usize) -> bool
+    ensures { IsTrue result ↔ IsTooFull capacity num_entries }
+{
+    num_entries > (capacity / 16) * 13
+}
+
+/// Whether the slots are too empty for a number of entries.
+pub(crate) fn need_shrink(capacity: usize, num_entries: usize) -> bool
+    ensures { IsTrue result ↔ IsTooEmpty capacity num_entries }
+{
+    num_entries < capacity / 8
+}
+
+/// Returns the capacity that fits a number of entries best.
+pub(crate) fn optimal_capacity(
+    capacity: usize,
+    num_entries: usize,
+    minimum_capacity: usize,
+    maximum_capacity: usize,
+) -> usize
+    requires maximum { IsPowerIn 64 (2 ^ 63) maximum_capacity }
+    requires bounded { minimum_capacity ≤ maximum_capacity }
+    requires capacity { IsPowerIn 1 maximum_capacity capacity }
+    ensures { IsOptimalCapacity capacity num_entries minimum_capacity maximum_capacity result }
+{
+    if capacity < minimum_capacity || need_enlarge(capacity, num_entries) {
+        grown_capacity(capacity, num_entries, minimum_capacity, maximum_capacity)
+    } else if need_shrink(capacity, num_entries) {
+        let wanted = (num_entries * 2).max(minimum_capacity);
+        least_power_of_two(wanted.max(MINIMUM_CAPACITY))
+    } else {
+        capacity
+    }
+}
+
+/// Returns the capacity that a growth aims at.
+fn grown_capacity(
+    capacity: usize,
+    num_entries: usize,
+    minimum_capacity: usize,
+    maximum_capacity: usize,
+) -> usize
+    requires maximum { IsPowerIn 64 (2 ^ 63) maximum_capacity }
+    requires bounded { minimum_capacity ≤ maximum_capacity }
+    requires capacity { IsPowerIn 1 maximum_capacity capacity }
+    ensures { IsGrownCapacity capacity num_entries minimum_capacity maximum_capacity result }
+{
+    let start = least_power_of_two(minimum_capacity)
+        .max(capacity)
+        .min(maximum_capacity);
+    let mut grown = start;
+    while grown / 2 < num_entries && grown < maximum_capacity {
+        grown *= 2;
+    }
+    grown
+}
+
+/// Returns the least power of two that is at least `n`.
+fn least_power_of_two(n: usize) -> usize
+    requires { n ≤ 2 ^ 63 }
+    ensures { IsLeastPowerOfTwo n result }
+{
+    n.next_power_of_two()
+}
