@@ -3,8 +3,7 @@
 //!
 //! Ports the arithmetic of scc's `src/hash_table/bucket_array.rs`, and `HashTable`'s test whether
 //! and to what capacity it is resized.
-ghost use Rattle.std.specs.Prelude.{◌≡◌, ◌*◌, ◌/◌, ◌^◌, ◌<◌, ◌≤◌, ◌↔◌, IsTrue};
-ghost use Rattle.std.specs.Int.{IsPowerOfTwo};
+ghost use Rattle.std.specs.Prelude.{◌≡◌, ◌^◌, ◌≤◌, ◌↔◌, IsTrue};
 ghost use Rattle.bucket_slots.specs.Sampling.{IsLargeSample, IsSmallSample, full_sample};
 ghost use Rattle.bucket_slots.specs.Sizing.{
   IsGrownCapacity,

@@ -1,4 +1,4 @@
-use Rattle.std.proofs.Common.{◌≡◌, ◌<◌, ◌+◌, ap, ◌∙◌, arith, length}
+use Rattle.std.proofs.Common.{◌<◌, ◌+◌, ap, ◌∙◌, arith, length}
 use Rattle.bucket_slots.specs.BucketView.{empty_bucket}
 use Rattle.bucket_table.specs.Sampling.{live_len}
 use Rattle.bucket_table.proofs.SampleSums.{sum_by-sample_more}
