@@ -1,0 +1,7 @@
+#!/usr/bin/env bash
+# Prints what an array of 2^20 slots costs to make, beside as much memory filled with zeros. It
+# asserts nothing.
+set -eu
+root=$(dirname -- "$(dirname -- "$(readlink -f -- "${BASH_SOURCE[0]}")")")
+cd "$root/crates/table_bench"
+rt run -- times 2>/dev/null
