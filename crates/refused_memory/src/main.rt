@@ -1,13 +1,15 @@
-//! Scripts on tables and calls on buckets, for runs in which a request for memory is refused.
+//! Scripts on tables, calls on buckets and new arrays, for runs in which a request for memory is refused.
 //!
 //! The program judges its own outcome, and prints it in one line. A right outcome with a request
 //! refused has a status of its own, so that of two runs with status 0 both printed `done`, unless
 //! one of them was wrong: a trial that refuses one request after another reports such a run.
 #![tactic(auto)]
 
+mod arrays;
 mod buckets;
 mod outcome;
 
+use crate::arrays::arrays;
 use crate::buckets::two_buckets;
 use crate::outcome::Outcome;
 use bucket_slots::bucket::{AllocError, MAP};
@@ -64,6 +66,10 @@ fn all_parts(alloc: Global) -> Outcome {
         outcome => return outcome,
     }
     match two_buckets(alloc) {
+        Outcome::Done => {}
+        outcome => return outcome,
+    }
+    match arrays(alloc) {
         Outcome::Done => overflowing_script(alloc),
         outcome => outcome,
     }
