@@ -1,5 +1,5 @@
 //! Touch and evict on a full bucket, beside the cache of the crate `lru` with room for 32 pairs.
-use crate::scripts::{Cache, cache_cost};
+use crate::scripts::{Cache, script_cost};
 use crate::times::{elapsed_per, refused};
 use bucket_table::hash_table::HashTable;
 use bucket_table::script::{Call, ScriptHash};
@@ -26,7 +26,7 @@ pub(crate) fn bucket_costs(clock: &impl Clock, alloc: Global) -> io::Result<Cost
     for key in 0..32 {
         puts.push(Call::Put(key, key))?;
     }
-    let _ = cache_cost(clock, alloc, &mut table, puts)?;
+    let _ = script_cost(clock, alloc, &mut table, puts)?;
     let mut touches = Vec::new(alloc);
     for call in 0..CALLS {
         touches.push(Call::Touch(call.wrapping_mul(7) % 32))?;
@@ -37,8 +37,8 @@ pub(crate) fn bucket_costs(clock: &impl Clock, alloc: Global) -> io::Result<Cost
         evictions.push(Call::Put(call.wrapping_add(32), call))?;
     }
     Ok(Costs {
-        touch: cache_cost(clock, alloc, &mut table, touches)?,
-        evict: cache_cost(clock, alloc, &mut table, evictions)?,
+        touch: script_cost(clock, alloc, &mut table, touches)?,
+        evict: script_cost(clock, alloc, &mut table, evictions)?,
     })
 }
 

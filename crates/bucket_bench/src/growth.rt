@@ -1,6 +1,6 @@
 //! Put, peek and remove on a bucket of so many pairs of one hash, beside a vector of pairs that is
 //! searched from the front.
-use crate::scripts::{Table, map_cost};
+use crate::scripts::{Table, script_cost};
 use crate::times::{Costs, elapsed_per};
 use bucket_table::hash_table::HashTable;
 use bucket_table::script::{Call, ScriptHash};
@@ -23,9 +23,9 @@ pub(crate) fn bucket_costs(clock: &impl Clock, alloc: Global, pairs: u64) -> io:
         removals.push(Call::Remove(key))?;
     }
     Ok(Costs {
-        put: map_cost(clock, alloc, &mut table, puts)?,
-        peek: map_cost(clock, alloc, &mut table, peeks)?,
-        remove: map_cost(clock, alloc, &mut table, removals)?,
+        put: script_cost(clock, alloc, &mut table, puts)?,
+        peek: script_cost(clock, alloc, &mut table, peeks)?,
+        remove: script_cost(clock, alloc, &mut table, removals)?,
     })
 }
 

@@ -1,7 +1,9 @@
 //! Scripts that are timed.
+ghost use Rattle.std.specs.Prelude.{◌≢◌};
+
 use crate::times::{elapsed_per, refused};
-use bucket_slots::bucket::{CACHE, MAP};
-use bucket_slots::lru::DoublyLinkedList;
+use bucket_slots::bucket::{CACHE, INDEX, MAP};
+use bucket_slots::lru::{DoublyLinkedList, LruList};
 use bucket_table::hash_table::HashTable;
 use bucket_table::script::{Call, Reply, ScriptHash, run};
 use std::alloc::Global;
@@ -14,31 +16,16 @@ pub(crate) type Table = HashTable<u64, u64, ScriptHash, (), MAP>;
 /// A cache of numbers.
 pub(crate) type Cache = HashTable<u64, u64, ScriptHash, DoublyLinkedList, CACHE>;
 
-/// Does the calls on a map, and returns what each cost. A reply of absence is an error, so that no
-/// time is that of a call that did nothing.
-pub(crate) fn map_cost(
+/// Does the calls, and returns what each cost. A reply of absence is an error, so that no time is
+/// that of a call that did nothing.
+pub(crate) fn script_cost<L: LruList + Drop, const TYPE: u8>(
     clock: &impl Clock,
     alloc: Global,
-    table: &mut Table,
+    table: &mut HashTable<u64, u64, ScriptHash, L, TYPE>,
     calls: Vec<Call<u64, u64>>,
-) -> io::Result<u128> {
-    let count = calls.len();
-    let start = Instant::now(clock)?;
-    let Ok(replies) = run(alloc, table, calls, &()) else {
-        return Err(refused());
-    };
-    let cost = elapsed_per(clock, start, count)?;
-    check_replies(&replies)?;
-    Ok(cost)
-}
-
-/// The same of a cache.
-pub(crate) fn cache_cost(
-    clock: &impl Clock,
-    alloc: Global,
-    table: &mut Cache,
-    calls: Vec<Call<u64, u64>>,
-) -> io::Result<u128> {
+) -> io::Result<u128>
+    requires { TYPE ≢ INDEX }
+{
     let count = calls.len();
     let start = Instant::now(clock)?;
     let Ok(replies) = run(alloc, table, calls, &()) else {
