@@ -5,10 +5,12 @@
 //! with the low byte of its key's hash), and `IsCapacityRange` of the two capacities.
 //!
 //! Ports the trait `HashTable` of scc's `src/hash_table.rs`, as a struct that owns its parts.
-ghost use Rattle.std.specs.Prelude.{◌≡◌, ◌≢◌, ◌≤◌, ◌↔◌, [], Some, IsTrue, IfNone, IfSome, IfErr, OnOk, OnErr, length};
+ghost use Rattle.std.specs.Prelude.{◌≡◌, ◌≢◌, ◌≤◌, ◌↔◌, [], None, Some, IsNone, IsTrue, Contains, IfNone, IfSome, IfErr, OnOk, OnErr, OnSome, length};
 ghost use Rattle.std.specs.Int.{IsPowerOfTwo};
-ghost use Rattle.bucket_slots.specs.BucketView.{slot_in};
-ghost use Rattle.bucket_slots.specs.Slots.{is_live, live_pair};
+ghost use Rattle.bucket_slots.specs.BucketView.{first_place, slot_in};
+ghost use Rattle.bucket_slots.specs.Clearing.{slots_for_insertion};
+ghost use Rattle.bucket_slots.specs.Evicting.{slots_evicted, slots_touched};
+ghost use Rattle.bucket_slots.specs.Slots.{free, is_free, is_live, live_pair};
 ghost use Rattle.bucket_table.specs.MapState.{AddsPair, ChangesValue, IsAbsent, IsThere, KeepsPairs, TakesPair};
 ghost use Rattle.bucket_table.specs.OneMap.{IsOneMap, pairs_of, state_of};
 
@@ -144,6 +146,9 @@ impl<K: Eq + Drop, V: Drop, H: KeyHash<K> + Drop, L: LruList + Drop, const TYPE:
         ensures hasher { self.new.hasher ≡ self.old.hasher }
         ensures pair_returned { IfErr result (λ back. back ≡ pair) }
         ensures unchanged { OnErr result (self.new ≡ self.old) }
+        ensures no_free_slot { OnErr result
+            (first_place is_free
+            (slots_for_insertion TYPE (G.keeps generation.now) self.old.bucket) ≡ None) }
     {
         self.bucket.insert(hash, pair, generation)
     }
@@ -175,6 +180,7 @@ impl<K: Eq + Drop, V: Drop, H: KeyHash<K> + Drop, L: LruList + Drop, const TYPE:
         requires cache { TYPE ≡ CACHE }
         requires live_slot { IsTrue (is_live (slot_in self.old.bucket at.now)) }
         ensures map { KeepsPairs (state_of TYPE self.old) (state_of TYPE self.new) }
+        ensures bucket { self.new.bucket ≡ slots_touched L.KEEPS self.old.bucket at.now }
         ensures hasher { self.new.hasher ≡ self.old.hasher }
     {
         self.bucket.update_lru_tail(at);
@@ -185,6 +191,8 @@ impl<K: Eq + Drop, V: Drop, H: KeyHash<K> + Drop, L: LruList + Drop, const TYPE:
         requires cache { TYPE ≡ CACHE }
         ensures map { IfSome result
             (λ pair. TakesPair (state_of TYPE self.old) pair (state_of TYPE self.new)) }
+        ensures bucket { OnSome result (self.new.bucket ≡ slots_evicted self.old.bucket) }
+        ensures none { IsNone result ↔ Contains self.old.bucket.own free }
         ensures unchanged { IfNone result (self.new ≡ self.old) }
         ensures hasher { self.new.hasher ≡ self.old.hasher }
     {
