@@ -1,9 +1,9 @@
--- A removal leaves what is ahead of its pointer.
+-- A removal, and a slot that changes, leave what is ahead of the pointer there.
 use Rattle.std.proofs.Common.{ℕ, ◌+◌, ◌<◌, ◌≤◌, ◌≡◌, Bool, true, false, nat_lt, List, [], ◌∷◌, ◌++◌, length, get_or, set, drop, refl, sym, ap, ◌∙◌, arith, suc, zero}
 use Rattle.std.specs.List.{remove}
 use Rattle.std.proofs.lemmas.Bool.{and_parts}
 use Rattle.std.proofs.lemmas.Bool.Decides.{nat_tests}
-use Rattle.bucket_slots.specs.BucketView.{BucketView, Place, block_at, flattened, rows_with, slot_in}
+use Rattle.bucket_slots.specs.BucketView.{BucketView, Place, block_at, flattened, rows_with, slot_in, with_slot, with_slot_at}
 use Rattle.bucket_slots.specs.Layout.BucketFields.{IsChain}
 use Rattle.bucket_slots.specs.Recency.{order_without}
 use Rattle.bucket_slots.specs.Removing.{place_after, place_after_at, place_in_chain_after, rows_without, slots_without, slots_without_at}
@@ -46,25 +46,25 @@ module _ {K V : Type 0} where
 
   module _ (s : BucketView K V) (own : length s.own ≡ 32) (chain : IsChain s.chain) where
     -- of an own slot
-    ahead-own : (listed : List ℕ) (pos : ℕ) → pos < 32
-        → pairs_ahead (record s { own = set s.own pos free; listed = listed }) (record { block = 0; pos = pos })
+    ahead-own : (listed : List ℕ) (pos : ℕ) (x : Slot K V) → pos < 32
+        → pairs_ahead (record s { own = set s.own pos x; listed = listed }) (record { block = 0; pos = pos })
         ≡ pairs_ahead s (record { block = 0; pos = pos })
-    ahead-own listed pos few =
-        let same = drop-set-lt (pos + 1) s.own pos free (omega arith) in
-        pairs_ahead-inside (record s { own = set s.own pos free; listed = listed }) 0 pos few
+    ahead-own listed pos x few =
+        let same = drop-set-lt (pos + 1) s.own pos x (omega arith) in
+        pairs_ahead-inside (record s { own = set s.own pos x; listed = listed }) 0 pos few
         ∙ ap (λ l. live_pairs (l ++ flattened s.chain)) same ∙ sym (pairs_ahead-inside s 0 pos few)
 
     -- of a slot of a block that stays
-    ahead-stays : (i pos : ℕ) → i < length s.chain → pos < 4
-        → pairs_ahead (record s { chain = rows_with s.chain i pos free }) (record { block = suc i; pos = pos })
+    ahead-stays : (i pos : ℕ) (x : Slot K V) → i < length s.chain → pos < 4
+        → pairs_ahead (record s { chain = rows_with s.chain i pos x }) (record { block = suc i; pos = pos })
         ≡ pairs_ahead s (record { block = suc i; pos = pos })
-    ahead-stays i pos within few =
+    ahead-stays i pos x within few =
         let row = get_or s.chain i [] in
-        let changed = get_or-set_same s.chain i (set row pos free) [] within in
-        let same = ap (drop (pos + 1)) changed ∙ drop-set-lt (pos + 1) row pos free (omega arith) in
-        let rest = drop-set-lt (suc i) s.chain i (set row pos free) (omega arith) in
-        pairs_ahead-inside (record s { chain = rows_with s.chain i pos free }) (suc i) pos (omega arith)
-        ∙ ap (λ l. live_pairs (l ++ flattened (drop (suc i) (rows_with s.chain i pos free)))) same
+        let changed = get_or-set_same s.chain i (set row pos x) [] within in
+        let same = ap (drop (pos + 1)) changed ∙ drop-set-lt (pos + 1) row pos x (omega arith) in
+        let rest = drop-set-lt (suc i) s.chain i (set row pos x) (omega arith) in
+        pairs_ahead-inside (record s { chain = rows_with s.chain i pos x }) (suc i) pos (omega arith)
+        ∙ ap (λ l. live_pairs (l ++ flattened (drop (suc i) (rows_with s.chain i pos x)))) same
         ∙ ap (λ rows. live_pairs (drop (pos + 1) row ++ flattened rows)) rest
         ∙ sym (pairs_ahead-inside s (suc i) pos (omega arith))
 
@@ -102,7 +102,7 @@ module _ {K V : Type 0} where
         ≡ pairs_ahead s (record { block = suc i; pos = pos })
     ahead-chain i pos false more e m within few =
         let number : i + 1 ≡ suc i = omega arith in
-        rw (e, number) (ahead-stays i pos within few)
+        rw (e, number) (ahead-stays i pos free within few)
     ahead-chain i pos true true e m within few =
         let number : i + 1 ≡ suc i = omega arith in
         rw (e, m, number) (ahead-next i ∙ sym (ahead-emptied i pos few e))
@@ -112,7 +112,7 @@ module _ {K V : Type 0} where
 
     ahead_at : (block pos : ℕ) → is_free (slot_at (block_at s block) pos) ≡ false
         → pairs_ahead (slots_without_at s block pos) (place_after_at s block pos) ≡ pairs_ahead s (record { block = block; pos = pos })
-    ahead_at zero pos occupied = ahead-own (order_without s.listed pos) pos (omega (arith, inside_row s.own pos occupied))
+    ahead_at zero pos occupied = ahead-own (order_without s.listed pos) pos free (omega (arith, inside_row s.own pos occupied))
     ahead_at (suc i) pos occupied =
         let within = row_there s.chain i pos occupied in
         let short = inside_row (get_or s.chain i []) pos occupied in
@@ -125,4 +125,20 @@ module _ {K V : Type 0} where
   pairs_ahead-slots_without s t new at moved is own chain alive new_is moved_is =
       let occupied : is_free (slot_in s at) ≡ false = ap (λ x. is_free (slot_in x at)) is ∙ (live_occupied (slot_in t at) alive).0 in
       let kept = ahead_at s own chain at.block at.pos occupied in
+      rw (new_is, moved_is, ← is) kept
+
+  ahead_with : (s : BucketView K V) → length s.own ≡ 32 → IsChain s.chain → (block pos : ℕ) (x : Slot K V) → is_free (slot_at (block_at s block) pos) ≡ false
+      → pairs_ahead (with_slot_at s block pos x) (record { block = block; pos = pos }) ≡ pairs_ahead s (record { block = block; pos = pos })
+  ahead_with s own chain zero pos x occupied = ahead-own s own chain s.listed pos x (omega (arith, own, inside_row s.own pos occupied))
+  ahead_with s own chain (suc i) pos x occupied =
+      let within = row_there s.chain i pos occupied in
+      let short = inside_row (get_or s.chain i []) pos occupied in
+      ahead-stays s own chain i pos x within (omega (arith, chain.long i within))
+
+  -- the same of a live slot that is changed; new and moved are what is left of the bucket and of the pointer
+  pub pairs_ahead-with_slot : (s t new : BucketView K V) (at moved : Place) (x : Slot K V) → s ≡ t → length s.own ≡ 32 → IsChain s.chain
+      → is_live (slot_in t at) ≡ true → new ≡ with_slot t at x → moved ≡ at → pairs_ahead new moved ≡ pairs_ahead t at
+  pairs_ahead-with_slot s t new at moved x is own chain alive new_is moved_is =
+      let occupied : is_free (slot_in s at) ≡ false = ap (λ y. is_free (slot_in y at)) is ∙ (live_occupied (slot_in t at) alive).0 in
+      let kept = ahead_with s own chain at.block at.pos x occupied in
       rw (new_is, moved_is, ← is) kept

@@ -32,7 +32,7 @@ module _ {K V : Type 0} where
   map-entries_in s = map-live_entries (all_slots s)
 
   -- another slot at a place exchanges ys for xs, where it does so in its row
-  with_slot_exchanges : (xs ys : List ((K × V) × ℕ)) (s : BucketView K V) (b pos : ℕ) (x : Slot K V) → b < length (s.own ∷ s.chain) → IsPermutation (xs ++ live_entries (block_at s b)) (ys ++ live_entries (set (block_at s b) pos x))
+  pub with_slot_exchanges : (xs ys : List ((K × V) × ℕ)) (s : BucketView K V) (b pos : ℕ) (x : Slot K V) → b < length (s.own ∷ s.chain) → IsPermutation (xs ++ live_entries (block_at s b)) (ys ++ live_entries (set (block_at s b) pos x))
       → IsPermutation (xs ++ entries_in s) (ys ++ entries_in (with_slot_at s b pos x))
   with_slot_exchanges xs ys s zero pos x h moved = exchanged xs ys (s.own ∷ s.chain) zero (set s.own pos x) h moved
   with_slot_exchanges xs ys s (suc i) pos x h moved = exchanged xs ys (s.own ∷ s.chain) (suc i) (set (get_or s.chain i []) pos x) h moved
@@ -41,7 +41,7 @@ module _ {K V : Type 0} where
   entries_made s None = live_entries-append s.own (free_block ++ flattened s.chain) ∙ sym (live_entries-append s.own (flattened s.chain))
   entries_made s (Some p) = refl
 
-  there : (s : BucketView K V) (b pos : ℕ) → pos < length (block_at s b) → b < length (s.own ∷ s.chain)
+  pub there : (s : BucketView K V) (b pos : ℕ) → pos < length (block_at s b) → b < length (s.own ∷ s.chain)
   there s zero pos h = omega arith
   there s (suc i) pos h = let within = linked_row s.chain i pos h in omega arith
 
@@ -57,7 +57,7 @@ module _ {K V : Type 0} where
   pub slots_after_insertion-unmarked : (kind : ℕ) (keeps : ℕ → Bool) (s : BucketView K V) (p : K × V) (b : ℕ) → (kind ≡ INDEX → ⊥) → slots_after_insertion kind keeps s p b ≡ slots_with s p b
   slots_after_insertion-unmarked kind keeps s p b other = let e = no_marks_looked_at kind s other in rw e refl
 
-  live_is : (x : Slot K V) (p : K × V) → live_pair x ≡ Some p → (b : ℕ) × (x ≡ live p b)
+  pub live_is : (x : Slot K V) (p : K × V) → live_pair x ≡ Some p → (b : ℕ) × (x ≡ live p b)
   live_is free p e = absurd cc
   live_is (live q b) p e = let same : q ≡ p = cc in (b, ap (λ r. live r b) same)
   live_is (marked q b) p e = absurd cc
@@ -71,7 +71,7 @@ module _ {K V : Type 0} where
   linked_taken s i pos p b false within e here =
       rw (rows_without-full s.chain i pos e) (with_slot_exchanges [] ((p, b) ∷ []) s (suc i) pos free (omega arith) (live_entries-take (get_or s.chain i []) pos p b here))
 
-  not_free : (x : Slot K V) (p : K × V) (b : ℕ) → x ≡ live p b → is_free x ≡ false
+  pub not_free : (x : Slot K V) (p : K × V) (b : ℕ) → x ≡ live p b → is_free x ≡ false
   not_free x p b e = ap is_free e
 
   taken : (s : BucketView K V) (block pos : ℕ) (p : K × V) (b : ℕ) → slot_at (block_at s block) pos ≡ live p b → IsPermutation (entries_in s) ((p, b) ∷ entries_in (slots_without_at s block pos))

@@ -3,7 +3,7 @@ use Rattle.std.proofs.Common.{ℕ, ◌+◌, ◌<◌, ◌≤◌, ◌≡◌, ◌^�
 use Rattle.std.specs.List.{remove}
 use Rattle.std.proofs.lemmas.Bool.{cases_eq, cases_lt, lt-ltb}
 use Rattle.std.proofs.lemmas.Bool.Decides.{nat_tests}
-use Rattle.std.proofs.lemmas.List.{get_or-set_same, get_or-set_other, length-set, length-take, length-drop, length-append, take-set, drop-set-lt}
+use Rattle.std.proofs.lemmas.List.{get_or-set_same, get_or-set_other, get_or-take, length-set, length-take, length-drop, length-append, take-set, drop-set-lt}
 use Rattle.std.proofs.lemmas.Grind.{common_steps}
 use Rattle.std.proofs.lemmas.List.Edits.{get_or-remove_below, get_or-remove_above}
 use Rattle.bucket_slots.specs.BucketView.{rows_with}
@@ -21,6 +21,14 @@ module _ {K V : Type 0} where
           | inr other ↦ rw (get_or-set_other rows i j r [] other) (s.long j within)
         ];
     few = simp length-set s.few;
+  }
+
+  pub IsChain-take : (rows : List (List (Slot K V))) (n : ℕ) → IsChain rows → IsChain (take n rows)
+  IsChain-take rows n s = record {
+    long = λ j below.
+        let short = length-take n rows in
+        rw (get_or-take n rows j [] (omega arith)) (s.long j (omega arith));
+    few = omega (arith, length-take n rows, s.few);
   }
 
   pub length-remove : (rows : List (List (Slot K V))) (i : ℕ) → i < length rows → length (remove rows i) + 1 ≡ length rows

@@ -10,6 +10,8 @@ pub mod RowSlots
 pub mod RowFields
 pub mod RowValues
 pub mod RowSearch
+pub mod RowMarks
+pub mod Expiring
 pub mod Counting
 pub mod FreeCounting
 pub mod MarkCounting
@@ -26,7 +28,10 @@ pub mod BucketRecency
 pub mod BucketValues
 pub mod AheadAfterRemoval
 pub mod Entries
+pub mod FreeEnds
+pub mod BucketMarks
 pub mod CallerLemmas
+pub mod MarkCallerLemmas
 pub mod PowersOfTwo
 pub mod Intervals
 pub mod Doublings

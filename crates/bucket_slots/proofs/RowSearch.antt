@@ -37,7 +37,7 @@ key_passes test (Some k) = test k.now
 
 module _ {K V : Type 0} where
   -- a place at which a test passes that Free does not pass
-  inside : (p : Slot K V → Bool) (slots : List (Slot K V)) (i : ℕ) → p free ≡ false → p (slot_at slots i) ≡ true → i < length slots
+  pub inside : (p : Slot K V → Bool) (slots : List (Slot K V)) (i : ℕ) → p free ≡ false → p (slot_at slots i) ≡ true → i < length slots
   inside p slots i vacant passes = elim (cases_lt i (length slots)) [
     | inl below ↦ below
     | inr past ↦ let e : p (slot_at slots i) ≡ false = rw (get_or_past slots i free past) vacant in absurd cc

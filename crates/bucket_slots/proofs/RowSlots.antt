@@ -5,6 +5,7 @@ use Rattle.std.proofs.lemmas.List.{ext_get_or, length-set, length-map, get_or-se
 use Rattle.std.proofs.lemmas.Simd.{length-replicate}
 use Rattle.std.proofs.lemmas.Bool.{cases_eq}
 use Rattle.std.proofs.lemmas.List.FromFn.{get_or-map-range_with_len, length-map-range_with_len}
+use Rattle.bucket_slots.specs.Layout.Bitmaps.{ClearsBit}
 use Rattle.bucket_slots.specs.Layout.Blocks.{row_slots, slot_of}
 use Rattle.bucket_slots.specs.Slots.{Slot, byte_of, free, is_free, is_live, live, live_pair, pair_of, places_of, slot_at}
 
@@ -60,14 +61,15 @@ module _ {K V : Type 0} where
   live_place places bytes marks i h alive =
       rw (slot_at-row_slots places bytes marks i h) (live_of (get_or places i None) (get_or bytes i 0) (bit_at marks i) (rw (slot_at-row_slots places bytes marks i h) at alive))
 
-  pub row_slots-take : (places : List (Option (K × V))) (bytes : List ℕ) (marks pos : ℕ) → pos < length places → row_slots (set places pos None) bytes marks ≡ set (row_slots places bytes marks) pos free
-  row_slots-take places bytes marks pos h =
-      let long_after : length (row_slots (set places pos None) bytes marks) ≡ length (set (row_slots places bytes marks) pos free) =
+  pub row_slots-take : (places : List (Option (K × V))) (bytes : List ℕ) (marks pos after : ℕ) → pos < length places → ClearsBit marks pos after
+      → row_slots (set places pos None) bytes after ≡ set (row_slots places bytes marks) pos free
+  row_slots-take places bytes marks pos after h m =
+      let long_after : length (row_slots (set places pos None) bytes after) ≡ length (set (row_slots places bytes marks) pos free) =
       simp (length-row_slots, length-set) in
-      ext_get_or free (row_slots (set places pos None) bytes marks) (set (row_slots places bytes marks) pos free) long_after (λ i below.
+      ext_get_or free (row_slots (set places pos None) bytes after) (set (row_slots places bytes marks) pos free) long_after (λ i below.
       let within : i < length places = simp (length-row_slots, length-set) at below in
       let within_after : i < length (set places pos None) = simp length-set within in
-      let left = slot_at-row_slots (set places pos None) bytes marks i within_after in
+      let left = slot_at-row_slots (set places pos None) bytes after i within_after in
       elim (cases_eq i pos) [
         | inl same ↦
             let e₁ = get_or-set_same places i None None within in
@@ -76,7 +78,7 @@ module _ {K V : Type 0} where
         | inr other ↦
             let o₁ = get_or-set_other places pos i None None other in
             let o₃ = get_or-set_other (row_slots places bytes marks) pos i free free other in
-            rw left (rw (o₁, o₃, slot_at-row_slots places bytes marks i within))
+            rw left (rw (o₁, m.others i other, o₃, slot_at-row_slots places bytes marks i within))
       ])
 
   pub row_slots-new : (len : ℕ) → row_slots (replicate {A = Option (K × V)} len None) (replicate len 0) 0 ≡ replicate len free

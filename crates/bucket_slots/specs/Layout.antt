@@ -5,6 +5,7 @@ pub mod Blocks
 pub mod BucketFields
 pub mod ChainLoans
 pub mod Elements
+pub mod Expiring
 pub mod Masks
 pub mod Room
 pub mod RowLoans

@@ -7,6 +7,7 @@ pub mod Slots
 pub mod BucketView
 pub mod Placing
 pub mod Clearing
+pub mod Marking
 pub mod Removing
 pub mod Reserving
 pub mod Moving

@@ -15,6 +15,7 @@ mod chain;
 mod entry;
 mod entry_ptr;
 mod insert;
+mod marks;
 mod recency;
 mod remove;
 pub(crate) mod room;

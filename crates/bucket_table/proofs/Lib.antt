@@ -1,3 +1,4 @@
 pub mod OneMapSteps
+pub mod LookUps
 pub mod RunSteps
 pub mod SampleSums

@@ -6,4 +6,5 @@ pub mod OneMap
 pub mod Calls
 pub mod Runs
 pub mod Hashes
+pub mod Taking
 pub mod HashLaws

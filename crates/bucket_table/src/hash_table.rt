@@ -13,6 +13,7 @@ ghost use Rattle.bucket_slots.specs.Evicting.{slots_evicted, slots_touched};
 ghost use Rattle.bucket_slots.specs.Slots.{free, is_free, is_live, live_pair};
 ghost use Rattle.bucket_table.specs.MapState.{AddsPair, ChangesValue, IsAbsent, IsThere, KeepsPairs, TakesPair};
 ghost use Rattle.bucket_table.specs.OneMap.{IsOneMap, pairs_of, state_of};
+ghost use Rattle.bucket_table.specs.Taking.{slots_after_taking};
 
 mod capacity;
 mod sampling;
@@ -139,7 +140,6 @@ impl<K: Eq + Drop, V: Drop, H: KeyHash<K> + Drop, L: LruList + Drop, const TYPE:
         pair: (K, V),
         generation: &G,
     ) -> Result<EntryPtr<K, V, TYPE>, (K, V)>
-        requires not_index { TYPE ≢ INDEX }
         requires own_hash { hash ≡ H.hash_of self.old.hasher pair.0 }
         requires key_absent { IsAbsent K.eq pair.0 (pairs_of self.old) }
         ensures map { OnOk result (AddsPair (state_of TYPE self.old) pair (state_of TYPE self.new)) }
@@ -153,15 +153,29 @@ impl<K: Eq + Drop, V: Drop, H: KeyHash<K> + Drop, L: LruList + Drop, const TYPE:
         self.bucket.insert(hash, pair, generation)
     }
 
-    /// Takes out the pair at a live slot and returns it.
-    pub(crate) fn remove(&mut self, at: &mut EntryPtr<K, V, TYPE>) -> (K, V)
-        requires not_index { TYPE ≢ INDEX }
+    /// Takes the pair at a live slot out of the map and returns it. An index keeps it in its slot,
+    /// marked with the epoch of now.
+    pub(crate) fn remove<G: Generation>(
+        &mut self,
+        at: &mut EntryPtr<K, V, TYPE>,
+        generation: &G,
+    ) -> (K, V)
+    where
+        K: Copy,
+        V: Copy,
         requires live_slot { IsTrue (is_live (slot_in self.old.bucket at.old)) }
         ensures pair { live_pair (slot_in self.old.bucket at.old) ≡ Some result }
         ensures map { TakesPair (state_of TYPE self.old) result (state_of TYPE self.new) }
+        ensures bucket { self.new.bucket
+            ≡ slots_after_taking TYPE self.old.bucket at.old (G.epoch_of generation.now) }
         ensures hasher { self.new.hasher ≡ self.old.hasher }
     {
-        self.bucket.remove(at)
+        if TYPE != INDEX {
+            return self.bucket.remove(at);
+        }
+        let pair = (*at.key(&self.bucket), *at.val(&self.bucket));
+        self.bucket.mark_removed(at, generation);
+        pair
     }
 
     /// Writes the value at a live slot and returns the earlier one.

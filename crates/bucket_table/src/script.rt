@@ -4,20 +4,22 @@
 //! nothing of buckets. `run` is the headline's call.
 //!
 //! Own.
-ghost use Rattle.std.specs.Prelude.{◌≡◌, ◌≢◌, IfOk, OnErr};
+ghost use Rattle.std.specs.Prelude.{◌≡◌, IfOk, OnErr};
 ghost use Rattle.bucket_table.specs.Calls.{Step};
 ghost use Rattle.bucket_table.specs.OneMap.{IsOneMap, state_of};
 ghost use Rattle.bucket_table.specs.Runs.{Run};
 
 mod call;
+mod generation;
 mod hashes;
 mod reply;
 
 use crate::hash_table::HashTable;
 use crate::key_hash::KeyHash;
-use bucket_slots::bucket::{AllocError, CACHE, Generation, INDEX};
+use bucket_slots::bucket::{AllocError, CACHE, Generation};
 use bucket_slots::lru::LruList;
 pub use call::Call;
+pub use generation::FixedGeneration;
 pub use hashes::ScriptHash;
 pub use reply::Reply;
 use std::alloc::Global;
@@ -44,7 +46,6 @@ pub fn run<
     calls: Vec<Call<K, V>>,
     generation: &G,
 ) -> Result<Vec<Reply<K, V>>, AllocError>
-    requires not_index { TYPE ≢ INDEX }
     ensures run { IfOk result (λ replies.
         Run K.eq (state_of TYPE table.old) calls.items replies.items (state_of TYPE table.new)) }
     ensures hasher { table.new.hasher ≡ table.old.hasher }
@@ -75,7 +76,6 @@ fn step<
     G: Generation,
     const TYPE: u8,
 >(table: &mut HashTable<K, V, H, L, TYPE>, call: &Call<K, V>, generation: &G) -> Reply<K, V>
-    requires not_index { TYPE ≢ INDEX }
     ensures step { Step K.eq (state_of TYPE table.old) call.now result (state_of TYPE table.new) }
     ensures hasher { table.new.hasher ≡ table.old.hasher }
 {
@@ -83,7 +83,7 @@ fn step<
         Call::Put(key, value) => put(table, key, value, generation),
         Call::Write(key, value) => write(table, key, value),
         Call::Read(key) | Call::Peek(key) => peek(table, key),
-        Call::Remove(key) => remove(table, key),
+        Call::Remove(key) => remove(table, key, generation),
         Call::Touch(key) => touch(table, key),
         Call::Evict(_) => evict(table),
         Call::Count => Reply::Number(table.len()),
@@ -100,7 +100,6 @@ fn put<
     G: Generation,
     const TYPE: u8,
 >(table: &mut HashTable<K, V, H, L, TYPE>, key: K, value: V, generation: &G) -> Reply<K, V>
-    requires not_index { TYPE ≢ INDEX }
     ensures step { Step K.eq (state_of TYPE table.old) (Call.Put key value) result (state_of TYPE table.new) }
     ensures hasher { table.new.hasher ≡ table.old.hasher }
 {
@@ -129,11 +128,14 @@ fn peek<K: Eq + Copy, V: Copy, H: KeyHash<K> + Drop, L: LruList + Drop, const TY
 }
 
 /// Takes a pair out.
-fn remove<K: Eq + Copy, V: Copy, H: KeyHash<K> + Drop, L: LruList + Drop, const TYPE: u8>(
-    table: &mut HashTable<K, V, H, L, TYPE>,
-    key: K,
-) -> Reply<K, V>
-    requires not_index { TYPE ≢ INDEX }
+fn remove<
+    K: Eq + Copy,
+    V: Copy,
+    H: KeyHash<K> + Drop,
+    L: LruList + Drop,
+    G: Generation,
+    const TYPE: u8,
+>(table: &mut HashTable<K, V, H, L, TYPE>, key: K, generation: &G) -> Reply<K, V>
     ensures step { Step K.eq (state_of TYPE table.old) (Call.Remove key) result (state_of TYPE table.new) }
     ensures hasher { table.new.hasher ≡ table.old.hasher }
 {
@@ -142,7 +144,7 @@ fn remove<K: Eq + Copy, V: Copy, H: KeyHash<K> + Drop, L: LruList + Drop, const 
     if !at.is_valid() {
         return Reply::Absent;
     }
-    let (found, value) = table.remove(&mut at);
+    let (found, value) = table.remove(&mut at, generation);
     Reply::Pair(found, value)
 }
 

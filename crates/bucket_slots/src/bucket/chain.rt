@@ -5,13 +5,16 @@
 //!
 //! Ports `LinkedBucket` of scc's `src/hash_table/bucket.rs`, where each block owns the next; here
 //! the blocks stand in one vector, in the chain's order.
-ghost use Rattle.std.specs.Prelude.{◌≡◌, ℕ, ◌+◌, ◌<◌, ◌∷◌, ◌++◌, [], Some, drop, length, IsTrue, false, OnOk, OnErr, replicate, vec_len};
+ghost use Rattle.std.specs.Prelude.{◌≡◌, ℕ, ◌+◌, ◌<◌, ◌↔◌, ◌∷◌, ◌++◌, [], Some, drop, length, IsTrue, false, true, map, OnOk, OnErr, replicate, slice_set, vec_len};
 ghost use Rattle.std.specs.Borrow.{sem};
 ghost use Rattle.bucket_slots.specs.BucketView.{first_from, flattened, row_at, rows_with};
+ghost use Rattle.bucket_slots.specs.Clearing.{rows_without_free_end, slot_without_expired};
 ghost use Rattle.bucket_slots.specs.Layout.BlockLoans.{LendsEntryIn};
 ghost use Rattle.bucket_slots.specs.Layout.BucketFields.{IsChain};
+ghost use Rattle.bucket_slots.specs.Layout.Expiring.{EndsFree};
 ghost use Rattle.bucket_slots.specs.Layout.Room.{BlockFits};
 ghost use Rattle.bucket_slots.specs.Layout.Walks.{next_from, next_in};
+ghost use Rattle.bucket_slots.specs.Marking.{slot_marked};
 ghost use Rattle.bucket_slots.specs.Placing.{free_block};
 ghost use Rattle.bucket_slots.specs.Removing.{place_in_chain_after, rows_without};
 ghost use Rattle.bucket_slots.specs.Searching.{is_wanted};
@@ -30,7 +33,7 @@ ghost use Rattle.bucket_slots.specs.Slots.{
 use crate::bucket::entry_ptr::EntryPtr;
 use crate::bucket::room::fits_in_memory;
 use crate::bucket::row::Row;
-use crate::bucket::{AllocError, BUCKET_LEN};
+use crate::bucket::{AllocError, BUCKET_LEN, Generation};
 use std::alloc::Global;
 use std::marker::Model;
 use std::mem::ManuallyDrop;
@@ -304,6 +307,61 @@ impl<K: Drop, V: Drop> Chain<K, V> {
             return (pair, EntryPtr::at(block + 1, BUCKET_LEN));
         }
         (pair, EntryPtr::at(block, BUCKET_LEN - 1))
+    }
+
+    /// Marks a live slot of a block.
+    pub(crate) fn mark(&mut self, block: usize, pos: usize, epoch: u8)
+        requires within { block < length self.old }
+        requires pos { pos < 4 }
+        requires live_slot { IsTrue (is_live (slot_at (row_at self.old block) pos)) }
+        ensures { self.new
+            ≡ rows_with self.old block pos (slot_marked epoch (slot_at (row_at self.old block) pos)) }
+    {
+        self.room();
+        let row = &mut self.blocks[block];
+        row.mark(pos, epoch);
+    }
+
+    /// Drops the pair of each marked slot whose mark the test doesn't keep. No block goes.
+    pub(crate) fn drop_expired<G: Generation>(&mut self, generation: &G)
+        ensures { self.new ≡ map (map (slot_without_expired (G.keeps generation.now))) self.old }
+    {
+        for i in 0..self.blocks.len() {
+            self.drop_expired_in(i, generation);
+        }
+    }
+
+    /// Drops the pairs of such slots of one block.
+    fn drop_expired_in<G: Generation>(&mut self, block: usize, generation: &G)
+        requires { block < length self.old }
+        ensures { self.new ≡ slice_set self.old block
+            (map (slot_without_expired (G.keeps generation.now)) (row_at self.old block)) }
+    {
+        self.room();
+        let row = &mut self.blocks[block];
+        row.drop_expired(generation);
+    }
+
+    /// Gives up the blocks at the end whose slots are all free.
+    pub(crate) fn trim(&mut self)
+        ensures { self.new ≡ rows_without_free_end self.old }
+    {
+        while self.ends_free() {
+            self.room();
+            let _ = self.blocks.pop();
+        }
+    }
+
+    /// Whether there is a last block, and all of its slots are free.
+    fn ends_free(&self) -> bool
+        ensures { IsTrue result ↔ EndsFree self.now }
+    {
+        let count = self.blocks.len();
+        if count == 0 {
+            return false;
+        }
+        self.room();
+        self.blocks[count - 1].is_empty()
     }
 }
 

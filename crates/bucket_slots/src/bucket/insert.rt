@@ -1,7 +1,7 @@
 //! Insertion into a bucket.
-ghost use Rattle.std.specs.Prelude.{◌≡◌, ◌≢◌, ◌%◌, ◌<◌, None, OnOk, OnErr, IfErr, IfOk, length};
+ghost use Rattle.std.specs.Prelude.{◌≡◌, ◌%◌, ◌<◌, None, OnOk, OnErr, IfErr, IfOk, length};
 ghost use Rattle.bucket_slots.specs.BucketView.{block_at, first_place, slot_in, with_slot};
-ghost use Rattle.bucket_slots.specs.Clearing.{slots_after_insertion, slots_for_insertion};
+ghost use Rattle.bucket_slots.specs.Clearing.{slots_after_insertion, slots_for_insertion, slots_without_expired, slots_without_free_end};
 ghost use Rattle.bucket_slots.specs.Placing.{place_for_next, slots_with, with_place_made};
 ghost use Rattle.bucket_slots.specs.Slots.{free, is_free, live};
 
@@ -14,9 +14,13 @@ impl<K: Drop, V: Drop, L: LruList + Drop, const TYPE: u8> Bucket<K, V, L, TYPE> 
     /// It goes to the lowest free own slot, else to the first free slot along the chain; where
     /// there is none, a new block becomes the head of the chain.
     ///
+    /// Where an index has no free own slot and a marked one, marked slots that the test doesn't
+    /// keep are freed first, and the all-free blocks at the chain's end go after the placing.
+    ///
     /// # Errors
     ///
-    /// Want of memory: the pair comes back and the bucket is as it was. A free slot rules it out.
+    /// Want of memory: the pair comes back and the bucket is as it was. A free slot rules it out,
+    /// and so does one that would be freed.
     ///
     /// O(blocks in the chain). scc: `Bucket::insert`, `insert_overflow`.
     pub fn insert<G: Generation>(
@@ -25,7 +29,6 @@ impl<K: Drop, V: Drop, L: LruList + Drop, const TYPE: u8> Bucket<K, V, L, TYPE> 
         pair: (K, V),
         generation: &G,
     ) -> Result<EntryPtr<K, V, TYPE>, (K, V)>
-        requires not_index { TYPE ≢ INDEX }
         ensures place { IfOk result
             (λ at. at ≡ place_for_next (slots_for_insertion TYPE (G.keeps generation.now) self.old)) }
         ensures slots { OnOk result
@@ -38,8 +41,35 @@ impl<K: Drop, V: Drop, L: LruList + Drop, const TYPE: u8> Bucket<K, V, L, TYPE> 
         ensures no_free_slot { OnErr result
             (first_place is_free (slots_for_insertion TYPE (G.keeps generation.now) self.old) ≡ None) }
     {
-        let _ = generation;
+        if TYPE == INDEX && self.own.is_full_with_marks() {
+            return self.place_in_cleared(hash, pair, generation);
+        }
         self.place(hash, pair)
+    }
+
+    /// Drops what the test doesn't keep, places the pair, and gives up the chain's free end.
+    fn place_in_cleared<G: Generation>(
+        &mut self,
+        hash: u64,
+        pair: (K, V),
+        generation: &G,
+    ) -> Result<EntryPtr<K, V, TYPE>, (K, V)>
+        requires { TYPE ≡ INDEX }
+        ensures place { IfOk result
+            (λ at. at ≡ place_for_next (slots_without_expired (G.keeps generation.now) self.old)) }
+        ensures slots { OnOk result (self.new ≡ slots_without_free_end
+            (slots_with (slots_without_expired (G.keeps generation.now) self.old) pair (hash % 256))) }
+        ensures pair_returned { IfErr result (λ back. back ≡ pair) }
+        ensures unchanged { OnErr result (self.new ≡ self.old) }
+        ensures no_free_slot { OnErr result
+            (first_place is_free (slots_without_expired (G.keeps generation.now) self.old) ≡ None) }
+    {
+        self.drop_expired(generation);
+        let placed = self.place(hash, pair);
+        if placed.is_ok() {
+            self.trim();
+        }
+        placed
     }
 
     /// Puts a pair into the first free slot, else into a new block at the chain's head.

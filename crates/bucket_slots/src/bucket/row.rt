@@ -4,10 +4,13 @@
 //!
 //! Ports the bitmaps and the data block of `Bucket` and `LinkedBucket` in scc's
 //! `src/hash_table/bucket.rs`, said once for both lengths.
-ghost use Rattle.std.specs.Prelude.{◌≡◌, ◌<◌, ◌≤◌, Some, IsTrue, false, replicate, slice_set};
+ghost use Rattle.std.specs.Prelude.{◌≡◌, ◌<◌, ◌≤◌, Some, IsTrue, true, false, map, replicate, slice_set};
 ghost use Rattle.std.specs.List.{position};
+ghost use Rattle.bucket_slots.specs.Clearing.{is_full_with_marks, slot_without_expired};
 ghost use Rattle.bucket_slots.specs.Layout.Blocks.{IsCandidateMask, has_byte};
+ghost use Rattle.bucket_slots.specs.Layout.Expiring.{IsMarkMask};
 ghost use Rattle.bucket_slots.specs.Layout.Walks.{next_in};
+ghost use Rattle.bucket_slots.specs.Marking.{IsOccupancy, slot_marked};
 ghost use Rattle.bucket_slots.specs.Searching.{is_wanted};
 ghost use Rattle.bucket_slots.specs.Slots.{
   all_free,
@@ -16,6 +19,7 @@ ghost use Rattle.bucket_slots.specs.Slots.{
   free_len,
   is_free,
   is_live,
+  is_marked,
   live,
   live_pair,
   pair_of,
@@ -23,6 +27,7 @@ ghost use Rattle.bucket_slots.specs.Slots.{
   slot_at,
 };
 
+use crate::bucket::Generation;
 use crate::bucket::bits::{lowest_bit, lowest_clear_bit, with_bit, without_bit};
 use crate::data_block::DataBlock;
 use crate::matcher::match_partial_hash;
@@ -197,5 +202,62 @@ impl<K: Drop, V: Drop, const LEN: usize> Row<K, V, LEN> {
         ensures { result ≡ free_len self.now }
     {
         LEN - self.occupied.count_ones() as usize
+    }
+
+    /// Returns the slots that aren't free, as a bitmap.
+    pub(crate) fn occupancy(&self) -> u32
+        ensures { IsOccupancy self.now result }
+    {
+        self.occupied
+    }
+
+    /// Whether no slot is free and one is marked.
+    pub(crate) fn is_full_with_marks(&self) -> bool
+        ensures { result ≡ is_full_with_marks self.now }
+    {
+        self.first_free().is_none() && self.marked() != 0
+    }
+
+    /// Marks a live slot. Its pair stays, and the epoch takes the place of the hash's byte.
+    pub(crate) fn mark(&mut self, pos: usize, epoch: u8)
+        requires within { pos < LEN }
+        requires live_slot { IsTrue (is_live (slot_at self.old pos)) }
+        ensures { self.new ≡ slice_set self.old pos (slot_marked epoch (slot_at self.old pos)) }
+    {
+        self.bytes[pos] = epoch;
+        self.marks = with_bit(self.marks, pos as u32);
+    }
+
+    /// Drops the pair of each marked slot whose mark the test doesn't keep.
+    pub(crate) fn drop_expired<G: Generation>(&mut self, generation: &G)
+        ensures { self.new ≡ map (slot_without_expired (G.keeps generation.now)) self.old }
+    {
+        let mut left = self.marked();
+        while left != 0 {
+            let pos = lowest_bit(left);
+            self.drop_if_expired(pos as usize, generation);
+            left = without_bit(left, pos);
+        }
+    }
+
+    /// Drops the pair of a marked slot, unless the test keeps its mark.
+    fn drop_if_expired<G: Generation>(&mut self, pos: usize, generation: &G)
+        requires { is_marked (slot_at self.old pos) ≡ true }
+        ensures { self.new ≡ slice_set self.old pos
+            (slot_without_expired (G.keeps generation.now) (slot_at self.old pos)) }
+    {
+        if generation.same(self.bytes[pos]) {
+            return;
+        }
+        self.block.drop_in_place(pos);
+        self.occupied = without_bit(self.occupied, pos as u32);
+        self.marks = without_bit(self.marks, pos as u32);
+    }
+
+    /// The marked slots, as a bitmap.
+    fn marked(&self) -> u32
+        ensures { IsMarkMask self.now result }
+    {
+        self.marks & self.occupied
     }
 }

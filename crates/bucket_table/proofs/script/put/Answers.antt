@@ -10,7 +10,7 @@ returns-then-is_valid-clause-step g c =
 pub insert-requires : goal.insert-requires
 insert-requires g c =
     let none = c.find-at.ensures.absent (null_is _ _ c.is_valid.ensures.1 c.if-is_valid.false) in
-    (search rules, (search rules, (c.requires.not_index, (c.hash-hash.ensures, none))))
+    (search rules, (search rules, (c.hash-hash.ensures, none)))
 
 pub returns-in-Ok-clause-step : goal.returns-in-Ok-clause-step
 returns-in-Ok-clause-step g c =

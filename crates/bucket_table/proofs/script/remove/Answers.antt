@@ -9,7 +9,7 @@ returns-then-not-is_valid-clause-step g c =
 pub remove-found-requires : goal.remove-found-requires
 remove-found-requires g c =
     let found = c.find-at.ensures.found (c.is_valid.ensures.0 c.if-not-is_valid.false) in
-    (search rules, (search rules, (c.requires.not_index, live_from_pair _ _ found.1)))
+    (search rules, (search rules, live_from_pair _ _ found.1))
 
 pub returns-clause-step : goal.returns-clause-step
 returns-clause-step g c =

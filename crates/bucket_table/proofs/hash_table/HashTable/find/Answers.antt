@@ -1,4 +1,4 @@
-use Rattle.bucket_table.proofs.OneMapSteps.{absent_here, found_here}
+use Rattle.bucket_table.proofs.LookUps.{absent_here, found_here}
 use Rattle.bucket_table.proofs.hash_table.HashTable.find.Goals as goal
 
 pub returns-clause-found : goal.returns-clause-found

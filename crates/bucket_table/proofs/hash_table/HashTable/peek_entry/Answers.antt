@@ -1,4 +1,4 @@
-use Rattle.bucket_table.proofs.OneMapSteps.{answered}
+use Rattle.bucket_table.proofs.LookUps.{answered}
 use Rattle.bucket_table.proofs.hash_table.HashTable.peek_entry.Goals as goal
 
 pub returns-clause-found : goal.returns-clause-found
