@@ -2,6 +2,7 @@
 use Rattle.std.proofs.Common.{ℕ, ◌+◌, ◌<◌, ◌≡◌, ◌==◌, ◌&&◌, Bool, true, false, Option, Some, None, List, [], ◌∷◌, ◌++◌, length, map, get_or, set, refl, sym, ap, subst, ◌∙◌, arith, suc, zero}
 use Rattle.std.specs.List.{All, AllByRecursion, Contains, position}
 use Rattle.std.specs.List.Sorted.{IsPermutation}
+use Rattle.std.specs.Option.{option_map}
 use Rattle.std.proofs.lemmas.List.Elements.{All-append, All-from_recursion}
 use Rattle.std.proofs.lemmas.List.Sorted.{IsPermutation-sym, IsPermutation-map, Contains-permutation}
 use Rattle.std.proofs.lemmas.Bool.{and_parts}
@@ -13,12 +14,12 @@ use Rattle.bucket_slots.specs.Evicting.{slot_to_evict, slots_evicted}
 use Rattle.bucket_slots.specs.Placing.{free_block, place_for_next, slots_with, with_head_for, with_place_made}
 use Rattle.bucket_slots.specs.Removing.{slots_without, slots_without_at}
 use Rattle.bucket_slots.specs.Searching.{is_wanted, place_wanted}
-use Rattle.bucket_slots.specs.Slots.{Slot, all_free, free, is_free, live, live_entries, live_pair, marked, slot_at, slot_with_value}
+use Rattle.bucket_slots.specs.Slots.{Slot, all_free, free, is_free, is_live, live, live_entries, live_pair, marked, pair_of, slot_at, slot_with_value}
 use Rattle.bucket_slots.specs.Walking.{pairs_ahead}
 use Rattle.bucket_slots.proofs.BucketPlacing.{linked_row, no_marks_looked_at, place_made}
 use Rattle.bucket_slots.proofs.ChainRows.{rows_without-empty, rows_without-full}
 use Rattle.bucket_slots.proofs.Entries.{exchanged, live_entries-append, live_entries-put, live_entries-remove, live_entries-take, map-live_entries}
-use Rattle.bucket_slots.proofs.FirstPlaces.{passes}
+use Rattle.bucket_slots.proofs.FirstPlaces.{live_occupied, passes}
 use Rattle.bucket_slots.proofs.Pointing.{inside_row, row_there}
 use Rattle.bucket_slots.proofs.Positions.{position-None}
 
@@ -143,6 +144,20 @@ module _ {K V : Type 0} where
   -- an eviction leaves the pairs that a removal of its slot leaves
   pub pairs_in-slots_evicted : (s : BucketView K V) (p : K × V) → live_pair (slot_at s.own (slot_to_evict s)) ≡ Some p → (b : ℕ) × IsPermutation (entries_in s) ((p, b) ∷ entries_in (slots_evicted s))
   pairs_in-slots_evicted s p e = entries_in-slots_without s (record { block = 0; pos = slot_to_evict s }) p e
+
+  -- a live slot is occupied
+  pub live_not_free : (x : Slot K V) → is_live x ≡ true → is_free x ≡ false
+  live_not_free x h = (live_occupied x h).0
+
+  -- its pair, of which the parts were read apart
+  pub read_apart : (x : Slot K V) (k : K) (v : V) → is_live x ≡ true → option_map (λ p. p.0) (pair_of x) ≡ Some k → option_map (λ p. p.1) (pair_of x) ≡ Some v → live_pair x ≡ Some (k, v)
+  read_apart free k v h first second = cc
+  read_apart (live p b) k v h first second = let same : p.0 ≡ k = cc in let other : p.1 ≡ v = cc in ap (λ a. Some (a, p.1)) same ∙ ap (λ c. Some (k, c)) other
+  read_apart (marked p b) k v h first second = cc
+
+  -- and a slot with a live pair is live
+  pub live_from_pair : (x : Slot K V) (p : K × V) → live_pair x ≡ Some p → is_live x ≡ true
+  live_from_pair x p e = ap is_live (live_is x p e).1
 
   -- p stands at a place, and its key passes
   pub record IsFound (test : K → Bool) (s : BucketView K V) (at : Place) (p : K × V) : Type 0 where

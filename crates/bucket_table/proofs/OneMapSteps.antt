@@ -45,6 +45,19 @@ module _ {K V : Type 0} (eq : K → K → Bool) (laws : IsEquivalence eq) where
 abbrev pub with_bucket : {K V H : Type 0} → TableView K V H → BucketView K V → TableView K V H
 with_bucket t b = record { hasher = t.hasher; minimum = t.minimum; maximum = t.maximum; bucket = b }
 
+module _ {K V : Type 0} where
+  -- an index marks what every other kind frees
+  pub taking_frees : (kind : ℕ) (b : BucketView K V) (at : Place) (epoch : ℕ) → (kind ≡ INDEX → ⊥) → slots_without b at ≡ slots_after_taking kind b at epoch
+  taking_frees kind b at epoch other = let e : (kind == INDEX) ≡ false = grind (arith, nat_tests) in rw e refl
+
+  pub taking_marks : (kind : ℕ) (b : BucketView K V) (at : Place) (epoch : ℕ) → kind ≡ INDEX → slots_marked b at epoch ≡ slots_after_taking kind b at epoch
+  taking_marks kind b at epoch same = let e : (kind == INDEX) ≡ true = grind (arith, nat_tests) in rw e refl
+
+  taken_by : (marks : Bool) (b : BucketView K V) (at : Place) (epoch : ℕ) (p : K × V) → live_pair (slot_in b at) ≡ Some p
+      → (byte : ℕ) × IsPermutation (entries_in b) ((p, byte) ∷ entries_in (if marks then slots_marked b at epoch else slots_without b at))
+  taken_by true b at epoch p here = entries_in-slots_marked b at epoch p here
+  taken_by false b at epoch p here = entries_in-slots_without b at p here
+
 module _ {K V H : Type 0} (eq : K → K → Bool) (hash : H → K → ℕ) where
   pub empty_map : (h : H) (least most : ℕ) (b : BucketView K V) → b ≡ empty_bucket → IsOneMap eq (hash h) (record { hasher = h; minimum = least; maximum = most; bucket = b })
   unfolding IsDistinct
@@ -100,11 +113,6 @@ module _ {K V H : Type 0} (eq : K → K → Bool) (hash : H → K → ℕ) where
         };
         pairs = rw (← is) (record { pairs = out; others = refl });
       }
-
-  taken_by : (marks : Bool) (b : BucketView K V) (at : Place) (epoch : ℕ) (p : K × V) → live_pair (slot_in b at) ≡ Some p
-      → (byte : ℕ) × IsPermutation (entries_in b) ((p, byte) ∷ entries_in (if marks then slots_marked b at epoch else slots_without b at))
-  taken_by true b at epoch p here = entries_in-slots_marked b at epoch p here
-  taken_by false b at epoch p here = entries_in-slots_without b at p here
 
   pub removed : IsEquivalence eq → (kind : ℕ) (t s : TableView K V H) (p : K × V) (at : Place) (epoch : ℕ) (b : BucketView K V) → t ≡ s
       → IsOneMap eq (hash t.hasher) t → live_pair (slot_in t.bucket at) ≡ Some p → b ≡ slots_after_taking kind t.bucket at epoch → IsRemoved kind t s p b

@@ -4,7 +4,6 @@ use Rattle.std.proofs.lemmas.Bool.{cases_eq}
 use Rattle.std.proofs.lemmas.List.{take_more}
 use Rattle.std.proofs.lemmas.List.Sorted.{IsPermutation-refl}
 use Rattle.bucket_slots.specs.declared.bucket.TheConstants.{BUCKET_LEN}
-use Rattle.bucket_slots.specs.Slots.{Slot, free, is_live, live, live_pair, marked}
 use Rattle.bucket_table.specs.declared.script.call.Call.{Call}
 use Rattle.bucket_table.specs.declared.script.reply.Reply.{Reply}
 use Rattle.bucket_table.specs.Calls.{Step}
@@ -36,12 +35,6 @@ null_is valid pos points is = elim (cases_eq pos BUCKET_LEN) [
   | inl null ↦ null
   | inr other ↦ let yes : valid ≡ true = points other in absurd cc
 ]
-
--- the pair at a slot that holds one is live
-pub live_from_pair : {K V : Type 0} (slot : Slot K V) (pair : K × V) → live_pair slot ≡ Some pair → is_live slot ≡ true
-live_from_pair free pair e = absurd cc
-live_from_pair (live own byte) pair e = refl
-live_from_pair (marked own byte) pair e = absurd cc
 
 -- what was taken from the slot that the search found has an equal key
 pub taken_is : {K V : Type 0} (eq : K → K → Bool) (key : K) (slot : Option (K × V)) (found taken : K × V) → slot ≡ Some found → slot ≡ Some taken → eq found.0 key ≡ true → eq taken.0 key ≡ true

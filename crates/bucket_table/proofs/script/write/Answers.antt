@@ -1,5 +1,6 @@
 use Rattle.std.proofs.Common.{rules}
-use Rattle.bucket_table.proofs.RunSteps.{kept, live_from_pair, null_is, taken_is}
+use Rattle.bucket_slots.proofs.CallerLemmas.{live_from_pair}
+use Rattle.bucket_table.proofs.RunSteps.{kept, null_is, taken_is}
 use Rattle.bucket_table.proofs.script.write.Goals as goal
 
 pub returns-then-not-is_valid-clause-step : goal.returns-then-not-is_valid-clause-step

@@ -1,6 +1,5 @@
 use Rattle.std.proofs.Common.{rules}
-use Rattle.bucket_slots.proofs.CallerLemmas.{found_pair}
-use Rattle.bucket_table.proofs.RunSteps.{live_from_pair}
+use Rattle.bucket_slots.proofs.CallerLemmas.{found_pair, live_from_pair}
 use Rattle.table_tests.proofs.by_key.remove_at.Goals as goal
 
 pub remove-pair-requires : goal.remove-pair-requires
