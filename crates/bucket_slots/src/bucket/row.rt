@@ -250,8 +250,9 @@ impl<K: Drop, V: Drop, const LEN: usize> Row<K, V, LEN> {
             return;
         }
         self.block.drop_in_place(pos);
-        self.occupied = without_bit(self.occupied, pos as u32);
-        self.marks = without_bit(self.marks, pos as u32);
+        let bit = pos as u32;
+        self.occupied = without_bit(self.occupied, bit);
+        self.marks = without_bit(self.marks, bit);
     }
 
     /// The marked slots, as a bitmap.

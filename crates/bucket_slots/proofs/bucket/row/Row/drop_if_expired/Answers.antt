@@ -20,8 +20,8 @@ pub drop_in_place-requires : goal.drop_in_place-requires
 drop_in_place-requires g c =
     (omega arith, (marked_place c.self.inside.block c.self.inside.bytes c.self.inside.marks c.args.pos (rw c.self.view_is c.requires)).filled)
 
-pub overflow_cast-pos : goal.overflow_cast-pos
-overflow_cast-pos g c =
+pub overflow_cast-bit : goal.overflow_cast-bit
+overflow_cast-bit g c =
     let place = marked_place c.self.inside.block c.self.inside.bytes c.self.inside.marks c.args.pos (rw c.self.view_is c.requires) in
     record { fits = omega (arith, place.within, c.self.invariant.long, c.self.invariant.few) }
 
@@ -29,11 +29,6 @@ pub without_bit-self-inside-requires : goal.without_bit-self-inside-requires
 without_bit-self-inside-requires g c =
     let place = marked_place c.self.inside.block c.self.inside.bytes c.self.inside.marks c.args.pos (rw c.self.view_is c.requires) in
     omega (arith, place.within, c.self.invariant.long, c.self.invariant.few)
-
-pub overflow_cast-pos-2 : goal.overflow_cast-pos-2
-overflow_cast-pos-2 g c =
-    let place = marked_place c.self.inside.block c.self.inside.bytes c.self.inside.marks c.args.pos (rw c.self.view_is c.requires) in
-    record { fits = omega (arith, place.within, c.self.invariant.long, c.self.invariant.few) }
 
 pub without_bit-self-inside-requires-2 : goal.without_bit-self-inside-requires-2
 without_bit-self-inside-requires-2 g c =
