@@ -7,6 +7,7 @@
 //!
 //! Ports scc's `src/hash_table/bucket.rs`. The bucket owns its data block, and a lock is a borrow.
 ghost use Rattle.std.specs.Prelude.{◌≡◌, Bool, ℕ, length, true};
+ghost use Rattle.bucket_slots.specs.BucketLaws.{IsBucketOf};
 ghost use Rattle.bucket_slots.specs.BucketView.{empty_bucket, pairs_in};
 ghost use Rattle.bucket_slots.specs.Slots.{places_of};
 
@@ -130,6 +131,15 @@ impl<K: Drop, V: Drop, L: LruList + Drop, const TYPE: u8> Bucket<K, V, L, TYPE> 
         ensures { result ≡ length (pairs_in self.now) }
     {
         self.len
+    }
+
+    /// No work: a proof learns what every bucket keeps.
+    ///
+    /// O(1). Own.
+    pub fn sound(&self)
+        ensures { IsBucketOf TYPE self.now }
+    {
+        self.chain.sound();
     }
 
     /// Returns whether the bucket was killed: whether its pairs have moved to another array.
