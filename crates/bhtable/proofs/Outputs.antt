@@ -7,7 +7,7 @@ use Rattle.bucket_table.specs.MapState.{MapState}
 use Rattle.bhtable.specs.Answers.{AreAnswers, IsUnreadable}
 use Rattle.bhtable.specs.InputLines.{lines_of}
 use Rattle.bhtable.specs.Outputs.{HasAnswered, HasAnsweredSome, HasBadLine, IsInput, IsOutputOf, IsOutputUpTo, IsServed, last_line_of}
-use Rattle.bhtable.specs.Replies.{IsPushed}
+use Rattle.bhtable.specs.Replies.{IsPushed, IsTold}
 use Rattle.bhtable.specs.Sessions.{HasReplied}
 use Rattle.bhtable.specs.Status.{status_of}
 use Rattle.bhtable.specs.Texts.{bad_line}
@@ -26,7 +26,7 @@ some_out start output output2 waiting lines some written = record {
 }
 
 -- a bad line isn't told of where there is no memory for that
-pub bad_out : (result : Result (Unit {0}) Stop) (number : ℕ) (start output output2 output3 : Option (List ℕ)) (waiting waiting2 : List ℕ)
+bad_out : (result : Result (Unit {0}) Stop) (number : ℕ) (start output output2 output3 : Option (List ℕ)) (waiting waiting2 : List ℕ)
     (lines : List (List ℕ)) → HasRepliedBad start output waiting lines number
     → IsPushed result (append_known output waiting) (append_known output2 waiting2) (bad_line number) → Appends output2 output3 waiting2
     → MatchResult (result_and {U = Unit {0}} result (Err (BadLine number))) (λ _. HasAnswered lines start output3 [])
@@ -63,13 +63,36 @@ pub all_out : (start output output2 : Option (List ℕ)) (waiting : List ℕ) (l
 all_out start output output2 waiting lines replied written =
     answered_out start output output2 waiting lines replied.0 replied.1 written
 
-pub stop_out : (stop : Stop) (start output output2 : Option (List ℕ)) (waiting : List ℕ) (lines : List (List ℕ))
-    → ((number : ℕ) → stop ≡ BadLine number → ⊥) → IsReplied (Err stop) start output waiting lines
-    → Appends output output2 waiting → IsOutputUpTo stop lines start output2
-stop_out (BadLine number) start output output2 waiting lines other replied written = absurd (other number refl)
-stop_out NoMemory start output output2 waiting lines other replied written = some_out start output output2 waiting lines replied written
-stop_out InputFailed start output output2 waiting lines other replied written = some_out start output output2 waiting lines replied written
-stop_out OutputFailed start output output2 waiting lines other replied written = tt
+told_out : (stop : Stop) (result : Result (Unit {0}) Stop) (start output output2 output3 : Option (List ℕ)) (waiting waiting2 : List ℕ)
+    (lines : List (List ℕ)) → (HasAnsweredSome lines start output3 [] → IsOutputUpTo stop lines start output3)
+    → HasRepliedSome start output waiting lines
+    → (result ≡ Ok tt) × (append_known output2 waiting2 ≡ append_known output waiting) → Appends output2 output3 waiting2
+    → MatchResult (result_and {U = Unit {0}} result (Err stop)) (λ _. HasAnswered lines start output3 [])
+        (λ s. IsOutputUpTo s lines start output3)
+told_out stop result start output output2 output3 waiting waiting2 lines made some (done, same) written =
+    let known = append_known output waiting in
+    let kept = subst (λ (bytes : Option (List ℕ)). Appends known bytes []) (sym same) (Appends-nil known) in
+    let some2 : HasRepliedSome start output2 waiting2 lines = record {
+      first = some.first;
+      others = some.others;
+      table = some.table;
+      in_order = some.in_order;
+      replied = replied_same start output output2 waiting waiting2 some.first some.table some.replied kept;
+    } in
+    rw done (made (some_out start output2 output3 waiting2 lines some2 written))
+
+pub stop_out : (stop : Stop) (result : Result (Unit {0}) Stop) (start output output2 output3 : Option (List ℕ)) (waiting waiting2 : List ℕ)
+    (lines : List (List ℕ)) → IsReplied (Err stop) start output waiting lines
+    → IsTold stop result (append_known output waiting) (append_known output2 waiting2) → Appends output2 output3 waiting2
+    → MatchResult (result_and {U = Unit {0}} result (Err stop)) (λ _. HasAnswered lines start output3 [])
+        (λ s. IsOutputUpTo s lines start output3)
+stop_out (BadLine number) result start output output2 output3 waiting waiting2 lines replied told written =
+    bad_out result number start output output2 output3 waiting waiting2 lines replied told written
+stop_out NoMemory result start output output2 output3 waiting waiting2 lines replied told written =
+    told_out NoMemory result start output output2 output3 waiting waiting2 lines (λ some. some) replied told written
+stop_out InputFailed result start output output2 output3 waiting waiting2 lines replied told written =
+    told_out InputFailed result start output output2 output3 waiting waiting2 lines (λ some. some) replied told written
+stop_out OutputFailed result start output output2 output3 waiting waiting2 lines replied told written = rw told.0 tt
 
 -- the last line behind the others
 answered_then : (lines : List (List ℕ)) (start output output2 : Option (List ℕ)) (last : List ℕ) → HasAnswered lines start output []

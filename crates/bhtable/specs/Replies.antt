@@ -1,8 +1,8 @@
 -- What becomes of replies and of a writer when lines are appended to them.
-use Rattle.std.specs.Prelude.{ℕ, ◌≡◌, List, [], ◌++◌, Option, MatchResult, Result}
+use Rattle.std.specs.Prelude.{ℕ, ◌≡◌, List, [], ◌++◌, Option, MatchResult, Ok, Result}
 use Rattle.std.specs.Io.KnownBytes.{Appends, Keeps}
 use Rattle.bucket_table.specs.declared.script.reply.Reply.{Reply}
-use Rattle.bhtable.specs.Texts.{lines_of_replies}
+use Rattle.bhtable.specs.Texts.{bad_line, lines_of_replies}
 use Rattle.bhtable.specs.declared.stop.Stop.{Stop}
 use Rattle.bhtable.specs.declared.stop.Stop.TheVariants.{BadLine, NoMemory, InputFailed, OutputFailed}
 
@@ -22,3 +22,10 @@ abbrev pub ArePushed : Result (Unit {0}) Stop → Option (List ℕ) → Option (
 ArePushed result old new replies = (first : List (Reply ℕ ℕ)) × (others : List (Reply ℕ ℕ)) × (replies ≡ first ++ others)
     × MatchResult result (λ _. (others ≡ []) × Appends old new (lines_of_replies first))
         (λ stop. IsLeftBy stop old new (lines_of_replies first))
+
+-- what is written and what waits tells of a stop at a bad line, and of no other
+abbrev pub IsTold : Stop → Result (Unit {0}) Stop → Option (List ℕ) → Option (List ℕ) → Type 0
+IsTold (BadLine number) result old new = IsPushed result old new (bad_line number)
+IsTold NoMemory result old new = (result ≡ Ok tt) × (new ≡ old)
+IsTold InputFailed result old new = (result ≡ Ok tt) × (new ≡ old)
+IsTold OutputFailed result old new = (result ≡ Ok tt) × (new ≡ old)

@@ -1,7 +1,7 @@
 //! Replies on their way to a writer.
 ghost use Rattle.std.specs.Prelude.{◌≡◌, ◌-◌, ◌≤◌, [], IfErr, IfOk, OnOk, length};
 ghost use Rattle.std.specs.Io.KnownBytes.{Appends, Keeps, append_known};
-ghost use Rattle.bhtable.specs.Replies.{ArePushed, IsPushed};
+ghost use Rattle.bhtable.specs.Replies.{ArePushed, IsPushed, IsTold};
 ghost use Rattle.bhtable.specs.Texts.{bad_line, line_of, text_of};
 
 use crate::stop::Stop;
@@ -60,8 +60,19 @@ impl Replies {
         Ok(())
     }
 
-    /// Appends that the line of this number can't be read.
-    pub(crate) fn push_bad_line<W: Write>(&mut self, number: u64, output: &mut W) -> Result<(), Stop>
+    /// Appends that a line can't be read, where that is the stop.
+    pub(crate) fn push_stop<W: Write>(&mut self, stop: Stop, output: &mut W) -> Result<(), Stop>
+        ensures { IsTold stop result (append_known (W.contents output.old) self.old.text.items)
+            (append_known (W.contents output.new) self.new.text.items) }
+    {
+        match stop {
+            Stop::BadLine(number) => self.push_bad_line(number, output),
+            _ => Ok(()),
+        }
+    }
+
+    // Appends that the line of this number can't be read.
+    fn push_bad_line<W: Write>(&mut self, number: u64, output: &mut W) -> Result<(), Stop>
         ensures { IsPushed result (append_known (W.contents output.old) self.old.text.items)
             (append_known (W.contents output.new) self.new.text.items) (bad_line number) }
     {

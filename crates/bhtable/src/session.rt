@@ -103,10 +103,9 @@ impl Session {
                 (λ _. HasAnswered lines start (W.contents output.new) [])
                 (λ stop. IsOutputUpTo stop lines start (W.contents output.new)) }
     {
-        let ended = self.answer(output).and(ended);
-        let ended = match ended {
-            Err(Stop::BadLine(number)) => self.replies.push_bad_line(number, output).and(ended),
-            Ok(()) | Err(Stop::NoMemory | Stop::InputFailed | Stop::OutputFailed) => ended,
+        let ended = match self.answer(output).and(ended) {
+            Ok(()) => Ok(()),
+            Err(stop) => self.replies.push_stop(stop, output).and(Err(stop)),
         };
         self.replies.write_out(output)?;
         ended
