@@ -5,7 +5,7 @@ use Rattle.bucket_table.specs.MapState.{MapState}
 use Rattle.bucket_table.specs.Runs.{Run}
 use Rattle.bucket_table.specs.declared.script.call.Call.{Call}
 use Rattle.bucket_table.specs.declared.script.reply.Reply.{Reply}
-use Rattle.bhtable.specs.Answers.{AreAnswers, DoesCall, IsAnswer}
+use Rattle.bhtable.specs.Answers.{AreAnswers, IsAnswer}
 use Rattle.bhtable.specs.Requests.{Asks}
 use Rattle.bhtable.specs.Sessions.{AskForCalls}
 use Rattle.bhtable.specs.Texts.{line_of, lines_of_replies, text_of}

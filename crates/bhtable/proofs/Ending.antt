@@ -1,19 +1,13 @@
 -- How a script ends: what is answered, and what is left in the output.
-use Rattle.std.proofs.Common.{◌≡◌, ℕ, ◌+◌, ◌⊎◌, ◌↔◌, inl, inr, List, [], ◌∷◌, ◌++◌, Option, Some, IsSome, Result, Ok, Err, MatchResult, length, refl, sym, ap, ◌∙◌, subst, append_assoc, append-nil}
-use Rattle.std.proofs.KnownBytes.{Appends-trans}
-use Rattle.std.specs.Io.KnownBytes.{Appends, append_known}
+use Rattle.std.proofs.Common.{◌≡◌, ℕ, ◌+◌, ◌↔◌, inl, inr, List, [], ◌∷◌, ◌++◌, Option, IsSome, Result, Ok, Err, MatchResult, length, refl, sym, ap, ◌∙◌, append_assoc, append-nil}
 use Rattle.std.specs.Result.{result_and}
 use Rattle.bucket_table.specs.MapState.{MapState}
 use Rattle.bhtable.specs.Answers.{IsUnreadable}
-use Rattle.bhtable.specs.Outputs.{HasAnswered, HasAnsweredSome, HasBadLine, IsOutputOf, IsOutputUpTo, last_line_of}
-use Rattle.bhtable.specs.Replies.{IsPushed}
 use Rattle.bhtable.specs.Sessions.{HasEnded, HasReplied, HasStopped, HasTaken, HasTakenSome, map_at_hand}
-use Rattle.bhtable.specs.Status.{IsLack, status_of}
-use Rattle.bhtable.specs.Texts.{bad_line}
+use Rattle.bhtable.specs.Status.{IsLack}
 use Rattle.bhtable.specs.declared.session.Session.{Session}
 use Rattle.bhtable.specs.declared.stop.Stop.{Stop}
 use Rattle.bhtable.specs.declared.stop.Stop.TheVariants.{BadLine, NoMemory, InputFailed, OutputFailed}
-use Rattle.bhtable.proofs.Replying.{answered_out, replied_same, written_out}
 use Rattle.bhtable.proofs.Taking.{replied_all}
 use Rattle.bhtable.proofs.Unreadable.{still_unreadable}
 

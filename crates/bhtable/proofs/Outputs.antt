@@ -1,14 +1,11 @@
 -- What is left in the output once everything is written out, and with which status.
-use Rattle.std.proofs.Common.{◌≡◌, ℕ, ◌+◌, ◌⊎◌, inl, inr, List, [], ◌∷◌, ◌++◌, Option, Some, None, Result, Ok, Err, MatchResult, length, refl, sym, ap, ◌∙◌, subst, append_assoc, append-nil}
+use Rattle.std.proofs.Common.{◌≡◌, ℕ, ◌⊎◌, inl, inr, List, [], ◌∷◌, ◌++◌, Option, Some, None, Result, Ok, Err, MatchResult, refl, sym, subst, append-nil}
 use Rattle.std.proofs.KnownBytes.{Appends-nil, Appends-trans}
 use Rattle.std.specs.Io.KnownBytes.{Appends, append_known}
 use Rattle.std.specs.Result.{result_and}
-use Rattle.bucket_table.specs.MapState.{MapState}
-use Rattle.bhtable.specs.Answers.{AreAnswers, IsUnreadable}
 use Rattle.bhtable.specs.InputLines.{lines_of}
-use Rattle.bhtable.specs.Outputs.{HasAnswered, HasAnsweredSome, HasBadLine, IsInput, IsOutputOf, IsOutputUpTo, IsServed, last_line_of}
+use Rattle.bhtable.specs.Outputs.{HasAnswered, HasAnsweredSome, IsInput, IsOutputOf, IsOutputUpTo, IsServed, last_line_of}
 use Rattle.bhtable.specs.Replies.{IsPushed, IsTold}
-use Rattle.bhtable.specs.Sessions.{HasReplied}
 use Rattle.bhtable.specs.Status.{status_of}
 use Rattle.bhtable.specs.Texts.{bad_line}
 use Rattle.bhtable.specs.declared.stop.Stop.{Stop}

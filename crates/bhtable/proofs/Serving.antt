@@ -1,5 +1,5 @@
 -- How far a script has come, line by line, and how it ends.
-use Rattle.std.proofs.Common.{◌≡◌, ℕ, ◌+◌, ◌<◌, ◌⊎◌, inl, inr, List, [], ◌∷◌, ◌++◌, Bool, true, false, Option, Result, Ok, Err, length, take, drop, refl, sym, ap, ◌∙◌, arith, append-nil, append_assoc, length-append}
+use Rattle.std.proofs.Common.{◌≡◌, ℕ, ◌+◌, ◌<◌, ◌⊎◌, inl, inr, List, [], ◌∷◌, ◌++◌, Bool, true, false, Option, Result, Ok, Err, length, take, drop, sym, ap, ◌∙◌, append-nil, append_assoc, length-append}
 use Rattle.std.specs.Io.KnownBytes.{Consumes, IsAtEnd}
 use Rattle.bhtable.specs.InputLines.{lines_of}
 use Rattle.bhtable.specs.Lines.{IsFoundIn}
@@ -12,7 +12,7 @@ use Rattle.bhtable.specs.declared.session.Session.{Session}
 use Rattle.bhtable.specs.declared.stop.Stop.{Stop}
 use Rattle.bhtable.specs.declared.stop.Stop.TheVariants.{BadLine, NoMemory, InputFailed, OutputFailed}
 use Rattle.bhtable.proofs.Finding.{found_end, found_line, found_too_long}
-use Rattle.bhtable.proofs.Reading.{HasRead, all_lines, line_passed, more_read, nothing_read}
+use Rattle.bhtable.proofs.Reading.{HasRead, all_lines, line_passed, more_read}
 
 -- as many lines as `number` are read from the input, and taken
 pub record HasCome (input left : Option (List ℕ)) (is_ended : Bool) (unread : List ℕ) (start output : Option (List ℕ)) (session : Session)

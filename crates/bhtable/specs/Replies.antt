@@ -1,6 +1,6 @@
 -- What becomes of replies and of a writer when lines are appended to them.
 use Rattle.std.specs.Prelude.{ℕ, ◌≡◌, List, [], ◌++◌, Option, MatchResult, Ok, Result}
-use Rattle.std.specs.Io.KnownBytes.{Appends, Keeps}
+use Rattle.std.specs.Io.KnownBytes.{Appends}
 use Rattle.bucket_table.specs.declared.script.reply.Reply.{Reply}
 use Rattle.bhtable.specs.Texts.{bad_line, lines_of_replies}
 use Rattle.bhtable.specs.declared.stop.Stop.{Stop}

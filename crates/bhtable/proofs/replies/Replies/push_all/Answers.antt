@@ -1,4 +1,4 @@
-use Rattle.std.proofs.Common.{◌≤◌, [], length, drop, refl, sym, subst, take, append-nil, take_all, take-append-drop, arith}
+use Rattle.std.proofs.Common.{◌≤◌, [], length, drop, refl, sym, take, append-nil, take_all, take-append-drop, arith}
 use Rattle.std.proofs.KnownBytes.{Appends-nil}
 use Rattle.std.proofs.lemmas.Result.{err_from_is_err_and}
 use Rattle.bhtable.proofs.PushingAll.{left_more, one_pushed}

@@ -1,5 +1,4 @@
-use Rattle.std.proofs.Common.{◌≡◌, [], Some, refl, sym, subst, nat_eq}
-use Rattle.bucket_table.specs.Runs.{Run}
+use Rattle.std.proofs.Common.{◌≡◌, [], Some, refl}
 use Rattle.bhtable.specs.Sessions.{map_of}
 use Rattle.bhtable.specs.declared.session.Session.{Session}
 use Rattle.bhtable.proofs.Taking.{no_items, pushed, replied_all}
