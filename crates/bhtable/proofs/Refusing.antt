@@ -42,7 +42,7 @@ pub verb_word_injective : (a b : Verb) → verb_word a ≡ verb_word b → a ≡
 verb_word_injective a b same = Some-injective a b (sym (named-verb_word a) ∙ ap named same ∙ named-verb_word b)
 
 -- the verb of a request
-abbrev verb_for : Request → Verb
+abbrev pub verb_for : Request → Verb
 verb_for (RequestNew table) = New
 verb_for (RequestCall (CallPut key value)) = Put
 verb_for (RequestCall (CallWrite key value)) = Write
@@ -63,7 +63,7 @@ others_of [] = []
 others_of (word ∷ words) = words
 
 -- the first word is that of the verb
-starts_with_verb : (first : List ℕ) (words : List (List ℕ)) (request : Request) → Asks (first ∷ words) request
+pub starts_with_verb : (first : List ℕ) (words : List (List ℕ)) (request : Request) → Asks (first ∷ words) request
     → first ≡ verb_word (verb_for request)
 starts_with_verb first words (RequestNew table) (rest, same, asked) = ap first_of same
 starts_with_verb first words (RequestCall (CallPut key value)) (a, b, same, a_is, b_is) = ap first_of same

@@ -1,9 +1,12 @@
-pub mod Left
+pub mod Answers
+pub mod InputLines
 pub mod Limits
 pub mod Lines
 pub mod Numbers
+pub mod Outputs
 pub mod Replies
 pub mod Requests
+pub mod Sessions
 pub mod Status
 pub mod Texts
 pub mod Window

@@ -16,7 +16,8 @@ IsFound bytes whole End = ⊥
 
 -- the same where no newline is read: the bytes are a line where the input has ended
 abbrev pub IsFoundUnended : Bool → List ℕ → Found → Type 0
-IsFoundUnended is_ended bytes (Line line) = (is_ended ≡ true) × IsFound bytes (length bytes) (Line line)
+IsFoundUnended is_ended bytes (Line line) =
+    (is_ended ≡ true) × (0 < length bytes) × IsFound bytes (length bytes) (Line line)
 IsFoundUnended is_ended bytes TooLong = 4096 < line_len bytes
 IsFoundUnended is_ended bytes Cut = (is_ended ≡ false) × (length bytes ≤ 4097)
 IsFoundUnended is_ended bytes End = (is_ended ≡ true) × (bytes ≡ [])

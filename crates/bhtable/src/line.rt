@@ -42,14 +42,16 @@ pub(crate) enum Found {
 }
 
 impl<R: Read + Drop> Lines<R> {
-    ghost use Rattle.std.specs.Prelude.{◌⊎◌, true, take, drop, IfErr, OnOk};
-    ghost use Rattle.std.specs.Io.KnownBytes.{IsAtEnd, Keeps};
-    ghost use Rattle.bhtable.specs.Left.{bytes_left};
+    ghost use Rattle.std.specs.Prelude.{ℕ, ◌⊎◌, ◌<◌, true, false, List, [], ◌++◌, take, drop, IfErr, IfOk, OnErr};
+    ghost use Rattle.std.specs.Io.KnownBytes.{Consumes, IsAtEnd, Keeps};
     ghost use Rattle.bhtable.specs.Lines.{IsFoundIn, IsWithin};
     ghost use Rattle.bhtable.specs.Window.{unread};
 
     /// The lines of a reader of which nothing is read yet.
-    pub(crate) fn new(alloc: Global, input: R) -> Result<Self, AllocError> {
+    pub(crate) fn new(alloc: Global, input: R) -> Result<Self, AllocError>
+        ensures { IfOk result (λ lines. (unread lines.window ≡ []) × (lines.is_ended ≡ false)
+            × (R.remaining lines.input ≡ R.remaining input)) }
+    {
         Ok(Lines {
             input,
             window: Window::new(alloc)?,
@@ -83,7 +85,9 @@ impl<R: Read + Drop> Lines<R> {
     /// Passes a line that was found.
     pub(crate) fn pass(&mut self, line: Line)
         requires { line.whole_len ≤ length (unread self.old.window) }
-        ensures { unread self.new.window ≡ drop line.whole_len (unread self.old.window) }
+        ensures passed { unread self.new.window ≡ drop line.whole_len (unread self.old.window) }
+        ensures input { self.new.input ≡ self.old.input }
+        ensures ended { self.new.is_ended ≡ self.old.is_ended }
     {
         self.window.pass(line.whole_len);
     }
@@ -91,9 +95,13 @@ impl<R: Read + Drop> Lines<R> {
     /// Reads once, behind what isn't passed yet; a read that is interrupted is repeated.
     pub(crate) fn read_more(&mut self) -> Result<(), Stop>
         requires { length (unread self.old.window) ≤ 4097 }
-        ensures ended { OnOk result (self.new.is_ended ≡ true
-            → (self.old.is_ended ≡ true) ⊎ IsAtEnd (R.remaining self.new.input)) }
-        ensures kept { Keeps (bytes_left R.remaining self.old) (bytes_left R.remaining self.new) }
+        ensures read { IfOk result (λ _. (more : List ℕ)
+            × (unread self.new.window ≡ unread self.old.window ++ more)
+            × Consumes (R.remaining self.old.input) (R.remaining self.new.input) more
+            × (((self.new.is_ended ≡ true) × IsAtEnd (R.remaining self.new.input))
+                ⊎ ((self.new.is_ended ≡ self.old.is_ended) × (0 < length more)))) }
+        ensures kept { OnErr result ((unread self.new.window ≡ unread self.old.window)
+            × Keeps (R.remaining self.old.input) (R.remaining self.new.input)) }
         ensures stop { IfErr result (λ stop. stop ≡ Stop.InputFailed) }
     {
         match self.window.read_from(&mut self.input) {

@@ -1,8 +1,11 @@
 //! Lines in, replies out: a script over one table, read on standard input.
 #![tactic(auto)]
 
-ghost use Rattle.std.specs.Prelude.{◌≡◌, ◌≤◌};
-ghost use Rattle.bhtable.specs.Status.{IsStatus};
+ghost use Rattle.std.specs.Prelude.{◌≡◌, ℕ, false, List, [], MatchResult};
+ghost use Rattle.bhtable.specs.InputLines.{lines_of};
+ghost use Rattle.bhtable.specs.Outputs.{HasAnswered, IsInput, IsOutputUpTo, IsServed};
+ghost use Rattle.bhtable.specs.Sessions.{HasEnded, HasTaken};
+ghost use Rattle.bhtable.specs.Window.{unread};
 
 mod line;
 mod replies;
@@ -30,42 +33,53 @@ use std::process::ExitCode;
 ///
 /// The status is 0 at the end of the input; 2 after `bad line N`, where line N can't be read; 3
 /// after `no memory`; 4 after `input failed`, and where the output can't be written.
-pub fn serve<R: Read + Drop, W: Write + Drop>(alloc: Global, input: R, mut output: W) -> u8
-    ensures { IsStatus result }
+pub fn serve<R: Read + Drop, W: Write>(alloc: Global, input: R, output: &mut W) -> u8
+    ensures { IsServed (R.remaining input) (W.contents output.old) (W.contents output.new) result }
 {
-    match answer_input(alloc, input, &mut output) {
+    match answer_input(alloc, input, output) {
         Ok(()) => 0,
-        Err(stop) => stop.report(&mut output),
+        Err(stop) => stop.report(output),
     }
 }
 
 // Answers what is read until the end of the input, and writes every reply out, also after a stop.
-fn answer_input<R: Read + Drop, W: Write + Drop>(
+fn answer_input<R: Read + Drop, W: Write>(
     alloc: Global,
     input: R,
-    output: W,
-) -> Result<(), Stop> {
+    output: &mut W,
+) -> Result<(), Stop>
+    ensures { (bytes : List ℕ) × IsInput (R.remaining input) bytes × MatchResult result
+        (λ _. HasAnswered (lines_of bytes) (W.contents output.old) (W.contents output.new) [])
+        (λ stop. IsOutputUpTo stop (lines_of bytes) (W.contents output.old) (W.contents output.new)) }
+{
     let mut lines = Lines::new(alloc, input)?;
-    let mut session = Session::new(alloc, output)?;
-    let ended = answer_lines(&mut lines, &mut session);
-    session.finish(ended)
+    let mut session = Session::new(alloc)?;
+    let ended = answer_lines(&mut lines, &mut session, output);
+    session.finish(ended, output)
 }
 
-fn answer_lines<R: Read + Drop, W: Write + Drop>(
+fn answer_lines<R: Read + Drop, W: Write>(
     lines: &mut Lines<R>,
-    session: &mut Session<W>,
-) -> Result<(), Stop> {
+    session: &mut Session,
+    output: &mut W,
+) -> Result<(), Stop>
+    requires none { unread lines.old.window ≡ [] }
+    requires goes_on { lines.old.is_ended ≡ false }
+    requires fresh { HasTaken (W.contents output.old) (W.contents output.old) session.old [] }
+    ensures { (bytes : List ℕ) × IsInput (R.remaining lines.old.input) bytes
+        × HasEnded result (W.contents output.old) (W.contents output.new) session.new (lines_of bytes) }
+{
     let mut number = 0;
     for turn in 0..u64::MAX {
         match lines.find() {
             Found::Line(line) => {
                 number += 1;
-                session.take(number, lines.bytes(line))?;
+                session.take(number, lines.bytes(line), output)?;
                 lines.pass(line);
             }
             Found::TooLong => return Err(Stop::BadLine(number + 1)),
             Found::Cut => {
-                session.write_out()?;
+                session.write_out(output)?;
                 lines.read_more()?;
             }
             Found::End => return Ok(()),
@@ -75,5 +89,6 @@ fn answer_lines<R: Read + Drop, W: Write + Drop>(
 }
 
 fn main(rt: HostRuntime) -> ExitCode {
-    ExitCode::from(serve(rt.alloc(), rt.stdin(), rt.stdout()))
+    let mut output = rt.stdout();
+    ExitCode::from(serve(rt.alloc(), rt.stdin(), &mut output))
 }

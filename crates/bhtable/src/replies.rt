@@ -1,12 +1,11 @@
 //! Replies on their way to a writer.
-ghost use Rattle.std.specs.Prelude.{◌≡◌, [], ◌++◌, IfErr, OnOk, codes};
-ghost use Rattle.std.specs.Fmt.{decimal};
-ghost use Rattle.std.specs.Io.KnownBytes.{Appends, Keeps};
-ghost use Rattle.bhtable.specs.Status.{IsLack};
-ghost use Rattle.bhtable.specs.Texts.{text_of, line_of};
+ghost use Rattle.std.specs.Prelude.{◌≡◌, ◌-◌, ◌≤◌, [], IfErr, IfOk, OnOk, length};
+ghost use Rattle.std.specs.Io.KnownBytes.{Appends, Keeps, append_known};
+ghost use Rattle.bhtable.specs.Replies.{ArePushed, IsPushed, IsTold};
+ghost use Rattle.bhtable.specs.Texts.{bad_line, line_of, text_of};
 
 use crate::stop::Stop;
-use crate::text::{append_numbered, append_reply};
+use crate::text::{append_bad_line, append_reply};
 use bucket_table::script::Reply;
 use std::alloc::{AllocError, Global};
 use std::io::Write;
@@ -19,76 +18,108 @@ const REPLY_ROOM: usize = 64;
 
 /// Replies on their way to a writer.
 #[derive(Drop)]
-pub(crate) struct Replies<W: Write> {
-    output: W,
+pub(crate) struct Replies {
     text: Vec<u8>,
 }
 
-impl<W: Write + Drop> Replies<W> {
-    ghost use Rattle.bhtable.specs.Replies.{contents_of};
-
+impl Replies {
     /// No replies yet.
-    pub(crate) fn new(alloc: Global, output: W) -> Result<Self, AllocError> {
+    pub(crate) fn new(alloc: Global) -> Result<Self, AllocError>
+        ensures { IfOk result (λ replies. replies.text.items ≡ []) }
+    {
         let text = Vec::with_capacity(alloc, TEXT_CAPACITY)?;
-        Ok(Replies { output, text })
+        Ok(Replies { text })
     }
 
-    /// Appends a reply.
-    pub(crate) fn push(&mut self, reply: &Reply<u64, u64>) -> Result<(), Stop>
-        ensures appended { OnOk result (Appends (contents_of W.contents self.old)
-            (contents_of W.contents self.new) (line_of (text_of reply.now))) }
-        ensures stop { IfErr result IsLack }
+    /// Appends replies, up to the first that there is no room for.
+    pub(crate) fn push_all<W: Write>(
+        &mut self,
+        replies: &[Reply<u64, u64>],
+        output: &mut W,
+    ) -> Result<(), Stop>
+        ensures { ArePushed result (append_known (W.contents output.old) self.old.text.items)
+            (append_known (W.contents output.new) self.new.text.items) replies.now }
     {
-        self.make_room()?;
-        append_reply(&mut self.text, reply)?;
+        for reply in replies {
+            self.push(reply, output)?;
+        }
         Ok(())
     }
 
-    /// Appends that the line of this number can't be read.
-    pub(crate) fn push_bad_line(&mut self, number: u64) -> Result<(), Stop>
-        ensures appended { OnOk result (Appends (contents_of W.contents self.old)
-            (contents_of W.contents self.new) (line_of (codes "bad line " ++ decimal number))) }
-        ensures stop { IfErr result IsLack }
+    /// Appends a reply.
+    pub(crate) fn push<W: Write>(&mut self, reply: &Reply<u64, u64>, output: &mut W) -> Result<(), Stop>
+        ensures { IsPushed result (append_known (W.contents output.old) self.old.text.items)
+            (append_known (W.contents output.new) self.new.text.items) (line_of (text_of reply.now)) }
     {
-        self.make_room()?;
-        append_numbered(&mut self.text, b"bad line ", number)?;
-        self.text.push(b'\n').map_err(|_| Stop::NoMemory)
+        self.make_room(output)?;
+        let len = self.text.len();
+        if append_reply(&mut self.text, reply).is_err() {
+            self.text.truncate(len);
+            return Err(Stop::NoMemory);
+        }
+        Ok(())
+    }
+
+    /// Appends that a line can't be read, where that is the stop.
+    pub(crate) fn push_stop<W: Write>(&mut self, stop: Stop, output: &mut W) -> Result<(), Stop>
+        ensures { IsTold stop result (append_known (W.contents output.old) self.old.text.items)
+            (append_known (W.contents output.new) self.new.text.items) }
+    {
+        match stop {
+            Stop::BadLine(number) => self.push_bad_line(number, output),
+            _ => Ok(()),
+        }
+    }
+
+    // Appends that the line of this number can't be read.
+    fn push_bad_line<W: Write>(&mut self, number: u64, output: &mut W) -> Result<(), Stop>
+        ensures { IsPushed result (append_known (W.contents output.old) self.old.text.items)
+            (append_known (W.contents output.new) self.new.text.items) (bad_line number) }
+    {
+        self.make_room(output)?;
+        let len = self.text.len();
+        if append_bad_line(&mut self.text, number).is_err() {
+            self.text.truncate(len);
+            return Err(Stop::NoMemory);
+        }
+        Ok(())
     }
 
     /// Writes every reply out and flushes the writer.
-    pub(crate) fn write_out(&mut self) -> Result<(), Stop>
+    pub(crate) fn write_out<W: Write>(&mut self, output: &mut W) -> Result<(), Stop>
         ensures empty { OnOk result (self.new.text.items ≡ []) }
-        ensures written { OnOk result (Keeps (contents_of W.contents self.old)
-            (contents_of W.contents self.new)) }
+        ensures written { OnOk result (Appends (W.contents output.old) (W.contents output.new)
+            self.old.text.items) }
         ensures stop { IfErr result (λ stop. stop ≡ Stop.OutputFailed) }
     {
         if self.text.is_empty() {
             return Ok(());
         }
-        self.write_text()?;
-        self.output.flush().map_err(|_| Stop::OutputFailed)
+        self.write_text(output)?;
+        output.flush().map_err(|_| Stop::OutputFailed)
     }
 
     // Room for a line more, which writing makes.
-    fn make_room(&mut self) -> Result<(), Stop>
-        ensures kept { OnOk result (Keeps (contents_of W.contents self.old)
-            (contents_of W.contents self.new)) }
+    fn make_room<W: Write>(&mut self, output: &mut W) -> Result<(), Stop>
+        ensures room { OnOk result (length self.new.text.items ≤ TEXT_CAPACITY - REPLY_ROOM) }
+        ensures kept { OnOk result (Keeps (append_known (W.contents output.old) self.old.text.items)
+            (append_known (W.contents output.new) self.new.text.items)) }
         ensures stop { IfErr result (λ stop. stop ≡ Stop.OutputFailed) }
     {
         if self.text.len() > TEXT_CAPACITY - REPLY_ROOM {
-            self.write_text()?;
+            self.write_text(output)?;
         }
         Ok(())
     }
 
     // What can't be written is let go.
-    fn write_text(&mut self) -> Result<(), Stop>
+    fn write_text<W: Write>(&mut self, output: &mut W) -> Result<(), Stop>
         ensures empty { self.new.text.items ≡ [] }
-        ensures written { OnOk result (Appends (W.contents self.old.output)
-            (W.contents self.new.output) self.old.text.items) }
+        ensures written { OnOk result (Appends (W.contents output.old) (W.contents output.new)
+            self.old.text.items) }
         ensures stop { IfErr result (λ stop. stop ≡ Stop.OutputFailed) }
     {
-        let written = self.output.write_all(self.text.as_slice());
+        let written = output.write_all(self.text.as_slice());
         self.text.clear();
         written.map_err(|_| Stop::OutputFailed)
     }

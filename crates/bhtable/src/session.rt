@@ -2,9 +2,13 @@
 //!
 //! Calls are gathered and given to the table together, since it makes room for all their replies at
 //! once. They are answered before a `new`, before the output is written, and where 1,024 wait.
-ghost use Rattle.std.specs.Prelude.{◌≡◌, ◌⊎◌, [], IfErr};
+ghost use Rattle.std.specs.Prelude.{◌≡◌, ◌⊎◌, ◌≤◌, ◌↔◌, ℕ, List, [], ◌∷◌, ◌++◌, Option, IfErr, IfOk, IsSome, MatchResult, OnErr, length, nat_eq};
+ghost use Rattle.bucket_table.specs.Runs.{Run};
+ghost use Rattle.bhtable.specs.Answers.{fresh_map};
 ghost use Rattle.bhtable.specs.Limits.{AreLimits};
-ghost use Rattle.bhtable.specs.Requests.{AsksNothing};
+ghost use Rattle.bhtable.specs.Outputs.{HasAnswered, IsOutputUpTo};
+ghost use Rattle.bhtable.specs.Requests.{Asks};
+ghost use Rattle.bhtable.specs.Sessions.{HasEnded, HasReplied, HasStopped, HasTaken, IsBadAt, map_at_hand, map_of};
 ghost use Rattle.bhtable.specs.Status.{IsLack};
 ghost use Rattle.bhtable.specs.Words.{words_of};
 
@@ -24,11 +28,11 @@ const CALLS_AT_ONCE: usize = 1024;
 
 /// A script as it runs.
 #[derive(Drop)]
-pub(crate) struct Session<W: Write> {
+pub(crate) struct Session {
     alloc: Global,
     table: Option<Table>,
     calls: Vec<Call<u64, u64>>,
-    replies: Replies<W>,
+    replies: Replies,
 }
 
 // A table of any kind.
@@ -38,66 +42,103 @@ enum Table {
     Cache(HashTable<u64, u64, ScriptHash, DoublyLinkedList, CACHE>),
 }
 
-impl<W: Write + Drop> Session<W> {
+impl Session {
     /// A script with no table yet.
-    pub(crate) fn new(alloc: Global, output: W) -> Result<Self, Stop> {
-        let replies = Replies::new(alloc, output)?;
+    pub(crate) fn new(alloc: Global) -> Result<Self, Stop>
+        ensures fresh { IfOk result (λ session.
+            (start : Option (List ℕ)) → HasTaken start start session []) }
+        ensures stop { IfErr result (λ stop. stop ≡ Stop.NoMemory) }
+    {
         Ok(Session {
             alloc,
             table: None,
             calls: Vec::new(alloc),
-            replies,
+            replies: Replies::new(alloc)?,
         })
     }
 
     /// Takes the line of this number. Its reply may wait for `write_out`.
-    pub(crate) fn take(&mut self, number: u64, line: &[u8]) -> Result<(), Stop>
+    pub(crate) fn take<W: Write>(&mut self, number: u64, line: &[u8], output: &mut W) -> Result<(), Stop>
+        requires { length line.now ≤ 4096 }
+        ensures taken { (start : Option (List ℕ)) (lines : List (List ℕ))
+            → HasTaken start (W.contents output.old) self.old lines
+            → MatchResult result
+                (λ _. HasTaken start (W.contents output.new) self.new (lines ++ line.now ∷ []))
+                (λ stop. HasStopped stop start (W.contents output.new) self.new lines
+                    × IsBadAt stop (map_at_hand self.new.table) line.now) }
         ensures stop { IfErr result (λ stop. (stop ≡ Stop.BadLine number) ⊎ IsLack stop) }
-        ensures unreadable { (words_of line.now ≡ [] → ⊥) → AsksNothing (words_of line.now)
-            → result ≡ Err (Stop.BadLine number) }
         ensures passed_over { words_of line.now ≡ [] → (result ≡ Ok tt) × (self.new ≡ self.old) }
     {
         match request_in(line) {
             Ok(None) => Ok(()),
-            Ok(Some(Request::New(new))) => self.start(new),
-            Ok(Some(Request::Call(call))) if self.table.is_some() => self.gather(call),
+            Ok(Some(Request::New(new))) => self.start(new, output),
+            Ok(Some(Request::Call(call))) if self.table.is_some() => self.gather(call, output),
             _ => Err(Stop::BadLine(number)),
         }
     }
 
     /// Answers every call and writes the replies out.
-    pub(crate) fn write_out(&mut self) -> Result<(), Stop>
-        ensures { IfErr result IsLack }
+    pub(crate) fn write_out<W: Write>(&mut self, output: &mut W) -> Result<(), Stop>
+        ensures taken { (start : Option (List ℕ)) (lines : List (List ℕ))
+            → HasTaken start (W.contents output.old) self.old lines
+            → MatchResult result
+                (λ _. HasAnswered lines start (W.contents output.new) []
+                    × HasTaken start (W.contents output.new) self.new lines)
+                (λ stop. HasStopped stop start (W.contents output.new) self.new lines) }
+        ensures stop { IfErr result IsLack }
     {
-        self.answer()?;
-        self.replies.write_out()
+        self.answer(output)?;
+        self.replies.write_out(output)
     }
 
     /// Answers and writes what is left, also after a stop, and returns how the script ended.
-    pub(crate) fn finish(mut self, ended: Result<(), Stop>) -> Result<(), Stop> {
-        let ended = self.answer().and(ended);
-        if let Err(Stop::BadLine(number)) = ended {
-            self.replies.push_bad_line(number)?;
-        }
-        self.replies.write_out()?;
+    pub(crate) fn finish<W: Write>(
+        mut self,
+        ended: Result<(), Stop>,
+        output: &mut W,
+    ) -> Result<(), Stop>
+        ensures { (start : Option (List ℕ)) (lines : List (List ℕ))
+            → HasEnded ended start (W.contents output.old) self lines
+            → MatchResult result
+                (λ _. HasAnswered lines start (W.contents output.new) [])
+                (λ stop. IsOutputUpTo stop lines start (W.contents output.new)) }
+    {
+        let ended = match self.answer(output).and(ended) {
+            Ok(()) => Ok(()),
+            Err(stop) => self.replies.push_stop(stop, output).and(Err(stop)),
+        };
+        self.replies.write_out(output)?;
         ended
     }
 
     // Puts a fresh table in the place of the one at hand.
-    fn start(&mut self, new: NewTable) -> Result<(), Stop>
+    fn start<W: Write>(&mut self, new: NewTable, output: &mut W) -> Result<(), Stop>
         requires { AreLimits new.limits.minimum new.limits.maximum }
-        ensures { IfErr result IsLack }
+        ensures taken { (start : Option (List ℕ)) (lines : List (List ℕ)) (line : List ℕ)
+            → HasTaken start (W.contents output.old) self.old lines
+            → length line ≤ 4096 → Asks (words_of line) (Request.New new)
+            → MatchResult result
+                (λ _. HasTaken start (W.contents output.new) self.new (lines ++ line ∷ []))
+                (λ stop. HasStopped stop start (W.contents output.new) self.new lines) }
+        ensures stop { IfErr result IsLack }
     {
-        self.answer()?;
+        self.answer(output)?;
         self.table = Some(Table::new(self.alloc, new));
-        self.replies.push(&Reply::Done)
+        self.replies.push(&Reply::Done, output)
     }
 
-    fn gather(&mut self, call: Call<u64, u64>) -> Result<(), Stop>
-        ensures { IfErr result IsLack }
+    fn gather<W: Write>(&mut self, call: Call<u64, u64>, output: &mut W) -> Result<(), Stop>
+        requires { IsSome self.old.table }
+        ensures taken { (start : Option (List ℕ)) (lines : List (List ℕ)) (line : List ℕ)
+            → HasTaken start (W.contents output.old) self.old lines
+            → length line ≤ 4096 → Asks (words_of line) (Request.Call call)
+            → MatchResult result
+                (λ _. HasTaken start (W.contents output.new) self.new (lines ++ line ∷ []))
+                (λ stop. HasStopped stop start (W.contents output.new) self.new lines) }
+        ensures stop { IfErr result IsLack }
     {
         if self.calls.len() >= CALLS_AT_ONCE {
-            self.answer()?;
+            self.answer(output)?;
         }
         match self.calls.push(call) {
             Ok(()) => Ok(()),
@@ -106,8 +147,17 @@ impl<W: Write + Drop> Session<W> {
     }
 
     // Has the table answer the calls that wait.
-    fn answer(&mut self) -> Result<(), Stop>
-        ensures { IfErr result IsLack }
+    fn answer<W: Write>(&mut self, output: &mut W) -> Result<(), Stop>
+        ensures answered { (start : Option (List ℕ)) (lines : List (List ℕ))
+            → HasTaken start (W.contents output.old) self.old lines
+            → (self.new.calls.items ≡ []) × MatchResult result
+                (λ _. HasReplied start (W.contents output.new) self.new.replies.text.items lines
+                    (map_at_hand self.new.table))
+                (λ stop. HasStopped stop start (W.contents output.new) self.new lines) }
+        ensures none { self.old.calls.items ≡ [] → (result ≡ Ok tt) × (self.new ≡ self.old)
+            × (W.contents output.new ≡ W.contents output.old) }
+        ensures table { IsSome self.new.table ↔ IsSome self.old.table }
+        ensures stop { IfErr result IsLack }
     {
         let Some(table) = &mut self.table else {
             return Ok(());
@@ -119,16 +169,14 @@ impl<W: Write + Drop> Session<W> {
         let Ok(answers) = table.run(self.alloc, calls) else {
             return Err(Stop::NoMemory);
         };
-        for reply in &answers {
-            self.replies.push(reply)?;
-        }
-        Ok(())
+        self.replies.push_all(answers.as_slice(), output)
     }
 }
 
 impl Table {
     fn new(alloc: Global, new: NewTable) -> Self
         requires { AreLimits new.limits.minimum new.limits.maximum }
+        ensures { map_of result ≡ fresh_map new }
     {
         let (minimum, maximum) = (new.limits.minimum, new.limits.maximum);
         match new.kind {
@@ -141,7 +189,11 @@ impl Table {
         &mut self,
         alloc: Global,
         calls: Vec<Call<u64, u64>>,
-    ) -> Result<Vec<Reply<u64, u64>>, AllocError> {
+    ) -> Result<Vec<Reply<u64, u64>>, AllocError>
+        ensures run { IfOk result (λ replies.
+            Run nat_eq (map_of self.old) calls.items replies.items (map_of self.new)) }
+        ensures no_call { OnErr result (self.new ≡ self.old) }
+    {
         match self {
             Table::Map(table) => run(alloc, table, calls, &()),
             Table::Cache(table) => run(alloc, table, calls, &()),

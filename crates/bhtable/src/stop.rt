@@ -1,5 +1,7 @@
 //! Why a script ends before its input does: the last line of output, and the exit status.
-ghost use Rattle.std.specs.Prelude.{◌≡◌, ◌⊎◌};
+ghost use Rattle.std.specs.Prelude.{◌≡◌, ◌⊎◌, OnOk};
+ghost use Rattle.std.specs.Io.KnownBytes.{Appends};
+ghost use Rattle.bhtable.specs.Outputs.{last_line_of};
 ghost use Rattle.bhtable.specs.Status.{status_of};
 ghost use Rattle.bhtable.specs.declared.stop.Stop.TheVariants.{NoMemory};
 
@@ -24,7 +26,8 @@ impl Stop {
     /// Writes the last line, which for a line that can't be read stands among the replies already,
     /// and returns the status: that of the stop, or 4 where the line can't be written.
     pub(crate) fn report<W: Write>(self, output: &mut W) -> u8
-        ensures { (result ≡ status_of self) ⊎ (result ≡ 4) }
+        ensures { (result ≡ 4) ⊎ ((result ≡ status_of self)
+            × Appends (W.contents output.old) (W.contents output.new) (last_line_of self)) }
     {
         let written = match self {
             Stop::NoMemory => write_line(output, b"no memory\n"),
@@ -48,7 +51,9 @@ impl Stop {
     }
 }
 
-fn write_line<W: Write>(output: &mut W, line: &[u8]) -> io::Result<()> {
+fn write_line<W: Write>(output: &mut W, line: &[u8]) -> io::Result<()>
+    ensures { OnOk result (Appends (W.contents output.old) (W.contents output.new) line.now) }
+{
     output.write_all(line)?;
     output.flush()
 }

@@ -1,14 +1,16 @@
 //! The text of a reply.
-ghost use Rattle.std.specs.Prelude.{◌≡◌, ◌++◌, OnOk, codes};
+ghost use Rattle.std.specs.Prelude.{◌≡◌, ◌++◌, OnErr, OnOk, codes};
 ghost use Rattle.std.specs.Fmt.{decimal};
-ghost use Rattle.bhtable.specs.Texts.{text_of, line_of};
+ghost use Rattle.std.specs.Io.{StartsWith};
+ghost use Rattle.bhtable.specs.Texts.{bad_line, line_of, text_of};
 
 use bucket_table::script::Reply;
 use std::alloc::AllocError;
 
 /// Appends a reply's line.
 pub(crate) fn append_reply(text: &mut Vec<u8>, reply: &Reply<u64, u64>) -> Result<(), AllocError>
-    ensures { OnOk result (text.new.items ≡ text.old.items ++ line_of (text_of reply.now)) }
+    ensures appended { OnOk result (text.new.items ≡ text.old.items ++ line_of (text_of reply.now)) }
+    ensures kept { OnErr result (StartsWith text.new.items text.old.items) }
 {
     match *reply {
         Reply::Done => text.extend_from_slice(b"ok"),
@@ -28,21 +30,30 @@ pub(crate) fn append_reply(text: &mut Vec<u8>, reply: &Reply<u64, u64>) -> Resul
     Ok(())
 }
 
+/// Appends the line that tells of a bad line.
+pub(crate) fn append_bad_line(text: &mut Vec<u8>, number: u64) -> Result<(), AllocError>
+    ensures appended { OnOk result (text.new.items ≡ text.old.items ++ bad_line number) }
+    ensures kept { OnErr result (StartsWith text.new.items text.old.items) }
+{
+    append_numbered(text, b"bad line ", number)?;
+    text.push(b'\n')?;
+    Ok(())
+}
+
 fn append_pair(text: &mut Vec<u8>, key: u64, value: u64) -> Result<(), AllocError>
-    ensures { OnOk result (text.new.items
+    ensures appended { OnOk result (text.new.items
         ≡ text.old.items ++ (codes "pair " ++ decimal key ++ codes " " ++ decimal value)) }
+    ensures kept { OnErr result (StartsWith text.new.items text.old.items) }
 {
     append_numbered(text, b"pair ", key)?;
     append_numbered(text, b" ", value)
 }
 
-/// Appends a word, with the blank behind it, and a number.
-pub(crate) fn append_numbered(
-    text: &mut Vec<u8>,
-    word: &[u8],
-    number: u64,
-) -> Result<(), AllocError>
-    ensures { OnOk result (text.new.items ≡ text.old.items ++ (word.now ++ decimal number)) }
+// Appends a word, with the blank behind it, and a number.
+fn append_numbered(text: &mut Vec<u8>, word: &[u8], number: u64) -> Result<(), AllocError>
+    ensures appended { OnOk result (text.new.items
+        ≡ text.old.items ++ (word.now ++ decimal number)) }
+    ensures kept { OnErr result (StartsWith text.new.items text.old.items) }
 {
     text.extend_from_slice(word)?;
     append_number(text, number)
@@ -50,7 +61,8 @@ pub(crate) fn append_numbered(
 
 // Appends a number's decimal digits, which are made from the last to the first.
 fn append_number(text: &mut Vec<u8>, number: u64) -> Result<(), AllocError>
-    ensures { OnOk result (text.new.items ≡ text.old.items ++ decimal number) }
+    ensures appended { OnOk result (text.new.items ≡ text.old.items ++ decimal number) }
+    ensures kept { OnErr result (text.new.items ≡ text.old.items) }
 {
     let mut digits = [0; 20];
     let mut start = 19;

@@ -127,14 +127,14 @@ const OUTPUT_FAULTS: [(usize, &str, u8); 6] = [
 fn ends_where_the_output_fails(rt: HostRuntime) -> Result<(), Fail> {
     for (writes_left, text, status) in OUTPUT_FAULTS {
         let mut written: Vec<u8> = Vec::new(rt.alloc());
-        let output = Sink {
+        let mut output = Sink {
             written: &mut written,
             piece_len: 5,
             writes_left,
         };
         let script = b"new map id 0 64\nput 1 10\npeek 1\npoke 1\n";
         assert_eq!(rt;
-            serve(rt.alloc(), script.as_slice(), output),
+            serve(rt.alloc(), script.as_slice(), &mut output),
             status,
             "after {text}"
         );
@@ -200,10 +200,10 @@ fn answers_each_line_before_it_reads_on(rt: HostRuntime) -> Result<(), Fail> {
         said: 0,
         answered: &answered,
     };
-    let output = Listener {
+    let mut output = Listener {
         answered: &answered,
     };
-    assert_eq!(rt; serve(rt.alloc(), input, output), 0);
+    assert_eq!(rt; serve(rt.alloc(), input, &mut output), 0);
     assert_eq!(rt; answered.get(), 5);
     Ok(())
 }

@@ -7,8 +7,8 @@ loop-rest-preserved c =
     let l = c.loop-rest in
     one_written _ l.rest l.start l.digits l.invariant (omega arith) (omega arith)
 
-pub returns : goal.returns
-returns c =
+pub returns-clause-appended : goal.returns-clause-appended
+returns-clause-appended c =
     let l = c.loop-rest in
     let digits = all_written _ l.rest l.start l.digits l.invariant (omega arith) in
     search (rules, digits, c.extend_from_slice.ensures.items)

@@ -1,0 +1,22 @@
+-- The lines of an input.
+use Rattle.std.specs.Prelude.{ℕ, List, [], ◌∷◌, ◌++◌, ◌==◌, cond, take}
+use Rattle.bhtable.specs.Lines.{line_len}
+
+-- the bytes of a line, but for one carriage return at their end
+abbrev pub without_return : List ℕ → List ℕ
+without_return bytes = take (line_len bytes) bytes
+
+-- the bytes behind the last newline are a line where there are any
+abbrev pub last_line : List ℕ → List (List ℕ)
+last_line [] = []
+last_line (byte ∷ bytes) = without_return (byte ∷ bytes) ∷ []
+
+-- the lines of the bytes, where those of `line` stand right before them
+abbrev pub lines_after : List ℕ → List ℕ → List (List ℕ)
+lines_after line [] = last_line line
+lines_after line (byte ∷ bytes) =
+    cond (byte == 10) (without_return line ∷ lines_after [] bytes) (lines_after (line ++ byte ∷ []) bytes)
+
+-- what newlines end, and then the last line
+abbrev pub lines_of : List ℕ → List (List ℕ)
+lines_of bytes = lines_after [] bytes

@@ -1,0 +1,92 @@
+-- What a session holds of the lines that it took.
+use Rattle.std.specs.Prelude.{ℕ, ◌≡◌, ◌⊎◌, ◌+◌, ◌≤◌, List, [], ◌∷◌, ◌++◌, Option, None, Some, Result, Ok, Err, length}
+use Rattle.std.specs.Io.KnownBytes.{Appends, append_known}
+use Rattle.bucket_slots.specs.declared.bucket.TheConstants.{CACHE, MAP}
+use Rattle.bucket_table.specs.MapState.{MapState}
+use Rattle.bucket_table.specs.OneMap.{state_of}
+use Rattle.bucket_table.specs.declared.script.call.Call.{Call}
+use Rattle.bhtable.specs.Answers.{AreAnswers, IsUnreadable}
+use Rattle.bhtable.specs.Requests.{Asks}
+use Rattle.bhtable.specs.Words.{words_of}
+use Rattle.bhtable.specs.declared.request.Request.TheVariants.{Call as Calls}
+use Rattle.bhtable.specs.declared.session.Session.{Session}
+use Rattle.bhtable.specs.declared.session.Table.{Table}
+use Rattle.bhtable.specs.declared.session.Table.TheVariants.{Map, Cache}
+use Rattle.bhtable.specs.declared.stop.Stop.{Stop}
+use Rattle.bhtable.specs.declared.stop.Stop.TheVariants.{BadLine, NoMemory, InputFailed, OutputFailed}
+
+-- the map that a table is
+abbrev pub map_of : Table → MapState ℕ ℕ
+map_of (Map table) = state_of MAP table
+map_of (Cache table) = state_of CACHE table
+
+-- the map at hand, where there is a table
+abbrev pub map_at_hand : Option Table → Option (MapState ℕ ℕ)
+map_at_hand None = None
+map_at_hand (Some table) = Some (map_of table)
+
+-- the lines that have words ask for these calls, and none is too long
+abbrev pub AskForCalls : List (List ℕ) → List (Call ℕ ℕ) → Type 0
+AskForCalls [] calls = calls ≡ []
+AskForCalls (line ∷ lines) calls =
+    (length line ≤ 4096) × (((words_of line ≡ []) × AskForCalls lines calls)
+    ⊎ ((call : Call ℕ ℕ) × (others : List (Call ℕ ℕ)) × Asks (words_of line) (Calls call) × (calls ≡ call ∷ others)
+        × AskForCalls lines others))
+
+-- from the output `start` on, these lines are answered, in the output and in the text that waits for it
+pub record HasReplied (start output : Option (List ℕ)) (waiting : List ℕ) (lines : List (List ℕ))
+    (table : Option (MapState ℕ ℕ)) : Type 0 where
+  pub text : List ℕ
+  pub answers : AreAnswers None lines text table
+  pub written : Appends start (append_known output waiting) text
+
+-- the first of these lines are answered, and the calls that the others ask for wait
+pub record HasTaken (start output : Option (List ℕ)) (session : Session) (lines : List (List ℕ)) : Type 0 where
+  pub answered : List (List ℕ)
+  pub waiting : List (List ℕ)
+  pub in_order : lines ≡ answered ++ waiting
+  pub replied : HasReplied start output session.replies.text.items answered (map_at_hand session.table)
+  pub calls : AskForCalls waiting session.calls.items
+  pub needed : session.table ≡ None → session.calls.items ≡ []
+
+-- the first of these lines are taken, or are answered and no call waits
+pub record HasTakenSome (start output : Option (List ℕ)) (session : Session) (lines : List (List ℕ)) : Type 0 where
+  pub first : List (List ℕ)
+  pub others : List (List ℕ)
+  pub in_order : lines ≡ first ++ others
+  pub kept : HasTaken start output session first
+      ⊎ ((session.calls.items ≡ [])
+          × ((table : Option (MapState ℕ ℕ)) × HasReplied start output session.replies.text.items first table))
+
+-- the lines before one that can't be read are taken, and this is its number
+pub record HasFoundBad (start output : Option (List ℕ)) (session : Session) (lines : List (List ℕ)) (number : ℕ)
+    : Type 0 where
+  pub first : List (List ℕ)
+  pub line : List ℕ
+  pub others : List (List ℕ)
+  pub in_order : lines ≡ first ++ line ∷ others
+  pub numbered : number ≡ length first + 1
+  pub taken : HasTaken start output session first
+  pub unreadable : IsUnreadable (map_at_hand session.table) line
+
+-- what is left of the lines that were taken after a stop; a writer that fails leaves nothing known
+abbrev pub HasStopped : Stop → Option (List ℕ) → Option (List ℕ) → Session → List (List ℕ) → Type 0
+HasStopped (BadLine number) start output session lines = HasTaken start output session lines
+HasStopped NoMemory start output session lines = HasTakenSome start output session lines
+HasStopped InputFailed start output session lines = ⊥
+HasStopped OutputFailed start output session lines = session.calls.items ≡ []
+
+-- a stop at a bad line comes at a line that can't be read
+abbrev pub IsBadAt : Stop → Option (MapState ℕ ℕ) → List ℕ → Type 0
+IsBadAt (BadLine number) table line = IsUnreadable table line
+IsBadAt NoMemory table line = Unit {0}
+IsBadAt InputFailed table line = Unit {0}
+IsBadAt OutputFailed table line = Unit {0}
+
+-- what is taken of all lines of an input when reading ends so
+abbrev pub HasEnded : Result (Unit {0}) Stop → Option (List ℕ) → Option (List ℕ) → Session → List (List ℕ) → Type 0
+HasEnded (Ok done) start output session lines = HasTaken start output session lines
+HasEnded (Err (BadLine number)) start output session lines = HasFoundBad start output session lines number
+HasEnded (Err NoMemory) start output session lines = HasTakenSome start output session lines
+HasEnded (Err InputFailed) start output session lines = HasTakenSome start output session lines
+HasEnded (Err OutputFailed) start output session lines = session.calls.items ≡ []
