@@ -1,8 +1,8 @@
 -- What the words behind a verb ask for, as they are read one by one.
-use Rattle.std.proofs.Common.{◌≡◌, ℕ, List, [], ◌∷◌, ◌++◌, length, refl, sym, ◌∙◌}
+use Rattle.std.proofs.Common.{◌≡◌, ◌<◌, ℕ, Bool, List, [], ◌∷◌, ◌++◌, length, refl, sym, ◌∙◌}
 use Rattle.bhtable.specs.Limits.{AreLimits}
 use Rattle.bhtable.specs.Numbers.{Writes}
-use Rattle.bhtable.specs.Requests.{AsksForTable, kind_word, hash_word}
+use Rattle.bhtable.specs.Requests.{AsksForEpoch, AsksForTable, hash_word, kind_word, mark_word}
 use Rattle.bhtable.specs.declared.request.Kind.{Kind}
 use Rattle.bhtable.specs.declared.request.Limits.{Limits}
 use Rattle.bucket_table.specs.declared.script.hashes.ScriptHash.{ScriptHash}
@@ -29,4 +29,15 @@ table_asked words1 words2 words3 words4 words5 kind_named hash_named kind hash l
     greatest = (greatest_is.0, greatest_is.1 ∙ sym same.1);
     limits = rw (same.0, same.1) are_limits;
   },
+)
+
+-- a number and whether marks are kept
+pub epoch_asked : (words1 words2 words3 : List (List ℕ)) (kept_named : List ℕ) (epoch : ℕ) (keep : Bool)
+    → NextIs words1 words2 epoch → words2 ≡ kept_named ∷ words3 → kept_named ≡ mark_word keep → epoch < 256
+    → (used : List (List ℕ)) × (length used ≡ 2) × (words1 ≡ used ++ words3) × AsksForEpoch used (record { epoch = epoch; keep = keep })
+epoch_asked words1 words2 words3 kept_named epoch keep (number, first, epoch_is) second keep_is small = (
+  number ∷ mark_word keep ∷ [],
+  refl,
+  cc,
+  record { number = number; in_order = refl; epoch = epoch_is; byte = small },
 )

@@ -3,9 +3,9 @@ use Rattle.std.proofs.Common.{◌≡◌, ℕ, List, [], ◌∷◌, ◌++◌, len
 use Rattle.std.specs.Str.{bytes_eq}
 use Rattle.bhtable.specs.Requests.{Asks, AsksNothing, IsRefused, count_of, verb_word}
 use Rattle.bhtable.specs.declared.request.Request.{Request}
-use Rattle.bhtable.specs.declared.request.Request.TheVariants.{New as RequestNew, Call as RequestCall}
+use Rattle.bhtable.specs.declared.request.Request.TheVariants.{New as RequestNew, Call as RequestCall, Epoch as RequestEpoch}
 use Rattle.bhtable.specs.declared.request.Verb.{Verb}
-use Rattle.bhtable.specs.declared.request.Verb.TheVariants.{New, Put, Write, Read, Peek, Remove, Touch, Evict, Count, Has}
+use Rattle.bhtable.specs.declared.request.Verb.TheVariants.{New, Put, Write, Read, Peek, Remove, Touch, Evict, Count, Has, Epoch}
 use Rattle.bucket_table.specs.declared.script.call.Call.TheVariants.{Put as CallPut, Write as CallWrite, Read as CallRead, Peek as CallPeek, Remove as CallRemove, Touch as CallTouch, Evict as CallEvict, Count as CallCount, Has as CallHas}
 
 -- the verb that a word names
@@ -20,7 +20,8 @@ named word =
     (cond (bytes_eq word (verb_word Touch)) (Some Touch)
     (cond (bytes_eq word (verb_word Evict)) (Some Evict)
     (cond (bytes_eq word (verb_word Count)) (Some Count)
-    (cond (bytes_eq word (verb_word Has)) (Some Has) None)))))))))
+    (cond (bytes_eq word (verb_word Has)) (Some Has)
+    (cond (bytes_eq word (verb_word Epoch)) (Some Epoch) None))))))))))
 
 named-verb_word : (verb : Verb) → named (verb_word verb) ≡ Some verb
 named-verb_word New = refl
@@ -33,6 +34,7 @@ named-verb_word Touch = refl
 named-verb_word Evict = refl
 named-verb_word Count = refl
 named-verb_word Has = refl
+named-verb_word Epoch = refl
 
 Some-injective : (a b : Verb) → Some a ≡ Some b → a ≡ b
 Some-injective a b same = ap (λ (verb : Option Verb). elim verb [ Some named ↦ named | None ↦ a ]) same
@@ -53,6 +55,7 @@ verb_for (RequestCall (CallTouch key)) = Touch
 verb_for (RequestCall (CallEvict key)) = Evict
 verb_for (RequestCall CallCount) = Count
 verb_for (RequestCall CallHas) = Has
+verb_for (RequestEpoch generation) = Epoch
 
 abbrev first_of : List (List ℕ) → List ℕ
 first_of [] = []
@@ -75,6 +78,7 @@ starts_with_verb first words (RequestCall (CallTouch key)) (a, same, a_is) = ap 
 starts_with_verb first words (RequestCall (CallEvict key)) (a, same, a_is) = ap first_of same
 starts_with_verb first words (RequestCall CallCount) same = ap first_of same
 starts_with_verb first words (RequestCall CallHas) same = ap first_of same
+starts_with_verb first words (RequestEpoch generation) (rest, same, asked) = ap first_of same
 
 -- as many words as it needs stand behind
 length-asked : (first : List ℕ) (words : List (List ℕ)) (request : Request) → Asks (first ∷ words) request
@@ -89,6 +93,7 @@ length-asked first words (RequestCall (CallTouch key)) (a, same, a_is) = ap (λ 
 length-asked first words (RequestCall (CallEvict key)) (a, same, a_is) = ap (λ ws. length (others_of ws)) same
 length-asked first words (RequestCall CallCount) same = ap (λ ws. length (others_of ws)) same
 length-asked first words (RequestCall CallHas) same = ap (λ ws. length (others_of ws)) same
+length-asked first words (RequestEpoch generation) (rest, same, asked) = ap (λ ws. length (others_of ws)) same ∙ ap length asked.in_order
 
 -- its verb doesn't refuse them
 refused_by_verb : (first : List ℕ) (words : List (List ℕ)) (request : Request) → Asks (first ∷ words) request
@@ -106,6 +111,8 @@ refused_by_verb first words (RequestCall (CallTouch key)) (a, same, a_is) refuse
 refused_by_verb first words (RequestCall (CallEvict key)) (a, same, a_is) refused = refused a [] (ap others_of same) a_is.0
 refused_by_verb first words (RequestCall CallCount) same refused = refused
 refused_by_verb first words (RequestCall CallHas) same refused = refused
+refused_by_verb first words (RequestEpoch generation) (rest, same, asked) refused =
+    refused generation asked.number [] (ap others_of same ∙ asked.in_order) asked.epoch asked.byte
 
 pub unknown_verb : (first : List ℕ) (words : List (List ℕ)) → ((verb : Verb) → first ≡ verb_word verb → ⊥) → AsksNothing (first ∷ words)
 unknown_verb first words unknown request asked = unknown (verb_for request) (starts_with_verb first words request asked)

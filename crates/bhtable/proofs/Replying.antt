@@ -5,7 +5,7 @@ use Rattle.std.specs.Io.{StartsWith}
 use Rattle.std.specs.Io.KnownBytes.{Appends, Keeps, append_known}
 use Rattle.bucket_table.specs.MapState.{MapState}
 use Rattle.bucket_table.specs.declared.script.reply.Reply.TheVariants.{Done}
-use Rattle.bhtable.specs.Answers.{AreAnswers, fresh_map}
+use Rattle.bhtable.specs.Answers.{AreAnswers, IsAnswer}
 use Rattle.bhtable.specs.Outputs.{HasAnswered}
 use Rattle.bhtable.specs.Requests.{Asks}
 use Rattle.bhtable.specs.Sessions.{HasReplied}
@@ -44,23 +44,15 @@ replied_same start output output2 waiting waiting2 lines table replied kept =
     subst (λ (ls : List (List ℕ)). HasReplied start output2 waiting2 ls table) (append-nil lines)
     (replied_more start output output2 waiting waiting2 [] lines [] table table replied (refl, refl) kept)
 
--- a fresh table
-pub replied_new : (start output output2 : Option (List ℕ)) (waiting waiting2 : List ℕ) (lines : List (List ℕ)) (line : List ℕ) (table : Option (MapState ℕ ℕ)) (new : NewTable)
-    → HasReplied start output waiting lines table → length line ≤ 4096 → Asks (words_of line) (New new)
+-- one line more, which is told that it is done
+pub replied_done : (start output output2 : Option (List ℕ)) (waiting waiting2 : List ℕ) (lines : List (List ℕ)) (line : List ℕ)
+    (table after : Option (MapState ℕ ℕ)) → HasReplied start output waiting lines table → length line ≤ 4096
+    → IsAnswer table line (line_of (text_of Done)) after
     → Appends (append_known output waiting) (append_known output2 waiting2) (line_of (text_of Done))
-    → HasReplied start output2 waiting2 (lines ++ line ∷ []) (Some (fresh_map new))
-replied_new start output output2 waiting waiting2 lines line table new replied short asks grown =
-    let answers : AreAnswers table (line ∷ []) (line_of (text_of Done)) (Some (fresh_map new)) = (
-      short,
-      (
-        line_of (text_of Done),
-        [],
-        Some (fresh_map new),
-        inr (inl (record { table = new; asked = asks; answer = refl; fresh = refl })),
-        (refl, refl),
-        sym (append-nil _),
-      ),
-    ) in
+    → HasReplied start output2 waiting2 (lines ++ line ∷ []) after
+replied_done start output output2 waiting waiting2 lines line table after replied short answer grown =
+    let answers : AreAnswers table (line ∷ []) (line_of (text_of Done)) after =
+    (short, (line_of (text_of Done), [], after, answer, (refl, refl), sym (append-nil _))) in
     replied_more start output output2 waiting waiting2 _ lines (line ∷ []) table _ replied answers grown
 
 -- all that waits is written out

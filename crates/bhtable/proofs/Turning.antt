@@ -1,9 +1,9 @@
--- What a session holds after a fresh table, and after its replies are written out.
-use Rattle.std.proofs.Common.{◌≡◌, ℕ, ◌≤◌, inr, List, [], ◌∷◌, ◌++◌, Option, Some, Result, Ok, Err, OnOk, IfErr, MatchResult, length, sym, subst, ◌∙◌, append-nil}
+-- What a session holds after a line that changes no pair, and after its replies are written out.
+use Rattle.std.proofs.Common.{◌≡◌, ℕ, ◌≤◌, inr, List, [], ◌∷◌, ◌++◌, Option, None, Some, IsSome, Result, Ok, Err, OnOk, IfErr, MatchResult, length, sym, subst, ◌∙◌, append-nil}
 use Rattle.std.specs.Io.KnownBytes.{Appends, append_known}
 use Rattle.bucket_table.specs.MapState.{MapState}
 use Rattle.bucket_table.specs.declared.script.reply.Reply.TheVariants.{Done}
-use Rattle.bhtable.specs.Answers.{fresh_map}
+use Rattle.bhtable.specs.Answers.{IsAnswer}
 use Rattle.bhtable.specs.Outputs.{HasAnswered}
 use Rattle.bhtable.specs.Replies.{IsPushed}
 use Rattle.bhtable.specs.Requests.{Asks}
@@ -14,9 +14,10 @@ use Rattle.bhtable.specs.Words.{words_of}
 use Rattle.bhtable.specs.declared.request.NewTable.{NewTable}
 use Rattle.bhtable.specs.declared.request.Request.TheVariants.{New}
 use Rattle.bhtable.specs.declared.session.Session.{Session}
+use Rattle.bhtable.specs.declared.session.Table.{Table}
 use Rattle.bhtable.specs.declared.stop.Stop.{Stop}
 use Rattle.bhtable.specs.declared.stop.Stop.TheVariants.{BadLine, NoMemory, InputFailed, OutputFailed}
-use Rattle.bhtable.proofs.Replying.{answered_out, replied_new, replied_out, replied_same}
+use Rattle.bhtable.proofs.Replying.{answered_out, replied_done, replied_out, replied_same}
 use Rattle.bhtable.proofs.Taking.{taken_all}
 
 -- a want of memory or a writer that fails isn't a line that can't be read
@@ -29,28 +30,39 @@ at_line (Err NoMemory) P Q table line left lack = (left, tt)
 at_line (Err InputFailed) P Q table line left lack = absurd lack
 at_line (Err OutputFailed) P Q table line left lack = (left, tt)
 
--- a fresh table, once no call waits
-pub taken_new : (start output output2 : Option (List ℕ)) (session session2 : Session) (lines : List (List ℕ)) (line : List ℕ) (new : NewTable)
-    (result : Result (Unit {0}) Stop) → HasReplied start output session.replies.text.items lines (map_at_hand session.table)
-    → session.calls.items ≡ [] → length line ≤ 4096 → Asks (words_of line) (New new)
+-- a line that is told that it is done, once no call waits
+pub taken_done : (start output output2 : Option (List ℕ)) (session session2 : Session) (lines : List (List ℕ)) (line : List ℕ)
+    (after : Option (MapState ℕ ℕ)) (result : Result (Unit {0}) Stop)
+    → HasReplied start output session.replies.text.items lines (map_at_hand session.table)
+    → session.calls.items ≡ [] → length line ≤ 4096 → IsAnswer (map_at_hand session.table) line (line_of (text_of Done)) after
     → IsPushed result (append_known output session.replies.text.items) (append_known output2 session2.replies.text.items) (line_of (text_of Done))
-    → map_at_hand session2.table ≡ Some (fresh_map new) → session2.calls.items ≡ session.calls.items
+    → map_at_hand session2.table ≡ after → session2.calls.items ≡ session.calls.items
     → MatchResult result (λ _. HasTaken start output2 session2 (lines ++ line ∷ [])) (λ stop. HasStopped stop start output2 session2 lines)
-taken_new start output output2 session session2 lines line new (Ok done) replied none short asks grown fresh calls =
+taken_done start output output2 session session2 lines line after (Ok done) replied none short answer grown table calls =
     taken_all start output2 session2 (lines ++ line ∷ [])
-    (rw fresh (replied_new start output output2 session.replies.text.items session2.replies.text.items lines line (map_at_hand session.table) new replied short asks grown))
+    (rw table (replied_done start output output2 session.replies.text.items session2.replies.text.items lines line (map_at_hand session.table) after replied short answer grown))
     (calls ∙ none)
-taken_new start output output2 session session2 lines line new (Err (BadLine number)) replied none short asks never fresh calls = absurd never
-taken_new start output output2 session session2 lines line new (Err NoMemory) replied none short asks kept fresh calls = record {
+taken_done start output output2 session session2 lines line after (Err (BadLine number)) replied none short answer never table calls = absurd never
+taken_done start output output2 session session2 lines line after (Err NoMemory) replied none short answer kept table calls = record {
   first = lines;
   others = [];
   in_order = sym (append-nil lines);
-  kept = inr (calls ∙ none, (map_at_hand session.table,
-      replied_same start output output2 session.replies.text.items session2.replies.text.items lines (map_at_hand session.table) replied kept));
+  kept = inr (
+    calls ∙ none,
+    (
+      map_at_hand session.table,
+      replied_same start output output2 session.replies.text.items session2.replies.text.items lines (map_at_hand session.table) replied kept,
+    ),
+  );
 }
-taken_new start output output2 session session2 lines line new (Err InputFailed) replied none short asks never fresh calls = absurd never
-taken_new start output output2 session session2 lines line new (Err OutputFailed) replied none short asks unknown fresh calls =
+taken_done start output output2 session session2 lines line after (Err InputFailed) replied none short answer never table calls = absurd never
+taken_done start output output2 session session2 lines line after (Err OutputFailed) replied none short answer unknown table calls =
     calls ∙ none
+
+-- where there is a table there is a map
+pub map_there : (table : Option Table) → IsSome table → map_at_hand table ≡ None → ⊥
+map_there None there none = absurd (cc)
+map_there (Some table) there none = absurd (cc)
 
 -- the text that waited is in the output
 pub wrote : (start output output2 : Option (List ℕ)) (session session2 : Session) (lines : List (List ℕ)) (result : Result (Unit {0}) Stop)
@@ -59,7 +71,7 @@ pub wrote : (start output output2 : Option (List ℕ)) (session session2 : Sessi
     → OnOk result (session2.replies.text.items ≡ []) → OnOk result (Appends output output2 session.replies.text.items)
     → IfErr result (λ stop. stop ≡ OutputFailed)
     → MatchResult result (λ _. HasAnswered lines start output2 [] × HasTaken start output2 session2 lines)
-        (λ stop. HasStopped stop start output2 session2 lines)
+    (λ stop. HasStopped stop start output2 session2 lines)
 wrote start output output2 session session2 lines (Ok done) replied none calls table empty written failed = (
   answered_out start output output2 session.replies.text.items lines (map_at_hand session.table) replied written,
   taken_all start output2 session2 lines

@@ -8,51 +8,56 @@ use Rattle.bhtable.specs.Requests.{Asks, AsksNothing}
 use Rattle.bhtable.specs.Sessions.{map_at_hand, map_of}
 use Rattle.bhtable.specs.Words.{words_of}
 use Rattle.bhtable.specs.declared.request.Request.{Request}
-use Rattle.bhtable.specs.declared.request.Request.TheVariants.{New, Call as Calls}
+use Rattle.bhtable.specs.declared.request.Request.TheVariants.{New, Call as Calls, Epoch}
 use Rattle.bhtable.specs.declared.request.Verb.TheVariants.{New as VerbNew}
 use Rattle.bhtable.specs.declared.session.Table.{Table}
 use Rattle.bhtable.proofs.Refusing.{starts_with_verb, verb_for, verb_word_injective}
 
--- what asks for a call has words
-call_has_words : (words : List (List ℕ)) (call : Call ℕ ℕ) → Asks words (Calls call) → words ≡ [] → ⊥
-call_has_words words (Put key value) (a, b, same, a_is, b_is) none = absurd (cc)
-call_has_words words (Write key value) (a, b, same, a_is, b_is) none = absurd (cc)
-call_has_words words (Read key) (a, same, a_is) none = absurd (cc)
-call_has_words words (Peek key) (a, same, a_is) none = absurd (cc)
-call_has_words words (Remove key) (a, same, a_is) none = absurd (cc)
-call_has_words words (Touch key) (a, same, a_is) none = absurd (cc)
-call_has_words words (Evict key) (a, same, a_is) none = absurd (cc)
-call_has_words words Count same none = absurd (cc)
-call_has_words words Has same none = absurd (cc)
+-- what needs a table isn't a fresh one
+not_new : (request : Request) → NeedsTable request → verb_for request ≡ VerbNew → ⊥
+not_new (New table) needs same = needs
+not_new (Calls (Put key value)) needs same = absurd (cc)
+not_new (Calls (Write key value)) needs same = absurd (cc)
+not_new (Calls (Read key)) needs same = absurd (cc)
+not_new (Calls (Peek key)) needs same = absurd (cc)
+not_new (Calls (Remove key)) needs same = absurd (cc)
+not_new (Calls (Touch key)) needs same = absurd (cc)
+not_new (Calls (Evict key)) needs same = absurd (cc)
+not_new (Calls Count) needs same = absurd (cc)
+not_new (Calls Has) needs same = absurd (cc)
+not_new (Epoch generation) needs same = absurd (cc)
 
-call_is_not_new : (call : Call ℕ ℕ) → verb_for (Calls call) ≡ VerbNew → ⊥
-call_is_not_new (Put key value) same = absurd (cc)
-call_is_not_new (Write key value) same = absurd (cc)
-call_is_not_new (Read key) same = absurd (cc)
-call_is_not_new (Peek key) same = absurd (cc)
-call_is_not_new (Remove key) same = absurd (cc)
-call_is_not_new (Touch key) same = absurd (cc)
-call_is_not_new (Evict key) same = absurd (cc)
-call_is_not_new Count same = absurd (cc)
-call_is_not_new Has same = absurd (cc)
+-- what asks for something has words
+has_words : (words : List (List ℕ)) (request : Request) → Asks words request → words ≡ [] → ⊥
+has_words words (New table) (rest, same, asked) none = absurd (cc)
+has_words words (Calls (Put key value)) (a, b, same, a_is, b_is) none = absurd (cc)
+has_words words (Calls (Write key value)) (a, b, same, a_is, b_is) none = absurd (cc)
+has_words words (Calls (Read key)) (a, same, a_is) none = absurd (cc)
+has_words words (Calls (Peek key)) (a, same, a_is) none = absurd (cc)
+has_words words (Calls (Remove key)) (a, same, a_is) none = absurd (cc)
+has_words words (Calls (Touch key)) (a, same, a_is) none = absurd (cc)
+has_words words (Calls (Evict key)) (a, same, a_is) none = absurd (cc)
+has_words words (Calls Count) same none = absurd (cc)
+has_words words (Calls Has) same none = absurd (cc)
+has_words words (Epoch generation) (rest, same, asked) none = absurd (cc)
 
--- what asks for a call asks for nothing but calls
-asks_for_calls : (words : List (List ℕ)) (call : Call ℕ ℕ) (request : Request) → Asks words (Calls call) → Asks words request
-    → NeedsTable request
-asks_for_calls words call (Calls other) asks also = tt
-asks_for_calls [] call (New table) asks also = call_has_words [] call asks refl
-asks_for_calls (first ∷ words) call (New table) asks also =
-    call_is_not_new call (verb_word_injective _ _
-    (sym (starts_with_verb first words (Calls call) asks) ∙ starts_with_verb first words (New table) also))
+-- whatever else the same words ask for needs a table too
+also_needs_table : (words : List (List ℕ)) (one other : Request) → NeedsTable one → Asks words one → Asks words other → NeedsTable other
+also_needs_table words one (Calls call) needs asks also = tt
+also_needs_table words one (Epoch generation) needs asks also = tt
+also_needs_table [] one (New table) needs asks also = has_words [] one asks refl
+also_needs_table (first ∷ words) one (New table) needs asks also =
+    not_new one needs (verb_word_injective _ _
+    (sym (starts_with_verb first words one asks) ∙ starts_with_verb first words (New table) also))
 
 pub unreadable_words : (table : Option (MapState ℕ ℕ)) (line : List ℕ) → (words_of line ≡ [] → ⊥) × AsksNothing (words_of line)
     → IsUnreadable table line
 unreadable_words table line (some, nothing) = inr (some, λ request asks. absurd (nothing request asks))
 
-pub call_without_table : (table : Option (MapState ℕ ℕ)) (line : List ℕ) (call : Call ℕ ℕ) → Asks (words_of line) (Calls call)
+pub without_table : (table : Option (MapState ℕ ℕ)) (line : List ℕ) (request : Request) → NeedsTable request → Asks (words_of line) request
     → table ≡ None → IsUnreadable table line
-call_without_table table line call asks none =
-    inr (call_has_words (words_of line) call asks, λ request also. (asks_for_calls (words_of line) call request asks also, none))
+without_table table line request needs asks none =
+    inr (has_words (words_of line) request asks, λ other also. (also_needs_table (words_of line) request other needs asks also, none))
 
 none_is_not_some : (table : Option Table) → table ≡ None → IsSome table → ⊥
 none_is_not_some None none there = absurd (cc)

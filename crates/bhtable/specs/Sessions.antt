@@ -1,7 +1,7 @@
 -- What a session holds of the lines that it took.
 use Rattle.std.specs.Prelude.{ℕ, ◌≡◌, ◌⊎◌, ◌+◌, ◌≤◌, List, [], ◌∷◌, ◌++◌, Option, None, Some, Result, Ok, Err, length}
 use Rattle.std.specs.Io.KnownBytes.{Appends, append_known}
-use Rattle.bucket_slots.specs.declared.bucket.TheConstants.{CACHE, MAP}
+use Rattle.bucket_slots.specs.declared.bucket.TheConstants.{CACHE, INDEX, MAP}
 use Rattle.bucket_table.specs.MapState.{MapState}
 use Rattle.bucket_table.specs.OneMap.{state_of}
 use Rattle.bucket_table.specs.declared.script.call.Call.{Call}
@@ -11,13 +11,14 @@ use Rattle.bhtable.specs.Words.{words_of}
 use Rattle.bhtable.specs.declared.request.Request.TheVariants.{Call as Calls}
 use Rattle.bhtable.specs.declared.session.Session.{Session}
 use Rattle.bhtable.specs.declared.session.Table.{Table}
-use Rattle.bhtable.specs.declared.session.Table.TheVariants.{Map, Cache}
+use Rattle.bhtable.specs.declared.session.Table.TheVariants.{Map, Index, Cache}
 use Rattle.bhtable.specs.declared.stop.Stop.{Stop}
 use Rattle.bhtable.specs.declared.stop.Stop.TheVariants.{BadLine, NoMemory, InputFailed, OutputFailed}
 
 -- the map that a table is
 abbrev pub map_of : Table → MapState ℕ ℕ
 map_of (Map table) = state_of MAP table
+map_of (Index table) = state_of INDEX table
 map_of (Cache table) = state_of CACHE table
 
 -- the map at hand, where there is a table
@@ -31,7 +32,7 @@ AskForCalls [] calls = calls ≡ []
 AskForCalls (line ∷ lines) calls =
     (length line ≤ 4096) × (((words_of line ≡ []) × AskForCalls lines calls)
     ⊎ ((call : Call ℕ ℕ) × (others : List (Call ℕ ℕ)) × Asks (words_of line) (Calls call) × (calls ≡ call ∷ others)
-        × AskForCalls lines others))
+    × AskForCalls lines others))
 
 -- from the output `start` on, these lines are answered, in the output and in the text that waits for it
 pub record HasReplied (start output : Option (List ℕ)) (waiting : List ℕ) (lines : List (List ℕ))
@@ -56,7 +57,7 @@ pub record HasTakenSome (start output : Option (List ℕ)) (session : Session) (
   pub in_order : lines ≡ first ++ others
   pub kept : HasTaken start output session first
       ⊎ ((session.calls.items ≡ [])
-          × ((table : Option (MapState ℕ ℕ)) × HasReplied start output session.replies.text.items first table))
+      × ((table : Option (MapState ℕ ℕ)) × HasReplied start output session.replies.text.items first table))
 
 -- the lines before one that can't be read are taken, and this is its number
 pub record HasFoundBad (start output : Option (List ℕ)) (session : Session) (lines : List (List ℕ)) (number : ℕ)

@@ -2,16 +2,16 @@
 //!
 //! Words are compared as bytes. Whatever isn't UTF-8 stands in a word that no line has, so it needs
 //! no test of its own.
-ghost use Rattle.std.specs.Prelude.{◌≡◌, ◌↔◌, ℕ, List, [], ◌∷◌, ◌++◌, IfNone, IfOk, IfSome, IsSome, MatchOption, OnErr, length};
+ghost use Rattle.std.specs.Prelude.{◌≡◌, ◌↔◌, ℕ, Bool, List, [], ◌∷◌, ◌++◌, IfNone, IfOk, IfSome, IsSome, MatchOption, OnErr, length};
 ghost use Rattle.bhtable.specs.Limits.{AreLimits};
-ghost use Rattle.bhtable.specs.Requests.{Asks, AsksForTable, AsksNothing, IsRefused, NoTableIsNext, count_of, hash_word, kind_word, verb_word};
+ghost use Rattle.bhtable.specs.Requests.{Asks, AsksForEpoch, AsksForTable, AsksNothing, IsRefused, NoEpochIsNext, NoTableIsNext, count_of, hash_word, kind_word, mark_word, verb_word};
 ghost use Rattle.bhtable.specs.Words.{words_of};
 ghost use Rattle.bhtable.specs.declared.request.Kind.{Kind};
 ghost use Rattle.bhtable.specs.declared.request.Verb.{Verb};
 ghost use Rattle.bucket_table.specs.declared.script.hashes.ScriptHash.{ScriptHash};
 
 use crate::words::Words;
-use bucket_table::script::{Call, ScriptHash};
+use bucket_table::script::{Call, FixedGeneration, ScriptHash};
 
 /// A line that can't be read.
 #[derive(Clone, Copy, Debug, PartialEq, Eq)]
@@ -24,6 +24,8 @@ pub(crate) enum Request {
     New(NewTable),
     /// A call on the table at hand.
     Call(Call<u64, u64>),
+    /// What removed pairs of an index are marked with from here on, and whether marks are kept.
+    Epoch(FixedGeneration),
 }
 
 /// A table to be made.
@@ -38,6 +40,7 @@ pub(crate) struct NewTable {
 #[derive(Clone, Copy)]
 pub(crate) enum Kind {
     Map,
+    Index,
     Cache,
 }
 
@@ -61,6 +64,7 @@ enum Verb {
     Evict,
     Count,
     Has,
+    Epoch,
 }
 
 /// Reads what a line asks for: nothing, where it has no words.
@@ -109,6 +113,7 @@ fn verb_of(word: &[u8]) -> Option<Verb>
         b"evict" => Some(Verb::Evict),
         b"count" => Some(Verb::Count),
         b"has" => Some(Verb::Has),
+        b"epoch" => Some(Verb::Epoch),
         _ => None,
     }
 }
@@ -131,6 +136,7 @@ fn request_of(verb: Verb, words: &mut Words<'_>) -> Option<Request>
         Verb::Evict => Some(Request::Call(Call::Evict(words.number()?))),
         Verb::Count => Some(Request::Call(Call::Count)),
         Verb::Has => Some(Request::Call(Call::Has)),
+        Verb::Epoch => Some(Request::Epoch(generation_in(words)?)),
     }
 }
 
@@ -154,6 +160,7 @@ fn kind_of(word: &[u8]) -> Option<Kind>
 {
     match word {
         b"map" => Some(Kind::Map),
+        b"index" => Some(Kind::Index),
         b"cache" => Some(Kind::Cache),
         _ => None,
     }
@@ -167,6 +174,32 @@ fn hash_of(word: &[u8]) -> Option<ScriptHash>
         b"zero" => Some(ScriptHash::Zero),
         b"id" => Some(ScriptHash::Id),
         b"spread" => Some(ScriptHash::Spread),
+        _ => None,
+    }
+}
+
+fn generation_in(words: &mut Words<'_>) -> Option<FixedGeneration>
+    ensures asked { IfSome result (λ generation. (used : List (List ℕ)) × (length used ≡ count_of Verb.Epoch)
+        × (words_of words.old.rest.now ≡ used ++ words_of words.new.rest.now)
+        × AsksForEpoch used generation) }
+    ensures refused { IfNone result (NoEpochIsNext (words_of words.old.rest.now)) }
+{
+    let epoch = words.number()?;
+    let keep = keep_of(words.next_word()?)?;
+    if epoch > 255 {
+        return None;
+    }
+    let epoch = epoch as u8;
+    Some(FixedGeneration { epoch, keep })
+}
+
+fn keep_of(word: &[u8]) -> Option<bool>
+    ensures named { IfSome result (λ keep. word.now ≡ mark_word keep) }
+    ensures refused { IfNone result ((keep : Bool) → word.now ≡ mark_word keep → ⊥) }
+{
+    match word {
+        b"keep" => Some(true),
+        b"drop" => Some(false),
         _ => None,
     }
 }

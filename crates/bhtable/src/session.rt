@@ -1,8 +1,9 @@
 //! A script as it runs: the table at hand, the calls gathered for it, and the replies.
 //!
 //! Calls are gathered and given to the table together, since it makes room for all their replies at
-//! once. They are answered before a `new`, before the output is written, and where 1,024 wait.
-ghost use Rattle.std.specs.Prelude.{◌≡◌, ◌⊎◌, ◌≤◌, ◌↔◌, ℕ, List, [], ◌∷◌, ◌++◌, Option, IfErr, IfOk, IsSome, MatchResult, OnErr, length, nat_eq};
+//! once. They are answered before a `new` and an `epoch`, before the output is written, and where
+//! 1,024 wait.
+ghost use Rattle.std.specs.Prelude.{◌≡◌, ◌⊎◌, ◌≤◌, ◌↔◌, ℕ, List, [], ◌∷◌, ◌++◌, Option, IfErr, IfOk, IsSome, MatchResult, OnErr, OnOk, length, nat_eq, true};
 ghost use Rattle.bucket_table.specs.Runs.{Run};
 ghost use Rattle.bhtable.specs.Answers.{fresh_map};
 ghost use Rattle.bhtable.specs.Limits.{AreLimits};
@@ -15,13 +16,19 @@ ghost use Rattle.bhtable.specs.Words.{words_of};
 use crate::replies::Replies;
 use crate::request::{Kind, NewTable, Request, request_in};
 use crate::stop::Stop;
-use bucket_slots::bucket::{AllocError, CACHE, MAP};
+use bucket_slots::bucket::{AllocError, CACHE, INDEX, MAP};
 use bucket_slots::lru::DoublyLinkedList;
 use bucket_table::hash_table::HashTable;
-use bucket_table::script::{Call, Reply, ScriptHash, run};
+use bucket_table::script::{Call, FixedGeneration, Reply, ScriptHash, run};
 use std::alloc::Global;
 use std::io::Write;
 use std::mem;
+
+// The epoch of a fresh table, which keeps every mark.
+const FIRST_GENERATION: FixedGeneration = FixedGeneration {
+    epoch: 0,
+    keep: true,
+};
 
 // How many calls are given to the table at once, at most.
 const CALLS_AT_ONCE: usize = 1024;
@@ -31,6 +38,7 @@ const CALLS_AT_ONCE: usize = 1024;
 pub(crate) struct Session {
     alloc: Global,
     table: Option<Table>,
+    generation: FixedGeneration,
     calls: Vec<Call<u64, u64>>,
     replies: Replies,
 }
@@ -39,6 +47,7 @@ pub(crate) struct Session {
 #[derive(Drop)]
 enum Table {
     Map(HashTable<u64, u64, ScriptHash, (), MAP>),
+    Index(HashTable<u64, u64, ScriptHash, (), INDEX>),
     Cache(HashTable<u64, u64, ScriptHash, DoublyLinkedList, CACHE>),
 }
 
@@ -52,20 +61,26 @@ impl Session {
         Ok(Session {
             alloc,
             table: None,
+            generation: FIRST_GENERATION,
             calls: Vec::new(alloc),
             replies: Replies::new(alloc)?,
         })
     }
 
     /// Takes the line of this number. Its reply may wait for `write_out`.
-    pub(crate) fn take<W: Write>(&mut self, number: u64, line: &[u8], output: &mut W) -> Result<(), Stop>
+    pub(crate) fn take<W: Write>(
+        &mut self,
+        number: u64,
+        line: &[u8],
+        output: &mut W,
+    ) -> Result<(), Stop>
         requires { length line.now ≤ 4096 }
         ensures taken { (start : Option (List ℕ)) (lines : List (List ℕ))
             → HasTaken start (W.contents output.old) self.old lines
             → MatchResult result
-                (λ _. HasTaken start (W.contents output.new) self.new (lines ++ line.now ∷ []))
-                (λ stop. HasStopped stop start (W.contents output.new) self.new lines
-                    × IsBadAt stop (map_at_hand self.new.table) line.now) }
+            (λ _. HasTaken start (W.contents output.new) self.new (lines ++ line.now ∷ []))
+            (λ stop. HasStopped stop start (W.contents output.new) self.new lines
+            × IsBadAt stop (map_at_hand self.new.table) line.now) }
         ensures stop { IfErr result (λ stop. (stop ≡ Stop.BadLine number) ⊎ IsLack stop) }
         ensures passed_over { words_of line.now ≡ [] → (result ≡ Ok tt) × (self.new ≡ self.old) }
     {
@@ -73,6 +88,9 @@ impl Session {
             Ok(None) => Ok(()),
             Ok(Some(Request::New(new))) => self.start(new, output),
             Ok(Some(Request::Call(call))) if self.table.is_some() => self.gather(call, output),
+            Ok(Some(Request::Epoch(generation))) if self.table.is_some() => {
+                self.set_epoch(generation, output)
+            }
             _ => Err(Stop::BadLine(number)),
         }
     }
@@ -82,9 +100,9 @@ impl Session {
         ensures taken { (start : Option (List ℕ)) (lines : List (List ℕ))
             → HasTaken start (W.contents output.old) self.old lines
             → MatchResult result
-                (λ _. HasAnswered lines start (W.contents output.new) []
-                    × HasTaken start (W.contents output.new) self.new lines)
-                (λ stop. HasStopped stop start (W.contents output.new) self.new lines) }
+            (λ _. HasAnswered lines start (W.contents output.new) []
+            × HasTaken start (W.contents output.new) self.new lines)
+            (λ stop. HasStopped stop start (W.contents output.new) self.new lines) }
         ensures stop { IfErr result IsLack }
     {
         self.answer(output)?;
@@ -100,8 +118,8 @@ impl Session {
         ensures { (start : Option (List ℕ)) (lines : List (List ℕ))
             → HasEnded ended start (W.contents output.old) self lines
             → MatchResult result
-                (λ _. HasAnswered lines start (W.contents output.new) [])
-                (λ stop. IsOutputUpTo stop lines start (W.contents output.new)) }
+            (λ _. HasAnswered lines start (W.contents output.new) [])
+            (λ stop. IsOutputUpTo stop lines start (W.contents output.new)) }
     {
         let ended = match self.answer(output).and(ended) {
             Ok(()) => Ok(()),
@@ -118,12 +136,36 @@ impl Session {
             → HasTaken start (W.contents output.old) self.old lines
             → length line ≤ 4096 → Asks (words_of line) (Request.New new)
             → MatchResult result
-                (λ _. HasTaken start (W.contents output.new) self.new (lines ++ line ∷ []))
-                (λ stop. HasStopped stop start (W.contents output.new) self.new lines) }
+            (λ _. HasTaken start (W.contents output.new) self.new (lines ++ line ∷ []))
+            (λ stop. HasStopped stop start (W.contents output.new) self.new lines) }
+        ensures epoch { OnOk result ((self.new.generation.epoch ≡ 0)
+            × (self.new.generation.keep ≡ true)) }
         ensures stop { IfErr result IsLack }
     {
         self.answer(output)?;
         self.table = Some(Table::new(self.alloc, new));
+        self.generation = FIRST_GENERATION;
+        self.replies.push(&Reply::Done, output)
+    }
+
+    // Has the calls that follow meet another generation.
+    fn set_epoch<W: Write>(
+        &mut self,
+        generation: FixedGeneration,
+        output: &mut W,
+    ) -> Result<(), Stop>
+        requires { IsSome self.old.table }
+        ensures taken { (start : Option (List ℕ)) (lines : List (List ℕ)) (line : List ℕ)
+            → HasTaken start (W.contents output.old) self.old lines
+            → length line ≤ 4096 → Asks (words_of line) (Request.Epoch generation)
+            → MatchResult result
+            (λ _. HasTaken start (W.contents output.new) self.new (lines ++ line ∷ []))
+            (λ stop. HasStopped stop start (W.contents output.new) self.new lines) }
+        ensures stop { IfErr result IsLack }
+        ensures set { OnOk result (self.new.generation ≡ generation) }
+    {
+        self.answer(output)?;
+        self.generation = generation;
         self.replies.push(&Reply::Done, output)
     }
 
@@ -133,8 +175,8 @@ impl Session {
             → HasTaken start (W.contents output.old) self.old lines
             → length line ≤ 4096 → Asks (words_of line) (Request.Call call)
             → MatchResult result
-                (λ _. HasTaken start (W.contents output.new) self.new (lines ++ line ∷ []))
-                (λ stop. HasStopped stop start (W.contents output.new) self.new lines) }
+            (λ _. HasTaken start (W.contents output.new) self.new (lines ++ line ∷ []))
+            (λ stop. HasStopped stop start (W.contents output.new) self.new lines) }
         ensures stop { IfErr result IsLack }
     {
         if self.calls.len() >= CALLS_AT_ONCE {
@@ -151,9 +193,9 @@ impl Session {
         ensures answered { (start : Option (List ℕ)) (lines : List (List ℕ))
             → HasTaken start (W.contents output.old) self.old lines
             → (self.new.calls.items ≡ []) × MatchResult result
-                (λ _. HasReplied start (W.contents output.new) self.new.replies.text.items lines
-                    (map_at_hand self.new.table))
-                (λ stop. HasStopped stop start (W.contents output.new) self.new lines) }
+            (λ _. HasReplied start (W.contents output.new) self.new.replies.text.items lines
+            (map_at_hand self.new.table))
+            (λ stop. HasStopped stop start (W.contents output.new) self.new lines) }
         ensures none { self.old.calls.items ≡ [] → (result ≡ Ok tt) × (self.new ≡ self.old)
             × (W.contents output.new ≡ W.contents output.old) }
         ensures table { IsSome self.new.table ↔ IsSome self.old.table }
@@ -166,7 +208,7 @@ impl Session {
             return Ok(());
         }
         let calls = mem::replace(&mut self.calls, Vec::new(self.alloc));
-        let Ok(answers) = table.run(self.alloc, calls) else {
+        let Ok(answers) = table.run(self.alloc, calls, &self.generation) else {
             return Err(Stop::NoMemory);
         };
         self.replies.push_all(answers.as_slice(), output)
@@ -181,6 +223,7 @@ impl Table {
         let (minimum, maximum) = (new.limits.minimum, new.limits.maximum);
         match new.kind {
             Kind::Map => Table::Map(HashTable::new(alloc, new.hash, minimum, maximum)),
+            Kind::Index => Table::Index(HashTable::new(alloc, new.hash, minimum, maximum)),
             Kind::Cache => Table::Cache(HashTable::new(alloc, new.hash, minimum, maximum)),
         }
     }
@@ -189,14 +232,16 @@ impl Table {
         &mut self,
         alloc: Global,
         calls: Vec<Call<u64, u64>>,
+        generation: &FixedGeneration,
     ) -> Result<Vec<Reply<u64, u64>>, AllocError>
         ensures run { IfOk result (λ replies.
             Run nat_eq (map_of self.old) calls.items replies.items (map_of self.new)) }
         ensures no_call { OnErr result (self.new ≡ self.old) }
     {
         match self {
-            Table::Map(table) => run(alloc, table, calls, &()),
-            Table::Cache(table) => run(alloc, table, calls, &()),
+            Table::Map(table) => run(alloc, table, calls, generation),
+            Table::Index(table) => run(alloc, table, calls, generation),
+            Table::Cache(table) => run(alloc, table, calls, generation),
         }
     }
 }

@@ -1,6 +1,6 @@
-use Rattle.std.proofs.Common.{Some, refl, ap}
+use Rattle.std.proofs.Common.{Some, inl, inr, true, refl, ap}
 use Rattle.bhtable.specs.declared.session.Session.{Session}
-use Rattle.bhtable.proofs.Turning.{taken_new}
+use Rattle.bhtable.proofs.Turning.{taken_done}
 use Rattle.bhtable.proofs.session.Session.start.Goals as goal
 
 pub returns-clause-taken : goal.returns-clause-taken
@@ -9,8 +9,10 @@ returns-clause-taken g c start lines line taken short asks =
     let session : Session = record {
       alloc = c.answer.new.self.alloc;
       table = Some c.new.result;
+      generation = record { epoch = 0; keep = true };
       calls = c.answer.new.self.calls;
       replies = c.push.new.self;
     } in
-    taken_new start _ _ c.answer.new.self session lines line c.args.new c.push.result answered.1 answered.0 short asks c.push.ensures
+    let answer = inr (inl (record { table = c.args.new; asked = asks; answer = refl; fresh = refl })) in
+    taken_done start _ _ c.answer.new.self session lines line _ c.push.result answered.1 answered.0 short answer c.push.ensures
     (ap Some c.new.ensures) refl

@@ -15,3 +15,8 @@ pub returns-in-Ok-Some-Call-clause-taken : goal.returns-in-Ok-Some-Call-clause-t
 returns-in-Ok-Some-Call-clause-taken g c start lines taken =
     let asks = rw (c.in-Ok-Some-Call.field-0-is, c.in-Ok-Some-Call.field-0-0-is) at c.in-Ok-Some-Call.ensures.asked in
     at_line c.gather.result _ _ _ _ (c.gather.ensures.taken start lines c.args.line.now taken c.requires asks) c.gather.ensures.stop
+
+pub returns-in-Ok-Some-Epoch-clause-taken : goal.returns-in-Ok-Some-Epoch-clause-taken
+returns-in-Ok-Some-Epoch-clause-taken g c start lines taken =
+    let asks = rw (c.in-Ok-Some-Epoch.field-0-is, c.in-Ok-Some-Epoch.field-0-0-is) at c.in-Ok-Some-Epoch.ensures.asked in
+    at_line c.set_epoch.result _ _ _ _ (c.set_epoch.ensures.taken start lines c.args.line.now taken c.requires asks) c.set_epoch.ensures.stop

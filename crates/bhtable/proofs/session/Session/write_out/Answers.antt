@@ -9,6 +9,7 @@ returns-clause-taken g c start lines taken =
     let session : Session = record {
       alloc = c.answer.new.self.alloc;
       table = c.answer.new.self.table;
+      generation = c.answer.new.self.generation;
       calls = c.answer.new.self.calls;
       replies = c.write_out.new.self;
     } in

@@ -1,0 +1,18 @@
+use Rattle.std.proofs.Common.{inr, refl}
+use Rattle.bhtable.specs.declared.session.Session.{Session}
+use Rattle.bhtable.proofs.Turning.{map_there, taken_done}
+use Rattle.bhtable.proofs.session.Session.set_epoch.Goals as goal
+
+pub returns-clause-taken : goal.returns-clause-taken
+returns-clause-taken g c start lines line taken short asks =
+    let answered = c.in_ok-answer.ensures.answered start lines taken in
+    let session : Session = record {
+      alloc = c.answer.new.self.alloc;
+      table = c.answer.new.self.table;
+      generation = c.args.generation;
+      calls = c.answer.new.self.calls;
+      replies = c.push.new.self;
+    } in
+    let there = map_there c.answer.new.self.table (c.in_ok-answer.ensures.table.1 c.requires) in
+    let answer = inr (inr (inr (record { generation = c.args.generation; asked = asks; there = there; answer = refl; kept = refl }))) in
+    taken_done start _ _ c.answer.new.self session lines line _ c.push.result answered.1 answered.0 short answer c.push.ensures refl refl
