@@ -8,6 +8,7 @@ mod bad_lines;
 mod caches;
 mod devices;
 mod forms;
+mod indexes;
 mod maps;
 
 // The script of the lines, each ended by a newline.

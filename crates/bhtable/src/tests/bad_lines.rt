@@ -3,7 +3,7 @@ use super::check_text;
 use std::test::Fail;
 
 // Input, and all of its output; the status is 2.
-const UNREADABLE: [(&str, &str); 56] = [
+const UNREADABLE: [(&str, &str); 67] = [
     // Before the first table.
     ("peek 1", "bad line 1\n"),
     ("count", "bad line 1\n"),
@@ -24,7 +24,9 @@ const UNREADABLE: [(&str, &str); 56] = [
     ("new map id 64", "bad line 1\n"),
     ("new map id 0 64 0", "bad line 1\n"),
     ("new map Id 0 64", "bad line 1\n"),
-    ("new index id 0 64", "bad line 1\n"),
+    ("new indexes id 0 64", "bad line 1\n"),
+    ("new index id 0 100", "bad line 1\n"),
+    ("new index 0 64", "bad line 1\n"),
     ("new caches id 0 64", "bad line 1\n"),
     ("new cache id 0 100", "bad line 1\n"),
     ("new cache 0 64", "bad line 1\n"),
@@ -48,7 +50,20 @@ const UNREADABLE: [(&str, &str); 56] = [
     ("new map id 0 64\nhas 1", "ok\nbad line 2\n"),
     ("new map id 0 64\nCount", "ok\nbad line 2\n"),
     ("new map id 0 64\nslots", "ok\nbad line 2\n"),
-    ("new map id 0 64\nepoch 0 keep", "ok\nbad line 2\n"),
+    // Epochs.
+    ("epoch 0 keep", "bad line 1\n"),
+    ("new index id 0 64\nepoch 256 keep", "ok\nbad line 2\n"),
+    ("new index id 0 64\nepoch 255 hold", "ok\nbad line 2\n"),
+    ("new index id 0 64\nepoch 255 Drop", "ok\nbad line 2\n"),
+    ("new index id 0 64\nepoch keep 1", "ok\nbad line 2\n"),
+    ("new index id 0 64\nepoch keep", "ok\nbad line 2\n"),
+    ("new index id 0 64\nepoch 1", "ok\nbad line 2\n"),
+    ("new index id 0 64\nepoch", "ok\nbad line 2\n"),
+    ("new index id 0 64\nepoch 1 keep drop", "ok\nbad line 2\n"),
+    (
+        "new index id 0 64\nepoch 18446744073709551616 drop",
+        "ok\nbad line 2\n",
+    ),
     (
         "new map id 0 64\nput 1 5\npeek 1\nwrong\npeek 1",
         "ok\nok\nvalue 5\nbad line 4\n",
