@@ -26,7 +26,8 @@ cut_back output output2 old between grown cut len (Err error) kept failed starts
     append_known-grown (append_known output old) output2 between cut [] kept (same ∙ sym (append-nil between))
 
 -- more lines, whose answers are appended
-pub replied_more : (start output output2 : Option (List ℕ)) (waiting waiting2 text : List ℕ) (lines more : List (List ℕ)) (table table2 : Option (MapState ℕ ℕ))
+pub replied_more : (start output output2 : Option (List ℕ)) (waiting waiting2 text : List ℕ) (lines more : List (List ℕ))
+    (table table2 : Option (MapState ℕ ℕ))
     → HasReplied start output waiting lines table → AreAnswers table more text table2
     → Appends (append_known output waiting) (append_known output2 waiting2) text
     → HasReplied start output2 waiting2 (lines ++ more) table2
@@ -37,7 +38,8 @@ replied_more start output output2 waiting waiting2 text lines more table table2 
 }
 
 -- the same lines, where nothing is appended
-pub replied_same : (start output output2 : Option (List ℕ)) (waiting waiting2 : List ℕ) (lines : List (List ℕ)) (table : Option (MapState ℕ ℕ))
+pub replied_same : (start output output2 : Option (List ℕ)) (waiting waiting2 : List ℕ) (lines : List (List ℕ))
+    (table : Option (MapState ℕ ℕ))
     → HasReplied start output waiting lines table → Appends (append_known output waiting) (append_known output2 waiting2) []
     → HasReplied start output2 waiting2 lines table
 replied_same start output output2 waiting waiting2 lines table replied kept =
@@ -45,7 +47,8 @@ replied_same start output output2 waiting waiting2 lines table replied kept =
     (replied_more start output output2 waiting waiting2 [] lines [] table table replied (refl, refl) kept)
 
 -- a fresh table
-pub replied_new : (start output output2 : Option (List ℕ)) (waiting waiting2 : List ℕ) (lines : List (List ℕ)) (line : List ℕ) (table : Option (MapState ℕ ℕ)) (new : NewTable)
+pub replied_new : (start output output2 : Option (List ℕ)) (waiting waiting2 : List ℕ) (lines : List (List ℕ)) (line : List ℕ)
+    (table : Option (MapState ℕ ℕ)) (new : NewTable)
     → HasReplied start output waiting lines table → length line ≤ 4096 → Asks (words_of line) (New new)
     → Appends (append_known output waiting) (append_known output2 waiting2) (line_of (text_of Done))
     → HasReplied start output2 waiting2 (lines ++ line ∷ []) (Some (fresh_map new))
@@ -87,10 +90,12 @@ answered_out start output output2 waiting lines table replied written = record {
   text = replied.text;
   table = table;
   answers = replied.answers;
-  written = written_out start output output output2 waiting waiting replied.text [] replied.written (Appends-nil (append_known output waiting)) written;
+  written = written_out start output output output2 waiting waiting replied.text [] replied.written
+      (Appends-nil (append_known output waiting)) written;
 }
 
-pub replied_out : (start output output2 : Option (List ℕ)) (waiting waiting2 : List ℕ) (lines : List (List ℕ)) (table : Option (MapState ℕ ℕ))
+pub replied_out : (start output output2 : Option (List ℕ)) (waiting waiting2 : List ℕ) (lines : List (List ℕ))
+    (table : Option (MapState ℕ ℕ))
     → HasReplied start output waiting lines table → Appends output output2 waiting → waiting2 ≡ []
     → HasReplied start output2 waiting2 lines table
 replied_out start output output2 waiting waiting2 lines table replied written empty =

@@ -30,23 +30,28 @@ at_line (Err InputFailed) P Q table line left lack = absurd lack
 at_line (Err OutputFailed) P Q table line left lack = (left, tt)
 
 -- a fresh table, once no call waits
-pub taken_new : (start output output2 : Option (List ℕ)) (session session2 : Session) (lines : List (List ℕ)) (line : List ℕ) (new : NewTable)
+pub taken_new : (start output output2 : Option (List ℕ)) (session session2 : Session) (lines : List (List ℕ)) (line : List ℕ)
+    (new : NewTable)
     (result : Result (Unit {0}) Stop) → HasReplied start output session.replies.text.items lines (map_at_hand session.table)
     → session.calls.items ≡ [] → length line ≤ 4096 → Asks (words_of line) (New new)
-    → IsPushed result (append_known output session.replies.text.items) (append_known output2 session2.replies.text.items) (line_of (text_of Done))
+    → IsPushed result (append_known output session.replies.text.items) (append_known output2 session2.replies.text.items)
+        (line_of (text_of Done))
     → map_at_hand session2.table ≡ Some (fresh_map new) → session2.calls.items ≡ session.calls.items
     → MatchResult result (λ _. HasTaken start output2 session2 (lines ++ line ∷ [])) (λ stop. HasStopped stop start output2 session2 lines)
 taken_new start output output2 session session2 lines line new (Ok done) replied none short asks grown fresh calls =
     taken_all start output2 session2 (lines ++ line ∷ [])
-    (rw fresh (replied_new start output output2 session.replies.text.items session2.replies.text.items lines line (map_at_hand session.table) new replied short asks grown))
+    (rw fresh (replied_new start output output2 session.replies.text.items session2.replies.text.items lines line
+        (map_at_hand session.table) new replied short asks grown))
     (calls ∙ none)
-taken_new start output output2 session session2 lines line new (Err (BadLine number)) replied none short asks never fresh calls = absurd never
+taken_new start output output2 session session2 lines line new (Err (BadLine number)) replied none short asks never fresh calls =
+    absurd never
 taken_new start output output2 session session2 lines line new (Err NoMemory) replied none short asks kept fresh calls = record {
   first = lines;
   others = [];
   in_order = sym (append-nil lines);
   kept = inr (calls ∙ none, (map_at_hand session.table,
-      replied_same start output output2 session.replies.text.items session2.replies.text.items lines (map_at_hand session.table) replied kept));
+      replied_same start output output2 session.replies.text.items session2.replies.text.items lines (map_at_hand session.table) replied
+          kept));
 }
 taken_new start output output2 session session2 lines line new (Err InputFailed) replied none short asks never fresh calls = absurd never
 taken_new start output output2 session session2 lines line new (Err OutputFailed) replied none short asks unknown fresh calls =
@@ -63,7 +68,8 @@ pub wrote : (start output output2 : Option (List ℕ)) (session session2 : Sessi
 wrote start output output2 session session2 lines (Ok done) replied none calls table empty written failed = (
   answered_out start output output2 session.replies.text.items lines (map_at_hand session.table) replied written,
   taken_all start output2 session2 lines
-      (rw table (replied_out start output output2 session.replies.text.items session2.replies.text.items lines (map_at_hand session.table) replied written empty))
+      (rw table (replied_out start output output2 session.replies.text.items session2.replies.text.items lines (map_at_hand session.table)
+          replied written empty))
       (calls ∙ none),
 )
 wrote start output output2 session session2 lines (Err stop) replied none calls table empty written failed =

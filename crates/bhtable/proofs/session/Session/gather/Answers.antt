@@ -18,7 +18,12 @@ returns-in-Ok-clause-taken g c start lines line taken short asks =
       | then-len-ge-CALLS_AT_ONCE+in_ok-answer w ↦ rw w.self-is (w.in_ok-answer.ensures.table.1 c.requires)
       | else-len-ge-CALLS_AT_ONCE w ↦ rw w.self-is c.requires
     ] in
-    let session : Session = record { alloc = now.self.alloc; table = now.self.table; calls = c.push.new.self; replies = now.self.replies } in
+    let session : Session = record {
+      alloc = now.self.alloc;
+      table = now.self.table;
+      calls = c.push.new.self;
+      replies = now.self.replies;
+    } in
     taken_call start _ now.self session lines line c.args.call before short asks c.in-Ok.ensures.items refl refl there
 
 pub returns-in-Err-clause-taken : goal.returns-in-Err-clause-taken
@@ -30,5 +35,10 @@ returns-in-Err-clause-taken g c start lines line taken short asks =
           rw (w.self-is, w.output-is) (taken_all start _ w.answer.new.self lines answered.1 answered.0)
       | else-len-ge-CALLS_AT_ONCE w ↦ rw (w.self-is, w.output-is) taken
     ] in
-    let session : Session = record { alloc = now.self.alloc; table = now.self.table; calls = c.push.new.self; replies = now.self.replies } in
+    let session : Session = record {
+      alloc = now.self.alloc;
+      table = now.self.table;
+      calls = c.push.new.self;
+      replies = now.self.replies;
+    } in
     taken_so_far start _ now.self session lines before c.in-Err.ensures.items refl refl
