@@ -12,12 +12,15 @@ abbrev pub NextIs : List (List ℕ) → List (List ℕ) → ℕ → Type 0
 NextIs old new number = (word : List ℕ) × (old ≡ word ∷ new) × Writes word number
 
 -- a kind, a hash and two limits are all of the words that were read
-pub table_asked : (words1 words2 words3 words4 words5 : List (List ℕ)) (kind_named hash_named : List ℕ) (kind : Kind) (hash : ScriptHash) (least greatest : ℕ) (limits : Limits)
+pub table_asked : (words1 words2 words3 words4 words5 : List (List ℕ)) (kind_named hash_named : List ℕ) (kind : Kind) (hash : ScriptHash)
+    (least greatest : ℕ) (limits : Limits)
     → words1 ≡ kind_named ∷ words2 → kind_named ≡ kind_word kind → words2 ≡ hash_named ∷ words3 → hash_named ≡ hash_word hash
     → NextIs words3 words4 least → NextIs words4 words5 greatest
     → (limits.minimum ≡ least) × (limits.maximum ≡ greatest) → AreLimits least greatest
-    → (used : List (List ℕ)) × (length used ≡ 4) × (words1 ≡ used ++ words5) × AsksForTable used (record { kind = kind; hash = hash; limits = limits })
-table_asked words1 words2 words3 words4 words5 kind_named hash_named kind hash least greatest limits first kind_is second hash_is (minimum, third, least_is) (maximum, fourth, greatest_is) same are_limits = (
+    → (used : List (List ℕ)) × (length used ≡ 4) × (words1 ≡ used ++ words5) × AsksForTable used
+        (record { kind = kind; hash = hash; limits = limits })
+table_asked words1 words2 words3 words4 words5 kind_named hash_named kind hash least greatest limits first kind_is second hash_is
+    (minimum, third, least_is) (maximum, fourth, greatest_is) same are_limits = (
   kind_word kind ∷ hash_word hash ∷ minimum ∷ maximum ∷ [],
   refl,
   cc,

@@ -87,7 +87,8 @@ stopped OutputFailed start output session lines first others parts lack none lef
 -- where the first of the lines are taken, or answered
 some_answered : (result : Result (Unit {0}) Stop) (stop : Stop) (start output output2 : Option (List ℕ)) (session session2 : Session)
     (lines : List (List ℕ)) → IsAnswered result output output2 session session2 → HasTakenSome start output session lines
-    → (HasRepliedSome start output2 session2.replies.text.items lines → IsReplied (Err stop) start output2 session2.replies.text.items lines)
+    → (HasRepliedSome start output2 session2.replies.text.items lines
+        → IsReplied (Err stop) start output2 session2.replies.text.items lines)
     → IsReplied (result_and {U = Unit {0}} result (Err stop)) start output2 session2.replies.text.items lines
 some_answered (Ok done) stop start output output2 session session2 lines step some made = made (elim some.kept [
   | inl taken ↦ record {
@@ -115,7 +116,8 @@ some_answered (Err lack) stop start output output2 session session2 lines step s
 ]
 
 -- the calls that waited are answered
-pub ended_answered : (result ended : Result (Unit {0}) Stop) (start output output2 : Option (List ℕ)) (session session2 : Session) (lines : List (List ℕ))
+pub ended_answered : (result ended : Result (Unit {0}) Stop) (start output output2 : Option (List ℕ)) (session session2 : Session)
+    (lines : List (List ℕ))
     → IsAnswered result output output2 session session2 → HasEnded ended start output session lines
     → IsReplied (result_and result ended) start output2 session2.replies.text.items lines
 ended_answered (Ok done) (Ok all) start output output2 session session2 lines step taken =

@@ -38,7 +38,8 @@ bad_out (Ok done) number start output output2 output3 waiting waiting2 lines bad
     text = bad.replied.text;
     table = bad.table;
     answers = bad.replied.answers;
-    written = written_out start output output2 output3 waiting waiting2 bad.replied.text (bad_line number) bad.replied.written grown written;
+    written = written_out start output output2 output3 waiting waiting2 bad.replied.text (bad_line number) bad.replied.written grown
+        written;
   };
   unreadable = bad.unreadable;
 }
@@ -55,7 +56,8 @@ bad_out (Err NoMemory) number start output output2 output3 waiting waiting2 line
 bad_out (Err InputFailed) number start output output2 output3 waiting waiting2 lines bad never written = absurd never
 bad_out (Err OutputFailed) number start output output2 output3 waiting waiting2 lines bad unknown written = tt
 
-pub all_out : (start output output2 : Option (List ℕ)) (waiting : List ℕ) (lines : List (List ℕ)) → IsReplied (Ok tt) start output waiting lines
+pub all_out : (start output output2 : Option (List ℕ)) (waiting : List ℕ) (lines : List (List ℕ))
+    → IsReplied (Ok tt) start output waiting lines
     → Appends output output2 waiting → HasAnswered lines start output2 []
 all_out start output output2 waiting lines replied written =
     answered_out start output output2 waiting lines replied.0 replied.1 written
@@ -102,7 +104,8 @@ answered_then lines start output output2 last answered written = record {
       (Appends-trans start output output2 (answered.text ++ []) last answered.written written);
 }
 
-reported : (stop : Stop) (lines : List (List ℕ)) (start output output2 : Option (List ℕ)) (status : ℕ) → IsOutputUpTo stop lines start output
+reported : (stop : Stop) (lines : List (List ℕ)) (start output output2 : Option (List ℕ)) (status : ℕ)
+    → IsOutputUpTo stop lines start output
     → status ≡ status_of stop → Appends output output2 (last_line_of stop) → IsOutputOf lines start output2 status
 reported (BadLine number) lines start output output2 status bad is written = inr (inl (
   is,
@@ -149,7 +152,8 @@ some_bytes : (input : Option (List ℕ)) → (bytes : List ℕ) × IsInput input
 some_bytes None = ([], tt)
 some_bytes (Some bytes) = (bytes, refl)
 
-pub nothing_answered : (input start : Option (List ℕ)) → (bytes : List ℕ) × IsInput input bytes × HasAnsweredSome (lines_of bytes) start start []
+pub nothing_answered : (input start : Option (List ℕ))
+    → (bytes : List ℕ) × IsInput input bytes × HasAnsweredSome (lines_of bytes) start start []
 nothing_answered input start =
     let some = some_bytes input in (
       some.0,

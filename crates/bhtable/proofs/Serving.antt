@@ -41,7 +41,8 @@ all_taken : (start output : Option (List ℕ)) (session : Session) (lines : List
 all_taken start output session lines taken =
     record { first = lines; others = []; in_order = sym (append-nil lines); kept = inl taken }
 
-module _ (input left : Option (List ℕ)) (is_ended : Bool) (unread : List ℕ) (start output : Option (List ℕ)) (session : Session) (number : ℕ)
+module _ (input left : Option (List ℕ)) (is_ended : Bool) (unread : List ℕ) (start output : Option (List ℕ)) (session : Session)
+    (number : ℕ)
     (come : HasCome input left is_ended unread start output session number) where
   pub line_taken : (output2 : Option (List ℕ)) (session2 : Session) (line : Line) → IsFoundIn is_ended unread (FoundLine line)
       → HasTaken start output2 session2 (come.before ++ take line.len unread ∷ [])
@@ -112,7 +113,8 @@ module _ (input left : Option (List ℕ)) (is_ended : Bool) (unread : List ℕ) 
       )
 
   -- a stop at a line
-  pub ends_at_line : (output2 : Option (List ℕ)) (session2 : Session) (line : Line) (stop : Stop) → IsFoundIn is_ended unread (FoundLine line)
+  pub ends_at_line : (output2 : Option (List ℕ)) (session2 : Session) (line : Line) (stop : Stop)
+      → IsFoundIn is_ended unread (FoundLine line)
       → (stop ≡ BadLine (number + 1)) ⊎ IsLack stop
       → HasStopped stop start output2 session2 come.before × IsBadAt stop (map_at_hand session2.table) (take line.len unread)
       → EndsSo input start output2 session2 (Err stop)

@@ -94,8 +94,10 @@ some_pushed start output output2 session session2 lines before after replies oth
     record {
       first = taken.answered ++ some.first;
       others = some.others;
-      in_order = taken.in_order ∙ ap (λ (ls : List (List ℕ)). taken.answered ++ ls) some.in_order ∙ sym (append_assoc taken.answered some.first some.others);
-      kept = inr (none, (some.table, replied_more start output output2 _ _ _ taken.answered some.first (Some before) some.table replied some.answers grown));
+      in_order = taken.in_order ∙ ap (λ (ls : List (List ℕ)). taken.answered ++ ls) some.in_order
+          ∙ sym (append_assoc taken.answered some.first some.others);
+      kept = inr (none, (some.table, replied_more start output output2 _ _ _ taken.answered some.first (Some before) some.table replied
+          some.answers grown));
     }
 
 all_pushed : (start output output2 : Option (List ℕ)) (session session2 : Session) (lines : List (List ℕ)) (before after : MapState ℕ ℕ)
@@ -121,17 +123,22 @@ pub pushed : (start output output2 : Option (List ℕ)) (session session2 : Sess
 pushed start output output2 session session2 lines before after replies (Ok done) taken there there2 ran (first, others, parts, all) none =
     let whole : replies ≡ first = parts ∙ ap (λ (rs : List (Reply ℕ ℕ)). first ++ rs) all.0 ∙ append-nil first in
     rw there2 (all_pushed start output output2 session session2 lines before after first taken there (rw whole at ran) all.1)
-pushed start output output2 session session2 lines before after replies (Err (BadLine number)) taken there there2 ran (first, others, parts, never) none =
+pushed start output output2 session session2 lines before after replies (Err (BadLine number)) taken there there2 ran
+    (first, others, parts, never) none =
     absurd never
-pushed start output output2 session session2 lines before after replies (Err NoMemory) taken there there2 ran (first, others, parts, grown) none =
+pushed start output output2 session session2 lines before after replies (Err NoMemory) taken there there2 ran (first, others, parts, grown)
+    none =
     some_pushed start output output2 session session2 lines before after first others taken there (rw parts at ran) grown none
-pushed start output output2 session session2 lines before after replies (Err InputFailed) taken there there2 ran (first, others, parts, never) none =
+pushed start output output2 session session2 lines before after replies (Err InputFailed) taken there there2 ran
+    (first, others, parts, never) none =
     absurd never
-pushed start output output2 session session2 lines before after replies (Err OutputFailed) taken there there2 ran (first, others, parts, unknown) none =
+pushed start output output2 session session2 lines before after replies (Err OutputFailed) taken there there2 ran
+    (first, others, parts, unknown) none =
     none
 
 -- after a call that there is no memory for
-pub taken_so_far : (start output : Option (List ℕ)) (session session2 : Session) (lines : List (List ℕ)) → HasTaken start output session lines
+pub taken_so_far : (start output : Option (List ℕ)) (session session2 : Session) (lines : List (List ℕ))
+    → HasTaken start output session lines
     → session2.calls.items ≡ session.calls.items → session2.table ≡ session.table → session2.replies ≡ session.replies
     → HasTakenSome start output session2 lines
 taken_so_far start output session session2 lines taken calls table replies = record {

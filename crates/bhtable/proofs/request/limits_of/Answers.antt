@@ -7,11 +7,14 @@ pub returns-then-maximum-lt64-clause-accepted : goal.returns-then-maximum-lt64-c
 returns-then-maximum-lt64-clause-accepted c = refused (λ limits.
     elim c.then-maximum-lt64.branch [
       | then-maximum-lt64-via-then-maximum-lt64 w ↦ omega (arith, limits.large, w.if-maximum-lt64.true)
-      | then-maximum-lt64-via-else-maximum-lt64+then-maximum w ↦ omega (arith, at_most_half _ limits.power c.ranges.maximum.fits, w.if-maximum.true)
-      | then-maximum-lt64-via-else-maximum-lt64+else-maximum+then-minimum-maximum w ↦ omega (arith, limits.bounded, w.if-minimum-maximum.true)
+      | then-maximum-lt64-via-else-maximum-lt64+then-maximum w ↦
+          omega (arith, at_most_half _ limits.power c.ranges.maximum.fits, w.if-maximum.true)
+      | then-maximum-lt64-via-else-maximum-lt64+else-maximum+then-minimum-maximum w ↦
+          omega (arith, limits.bounded, w.if-minimum-maximum.true)
     ])
 
 pub returns-then-next_power_of_two-maximum-clause-accepted : goal.returns-then-next_power_of_two-maximum-clause-accepted
 returns-then-next_power_of_two-maximum-clause-accepted c =
     let n = c.next_power_of_two in
-    refused (λ limits. c.if-next_power_of_two-maximum.true (next_is_same _ _ limits.power n.ensures.power n.ensures.lower_bound n.ensures.upper_bound))
+    refused (λ limits. c.if-next_power_of_two-maximum.true
+        (next_is_same _ _ limits.power n.ensures.power n.ensures.lower_bound n.ensures.upper_bound))

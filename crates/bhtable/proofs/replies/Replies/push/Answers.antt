@@ -4,5 +4,7 @@ use Rattle.bhtable.proofs.replies.Replies.push.Goals as goal
 
 pub returns-then-is_err : goal.returns-then-is_err
 returns-then-is_err g c =
-    cut_back _ _ c.args.self.now.text.items c.make_room.new.self.text.items c.append_reply.new.text.items c.truncate.new.self.items c.len-len.result c.append_reply.result
-    c.in_ok-make_room.ensures.kept c.if-is_err.ensures.value c.append_reply.ensures.kept (c.len-len.ensures ∙ c.make_room.new.self.text.ok.0) c.truncate.ensures.items
+    let text = c.make_room.new.self.text in
+    cut_back _ _ c.args.self.now.text.items text.items c.append_reply.new.text.items c.truncate.new.self.items c.len-len.result
+    c.append_reply.result c.in_ok-make_room.ensures.kept c.if-is_err.ensures.value c.append_reply.ensures.kept
+    (c.len-len.ensures ∙ text.ok.0) c.truncate.ensures.items
