@@ -119,8 +119,17 @@ answered_some (line ∷ lines) calls (reply ∷ replies) left before after (shor
         others = later.others;
         table = later.table;
         in_order = ap (λ (ls : List (List ℕ)). line ∷ ls) later.in_order;
-        answers = (short, (line_of (text_of reply), _, Some step.0, answered_call line one.0 reply before step.0 one.2 step.1,
-            later.answers, refl));
+        answers = (
+          short,
+          (
+            line_of (text_of reply),
+            _,
+            Some step.0,
+            answered_call line one.0 reply before step.0 one.2 step.1,
+            later.answers,
+            refl,
+          ),
+        );
       }
 ]
 
@@ -139,8 +148,17 @@ answered_all (line ∷ lines) calls [] before after (short, asked) ran = elim as
       absurd none
 ]
 answered_all (line ∷ lines) calls (reply ∷ replies) before after (short, asked) ran = elim asked [
-  | inl none ↦ (short, ([], _, Some before, inl (none.0, refl, refl), answered_all lines calls (reply ∷ replies) before after none.1 ran,
-      refl))
+  | inl none ↦ (
+    short,
+    (
+      [],
+      _,
+      Some before,
+      inl (none.0, refl, refl),
+      answered_all lines calls (reply ∷ replies) before after none.1 ran,
+      refl,
+    ),
+  )
   | inr one ↦
       let step : Run nat_eq before (one.0 ∷ one.1) (reply ∷ replies) after =
       subst (λ (cs : List (Call ℕ ℕ)). Run nat_eq before cs (reply ∷ replies) after) one.3 ran in (

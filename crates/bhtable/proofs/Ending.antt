@@ -88,7 +88,7 @@ stopped OutputFailed start output session lines first others parts lack none lef
 some_answered : (result : Result (Unit {0}) Stop) (stop : Stop) (start output output2 : Option (List ℕ)) (session session2 : Session)
     (lines : List (List ℕ)) → IsAnswered result output output2 session session2 → HasTakenSome start output session lines
     → (HasRepliedSome start output2 session2.replies.text.items lines
-        → IsReplied (Err stop) start output2 session2.replies.text.items lines)
+    → IsReplied (Err stop) start output2 session2.replies.text.items lines)
     → IsReplied (result_and {U = Unit {0}} result (Err stop)) start output2 session2.replies.text.items lines
 some_answered (Ok done) stop start output output2 session session2 lines step some made = made (elim some.kept [
   | inl taken ↦ record {

@@ -96,8 +96,14 @@ some_pushed start output output2 session session2 lines before after replies oth
       others = some.others;
       in_order = taken.in_order ∙ ap (λ (ls : List (List ℕ)). taken.answered ++ ls) some.in_order
           ∙ sym (append_assoc taken.answered some.first some.others);
-      kept = inr (none, (some.table, replied_more start output output2 _ _ _ taken.answered some.first (Some before) some.table replied
-          some.answers grown));
+      kept = inr (
+        none,
+        (
+          some.table,
+          replied_more start output output2 _ _ _ taken.answered some.first (Some before) some.table replied
+              some.answers grown,
+        ),
+      );
     }
 
 all_pushed : (start output output2 : Option (List ℕ)) (session session2 : Session) (lines : List (List ℕ)) (before after : MapState ℕ ℕ)
