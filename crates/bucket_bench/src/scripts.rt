@@ -1,8 +1,7 @@
 //! Scripts that are timed.
-ghost use Rattle.std.specs.Prelude.{◌≢◌};
 
 use crate::times::{elapsed_per, refused};
-use bucket_slots::bucket::{CACHE, INDEX, MAP};
+use bucket_slots::bucket::{CACHE, MAP};
 use bucket_slots::lru::{DoublyLinkedList, LruList};
 use bucket_table::hash_table::HashTable;
 use bucket_table::script::{Call, Reply, ScriptHash, run};
@@ -24,7 +23,6 @@ pub(crate) fn script_cost<L: LruList + Drop, const TYPE: u8>(
     table: &mut HashTable<u64, u64, ScriptHash, L, TYPE>,
     calls: Vec<Call<u64, u64>>,
 ) -> io::Result<u128>
-    requires { TYPE ≢ INDEX }
 {
     let count = calls.len();
     let start = Instant::now(clock)?;
