@@ -33,20 +33,31 @@ answers_append (line ∷ first) second old between new text more (short, answers
 pub asked_nothing_more : (lines : List (List ℕ)) (calls : List (Call ℕ ℕ)) (line : List ℕ) → AskForCalls lines calls
     → length line ≤ 4096 → words_of line ≡ [] → AskForCalls (lines ++ line ∷ []) calls
 asked_nothing_more [] calls line asked short blank = (short, inl (blank, asked))
-asked_nothing_more (first ∷ lines) calls line (fits, asked) short blank = (fits, elim asked [
-  | inl none ↦ inl (none.0, asked_nothing_more lines calls line none.1 short blank)
-  | inr one ↦ inr (one.0, one.1, one.2, one.3, asked_nothing_more lines one.1 line one.4 short blank)
-])
+asked_nothing_more (first ∷ lines) calls line (fits, asked) short blank = (
+  fits,
+  elim asked [
+    | inl none ↦ inl (none.0, asked_nothing_more lines calls line none.1 short blank)
+    | inr one ↦ inr (one.0, one.1, one.2, one.3, asked_nothing_more lines one.1 line one.4 short blank)
+  ],
+)
 
 pub asked_one_more : (lines : List (List ℕ)) (calls : List (Call ℕ ℕ)) (line : List ℕ) (call : Call ℕ ℕ) → AskForCalls lines calls
     → length line ≤ 4096 → Asks (words_of line) (Calls call) → AskForCalls (lines ++ line ∷ []) (calls ++ call ∷ [])
 asked_one_more [] calls line call asked short asks =
     (short, inr (call, [], asks, ap (λ (cs : List (Call ℕ ℕ)). cs ++ call ∷ []) asked, refl))
-asked_one_more (first ∷ lines) calls line call (fits, asked) short asks = (fits, elim asked [
-  | inl none ↦ inl (none.0, asked_one_more lines calls line call none.1 short asks)
-  | inr one ↦ inr (one.0, one.1 ++ call ∷ [], one.2, ap (λ (cs : List (Call ℕ ℕ)). cs ++ call ∷ []) one.3,
-      asked_one_more lines one.1 line call one.4 short asks)
-])
+asked_one_more (first ∷ lines) calls line call (fits, asked) short asks = (
+  fits,
+  elim asked [
+    | inl none ↦ inl (none.0, asked_one_more lines calls line call none.1 short asks)
+    | inr one ↦ inr (
+      one.0,
+      one.1 ++ call ∷ [],
+      one.2,
+      ap (λ (cs : List (Call ℕ ℕ)). cs ++ call ∷ []) one.3,
+      asked_one_more lines one.1 line call one.4 short asks,
+    )
+  ],
+)
 
 answered_call : (line : List ℕ) (call : Call ℕ ℕ) (reply : Reply ℕ ℕ) (before after : MapState ℕ ℕ) → Asks (words_of line) (Calls call)
     → Step nat_eq before call reply after → IsAnswer (Some before) line (line_of (text_of reply)) (Some after)
@@ -108,8 +119,17 @@ answered_some (line ∷ lines) calls (reply ∷ replies) left before after (shor
         others = later.others;
         table = later.table;
         in_order = ap (λ (ls : List (List ℕ)). line ∷ ls) later.in_order;
-        answers = (short, (line_of (text_of reply), _, Some step.0, answered_call line one.0 reply before step.0 one.2 step.1,
-            later.answers, refl));
+        answers = (
+          short,
+          (
+            line_of (text_of reply),
+            _,
+            Some step.0,
+            answered_call line one.0 reply before step.0 one.2 step.1,
+            later.answers,
+            refl,
+          ),
+        );
       }
 ]
 
@@ -128,11 +148,28 @@ answered_all (line ∷ lines) calls [] before after (short, asked) ran = elim as
       absurd none
 ]
 answered_all (line ∷ lines) calls (reply ∷ replies) before after (short, asked) ran = elim asked [
-  | inl none ↦ (short, ([], _, Some before, inl (none.0, refl, refl), answered_all lines calls (reply ∷ replies) before after none.1 ran,
-      refl))
+  | inl none ↦ (
+    short,
+    (
+      [],
+      _,
+      Some before,
+      inl (none.0, refl, refl),
+      answered_all lines calls (reply ∷ replies) before after none.1 ran,
+      refl,
+    ),
+  )
   | inr one ↦
       let step : Run nat_eq before (one.0 ∷ one.1) (reply ∷ replies) after =
-      subst (λ (cs : List (Call ℕ ℕ)). Run nat_eq before cs (reply ∷ replies) after) one.3 ran in
-      (short, (line_of (text_of reply), _, Some step.0, answered_call line one.0 reply before step.0 one.2 step.1,
-      answered_all lines one.1 replies step.0 after one.4 step.2, refl))
+      subst (λ (cs : List (Call ℕ ℕ)). Run nat_eq before cs (reply ∷ replies) after) one.3 ran in (
+        short,
+        (
+          line_of (text_of reply),
+          _,
+          Some step.0,
+          answered_call line one.0 reply before step.0 one.2 step.1,
+          answered_all lines one.1 replies step.0 after one.4 step.2,
+          refl,
+        ),
+      )
 ]

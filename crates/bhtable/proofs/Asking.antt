@@ -18,18 +18,18 @@ pub table_asked : (words1 words2 words3 words4 words5 : List (List ℕ)) (kind_n
     → NextIs words3 words4 least → NextIs words4 words5 greatest
     → (limits.minimum ≡ least) × (limits.maximum ≡ greatest) → AreLimits least greatest
     → (used : List (List ℕ)) × (length used ≡ 4) × (words1 ≡ used ++ words5) × AsksForTable used
-        (record { kind = kind; hash = hash; limits = limits })
+    (record { kind = kind; hash = hash; limits = limits })
 table_asked words1 words2 words3 words4 words5 kind_named hash_named kind hash least greatest limits first kind_is second hash_is
     (minimum, third, least_is) (maximum, fourth, greatest_is) same are_limits = (
-  kind_word kind ∷ hash_word hash ∷ minimum ∷ maximum ∷ [],
-  refl,
-  cc,
-  record {
-    minimum = minimum;
-    maximum = maximum;
-    in_order = refl;
-    least = (least_is.0, least_is.1 ∙ sym same.0);
-    greatest = (greatest_is.0, greatest_is.1 ∙ sym same.1);
-    limits = rw (same.0, same.1) are_limits;
-  },
-)
+      kind_word kind ∷ hash_word hash ∷ minimum ∷ maximum ∷ [],
+      refl,
+      cc,
+      record {
+        minimum = minimum;
+        maximum = maximum;
+        in_order = refl;
+        least = (least_is.0, least_is.1 ∙ sym same.0);
+        greatest = (greatest_is.0, greatest_is.1 ∙ sym same.1);
+        limits = rw (same.0, same.1) are_limits;
+      },
+    )

@@ -36,7 +36,7 @@ one_written number rest start digits so_far large fits =
     let room : 1 ≤ start = room_before rest start large so_far.small in
     let back : start - 1 + 1 ≡ start = omega arith in
     let set : drop start (slice_set digits start (48 + rest % 10)) ≡ (48 + rest % 10) ∷ drop (start + 1) digits =
-        drop-set digits start _ (omega (arith, so_far.within, so_far.room)) in
+    drop-set digits start _ (omega (arith, so_far.within, so_far.room)) in
     record {
       within = omega (arith, so_far.within);
       small = rw back (small_before rest start so_far.small);
@@ -52,7 +52,7 @@ all_written number rest start digits so_far digit =
     let room : length (slice_set digits start (48 + rest)) ≡ 20 = length-set digits start _ ∙ so_far.room in
     let all : take (20 - start) (drop start (slice_set digits start (48 + rest))) ≡ drop start (slice_set digits start (48 + rest)) =
     ap (λ (n : ℕ). take (n - start) (drop start (slice_set digits start (48 + rest)))) (sym room)
-        ∙ take_rest (slice_set digits start (48 + rest)) start in
+    ∙ take_rest (slice_set digits start (48 + rest)) start in
     all
     ∙ drop-set digits start _ (omega (arith, so_far.within, so_far.room))
     ∙ sym (so_far.written ∙ ap (λ (t : List ℕ). t ++ drop (start + 1) digits) (decimal_digit rest digit))

@@ -43,8 +43,8 @@ IsReplied (Err OutputFailed) start output waiting lines = Unit {0}
 pub record IsAnswered (result : Result (Unit {0}) Stop) (output output2 : Option (List ℕ)) (session session2 : Session) : Type 0 where
   pub answered : (start : Option (List ℕ)) (lines : List (List ℕ)) → HasTaken start output session lines
       → (session2.calls.items ≡ []) × MatchResult result
-          (λ _. HasReplied start output2 session2.replies.text.items lines (map_at_hand session2.table))
-          (λ stop. HasStopped stop start output2 session2 lines)
+      (λ _. HasReplied start output2 session2.replies.text.items lines (map_at_hand session2.table))
+      (λ stop. HasStopped stop start output2 session2 lines)
   pub none : session.calls.items ≡ [] → (result ≡ Ok tt) × (session2 ≡ session) × (output2 ≡ output)
   pub table : IsSome session2.table ↔ IsSome session.table
   pub stop : MatchResult result (λ _. Unit {0}) IsLack
@@ -59,19 +59,19 @@ some_of start output session lines first others parts none some =
     let in_order = parts ∙ ap (λ (ls : List (List ℕ)). ls ++ others) some.in_order ∙ append_assoc some.first some.others others in
     elim some.kept [
       | inl taken ↦ record {
-          first = some.first;
-          others = some.others ++ others;
-          table = map_at_hand session.table;
-          in_order = in_order;
-          replied = replied_all start output session some.first taken none;
-        }
+        first = some.first;
+        others = some.others ++ others;
+        table = map_at_hand session.table;
+        in_order = in_order;
+        replied = replied_all start output session some.first taken none;
+      }
       | inr replied ↦ record {
-          first = some.first;
-          others = some.others ++ others;
-          table = replied.1.0;
-          in_order = in_order;
-          replied = replied.1.1;
-        }
+        first = some.first;
+        others = some.others ++ others;
+        table = replied.1.0;
+        in_order = in_order;
+        replied = replied.1.1;
+      }
     ]
 
 -- a stop on the way
@@ -88,16 +88,16 @@ stopped OutputFailed start output session lines first others parts lack none lef
 some_answered : (result : Result (Unit {0}) Stop) (stop : Stop) (start output output2 : Option (List ℕ)) (session session2 : Session)
     (lines : List (List ℕ)) → IsAnswered result output output2 session session2 → HasTakenSome start output session lines
     → (HasRepliedSome start output2 session2.replies.text.items lines
-        → IsReplied (Err stop) start output2 session2.replies.text.items lines)
+    → IsReplied (Err stop) start output2 session2.replies.text.items lines)
     → IsReplied (result_and {U = Unit {0}} result (Err stop)) start output2 session2.replies.text.items lines
 some_answered (Ok done) stop start output output2 session session2 lines step some made = made (elim some.kept [
   | inl taken ↦ record {
-      first = some.first;
-      others = some.others;
-      table = map_at_hand session2.table;
-      in_order = some.in_order;
-      replied = (step.answered start some.first taken).1;
-    }
+    first = some.first;
+    others = some.others;
+    table = map_at_hand session2.table;
+    in_order = some.in_order;
+    replied = (step.answered start some.first taken).1;
+  }
   | inr replied ↦
       let same = step.none replied.0 in
       record {

@@ -35,10 +35,10 @@ line_len-append bytes (byte ∷ more) =
 first_line_step : (newline : Bool) (byte : ℕ) (bytes line rest : List ℕ)
     → cond (not newline) (1 + newline_at bytes) 0 < suc (length bytes)
     → (newline_at bytes < length bytes → lines_after (line ++ byte ∷ []) (bytes ++ rest)
-        ≡ without_return ((line ++ byte ∷ []) ++ take (newline_at bytes) bytes) ∷ lines_of (drop (newline_at bytes + 1) bytes ++ rest))
+    ≡ without_return ((line ++ byte ∷ []) ++ take (newline_at bytes) bytes) ∷ lines_of (drop (newline_at bytes + 1) bytes ++ rest))
     → cond newline (without_return line ∷ lines_of (bytes ++ rest)) (lines_after (line ++ byte ∷ []) (bytes ++ rest))
     ≡ without_return (line ++ take (cond (not newline) (1 + newline_at bytes) 0) (byte ∷ bytes))
-        ∷ lines_of (drop (cond (not newline) (1 + newline_at bytes) 0 + 1) (byte ∷ bytes) ++ rest)
+    ∷ lines_of (drop (cond (not newline) (1 + newline_at bytes) 0 + 1) (byte ∷ bytes) ++ rest)
 first_line_step true byte bytes line rest inside later =
     ap (λ (l : List ℕ). without_return l ∷ lines_of (bytes ++ rest)) (sym (append-nil line))
 first_line_step false byte bytes line rest inside later =
@@ -58,7 +58,7 @@ first_line (byte ∷ bytes) line rest inside =
 line_goes_on_step : (newline : Bool) (byte : ℕ) (bytes line rest : List ℕ)
     → suc (length bytes) ≤ cond (not newline) (1 + newline_at bytes) 0
     → (length bytes ≤ newline_at bytes → lines_after (line ++ byte ∷ []) (bytes ++ rest)
-        ≡ lines_after ((line ++ byte ∷ []) ++ bytes) rest)
+    ≡ lines_after ((line ++ byte ∷ []) ++ bytes) rest)
     → cond newline (without_return line ∷ lines_of (bytes ++ rest)) (lines_after (line ++ byte ∷ []) (bytes ++ rest))
     ≡ lines_after (line ++ byte ∷ bytes) rest
 line_goes_on_step true byte bytes line rest none later = absurd (omega arith)

@@ -45,14 +45,14 @@ pub too_large_at : (word : List ℕ) (number at : ℕ) → IsReadTo word number 
     → 2 ^ 64 ≤ number * 10 + (get_or word at 0 - 48) → IsNumber word → ⊥
 too_large_at word number at so_far inside =
     too_large word number (get_or word at 0) (drop (at + 1) word)
-        (subst (λ (left : List ℕ). IsReadTo word number left) (next_byte word at inside) so_far)
+    (subst (λ (left : List ℕ). IsReadTo word number left) (next_byte word at inside) so_far)
 
 pub one_read_at : (word : List ℕ) (number at : ℕ) → IsReadTo word number (drop at word) → at < length word
     → is_ascii_digit (get_or word at 0) ≡ true
     → number * 10 + (get_or word at 0 - 48) < 2 ^ 64 → IsReadTo word (number * 10 + (get_or word at 0 - 48)) (drop (at + 1) word)
 one_read_at word number at so_far inside =
     one_read word number (get_or word at 0) (drop (at + 1) word)
-        (subst (λ (left : List ℕ). IsReadTo word number left) (next_byte word at inside) so_far)
+    (subst (λ (left : List ℕ). IsReadTo word number left) (next_byte word at inside) so_far)
 
 pub all_read : (word : List ℕ) (number at : ℕ) → IsReadTo word number (drop at word) → length word ≤ at
     → 0 < length word → length word ≤ 20 → IsNumber word

@@ -27,7 +27,7 @@ bad_out : (result : Result (Unit {0}) Stop) (number : ℕ) (start output output2
     (lines : List (List ℕ)) → HasRepliedBad start output waiting lines number
     → IsPushed result (append_known output waiting) (append_known output2 waiting2) (bad_line number) → Appends output2 output3 waiting2
     → MatchResult (result_and {U = Unit {0}} result (Err (BadLine number))) (λ _. HasAnswered lines start output3 [])
-        (λ stop. IsOutputUpTo stop lines start output3)
+    (λ stop. IsOutputUpTo stop lines start output3)
 bad_out (Ok done) number start output output2 output3 waiting waiting2 lines bad grown written = record {
   first = bad.first;
   line = bad.line;
@@ -67,7 +67,7 @@ told_out : (stop : Stop) (result : Result (Unit {0}) Stop) (start output output2
     → HasRepliedSome start output waiting lines
     → (result ≡ Ok tt) × (append_known output2 waiting2 ≡ append_known output waiting) → Appends output2 output3 waiting2
     → MatchResult (result_and {U = Unit {0}} result (Err stop)) (λ _. HasAnswered lines start output3 [])
-        (λ s. IsOutputUpTo s lines start output3)
+    (λ s. IsOutputUpTo s lines start output3)
 told_out stop result start output output2 output3 waiting waiting2 lines made some (done, same) written =
     let known = append_known output waiting in
     let kept = subst (λ (bytes : Option (List ℕ)). Appends known bytes []) (sym same) (Appends-nil known) in
@@ -84,7 +84,7 @@ pub stop_out : (stop : Stop) (result : Result (Unit {0}) Stop) (start output out
     (lines : List (List ℕ)) → IsReplied (Err stop) start output waiting lines
     → IsTold stop result (append_known output waiting) (append_known output2 waiting2) → Appends output2 output3 waiting2
     → MatchResult (result_and {U = Unit {0}} result (Err stop)) (λ _. HasAnswered lines start output3 [])
-        (λ s. IsOutputUpTo s lines start output3)
+    (λ s. IsOutputUpTo s lines start output3)
 stop_out (BadLine number) result start output output2 output3 waiting waiting2 lines replied told written =
     bad_out result number start output output2 output3 waiting waiting2 lines replied told written
 stop_out NoMemory result start output output2 output3 waiting waiting2 lines replied told written =
@@ -107,27 +107,36 @@ answered_then lines start output output2 last answered written = record {
 reported : (stop : Stop) (lines : List (List ℕ)) (start output output2 : Option (List ℕ)) (status : ℕ)
     → IsOutputUpTo stop lines start output
     → status ≡ status_of stop → Appends output output2 (last_line_of stop) → IsOutputOf lines start output2 status
-reported (BadLine number) lines start output output2 status bad is written = inr (inl (is, (number, record {
-  first = bad.first;
-  line = bad.line;
-  others = bad.others;
-  in_order = bad.in_order;
-  numbered = bad.numbered;
-  answered = record {
-    text = bad.answered.text;
-    table = bad.answered.table;
-    answers = bad.answered.answers;
-    written = subst (λ (text : List ℕ). Appends start output2 text) (append-nil (bad.answered.text ++ bad_line number))
-        (Appends-trans start output output2 (bad.answered.text ++ bad_line number) [] bad.answered.written written);
-  };
-  unreadable = bad.unreadable;
-})))
-reported NoMemory lines start output output2 status some is written = inr (inr (inl (is, record {
-  first = some.first;
-  others = some.others;
-  in_order = some.in_order;
-  answered = answered_then some.first start output output2 _ some.answered written;
-})))
+reported (BadLine number) lines start output output2 status bad is written = inr (inl (
+  is,
+  (
+    number,
+    record {
+      first = bad.first;
+      line = bad.line;
+      others = bad.others;
+      in_order = bad.in_order;
+      numbered = bad.numbered;
+      answered = record {
+        text = bad.answered.text;
+        table = bad.answered.table;
+        answers = bad.answered.answers;
+        written = subst (λ (text : List ℕ). Appends start output2 text) (append-nil (bad.answered.text ++ bad_line number))
+            (Appends-trans start output output2 (bad.answered.text ++ bad_line number) [] bad.answered.written written);
+      };
+      unreadable = bad.unreadable;
+    },
+  ),
+))
+reported NoMemory lines start output output2 status some is written = inr (inr (inl (
+  is,
+  record {
+    first = some.first;
+    others = some.others;
+    in_order = some.in_order;
+    answered = answered_then some.first start output output2 _ some.answered written;
+  },
+)))
 reported InputFailed lines start output output2 status some is written = inr (inr (inr is))
 reported OutputFailed lines start output output2 status unknown is written = inr (inr (inr is))
 
@@ -146,10 +155,13 @@ some_bytes (Some bytes) = (bytes, refl)
 pub nothing_answered : (input start : Option (List ℕ))
     → (bytes : List ℕ) × IsInput input bytes × HasAnsweredSome (lines_of bytes) start start []
 nothing_answered input start =
-    let some = some_bytes input in
-    (some.0, some.1, record {
-      first = [];
-      others = lines_of some.0;
-      in_order = refl;
-      answered = record { text = []; table = None; answers = (refl, refl); written = Appends-nil start };
-    })
+    let some = some_bytes input in (
+      some.0,
+      some.1,
+      record {
+        first = [];
+        others = lines_of some.0;
+        in_order = refl;
+        answered = record { text = []; table = None; answers = (refl, refl); written = Appends-nil start };
+      },
+    )

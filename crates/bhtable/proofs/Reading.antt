@@ -38,7 +38,7 @@ more_read start left left2 is_ended is_ended2 unread unread2 more before read go
       ap (λ (l : List ℕ). lines_of l) (append_assoc read.bytes more others)
       ∙ read.split (more ++ others) (λ end. absurd (cc))
       ∙ ap (λ (l : List ℕ). before ++ lines_of l)
-        (sym (append_assoc unread more others) ∙ ap (λ (l : List ℕ). l ++ others) (sym grown));
+      (sym (append_assoc unread more others) ∙ ap (λ (l : List ℕ). l ++ others) (sym grown));
 }
 
 pub line_passed : (start left : Option (List ℕ)) (is_ended : Bool) (unread : List ℕ) (before : List (List ℕ)) (line : Line)

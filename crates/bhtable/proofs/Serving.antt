@@ -57,7 +57,7 @@ module _ (input left : Option (List ℕ)) (is_ended : Bool) (unread : List ℕ) 
   pub read_on : (left2 output2 : Option (List ℕ)) (is_ended2 : Bool) (unread2 : List ℕ) (session2 : Session) → is_ended ≡ false
       → HasTaken start output2 session2 come.before
       → (more : List ℕ) × (unread2 ≡ unread ++ more) × Consumes left left2 more
-          × (((is_ended2 ≡ true) × IsAtEnd left2) ⊎ ((is_ended2 ≡ is_ended) × (0 < length more)))
+      × (((is_ended2 ≡ true) × IsAtEnd left2) ⊎ ((is_ended2 ≡ is_ended) × (0 < length more)))
       → HasCome input left2 is_ended2 unread2 start output2 session2 number
   read_on left2 output2 is_ended2 unread2 session2 goes_on taken (more, grown, consumed, progress) = record {
     before = come.before;
@@ -76,16 +76,19 @@ module _ (input left : Option (List ℕ)) (is_ended : Bool) (unread : List ℕ) 
   pub ends_at_long_line : IsFoundIn is_ended unread TooLong → EndsSo input start output session (Err (BadLine (number + 1)))
   ends_at_long_line found =
       let all = all_lines input left is_ended unread come.before come.read in
-      let first = found_too_long is_ended unread all.more found in
-      (all.bytes, all.input, record {
-        first = come.before;
-        line = first.line;
-        others = first.others;
-        in_order = all.in_order ∙ ap (λ (ls : List (List ℕ)). come.before ++ ls) first.in_order;
-        numbered = ap (λ (n : ℕ). n + 1) (sym come.numbered);
-        taken = come.taken;
-        unreadable = inl first.long;
-      })
+      let first = found_too_long is_ended unread all.more found in (
+        all.bytes,
+        all.input,
+        record {
+          first = come.before;
+          line = first.line;
+          others = first.others;
+          in_order = all.in_order ∙ ap (λ (ls : List (List ℕ)). come.before ++ ls) first.in_order;
+          numbered = ap (λ (n : ℕ). n + 1) (sym come.numbered);
+          taken = come.taken;
+          unreadable = inl first.long;
+        },
+      )
 
   -- a stop that tells of no line
   pub ends_between : (output2 : Option (List ℕ)) (session2 : Session) (stop : Stop) → IsLack stop
@@ -102,9 +105,12 @@ module _ (input left : Option (List ℕ)) (is_ended : Bool) (unread : List ℕ) 
   pub ends_unread : (output2 : Option (List ℕ)) (session2 : Session) → HasTaken start output2 session2 come.before
       → EndsSo input start output2 session2 (Err InputFailed)
   ends_unread output2 session2 taken =
-      let all = all_lines input left is_ended unread come.before come.read in
-      (all.bytes, all.input, some_of_more start output2 session2 (lines_of all.bytes) come.before _ all.in_order
-      (all_taken start output2 session2 come.before taken))
+      let all = all_lines input left is_ended unread come.before come.read in (
+        all.bytes,
+        all.input,
+        some_of_more start output2 session2 (lines_of all.bytes) come.before _ all.in_order
+            (all_taken start output2 session2 come.before taken),
+      )
 
   -- a stop at a line
   pub ends_at_line : (output2 : Option (List ℕ)) (session2 : Session) (line : Line) (stop : Stop)
@@ -115,13 +121,16 @@ module _ (input left : Option (List ℕ)) (is_ended : Bool) (unread : List ℕ) 
   ends_at_line output2 session2 line stop found (inr lack) left2 = ends_between output2 session2 stop lack left2.0
   ends_at_line output2 session2 line stop found (inl bad) left2 =
       let all = all_lines input left is_ended unread come.before come.read in
-      let taken : HasTaken start output2 session2 come.before = rw bad at left2.0 in
-      (all.bytes, all.input, rw bad (let told : HasFoundBad start output2 session2 (lines_of all.bytes) (number + 1) = record {
-        first = come.before;
-        line = take line.len unread;
-        others = lines_of (drop line.whole_len unread ++ all.more);
-        in_order = all.in_order ∙ ap (λ (ls : List (List ℕ)). come.before ++ ls) (found_line is_ended unread all.more line found all.last);
-        numbered = ap (λ (n : ℕ). n + 1) (sym come.numbered);
-        taken = taken;
-        unreadable = rw bad at left2.1;
-      } in told))
+      let taken : HasTaken start output2 session2 come.before = rw bad at left2.0 in (
+        all.bytes,
+        all.input,
+        rw bad (let told : HasFoundBad start output2 session2 (lines_of all.bytes) (number + 1) = record {
+          first = come.before;
+          line = take line.len unread;
+          others = lines_of (drop line.whole_len unread ++ all.more);
+          in_order = all.in_order ∙ ap (λ (ls : List (List ℕ)). come.before ++ ls) (found_line is_ended unread all.more line found all.last);
+          numbered = ap (λ (n : ℕ). n + 1) (sym come.numbered);
+          taken = taken;
+          unreadable = rw bad at left2.1;
+        } in told),
+      )

@@ -11,7 +11,7 @@ pub at_byte : (bytes word : List ℕ) (at : ℕ) (blank : Bool) → at < length 
 at_byte bytes word at blank inside is_blank =
     at_drop_more (words_after word) bytes at 0 inside
     ∙ ap (λ (b : Bool). cond b (with_word word (words_of (drop (at + 1) bytes)))
-        (words_after (word ++ get_or bytes at 0 ∷ []) (drop (at + 1) bytes))) is_blank
+    (words_after (word ++ get_or bytes at 0 ∷ []) (drop (at + 1) bytes))) is_blank
 
 -- a blank in front changes no word
 pub blank_passed : (bytes : List ℕ) (at : ℕ) → at < length bytes → is_blank (get_or bytes at 0) ≡ true

@@ -96,8 +96,14 @@ some_pushed start output output2 session session2 lines before after replies oth
       others = some.others;
       in_order = taken.in_order ∙ ap (λ (ls : List (List ℕ)). taken.answered ++ ls) some.in_order
           ∙ sym (append_assoc taken.answered some.first some.others);
-      kept = inr (none, (some.table, replied_more start output output2 _ _ _ taken.answered some.first (Some before) some.table replied
-          some.answers grown));
+      kept = inr (
+        none,
+        (
+          some.table,
+          replied_more start output output2 _ _ _ taken.answered some.first (Some before) some.table replied
+              some.answers grown,
+        ),
+      );
     }
 
 all_pushed : (start output output2 : Option (List ℕ)) (session session2 : Session) (lines : List (List ℕ)) (before after : MapState ℕ ℕ)
@@ -118,8 +124,8 @@ pub pushed : (start output output2 : Option (List ℕ)) (session session2 : Sess
     → ArePushed result (append_known output session.replies.text.items) (append_known output2 session2.replies.text.items) replies
     → session2.calls.items ≡ []
     → MatchResult result
-        (λ _. HasReplied start output2 session2.replies.text.items lines (map_at_hand session2.table))
-        (λ stop. HasStopped stop start output2 session2 lines)
+    (λ _. HasReplied start output2 session2.replies.text.items lines (map_at_hand session2.table))
+    (λ stop. HasStopped stop start output2 session2 lines)
 pushed start output output2 session session2 lines before after replies (Ok done) taken there there2 ran (first, others, parts, all) none =
     let whole : replies ≡ first = parts ∙ ap (λ (rs : List (Reply ℕ ℕ)). first ++ rs) all.0 ∙ append-nil first in
     rw there2 (all_pushed start output output2 session session2 lines before after first taken there (rw whole at ran) all.1)

@@ -35,13 +35,13 @@ pub taken_new : (start output output2 : Option (List ℕ)) (session session2 : S
     (result : Result (Unit {0}) Stop) → HasReplied start output session.replies.text.items lines (map_at_hand session.table)
     → session.calls.items ≡ [] → length line ≤ 4096 → Asks (words_of line) (New new)
     → IsPushed result (append_known output session.replies.text.items) (append_known output2 session2.replies.text.items)
-        (line_of (text_of Done))
+    (line_of (text_of Done))
     → map_at_hand session2.table ≡ Some (fresh_map new) → session2.calls.items ≡ session.calls.items
     → MatchResult result (λ _. HasTaken start output2 session2 (lines ++ line ∷ [])) (λ stop. HasStopped stop start output2 session2 lines)
 taken_new start output output2 session session2 lines line new (Ok done) replied none short asks grown fresh calls =
     taken_all start output2 session2 (lines ++ line ∷ [])
     (rw fresh (replied_new start output output2 session.replies.text.items session2.replies.text.items lines line
-        (map_at_hand session.table) new replied short asks grown))
+    (map_at_hand session.table) new replied short asks grown))
     (calls ∙ none)
 taken_new start output output2 session session2 lines line new (Err (BadLine number)) replied none short asks never fresh calls =
     absurd never
@@ -49,9 +49,14 @@ taken_new start output output2 session session2 lines line new (Err NoMemory) re
   first = lines;
   others = [];
   in_order = sym (append-nil lines);
-  kept = inr (calls ∙ none, (map_at_hand session.table,
+  kept = inr (
+    calls ∙ none,
+    (
+      map_at_hand session.table,
       replied_same start output output2 session.replies.text.items session2.replies.text.items lines (map_at_hand session.table) replied
-          kept));
+          kept,
+    ),
+  );
 }
 taken_new start output output2 session session2 lines line new (Err InputFailed) replied none short asks never fresh calls = absurd never
 taken_new start output output2 session session2 lines line new (Err OutputFailed) replied none short asks unknown fresh calls =
@@ -64,12 +69,12 @@ pub wrote : (start output output2 : Option (List ℕ)) (session session2 : Sessi
     → OnOk result (session2.replies.text.items ≡ []) → OnOk result (Appends output output2 session.replies.text.items)
     → IfErr result (λ stop. stop ≡ OutputFailed)
     → MatchResult result (λ _. HasAnswered lines start output2 [] × HasTaken start output2 session2 lines)
-        (λ stop. HasStopped stop start output2 session2 lines)
+    (λ stop. HasStopped stop start output2 session2 lines)
 wrote start output output2 session session2 lines (Ok done) replied none calls table empty written failed = (
   answered_out start output output2 session.replies.text.items lines (map_at_hand session.table) replied written,
   taken_all start output2 session2 lines
       (rw table (replied_out start output output2 session.replies.text.items session2.replies.text.items lines (map_at_hand session.table)
-          replied written empty))
+      replied written empty))
       (calls ∙ none),
 )
 wrote start output output2 session session2 lines (Err stop) replied none calls table empty written failed =

@@ -23,10 +23,10 @@ kind_letter Cache = CACHE
 -- a fresh table has no pairs
 abbrev pub fresh_map : NewTable → MapState ℕ ℕ
 fresh_map table = record {
-    kind = kind_letter table.kind;
-    minimum = table.limits.minimum;
-    maximum = table.limits.maximum;
-    pairs = []
+  kind = kind_letter table.kind;
+  minimum = table.limits.minimum;
+  maximum = table.limits.maximum;
+  pairs = [];
 }
 
 -- the words ask for a fresh table, and are answered that it is there

@@ -21,7 +21,7 @@ IsPushed result old new line = MatchResult result (λ _. Appends old new line) (
 abbrev pub ArePushed : Result (Unit {0}) Stop → Option (List ℕ) → Option (List ℕ) → List (Reply ℕ ℕ) → Type 0
 ArePushed result old new replies = (first : List (Reply ℕ ℕ)) × (others : List (Reply ℕ ℕ)) × (replies ≡ first ++ others)
     × MatchResult result (λ _. (others ≡ []) × Appends old new (lines_of_replies first))
-        (λ stop. IsLeftBy stop old new (lines_of_replies first))
+    (λ stop. IsLeftBy stop old new (lines_of_replies first))
 
 -- what is written and what waits tells of a stop at a bad line, and of no other
 abbrev pub IsTold : Stop → Result (Unit {0}) Stop → Option (List ℕ) → Option (List ℕ) → Type 0

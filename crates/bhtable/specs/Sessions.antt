@@ -31,7 +31,7 @@ AskForCalls [] calls = calls ≡ []
 AskForCalls (line ∷ lines) calls =
     (length line ≤ 4096) × (((words_of line ≡ []) × AskForCalls lines calls)
     ⊎ ((call : Call ℕ ℕ) × (others : List (Call ℕ ℕ)) × Asks (words_of line) (Calls call) × (calls ≡ call ∷ others)
-        × AskForCalls lines others))
+    × AskForCalls lines others))
 
 -- from the output `start` on, these lines are answered, in the output and in the text that waits for it
 pub record HasReplied (start output : Option (List ℕ)) (waiting : List ℕ) (lines : List (List ℕ))
@@ -56,7 +56,7 @@ pub record HasTakenSome (start output : Option (List ℕ)) (session : Session) (
   pub in_order : lines ≡ first ++ others
   pub kept : HasTaken start output session first
       ⊎ ((session.calls.items ≡ [])
-          × ((table : Option (MapState ℕ ℕ)) × HasReplied start output session.replies.text.items first table))
+      × ((table : Option (MapState ℕ ℕ)) × HasReplied start output session.replies.text.items first table))
 
 -- the lines before one that can't be read are taken, and this is its number
 pub record HasFoundBad (start output : Option (List ℕ)) (session : Session) (lines : List (List ℕ)) (number : ℕ)

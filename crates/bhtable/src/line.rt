@@ -99,7 +99,7 @@ impl<R: Read + Drop> Lines<R> {
             × (unread self.new.window ≡ unread self.old.window ++ more)
             × Consumes (R.remaining self.old.input) (R.remaining self.new.input) more
             × (((self.new.is_ended ≡ true) × IsAtEnd (R.remaining self.new.input))
-                ⊎ ((self.new.is_ended ≡ self.old.is_ended) × (0 < length more)))) }
+            ⊎ ((self.new.is_ended ≡ self.old.is_ended) × (0 < length more)))) }
         ensures kept { OnErr result ((unread self.new.window ≡ unread self.old.window)
             × Keeps (R.remaining self.old.input) (R.remaining self.new.input)) }
         ensures stop { IfErr result (λ stop. stop ≡ Stop.InputFailed) }

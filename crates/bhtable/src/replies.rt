@@ -47,7 +47,11 @@ impl Replies {
     }
 
     /// Appends a reply.
-    pub(crate) fn push<W: Write>(&mut self, reply: &Reply<u64, u64>, output: &mut W) -> Result<(), Stop>
+    pub(crate) fn push<W: Write>(
+        &mut self,
+        reply: &Reply<u64, u64>,
+        output: &mut W,
+    ) -> Result<(), Stop>
         ensures { IsPushed result (append_known (W.contents output.old) self.old.text.items)
             (append_known (W.contents output.new) self.new.text.items) (line_of (text_of reply.now)) }
     {

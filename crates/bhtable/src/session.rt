@@ -58,14 +58,19 @@ impl Session {
     }
 
     /// Takes the line of this number. Its reply may wait for `write_out`.
-    pub(crate) fn take<W: Write>(&mut self, number: u64, line: &[u8], output: &mut W) -> Result<(), Stop>
+    pub(crate) fn take<W: Write>(
+        &mut self,
+        number: u64,
+        line: &[u8],
+        output: &mut W,
+    ) -> Result<(), Stop>
         requires { length line.now ≤ 4096 }
         ensures taken { (start : Option (List ℕ)) (lines : List (List ℕ))
             → HasTaken start (W.contents output.old) self.old lines
             → MatchResult result
-                (λ _. HasTaken start (W.contents output.new) self.new (lines ++ line.now ∷ []))
-                (λ stop. HasStopped stop start (W.contents output.new) self.new lines
-                    × IsBadAt stop (map_at_hand self.new.table) line.now) }
+            (λ _. HasTaken start (W.contents output.new) self.new (lines ++ line.now ∷ []))
+            (λ stop. HasStopped stop start (W.contents output.new) self.new lines
+            × IsBadAt stop (map_at_hand self.new.table) line.now) }
         ensures stop { IfErr result (λ stop. (stop ≡ Stop.BadLine number) ⊎ IsLack stop) }
         ensures passed_over { words_of line.now ≡ [] → (result ≡ Ok tt) × (self.new ≡ self.old) }
     {
@@ -82,9 +87,9 @@ impl Session {
         ensures taken { (start : Option (List ℕ)) (lines : List (List ℕ))
             → HasTaken start (W.contents output.old) self.old lines
             → MatchResult result
-                (λ _. HasAnswered lines start (W.contents output.new) []
-                    × HasTaken start (W.contents output.new) self.new lines)
-                (λ stop. HasStopped stop start (W.contents output.new) self.new lines) }
+            (λ _. HasAnswered lines start (W.contents output.new) []
+            × HasTaken start (W.contents output.new) self.new lines)
+            (λ stop. HasStopped stop start (W.contents output.new) self.new lines) }
         ensures stop { IfErr result IsLack }
     {
         self.answer(output)?;
@@ -100,8 +105,8 @@ impl Session {
         ensures { (start : Option (List ℕ)) (lines : List (List ℕ))
             → HasEnded ended start (W.contents output.old) self lines
             → MatchResult result
-                (λ _. HasAnswered lines start (W.contents output.new) [])
-                (λ stop. IsOutputUpTo stop lines start (W.contents output.new)) }
+            (λ _. HasAnswered lines start (W.contents output.new) [])
+            (λ stop. IsOutputUpTo stop lines start (W.contents output.new)) }
     {
         let ended = match self.answer(output).and(ended) {
             Ok(()) => Ok(()),
@@ -118,8 +123,8 @@ impl Session {
             → HasTaken start (W.contents output.old) self.old lines
             → length line ≤ 4096 → Asks (words_of line) (Request.New new)
             → MatchResult result
-                (λ _. HasTaken start (W.contents output.new) self.new (lines ++ line ∷ []))
-                (λ stop. HasStopped stop start (W.contents output.new) self.new lines) }
+            (λ _. HasTaken start (W.contents output.new) self.new (lines ++ line ∷ []))
+            (λ stop. HasStopped stop start (W.contents output.new) self.new lines) }
         ensures stop { IfErr result IsLack }
     {
         self.answer(output)?;
@@ -133,8 +138,8 @@ impl Session {
             → HasTaken start (W.contents output.old) self.old lines
             → length line ≤ 4096 → Asks (words_of line) (Request.Call call)
             → MatchResult result
-                (λ _. HasTaken start (W.contents output.new) self.new (lines ++ line ∷ []))
-                (λ stop. HasStopped stop start (W.contents output.new) self.new lines) }
+            (λ _. HasTaken start (W.contents output.new) self.new (lines ++ line ∷ []))
+            (λ stop. HasStopped stop start (W.contents output.new) self.new lines) }
         ensures stop { IfErr result IsLack }
     {
         if self.calls.len() >= CALLS_AT_ONCE {
@@ -151,9 +156,9 @@ impl Session {
         ensures answered { (start : Option (List ℕ)) (lines : List (List ℕ))
             → HasTaken start (W.contents output.old) self.old lines
             → (self.new.calls.items ≡ []) × MatchResult result
-                (λ _. HasReplied start (W.contents output.new) self.new.replies.text.items lines
-                    (map_at_hand self.new.table))
-                (λ stop. HasStopped stop start (W.contents output.new) self.new lines) }
+            (λ _. HasReplied start (W.contents output.new) self.new.replies.text.items lines
+            (map_at_hand self.new.table))
+            (λ stop. HasStopped stop start (W.contents output.new) self.new lines) }
         ensures none { self.old.calls.items ≡ [] → (result ≡ Ok tt) × (self.new ≡ self.old)
             × (W.contents output.new ≡ W.contents output.old) }
         ensures table { IsSome self.new.table ↔ IsSome self.old.table }

@@ -57,8 +57,15 @@ loop-turn-preserved g c =
           let taken = w.in_ok-take-in-Line.ensures.taken _ come.before come.taken in
           record {
             counted = omega (arith, w.number-is, l.invariant.counted);
-            come = rw (w.lines-is, w.session-is, w.output-is, w.number-is, w.pass.ensures.passed, w.pass.ensures.input,
-                w.pass.ensures.ended)
+            come = rw (
+              w.lines-is,
+              w.session-is,
+              w.output-is,
+              w.number-is,
+              w.pass.ensures.passed,
+              w.pass.ensures.input,
+              w.pass.ensures.ended,
+            )
                 (line_taken _ _ _ _ _ _ _ _ come _ w.take.new.self w.in-Line.line w.in-Line.ensures.found (rw w.bytes.ensures at taken));
           }
       | in-Cut+in_ok-write_out-in-Cut+in_ok-read_more-in-Cut w ↦
@@ -67,7 +74,7 @@ loop-turn-preserved g c =
             counted = omega (arith, w.number-is, l.invariant.counted);
             come = rw (w.lines-is, w.session-is, w.output-is, w.number-is)
                 (read_on _ _ _ _ _ _ _ _ come _ _ _ _ w.write_out.new.self
-                    (found_cut l.lines.is_ended (unread l.lines.window) w.in-Cut.ensures.found) written.1
+                (found_cut l.lines.is_ended (unread l.lines.window) w.in-Cut.ensures.found) written.1
                 w.in_ok-read_more-in-Cut.ensures.read);
           }
     ]

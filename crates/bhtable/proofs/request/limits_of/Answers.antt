@@ -17,4 +17,4 @@ pub returns-then-next_power_of_two-maximum-clause-accepted : goal.returns-then-n
 returns-then-next_power_of_two-maximum-clause-accepted c =
     let n = c.next_power_of_two in
     refused (λ limits. c.if-next_power_of_two-maximum.true
-        (next_is_same _ _ limits.power n.ensures.power n.ensures.lower_bound n.ensures.upper_bound))
+    (next_is_same _ _ limits.power n.ensures.power n.ensures.lower_bound n.ensures.upper_bound))

@@ -14,11 +14,13 @@ returns-in_err-number-clause-accepted c =
     let l = c.loop-byte in
     none_if _ c.from_residual-in_err-number.ensures
     (too_large_at _ l.number l.byte-index l.invariant c.loop-byte-test.true
-        (omega (arith, c.in_err-number.ensures, c.in_ok-checked_mul.ensures, c.in_ok-digit.ensures.1)))
+    (omega (arith, c.in_err-number.ensures, c.in_ok-checked_mul.ensures, c.in_ok-digit.ensures.1)))
 
 pub returns-clause-accepted : goal.returns-clause-accepted
 returns-clause-accepted c =
     let l = c.loop-byte in
-    let some : length c.args.word.now ≡ 0 → ⊥ = eqb-false _ _ (sym c.if-is_empty.ensures) in
-    (λ yes. all_read _ l.number l.byte-index l.invariant c.loop-byte-test.false (omega (arith, some))
-        (omega (arith, c.if-word-gt-LONGEST_NUMBER.false)), λ number. refl)
+    let some : length c.args.word.now ≡ 0 → ⊥ = eqb-false _ _ (sym c.if-is_empty.ensures) in (
+      λ yes. all_read _ l.number l.byte-index l.invariant c.loop-byte-test.false (omega (arith, some))
+          (omega (arith, c.if-word-gt-LONGEST_NUMBER.false)),
+      λ number. refl,
+    )

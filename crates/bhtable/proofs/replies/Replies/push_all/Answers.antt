@@ -12,8 +12,12 @@ returns-in_err-push g c =
     let p = err_from_is_err_and c.from_residual.result c.from_residual.ensures.1 in
     let replies = c.args.replies.now in
     let index = c.loop-reply.reply-index in
-    rw (p.1, p.2) (take index replies, drop index replies, sym (take-append-drop index replies),
-    left_more c.in_err-push.field-0.0 _ _ _ _ c.loop-reply.invariant c.in_err-push.ensures)
+    rw (p.1, p.2) (
+      take index replies,
+      drop index replies,
+      sym (take-append-drop index replies),
+      left_more c.in_err-push.field-0.0 _ _ _ _ c.loop-reply.invariant c.in_err-push.ensures,
+    )
 
 pub loop-reply-preserved : goal.loop-reply-preserved
 loop-reply-preserved g c =
