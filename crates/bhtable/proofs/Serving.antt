@@ -121,16 +121,14 @@ module _ (input left : Option (List ℕ)) (is_ended : Bool) (unread : List ℕ) 
   ends_at_line output2 session2 line stop found (inr lack) left2 = ends_between output2 session2 stop lack left2.0
   ends_at_line output2 session2 line stop found (inl bad) left2 =
       let all = all_lines input left is_ended unread come.before come.read in
-      let taken : HasTaken start output2 session2 come.before = rw bad at left2.0 in (
-        all.bytes,
-        all.input,
-        rw bad (let told : HasFoundBad start output2 session2 (lines_of all.bytes) (number + 1) = record {
-          first = come.before;
-          line = take line.len unread;
-          others = lines_of (drop line.whole_len unread ++ all.more);
-          in_order = all.in_order ∙ ap (λ (ls : List (List ℕ)). come.before ++ ls) (found_line is_ended unread all.more line found all.last);
-          numbered = ap (λ (n : ℕ). n + 1) (sym come.numbered);
-          taken = taken;
-          unreadable = rw bad at left2.1;
-        } in told),
-      )
+      let told : HasFoundBad start output2 session2 (lines_of all.bytes) (number + 1) = record {
+        first = come.before;
+        line = take line.len unread;
+        others = lines_of (drop line.whole_len unread ++ all.more);
+        in_order = all.in_order
+            ∙ ap (λ (ls : List (List ℕ)). come.before ++ ls) (found_line is_ended unread all.more line found all.last);
+        numbered = ap (λ (n : ℕ). n + 1) (sym come.numbered);
+        taken = rw bad at left2.0;
+        unreadable = rw bad at left2.1;
+      } in
+      (all.bytes, all.input, rw bad told)
