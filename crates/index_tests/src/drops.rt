@@ -1,0 +1,126 @@
+//! What becomes of the values of marked pairs: each is dropped once, when its pair is let go or with
+//! its bucket.
+use crate::by_key::{KEEP, LET_GO, mark_key, mark_keys};
+use bucket_slots::bucket::{Bucket, INDEX, MAP};
+use bucket_slots::lru::LruList;
+use std::alloc::Global;
+use std::process::Abort;
+use std::rc::Rc;
+use std::test::Fail;
+
+/// A bucket of shared values.
+type Shared = Bucket<u64, Rc<i32>, (), INDEX>;
+
+// A bucket of keys from 0 on, whose values are shares of one.
+fn sharing(alloc: Global, counted: &Rc<i32>, keys: u64) -> Result<Shared, Fail> {
+    let mut bucket = Shared::new(alloc);
+    for key in 0..keys {
+        bucket.insert(0, (key, counted.clone()?), &KEEP)?;
+    }
+    Ok(bucket)
+}
+
+#[test]
+fn a_clearing_drops_what_it_lets_go(rt: HostRuntime) -> Result<(), Fail> {
+    let counted = Rc::new(rt.alloc(), 0)?;
+    let mut bucket = sharing(rt.alloc(), &counted, 37)?;
+    assert_eq!(rt; Rc::strong_count(&counted), 38);
+    mark_keys(&rt, &mut bucket, &[0, 31, 32, 36], &KEEP);
+    assert_eq!(rt; Rc::strong_count(&counted), 38);
+    bucket.clear_unreachable_entries(&KEEP);
+    assert_eq!(rt; Rc::strong_count(&counted), 38);
+    // Two in own slots and two in the chain.
+    bucket.clear_unreachable_entries(&LET_GO);
+    assert_eq!(rt; Rc::strong_count(&counted), 34);
+    bucket.clear_unreachable_entries(&LET_GO);
+    assert_eq!(rt; Rc::strong_count(&counted), 34);
+    drop(bucket);
+    assert_eq!(rt; Rc::strong_count(&counted), 1);
+    Ok(())
+}
+
+#[test]
+fn an_insertion_that_clears_drops_what_it_lets_go(rt: HostRuntime) -> Result<(), Fail> {
+    let counted = Rc::new(rt.alloc(), 0)?;
+    let mut bucket = sharing(rt.alloc(), &counted, 37)?;
+    mark_keys(&rt, &mut bucket, &[3, 4, 33, 36], &KEEP);
+    // One pair comes and none goes.
+    bucket.insert(0, (40, counted.clone()?), &KEEP)?;
+    assert_eq!(rt; Rc::strong_count(&counted), 39);
+    // One comes and the four go, those in the chain among them.
+    bucket.insert(0, (41, counted.clone()?), &LET_GO)?;
+    assert_eq!(rt; Rc::strong_count(&counted), 36);
+    assert_eq!(rt; bucket.len(), 35);
+    drop(bucket);
+    assert_eq!(rt; Rc::strong_count(&counted), 1);
+    Ok(())
+}
+
+#[test]
+fn marked_pairs_go_with_their_bucket(rt: HostRuntime) -> Result<(), Fail> {
+    let counted = Rc::new(rt.alloc(), 0)?;
+    let mut bucket = sharing(rt.alloc(), &counted, 41)?;
+    mark_keys(&rt, &mut bucket, &[0, 7, 32, 39, 40], &KEEP);
+    assert_eq!(rt; Rc::strong_count(&counted), 42);
+    assert_eq!(rt; bucket.len(), 36);
+    drop(bucket);
+    assert_eq!(rt; Rc::strong_count(&counted), 1);
+    Ok(())
+}
+
+#[test]
+fn a_killed_index_bucket_keeps_its_marked_pairs(rt: HostRuntime) -> Result<(), Fail> {
+    let counted = Rc::new(rt.alloc(), 0)?;
+    let mut bucket = sharing(rt.alloc(), &counted, 41)?;
+    for key in 0..41 {
+        assert!(rt; !kill_empty(&mut bucket), "a bucket with pairs stays");
+        assert!(rt; mark_key(&mut bucket, key, 0, &KEEP), "key {key}");
+    }
+    assert_eq!(rt; bucket.len(), 0);
+    assert!(rt; kill_empty(&mut bucket));
+    assert!(rt; bucket.is_killed());
+    assert!(rt; !kill_empty(&mut bucket), "it is killed already");
+    assert_eq!(rt; Rc::strong_count(&counted), 42);
+    assert!(rt; bucket.data_block().val(31).is_some());
+    drop(bucket);
+    assert_eq!(rt; Rc::strong_count(&counted), 1);
+    Ok(())
+}
+
+// Where key 36 stands among keys 0 to 36 that come into a killed bucket, for which ten blocks were
+// reserved: in the second of them, or in the second that had to be made.
+#[test]
+fn an_index_bucket_alone_keeps_its_chain_when_killed(rt: HostRuntime) -> Result<(), Fail> {
+    let index = place_after_kill::<INDEX>(&rt, rt.alloc())?;
+    assert_eq!(rt; index, (2, 0));
+    let map = place_after_kill::<MAP>(&rt, rt.alloc())?;
+    assert_eq!(rt; map, (1, 0));
+    Ok(())
+}
+
+// Kills a new bucket with room for 72 pairs, and returns the place of the last of 37 pairs.
+fn place_after_kill<const TYPE: u8>(
+    rt: &impl Abort,
+    alloc: Global,
+) -> Result<(usize, usize), Fail> {
+    let mut bucket = Bucket::<u64, u64, (), TYPE>::new(alloc);
+    bucket.reserve_slots(72)?;
+    assert!(rt; kill_empty(&mut bucket));
+    let mut place = (0, 0);
+    for key in 0..37 {
+        let at = bucket.insert(0, (key, 0), &())?;
+        place = (at.block(), at.pos());
+    }
+    Ok(place)
+}
+
+// Kills a bucket that has no live pair and isn't killed, and returns whether it was one.
+fn kill_empty<V: Drop, L: LruList + Drop, const TYPE: u8>(
+    bucket: &mut Bucket<u64, V, L, TYPE>,
+) -> bool {
+    if bucket.len() != 0 || bucket.is_killed() {
+        return false;
+    }
+    bucket.kill();
+    true
+}

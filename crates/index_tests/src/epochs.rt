@@ -1,0 +1,177 @@
+//! Every epoch: a pair marked with it goes or stays as the test says of that epoch alone.
+use crate::by_key::{Pairs, Spot, check_insertions, filled, mark_key};
+use bucket_slots::bucket::Generation;
+use bucket_table::script::FixedGeneration;
+use std::alloc::Global;
+use std::process::Abort;
+use std::test::Fail;
+
+/// One epoch, and an answer for each mark.
+#[derive(Drop)]
+pub(crate) struct Answers {
+    /// The byte that marks a pair removed now.
+    pub(crate) epoch: u8,
+    /// Whether a pair with the mark must stay, for each mark from 0 on.
+    pub(crate) kept: [bool; 256],
+}
+
+impl Generation for Answers {
+    ghost use Rattle.std.specs.Prelude.{slice_index_or, false};
+
+    ghost epoch_of = { λ answers. answers.epoch };
+
+    ghost keeps = { λ answers mark. slice_index_or answers.kept mark false };
+
+    fn epoch(&self) -> u8 {
+        self.epoch
+    }
+
+    fn same(&self, mark: u8) -> bool {
+        self.kept[mark as usize]
+    }
+}
+
+/// This epoch, and marks are kept that leave this rest, divided by the divisor.
+pub(crate) fn kept_by_rest(epoch: u8, divisor: u8, rest: u8) -> Answers {
+    let mut kept = [false; 256];
+    for mark in 0..256usize {
+        if divisor != 0 {
+            kept[mark] = mark % divisor as usize == rest as usize;
+        }
+    }
+    Answers { epoch, kept }
+}
+
+// Every mark is kept but one.
+fn kept_but(gone: u8) -> Answers {
+    let mut kept = [true; 256];
+    kept[gone as usize] = false;
+    Answers { epoch: 0, kept }
+}
+
+// Marks are kept whose square leaves less than 5, divided by 11: no rule of the bits.
+fn kept_by_square() -> Answers {
+    let mut kept = [false; 256];
+    for mark in 0..256usize {
+        kept[mark] = mark * mark % 11 < 5;
+    }
+    Answers { epoch: 0, kept }
+}
+
+// A bucket of this many keys, key i marked with the epoch i after the first.
+fn marked_from(rt: &impl Abort, alloc: Global, first: u8, keys: u8) -> Result<Pairs, Fail> {
+    let mut bucket = filled(alloc, u64::from(keys), 0)?;
+    for key in 0..keys {
+        let now = FixedGeneration {
+            epoch: first.wrapping_add(key),
+            keep: true,
+        };
+        assert!(rt; mark_key(&mut bucket, u64::from(key), 0, &now), "key {key}");
+    }
+    assert_eq!(rt; bucket.len(), 0);
+    Ok(bucket)
+}
+
+// A divisor and a rest, and the sum of 2^i over each i below 32 that leaves the rest. The divisors
+// divide 32, so that the sum is that of 32 epochs from each multiple of 32 on.
+const BY_REST: [(u8, u8, u32); 6] = [
+    (1, 0, 4294967295),
+    (2, 0, 1431655765),
+    (2, 1, 2863311530),
+    (16, 0, 65537),
+    (32, 31, 2147483648),
+    (32, 32, 0),
+];
+
+#[test]
+fn the_marks_of_a_rest_stay(rt: HostRuntime) -> Result<(), Fail> {
+    for (divisor, rest, occupancy) in BY_REST {
+        check_eighths(&rt, rt.alloc(), &kept_by_rest(0, divisor, rest), occupancy)?;
+    }
+    Ok(())
+}
+
+// Eight buckets whose marks are all 256 epochs have one occupancy after a clearing.
+fn check_eighths(
+    rt: &impl Abort,
+    alloc: Global,
+    answers: &Answers,
+    occupancy: u32,
+) -> Result<(), Fail> {
+    for eighth in 0..8 {
+        let mut bucket = marked_from(rt, alloc, 32 * eighth, 32)?;
+        let left = bucket.clear_unreachable_entries(answers);
+        assert_eq!(rt; left, occupancy, "eighth {eighth}");
+        assert_eq!(rt; bucket.len(), 0, "eighth {eighth}");
+    }
+    Ok(())
+}
+
+#[test]
+fn each_mark_is_asked_for_on_its_own(rt: HostRuntime) -> Result<(), Fail> {
+    let answers = kept_by_square();
+    for eighth in 0..8 {
+        let first = 32 * eighth;
+        let mut bucket = marked_from(&rt, rt.alloc(), first, 32)?;
+        let left = bucket.clear_unreachable_entries(&answers);
+        for pos in 0..32u8 {
+            let epoch = first.wrapping_add(pos);
+            let stays = answers.kept[epoch as usize];
+            assert_eq!(rt; left >> u32::from(pos) & 1 == 1, stays, "epoch {epoch}");
+            let there = bucket.data_block().key(pos as usize).is_some();
+            assert_eq!(rt; there, stays, "epoch {epoch}");
+        }
+    }
+    Ok(())
+}
+
+#[test]
+fn an_insertion_goes_to_the_one_slot_whose_mark_goes(rt: HostRuntime) -> Result<(), Fail> {
+    for gone in 0..=255u8 {
+        let mut bucket = marked_from(&rt, rt.alloc(), gone / 32 * 32, 32)?;
+        let place = (0, gone as usize % 32);
+        check_insertions(&rt, &mut bucket, &kept_but(gone), &[(40, place)])?;
+        assert_eq!(rt; bucket.len(), 1, "epoch {gone}");
+        // Every slot is occupied again, by the pair that came and by 31 marked ones.
+        let left = bucket.clear_unreachable_entries(&kept_but(gone));
+        assert_eq!(rt; left, 4294967295, "epoch {gone}");
+    }
+    Ok(())
+}
+
+// Of 64 keys in a bucket of 32 own slots and eight blocks, those with an odd epoch are let go. The
+// pairs that come after the own slots are full take these slots.
+const FREE_IN_BLOCKS: [(u64, Spot); 16] = [
+    (100, (1, 1)),
+    (101, (1, 3)),
+    (102, (2, 1)),
+    (103, (2, 3)),
+    (104, (3, 1)),
+    (105, (3, 3)),
+    (106, (4, 1)),
+    (107, (4, 3)),
+    (108, (5, 1)),
+    (109, (5, 3)),
+    (110, (6, 1)),
+    (111, (6, 3)),
+    (112, (7, 1)),
+    (113, (7, 3)),
+    (114, (8, 1)),
+    (115, (8, 3)),
+];
+
+#[test]
+fn marks_in_the_chain_go_as_those_in_own_slots_do(rt: HostRuntime) -> Result<(), Fail> {
+    let answers = kept_by_rest(0, 2, 0);
+    for quarter in 0..4 {
+        let mut bucket = marked_from(&rt, rt.alloc(), 64 * quarter, 64)?;
+        assert_eq!(rt; bucket.clear_unreachable_entries(&answers), 1431655765);
+        for key in 0..16u64 {
+            let place = (0, 2 * key as usize + 1);
+            check_insertions(&rt, &mut bucket, &answers, &[(70 + key, place)])?;
+        }
+        check_insertions(&rt, &mut bucket, &answers, &FREE_IN_BLOCKS)?;
+        assert_eq!(rt; bucket.len(), 32);
+    }
+    Ok(())
+}

@@ -1,0 +1,134 @@
+//! Insertions into one index bucket: when they look at marks, and what goes where.
+use crate::by_key::{
+    KEEP, LET_GO, Pairs, Spot, check_absent, check_insertions, check_place, filled, mark_keys,
+    move_key,
+};
+use crate::epochs::kept_by_rest;
+use std::alloc::Global;
+use std::process::Abort;
+use std::test::Fail;
+
+// All own slots are occupied: the sum of 2^i over i from 0 to 31.
+const ALL_OWN: u32 = 4294967295;
+
+#[test]
+fn marks_that_are_kept_send_a_pair_to_the_chain(rt: HostRuntime) -> Result<(), Fail> {
+    let mut bucket = filled(rt.alloc(), 32, 0)?;
+    mark_keys(&rt, &mut bucket, &[0, 1, 2, 3], &KEEP);
+    assert_eq!(rt; bucket.len(), 28);
+    check_absent(&rt, &bucket, 0, 0);
+    check_insertions(&rt, &mut bucket, &KEEP, &[(32, (1, 0))])?;
+    // The same bucket, but no mark is kept any more.
+    check_insertions(&rt, &mut bucket, &LET_GO, &[(33, (0, 0))])?;
+    assert_eq!(rt; bucket.len(), 30);
+    check_place(&rt, &bucket, 32, (1, 0));
+    // The other three went with the first.
+    for pos in [1, 2, 3] {
+        assert_eq!(rt; bucket.data_block().key(pos), None, "slot {pos}");
+    }
+    check_insertions(&rt, &mut bucket, &KEEP, &[(34, (0, 1)), (35, (0, 2))])
+}
+
+#[test]
+fn marks_stay_while_an_own_slot_is_free(rt: HostRuntime) -> Result<(), Fail> {
+    let mut bucket = filled(rt.alloc(), 31, 0)?;
+    mark_keys(&rt, &mut bucket, &[4], &KEEP);
+    check_insertions(&rt, &mut bucket, &LET_GO, &[(40, (0, 31))])?;
+    assert_eq!(rt; bucket.data_block().key(4), Some(&4));
+    // No own slot is free now, so that the next insertion looks at the mark.
+    check_insertions(&rt, &mut bucket, &LET_GO, &[(41, (0, 4))])
+}
+
+#[test]
+fn marks_in_the_chain_stay_while_no_own_slot_is_marked(rt: HostRuntime) -> Result<(), Fail> {
+    let mut bucket = filled(rt.alloc(), 33, 0)?;
+    mark_keys(&rt, &mut bucket, &[32], &KEEP);
+    check_insertions(&rt, &mut bucket, &LET_GO, &[(40, (1, 1)), (41, (1, 2))])
+}
+
+// Own slots with 31 live pairs and one mark of epoch 1, which is kept, and in the chain live key 34
+// between three marks of epoch 2, which are not.
+fn one_kept_and_three_expired(rt: &impl Abort, alloc: Global) -> Result<Pairs, Fail> {
+    let mut bucket = filled(alloc, 36, 0)?;
+    mark_keys(rt, &mut bucket, &[7], &kept_by_rest(1, 255, 1));
+    mark_keys(rt, &mut bucket, &[32, 33, 35], &kept_by_rest(2, 255, 1));
+    assert_eq!(rt; bucket.len(), 32);
+    check_place(rt, &bucket, 34, (1, 2));
+    Ok(bucket)
+}
+
+// What comes then: the slots that were let go, and then a new head.
+const AROUND_THE_LIVE_PAIR: [(u64, Spot); 4] = [
+    (40, (1, 0)),
+    (41, (1, 1)),
+    (42, (1, 3)),
+    (43, (1, 0)),
+];
+
+#[test]
+fn a_block_with_a_live_pair_stays_and_takes_the_next(rt: HostRuntime) -> Result<(), Fail> {
+    let mut bucket = one_kept_and_three_expired(&rt, rt.alloc())?;
+    let now = kept_by_rest(2, 255, 1);
+    check_insertions(&rt, &mut bucket, &now, &AROUND_THE_LIVE_PAIR)?;
+    assert_eq!(rt; bucket.len(), 36);
+    assert_eq!(rt; bucket.data_block().key(7), Some(&7));
+    check_place(&rt, &bucket, 34, (2, 2));
+    check_place(&rt, &bucket, 42, (2, 3));
+    Ok(())
+}
+
+#[test]
+fn a_pair_is_placed_before_free_blocks_go(rt: HostRuntime) -> Result<(), Fail> {
+    // A chain of one block full of live pairs, and two blocks reserved behind it.
+    let mut bucket = filled(rt.alloc(), 36, 0)?;
+    mark_keys(&rt, &mut bucket, &[7], &KEEP);
+    bucket.reserve_slots(8)?;
+    // The original gives both up first, and asks for memory again.
+    check_insertions(&rt, &mut bucket, &KEEP, &[(40, (2, 0))])?;
+    check_place(&rt, &bucket, 32, (1, 0));
+    // The last of them goes after the placing, so that the fifth pair makes a new head.
+    check_insertions(&rt, &mut bucket, &KEEP, &[(41, (2, 1)), (42, (2, 2))])?;
+    check_insertions(&rt, &mut bucket, &KEEP, &[(43, (2, 3)), (44, (1, 0))])?;
+    check_place(&rt, &bucket, 40, (3, 0));
+    check_place(&rt, &bucket, 43, (3, 3));
+    Ok(())
+}
+
+// What comes after an insertion that gave two free blocks up: the fifth pair tells that both went.
+const AFTER_FREE_BLOCKS_WENT: [(u64, Spot); 5] = [
+    (42, (1, 0)),
+    (43, (1, 1)),
+    (44, (1, 2)),
+    (45, (1, 3)),
+    (46, (1, 0)),
+];
+
+#[test]
+fn free_blocks_go_though_an_own_slot_took_the_pair(rt: HostRuntime) -> Result<(), Fail> {
+    let mut bucket = filled(rt.alloc(), 32, 0)?;
+    mark_keys(&rt, &mut bucket, &[5, 6], &KEEP);
+    bucket.reserve_slots(8)?;
+    check_insertions(&rt, &mut bucket, &LET_GO, &[(40, (0, 5)), (41, (0, 6))])?;
+    check_insertions(&rt, &mut bucket, &LET_GO, &AFTER_FREE_BLOCKS_WENT)?;
+    assert_eq!(rt; bucket.len(), 37);
+    Ok(())
+}
+
+#[test]
+fn a_move_into_a_bucket_leaves_its_marks(rt: HostRuntime) -> Result<(), Fail> {
+    let mut source = filled(rt.alloc(), 40, 0)?;
+    let mut target = filled(rt.alloc(), 32, 0)?;
+    mark_keys(&rt, &mut target, &[0, 1, 2, 31], &KEEP);
+    for (key, place) in [(32, (1, 0)), (33, (1, 1)), (39, (1, 2))] {
+        let moved = move_key(&mut target, &mut source, key)?;
+        assert_eq!(rt; moved, Some(place), "key {key}");
+        assert_eq!(rt; target.data_block().key(0), Some(&0));
+        assert_eq!(rt; target.data_block().key(31), Some(&31));
+    }
+    // A clearing that keeps all marks says that no own slot is free, and one that keeps none frees
+    // the slots 0, 1, 2 and 31.
+    assert_eq!(rt; target.clear_unreachable_entries(&KEEP), ALL_OWN);
+    assert_eq!(rt; target.clear_unreachable_entries(&LET_GO), 2147483640);
+    assert_eq!(rt; (source.len(), target.len()), (37, 31));
+    Ok(())
+}

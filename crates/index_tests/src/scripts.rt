@@ -1,0 +1,122 @@
+//! Scripts on a table of the index kind, under epochs that change between them.
+use crate::by_key::{KEEP, LET_GO};
+use bucket_slots::bucket::{Generation, INDEX};
+use bucket_table::hash_table::HashTable;
+use bucket_table::script::{Call, FixedGeneration, Reply, ScriptHash, run};
+use std::alloc::Global;
+use std::process::Abort;
+use std::test::Fail;
+
+/// A table of numbers.
+pub(crate) type Table = HashTable<u64, u64, ScriptHash, (), INDEX>;
+
+type Row = (Call<u64, u64>, Reply<u64, u64>);
+
+// On a table of the keys 0 to 31, each its own value, while every mark is kept.
+const FOUR_GO: [Row; 12] = [
+    (Call::Remove(0), Reply::Pair(0, 0)),
+    (Call::Remove(1), Reply::Pair(1, 1)),
+    (Call::Remove(2), Reply::Pair(2, 2)),
+    (Call::Remove(3), Reply::Pair(3, 3)),
+    (Call::Peek(0), Reply::Absent),
+    (Call::Read(3), Reply::Absent),
+    (Call::Remove(0), Reply::Absent),
+    (Call::Write(1, 5), Reply::Absent),
+    (Call::Count, Reply::Number(28)),
+    (Call::Put(32, 32), Reply::Done),
+    (Call::Peek(32), Reply::Value(32)),
+    (Call::Count, Reply::Number(29)),
+];
+
+// Then no mark is kept.
+const ONE_COMES: [Row; 7] = [
+    (Call::Put(33, 33), Reply::Done),
+    (Call::Count, Reply::Number(30)),
+    (Call::Peek(0), Reply::Absent),
+    (Call::Peek(32), Reply::Value(32)),
+    (Call::Put(0, 40), Reply::Done),
+    (Call::Peek(0), Reply::Value(40)),
+    (Call::Has, Reply::Truth(true)),
+];
+
+#[test]
+fn removed_keys_are_absent_while_their_marks_are_kept_and_after(
+    rt: HostRuntime,
+) -> Result<(), Fail> {
+    for hasher in [ScriptHash::Zero, ScriptHash::Id, ScriptHash::Spread] {
+        let mut table = index_table(rt.alloc(), hasher);
+        put_keys(&rt, rt.alloc(), &mut table, 32)?;
+        check_replies(&rt, rt.alloc(), &mut table, &KEEP, &FOUR_GO)?;
+        check_replies(&rt, rt.alloc(), &mut table, &LET_GO, &ONE_COMES)?;
+    }
+    Ok(())
+}
+
+// A key that is put, removed and put again, beside its own mark.
+const COMES_AGAIN: [Row; 10] = [
+    (Call::Put(1, 10), Reply::Done),
+    (Call::Remove(1), Reply::Pair(1, 10)),
+    (Call::Has, Reply::Truth(false)),
+    (Call::Put(1, 11), Reply::Done),
+    (Call::Put(1, 12), Reply::Present),
+    (Call::Write(1, 13), Reply::Old(11)),
+    (Call::Remove(1), Reply::Pair(1, 13)),
+    (Call::Remove(1), Reply::Absent),
+    (Call::Touch(1), Reply::WrongKind),
+    (Call::Evict(1), Reply::WrongKind),
+];
+
+#[test]
+fn a_key_may_come_again_beside_its_mark(rt: HostRuntime) -> Result<(), Fail> {
+    for epoch in [0, 1, 255] {
+        // Key 1 has the hash 1, so that epoch 1 is equal to its byte.
+        let mut table = index_table(rt.alloc(), ScriptHash::Id);
+        let kept = FixedGeneration { epoch, keep: true };
+        let let_go = FixedGeneration { epoch, keep: false };
+        for _ in 0..20 {
+            check_replies(&rt, rt.alloc(), &mut table, &kept, &COMES_AGAIN)?;
+            check_replies(&rt, rt.alloc(), &mut table, &let_go, &COMES_AGAIN)?;
+        }
+        assert_eq!(rt; table.peek_entry(&1), None, "epoch {epoch}");
+    }
+    Ok(())
+}
+
+/// A table of the index kind with no pair.
+pub(crate) fn index_table(alloc: Global, hasher: ScriptHash) -> Table {
+    HashTable::new(alloc, hasher, 0, 64)
+}
+
+// Puts keys from 0 on, each its own value.
+fn put_keys(rt: &impl Abort, alloc: Global, table: &mut Table, keys: u64) -> Result<(), Fail> {
+    for key in 0..keys {
+        check_replies(
+            rt,
+            alloc,
+            table,
+            &KEEP,
+            &[(Call::Put(key, key), Reply::Done)],
+        )?;
+    }
+    Ok(())
+}
+
+// Runs the calls as one script, and compares each reply with the one beside its call.
+fn check_replies<G: Generation>(
+    rt: &impl Abort,
+    alloc: Global,
+    table: &mut Table,
+    generation: &G,
+    rows: &[Row],
+) -> Result<(), Fail> {
+    let mut calls = Vec::with_capacity(alloc, rows.len())?;
+    for (call, _) in rows {
+        calls.push(*call)?;
+    }
+    let replies = run(alloc, table, calls, generation)?;
+    assert_eq!(rt; replies.len(), rows.len());
+    for (i, (call, wanted)) in rows.iter().enumerate() {
+        assert_eq!(rt; replies.get(i), Some(wanted), "row {i}, {call:?}");
+    }
+    Ok(())
+}
