@@ -22,8 +22,7 @@ pub(crate) fn script_cost<L: LruList + Drop, const TYPE: u8>(
     alloc: Global,
     table: &mut HashTable<u64, u64, ScriptHash, L, TYPE>,
     calls: Vec<Call<u64, u64>>,
-) -> io::Result<u128>
-{
+) -> io::Result<u128> {
     let count = calls.len();
     let start = Instant::now(clock)?;
     let Ok(replies) = run(alloc, table, calls, &()) else {

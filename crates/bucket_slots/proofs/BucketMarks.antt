@@ -71,8 +71,14 @@ module _ {K V : Type 0} where
   IsBucket-marked-chain kind s len i pos epoch index h within below alive =
       let row = set (get_or s.chain i []) pos (slot_marked epoch (slot_at (get_or s.chain i []) pos)) in
       IsBucket-index kind s s.own (set s.chain i row) len (len - 1) index h h.own_long
-      (omega (arith, h.counted, one_less (get_or s.chain i []) pos epoch below alive, flattened-set s.chain i row within,
-      live_pairs-append s.own (flattened s.chain), live_pairs-append s.own (flattened (set s.chain i row))))
+      (omega (
+        arith,
+        h.counted,
+        one_less (get_or s.chain i []) pos epoch below alive,
+        flattened-set s.chain i row within,
+        live_pairs-append s.own (flattened s.chain),
+        live_pairs-append s.own (flattened (set s.chain i row)),
+      ))
 
   module _ (keeps : ℕ → Bool) where
     entries_of_slot : (pair : K × V) (byte : ℕ) (kept : Bool) (slots : List (Slot K V))

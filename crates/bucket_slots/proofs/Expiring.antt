@@ -54,7 +54,7 @@ module _ {K V : Type 0} (keeps : ℕ → Bool) where
       x.cleared i (bit_at-zero i) ∙ sym (get_or-map (slot_without_expired keeps) old i free free (omega (arith, x.long))))
 
   pub AreExpiring-first : (old : List (List (Slot K V))) → AreExpiring keeps old old 0
-  AreExpiring-first old = record { long = refl; waiting = λ i h. refl; cleared = λ i h. absurd (omega arith); }
+  AreExpiring-first old = record { long = refl; waiting = λ i h. refl; cleared = λ i h. absurd (omega arith) }
 
   pub AreExpiring-next : (old new : List (List (Slot K V))) (i : ℕ) → AreExpiring keeps old new i → i < length new
       → AreExpiring keeps old (set new i (map (slot_without_expired keeps) (row_at new i))) (i + 1)

@@ -47,7 +47,7 @@ module _ {K V : Type 0} where
 
   full_or_free : (rows : List (List (Slot K V))) (last : Bool) → 0 < length rows → all_free (row_at rows (length rows - 1)) ≡ last → (EndsFree rows → ⊥)
       → rows_without_free_end rows ≡ rows
-  full_or_free rows true some e not_free = absurd (not_free (record { some = some; last_free = e; }))
+  full_or_free rows true some e not_free = absurd (not_free (record { some = some; last_free = e }))
   full_or_free rows false some e not_free =
       ap rows_without_free_end (last_split rows some) ∙ full_end_kept (take (length rows - 1) rows) (row_at rows (length rows - 1)) e ∙ sym (last_split rows some)
 

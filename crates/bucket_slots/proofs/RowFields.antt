@@ -11,7 +11,7 @@ use Rattle.bucket_slots.proofs.BodyParts.{after}
 
 -- a bit that is clear stays so where nothing changes
 pub clear_already : (bits k : ℕ) → bit_at bits k ≡ 0 → ClearsBit bits k bits
-clear_already bits k clear = record { same = clear; others = λ i other. refl; }
+clear_already bits k clear = record { same = clear; others = λ i other. refl }
 
 module _ {K V : Type 0} where
   pub unmarked_where_empty : (len : ℕ) (places : List (Option (K × V))) (bytes : List ℕ) (occupied marks i : ℕ) → i < len → IsRow len places bytes occupied marks → get_or places i None ≡ None → bit_at marks i ≡ 0

@@ -38,7 +38,7 @@ module _ {K V : Type 0} where
   marked_place places bytes marks pos h =
       let within : pos < length places = simp length-row_slots at (inside is_marked (row_slots places bytes marks) pos refl h) in
       let there = filled_where_marked (get_or places pos None) (get_or bytes pos 0) (bit_at marks pos) (rw (slot_at-row_slots places bytes marks pos within) at h) in
-      record { within = within; filled = some_is (get_or places pos None) there; }
+      record { within = within; filled = some_is (get_or places pos None) there }
 
   marked_of : (q : Option (K × V)) (b epoch m : ℕ) → is_some q ≡ true → m ≡ 0 → slot_of q epoch 1 ≡ slot_marked epoch (slot_of q b m)
   marked_of None b epoch m h unmarked = cc

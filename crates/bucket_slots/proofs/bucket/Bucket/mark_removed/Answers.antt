@@ -30,9 +30,11 @@ mark-requires-else-block-eq0-clause-live_slot g c =
 
 pub invariant_of-self-else-block-eq0 : goal.invariant_of-self-else-block-eq0
 invariant_of-self-else-block-eq0 g c =
-    let there = chain_live _ _ c.args.at.now _ _ c.self.view_is c.block-block.ensures c.pos-pos.ensures c.if-block-eq0.false c.sound.ensures c.requires.live_slot in
-    (c.self.invariant.0, rw c.mark-else-block-eq0.ensures
-    (IsBucket-marked-chain g.row.TYPE _ c.self.inside.len _ c.pos-pos.result _ c.requires.index c.self.invariant.1 there.0.within there.0.short there.1))
+    let there = chain_live _ _ c.args.at.now _ _ c.self.view_is c.block-block.ensures c.pos-pos.ensures c.if-block-eq0.false c.sound.ensures c.requires.live_slot in (
+      c.self.invariant.0,
+      rw c.mark-else-block-eq0.ensures
+          (IsBucket-marked-chain g.row.TYPE _ c.self.inside.len _ c.pos-pos.result _ c.requires.index c.self.invariant.1 there.0.within there.0.short there.1),
+    )
 
 pub returns-then-block-eq0-clause-pairs_ahead : goal.returns-then-block-eq0-clause-pairs_ahead
 returns-then-block-eq0-clause-pairs_ahead g c =
