@@ -127,7 +127,8 @@ module _ {K V : Type 0} where
       let kept = ahead_at s own chain at.block at.pos occupied in
       rw (new_is, moved_is, ← is) kept
 
-  ahead_with : (s : BucketView K V) → length s.own ≡ 32 → IsChain s.chain → (block pos : ℕ) (x : Slot K V) → is_free (slot_at (block_at s block) pos) ≡ false
+  ahead_with : (s : BucketView K V) → length s.own ≡ 32 → IsChain s.chain → (block pos : ℕ) (x : Slot K V)
+      → is_free (slot_at (block_at s block) pos) ≡ false
       → pairs_ahead (with_slot_at s block pos x) (record { block = block; pos = pos }) ≡ pairs_ahead s (record { block = block; pos = pos })
   ahead_with s own chain zero pos x occupied = ahead-own s own chain s.listed pos x (omega (arith, own, inside_row s.own pos occupied))
   ahead_with s own chain (suc i) pos x occupied =

@@ -35,7 +35,8 @@ module _ {K V : Type 0} where
       let found = position-Some is_free xs pos free at in
       record { within = found.0; slot = free_is (slot_at xs pos) found.1 }
 
-  pub IsBucket-new : (kind : ℕ) (own : List (Slot K V)) (chain : List (List (Slot K V))) (listed : List ℕ) → own ≡ replicate 32 free → chain ≡ [] → listed ≡ [] → IsBucket kind (record { own = own; chain = chain; listed = listed; killed = false }) 0
+  pub IsBucket-new : (kind : ℕ) (own : List (Slot K V)) (chain : List (List (Slot K V))) (listed : List ℕ) → own ≡ replicate 32 free
+      → chain ≡ [] → listed ≡ [] → IsBucket kind (record { own = own; chain = chain; listed = listed; killed = false }) 0
   IsBucket-new kind own chain listed own_is chain_is listed_is = record {
     counted = rw (own_is, chain_is) refl;
     own_long = rw own_is refl;
@@ -44,13 +45,15 @@ module _ {K V : Type 0} where
     unmarked = λ _. rw (own_is, chain_is) refl;
   }
 
-  other_slot : (own : List (Slot K V)) (pos x : ℕ) (y : Slot K V) → slot_at own pos ≡ free → IsTrue (is_live (slot_at own x)) → IsTrue (is_live (slot_at (set own pos y) x))
+  other_slot : (own : List (Slot K V)) (pos x : ℕ) (y : Slot K V) → slot_at own pos ≡ free → IsTrue (is_live (slot_at own x))
+      → IsTrue (is_live (slot_at (set own pos y) x))
   other_slot own pos x y vacant h = elim (cases_eq x pos) [
     | inl same ↦ let dead : is_live (slot_at own x) ≡ false = rw (same, vacant) refl in let alive : is_live (slot_at own x) ≡ true = h in absurd cc
     | inr other ↦ rw (get_or-set_other own pos x y free other) h
   ]
 
-  pub IsBucket-own : (kind : ℕ) (s : BucketView K V) (len pos : ℕ) (p : K × V) (b : ℕ) → IsBucket kind s len → IsFreeAt s.own pos → IsBucket kind (record s { own = set s.own pos (live p b) }) (len + 1)
+  pub IsBucket-own : (kind : ℕ) (s : BucketView K V) (len pos : ℕ) (p : K × V) (b : ℕ) → IsBucket kind s len → IsFreeAt s.own pos
+      → IsBucket kind (record s { own = set s.own pos (live p b) }) (len + 1)
   IsBucket-own kind s len pos p b h found = record {
     counted = omega (arith, h.counted, live_pairs-put s.own pos p b found.within found.slot, live_pairs-append s.own (flattened s.chain), live_pairs-append (set s.own pos (live p b)) (flattened s.chain));
     own_long = simp length-set h.own_long;
@@ -59,7 +62,8 @@ module _ {K V : Type 0} where
     unmarked = λ other. omega (arith, h.unmarked other, marked_len-append s.own (flattened s.chain), marked_len-append (set s.own pos (live p b)) (flattened s.chain), marked_len-set s.own pos (live p b) refl);
   }
 
-  pub IsBucket-chain : (kind : ℕ) (s : BucketView K V) (len i pos : ℕ) (p : K × V) (b : ℕ) → IsBucket kind s len → i < length s.chain → IsFreeAt (get_or s.chain i []) pos → IsBucket kind (record s { chain = rows_with s.chain i pos (live p b) }) (len + 1)
+  pub IsBucket-chain : (kind : ℕ) (s : BucketView K V) (len i pos : ℕ) (p : K × V) (b : ℕ) → IsBucket kind s len → i < length s.chain
+      → IsFreeAt (get_or s.chain i []) pos → IsBucket kind (record s { chain = rows_with s.chain i pos (live p b) }) (len + 1)
   IsBucket-chain kind s len i pos p b h within found =
       let row = set (get_or s.chain i []) pos (live p b) in
       record {
@@ -71,7 +75,9 @@ module _ {K V : Type 0} where
       }
 
   -- another chain with as many live slots and no more marked ones
-  pub IsBucket-chained : (kind : ℕ) (s : BucketView K V) (len : ℕ) (chain : List (List (Slot K V))) (killed : Bool) → IsBucket kind s len → length (live_pairs (flattened chain)) ≡ length (live_pairs (flattened s.chain)) → marked_len (flattened chain) ≤ marked_len (flattened s.chain)
+  pub IsBucket-chained : (kind : ℕ) (s : BucketView K V) (len : ℕ) (chain : List (List (Slot K V))) (killed : Bool) → IsBucket kind s len
+      → length (live_pairs (flattened chain)) ≡ length (live_pairs (flattened s.chain))
+      → marked_len (flattened chain) ≤ marked_len (flattened s.chain)
       → IsBucket kind (record { own = s.own; chain = chain; listed = s.listed; killed = killed }) len
   IsBucket-chained kind s len chain killed h same fewer = record {
     counted = omega (arith, h.counted, same, live_pairs-append s.own (flattened s.chain), live_pairs-append s.own (flattened chain));
@@ -86,15 +92,18 @@ module _ {K V : Type 0} where
   len_small kind s len h chain =
       omega (arith, h.counted, h.own_long, chain.few, live_pairs-append s.own (flattened s.chain), live_pairs_few s.own, live_pairs_few (flattened s.chain), length-flattened s.chain chain.long)
 
-  with_slot_at-chain : (s : BucketView K V) (block pos : ℕ) (x : Slot K V) → (block ≡ 0 → ⊥) → with_slot_at s block pos x ≡ record s { chain = rows_with s.chain (block - 1) pos x }
+  with_slot_at-chain : (s : BucketView K V) (block pos : ℕ) (x : Slot K V) → (block ≡ 0 → ⊥)
+      → with_slot_at s block pos x ≡ record s { chain = rows_with s.chain (block - 1) pos x }
   with_slot_at-chain s zero pos x h = absurd (h refl)
   with_slot_at-chain s (suc n) pos x h = let e : suc n - 1 ≡ n = omega arith in rw e refl
 
   -- s is what the bucket t is made of, p the pointer to a slot of it
-  pub with_slot-own : (s t : BucketView K V) (p : Place) (own : List (Slot K V)) (x : Slot K V) → s ≡ t → p.block ≡ 0 → own ≡ set s.own p.pos x → record { own = own; chain = s.chain; listed = s.listed; killed = s.killed } ≡ with_slot t p x
+  pub with_slot-own : (s t : BucketView K V) (p : Place) (own : List (Slot K V)) (x : Slot K V) → s ≡ t → p.block ≡ 0
+      → own ≡ set s.own p.pos x → record { own = own; chain = s.chain; listed = s.listed; killed = s.killed } ≡ with_slot t p x
   with_slot-own s t p own x is z own_is = rw (own_is, ← is, z) refl
 
-  pub with_slot-chain : (s t : BucketView K V) (p : Place) (chain : List (List (Slot K V))) (x : Slot K V) → s ≡ t → (p.block ≡ 0 → ⊥) → chain ≡ rows_with s.chain (p.block - 1) p.pos x
+  pub with_slot-chain : (s t : BucketView K V) (p : Place) (chain : List (List (Slot K V))) (x : Slot K V) → s ≡ t → (p.block ≡ 0 → ⊥)
+      → chain ≡ rows_with s.chain (p.block - 1) p.pos x
       → record { own = s.own; chain = chain; listed = s.listed; killed = s.killed } ≡ with_slot t p x
   with_slot-chain s t p chain x is h chain_is = let r = with_slot_at-chain s p.block p.pos x h in rw (chain_is, ← is) (sym r)
 
@@ -109,7 +118,8 @@ module _ {K V : Type 0} where
     pub row : IsFreeAt (get_or s.chain (block - 1) []) pos
 
   -- b and q are read from the pointer p
-  pub free_own : (s t : BucketView K V) (p : Place) (b q : ℕ) → s ≡ t → b ≡ p.block → q ≡ p.pos → b ≡ 0 → length s.own ≡ 32 → p.pos < length (block_at t p.block) → slot_in t p ≡ free → IsFreeOwn s q
+  pub free_own : (s t : BucketView K V) (p : Place) (b q : ℕ) → s ≡ t → b ≡ p.block → q ≡ p.pos → b ≡ 0 → length s.own ≡ 32
+      → p.pos < length (block_at t p.block) → slot_in t p ≡ free → IsFreeOwn s q
   free_own s t p b q is e₁ e₂ own long within vacant =
       let block : block_at t p.block ≡ s.own = rw (← is, ← e₁, own) refl in
       let short : p.pos < length s.own = rw (← block) within in
@@ -122,7 +132,8 @@ module _ {K V : Type 0} where
     | inr past ↦ let e : length (get_or rows i []) ≡ 0 = rw (get_or_past rows i [] past) refl in absurd (omega arith)
   ]
 
-  pub free_linked : (s t : BucketView K V) (p : Place) (b q : ℕ) → s ≡ t → b ≡ p.block → q ≡ p.pos → (b ≡ 0 → ⊥) → IsChain s.chain → p.pos < length (block_at t p.block) → slot_in t p ≡ free → IsFreeLinked s b q
+  pub free_linked : (s t : BucketView K V) (p : Place) (b q : ℕ) → s ≡ t → b ≡ p.block → q ≡ p.pos → (b ≡ 0 → ⊥) → IsChain s.chain
+      → p.pos < length (block_at t p.block) → slot_in t p ≡ free → IsFreeLinked s b q
   free_linked s t p b q is e₁ e₂ other chain within vacant =
       let block : block_at t p.block ≡ get_or s.chain (p.block - 1) [] = ap (λ x. block_at x p.block) (sym is) ∙ block_at-chain s p.block (λ z. other (e₁ ∙ z)) in
       let short : p.pos < length (get_or s.chain (p.block - 1) []) = rw (← block) within in
@@ -146,7 +157,8 @@ module _ {K V : Type 0} where
       let row = free_at (block_at s p.block) p.pos (rw (← block_of_rows s p.block) (rw off at found.2)) in
       record { within = row.within; slot = row.slot }
 
-  place_is_made : (s : BucketView K V) (found : Option Place) → first_place is_free s ≡ found → IsFreePlace (with_head_for s found) (place_or_head found)
+  place_is_made : (s : BucketView K V) (found : Option Place) → first_place is_free s ≡ found
+      → IsFreePlace (with_head_for s found) (place_or_head found)
   place_is_made s None e = record { within = omega arith; slot = refl }
   place_is_made s (Some p) e = first_is_free s p e
 
@@ -154,7 +166,8 @@ module _ {K V : Type 0} where
   place_made s = place_is_made s (first_place is_free s) refl
 
   -- where no slot is free, it is in the new head
-  pub place_made-None : (s : BucketView K V) → position is_free s.own ≡ None → first_from is_free 1 s.chain ≡ None → first_place is_free s ≡ None
+  pub place_made-None : (s : BucketView K V) → position is_free s.own ≡ None → first_from is_free 1 s.chain ≡ None
+      → first_place is_free s ≡ None
   place_made-None s none nowhere = rw (none, nowhere) refl
 
   -- an insertion into a bucket that is no index looks at no marks

@@ -34,13 +34,15 @@ module _ {K V : Type 0} where
   still_live (live p b) w h = h
   still_live (marked p b) w h = h
 
-  live-value : (own : List (Slot K V)) (pos x : ℕ) (w : V) → pos < length own → IsTrue (is_live (slot_at own x)) → IsTrue (is_live (slot_at (row_with_value own pos w) x))
+  live-value : (own : List (Slot K V)) (pos x : ℕ) (w : V) → pos < length own → IsTrue (is_live (slot_at own x))
+      → IsTrue (is_live (slot_at (row_with_value own pos w) x))
   live-value own pos x w within h = elim (cases_eq x pos) [
     | inl same ↦ rw same (rw (get_or-set_same own pos (slot_with_value (slot_at own pos) w) free within) (still_live (slot_at own pos) w (rw (← same) h)))
     | inr other ↦ rw (get_or-set_other own pos x (slot_with_value (slot_at own pos) w) free other) h
   ]
 
-  pub IsBucket-own_value : (kind : ℕ) (s : BucketView K V) (len pos : ℕ) (w : V) → IsBucket kind s len → pos < length s.own → IsBucket kind (record s { own = row_with_value s.own pos w }) len
+  pub IsBucket-own_value : (kind : ℕ) (s : BucketView K V) (len pos : ℕ) (w : V) → IsBucket kind s len → pos < length s.own
+      → IsBucket kind (record s { own = row_with_value s.own pos w }) len
   IsBucket-own_value kind s len pos w h within = record {
     counted = omega (arith, h.counted, live_pairs-value s.own pos w, live_pairs-append s.own (flattened s.chain), live_pairs-append (row_with_value s.own pos w) (flattened s.chain));
     own_long = simp length-set h.own_long;
@@ -49,7 +51,8 @@ module _ {K V : Type 0} where
     unmarked = λ other. omega (arith, h.unmarked other, marked_len-value s.own pos w, marked_len-append s.own (flattened s.chain), marked_len-append (row_with_value s.own pos w) (flattened s.chain));
   }
 
-  pub IsBucket-chain_value : (kind : ℕ) (s : BucketView K V) (len i pos : ℕ) (w : V) → IsBucket kind s len → i < length s.chain → IsBucket kind (record s { chain = rows_with_value s.chain i pos w }) len
+  pub IsBucket-chain_value : (kind : ℕ) (s : BucketView K V) (len i pos : ℕ) (w : V) → IsBucket kind s len → i < length s.chain
+      → IsBucket kind (record s { chain = rows_with_value s.chain i pos w }) len
   IsBucket-chain_value kind s len i pos w h within =
       let row = row_with_value (row_at s.chain i) pos w in
       record {
@@ -60,12 +63,14 @@ module _ {K V : Type 0} where
         unmarked = λ other. omega (arith, h.unmarked other, marked_len-set_row s.chain i row (omega (arith, marked_len-value (row_at s.chain i) pos w)), marked_len-append s.own (flattened s.chain), marked_len-append s.own (flattened (set s.chain i row)));
       }
 
-  chain_value_here : (s : BucketView K V) (b q : ℕ) (w : V) → (b ≡ 0 → ⊥) → bucket_with_value s (record { block = b; pos = q }) w ≡ record s { chain = rows_with_value s.chain (b - 1) q w }
+  chain_value_here : (s : BucketView K V) (b q : ℕ) (w : V) → (b ≡ 0 → ⊥)
+      → bucket_with_value s (record { block = b; pos = q }) w ≡ record s { chain = rows_with_value s.chain (b - 1) q w }
   chain_value_here s zero q w h = absurd (h refl)
   chain_value_here s (suc n) q w h = let e : suc n - 1 ≡ n = omega arith in rw e refl
 
   -- b and q are read from the pointer p, and s is what the bucket t is made of
-  pub bucket_with_value-chain : (s t : BucketView K V) (p : Place) (b q : ℕ) (w : V) → s ≡ t → b ≡ p.block → q ≡ p.pos → (b ≡ 0 → ⊥) → record s { chain = rows_with_value s.chain (b - 1) q w } ≡ bucket_with_value t p w
+  pub bucket_with_value-chain : (s t : BucketView K V) (p : Place) (b q : ℕ) (w : V) → s ≡ t → b ≡ p.block → q ≡ p.pos → (b ≡ 0 → ⊥)
+      → record s { chain = rows_with_value s.chain (b - 1) q w } ≡ bucket_with_value t p w
   bucket_with_value-chain s t p b q w is e₁ e₂ other =
       let here = chain_value_here s b q w other in
       rw (← is, ← e₁, ← e₂) (sym here)

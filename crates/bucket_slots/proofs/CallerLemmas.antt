@@ -1,31 +1,21 @@
--- What callers of a bucket cite: its live pairs after a call, and what a search says of them.
-use Rattle.std.proofs.Common.{ℕ, ◌+◌, ◌<◌, ◌≡◌, ◌==◌, ◌&&◌, Bool, true, false, Option, Some, None, List, [], ◌∷◌, ◌++◌, length, map, get_or, set, refl, sym, ap, subst, ◌∙◌, arith, suc, zero}
-use Rattle.std.specs.List.{All, AllByRecursion, Contains, position}
+-- What callers of a bucket cite: its live pairs after a call.
+use Rattle.std.proofs.Common.{ℕ, ◌<◌, ◌≡◌, Bool, true, false, Option, Some, None, List, [], ◌∷◌, ◌++◌, length, map, get_or, set, refl, sym, ap, subst, ◌∙◌, arith, suc, zero}
 use Rattle.std.specs.List.Sorted.{IsPermutation}
 use Rattle.std.specs.Option.{option_map}
-use Rattle.std.proofs.lemmas.List.Elements.{All-append, All-from_recursion}
-use Rattle.std.proofs.lemmas.List.Sorted.{IsPermutation-sym, IsPermutation-map, Contains-permutation}
-use Rattle.std.proofs.lemmas.Bool.{and_parts}
+use Rattle.std.proofs.lemmas.List.Sorted.{IsPermutation-map}
 use Rattle.std.proofs.lemmas.List.{get_or-set_same, length-set, set-set}
 use Rattle.bucket_slots.specs.declared.bucket.TheConstants.{INDEX}
-use Rattle.bucket_slots.specs.BucketView.{BucketView, Place, all_slots, block_at, bucket_with_value, entries_in, first_from, first_place, flattened, null_place, pairs_in, place_at_position, slot_in, with_slot_at}
+use Rattle.bucket_slots.specs.BucketView.{BucketView, Place, all_slots, block_at, bucket_with_value, entries_in, first_place, flattened, pairs_in, slot_in, with_slot_at}
 use Rattle.bucket_slots.specs.Clearing.{slots_after_insertion}
 use Rattle.bucket_slots.specs.Evicting.{slot_to_evict, slots_evicted}
 use Rattle.bucket_slots.specs.Placing.{free_block, place_for_next, slots_with, with_head_for, with_place_made}
 use Rattle.bucket_slots.specs.Removing.{slots_without, slots_without_at}
-use Rattle.bucket_slots.specs.Searching.{is_wanted, place_wanted}
 use Rattle.bucket_slots.specs.Slots.{Slot, all_free, free, is_free, is_live, live, live_entries, live_pair, marked, pair_of, slot_at, slot_with_value}
-use Rattle.bucket_slots.specs.Walking.{pairs_ahead}
 use Rattle.bucket_slots.proofs.BucketPlacing.{linked_row, no_marks_looked_at, place_made}
 use Rattle.bucket_slots.proofs.ChainRows.{rows_without-empty, rows_without-full}
 use Rattle.bucket_slots.proofs.Entries.{exchanged, live_entries-append, live_entries-put, live_entries-remove, live_entries-take, map-live_entries}
-use Rattle.bucket_slots.proofs.FirstPlaces.{live_occupied, passes}
+use Rattle.bucket_slots.proofs.FirstPlaces.{live_occupied}
 use Rattle.bucket_slots.proofs.Pointing.{inside_row, row_there}
-use Rattle.bucket_slots.proofs.Positions.{position-None}
-
-nowhere : (block : ℕ) (q : Option ℕ) (later : Option Place) → place_at_position block q later ≡ None → (q ≡ None) × (later ≡ None)
-nowhere block None later e = (refl, e)
-nowhere block (Some pos) later e = absurd cc
 
 module _ {K V : Type 0} where
   -- the live pairs are the entries without their bytes
@@ -33,7 +23,8 @@ module _ {K V : Type 0} where
   map-entries_in s = map-live_entries (all_slots s)
 
   -- another slot at a place exchanges ys for xs, where it does so in its row
-  pub with_slot_exchanges : (xs ys : List ((K × V) × ℕ)) (s : BucketView K V) (b pos : ℕ) (x : Slot K V) → b < length (s.own ∷ s.chain) → IsPermutation (xs ++ live_entries (block_at s b)) (ys ++ live_entries (set (block_at s b) pos x))
+  pub with_slot_exchanges : (xs ys : List ((K × V) × ℕ)) (s : BucketView K V) (b pos : ℕ) (x : Slot K V) → b < length (s.own ∷ s.chain)
+      → IsPermutation (xs ++ live_entries (block_at s b)) (ys ++ live_entries (set (block_at s b) pos x))
       → IsPermutation (xs ++ entries_in s) (ys ++ entries_in (with_slot_at s b pos x))
   with_slot_exchanges xs ys s zero pos x h moved = exchanged xs ys (s.own ∷ s.chain) zero (set s.own pos x) h moved
   with_slot_exchanges xs ys s (suc i) pos x h moved = exchanged xs ys (s.own ∷ s.chain) (suc i) (set (get_or s.chain i []) pos x) h moved
@@ -47,7 +38,8 @@ module _ {K V : Type 0} where
   there s (suc i) pos h = let within = linked_row s.chain i pos h in omega arith
 
   -- an insertion adds its pair and nothing else
-  pub entries_in-slots_with : (s : BucketView K V) (p : K × V) (b : ℕ) → IsPermutation ((p, b) ∷ entries_in s) (entries_in (slots_with s p b))
+  pub entries_in-slots_with : (s : BucketView K V) (p : K × V) (b : ℕ)
+      → IsPermutation ((p, b) ∷ entries_in s) (entries_in (slots_with s p b))
   entries_in-slots_with s p b =
       let made = with_place_made s in
       let at = place_for_next s in
@@ -55,7 +47,8 @@ module _ {K V : Type 0} where
       rw (← entries_made s (first_place is_free s)) (with_slot_exchanges ((p, b) ∷ []) [] made at.block at.pos (live p b) (there made at.block at.pos vacant.within) (live_entries-put (block_at made at.block) at.pos p b vacant.within vacant.slot))
 
   -- an insertion into a bucket that is no index looks at no marks
-  pub slots_after_insertion-unmarked : (kind : ℕ) (keeps : ℕ → Bool) (s : BucketView K V) (p : K × V) (b : ℕ) → (kind ≡ INDEX → ⊥) → slots_after_insertion kind keeps s p b ≡ slots_with s p b
+  pub slots_after_insertion-unmarked : (kind : ℕ) (keeps : ℕ → Bool) (s : BucketView K V) (p : K × V) (b : ℕ) → (kind ≡ INDEX → ⊥)
+      → slots_after_insertion kind keeps s p b ≡ slots_with s p b
   slots_after_insertion-unmarked kind keeps s p b other = let e = no_marks_looked_at kind s other in rw e refl
 
   pub live_is : (x : Slot K V) (p : K × V) → live_pair x ≡ Some p → (b : ℕ) × (x ≡ live p b)
@@ -63,7 +56,8 @@ module _ {K V : Type 0} where
   live_is (live q b) p e = let same : q ≡ p = cc in (b, ap (λ r. live r b) same)
   live_is (marked q b) p e = absurd cc
 
-  linked_taken : (s : BucketView K V) (i pos : ℕ) (p : K × V) (b : ℕ) (empty : Bool) → i < length s.chain → all_free (set (get_or s.chain i []) pos free) ≡ empty → slot_at (get_or s.chain i []) pos ≡ live p b
+  linked_taken : (s : BucketView K V) (i pos : ℕ) (p : K × V) (b : ℕ) (empty : Bool) → i < length s.chain
+      → all_free (set (get_or s.chain i []) pos free) ≡ empty → slot_at (get_or s.chain i []) pos ≡ live p b
       → IsPermutation (entries_in s) ((p, b) ∷ entries_in (slots_without_at s (suc i) pos))
   linked_taken s i pos p b true within e here =
       let row = set (get_or s.chain i []) pos free in
@@ -75,13 +69,15 @@ module _ {K V : Type 0} where
   pub not_free : (x : Slot K V) (p : K × V) (b : ℕ) → x ≡ live p b → is_free x ≡ false
   not_free x p b e = ap is_free e
 
-  taken : (s : BucketView K V) (block pos : ℕ) (p : K × V) (b : ℕ) → slot_at (block_at s block) pos ≡ live p b → IsPermutation (entries_in s) ((p, b) ∷ entries_in (slots_without_at s block pos))
+  taken : (s : BucketView K V) (block pos : ℕ) (p : K × V) (b : ℕ) → slot_at (block_at s block) pos ≡ live p b
+      → IsPermutation (entries_in s) ((p, b) ∷ entries_in (slots_without_at s block pos))
   taken s zero pos p b here = with_slot_exchanges [] ((p, b) ∷ []) s zero pos free (omega arith) (live_entries-take s.own pos p b here)
   taken s (suc i) pos p b here =
       linked_taken s i pos p b (all_free (set (get_or s.chain i []) pos free)) (row_there s.chain i pos (not_free (slot_at (get_or s.chain i []) pos) p b here)) refl here
 
   -- a removal takes its pair and nothing else
-  pub entries_in-slots_without : (s : BucketView K V) (at : Place) (p : K × V) → live_pair (slot_in s at) ≡ Some p → (b : ℕ) × IsPermutation (entries_in s) ((p, b) ∷ entries_in (slots_without s at))
+  pub entries_in-slots_without : (s : BucketView K V) (at : Place) (p : K × V) → live_pair (slot_in s at) ≡ Some p
+      → (b : ℕ) × IsPermutation (entries_in s) ((p, b) ∷ entries_in (slots_without s at))
   entries_in-slots_without s at p e = let h = live_is (slot_in s at) p e in (h.0, taken s at.block at.pos p h.0 h.1)
 
   -- the same of pairs alone
@@ -89,13 +85,16 @@ module _ {K V : Type 0} where
   pairs_in-slots_with s p b =
       rw (← map-entries_in s, ← map-entries_in (slots_with s p b)) (IsPermutation-map (λ (e : (K × V) × ℕ). e.0) ((p, b) ∷ entries_in s) (entries_in (slots_with s p b)) (entries_in-slots_with s p b))
 
-  pub pairs_in-slots_without : (s : BucketView K V) (at : Place) (p : K × V) → live_pair (slot_in s at) ≡ Some p → IsPermutation (pairs_in s) (p ∷ pairs_in (slots_without s at))
+  pub pairs_in-slots_without : (s : BucketView K V) (at : Place) (p : K × V) → live_pair (slot_in s at) ≡ Some p
+      → IsPermutation (pairs_in s) (p ∷ pairs_in (slots_without s at))
   pairs_in-slots_without s at p e =
       let h = entries_in-slots_without s at p e in
       rw (← map-entries_in s, ← map-entries_in (slots_without s at)) (IsPermutation-map (λ (e : (K × V) × ℕ). e.0) (entries_in s) ((p, h.0) ∷ entries_in (slots_without s at)) h.1)
 
-  set_again : (s : BucketView K V) (block pos : ℕ) (x y : Slot K V) → block < length (s.own ∷ s.chain) → with_slot_at (with_slot_at s block pos x) block pos y ≡ with_slot_at s block pos y
-  set_again s zero pos x y h = ap (λ own. record { own = own; chain = s.chain; listed = s.listed; killed = s.killed }) (set-set s.own pos x y)
+  set_again : (s : BucketView K V) (block pos : ℕ) (x y : Slot K V) → block < length (s.own ∷ s.chain)
+      → with_slot_at (with_slot_at s block pos x) block pos y ≡ with_slot_at s block pos y
+  set_again s zero pos x y h =
+      ap (λ own. record { own = own; chain = s.chain; listed = s.listed; killed = s.killed }) (set-set s.own pos x y)
   set_again s (suc i) pos x y h =
       let row = get_or-set_same s.chain i (set (get_or s.chain i []) pos x) [] (omega arith) in
       let chain = set-set s.chain i (set (get_or s.chain i []) pos x) (set (get_or s.chain i []) pos y) in
@@ -103,11 +102,13 @@ module _ {K V : Type 0} where
       ∙ ap (λ r. record { own = s.own; chain = set (set s.chain i (set (get_or s.chain i []) pos x)) i r; listed = s.listed; killed = s.killed }) (set-set (get_or s.chain i []) pos x y)
       ∙ ap (λ c. record { own = s.own; chain = c; listed = s.listed; killed = s.killed }) chain
 
-  freed_block : (s : BucketView K V) (block pos : ℕ) (x : Slot K V) → block < length (s.own ∷ s.chain) → block_at (with_slot_at s block pos x) block ≡ set (block_at s block) pos x
+  freed_block : (s : BucketView K V) (block pos : ℕ) (x : Slot K V) → block < length (s.own ∷ s.chain)
+      → block_at (with_slot_at s block pos x) block ≡ set (block_at s block) pos x
   freed_block s zero pos x h = refl
   freed_block s (suc i) pos x h = get_or-set_same s.chain i (set (get_or s.chain i []) pos x) [] (omega arith)
 
-  freed_count : (s : BucketView K V) (block pos : ℕ) (x : Slot K V) → block < length (s.own ∷ s.chain) → block < length ((with_slot_at s block pos x).own ∷ (with_slot_at s block pos x).chain)
+  freed_count : (s : BucketView K V) (block pos : ℕ) (x : Slot K V) → block < length (s.own ∷ s.chain)
+      → block < length ((with_slot_at s block pos x).own ∷ (with_slot_at s block pos x).chain)
   freed_count s zero pos x h = omega arith
   freed_count s (suc i) pos x h = omega (arith, length-set s.chain i (set (get_or s.chain i []) pos x))
 
@@ -118,7 +119,8 @@ module _ {K V : Type 0} where
     pub before_is : IsPermutation (entries_in s) ((p, byte) ∷ rest)
     pub after_is : IsPermutation (((p.0, w), byte) ∷ rest) (entries_in after)
 
-  put_after : (s : BucketView K V) (block pos : ℕ) (p : K × V) (b : ℕ) (w : V) → block < length (s.own ∷ s.chain) → pos < length (block_at s block) → slot_at (block_at s block) pos ≡ live p b
+  put_after : (s : BucketView K V) (block pos : ℕ) (p : K × V) (b : ℕ) (w : V) → block < length (s.own ∷ s.chain)
+      → pos < length (block_at s block) → slot_at (block_at s block) pos ≡ live p b
       → IsPermutation (((p.0, w), b) ∷ entries_in (with_slot_at s block pos free)) (entries_in (with_slot_at s block pos (slot_with_value (slot_at (block_at s block) pos) w)))
   put_after s block pos p b w h within here =
       let freed = with_slot_at s block pos free in
@@ -129,7 +131,8 @@ module _ {K V : Type 0} where
       let after = set_again s block pos free (live (p.0, w) b) h ∙ ap (λ x. with_slot_at s block pos (slot_with_value x w)) (sym here) in
       subst (λ x. IsPermutation (((p.0, w), b) ∷ entries_in freed) (entries_in x)) after put
 
-  pub rewritten : (s : BucketView K V) (at : Place) (p : K × V) (w : V) → live_pair (slot_in s at) ≡ Some p → IsRewritten s p w (bucket_with_value s at w)
+  pub rewritten : (s : BucketView K V) (at : Place) (p : K × V) (w : V) → live_pair (slot_in s at) ≡ Some p
+      → IsRewritten s p w (bucket_with_value s at w)
   rewritten s at p w e =
       let slot = live_is (slot_in s at) p e in
       let short = inside_row (block_at s at.block) at.pos (not_free (slot_at (block_at s at.block) at.pos) p slot.0 slot.1) in
@@ -142,7 +145,8 @@ module _ {K V : Type 0} where
       }
 
   -- an eviction leaves the pairs that a removal of its slot leaves
-  pub pairs_in-slots_evicted : (s : BucketView K V) (p : K × V) → live_pair (slot_at s.own (slot_to_evict s)) ≡ Some p → (b : ℕ) × IsPermutation (entries_in s) ((p, b) ∷ entries_in (slots_evicted s))
+  pub pairs_in-slots_evicted : (s : BucketView K V) (p : K × V) → live_pair (slot_at s.own (slot_to_evict s)) ≡ Some p
+      → (b : ℕ) × IsPermutation (entries_in s) ((p, b) ∷ entries_in (slots_evicted s))
   pairs_in-slots_evicted s p e = entries_in-slots_without s (record { block = 0; pos = slot_to_evict s }) p e
 
   -- a live slot is occupied
@@ -150,51 +154,13 @@ module _ {K V : Type 0} where
   live_not_free x h = (live_occupied x h).0
 
   -- its pair, of which the parts were read apart
-  pub read_apart : (x : Slot K V) (k : K) (v : V) → is_live x ≡ true → option_map (λ p. p.0) (pair_of x) ≡ Some k → option_map (λ p. p.1) (pair_of x) ≡ Some v → live_pair x ≡ Some (k, v)
+  pub read_apart : (x : Slot K V) (k : K) (v : V) → is_live x ≡ true → option_map (λ p. p.0) (pair_of x) ≡ Some k
+      → option_map (λ p. p.1) (pair_of x) ≡ Some v → live_pair x ≡ Some (k, v)
   read_apart free k v h first second = cc
-  read_apart (live p b) k v h first second = let same : p.0 ≡ k = cc in let other : p.1 ≡ v = cc in ap (λ a. Some (a, p.1)) same ∙ ap (λ c. Some (k, c)) other
+  read_apart (live p b) k v h first second =
+      let same : p.0 ≡ k = cc in let other : p.1 ≡ v = cc in ap (λ a. Some (a, p.1)) same ∙ ap (λ c. Some (k, c)) other
   read_apart (marked p b) k v h first second = cc
 
   -- and a slot with a live pair is live
   pub live_from_pair : (x : Slot K V) (p : K × V) → live_pair x ≡ Some p → is_live x ≡ true
   live_from_pair x p e = ap is_live (live_is x p e).1
-
-  -- p stands at a place, and its key passes
-  pub record IsFound (test : K → Bool) (s : BucketView K V) (at : Place) (p : K × V) : Type 0 where
-    pub slot : live_pair (slot_in s at) ≡ Some p
-    pub wanted : test p.0 ≡ true
-    pub contained : Contains (pairs_in s) p
-
-  wanted_pair : (test : K → Bool) (byte : ℕ) (x : Slot K V) → is_wanted test byte x ≡ true → (p : K × V) × (live_pair x ≡ Some p) × (test p.0 ≡ true)
-  wanted_pair test byte free h = absurd cc
-  wanted_pair test byte (live p b) h = (p, refl, (and_parts (b == byte) (test p.0) h).1)
-  wanted_pair test byte (marked p b) h = absurd cc
-
-  -- what a search finds
-  pub found_pair : (test : K → Bool) (byte : ℕ) (s : BucketView K V) (at : Place) → place_wanted test byte s ≡ Some at → (p : K × V) × IsFound test s at p
-  found_pair test byte s at e =
-      let w = wanted_pair test byte (slot_in s at) (passes (is_wanted test byte) s at e) in
-      let out = pairs_in-slots_without s at w.0 w.1 in
-      (w.0, record { slot = w.1; wanted = w.2; contained = Contains-permutation (w.0 ∷ pairs_in (slots_without s at)) (pairs_in s) w.0 (IsPermutation-sym _ _ out) (0, omega arith, refl) })
-
-  none_of_row : (test : K → Bool) (byte : ℕ) (xs : List (Slot K V)) → ((k : ℕ) → k < length xs → is_wanted test byte (slot_at xs k) ≡ false) → AllByRecursion (λ (e : (K × V) × ℕ). ((e.1 == byte) && test e.0.0) ≡ false) (live_entries xs)
-  none_of_row test byte [] each = tt
-  none_of_row test byte (free ∷ xs) each = none_of_row test byte xs (λ k h. each (suc k) (omega arith))
-  none_of_row test byte (live p b ∷ xs) each = (each 0 (omega arith), none_of_row test byte xs (λ k h. each (suc k) (omega arith)))
-  none_of_row test byte (marked p b ∷ xs) each = none_of_row test byte xs (λ k h. each (suc k) (omega arith))
-
-  none_of_rows : (test : K → Bool) (byte block : ℕ) (rows : List (List (Slot K V))) → first_from (is_wanted test byte) block rows ≡ None → All (λ (e : (K × V) × ℕ). ((e.1 == byte) && test e.0.0) ≡ false) (live_entries (flattened rows))
-  none_of_rows test byte block [] e = λ k d below. absurd (omega arith)
-  none_of_rows test byte block (r ∷ rows) e =
-      let both = nowhere block (position (is_wanted test byte) r) (first_from (is_wanted test byte) (block + 1) rows) e in
-      let here = All-from_recursion (λ (e : (K × V) × ℕ). ((e.1 == byte) && test e.0.0) ≡ false) (live_entries r) (none_of_row test byte r (λ k h. position-None (is_wanted test byte) r k free both.0 h)) in
-      let later = none_of_rows test byte (block + 1) rows both.1 in
-      rw (live_entries-append r (flattened rows)) (All-append (λ (e : (K × V) × ℕ). ((e.1 == byte) && test e.0.0) ≡ false) (live_entries r) (live_entries (flattened rows)) here later)
-
-  -- where a search finds nothing, no live pair with this byte passes
-  pub none_found : (test : K → Bool) (byte : ℕ) (s : BucketView K V) → place_wanted test byte s ≡ None → All (λ (e : (K × V) × ℕ). ((e.1 == byte) && test e.0.0) ≡ false) (entries_in s)
-  none_found test byte s e = none_of_rows test byte 0 (s.own ∷ s.chain) e
-
-  -- all live pairs are ahead of the null pointer
-  pub pairs_ahead-null_place : (s : BucketView K V) → pairs_ahead s null_place ≡ pairs_in s
-  pairs_ahead-null_place s = refl

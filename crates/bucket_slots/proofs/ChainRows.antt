@@ -45,7 +45,8 @@ module _ {K V : Type 0} where
     few = omega (arith, length-remove rows i h, s.few);
   }
 
-  pub IsChain-cons : (rows : List (List (Slot K V))) (r : List (Slot K V)) → IsChain rows → length rows < 2 ^ 28 → length r ≡ 4 → IsChain (r ∷ rows)
+  pub IsChain-cons : (rows : List (List (Slot K V))) (r : List (Slot K V)) → IsChain rows → length rows < 2 ^ 28 → length r ≡ 4
+      → IsChain (r ∷ rows)
   IsChain-cons rows r s short four = record {
     long = λ j below. elim j as (λ (n : ℕ). n < length (r ∷ rows) → length (get_or (r ∷ rows) n []) ≡ 4) [
       | zero ↦ λ _. four
@@ -54,7 +55,8 @@ module _ {K V : Type 0} where
     few = omega arith;
   }
 
-  pub IsChain-push : (rows : List (List (Slot K V))) (r : List (Slot K V)) → IsChain rows → length rows < 2 ^ 28 → length r ≡ 4 → IsChain (rows ++ r ∷ [])
+  pub IsChain-push : (rows : List (List (Slot K V))) (r : List (Slot K V)) → IsChain rows → length rows < 2 ^ 28 → length r ≡ 4
+      → IsChain (rows ++ r ∷ [])
   IsChain-push rows r s short four = record {
     long = λ j below. elim (cases_lt j (length rows)) [
       | inl lt ↦ let e : get_or (rows ++ r ∷ []) j [] ≡ get_or rows j [] = grind (arith, common_steps) in rw e (s.long j lt)
@@ -69,27 +71,33 @@ module _ {K V : Type 0} where
   pub remove-set : (rows : List (List (Slot K V))) (i : ℕ) (r : List (Slot K V)) → remove (set rows i r) i ≡ remove rows i
   remove-set rows i r = let e₁ = take-set rows i r in let e₂ = drop-set-lt (suc i) rows i r (omega arith) in rw (e₁, e₂)
 
-  pub rows_without-empty : (rows : List (List (Slot K V))) (i pos : ℕ) → all_free (set (get_or rows i []) pos free) ≡ true → rows_without rows i pos ≡ remove rows i
+  pub rows_without-empty : (rows : List (List (Slot K V))) (i pos : ℕ) → all_free (set (get_or rows i []) pos free) ≡ true
+      → rows_without rows i pos ≡ remove rows i
   rows_without-empty rows i pos e = rw e refl
 
-  pub rows_without-full : (rows : List (List (Slot K V))) (i pos : ℕ) → all_free (set (get_or rows i []) pos free) ≡ false → rows_without rows i pos ≡ rows_with rows i pos free
+  pub rows_without-full : (rows : List (List (Slot K V))) (i pos : ℕ) → all_free (set (get_or rows i []) pos free) ≡ false
+      → rows_without rows i pos ≡ rows_with rows i pos free
   rows_without-full rows i pos e = rw e refl
 
   -- where the pointer stands: at its slot, or where its block went, before the next or behind the previous one
-  pub place_in_chain-stays : (rows : List (List (Slot K V))) (i pos : ℕ) → all_free (set (get_or rows i []) pos free) ≡ false → place_in_chain_after rows i pos ≡ record { block = i + 1; pos = pos }
+  pub place_in_chain-stays : (rows : List (List (Slot K V))) (i pos : ℕ) → all_free (set (get_or rows i []) pos free) ≡ false
+      → place_in_chain_after rows i pos ≡ record { block = i + 1; pos = pos }
   place_in_chain-stays rows i pos e = rw e refl
 
-  pub place_in_chain-next : (rows : List (List (Slot K V))) (i pos : ℕ) → all_free (set (get_or rows i []) pos free) ≡ true → i < length rows → i < length (remove rows i) → place_in_chain_after rows i pos ≡ record { block = i + 1; pos = 32 }
+  pub place_in_chain-next : (rows : List (List (Slot K V))) (i pos : ℕ) → all_free (set (get_or rows i []) pos free) ≡ true
+      → i < length rows → i < length (remove rows i) → place_in_chain_after rows i pos ≡ record { block = i + 1; pos = 32 }
   place_in_chain-next rows i pos e within more =
       let lt = lt-ltb (i + 1) (length rows) (omega (arith, length-remove rows i within)) in
       rw (e, lt) refl
 
-  pub place_in_chain-last : (rows : List (List (Slot K V))) (i pos : ℕ) → all_free (set (get_or rows i []) pos free) ≡ true → i < length rows → length (remove rows i) ≤ i → place_in_chain_after rows i pos ≡ record { block = i; pos = 31 }
+  pub place_in_chain-last : (rows : List (List (Slot K V))) (i pos : ℕ) → all_free (set (get_or rows i []) pos free) ≡ true
+      → i < length rows → length (remove rows i) ≤ i → place_in_chain_after rows i pos ≡ record { block = i; pos = 31 }
   place_in_chain-last rows i pos e within last =
       let short = length-remove rows i within in
       let ge : nat_lt (i + 1) (length rows) ≡ false = grind (arith, nat_tests) in
       rw (e, ge) refl
 
   -- a row of which all slots are free once one was taken
-  pub emptied : (rows : List (List (Slot K V))) (i pos : ℕ) (row taken : List (Slot K V)) → row ≡ get_or rows i [] → taken ≡ set row pos free → all_free taken ≡ true → all_free (set (get_or rows i []) pos free) ≡ true
+  pub emptied : (rows : List (List (Slot K V))) (i pos : ℕ) (row taken : List (Slot K V)) → row ≡ get_or rows i []
+      → taken ≡ set row pos free → all_free taken ≡ true → all_free (set (get_or rows i []) pos free) ≡ true
   emptied rows i pos row taken here is empty = rw (← here, ← is) empty

@@ -31,6 +31,7 @@ pub mod Entries
 pub mod FreeEnds
 pub mod BucketMarks
 pub mod CallerLemmas
+pub mod SearchCallerLemmas
 pub mod MarkCallerLemmas
 pub mod PowersOfTwo
 pub mod Intervals

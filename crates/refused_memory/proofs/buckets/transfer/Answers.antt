@@ -1,5 +1,6 @@
 use Rattle.std.proofs.Common.{rules}
-use Rattle.bucket_slots.proofs.CallerLemmas.{found_pair, live_from_pair}
+use Rattle.bucket_slots.proofs.CallerLemmas.{live_from_pair}
+use Rattle.bucket_slots.proofs.SearchCallerLemmas.{found_pair}
 use Rattle.refused_memory.proofs.buckets.transfer.Goals as goal
 
 pub extract_from-requires : goal.extract_from-requires

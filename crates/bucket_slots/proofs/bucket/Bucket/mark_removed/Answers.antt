@@ -1,6 +1,5 @@
 use Rattle.std.proofs.Common.{refl, sym, ap, ◌∙◌, ◌≡◌}
 use Rattle.bucket_slots.specs.BucketView.{slot_in}
-use Rattle.bucket_slots.specs.Marking.{slot_marked}
 use Rattle.bucket_slots.proofs.AheadAfterRemoval.{pairs_ahead-with_slot}
 use Rattle.bucket_slots.proofs.BucketMarks.{IsBucket-marked-chain, IsBucket-marked-own}
 use Rattle.bucket_slots.proofs.BucketPlacing.{with_slot-chain, with_slot-own}
@@ -9,7 +8,8 @@ use Rattle.bucket_slots.proofs.Pointing.{chain_live, own_live}
 use Rattle.bucket_slots.proofs.bucket.Bucket.mark_removed.Goals as goal
 
 pub overflow_sub-self : goal.overflow_sub-self
-overflow_sub-self g c = some_live g.row.TYPE _ _ c.self.inside.len c.args.at.now c.self.view_is c.sound.ensures c.self.invariant.1 c.requires.live_slot
+overflow_sub-self g c =
+    some_live g.row.TYPE _ _ c.self.inside.len c.args.at.now c.self.view_is c.sound.ensures c.self.invariant.1 c.requires.live_slot
 
 pub invariant_of-self : goal.invariant_of-self
 invariant_of-self g c =

@@ -1,4 +1,4 @@
-use Rattle.std.proofs.Common.{sym, ◌∙◌}
+use Rattle.std.proofs.Common.{◌∙◌}
 use Rattle.bucket_slots.proofs.BucketMarks.{nothing_expired, refused_both}
 use Rattle.bucket_slots.proofs.bucket.Bucket.place_in_cleared.Goals as goal
 

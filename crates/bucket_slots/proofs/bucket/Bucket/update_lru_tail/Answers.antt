@@ -13,4 +13,5 @@ returns-then-block-eq0 g c =
     slots_touched-own g.L.LruList.KEEPS _ _ c.args.at.now _ c.self.view_is (sym c.block.ensures ∙ c.if-block-eq0.true) (rw c.pos-pos.ensures at c.make_newest-self-inside.ensures.order)
 
 pub returns-else-block-eq0 : goal.returns-else-block-eq0
-returns-else-block-eq0 g c = slots_touched-chain g.L.LruList.KEEPS c.args.self.now c.args.at.now (λ own. c.if-block-eq0.false (c.block.ensures ∙ own))
+returns-else-block-eq0 g c =
+    slots_touched-chain g.L.LruList.KEEPS c.args.self.now c.args.at.now (λ own. c.if-block-eq0.false (c.block.ensures ∙ own))

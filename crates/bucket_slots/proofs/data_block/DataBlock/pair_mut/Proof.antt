@@ -86,7 +86,8 @@ B K V n = the_row (KR K) (VR V) (NR n)
 abbrev Pair : RattleType → RattleType → RattleType
 Pair K V = Tuple (KR K ∷ VR V ∷ [])
 
-parts_some : {K V : Type 0} (o : Option (K × V)) (x : MutBor (K × V)) (r : Bor K × MutBor V) → o ≡ Some x.now → r.0.now ≡ x.now.0 → r.1.now ≡ x.now.1 → IsPairLent o (Some r)
+parts_some : {K V : Type 0} (o : Option (K × V)) (x : MutBor (K × V)) (r : Bor K × MutBor V) → o ≡ Some x.now → r.0.now ≡ x.now.0
+    → r.1.now ≡ x.now.1 → IsPairLent o (Some r)
 parts_some {K} {V} o x r e key value =
     let k = sym key in let v = sym value in let shown : x.now ≡ (r.0.now, r.1.now) = λ i. (k i, v i) in
     subst (λ (p : Option (K × V)). IsPairLent p (Some r)) (sym e) shown

@@ -2,7 +2,8 @@ use Rattle.bucket_table.proofs.LookUps.{absent_here, found_here}
 use Rattle.bucket_table.proofs.hash_table.HashTable.find.Goals as goal
 
 pub returns-clause-found : goal.returns-clause-found
-returns-clause-found g c = λ valid. found_here g.K.PartialEq.eq g.H.KeyHash.hash_of _ _ c.args.key.now _ c.get_entry_ptr.result c.self.view_is (c.get_entry_ptr.ensures.found valid)
+returns-clause-found g c =
+    λ valid. found_here g.K.PartialEq.eq g.H.KeyHash.hash_of _ _ c.args.key.now _ c.get_entry_ptr.result c.self.view_is (c.get_entry_ptr.ensures.found valid)
 
 pub returns-clause-absent : goal.returns-clause-absent
 returns-clause-absent g c =

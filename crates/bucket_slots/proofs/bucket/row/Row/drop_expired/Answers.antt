@@ -1,4 +1,3 @@
-use Rattle.std.proofs.Common.{◌≡◌, ap}
 use Rattle.bucket_slots.specs.Layout.Expiring.{IsExpiring}
 use Rattle.bucket_slots.proofs.Expiring.{IsExpiring-last, IsExpiring-next}
 use Rattle.bucket_slots.proofs.bucket.row.Row.drop_expired.Goals as goal
