@@ -42,17 +42,6 @@ found_line is_ended bytes more line found last = elim (cases_Bool (nat_lt (newli
   | inr none ↦ unended_line is_ended bytes more line (ltb-false _ _ none) (rw none at found) last
 ]
 
-pub length-found_line : (is_ended : Bool) (bytes : List ℕ) (line : Line) → IsFoundIn is_ended bytes (FoundLine line)
-    → length (take line.len bytes) ≤ 4096
-length-found_line is_ended bytes line found = elim (cases_Bool (nat_lt (newline_at bytes) (length bytes))) [
-  | inl inside ↦
-      let is : IsFound (take (newline_at bytes) bytes) (newline_at bytes + 1) (FoundLine line) = rw inside at found in
-      omega (arith, is.1, is.2, length-take line.len bytes)
-  | inr none ↦
-      let is : IsFoundUnended is_ended bytes (FoundLine line) = rw none at found in
-      omega (arith, is.2.1, is.2.2, length-take line.len bytes)
-]
-
 -- the first of the lines is too long
 pub record IsLongFirst (lines : List (List ℕ)) : Type 0 where
   pub line : List ℕ

@@ -40,7 +40,7 @@ Some-injective : (a b : Verb) → Some a ≡ Some b → a ≡ b
 Some-injective a b same = ap (λ (verb : Option Verb). elim verb [ Some named ↦ named | None ↦ a ]) same
 
 -- no two verbs have one word
-pub verb_word_injective : (a b : Verb) → verb_word a ≡ verb_word b → a ≡ b
+verb_word_injective : (a b : Verb) → verb_word a ≡ verb_word b → a ≡ b
 verb_word_injective a b same = Some-injective a b (sym (named-verb_word a) ∙ ap named same ∙ named-verb_word b)
 
 -- the verb of a request
@@ -66,7 +66,7 @@ others_of [] = []
 others_of (word ∷ words) = words
 
 -- the first word is that of the verb
-pub starts_with_verb : (first : List ℕ) (words : List (List ℕ)) (request : Request) → Asks (first ∷ words) request
+starts_with_verb : (first : List ℕ) (words : List (List ℕ)) (request : Request) → Asks (first ∷ words) request
     → first ≡ verb_word (verb_for request)
 starts_with_verb first words (RequestNew table) (rest, same, asked) = ap first_of same
 starts_with_verb first words (RequestCall (CallPut key value)) (a, b, same, a_is, b_is) = ap first_of same

@@ -72,16 +72,6 @@ taken_all start output session lines replied none = record {
   needed = λ _. none;
 }
 
--- the calls that waited are lost
-pub taken_some : (start output : Option (List ℕ)) (session session2 : Session) (lines : List (List ℕ)) → HasTaken start output session lines
-    → session2.calls.items ≡ [] → session2.replies ≡ session.replies → HasTakenSome start output session2 lines
-taken_some start output session session2 lines taken none replies = record {
-  first = taken.answered;
-  others = taken.waiting;
-  in_order = taken.in_order;
-  kept = inr (none, (map_at_hand session.table, rw replies taken.replied));
-}
-
 -- the first of the replies were appended
 some_pushed : (start output output2 : Option (List ℕ)) (session session2 : Session) (lines : List (List ℕ)) (before after : MapState ℕ ℕ)
     (replies others : List (Reply ℕ ℕ)) → HasTaken start output session lines → map_at_hand session.table ≡ Some before

@@ -11,53 +11,6 @@ use Rattle.bhtable.specs.declared.request.Request.{Request}
 use Rattle.bhtable.specs.declared.request.Request.TheVariants.{New, Call as Calls, Epoch}
 use Rattle.bhtable.specs.declared.request.Verb.TheVariants.{New as VerbNew}
 use Rattle.bhtable.specs.declared.session.Table.{Table}
-use Rattle.bhtable.proofs.Refusing.{starts_with_verb, verb_for, verb_word_injective}
-
--- what needs a table isn't a fresh one
-not_new : (request : Request) → NeedsTable request → verb_for request ≡ VerbNew → ⊥
-not_new (New table) needs same = needs
-not_new (Calls (Put key value)) needs same = absurd (cc)
-not_new (Calls (Write key value)) needs same = absurd (cc)
-not_new (Calls (Read key)) needs same = absurd (cc)
-not_new (Calls (Peek key)) needs same = absurd (cc)
-not_new (Calls (Remove key)) needs same = absurd (cc)
-not_new (Calls (Touch key)) needs same = absurd (cc)
-not_new (Calls (Evict key)) needs same = absurd (cc)
-not_new (Calls Count) needs same = absurd (cc)
-not_new (Calls Has) needs same = absurd (cc)
-not_new (Epoch generation) needs same = absurd (cc)
-
--- what asks for something has words
-has_words : (words : List (List ℕ)) (request : Request) → Asks words request → words ≡ [] → ⊥
-has_words words (New table) (rest, same, asked) none = absurd (cc)
-has_words words (Calls (Put key value)) (a, b, same, a_is, b_is) none = absurd (cc)
-has_words words (Calls (Write key value)) (a, b, same, a_is, b_is) none = absurd (cc)
-has_words words (Calls (Read key)) (a, same, a_is) none = absurd (cc)
-has_words words (Calls (Peek key)) (a, same, a_is) none = absurd (cc)
-has_words words (Calls (Remove key)) (a, same, a_is) none = absurd (cc)
-has_words words (Calls (Touch key)) (a, same, a_is) none = absurd (cc)
-has_words words (Calls (Evict key)) (a, same, a_is) none = absurd (cc)
-has_words words (Calls Count) same none = absurd (cc)
-has_words words (Calls Has) same none = absurd (cc)
-has_words words (Epoch generation) (rest, same, asked) none = absurd (cc)
-
--- whatever else the same words ask for needs a table too
-also_needs_table : (words : List (List ℕ)) (one other : Request) → NeedsTable one → Asks words one → Asks words other → NeedsTable other
-also_needs_table words one (Calls call) needs asks also = tt
-also_needs_table words one (Epoch generation) needs asks also = tt
-also_needs_table [] one (New table) needs asks also = has_words [] one asks refl
-also_needs_table (first ∷ words) one (New table) needs asks also =
-    not_new one needs (verb_word_injective _ _
-    (sym (starts_with_verb first words one asks) ∙ starts_with_verb first words (New table) also))
-
-pub unreadable_words : (table : Option (MapState ℕ ℕ)) (line : List ℕ) → (words_of line ≡ [] → ⊥) × AsksNothing (words_of line)
-    → IsUnreadable table line
-unreadable_words table line (some, nothing) = inr (some, λ request asks. absurd (nothing request asks))
-
-pub without_table : (table : Option (MapState ℕ ℕ)) (line : List ℕ) (request : Request) → NeedsTable request → Asks (words_of line) request
-    → table ≡ None → IsUnreadable table line
-without_table table line request needs asks none =
-    inr (has_words (words_of line) request asks, λ other also. (also_needs_table (words_of line) request other needs asks also, none))
 
 none_is_not_some : (table : Option Table) → table ≡ None → IsSome table → ⊥
 none_is_not_some None none there = absurd (cc)

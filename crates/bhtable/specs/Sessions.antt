@@ -5,6 +5,7 @@ use Rattle.bucket_slots.specs.declared.bucket.TheConstants.{CACHE, INDEX, MAP}
 use Rattle.bucket_table.specs.MapState.{MapState}
 use Rattle.bucket_table.specs.OneMap.{state_of}
 use Rattle.bucket_table.specs.declared.script.call.Call.{Call}
+use Rattle.bucket_table.specs.declared.script.hashes.ScriptHash.{ScriptHash}
 use Rattle.bhtable.specs.Answers.{AreAnswers, IsUnreadable}
 use Rattle.bhtable.specs.Requests.{Asks}
 use Rattle.bhtable.specs.Words.{words_of}
@@ -20,6 +21,12 @@ abbrev pub map_of : Table → MapState ℕ ℕ
 map_of (Map table) = state_of MAP table
 map_of (Index table) = state_of INDEX table
 map_of (Cache table) = state_of CACHE table
+
+-- the hash of a table's keys
+abbrev pub hasher_of : Table → ScriptHash
+hasher_of (Map table) = table.hasher
+hasher_of (Index table) = table.hasher
+hasher_of (Cache table) = table.hasher
 
 -- the map at hand, where there is a table
 abbrev pub map_at_hand : Option Table → Option (MapState ℕ ℕ)

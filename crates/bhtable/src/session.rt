@@ -9,7 +9,7 @@ ghost use Rattle.bhtable.specs.Answers.{fresh_map};
 ghost use Rattle.bhtable.specs.Limits.{AreLimits};
 ghost use Rattle.bhtable.specs.Outputs.{HasAnswered, IsOutputUpTo};
 ghost use Rattle.bhtable.specs.Requests.{Asks};
-ghost use Rattle.bhtable.specs.Sessions.{HasEnded, HasReplied, HasStopped, HasTaken, IsBadAt, map_at_hand, map_of};
+ghost use Rattle.bhtable.specs.Sessions.{HasEnded, HasReplied, HasStopped, HasTaken, IsBadAt, hasher_of, map_at_hand, map_of};
 ghost use Rattle.bhtable.specs.Status.{IsLack};
 ghost use Rattle.bhtable.specs.Words.{words_of};
 
@@ -218,7 +218,8 @@ impl Session {
 impl Table {
     fn new(alloc: Global, new: NewTable) -> Self
         requires { AreLimits new.limits.minimum new.limits.maximum }
-        ensures { map_of result ≡ fresh_map new }
+        ensures map { map_of result ≡ fresh_map new }
+        ensures hasher { hasher_of result ≡ new.hash }
     {
         let (minimum, maximum) = (new.limits.minimum, new.limits.maximum);
         match new.kind {
