@@ -1,5 +1,4 @@
 //! Arrays: their lengths, their buckets, and that each pair in them is dropped once.
-use crate::probe::{insert_at, len_at};
 use bucket_slots::bucket::{CACHE, INDEX, MAP};
 use bucket_slots::bucket_array::BucketArray;
 use bucket_table::hash_table::sample;
@@ -69,7 +68,7 @@ fn the_samples_of_an_array_are_those_of_its_length(rt: HostRuntime) -> Result<()
 fn new_buckets_are_empty_and_not_killed(rt: HostRuntime) -> Result<(), Fail> {
     let array = Array::alloc(rt.alloc(), 256)?;
     for index in 0..array.len() {
-        assert_eq!(rt; len_at(&array, index), 0);
+        assert_eq!(rt; array.bucket(index).len(), 0);
         assert!(rt; !array.bucket(index).is_killed());
         for pos in 0..32 {
             assert_eq!(rt;
@@ -87,7 +86,7 @@ fn a_change_of_one_bucket_leaves_the_others(rt: HostRuntime) -> Result<(), Fail>
     let mut array = unequal_buckets(&rt, rt.alloc())?;
     for (index, pairs) in [(0, 40), (1, 0), (2, 3), (3, 1)] {
         assert!(rt; index < array.len());
-        assert_eq!(rt; len_at(&array, index), pairs, "bucket {index}");
+        assert_eq!(rt; array.bucket(index).len(), pairs, "bucket {index}");
     }
     assert!(rt; array.len() == 4);
     assert_eq!(rt; array.data_block(2).val(1), Some(&10));
@@ -144,7 +143,9 @@ fn pairs_still_held_are_dropped_with_the_array(rt: HostRuntime) -> Result<(), Fa
     for key in 0..40 {
         let index = key as usize % 2;
         assert!(rt; index < array.len());
-        insert_at(&mut array, index, key, (key, counted.clone()?), &())?;
+        array
+            .bucket_mut(index)
+            .insert(key, (key, counted.clone()?), &())?;
     }
     assert_eq!(rt; Rc::strong_count(&counted), 41);
     drop(array);
@@ -158,7 +159,7 @@ fn unequal_buckets(rt: &impl Abort, alloc: Global) -> Result<Array, Fail> {
     for (index, pairs) in [(2, 3), (0, 40), (3, 1)] {
         for key in 0..pairs {
             assert!(rt; index < array.len());
-            insert_at(&mut array, index, key, (key, key * 10), &())?;
+            array.bucket_mut(index).insert(key, (key, key * 10), &())?;
         }
     }
     Ok(array)

@@ -7,10 +7,12 @@
 
 mod arrays;
 mod buckets;
+mod index_bucket;
 mod outcome;
 
 use crate::arrays::arrays;
 use crate::buckets::two_buckets;
+use crate::index_bucket::index_bucket;
 use crate::outcome::Outcome;
 use bucket_slots::bucket::{AllocError, MAP};
 use bucket_table::hash_table::HashTable;
@@ -66,6 +68,10 @@ fn all_parts(alloc: Global) -> Outcome {
         outcome => return outcome,
     }
     match two_buckets(alloc) {
+        Outcome::Done => {}
+        outcome => return outcome,
+    }
+    match index_bucket(alloc) {
         Outcome::Done => {}
         outcome => return outcome,
     }

@@ -2,6 +2,7 @@
 ghost use Rattle.std.specs.Prelude.{◌≤◌};
 
 use bucket_slots::bucket::MAP;
+use bucket_slots::lru::LruList;
 use bucket_table::hash_table::HashTable;
 use bucket_table::script::{Call, Reply, ScriptHash, run};
 use std::alloc::Global;
@@ -11,7 +12,8 @@ use std::test::Fail;
 /// A table of numbers.
 pub(crate) type Table = HashTable<u64, u64, ScriptHash, (), MAP>;
 
-type Row = (Call<u64, u64>, Reply<u64, u64>);
+/// A call and its reply.
+pub(crate) type Row = (Call<u64, u64>, Reply<u64, u64>);
 
 // A hasher, a key and its hash. Spread puts the key's low byte at both ends of 64 bits.
 const HASHES: [(ScriptHash, u64, u64); 8] = [
@@ -137,11 +139,11 @@ pub(crate) fn table_of(alloc: Global, hasher: ScriptHash, minimum: usize) -> Tab
     HashTable::new(alloc, hasher, minimum, 64)
 }
 
-// Runs the calls as one script, and compares each reply with the one beside its call.
-fn check_replies(
+/// Runs the calls as one script, and compares each reply with the one beside its call.
+pub(crate) fn check_replies<L: LruList + Drop, const TYPE: u8>(
     rt: &impl Abort,
     alloc: Global,
-    table: &mut Table,
+    table: &mut HashTable<u64, u64, ScriptHash, L, TYPE>,
     rows: &[Row],
 ) -> Result<(), Fail> {
     let mut calls = Vec::with_capacity(alloc, rows.len())?;

@@ -1,0 +1,219 @@
+//! Evictions from one bucket of a cache: from own slots alone, in the order of the touches.
+ghost use Rattle.std.specs.Prelude.{◌≤◌};
+
+use crate::by_key::{remove_at, touch_key};
+use bucket_slots::bucket::{Bucket, CACHE};
+use bucket_slots::lru::DoublyLinkedList;
+use std::alloc::Global;
+use std::process::Abort;
+use std::test::Fail;
+
+type Cache = Bucket<u64, u64, DoublyLinkedList, CACHE>;
+
+#[test]
+fn an_eviction_looks_at_own_slots_alone(rt: HostRuntime) -> Result<(), Fail> {
+    let mut bucket = Cache::new(rt.alloc());
+    insert_touched(&mut bucket, 40)?;
+    assert_eq!(rt; bucket.evict_lru_head(), Some((0, 0)));
+    assert_eq!(rt; bucket.len(), 39);
+    // An own slot is free now, though the chain is not empty.
+    assert_eq!(rt; bucket.evict_lru_head(), None);
+    assert_eq!(rt; bucket.len(), 39);
+    Ok(())
+}
+
+#[test]
+fn slot_zero_goes_where_nothing_was_touched(rt: HostRuntime) -> Result<(), Fail> {
+    let mut bucket = Cache::new(rt.alloc());
+    for key in 0..32 {
+        insert_key(&mut bucket, key)?;
+    }
+    assert_eq!(rt; bucket.evict_lru_head(), Some((0, 0)));
+    let at = bucket.insert(0, (40, 400), &())?;
+    assert_eq!(rt; (at.block(), at.pos()), (0, 0));
+    assert_eq!(rt; bucket.evict_lru_head(), Some((40, 400)));
+    assert_eq!(rt; bucket.len(), 31);
+    assert_eq!(rt; bucket.evict_lru_head(), None);
+    assert_eq!(rt; bucket.len(), 31);
+    Ok(())
+}
+
+// One pair comes after another, up to twice the own slots; none is touched.
+#[test]
+fn untouched_pairs_are_evicted_at_slot_zero(rt: HostRuntime) -> Result<(), Fail> {
+    let mut bucket = Cache::new(rt.alloc());
+    let mut in_slot_zero = 0;
+    for key in 0..64 {
+        let full = key >= 32;
+        let wanted = if full {
+            Some((in_slot_zero, in_slot_zero))
+        } else {
+            None
+        };
+        assert_eq!(rt; bucket.evict_lru_head(), wanted, "before key {key}");
+        let at = bucket.insert(0, (key, key), &())?;
+        assert_eq!(rt; at.block(), 0, "key {key}");
+        assert_eq!(rt; at.pos(), if full { 0 } else { key as usize }, "key {key}");
+        if full {
+            in_slot_zero = key;
+        }
+    }
+    Ok(())
+}
+
+// Every number of pairs up to twice the own slots, all touched, three times in one bucket.
+#[test]
+fn a_bucket_that_is_empty_again_evicts_as_a_new_one(rt: HostRuntime) -> Result<(), Fail> {
+    for pairs in 1..64 {
+        let mut bucket = Cache::new(rt.alloc());
+        for _ in 0..3 {
+            check_round(&rt, &mut bucket, pairs)?;
+        }
+    }
+    Ok(())
+}
+
+// Fills an empty bucket with touched pairs, evicts one where it is full, and removes the others.
+fn check_round(rt: &impl Abort, bucket: &mut Cache, pairs: u64) -> Result<(), Fail> {
+    insert_touched(bucket, pairs)?;
+    if pairs < 32 {
+        assert_eq!(rt; bucket.evict_lru_head(), None, "of {pairs} pairs");
+        check_removals(rt, bucket, 0, pairs);
+    } else {
+        assert_eq!(rt; bucket.evict_lru_head(), Some((0, 0)), "of {pairs} pairs");
+        assert!(rt; remove_at(bucket, 0, 0).is_none());
+        check_removals(rt, bucket, 1, pairs);
+    }
+    assert_eq!(rt; bucket.len(), 0, "of {pairs} pairs");
+    assert_eq!(rt; bucket.evict_lru_head(), None, "of {pairs} pairs");
+    Ok(())
+}
+
+// Takes the keys from `first` on out, one after another.
+fn check_removals(rt: &impl Abort, bucket: &mut Cache, first: u64, end: u64) {
+    for key in first..end {
+        let removed = remove_at(bucket, key, 0).map(|gone| gone.0);
+        assert_eq!(rt; removed, Some((key, key)), "key {key} of {end}");
+    }
+}
+
+// Every number of pairs up to twice the own slots: each is touched as it comes, and once the own
+// slots are full, so is the pair of one slot again.
+#[test]
+fn touched_pairs_are_evicted_in_the_order_of_their_touches(rt: HostRuntime) -> Result<(), Fail> {
+    for pairs in 0..64 {
+        check_touched(&rt, rt.alloc(), pairs)?;
+    }
+    Ok(())
+}
+
+// Beside a plain list of the keys, the newest first.
+fn check_touched(rt: &impl Abort, alloc: Global, pairs: u64) -> Result<(), Fail> {
+    let mut bucket = Cache::new(alloc);
+    let mut plain = Vec::new(alloc);
+    let again = (pairs % 32) as usize;
+    for key in 0..pairs {
+        let oldest = if key < 32 { None } else { plain.pop() };
+        let evicted = bucket.evict_lru_head().map(|pair| pair.0);
+        assert_eq!(rt; evicted, oldest, "before key {key} of {pairs}");
+        insert_key(&mut bucket, key)?;
+        touch_both(rt, &mut bucket, &mut plain, key)?;
+        if key >= 32 {
+            let in_slot = *bucket.data_block().key(again).ok_or("a free own slot")?;
+            touch_both(rt, &mut bucket, &mut plain, in_slot)?;
+        }
+    }
+    if pairs < 32 {
+        assert_eq!(rt; bucket.evict_lru_head(), None, "of {pairs} pairs");
+        return Ok(());
+    }
+    assert_eq!(rt; plain.len(), 32);
+    check_evictions(rt, &mut bucket, &plain)
+}
+
+// Touches the key in the bucket, and makes it the newest of the plain list.
+fn touch_both(
+    rt: &impl Abort,
+    bucket: &mut Cache,
+    plain: &mut Vec<u64>,
+    key: u64,
+) -> Result<(), Fail> {
+    assert!(rt; touch_key(bucket, key, 0), "key {key}");
+    plain.retain(|other| *other != key);
+    plain.insert(0, key)?;
+    Ok(())
+}
+
+// Every number of touched pairs, from which the first ones are removed in turn.
+#[test]
+fn a_removed_pair_leaves_the_others_in_their_order(rt: HostRuntime) -> Result<(), Fail> {
+    for touched in 0..33 {
+        check_each_rest(&rt, rt.alloc(), touched)?;
+    }
+    Ok(())
+}
+
+fn check_each_rest(rt: &impl Abort, alloc: Global, touched: u64) -> Result<(), Fail>
+    requires { touched ≤ 32 }
+{
+    for gone in 0..touched + 1 {
+        check_rest(rt, alloc, touched, gone)?;
+    }
+    Ok(())
+}
+
+// Removes the keys below `gone`, fills the bucket with untouched pairs, and evicts what was touched
+// and is still there: the keys from `gone` on, in turn.
+fn check_rest(rt: &impl Abort, alloc: Global, touched: u64, gone: u64) -> Result<(), Fail> {
+    let mut bucket = Cache::new(alloc);
+    insert_touched(&mut bucket, touched)?;
+    check_removals(rt, &mut bucket, 0, gone);
+    fill_up(&mut bucket)?;
+    let mut newest_first = Vec::new(alloc);
+    for key in gone..touched {
+        newest_first.insert(0, key)?;
+    }
+    check_evictions(rt, &mut bucket, &newest_first)
+}
+
+// Inserts untouched pairs until 32 are there.
+fn fill_up(bucket: &mut Cache) -> Result<(), Fail> {
+    for key in 100..132u64 {
+        if bucket.len() < 32 {
+            insert_key(bucket, key)?;
+        }
+    }
+    Ok(())
+}
+
+// Evicts from a bucket whose own slots are full: the keys from the last on, and then, since no pair
+// is listed any more, that of slot 0. An untouched pair takes each place.
+fn check_evictions(rt: &impl Abort, bucket: &mut Cache, newest_first: &[u64]) -> Result<(), Fail> {
+    for key in newest_first.iter().rev() {
+        let evicted = bucket.evict_lru_head().map(|pair| pair.0);
+        assert_eq!(rt; evicted, Some(*key));
+        insert_key(bucket, key.wrapping_add(1000))?;
+    }
+    let in_slot_zero = bucket.data_block().key(0).copied();
+    assert!(rt; in_slot_zero.is_some());
+    let evicted = bucket.evict_lru_head().map(|pair| pair.0);
+    assert_eq!(rt; evicted, in_slot_zero);
+    Ok(())
+}
+
+// Inserts keys from 0 on, and touches each.
+fn insert_touched(bucket: &mut Cache, pairs: u64) -> Result<(), Fail> {
+    for key in 0..pairs {
+        insert_key(bucket, key)?;
+        if !touch_key(bucket, key, 0) {
+            return Err("no such key".into());
+        }
+    }
+    Ok(())
+}
+
+// Inserts the key, its own value, under hash 0.
+fn insert_key(bucket: &mut Cache, key: u64) -> Result<(), Fail> {
+    bucket.insert(0, (key, key), &())?;
+    Ok(())
+}

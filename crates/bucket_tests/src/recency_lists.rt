@@ -1,0 +1,217 @@
+//! Recency lists on their own, as their owner keeps them.
+ghost use Rattle.std.specs.Prelude.{◌<◌, ℕ, List};
+
+use bucket_slots::lru::{DoublyLinkedList, LruList};
+use std::marker::Model;
+use std::process::Abort;
+use std::test::Fail;
+
+/// A list with its tail, as its owner keeps them.
+#[derive(Drop)]
+struct Recent<L: LruList> {
+    list: L,
+    tail: u32,
+}
+
+impl<L: LruList> Model for Recent<L> {
+    ghost Value = { List ℕ };
+
+    ghost view = { λ recent. L.listed recent.list recent.tail };
+
+    ghost invariant = { λ recent. L.IsTail recent.list recent.tail };
+}
+
+impl<L: LruList> Recent<L> {
+    fn new() -> Self {
+        Recent {
+            list: L::default(),
+            tail: 0,
+        }
+    }
+
+    fn evict(&mut self) -> Option<(u8, u32)> {
+        let evicted = self.list.evict(self.tail);
+        if let Some((_, tail)) = evicted {
+            self.tail = tail;
+        }
+        evicted
+    }
+
+    fn remove(&mut self, entry: u8) -> Option<u32>
+        requires { entry < 32 }
+    {
+        let new_tail = self.list.remove(self.tail, entry);
+        self.tail = new_tail.unwrap_or(self.tail);
+        new_tail
+    }
+
+    fn promote(&mut self, entry: u8) -> Option<u32>
+        requires { entry < 32 }
+    {
+        let new_tail = self.list.promote(self.tail, entry);
+        self.tail = new_tail.unwrap_or(self.tail);
+        new_tail
+    }
+}
+
+/// A call on a list, and its answer.
+#[derive(Clone, Copy, Debug)]
+enum Act {
+    Evict(Option<(u8, u32)>),
+    Remove(u8, Option<u32>),
+    Promote(u8, Option<u32>),
+}
+
+const THE_ONLY_SLOT_IS_REMOVED: [Act; 4] = [
+    Act::Promote(5, Some(6)),
+    Act::Promote(5, None),
+    Act::Remove(5, Some(0)),
+    Act::Evict(None),
+];
+
+const THE_OLDEST_GOES_FIRST: [Act; 8] = [
+    Act::Promote(1, Some(2)),
+    Act::Promote(2, Some(3)),
+    Act::Promote(3, Some(4)),
+    Act::Remove(3, Some(3)),
+    Act::Promote(1, Some(2)),
+    Act::Evict(Some((2, 2))),
+    Act::Evict(Some((1, 0))),
+    Act::Evict(None),
+];
+
+// Slot 3 has slot 0 on both sides.
+const SLOT_THREE_IS_EVICTED: [Act; 5] = [
+    Act::Promote(3, Some(4)),
+    Act::Promote(0, Some(1)),
+    Act::Evict(Some((3, 1))),
+    Act::Evict(Some((0, 0))),
+    Act::Evict(None),
+];
+
+const SLOT_THREE_IS_REMOVED: [Act; 5] = [
+    Act::Promote(3, Some(4)),
+    Act::Promote(0, Some(1)),
+    Act::Remove(3, None),
+    Act::Evict(Some((0, 0))),
+    Act::Evict(None),
+];
+
+// A slot that isn't listed, on an empty list and beside slot 0.
+const NOTHING_IS_REMOVED: [Act; 5] = [
+    Act::Remove(3, None),
+    Act::Promote(0, Some(1)),
+    Act::Remove(3, None),
+    Act::Evict(Some((0, 0))),
+    Act::Evict(None),
+];
+
+const SCRIPTS: [&[Act]; 5] = [
+    &THE_ONLY_SLOT_IS_REMOVED,
+    &THE_OLDEST_GOES_FIRST,
+    &SLOT_THREE_IS_EVICTED,
+    &SLOT_THREE_IS_REMOVED,
+    &NOTHING_IS_REMOVED,
+];
+
+#[test]
+fn a_new_list_answers_as_worked_out_by_hand(rt: HostRuntime) {
+    for script in SCRIPTS {
+        check_acts(&rt, &mut Recent::<DoublyLinkedList>::new(), script);
+    }
+}
+
+#[test]
+fn a_list_that_is_empty_again_answers_as_a_new_one(rt: HostRuntime) {
+    let mut recent = Recent::<DoublyLinkedList>::new();
+    for script in SCRIPTS {
+        check_acts(&rt, &mut recent, script);
+        check_acts(&rt, &mut recent, script);
+    }
+}
+
+const NOTHING_IS_KEPT: [Act; 4] = [
+    Act::Promote(3, None),
+    Act::Promote(0, None),
+    Act::Remove(3, None),
+    Act::Evict(None),
+];
+
+#[test]
+fn the_list_that_keeps_nothing_stays_empty(rt: HostRuntime) {
+    check_acts(&rt, &mut Recent::<()>::new(), &NOTHING_IS_KEPT);
+}
+
+// Makes the calls one after another, and compares each answer.
+fn check_acts<L: LruList>(rt: &impl Abort, recent: &mut Recent<L>, acts: &[Act]) {
+    for act in acts {
+        match *act {
+            Act::Evict(answer) => assert_eq!(rt; recent.evict(), answer, "{act:?}"),
+            Act::Remove(entry, answer) => {
+                assert!(rt; entry < 32);
+                assert_eq!(rt; recent.remove(entry), answer, "{act:?}");
+            }
+            Act::Promote(entry, answer) => {
+                assert!(rt; entry < 32);
+                assert_eq!(rt; recent.promote(entry), answer, "{act:?}");
+            }
+        }
+    }
+}
+
+// At first among four slots, where the list is short and at times empty, then among all.
+#[test]
+fn agrees_with_a_plain_list_of_slots(rt: HostRuntime) -> Result<(), Fail> {
+    let mut recent = Recent::<DoublyLinkedList>::new();
+    let mut plain = Vec::new(rt.alloc());
+    let mut random = 1u32;
+    for step in 0..10_000 {
+        random = random.wrapping_mul(1_664_525).wrapping_add(1_013_904_223);
+        let slots = if step < 5_000 { 4 } else { 32 };
+        let entry = ((random >> 16) % slots) as u8;
+        match random >> 29 {
+            0 | 1 => {
+                let answer = plain_eviction(&mut plain);
+                assert_eq!(rt; recent.evict(), answer, "at step {step}");
+            }
+            2 => {
+                let answer = plain_removal(&mut plain, entry);
+                assert_eq!(rt; recent.remove(entry), answer, "at step {step}");
+            }
+            _ => {
+                let answer = plain_touch(&mut plain, entry)?;
+                assert_eq!(rt; recent.promote(entry), answer, "at step {step}");
+            }
+        }
+    }
+    Ok(())
+}
+
+// The newest slot + 1, of a plain list with the newest slot first.
+fn plain_tail(plain: &[u8]) -> u32 {
+    plain.first().map_or(0, |newest| u32::from(*newest) + 1)
+}
+
+fn plain_eviction(plain: &mut Vec<u8>) -> Option<(u8, u32)> {
+    let oldest = plain.pop();
+    oldest.map(|slot| (slot, plain_tail(plain)))
+}
+
+fn plain_removal(plain: &mut Vec<u8>, entry: u8) -> Option<u32> {
+    let was_newest = plain.first() == Some(&entry);
+    plain.retain(|slot| *slot != entry);
+    if was_newest {
+        Some(plain_tail(plain))
+    } else {
+        None
+    }
+}
+
+fn plain_touch(plain: &mut Vec<u8>, entry: u8) -> Result<Option<u32>, Fail> {
+    if plain.first() == Some(&entry) {
+        return Ok(None);
+    }
+    plain.retain(|slot| *slot != entry);
+    plain.insert(0, entry)?;
+    Ok(Some(plain_tail(plain)))
+}

@@ -1,0 +1,225 @@
+//! Walks over one bucket: the order of the slots, and how a walk goes on behind what it takes out.
+ghost use Rattle.std.specs.Prelude.{◌≤◌};
+
+use crate::by_key::{next_key, remove_at, take_next};
+use crate::pairs::{At, Pairs, check_place, filled};
+use std::alloc::Global;
+use std::process::Abort;
+use std::test::Fail;
+
+#[test]
+fn a_walk_over_one_pair_ends_and_starts_anew(rt: HostRuntime) -> Result<(), Fail> {
+    let bucket = filled(rt.alloc(), 1)?;
+    let mut at = At::null();
+    assert!(rt; at.find_next(&bucket));
+    assert_eq!(rt; (at.block(), at.pos()), (0, 0));
+    assert!(rt; !at.find_next(&bucket));
+    assert!(rt; !at.is_valid());
+    assert!(rt; at.find_next(&bucket));
+    assert_eq!(rt; (at.block(), at.pos()), (0, 0));
+    Ok(())
+}
+
+// The keys of the chain of keys 0 to 40, in slot order.
+const CHAIN_OF_41: [u64; 9] = [40, 36, 37, 38, 39, 32, 33, 34, 35];
+
+#[test]
+fn a_walk_goes_through_the_own_slots_and_then_from_the_head(rt: HostRuntime) -> Result<(), Fail> {
+    let bucket = filled(rt.alloc(), 41)?;
+    let mut at = At::null();
+    check_next_keys(&rt, &bucket, &mut at, &slot_order(rt.alloc(), 0)?);
+    check_next_keys(&rt, &bucket, &mut at, &CHAIN_OF_41);
+    assert_eq!(rt; next_key(&bucket, &mut at), None);
+    Ok(())
+}
+
+// Removals from keys 0 to 40: each key, where it leaves its pointer, and where the next pair stands.
+const NEXT_AFTER: [(u64, (usize, usize), (usize, usize), u64); 5] = [
+    (36, (2, 0), (2, 1), 37),
+    (37, (2, 1), (2, 2), 38),
+    (38, (2, 2), (2, 3), 39),
+    (39, (2, 32), (2, 0), 32),
+    (40, (1, 32), (1, 0), 32),
+];
+
+#[test]
+fn a_walk_goes_on_behind_a_removed_pair(rt: HostRuntime) -> Result<(), Fail> {
+    let mut bucket = filled(rt.alloc(), 41)?;
+    for (key, left, next, next_pair) in NEXT_AFTER {
+        let (pair, mut at) = remove_at(&mut bucket, key, 0).ok_or("no such key")?;
+        assert_eq!(rt; pair, (key, key.wrapping_mul(10)));
+        assert_eq!(rt; (at.block(), at.pos()), left, "key {key}");
+        let found = next_key(&bucket, &mut at);
+        assert_eq!(rt; found, Some(next_pair), "after key {key}");
+        assert_eq!(rt; (at.block(), at.pos()), next, "after key {key}");
+    }
+    assert_eq!(rt; bucket.len(), 36);
+    Ok(())
+}
+
+#[test]
+fn the_only_pair_of_the_head_takes_its_block_along(rt: HostRuntime) -> Result<(), Fail> {
+    let mut bucket = filled(rt.alloc(), 37)?;
+    check_place(&rt, &bucket, 36, (1, 0));
+    for (key, place) in [(32, (2, 0)), (33, (2, 1)), (34, (2, 2)), (35, (2, 3))] {
+        check_place(&rt, &bucket, key, place);
+    }
+    let (_, mut at) = remove_at(&mut bucket, 36, 0).ok_or("no such key")?;
+    assert_eq!(rt; (at.block(), at.pos()), (1, 32));
+    assert_eq!(rt; next_key(&bucket, &mut at), Some(32));
+    assert_eq!(rt; (at.block(), at.pos()), (1, 0));
+    Ok(())
+}
+
+#[test]
+fn a_walk_ends_behind_the_last_block_that_goes(rt: HostRuntime) -> Result<(), Fail> {
+    let mut bucket = filled(rt.alloc(), 33)?;
+    check_place(&rt, &bucket, 32, (1, 0));
+    let (_, mut at) = remove_at(&mut bucket, 32, 0).ok_or("no such key")?;
+    assert_eq!(rt; (at.block(), at.pos()), (0, 31));
+    assert_eq!(rt; next_key(&bucket, &mut at), None);
+    assert_eq!(rt; (at.block(), at.pos()), (0, 32));
+    Ok(())
+}
+
+/// Which pairs a walk takes out of a bucket with a chain of full blocks: of one block those at the
+/// bits of a pattern, where the own slots count as eight blocks alike, and of the others all or
+/// none.
+#[derive(Clone, Copy, Debug)]
+struct Plan {
+    blocks: u64,
+    block: u64,
+    pattern: u64,
+    others: bool,
+}
+
+impl Plan {
+    fn takes(&self, key: u64) -> bool {
+        if self.block_of(key) != self.block {
+            return self.others;
+        }
+        self.pattern >> (key % 4) & 1 == 1
+    }
+
+    // The number of the block of a key: the last four keys stand in the head.
+    fn block_of(&self, key: u64) -> u64 {
+        if key < 32 {
+            return 0;
+        }
+        self.blocks.saturating_sub((key - 32) / 4)
+    }
+}
+
+#[test]
+fn a_walk_that_removes_visits_each_pair_once(rt: HostRuntime) -> Result<(), Fail> {
+    for blocks in 0..6 {
+        check_each_block(&rt, rt.alloc(), blocks)?;
+    }
+    Ok(())
+}
+
+// Removes from each block of the bucket in turn, the own slots among them.
+fn check_each_block(rt: &impl Abort, alloc: Global, blocks: u64) -> Result<(), Fail>
+    requires { blocks ≤ 5 }
+{
+    for block in 0..blocks + 1 {
+        check_each_pattern(rt, alloc, blocks, block)?;
+    }
+    Ok(())
+}
+
+// Removes every choice of the pairs of the block, with all others and with no other.
+fn check_each_pattern(rt: &impl Abort, alloc: Global, blocks: u64, block: u64) -> Result<(), Fail>
+    requires { blocks ≤ 5 }
+{
+    for pattern in 0..16 {
+        let alone = Plan {
+            blocks,
+            block,
+            pattern,
+            others: false,
+        };
+        check_plan(rt, alloc, alone)?;
+        let with_others = Plan {
+            blocks,
+            block,
+            pattern,
+            others: true,
+        };
+        check_plan(rt, alloc, with_others)?;
+    }
+    Ok(())
+}
+
+// Walks and removes, beside the keys in slot order; then walks over what is left.
+fn check_plan(rt: &impl Abort, alloc: Global, plan: Plan) -> Result<(), Fail>
+    requires { plan.blocks ≤ 5 }
+{
+    let order = slot_order(alloc, plan.blocks)?;
+    let (going, staying) = parted(alloc, &order, plan)?;
+    let mut bucket = filled(alloc, 32 + 4 * plan.blocks)?;
+    let mut at = At::null();
+    for key in &order {
+        let visited = take_next(&mut bucket, &mut at, &going);
+        assert_eq!(rt; visited, Some(*key), "{plan:?}");
+    }
+    assert_eq!(rt; next_key(&bucket, &mut at), None, "{plan:?}");
+    assert_eq!(rt; (at.block(), at.pos()), (0, 32), "{plan:?}");
+
+    assert_eq!(rt; bucket.len(), staying.len(), "{plan:?}");
+    check_next_keys(rt, &bucket, &mut at, &staying);
+    assert_eq!(rt; next_key(&bucket, &mut at), None, "{plan:?}");
+    check_found(rt, &bucket, &order, plan);
+    Ok(())
+}
+
+// The keys that the plan takes, and the others, each in slot order.
+fn parted(alloc: Global, order: &[u64], plan: Plan) -> Result<(Vec<u64>, Vec<u64>), Fail> {
+    let mut going = Vec::new(alloc);
+    let mut staying = Vec::new(alloc);
+    for key in order {
+        if plan.takes(*key) {
+            going.push(*key)?;
+        } else {
+            staying.push(*key)?;
+        }
+    }
+    Ok((going, staying))
+}
+
+// A search finds the keys that stay, each with its value, and no key that went.
+fn check_found(rt: &impl Abort, bucket: &Pairs, order: &[u64], plan: Plan) {
+    for key in order {
+        let value = key.wrapping_mul(10);
+        let wanted = if plan.takes(*key) {
+            None
+        } else {
+            Some((key, &value))
+        };
+        assert_eq!(rt; bucket.search_entry(key, 0), wanted, "key {key}, {plan:?}");
+    }
+}
+
+// The keys of a bucket whose chain has this many full blocks, in slot order: the own slots, and
+// then the blocks from the one that came last.
+fn slot_order(alloc: Global, blocks: u64) -> Result<Vec<u64>, Fail>
+    requires { blocks ≤ 5 }
+{
+    let mut order = Vec::new(alloc);
+    for slot in 0..32 + 4 * blocks {
+        let key = if slot < 32 {
+            slot
+        } else {
+            32 + 4 * (blocks - 1 - (slot - 32) / 4) + slot % 4
+        };
+        order.push(key)?;
+    }
+    Ok(order)
+}
+
+// A walk goes on through these keys.
+fn check_next_keys(rt: &impl Abort, bucket: &Pairs, at: &mut At, keys: &[u64]) {
+    for key in keys {
+        assert_eq!(rt; next_key(bucket, at), Some(*key));
+    }
+}
