@@ -1,5 +1,5 @@
 -- What is found at the front of the bytes that are read is the first of the lines.
-use Rattle.std.proofs.Common.{◌≡◌, ℕ, ◌+◌, ◌<◌, ◌≤◌, List, [], ◌∷◌, ◌++◌, Bool, true, false, nat_lt, length, take, drop, inl, inr, refl, ap, ◌∙◌, arith, length-take, length-take-le, ltb-true, ltb-false}
+use Rattle.std.proofs.Common.{◌≡◌, ℕ, ◌+◌, ◌<◌, ◌≤◌, List, [], ◌∷◌, ◌++◌, Bool, true, false, nat_lt, length, take, drop, inl, inr, refl, ap, ◌∙◌, arith, length-take-le, ltb-true, ltb-false}
 use Rattle.std.proofs.lemmas.Bool.{cases_Bool}
 use Rattle.std.proofs.lemmas.List.{drop_all, take-take}
 use Rattle.bhtable.specs.InputLines.{last_line, lines_after, lines_of, without_return}

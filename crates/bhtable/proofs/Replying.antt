@@ -1,5 +1,5 @@
 -- What is replied, as its text goes from the replies that wait into the output.
-use Rattle.std.proofs.Common.{◌≡◌, ℕ, ◌≤◌, inl, inr, true, List, [], ◌∷◌, ◌++◌, Option, Some, None, OnErr, Result, Ok, Err, is_err, length, take, refl, sym, ap, ◌∙◌, subst, append-nil}
+use Rattle.std.proofs.Common.{◌≡◌, ℕ, ◌≤◌, true, List, [], ◌∷◌, ◌++◌, Option, Some, None, OnErr, Result, Ok, Err, is_err, length, take, refl, sym, ap, ◌∙◌, subst, append-nil}
 use Rattle.std.proofs.KnownBytes.{Appends-kept, Appends-nil, Appends-trans, append_known-grown}
 use Rattle.std.specs.Io.{StartsWith}
 use Rattle.std.specs.Io.KnownBytes.{Appends, Keeps, append_known}
@@ -7,12 +7,8 @@ use Rattle.bucket_table.specs.MapState.{MapState}
 use Rattle.bucket_table.specs.declared.script.reply.Reply.TheVariants.{Done}
 use Rattle.bhtable.specs.Answers.{AreAnswers, IsAnswer}
 use Rattle.bhtable.specs.Outputs.{HasAnswered}
-use Rattle.bhtable.specs.Requests.{Asks}
 use Rattle.bhtable.specs.Sessions.{HasReplied}
 use Rattle.bhtable.specs.Texts.{line_of, text_of}
-use Rattle.bhtable.specs.Words.{words_of}
-use Rattle.bhtable.specs.declared.request.NewTable.{NewTable}
-use Rattle.bhtable.specs.declared.request.Request.TheVariants.{New}
 use Rattle.bhtable.proofs.Answering.{answers_append}
 
 -- a text that could not grow is cut back

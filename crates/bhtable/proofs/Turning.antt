@@ -6,13 +6,9 @@ use Rattle.bucket_table.specs.declared.script.reply.Reply.TheVariants.{Done}
 use Rattle.bhtable.specs.Answers.{IsAnswer}
 use Rattle.bhtable.specs.Outputs.{HasAnswered}
 use Rattle.bhtable.specs.Replies.{IsPushed}
-use Rattle.bhtable.specs.Requests.{Asks}
 use Rattle.bhtable.specs.Sessions.{HasReplied, HasStopped, HasTaken, IsBadAt, map_at_hand}
 use Rattle.bhtable.specs.Status.{IsLack}
 use Rattle.bhtable.specs.Texts.{line_of, text_of}
-use Rattle.bhtable.specs.Words.{words_of}
-use Rattle.bhtable.specs.declared.request.NewTable.{NewTable}
-use Rattle.bhtable.specs.declared.request.Request.TheVariants.{New}
 use Rattle.bhtable.specs.declared.session.Session.{Session}
 use Rattle.bhtable.specs.declared.session.Table.{Table}
 use Rattle.bhtable.specs.declared.stop.Stop.{Stop}

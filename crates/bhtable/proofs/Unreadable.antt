@@ -1,15 +1,8 @@
 -- Lines that can't be read.
-use Rattle.std.proofs.Common.{◌≡◌, ℕ, ◌↔◌, inl, inr, List, [], ◌∷◌, Option, None, Some, IsSome, refl, sym, ◌∙◌}
+use Rattle.std.proofs.Common.{◌≡◌, ℕ, ◌↔◌, inl, inr, List, Option, None, Some, IsSome, refl}
 use Rattle.bucket_table.specs.MapState.{MapState}
-use Rattle.bucket_table.specs.declared.script.call.Call.{Call}
-use Rattle.bucket_table.specs.declared.script.call.Call.TheVariants.{Put, Write, Read, Peek, Remove, Touch, Evict, Count, Has}
-use Rattle.bhtable.specs.Answers.{IsUnreadable, NeedsTable}
-use Rattle.bhtable.specs.Requests.{Asks, AsksNothing}
+use Rattle.bhtable.specs.Answers.{IsUnreadable}
 use Rattle.bhtable.specs.Sessions.{map_at_hand, map_of}
-use Rattle.bhtable.specs.Words.{words_of}
-use Rattle.bhtable.specs.declared.request.Request.{Request}
-use Rattle.bhtable.specs.declared.request.Request.TheVariants.{New, Call as Calls, Epoch}
-use Rattle.bhtable.specs.declared.request.Verb.TheVariants.{New as VerbNew}
 use Rattle.bhtable.specs.declared.session.Table.{Table}
 
 none_is_not_some : (table : Option Table) → table ≡ None → IsSome table → ⊥

@@ -1,6 +1,7 @@
 //! Scripts, and what `serve` answers them.
 use crate::serve;
 use std::alloc::{AllocError, Global};
+use std::io::Write;
 use std::process::Abort;
 use std::test::Fail;
 
@@ -49,4 +50,33 @@ fn check_text(
     assert_eq!(rt; std::str::from_utf8(output.as_slice())?, text);
     assert_eq!(rt; ended, status, "after {text}");
     Ok(())
+}
+
+// Serves a line that makes a table, puts of the keys below `keys` with the key as the value, and
+// then the lines, and compares all replies.
+fn check_after_puts(
+    rt: &impl Abort,
+    alloc: Global,
+    table: &str,
+    keys: u8,
+    lines: &str,
+    replies: &str,
+) -> Result<(), Fail> {
+    let mut input: Vec<u8> = Vec::new(alloc);
+    let mut text: Vec<u8> = Vec::new(alloc);
+    writeln!(input, "{table}")?;
+    text.extend_from_slice(b"ok\n")?;
+    for key in 0..keys {
+        writeln!(input, "put {key} {key}")?;
+        text.extend_from_slice(b"ok\n")?;
+    }
+    input.extend_from_slice(lines.as_bytes())?;
+    text.extend_from_slice(replies.as_bytes())?;
+    check_text(
+        rt,
+        alloc,
+        input.as_slice(),
+        std::str::from_utf8(text.as_slice())?,
+        0,
+    )
 }

@@ -1,37 +1,7 @@
 //! What a cache answers.
-use super::{check_lines, check_text};
-use std::alloc::Global;
+use super::{check_after_puts, check_lines};
 use std::io::Write;
-use std::process::Abort;
 use std::test::Fail;
-
-// Serves a fresh cache of one hash, puts of the keys below `keys` with the key as the value, and
-// then the lines, and compares their replies.
-fn check_cache(
-    rt: &impl Abort,
-    alloc: Global,
-    keys: u8,
-    lines: &str,
-    replies: &str,
-) -> Result<(), Fail> {
-    let mut input: Vec<u8> = Vec::new(alloc);
-    let mut text: Vec<u8> = Vec::new(alloc);
-    input.extend_from_slice(b"new cache zero 64 64\n")?;
-    text.extend_from_slice(b"ok\n")?;
-    for key in 0..keys {
-        writeln!(input, "put {key} {key}")?;
-        text.extend_from_slice(b"ok\n")?;
-    }
-    input.extend_from_slice(lines.as_bytes())?;
-    text.extend_from_slice(replies.as_bytes())?;
-    check_text(
-        rt,
-        alloc,
-        input.as_slice(),
-        std::str::from_utf8(text.as_slice())?,
-        0,
-    )
-}
 
 // How many keys are put, the lines after that, and their replies.
 const EVICTIONS: [(u8, &str, &str); 5] = [
@@ -57,7 +27,14 @@ const EVICTIONS: [(u8, &str, &str); 5] = [
 #[test]
 fn evicts_the_pair_touched_longest_ago(rt: HostRuntime) -> Result<(), Fail> {
     for (keys, lines, replies) in EVICTIONS {
-        check_cache(&rt, rt.alloc(), keys, lines, replies)?;
+        check_after_puts(
+            &rt,
+            rt.alloc(),
+            "new cache zero 64 64",
+            keys,
+            lines,
+            replies,
+        )?;
     }
     Ok(())
 }
@@ -74,7 +51,7 @@ fn evicts_none_of_the_pairs_that_overflow(rt: HostRuntime) -> Result<(), Fail> {
     replies.extend_from_slice(b"pair 0 0\n39\nnothing\n")?;
     let lines = std::str::from_utf8(touches.as_slice())?;
     let text = std::str::from_utf8(replies.as_slice())?;
-    check_cache(&rt, rt.alloc(), 40, lines, text)
+    check_after_puts(&rt, rt.alloc(), "new cache zero 64 64", 40, lines, text)
 }
 
 const A_PAIR_COMES_AND_GOES: [(&str, &str); 16] = [

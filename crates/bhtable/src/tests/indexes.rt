@@ -1,37 +1,6 @@
 //! What an index answers, and what epochs do to it.
-use super::check_text;
-use std::alloc::Global;
-use std::io::Write;
-use std::process::Abort;
+use super::{check_after_puts, check_text};
 use std::test::Fail;
-
-// Serves a fresh index of one hash, puts of the keys below `keys` with the key as the value, and
-// then the lines, and compares their replies.
-fn check_index(
-    rt: &impl Abort,
-    alloc: Global,
-    keys: u8,
-    lines: &str,
-    replies: &str,
-) -> Result<(), Fail> {
-    let mut input: Vec<u8> = Vec::new(alloc);
-    let mut text: Vec<u8> = Vec::new(alloc);
-    input.extend_from_slice(b"new index zero 0 64\n")?;
-    text.extend_from_slice(b"ok\n")?;
-    for key in 0..keys {
-        writeln!(input, "put {key} {key}")?;
-        text.extend_from_slice(b"ok\n")?;
-    }
-    input.extend_from_slice(lines.as_bytes())?;
-    text.extend_from_slice(replies.as_bytes())?;
-    check_text(
-        rt,
-        alloc,
-        input.as_slice(),
-        std::str::from_utf8(text.as_slice())?,
-        0,
-    )
-}
 
 // How many keys are put, the lines after that, and their replies.
 const SCRIPTS: [(u8, &str, &str); 5] = [
@@ -67,7 +36,7 @@ const SCRIPTS: [(u8, &str, &str); 5] = [
 #[test]
 fn an_index_answers_as_a_map_while_marks_come_and_go(rt: HostRuntime) -> Result<(), Fail> {
     for (keys, lines, replies) in SCRIPTS {
-        check_index(&rt, rt.alloc(), keys, lines, replies)?;
+        check_after_puts(&rt, rt.alloc(), "new index zero 0 64", keys, lines, replies)?;
     }
     Ok(())
 }
