@@ -36,6 +36,26 @@ fn marked_slots_count_as_taken(rt: HostRuntime) -> Result<(), Fail> {
     Ok(())
 }
 
+// The same with a block of live pairs before: what is reserved stands behind it, while a block that
+// a move has to make would stand before it.
+#[test]
+fn what_is_reserved_for_marked_slots_stands_at_the_end(rt: HostRuntime) -> Result<(), Fail> {
+    let mut source = filled(rt.alloc(), 44, 0)?;
+    let mut bucket = filled(rt.alloc(), 36, 0)?;
+    mark_keys(&rt, &mut bucket, &[0, 1, 2, 3], &KEEP);
+    bucket.reserve_slots(4)?;
+    bucket.reserve_slots(4)?;
+    for (key, pos) in [(36, 0), (37, 1), (38, 2), (39, 3)] {
+        let moved = move_key(&mut bucket, &mut source, key)?;
+        assert_eq!(rt; moved, Some((2, pos)), "key {key}");
+    }
+    check_place(&rt, &bucket, 32, (1, 0));
+    // One block was reserved, and it is full.
+    assert_eq!(rt; move_key(&mut bucket, &mut source, 40)?, Some((1, 0)));
+    check_place(&rt, &bucket, 36, (3, 0));
+    Ok(())
+}
+
 #[test]
 fn a_moved_pair_passes_a_marked_slot_in_its_block(rt: HostRuntime) -> Result<(), Fail> {
     let mut source = filled(rt.alloc(), 40, 0)?;
