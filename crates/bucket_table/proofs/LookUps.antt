@@ -1,26 +1,17 @@
 -- What searches say of a table's map.
-use Rattle.std.proofs.Common.{OnSome, ℕ, ◌<◌, ◌≡◌, ◌%◌, ◌==◌, ◌&&◌, Bool, true, false, Option, Some, None, Result, Ok, Err, OnOk, OnErr, IfSome, IfNone, List, ◌∷◌, length, map, get_or, refl, sym, ap, subst, ◌∙◌, arith, suc, zero}
+use Rattle.std.proofs.Common.{ℕ, ◌≡◌, ◌%◌, ◌==◌, ◌&&◌, Bool, true, false, Option, Some, None, IfSome, IfNone, get_or, refl, sym, ap, subst, ◌∙◌, arith}
 use Rattle.std.specs.Borrow.{Bor}
-use Rattle.std.specs.Cmp.{IsEquivalence}
-use Rattle.std.specs.List.{All, IsDistinct}
-use Rattle.std.specs.List.Sorted.{IsPermutation}
+use Rattle.std.specs.List.{All}
 use Rattle.std.proofs.lemmas.Bool.Decides.{nat_tests}
-use Rattle.std.proofs.lemmas.List.Elements.{All-tail, All-map, recursion_from_All}
-use Rattle.std.proofs.lemmas.List.Sorted.{All-permutation, IsPermutation-map}
-use Rattle.std.proofs.lemmas.Map.Keys.{IsDistinct-cons, IsDistinct-tail, IsDistinct-IsPermutation}
-use Rattle.bucket_slots.specs.declared.bucket.TheConstants.{INDEX}
-use Rattle.bucket_slots.specs.BucketView.{BucketView, Place, bucket_with_value, empty_bucket, entries_in, pair_at, pairs_in, slot_in}
-use Rattle.bucket_slots.specs.Clearing.{slots_after_insertion}
-use Rattle.bucket_slots.specs.Evicting.{slot_to_evict, slots_evicted, slots_touched}
+use Rattle.std.proofs.lemmas.List.Elements.{All-map}
+use Rattle.bucket_slots.specs.BucketView.{BucketView, Place, pair_at, pairs_in, slot_in}
 use Rattle.bucket_slots.specs.Places.{IsPairOf}
-use Rattle.bucket_slots.specs.Placing.{slots_with}
-use Rattle.bucket_slots.specs.Removing.{slots_without}
 use Rattle.bucket_slots.specs.Searching.{place_wanted}
-use Rattle.bucket_slots.specs.Slots.{live_pair, slot_at}
+use Rattle.bucket_slots.specs.Slots.{live_pair}
 use Rattle.bucket_slots.proofs.CallerLemmas.{map-entries_in}
 use Rattle.bucket_slots.proofs.SearchCallerLemmas.{found_pair, none_found}
-use Rattle.bucket_table.specs.MapState.{AddsPair, ChangesValue, IsAbsent, IsThere, TakesPair}
-use Rattle.bucket_table.specs.OneMap.{IsOneMap, entries_of, pairs_of, state_of}
+use Rattle.bucket_table.specs.MapState.{IsAbsent, IsThere}
+use Rattle.bucket_table.specs.OneMap.{IsOneMap, entries_of, pairs_of}
 use Rattle.bucket_table.specs.TableView.{TableView}
 
 -- where a pair is found, it is what is lent
