@@ -1,8 +1,12 @@
 //! One bucket: where pairs go, what comes out, what a search finds, and that all is dropped.
 use crate::by_key::remove_at;
-use crate::pairs::{Pairs, filled};
+use crate::counted::{Counted, check_count, insert_clone};
+use crate::pairs::{
+    Pairs, check_absent, check_found, check_insertions, check_len, check_removals, check_taken,
+    filled, insert_pair, own_pair,
+};
 use crate::probe::{insert_at, len_at};
-use bucket_slots::bucket::{Bucket, MAP};
+use std::alloc::Global;
 use std::process::Abort;
 use std::rc::Rc;
 use std::test::Fail;
@@ -10,162 +14,175 @@ use std::test::Fail;
 #[test]
 fn a_new_bucket_finds_nothing(rt: HostRuntime) {
     let bucket = Pairs::new(rt.alloc());
-    assert_eq!(rt; bucket.len(), 0);
-    assert!(rt; !bucket.is_killed());
-    for key in 0..4 {
-        check_absent(&rt, &bucket, key, 0);
-    }
-    for pos in 0..32 {
-        assert_eq!(rt; bucket.data_block().key(pos), None, "slot {pos}");
+    check_len(&rt, &bucket, 0);
+    check_alive(&rt, &bucket);
+    check_absent(&rt, &bucket, &[(0, 0), (1, 0), (2, 0), (3, 0)]);
+    for slot in 0..32 {
+        check_own_pair(&rt, &bucket, slot, (None, None));
     }
 }
+
+fn check_alive(rt: &impl Abort, bucket: &Pairs) {
+    assert!(rt; !bucket.is_killed());
+}
+
+// An own slot has this key and this value.
+fn check_own_pair(
+    rt: &impl Abort,
+    bucket: &Pairs,
+    slot: usize,
+    wanted: (Option<u64>, Option<u64>),
+) {
+    assert_eq!(rt; own_pair(bucket, slot), wanted, "slot {slot}");
+}
+
+// Keys 0 to 31: the key in each own slot that is made free and filled again.
+const REFILLED: [(u64, usize); 3] = [(4, 4), (20, 20), (0, 0)];
 
 #[test]
 fn a_pair_goes_to_the_lowest_free_own_slot(rt: HostRuntime) -> Result<(), Fail> {
     let mut bucket = filled(rt.alloc(), 32)?;
-    assert_eq!(rt; bucket.len(), 32);
-    for slot in [4, 20, 0] {
-        let (pair, at) = remove_at(&mut bucket, slot, 0).ok_or("no such key")?;
-        assert_eq!(rt; pair, (slot, slot * 10));
-        assert_eq!(rt; (at.block(), at.pos()), (0, slot as usize));
-        assert_eq!(rt; bucket.len(), 31);
-        assert_eq!(rt; bucket.data_block().key(slot as usize), None);
-
-        let at = bucket.insert(0, (slot, slot * 10), &())?;
-        assert_eq!(rt; (at.block(), at.pos()), (0, slot as usize));
-        assert_eq!(rt; bucket.len(), 32);
-        assert_eq!(rt; bucket.data_block().val(slot as usize), Some(&(slot * 10)));
+    check_len(&rt, &bucket, 32);
+    for (key, slot) in REFILLED {
+        check_refilled(&rt, &mut bucket, key, slot)?;
     }
+    Ok(())
+}
+
+// Takes the pair of a key out of its own slot, and puts it there again.
+fn check_refilled(rt: &impl Abort, bucket: &mut Pairs, key: u64, slot: usize) -> Result<(), Fail> {
+    check_removals(rt, bucket, &[(key, (0, slot))]);
+    check_len(rt, bucket, 31);
+    check_own_pair(rt, bucket, slot, (None, None));
+    check_insertions(rt, bucket, &[(key, (0, slot))])?;
+    check_len(rt, bucket, 32);
+    let value = key.wrapping_mul(10);
+    check_own_pair(rt, bucket, slot, (Some(key), Some(value)));
     Ok(())
 }
 
 #[test]
 fn the_lowest_of_several_free_slots_is_taken_first(rt: HostRuntime) -> Result<(), Fail> {
     let mut bucket = filled(rt.alloc(), 32)?;
-    for key in [9, 4, 30] {
-        remove_at(&mut bucket, key, 0).ok_or("no such key")?;
-    }
-    for (key, pos) in [(40, 4), (41, 9), (42, 30)] {
-        let at = bucket.insert(0, (key, 0), &())?;
-        assert_eq!(rt; (at.block(), at.pos()), (0, pos), "key {key}");
-    }
-    Ok(())
+    check_removals(&rt, &mut bucket, &[(9, (0, 9)), (4, (0, 4)), (30, (0, 30))]);
+    let rows = [(40, (0, 4)), (41, (0, 9)), (42, (0, 30))];
+    check_insertions(&rt, &mut bucket, &rows)
 }
 
 // Keys 0 to 36: where each from 32 on stands right after its insertion.
-const OVERFLOW: [(u64, usize, usize); 5] = [
-    (32, 1, 0),
-    (33, 1, 1),
-    (34, 1, 2),
-    (35, 1, 3),
-    (36, 1, 0),
+const OVERFLOW: [(u64, (usize, usize)); 5] = [
+    (32, (1, 0)),
+    (33, (1, 1)),
+    (34, (1, 2)),
+    (35, (1, 3)),
+    (36, (1, 0)),
+];
+
+// Where some of these keys stand then: the block that was the head stands behind the new one.
+const OVERFLOWN: [(u64, u64, u64, (usize, usize)); 4] = [
+    (36, 0, 360, (1, 0)),
+    (32, 0, 320, (2, 0)),
+    (35, 0, 350, (2, 3)),
+    (31, 0, 310, (0, 31)),
 ];
 
 #[test]
 fn a_pair_that_finds_no_free_slot_makes_a_new_head(rt: HostRuntime) -> Result<(), Fail> {
     let mut bucket = filled(rt.alloc(), 32)?;
-    for (key, block, pos) in OVERFLOW {
-        let at = bucket.insert(0, (key, key * 10), &())?;
-        assert_eq!(rt; (at.block(), at.pos()), (block, pos), "key {key}");
-    }
-    assert_eq!(rt; bucket.len(), 37);
-    // The block that was the head stands behind the new one.
-    check_found(&rt, &bucket, 36, 0, 360, (1, 0));
-    check_found(&rt, &bucket, 32, 0, 320, (2, 0));
-    check_found(&rt, &bucket, 35, 0, 350, (2, 3));
-    check_found(&rt, &bucket, 31, 0, 310, (0, 31));
+    check_insertions(&rt, &mut bucket, &OVERFLOW)?;
+    check_len(&rt, &bucket, 37);
+    check_found(&rt, &bucket, &OVERFLOWN);
     Ok(())
 }
 
 // Removals from keys 0 to 40, whose chain is [40], [36 to 39], [32 to 35]: each key, and where the
 // pointer stands then. A block goes with its last pair.
-const UNLINKED: [(u64, usize, usize); 5] = [
-    (36, 2, 0),
-    (37, 2, 1),
-    (38, 2, 2),
-    (39, 2, 32),
-    (40, 1, 32),
+const UNLINKED: [(u64, (usize, usize)); 5] = [
+    (36, (2, 0)),
+    (37, (2, 1)),
+    (38, (2, 2)),
+    (39, (2, 32)),
+    (40, (1, 32)),
 ];
 
 #[test]
 fn a_block_goes_with_its_last_pair(rt: HostRuntime) -> Result<(), Fail> {
     let mut bucket = filled(rt.alloc(), 41)?;
-    for (key, block, pos) in UNLINKED {
-        let (pair, at) = remove_at(&mut bucket, key, 0).ok_or("no such key")?;
-        assert_eq!(rt; pair, (key, key * 10));
-        assert_eq!(rt; (at.block(), at.pos()), (block, pos), "key {key}");
-    }
-    assert_eq!(rt; bucket.len(), 36);
-    check_found(&rt, &bucket, 32, 0, 320, (1, 0));
-    check_found(&rt, &bucket, 35, 0, 350, (1, 3));
+    check_removals(&rt, &mut bucket, &UNLINKED);
+    check_len(&rt, &bucket, 36);
+    check_found(&rt, &bucket, &[(32, 0, 320, (1, 0)), (35, 0, 350, (1, 3))]);
     Ok(())
 }
 
 #[test]
 fn the_last_block_leaves_its_pointer_behind_the_own_slots(rt: HostRuntime) -> Result<(), Fail> {
     let mut bucket = filled(rt.alloc(), 33)?;
-    let (pair, at) = remove_at(&mut bucket, 32, 0).ok_or("no such key")?;
-    assert_eq!(rt; pair, (32, 320));
-    assert_eq!(rt; (at.block(), at.pos()), (0, 31));
-    assert_eq!(rt; bucket.len(), 32);
-    check_absent(&rt, &bucket, 32, 0);
+    check_removals(&rt, &mut bucket, &[(32, (0, 31))]);
+    check_len(&rt, &bucket, 32);
+    check_absent(&rt, &bucket, &[(32, 0)]);
     Ok(())
 }
 
 #[test]
 fn a_search_wants_the_byte_and_the_key(rt: HostRuntime) -> Result<(), Fail> {
     let mut bucket = Pairs::new(rt.alloc());
-    bucket.insert(5, (1, 10), &())?;
-    bucket.insert(6, (2, 20), &())?;
+    insert_pair(&mut bucket, 5, (1, 10))?;
+    insert_pair(&mut bucket, 6, (2, 20))?;
     // 261 has the low byte 5, and only that is compared.
-    check_found(&rt, &bucket, 1, 5, 10, (0, 0));
-    check_found(&rt, &bucket, 1, 261, 10, (0, 0));
-    check_absent(&rt, &bucket, 1, 6);
-    check_absent(&rt, &bucket, 2, 5);
-    check_absent(&rt, &bucket, 3, 5);
-    check_absent(&rt, &bucket, 3, 6);
+    check_found(&rt, &bucket, &[(1, 5, 10, (0, 0)), (1, 261, 10, (0, 0))]);
+    check_absent(&rt, &bucket, &[(1, 6), (2, 5), (3, 5), (3, 6)]);
     Ok(())
 }
 
 #[test]
 fn the_first_of_two_equal_keys_is_found(rt: HostRuntime) -> Result<(), Fail> {
     let mut bucket = Pairs::new(rt.alloc());
-    bucket.insert(5, (1, 10), &())?;
-    bucket.insert(5, (1, 11), &())?;
-    check_found(&rt, &bucket, 1, 5, 10, (0, 0));
-    remove_at(&mut bucket, 1, 5).ok_or("no such key")?;
-    check_found(&rt, &bucket, 1, 5, 11, (0, 1));
+    insert_pair(&mut bucket, 5, (1, 10))?;
+    insert_pair(&mut bucket, 5, (1, 11))?;
+    check_found(&rt, &bucket, &[(1, 5, 10, (0, 0))]);
+    check_taken(&rt, &mut bucket, (1, 5), Some(((1, 10), (0, 0))));
+    check_found(&rt, &bucket, &[(1, 5, 11, (0, 1))]);
     Ok(())
 }
 
 #[test]
 fn a_pair_that_is_out_is_not_found(rt: HostRuntime) -> Result<(), Fail> {
     let mut bucket = filled(rt.alloc(), 2)?;
-    remove_at(&mut bucket, 0, 0).ok_or("no such key")?;
-    check_absent(&rt, &bucket, 0, 0);
-    check_found(&rt, &bucket, 1, 0, 10, (0, 1));
-    remove_at(&mut bucket, 1, 0).ok_or("no such key")?;
-    assert_eq!(rt; bucket.len(), 0);
-    check_absent(&rt, &bucket, 1, 0);
-    assert!(rt; remove_at(&mut bucket, 1, 0).is_none());
+    check_removals(&rt, &mut bucket, &[(0, (0, 0))]);
+    check_absent(&rt, &bucket, &[(0, 0)]);
+    check_found(&rt, &bucket, &[(1, 0, 10, (0, 1))]);
+    check_removals(&rt, &mut bucket, &[(1, (0, 1))]);
+    check_len(&rt, &bucket, 0);
+    check_absent(&rt, &bucket, &[(1, 0)]);
+    check_taken(&rt, &mut bucket, (1, 0), None);
     Ok(())
 }
 
 #[test]
 fn each_value_is_dropped_once_with_its_bucket(rt: HostRuntime) -> Result<(), Fail> {
     let counted = Rc::new(rt.alloc(), 0)?;
-    let mut bucket = Bucket::<u64, Rc<i32>, (), MAP>::new(rt.alloc());
-    for key in 0..41 {
-        bucket.insert(0, (key, counted.clone()?), &())?;
-    }
-    assert_eq!(rt; Rc::strong_count(&counted), 42);
-    for key in [4, 39, 40] {
-        drop(remove_at(&mut bucket, key, 0).ok_or("no such key")?);
-    }
-    assert_eq!(rt; Rc::strong_count(&counted), 39);
-    drop(bucket);
-    assert_eq!(rt; Rc::strong_count(&counted), 1);
+    let bucket = filled_with(rt.alloc(), &counted)?;
+    check_count(&rt, &counted, 42);
+    check_drops(&rt, bucket, &counted);
+    check_count(&rt, &counted, 1);
     Ok(())
+}
+
+// Keys 0 to 40, each with a clone of the value.
+fn filled_with(alloc: Global, counted: &Rc<i32>) -> Result<Counted, Fail> {
+    let mut bucket = Counted::new(alloc);
+    for key in 0..41 {
+        insert_clone(&mut bucket, key, counted)?;
+    }
+    Ok(bucket)
+}
+
+// Drops three of the values, and then the bucket.
+fn check_drops(rt: &impl Abort, mut bucket: Counted, counted: &Rc<i32>) {
+    for key in [4, 39, 40] {
+        assert!(rt; remove_at(&mut bucket, key, 0).is_some(), "key {key}");
+    }
+    check_count(rt, counted, 39);
 }
 
 #[test]
@@ -175,72 +192,48 @@ fn buckets_in_a_vector_fill_apart(rt: HostRuntime) -> Result<(), Fail> {
         buckets.push(Pairs::new(rt.alloc()))?;
     }
     for key in 0..5 {
-        assert_eq!(rt; buckets.len(), 3);
-        insert_at(&mut buckets, 1, 0, (key, key * 10), &())?;
+        check_insertion_at(&rt, &mut buckets, 1, key)?;
     }
+    check_insertion_at(&rt, &mut buckets, 2, 9)?;
+    check_lens(&rt, &buckets, &[(0, 0), (1, 5), (2, 1)]);
     assert_eq!(rt; buckets.len(), 3);
-    insert_at(&mut buckets, 2, 0, (9, 90), &())?;
-    assert_eq!(rt; buckets.len(), 3);
-    for (index, len) in [(0, 0), (1, 5), (2, 1)] {
-        assert_eq!(rt; len_at(&buckets, index), len, "bucket {index}");
-    }
-    check_found(&rt, &buckets[1], 3, 0, 30, (0, 3));
-    check_absent(&rt, &buckets[0], 3, 0);
+    check_found(&rt, &buckets[1], &[(3, 0, 30, (0, 3))]);
+    check_absent(&rt, &buckets[0], &[(3, 0)]);
     Ok(())
 }
 
-// Each search finds the key, at this place.
-fn check_found(
+// Inserts the key into one of three buckets.
+fn check_insertion_at(
     rt: &impl Abort,
-    bucket: &Pairs,
+    buckets: &mut Vec<Pairs>,
+    index: usize,
     key: u64,
-    hash: u64,
-    value: u64,
-    place: (usize, usize),
-) {
-    let wanted = Some((&key, &value));
-    assert_eq!(rt;
-        bucket.search_entry(&key, hash),
-        wanted,
-        "a search of {key} under {hash}"
-    );
-    assert_eq!(rt;
-        bucket.peek_entry(&key, hash),
-        wanted,
-        "a peek of {key} under {hash}"
-    );
-    let at = bucket.get_entry_ptr(&key, hash);
-    assert_eq!(rt;
-        (at.block(), at.pos()),
-        place,
-        "the pointer to {key} under {hash}"
-    );
-    assert!(rt; at.is_valid(), "the pointer to {key} under {hash}");
-    let own = if at.block() == 0 {
-        bucket.data_block().val(at.pos())
-    } else {
-        Some(&value)
-    };
-    assert_eq!(rt; own, Some(&value), "the own slot of {key}");
+) -> Result<(), Fail> {
+    assert_eq!(rt; buckets.len(), 3);
+    insert_into(buckets, index, (key, key.wrapping_mul(10)))
 }
 
-// No search finds the key.
-fn check_absent(rt: &impl Abort, bucket: &Pairs, key: u64, hash: u64) {
-    assert_eq!(rt;
-        bucket.search_entry(&key, hash),
-        None,
-        "a search of {key} under {hash}"
-    );
-    assert_eq!(rt;
-        bucket.peek_entry(&key, hash),
-        None,
-        "a peek of {key} under {hash}"
-    );
-    let at = bucket.get_entry_ptr(&key, hash);
-    assert!(rt; !at.is_valid(), "the pointer to {key} under {hash}");
-    assert_eq!(rt;
-        (at.block(), at.pos()),
-        (0, 32),
-        "the pointer to {key} under {hash}"
-    );
+// Inserts a pair into one of the buckets.
+fn insert_into(buckets: &mut Vec<Pairs>, index: usize, pair: (u64, u64)) -> Result<(), Fail> {
+    if index >= buckets.len() {
+        return Err("no such bucket".into());
+    }
+    insert_at(buckets, index, 0, pair, &())?;
+    Ok(())
+}
+
+// Each bucket has this many pairs.
+fn check_lens(rt: &impl Abort, buckets: &Vec<Pairs>, rows: &[(usize, usize)]) {
+    for (index, len) in rows {
+        assert_eq!(rt; len_of(buckets, *index), Some(*len), "bucket {index}");
+    }
+}
+
+// The number of pairs of one of the buckets.
+fn len_of(buckets: &Vec<Pairs>, index: usize) -> Option<usize> {
+    if index < buckets.len() {
+        Some(len_at(buckets, index))
+    } else {
+        None
+    }
 }

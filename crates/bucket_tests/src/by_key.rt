@@ -1,6 +1,7 @@
 //! Calls on one bucket that begin with a search for a key, or with a step of a walk.
 ghost use Rattle.std.specs.Prelude.{◌≢◌};
 
+use crate::pairs::{At, Pairs};
 use bucket_slots::bucket::{AllocError, Bucket, CACHE, EntryPtr, INDEX};
 use bucket_slots::lru::LruList;
 use std::mem;
@@ -61,14 +62,13 @@ pub(crate) fn move_key<V: Drop, L: LruList + Drop, const TYPE: u8>(
     hash: u64,
 ) -> Result<Option<(Spot, Spot)>, AllocError> {
     let mut from = source.get_entry_ptr(&key, hash);
-    if !from.is_valid() {
+    if !from.is_valid() || target.is_killed() {
         return Ok(None);
     }
-    if target.is_killed() {
-        return Ok(None);
+    match target.extract_from(hash, source, &mut from) {
+        Ok(to) => Ok(Some(((to.block(), to.pos()), (from.block(), from.pos())))),
+        Err(refused) => Err(refused),
     }
-    let to = target.extract_from(hash, source, &mut from)?;
-    Ok(Some(((to.block(), to.pos()), (from.block(), from.pos()))))
 }
 
 /// Kills a bucket that has no pair and isn't killed, and returns whether it was one.
@@ -83,10 +83,7 @@ pub(crate) fn kill_empty<V: Drop, L: LruList + Drop, const TYPE: u8>(
 }
 
 /// Steps to the next pair and returns its key.
-pub(crate) fn next_key<V: Drop, L: LruList + Drop, const TYPE: u8>(
-    bucket: &Bucket<u64, V, L, TYPE>,
-    at: &mut EntryPtr<u64, V, TYPE>,
-) -> Option<u64> {
+pub(crate) fn next_key(bucket: &Pairs, at: &mut At) -> Option<u64> {
     if !at.find_next(bucket) {
         return None;
     }
@@ -94,13 +91,7 @@ pub(crate) fn next_key<V: Drop, L: LruList + Drop, const TYPE: u8>(
 }
 
 /// Steps to the next pair, takes it out where its key is among those that go, and returns the key.
-pub(crate) fn take_next<V: Drop, L: LruList + Drop, const TYPE: u8>(
-    bucket: &mut Bucket<u64, V, L, TYPE>,
-    at: &mut EntryPtr<u64, V, TYPE>,
-    going: &[u64],
-) -> Option<u64>
-    requires not_index { TYPE ≢ INDEX }
-{
+pub(crate) fn take_next(bucket: &mut Pairs, at: &mut At, going: &[u64]) -> Option<u64> {
     if !at.find_next(bucket) {
         return None;
     }

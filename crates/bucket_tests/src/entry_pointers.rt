@@ -1,5 +1,7 @@
 //! Pointers into a bucket.
-use bucket_slots::bucket::{Bucket, EntryPtr, MAP};
+use crate::by_key::Spot;
+use crate::pairs::{At, Pairs, insert_pair};
+use std::alloc::Global;
 use std::test::Fail;
 
 // Hashes with different bytes, each with the byte that stands beside its pair.
@@ -7,34 +9,36 @@ const HASHES: [(u64, u8); 4] = [(0, 0), (255, 255), (256, 0), (4660, 52)];
 
 #[test]
 fn the_null_pointer_is_not_valid(rt: HostRuntime) {
-    let null = EntryPtr::<u64, u64, MAP>::null();
-    assert!(rt; !null.is_valid());
-    assert_eq!(rt; (null.block(), null.pos()), (0, 32));
+    assert_eq!(rt; named(&At::null()), (false, (0, 32)));
+}
+
+// Whether a pointer is valid, and where it stands.
+fn named(at: &At) -> (bool, Spot) {
+    (at.is_valid(), (at.block(), at.pos()))
 }
 
 #[test]
 fn a_clone_names_the_same_place(rt: HostRuntime) -> Result<(), Fail> {
-    let mut bucket = Bucket::<u64, u64, (), MAP>::new(rt.alloc());
-    bucket.insert(0, (1, 10), &())?;
+    let mut bucket = Pairs::new(rt.alloc());
+    insert_pair(&mut bucket, 0, (1, 10))?;
     let at = bucket.insert(0, (2, 20), &())?;
-    let same = at.clone();
-    assert!(rt; same.is_valid());
-    assert_eq!(rt; (same.block(), same.pos()), (at.block(), at.pos()));
-    assert_eq!(rt; (same.block(), same.pos()), (0, 1));
+    let wanted = (true, (0, 1));
+    assert_eq!(rt; (named(&at.clone()), named(&at)), (wanted, wanted));
     Ok(())
 }
 
 #[test]
 fn an_insertion_answers_where_its_pair_stands(rt: HostRuntime) -> Result<(), Fail> {
     for (hash, byte) in HASHES {
-        let mut bucket = Bucket::<u64, u64, (), MAP>::new(rt.alloc());
-        let at = bucket.insert(hash, (7, 70), &())?;
-        assert_eq!(rt; at.partial_hash(&bucket), byte, "the byte under {hash}");
-        assert_eq!(rt;
-            (*at.key(&bucket), *at.val(&bucket)),
-            (7, 70),
-            "the pair under {hash}"
-        );
+        let found = first_pair(rt.alloc(), hash)?;
+        assert_eq!(rt; found, (byte, 7, 70), "under {hash}");
     }
     Ok(())
+}
+
+// The byte, the key and the value at the pointer that an insertion answers.
+fn first_pair(alloc: Global, hash: u64) -> Result<(u8, u64, u64), Fail> {
+    let mut bucket = Pairs::new(alloc);
+    let at = bucket.insert(hash, (7, 70), &())?;
+    Ok((at.partial_hash(&bucket), *at.key(&bucket), *at.val(&bucket)))
 }

@@ -1,7 +1,5 @@
 //! Evictions from one bucket of a cache: from own slots alone, in the order of the touches.
-ghost use Rattle.std.specs.Prelude.{◌≤◌};
-
-use crate::by_key::{remove_at, touch_key};
+use crate::by_key::{Spot, remove_at, touch_key};
 use bucket_slots::bucket::{Bucket, CACHE};
 use bucket_slots::lru::DoublyLinkedList;
 use std::alloc::Global;
@@ -14,11 +12,9 @@ type Cache = Bucket<u64, u64, DoublyLinkedList, CACHE>;
 fn an_eviction_looks_at_own_slots_alone(rt: HostRuntime) -> Result<(), Fail> {
     let mut bucket = Cache::new(rt.alloc());
     insert_touched(&mut bucket, 40)?;
-    assert_eq!(rt; bucket.evict_lru_head(), Some((0, 0)));
-    assert_eq!(rt; bucket.len(), 39);
+    check_eviction(&rt, &mut bucket, Some(0), 39);
     // An own slot is free now, though the chain is not empty.
-    assert_eq!(rt; bucket.evict_lru_head(), None);
-    assert_eq!(rt; bucket.len(), 39);
+    check_eviction(&rt, &mut bucket, None, 39);
     Ok(())
 }
 
@@ -28,13 +24,10 @@ fn slot_zero_goes_where_nothing_was_touched(rt: HostRuntime) -> Result<(), Fail>
     for key in 0..32 {
         insert_key(&mut bucket, key)?;
     }
-    assert_eq!(rt; bucket.evict_lru_head(), Some((0, 0)));
-    let at = bucket.insert(0, (40, 400), &())?;
-    assert_eq!(rt; (at.block(), at.pos()), (0, 0));
-    assert_eq!(rt; bucket.evict_lru_head(), Some((40, 400)));
-    assert_eq!(rt; bucket.len(), 31);
-    assert_eq!(rt; bucket.evict_lru_head(), None);
-    assert_eq!(rt; bucket.len(), 31);
+    check_eviction(&rt, &mut bucket, Some(0), 31);
+    check_insertion(&rt, &mut bucket, 40, (0, 0))?;
+    check_eviction(&rt, &mut bucket, Some(40), 31);
+    check_eviction(&rt, &mut bucket, None, 31);
     Ok(())
 }
 
@@ -42,22 +35,38 @@ fn slot_zero_goes_where_nothing_was_touched(rt: HostRuntime) -> Result<(), Fail>
 #[test]
 fn untouched_pairs_are_evicted_at_slot_zero(rt: HostRuntime) -> Result<(), Fail> {
     let mut bucket = Cache::new(rt.alloc());
-    let mut in_slot_zero = 0;
-    for key in 0..64 {
-        let full = key >= 32;
-        let wanted = if full {
-            Some((in_slot_zero, in_slot_zero))
-        } else {
-            None
-        };
-        assert_eq!(rt; bucket.evict_lru_head(), wanted, "before key {key}");
-        let at = bucket.insert(0, (key, key), &())?;
-        assert_eq!(rt; at.block(), 0, "key {key}");
-        assert_eq!(rt; at.pos(), if full { 0 } else { key as usize }, "key {key}");
-        if full {
-            in_slot_zero = key;
-        }
+    for key in 0..32 {
+        check_eviction(&rt, &mut bucket, None, key as usize);
+        check_insertion(&rt, &mut bucket, key, (0, key as usize))?;
     }
+    let mut in_slot_zero = 0;
+    for key in 32..64 {
+        check_eviction(&rt, &mut bucket, Some(in_slot_zero), 31);
+        check_insertion(&rt, &mut bucket, key, (0, 0))?;
+        in_slot_zero = key;
+    }
+    Ok(())
+}
+
+// Evicts a key with its own value, or nothing, and this many pairs are left.
+fn check_eviction(rt: &impl Abort, bucket: &mut Cache, key: Option<u64>, len: usize) {
+    check_evicted(rt, bucket, key);
+    assert_eq!(rt; bucket.len(), len);
+}
+
+// Evicts a key with its own value, or nothing.
+fn check_evicted(rt: &impl Abort, bucket: &mut Cache, key: Option<u64>) {
+    let wanted = match key {
+        Some(key) => Some((key, key)),
+        None => None,
+    };
+    assert_eq!(rt; bucket.evict_lru_head(), wanted);
+}
+
+// Inserts the key, which then stands at this place.
+fn check_insertion(rt: &impl Abort, bucket: &mut Cache, key: u64, place: Spot) -> Result<(), Fail> {
+    let at = insert_key(bucket, key)?;
+    assert_eq!(rt; at, place, "key {key}");
     Ok(())
 }
 
@@ -77,24 +86,31 @@ fn a_bucket_that_is_empty_again_evicts_as_a_new_one(rt: HostRuntime) -> Result<(
 fn check_round(rt: &impl Abort, bucket: &mut Cache, pairs: u64) -> Result<(), Fail> {
     insert_touched(bucket, pairs)?;
     if pairs < 32 {
-        assert_eq!(rt; bucket.evict_lru_head(), None, "of {pairs} pairs");
+        check_evicted(rt, bucket, None);
         check_removals(rt, bucket, 0, pairs);
     } else {
-        assert_eq!(rt; bucket.evict_lru_head(), Some((0, 0)), "of {pairs} pairs");
-        assert!(rt; remove_at(bucket, 0, 0).is_none());
+        check_evicted(rt, bucket, Some(0));
+        check_removal(rt, bucket, 0, None);
         check_removals(rt, bucket, 1, pairs);
     }
-    assert_eq!(rt; bucket.len(), 0, "of {pairs} pairs");
-    assert_eq!(rt; bucket.evict_lru_head(), None, "of {pairs} pairs");
+    check_eviction(rt, bucket, None, 0);
     Ok(())
 }
 
 // Takes the keys from `first` on out, one after another.
 fn check_removals(rt: &impl Abort, bucket: &mut Cache, first: u64, end: u64) {
     for key in first..end {
-        let removed = remove_at(bucket, key, 0).map(|gone| gone.0);
-        assert_eq!(rt; removed, Some((key, key)), "key {key} of {end}");
+        check_removal(rt, bucket, key, Some((key, key)));
     }
+}
+
+// Takes out the pair of a key, or finds none.
+fn check_removal(rt: &impl Abort, bucket: &mut Cache, key: u64, wanted: Option<(u64, u64)>) {
+    let removed = match remove_at(bucket, key, 0) {
+        Some((pair, _)) => Some(pair),
+        None => None,
+    };
+    assert_eq!(rt; removed, wanted, "key {key}");
 }
 
 // Every number of pairs up to twice the own slots: each is touched as it comes, and once the own
@@ -111,24 +127,34 @@ fn touched_pairs_are_evicted_in_the_order_of_their_touches(rt: HostRuntime) -> R
 fn check_touched(rt: &impl Abort, alloc: Global, pairs: u64) -> Result<(), Fail> {
     let mut bucket = Cache::new(alloc);
     let mut plain = Vec::new(alloc);
-    let again = (pairs % 32) as usize;
     for key in 0..pairs {
         let oldest = if key < 32 { None } else { plain.pop() };
-        let evicted = bucket.evict_lru_head().map(|pair| pair.0);
-        assert_eq!(rt; evicted, oldest, "before key {key} of {pairs}");
+        check_evicted(rt, &mut bucket, oldest);
         insert_key(&mut bucket, key)?;
         touch_both(rt, &mut bucket, &mut plain, key)?;
         if key >= 32 {
-            let in_slot = *bucket.data_block().key(again).ok_or("a free own slot")?;
-            touch_both(rt, &mut bucket, &mut plain, in_slot)?;
+            touch_again(rt, &mut bucket, &mut plain, pairs)?;
         }
     }
-    if pairs < 32 {
-        assert_eq!(rt; bucket.evict_lru_head(), None, "of {pairs} pairs");
-        return Ok(());
+    check_order(rt, &mut bucket, &plain, pairs)
+}
+
+// Touches the pair of an own slot, which depends on the number of pairs that come.
+fn touch_again(
+    rt: &impl Abort,
+    bucket: &mut Cache,
+    plain: &mut Vec<u64>,
+    pairs: u64,
+) -> Result<(), Fail> {
+    match key_in(bucket, (pairs % 32) as usize) {
+        Some(key) => touch_both(rt, bucket, plain, key),
+        None => Err("a free own slot".into()),
     }
-    assert_eq!(rt; plain.len(), 32);
-    check_evictions(rt, &mut bucket, &plain)
+}
+
+// The key in an own slot.
+fn key_in(bucket: &Cache, slot: usize) -> Option<u64> {
+    bucket.data_block().key(slot).copied()
 }
 
 // Touches the key in the bucket, and makes it the newest of the plain list.
@@ -144,20 +170,23 @@ fn touch_both(
     Ok(())
 }
 
+// Evicts nothing where an own slot is free, and otherwise the own slots in the order of the list.
+fn check_order(rt: &impl Abort, bucket: &mut Cache, plain: &[u64], pairs: u64) -> Result<(), Fail> {
+    if pairs < 32 {
+        check_evicted(rt, bucket, None);
+        return Ok(());
+    }
+    assert_eq!(rt; plain.len(), 32);
+    check_evictions(rt, bucket, plain)
+}
+
 // Every number of touched pairs, from which the first ones are removed in turn.
 #[test]
 fn a_removed_pair_leaves_the_others_in_their_order(rt: HostRuntime) -> Result<(), Fail> {
-    for touched in 0..33 {
-        check_each_rest(&rt, rt.alloc(), touched)?;
-    }
-    Ok(())
-}
-
-fn check_each_rest(rt: &impl Abort, alloc: Global, touched: u64) -> Result<(), Fail>
-    requires { touched ≤ 32 }
-{
-    for gone in 0..touched + 1 {
-        check_rest(rt, alloc, touched, gone)?;
+    for touched in 0..33u64 {
+        for gone in 0..touched + 1 {
+            check_rest(&rt, rt.alloc(), touched, gone)?;
+        }
     }
     Ok(())
 }
@@ -190,14 +219,12 @@ fn fill_up(bucket: &mut Cache) -> Result<(), Fail> {
 // is listed any more, that of slot 0. An untouched pair takes each place.
 fn check_evictions(rt: &impl Abort, bucket: &mut Cache, newest_first: &[u64]) -> Result<(), Fail> {
     for key in newest_first.iter().rev() {
-        let evicted = bucket.evict_lru_head().map(|pair| pair.0);
-        assert_eq!(rt; evicted, Some(*key));
+        check_evicted(rt, bucket, Some(*key));
         insert_key(bucket, key.wrapping_add(1000))?;
     }
-    let in_slot_zero = bucket.data_block().key(0).copied();
+    let in_slot_zero = key_in(bucket, 0);
     assert!(rt; in_slot_zero.is_some());
-    let evicted = bucket.evict_lru_head().map(|pair| pair.0);
-    assert_eq!(rt; evicted, in_slot_zero);
+    check_evicted(rt, bucket, in_slot_zero);
     Ok(())
 }
 
@@ -212,8 +239,8 @@ fn insert_touched(bucket: &mut Cache, pairs: u64) -> Result<(), Fail> {
     Ok(())
 }
 
-// Inserts the key, its own value, under hash 0.
-fn insert_key(bucket: &mut Cache, key: u64) -> Result<(), Fail> {
-    bucket.insert(0, (key, key), &())?;
-    Ok(())
+// Inserts the key, its own value, under hash 0, and returns where it stands.
+fn insert_key(bucket: &mut Cache, key: u64) -> Result<Spot, Fail> {
+    let at = bucket.insert(0, (key, key), &())?;
+    Ok((at.block(), at.pos()))
 }

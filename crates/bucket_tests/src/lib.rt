@@ -7,6 +7,8 @@ mod buckets;
 #[cfg(test)]
 mod by_key;
 #[cfg(test)]
+mod counted;
+#[cfg(test)]
 mod data_blocks;
 #[cfg(test)]
 mod entry_pointers;

@@ -69,13 +69,15 @@ fn check_bits<const LEN: usize>(rt: &impl Abort, seed: u64, bytes: &[u8; LEN])
                 Some(own) => *own == byte,
                 None => false,
             };
-            assert_eq!(rt;
-                mask >> i as u32 & 1 == 1,
-                wanted,
-                "bit {i} of row {seed} with {byte}"
-            );
+            let bit = mask >> i as u32 & 1 == 1;
+            check_bit(rt, bit, wanted, (seed, byte));
         }
     }
+}
+
+// A bit is as the bytes of the row say.
+fn check_bit(rt: &impl Abort, bit: bool, wanted: bool, row: (u64, u8)) {
+    assert_eq!(rt; bit, wanted, "row and byte {row:?}");
 }
 
 // Bytes of 0 to 4, so that each byte stands more than once in a row of 32.

@@ -1,88 +1,134 @@
 //! Pairs that move from one bucket to another, and what is left where they stood.
-use crate::by_key::{kill_empty, move_key};
-use crate::pairs::{Pairs, check_place, filled};
+use crate::by_key::{Spot, kill_empty, move_key};
+use crate::counted::{Counted, check_count, insert_clone};
+use crate::pairs::{
+    Pairs, check_insertions, check_len, check_places, check_search, filled, insert_pair,
+};
 use bucket_slots::bucket::{Bucket, MAP};
 use std::process::Abort;
 use std::rc::Rc;
 use std::test::Fail;
 
 // Pairs moved out of keys 0 to 43, whose slots are all occupied, in this order: each key, its
-// earlier place and its new one.
-const MOVED: [(u64, (usize, usize), (usize, usize)); 4] = [
-    (5, (0, 5), (0, 0)),
-    (31, (0, 31), (0, 1)),
-    (40, (1, 0), (0, 2)),
-    (34, (3, 2), (0, 3)),
+// earlier place and its new one, and how many have moved then.
+const MOVED: [(u64, Spot, Spot, usize); 4] = [
+    (5, (0, 5), (0, 0), 1),
+    (31, (0, 31), (0, 1), 2),
+    (40, (1, 0), (0, 2), 3),
+    (34, (3, 2), (0, 3), 4),
 ];
+
+// Where the next keys stand then: in the slots that were left, and no block went.
+const REFILLED: [(u64, Spot); 4] = [(50, (0, 5)), (51, (0, 31)), (52, (1, 0)), (53, (3, 2))];
 
 #[test]
 fn a_pair_moves_and_leaves_its_slot_free(rt: HostRuntime) -> Result<(), Fail> {
     let mut source = filled(rt.alloc(), 44)?;
     let mut target = Pairs::new(rt.alloc());
-    let mut moved = 0usize;
-    for (key, from, to) in MOVED {
-        let places = move_key(&mut target, &mut source, key, 0)?;
-        assert_eq!(rt; places, Some((to, from)), "key {key}");
-        moved = moved.wrapping_add(1);
-        assert_eq!(rt; target.len(), moved);
-        assert_eq!(rt; source.len(), 44usize.wrapping_sub(moved));
-        assert_eq!(rt; source.search_entry(&key, 0), None, "key {key}");
-        let value = key.wrapping_mul(10);
-        assert_eq!(rt; target.search_entry(&key, 0), Some((&key, &value)));
+    for (key, from, to, moved) in MOVED {
+        check_move(&rt, &mut target, &mut source, (key, 0), Some((to, from)))?;
+        check_lens(&rt, &source, &target, (44usize.wrapping_sub(moved), moved));
+        check_search(&rt, &source, (key, 0), None);
+        check_search(&rt, &target, (key, 0), Some((key, key.wrapping_mul(10))));
     }
-    check_slots_free(&rt, &mut source)
+    check_places(&rt, &source, &[(36, (2, 0))]);
+    check_insertions(&rt, &mut source, &REFILLED)?;
+    check_len(&rt, &source, 44);
+    Ok(())
 }
 
-// The slots that were left take the next pairs, and no block went.
-fn check_slots_free(rt: &impl Abort, source: &mut Pairs) -> Result<(), Fail> {
-    check_place(rt, source, 36, (2, 0));
-    let mut key = 50u64;
-    for (_, place, _) in MOVED {
-        let at = source.insert(0, (key, 0), &())?;
-        assert_eq!(rt; (at.block(), at.pos()), place, "key {key}");
-        key = key.wrapping_add(1);
-    }
-    assert_eq!(rt; source.len(), 44);
+// Moves the pair of a key under a hash, and compares its new place and its earlier one.
+fn check_move(
+    rt: &impl Abort,
+    target: &mut Pairs,
+    source: &mut Pairs,
+    (key, hash): (u64, u64),
+    wanted: Option<(Spot, Spot)>,
+) -> Result<(), Fail> {
+    let places = move_pair(target, source, key, hash)?;
+    assert_eq!(rt; places, wanted, "key {key} under {hash}");
     Ok(())
+}
+
+// Moves the pair of a key, and returns its new place and its earlier one.
+fn move_pair(
+    target: &mut Pairs,
+    source: &mut Pairs,
+    key: u64,
+    hash: u64,
+) -> Result<Option<(Spot, Spot)>, Fail> {
+    Ok(move_key(target, source, key, hash)?)
 }
 
 #[test]
 fn a_pair_moves_under_the_hash_that_is_handed_in(rt: HostRuntime) -> Result<(), Fail> {
     let mut source = Pairs::new(rt.alloc());
     let mut target = Pairs::new(rt.alloc());
-    source.insert(5, (1, 10), &())?;
+    insert_pair(&mut source, 5, (1, 10))?;
     // The byte of both hashes is 5.
-    assert_eq!(rt;
-        move_key(&mut target, &mut source, 1, 261)?,
-        Some(((0, 0), (0, 0)))
-    );
-    assert_eq!(rt; target.search_entry(&1, 5), Some((&1, &10)));
-    assert_eq!(rt; target.search_entry(&1, 6), None);
-    assert_eq!(rt; move_key(&mut target, &mut source, 1, 5)?, None);
-    Ok(())
+    let places = Some(((0, 0), (0, 0)));
+    check_move(&rt, &mut target, &mut source, (1, 261), places)?;
+    check_search(&rt, &target, (1, 5), Some((1, 10)));
+    check_search(&rt, &target, (1, 6), None);
+    check_move(&rt, &mut target, &mut source, (1, 5), None)
 }
 
 #[test]
 fn each_value_is_dropped_once_after_its_bucket_is_killed(rt: HostRuntime) -> Result<(), Fail> {
     let counted = Rc::new(rt.alloc(), 0)?;
-    let mut source = Bucket::<u64, Rc<i32>, (), MAP>::new(rt.alloc());
-    let mut target = Bucket::<u64, Rc<i32>, (), MAP>::new(rt.alloc());
+    let mut source = Counted::new(rt.alloc());
+    let mut target = Counted::new(rt.alloc());
     for key in 0..41 {
-        source.insert(0, (key, counted.clone()?), &())?;
-        assert!(rt; !kill_empty(&mut source), "a bucket with pairs stays");
-        move_key(&mut target, &mut source, key, 0)?.ok_or("no such key")?;
+        insert_clone(&mut source, key, &counted)?;
+        check_clone_moves(&rt, &mut source, &mut target, key)?;
     }
-    assert_eq!(rt; (source.len(), target.len()), (0, 41));
-    assert!(rt; kill_empty(&mut source));
+    check_lens(&rt, &source, &target, (0, 41));
+    check_kill(&rt, &mut source);
+    check_alive(&rt, &target);
+    check_drops(&rt, source, target, &counted);
+    Ok(())
+}
+
+// Moves the pair of a key from a bucket that isn't killed, since it has a pair.
+fn check_clone_moves(
+    rt: &impl Abort,
+    source: &mut Counted,
+    target: &mut Counted,
+    key: u64,
+) -> Result<(), Fail> {
+    assert!(rt; !kill_empty(source), "a bucket with pairs stays");
+    let places = move_key(target, source, key, 0)?;
+    assert!(rt; places.is_some(), "key {key}");
+    Ok(())
+}
+
+// Kills an empty bucket, which then finds nothing.
+fn check_kill(rt: &impl Abort, source: &mut Counted) {
+    assert!(rt; kill_empty(source));
     assert!(rt; source.is_killed());
     assert_eq!(rt; source.len(), 0);
     assert!(rt; source.search_entry(&0, 0).is_none());
-    assert!(rt; !target.is_killed());
+}
 
-    assert_eq!(rt; Rc::strong_count(&counted), 42);
+fn check_alive(rt: &impl Abort, target: &Counted) {
+    assert!(rt; !target.is_killed());
+}
+
+// Drops first the bucket without pairs, and then the one with 41.
+fn check_drops(rt: &impl Abort, source: Counted, target: Counted, counted: &Rc<i32>) {
+    check_count(rt, counted, 42);
     drop(source);
-    assert_eq!(rt; Rc::strong_count(&counted), 42);
+    check_count(rt, counted, 42);
     drop(target);
-    assert_eq!(rt; Rc::strong_count(&counted), 1);
-    Ok(())
+    check_count(rt, counted, 1);
+}
+
+// How many pairs both buckets have.
+fn check_lens<V: Drop>(
+    rt: &impl Abort,
+    source: &Bucket<u64, V, (), MAP>,
+    target: &Bucket<u64, V, (), MAP>,
+    lens: (usize, usize),
+) {
+    assert_eq!(rt; (source.len(), target.len()), lens);
 }

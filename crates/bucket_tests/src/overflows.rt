@@ -1,6 +1,6 @@
 //! More keys than a bucket has own slots: they come, stay, change and go.
-use crate::by_key::{next_key, remove_at, write_key};
-use crate::pairs::{At, Pairs, filled};
+use crate::by_key::{next_key, write_key};
+use crate::pairs::{At, Pairs, check_len, check_search, filled, take_pair};
 use std::process::Abort;
 use std::test::Fail;
 
@@ -14,9 +14,9 @@ fn more_keys_than_own_slots_come_and_go(rt: HostRuntime) -> Result<(), Fail> {
         let mut bucket = Pairs::new(rt.alloc());
         check_coming(&rt, &mut bucket, mask)?;
         check_staying(&rt, &bucket, mask);
-        check_going(&rt, &mut bucket, mask)?;
-        assert_eq!(rt; bucket.len(), 0);
-        assert_eq!(rt; next_key(&bucket, &mut At::null()), None);
+        check_going(&rt, &mut bucket, mask);
+        check_len(&rt, &bucket, 0);
+        check_no_step(&rt, &bucket);
     }
     Ok(())
 }
@@ -26,7 +26,7 @@ fn check_coming(rt: &impl Abort, bucket: &mut Pairs, mask: u64) -> Result<(), Fa
     for key in 0..MORE_THAN_OWN {
         let at = bucket.insert(key & mask, (key, 0), &())?;
         assert!(rt; at.is_valid(), "key {key}");
-        assert_eq!(rt; bucket.len() as u64, key + 1);
+        check_len(rt, bucket, key as usize + 1);
     }
     Ok(())
 }
@@ -35,20 +35,32 @@ fn check_coming(rt: &impl Abort, bucket: &mut Pairs, mask: u64) -> Result<(), Fa
 fn check_staying(rt: &impl Abort, bucket: &Pairs, mask: u64) {
     for key in 0..2 * MORE_THAN_OWN {
         let there = key < MORE_THAN_OWN;
-        let wanted = if there { Some((&key, &0)) } else { None };
-        assert_eq!(rt; bucket.search_entry(&key, key & mask), wanted, "key {key}");
+        let wanted = if there { Some((key, 0)) } else { None };
+        check_search(rt, bucket, (key, key & mask), wanted);
     }
 }
 
 // Takes the keys out one after another.
-fn check_going(rt: &impl Abort, bucket: &mut Pairs, mask: u64) -> Result<(), Fail> {
+fn check_going(rt: &impl Abort, bucket: &mut Pairs, mask: u64) {
     for key in 0..MORE_THAN_OWN {
-        let (pair, _) = remove_at(bucket, key, key & mask).ok_or("no such key")?;
-        assert_eq!(rt; pair, (key, 0));
-        assert_eq!(rt; bucket.search_entry(&key, key & mask), None, "key {key}");
-        assert_eq!(rt; bucket.len() as u64, MORE_THAN_OWN - 1 - key);
+        check_out(rt, bucket, key, key & mask);
+        check_search(rt, bucket, (key, key & mask), None);
+        check_len(rt, bucket, (MORE_THAN_OWN - 1 - key) as usize);
     }
-    Ok(())
+}
+
+// Takes the pair of a key out.
+fn check_out(rt: &impl Abort, bucket: &mut Pairs, key: u64, hash: u64) {
+    let pair = match take_pair(bucket, key, hash) {
+        Some((pair, _)) => Some(pair),
+        None => None,
+    };
+    assert_eq!(rt; pair, Some((key, 0)));
+}
+
+// A walk over an empty bucket ends at once.
+fn check_no_step(rt: &impl Abort, bucket: &Pairs) {
+    assert_eq!(rt; next_key(bucket, &mut At::null()), None);
 }
 
 #[test]
@@ -56,22 +68,23 @@ fn a_written_value_is_the_only_one_that_changes(rt: HostRuntime) -> Result<(), F
     // In the first and the last own slot, and in each block of the chain.
     for key in [0, 3, 31, 32, 35, 36, 39, 40] {
         let mut bucket = filled(rt.alloc(), 41)?;
-        assert_eq!(rt;
-            write_key(&mut bucket, key, 0, 7),
-            Some(key.wrapping_mul(10))
-        );
-        assert_eq!(rt; write_key(&mut bucket, 41, 0, 7), None);
-        assert_eq!(rt; bucket.len(), 41);
+        check_write(&rt, &mut bucket, key, Some(key.wrapping_mul(10)));
+        check_write(&rt, &mut bucket, 41, None);
+        check_len(&rt, &bucket, 41);
         check_written(&rt, &bucket, key);
     }
     Ok(())
+}
+
+// Writes 7 and gets the earlier value.
+fn check_write(rt: &impl Abort, bucket: &mut Pairs, key: u64, earlier: Option<u64>) {
+    assert_eq!(rt; write_key(bucket, key, 0, 7), earlier, "key {key}");
 }
 
 // The key has value 7, and each other key of the 41 its own.
 fn check_written(rt: &impl Abort, bucket: &Pairs, written: u64) {
     for key in 0..41u64 {
         let value = if key == written { 7 } else { key * 10 };
-        let found = bucket.search_entry(&key, 0);
-        assert_eq!(rt; found, Some((&key, &value)), "with {written} written");
+        check_search(rt, bucket, (key, 0), Some((key, value)));
     }
 }

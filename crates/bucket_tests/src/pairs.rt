@@ -1,4 +1,5 @@
-//! Buckets of numbers: how the tests fill them, and where a key stands.
+//! Buckets of numbers: how the tests fill them, and rows of what is so of them.
+use crate::by_key::{Spot, remove_at};
 use bucket_slots::bucket::{Bucket, EntryPtr, MAP};
 use std::alloc::Global;
 use std::process::Abort;
@@ -14,14 +15,146 @@ pub(crate) type At = EntryPtr<u64, u64, MAP>;
 pub(crate) fn filled(alloc: Global, keys: u64) -> Result<Pairs, Fail> {
     let mut bucket = Pairs::new(alloc);
     for key in 0..keys {
-        bucket.insert(0, (key, key.wrapping_mul(10)), &())?;
+        insert_pair(&mut bucket, 0, (key, key.wrapping_mul(10)))?;
     }
     Ok(bucket)
 }
 
-/// The key stands at this place.
-pub(crate) fn check_place(rt: &impl Abort, bucket: &Pairs, key: u64, place: (usize, usize)) {
-    let at = bucket.get_entry_ptr(&key, 0);
-    assert!(rt; at.is_valid(), "key {key}");
-    assert_eq!(rt; (at.block(), at.pos()), place, "key {key}");
+/// Inserts a pair and returns where it stands.
+pub(crate) fn insert_pair(bucket: &mut Pairs, hash: u64, pair: (u64, u64)) -> Result<Spot, Fail> {
+    let at = bucket.insert(hash, pair, &())?;
+    Ok((at.block(), at.pos()))
+}
+
+/// Takes out the pair of a key, and returns it with the place of the pointer then.
+pub(crate) fn take_pair(bucket: &mut Pairs, key: u64, hash: u64) -> Option<((u64, u64), Spot)> {
+    match remove_at(bucket, key, hash) {
+        Some((pair, at)) => Some((pair, (at.block(), at.pos()))),
+        None => None,
+    }
+}
+
+// Returns what a search finds.
+fn search(bucket: &Pairs, key: u64, hash: u64) -> Option<(u64, u64)> {
+    match bucket.search_entry(&key, hash) {
+        Some((found, value)) => Some((*found, *value)),
+        None => None,
+    }
+}
+
+// Returns what a peek finds.
+fn peek(bucket: &Pairs, key: u64, hash: u64) -> Option<(u64, u64)> {
+    match bucket.peek_entry(&key, hash) {
+        Some((found, value)) => Some((*found, *value)),
+        None => None,
+    }
+}
+
+// Returns where the pointer to a key stands, and whether it is valid.
+fn point(bucket: &Pairs, key: u64, hash: u64) -> (Spot, bool) {
+    let at = bucket.get_entry_ptr(&key, hash);
+    ((at.block(), at.pos()), at.is_valid())
+}
+
+/// Returns the pair in an own slot.
+pub(crate) fn own_pair(bucket: &Pairs, slot: usize) -> (Option<u64>, Option<u64>) {
+    let block = bucket.data_block();
+    (block.key(slot).copied(), block.val(slot).copied())
+}
+
+/// The bucket has this many pairs.
+pub(crate) fn check_len(rt: &impl Abort, bucket: &Pairs, len: usize) {
+    assert_eq!(rt; bucket.len(), len);
+}
+
+/// Inserts keys one after another under hash 0, each with ten times itself as its value, and
+/// compares each place.
+pub(crate) fn check_insertions(
+    rt: &impl Abort,
+    bucket: &mut Pairs,
+    rows: &[(u64, Spot)],
+) -> Result<(), Fail> {
+    for (key, place) in rows {
+        let at = insert_pair(bucket, 0, (*key, key.wrapping_mul(10)))?;
+        check_spot(rt, *key, at, *place);
+    }
+    Ok(())
+}
+
+// This is where the key was inserted.
+fn check_spot(rt: &impl Abort, key: u64, at: Spot, place: Spot) {
+    assert_eq!(rt; at, place, "key {key}");
+}
+
+/// Takes out keys one after another that stand under hash 0, each with ten times itself as its
+/// value, and compares where each leaves its pointer.
+pub(crate) fn check_removals(rt: &impl Abort, bucket: &mut Pairs, rows: &[(u64, Spot)]) {
+    for (key, place) in rows {
+        let wanted = Some(((*key, key.wrapping_mul(10)), *place));
+        check_taken(rt, bucket, (*key, 0), wanted);
+    }
+}
+
+/// Takes out the pair of a key under a hash, and compares it and where it leaves its pointer; or
+/// finds none.
+pub(crate) fn check_taken(
+    rt: &impl Abort,
+    bucket: &mut Pairs,
+    (key, hash): (u64, u64),
+    wanted: Option<((u64, u64), Spot)>,
+) {
+    assert_eq!(rt;
+        take_pair(bucket, key, hash),
+        wanted,
+        "key {key} under {hash}"
+    );
+}
+
+/// A search for the key under the hash finds this pair, or none.
+pub(crate) fn check_search(
+    rt: &impl Abort,
+    bucket: &Pairs,
+    (key, hash): (u64, u64),
+    wanted: Option<(u64, u64)>,
+) {
+    assert_eq!(rt; search(bucket, key, hash), wanted, "key {key} under {hash}");
+}
+
+/// Each search finds the key under the hash, with this value at this place.
+pub(crate) fn check_found(rt: &impl Abort, bucket: &Pairs, rows: &[(u64, u64, u64, Spot)]) {
+    for (key, hash, value, place) in rows {
+        let wanted = Some((*key, *value));
+        let found = (search(bucket, *key, *hash), peek(bucket, *key, *hash));
+        assert_eq!(rt; found, (wanted, wanted), "key {key} under {hash}");
+        check_pointer(rt, bucket, (*key, *hash), (*place, true));
+        check_own_value(rt, bucket, *place, *value);
+    }
+}
+
+/// No search finds the key under the hash.
+pub(crate) fn check_absent(rt: &impl Abort, bucket: &Pairs, rows: &[(u64, u64)]) {
+    for (key, hash) in rows {
+        let found = (search(bucket, *key, *hash), peek(bucket, *key, *hash));
+        assert_eq!(rt; found, (None, None), "key {key} under {hash}");
+        check_pointer(rt, bucket, (*key, *hash), ((0, 32), false));
+    }
+}
+
+/// Each key stands at this place under hash 0.
+pub(crate) fn check_places(rt: &impl Abort, bucket: &Pairs, rows: &[(u64, Spot)]) {
+    for (key, place) in rows {
+        check_pointer(rt, bucket, (*key, 0), (*place, true));
+    }
+}
+
+// The pointer to the key under the hash stands there, and is valid or not.
+fn check_pointer(rt: &impl Abort, bucket: &Pairs, (key, hash): (u64, u64), wanted: (Spot, bool)) {
+    assert_eq!(rt; point(bucket, key, hash), wanted, "key {key} under {hash}");
+}
+
+// Where the place is an own slot, the value stands in it.
+fn check_own_value(rt: &impl Abort, bucket: &Pairs, (block, pos): Spot, value: u64) {
+    if block == 0 {
+        assert_eq!(rt; own_pair(bucket, pos).1, Some(value), "slot {pos}");
+    }
 }

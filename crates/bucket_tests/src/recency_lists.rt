@@ -52,61 +52,82 @@ impl<L: LruList> Recent<L> {
         self.tail = new_tail.unwrap_or(self.tail);
         new_tail
     }
+
+    // Makes a call on slots below 32.
+    fn answer(&mut self, rt: &impl Abort, act: Act) -> Answer {
+        match act {
+            Act::Evict => match self.evict() {
+                Some((slot, tail)) => (Some(slot), Some(tail)),
+                None => (None, None),
+            },
+            Act::Remove(entry) => {
+                assert!(rt; entry < 32);
+                (None, self.remove(entry))
+            }
+            Act::Promote(entry) => {
+                assert!(rt; entry < 32);
+                (None, self.promote(entry))
+            }
+        }
+    }
 }
 
-/// A call on a list, and its answer.
+/// A call on a list.
 #[derive(Clone, Copy, Debug)]
 enum Act {
-    Evict(Option<(u8, u32)>),
-    Remove(u8, Option<u32>),
-    Promote(u8, Option<u32>),
+    Evict,
+    Remove(u8),
+    Promote(u8),
 }
 
-const THE_ONLY_SLOT_IS_REMOVED: [Act; 4] = [
-    Act::Promote(5, Some(6)),
-    Act::Promote(5, None),
-    Act::Remove(5, Some(0)),
-    Act::Evict(None),
+/// The slot that a call evicts, and the tail that it answers.
+type Answer = (Option<u8>, Option<u32>);
+
+const THE_ONLY_SLOT_IS_REMOVED: [(Act, Answer); 4] = [
+    (Act::Promote(5), (None, Some(6))),
+    (Act::Promote(5), (None, None)),
+    (Act::Remove(5), (None, Some(0))),
+    (Act::Evict, (None, None)),
 ];
 
-const THE_OLDEST_GOES_FIRST: [Act; 8] = [
-    Act::Promote(1, Some(2)),
-    Act::Promote(2, Some(3)),
-    Act::Promote(3, Some(4)),
-    Act::Remove(3, Some(3)),
-    Act::Promote(1, Some(2)),
-    Act::Evict(Some((2, 2))),
-    Act::Evict(Some((1, 0))),
-    Act::Evict(None),
+const THE_OLDEST_GOES_FIRST: [(Act, Answer); 8] = [
+    (Act::Promote(1), (None, Some(2))),
+    (Act::Promote(2), (None, Some(3))),
+    (Act::Promote(3), (None, Some(4))),
+    (Act::Remove(3), (None, Some(3))),
+    (Act::Promote(1), (None, Some(2))),
+    (Act::Evict, (Some(2), Some(2))),
+    (Act::Evict, (Some(1), Some(0))),
+    (Act::Evict, (None, None)),
 ];
 
 // Slot 3 has slot 0 on both sides.
-const SLOT_THREE_IS_EVICTED: [Act; 5] = [
-    Act::Promote(3, Some(4)),
-    Act::Promote(0, Some(1)),
-    Act::Evict(Some((3, 1))),
-    Act::Evict(Some((0, 0))),
-    Act::Evict(None),
+const SLOT_THREE_IS_EVICTED: [(Act, Answer); 5] = [
+    (Act::Promote(3), (None, Some(4))),
+    (Act::Promote(0), (None, Some(1))),
+    (Act::Evict, (Some(3), Some(1))),
+    (Act::Evict, (Some(0), Some(0))),
+    (Act::Evict, (None, None)),
 ];
 
-const SLOT_THREE_IS_REMOVED: [Act; 5] = [
-    Act::Promote(3, Some(4)),
-    Act::Promote(0, Some(1)),
-    Act::Remove(3, None),
-    Act::Evict(Some((0, 0))),
-    Act::Evict(None),
+const SLOT_THREE_IS_REMOVED: [(Act, Answer); 5] = [
+    (Act::Promote(3), (None, Some(4))),
+    (Act::Promote(0), (None, Some(1))),
+    (Act::Remove(3), (None, None)),
+    (Act::Evict, (Some(0), Some(0))),
+    (Act::Evict, (None, None)),
 ];
 
 // A slot that isn't listed, on an empty list and beside slot 0.
-const NOTHING_IS_REMOVED: [Act; 5] = [
-    Act::Remove(3, None),
-    Act::Promote(0, Some(1)),
-    Act::Remove(3, None),
-    Act::Evict(Some((0, 0))),
-    Act::Evict(None),
+const NOTHING_IS_REMOVED: [(Act, Answer); 5] = [
+    (Act::Remove(3), (None, None)),
+    (Act::Promote(0), (None, Some(1))),
+    (Act::Remove(3), (None, None)),
+    (Act::Evict, (Some(0), Some(0))),
+    (Act::Evict, (None, None)),
 ];
 
-const SCRIPTS: [&[Act]; 5] = [
+const SCRIPTS: [&[(Act, Answer)]; 5] = [
     &THE_ONLY_SLOT_IS_REMOVED,
     &THE_OLDEST_GOES_FIRST,
     &SLOT_THREE_IS_EVICTED,
@@ -130,11 +151,11 @@ fn a_list_that_is_empty_again_answers_as_a_new_one(rt: HostRuntime) {
     }
 }
 
-const NOTHING_IS_KEPT: [Act; 4] = [
-    Act::Promote(3, None),
-    Act::Promote(0, None),
-    Act::Remove(3, None),
-    Act::Evict(None),
+const NOTHING_IS_KEPT: [(Act, Answer); 4] = [
+    (Act::Promote(3), (None, None)),
+    (Act::Promote(0), (None, None)),
+    (Act::Remove(3), (None, None)),
+    (Act::Evict, (None, None)),
 ];
 
 #[test]
@@ -143,19 +164,9 @@ fn the_list_that_keeps_nothing_stays_empty(rt: HostRuntime) {
 }
 
 // Makes the calls one after another, and compares each answer.
-fn check_acts<L: LruList>(rt: &impl Abort, recent: &mut Recent<L>, acts: &[Act]) {
-    for act in acts {
-        match *act {
-            Act::Evict(answer) => assert_eq!(rt; recent.evict(), answer, "{act:?}"),
-            Act::Remove(entry, answer) => {
-                assert!(rt; entry < 32);
-                assert_eq!(rt; recent.remove(entry), answer, "{act:?}");
-            }
-            Act::Promote(entry, answer) => {
-                assert!(rt; entry < 32);
-                assert_eq!(rt; recent.promote(entry), answer, "{act:?}");
-            }
-        }
+fn check_acts<L: LruList>(rt: &impl Abort, recent: &mut Recent<L>, rows: &[(Act, Answer)]) {
+    for (act, wanted) in rows {
+        assert_eq!(rt; recent.answer(rt, *act), *wanted, "{act:?}");
     }
 }
 
@@ -167,24 +178,31 @@ fn agrees_with_a_plain_list_of_slots(rt: HostRuntime) -> Result<(), Fail> {
     let mut random = 1u32;
     for step in 0..10_000 {
         random = random.wrapping_mul(1_664_525).wrapping_add(1_013_904_223);
-        let slots = if step < 5_000 { 4 } else { 32 };
-        let entry = ((random >> 16) % slots) as u8;
-        match random >> 29 {
-            0 | 1 => {
-                let answer = plain_eviction(&mut plain);
-                assert_eq!(rt; recent.evict(), answer, "at step {step}");
-            }
-            2 => {
-                let answer = plain_removal(&mut plain, entry);
-                assert_eq!(rt; recent.remove(entry), answer, "at step {step}");
-            }
-            _ => {
-                let answer = plain_touch(&mut plain, entry)?;
-                assert_eq!(rt; recent.promote(entry), answer, "at step {step}");
-            }
-        }
+        let act = act_at(step, random);
+        let wanted = plain_answer(&mut plain, act)?;
+        check_acts(&rt, &mut recent, &[(act, wanted)]);
     }
     Ok(())
+}
+
+// The call of a step, by a random number.
+fn act_at(step: u32, random: u32) -> Act {
+    let slots = if step < 5_000 { 4 } else { 32 };
+    let entry = ((random >> 16) % slots) as u8;
+    match random >> 29 {
+        0 | 1 => Act::Evict,
+        2 => Act::Remove(entry),
+        _ => Act::Promote(entry),
+    }
+}
+
+// What a plain list answers, with the newest slot first.
+fn plain_answer(plain: &mut Vec<u8>, act: Act) -> Result<Answer, Fail> {
+    Ok(match act {
+        Act::Evict => plain_eviction(plain),
+        Act::Remove(entry) => (None, plain_removal(plain, entry)),
+        Act::Promote(entry) => (None, plain_touch(plain, entry)?),
+    })
 }
 
 // The newest slot + 1, of a plain list with the newest slot first.
@@ -192,9 +210,11 @@ fn plain_tail(plain: &[u8]) -> u32 {
     plain.first().map_or(0, |newest| u32::from(*newest) + 1)
 }
 
-fn plain_eviction(plain: &mut Vec<u8>) -> Option<(u8, u32)> {
-    let oldest = plain.pop();
-    oldest.map(|slot| (slot, plain_tail(plain)))
+fn plain_eviction(plain: &mut Vec<u8>) -> Answer {
+    match plain.pop() {
+        Some(slot) => (Some(slot), Some(plain_tail(plain))),
+        None => (None, None),
+    }
 }
 
 fn plain_removal(plain: &mut Vec<u8>, entry: u8) -> Option<u32> {

@@ -1,54 +1,57 @@
 //! Room that is made in a bucket's chain before pairs come, and given up by a kill.
-use crate::by_key::kill_empty;
-use crate::pairs::{Pairs, check_place, filled};
+use crate::by_key::{Spot, kill_empty};
+use crate::pairs::{Pairs, check_insertions, check_len, check_places, filled, insert_pair};
+use std::process::Abort;
 use std::test::Fail;
 
-// Where ten pairs go that come to 30, once ten slots are free.
-const RESERVED: [(usize, usize); 10] = [
-    (0, 30),
-    (0, 31),
-    (1, 0),
-    (1, 1),
-    (1, 2),
-    (1, 3),
-    (2, 0),
-    (2, 1),
-    (2, 2),
-    (2, 3),
+// Where ten pairs go that come to 30, once ten slots are free. No slot is free then, so that the
+// next pair makes a new head.
+const RESERVED: [(u64, Spot); 11] = [
+    (30, (0, 30)),
+    (31, (0, 31)),
+    (32, (1, 0)),
+    (33, (1, 1)),
+    (34, (1, 2)),
+    (35, (1, 3)),
+    (36, (2, 0)),
+    (37, (2, 1)),
+    (38, (2, 2)),
+    (39, (2, 3)),
+    (40, (1, 0)),
 ];
 
 #[test]
 fn reserved_slots_take_the_pairs_that_come(rt: HostRuntime) -> Result<(), Fail> {
     let mut bucket = filled(rt.alloc(), 30)?;
-    bucket.reserve_slots(10)?;
-    bucket.reserve_slots(10)?;
-    assert_eq!(rt; bucket.len(), 30);
-    let mut key = 30u64;
-    for place in RESERVED {
-        let at = bucket.insert(0, (key, key.wrapping_mul(10)), &())?;
-        assert_eq!(rt; (at.block(), at.pos()), place, "key {key}");
-        key = key.wrapping_add(1);
-    }
-    // No slot is free now, so that the next pair makes a new head.
-    let at = bucket.insert(0, (40, 400), &())?;
-    assert_eq!(rt; (at.block(), at.pos()), (1, 0));
-    check_place(&rt, &bucket, 32, (2, 0));
-    check_place(&rt, &bucket, 39, (3, 3));
+    reserve(&mut bucket, 10)?;
+    reserve(&mut bucket, 10)?;
+    check_len(&rt, &bucket, 30);
+    check_insertions(&rt, &mut bucket, &RESERVED)?;
+    check_places(&rt, &bucket, &[(32, (2, 0)), (39, (3, 3))]);
     Ok(())
 }
 
 #[test]
 fn a_killed_bucket_gives_its_chain_up(rt: HostRuntime) -> Result<(), Fail> {
     let mut bucket = Pairs::new(rt.alloc());
-    bucket.reserve_slots(40)?;
-    assert!(rt; kill_empty(&mut bucket));
-    assert!(rt; bucket.is_killed());
-    assert!(rt; !kill_empty(&mut bucket), "it is killed already");
+    reserve(&mut bucket, 40)?;
+    check_killed_once(&rt, &mut bucket);
     for key in 0..37 {
-        bucket.insert(0, (key, 0), &())?;
+        insert_pair(&mut bucket, 0, (key, 0))?;
     }
     // With the two blocks that were reserved, key 36 would stand in the second.
-    check_place(&rt, &bucket, 36, (1, 0));
-    check_place(&rt, &bucket, 32, (2, 0));
+    check_places(&rt, &bucket, &[(36, (1, 0)), (32, (2, 0))]);
     Ok(())
+}
+
+fn reserve(bucket: &mut Pairs, additional: usize) -> Result<(), Fail> {
+    bucket.reserve_slots(additional)?;
+    Ok(())
+}
+
+// Kills a bucket, and then can't.
+fn check_killed_once(rt: &impl Abort, bucket: &mut Pairs) {
+    assert!(rt; kill_empty(bucket));
+    assert!(rt; bucket.is_killed());
+    assert!(rt; !kill_empty(bucket), "it is killed already");
 }

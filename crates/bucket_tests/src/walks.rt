@@ -1,8 +1,8 @@
 //! Walks over one bucket: the order of the slots, and how a walk goes on behind what it takes out.
 ghost use Rattle.std.specs.Prelude.{◌≤◌};
 
-use crate::by_key::{next_key, remove_at, take_next};
-use crate::pairs::{At, Pairs, check_place, filled};
+use crate::by_key::{Spot, next_key, remove_at, take_next};
+use crate::pairs::{At, Pairs, check_len, check_places, check_search, filled};
 use std::alloc::Global;
 use std::process::Abort;
 use std::test::Fail;
@@ -11,13 +11,16 @@ use std::test::Fail;
 fn a_walk_over_one_pair_ends_and_starts_anew(rt: HostRuntime) -> Result<(), Fail> {
     let bucket = filled(rt.alloc(), 1)?;
     let mut at = At::null();
-    assert!(rt; at.find_next(&bucket));
-    assert_eq!(rt; (at.block(), at.pos()), (0, 0));
-    assert!(rt; !at.find_next(&bucket));
-    assert!(rt; !at.is_valid());
-    assert!(rt; at.find_next(&bucket));
-    assert_eq!(rt; (at.block(), at.pos()), (0, 0));
+    check_step(&rt, &bucket, &mut at, Some(0), (0, 0));
+    check_step(&rt, &bucket, &mut at, None, (0, 32));
+    check_step(&rt, &bucket, &mut at, Some(0), (0, 0));
     Ok(())
+}
+
+// A step to this key, or to the end, and where the pointer stands then.
+fn check_step(rt: &impl Abort, bucket: &Pairs, at: &mut At, key: Option<u64>, place: Spot) {
+    let step = (next_key(bucket, at), at.is_valid(), (at.block(), at.pos()));
+    assert_eq!(rt; step, (key, key.is_some(), place));
 }
 
 // The keys of the chain of keys 0 to 40, in slot order.
@@ -29,57 +32,71 @@ fn a_walk_goes_through_the_own_slots_and_then_from_the_head(rt: HostRuntime) -> 
     let mut at = At::null();
     check_next_keys(&rt, &bucket, &mut at, &slot_order(rt.alloc(), 0)?);
     check_next_keys(&rt, &bucket, &mut at, &CHAIN_OF_41);
-    assert_eq!(rt; next_key(&bucket, &mut at), None);
+    check_step(&rt, &bucket, &mut at, None, (0, 32));
     Ok(())
 }
 
 // Removals from keys 0 to 40: each key, where it leaves its pointer, and where the next pair stands.
-const NEXT_AFTER: [(u64, (usize, usize), (usize, usize), u64); 5] = [
-    (36, (2, 0), (2, 1), 37),
-    (37, (2, 1), (2, 2), 38),
-    (38, (2, 2), (2, 3), 39),
-    (39, (2, 32), (2, 0), 32),
-    (40, (1, 32), (1, 0), 32),
+const NEXT_AFTER: [(u64, Spot, Option<u64>, Spot); 5] = [
+    (36, (2, 0), Some(37), (2, 1)),
+    (37, (2, 1), Some(38), (2, 2)),
+    (38, (2, 2), Some(39), (2, 3)),
+    (39, (2, 32), Some(32), (2, 0)),
+    (40, (1, 32), Some(32), (1, 0)),
 ];
 
 #[test]
 fn a_walk_goes_on_behind_a_removed_pair(rt: HostRuntime) -> Result<(), Fail> {
     let mut bucket = filled(rt.alloc(), 41)?;
-    for (key, left, next, next_pair) in NEXT_AFTER {
-        let (pair, mut at) = remove_at(&mut bucket, key, 0).ok_or("no such key")?;
-        assert_eq!(rt; pair, (key, key.wrapping_mul(10)));
-        assert_eq!(rt; (at.block(), at.pos()), left, "key {key}");
-        let found = next_key(&bucket, &mut at);
-        assert_eq!(rt; found, Some(next_pair), "after key {key}");
-        assert_eq!(rt; (at.block(), at.pos()), next, "after key {key}");
-    }
-    assert_eq!(rt; bucket.len(), 36);
+    check_next_after(&rt, &mut bucket, &NEXT_AFTER);
+    check_len(&rt, &bucket, 36);
     Ok(())
 }
+
+// Where keys of the chain of keys 0 to 36 stand.
+const CHAIN_OF_37: [(u64, Spot); 5] = [
+    (36, (1, 0)),
+    (32, (2, 0)),
+    (33, (2, 1)),
+    (34, (2, 2)),
+    (35, (2, 3)),
+];
 
 #[test]
 fn the_only_pair_of_the_head_takes_its_block_along(rt: HostRuntime) -> Result<(), Fail> {
     let mut bucket = filled(rt.alloc(), 37)?;
-    check_place(&rt, &bucket, 36, (1, 0));
-    for (key, place) in [(32, (2, 0)), (33, (2, 1)), (34, (2, 2)), (35, (2, 3))] {
-        check_place(&rt, &bucket, key, place);
-    }
-    let (_, mut at) = remove_at(&mut bucket, 36, 0).ok_or("no such key")?;
-    assert_eq!(rt; (at.block(), at.pos()), (1, 32));
-    assert_eq!(rt; next_key(&bucket, &mut at), Some(32));
-    assert_eq!(rt; (at.block(), at.pos()), (1, 0));
+    check_places(&rt, &bucket, &CHAIN_OF_37);
+    check_next_after(&rt, &mut bucket, &[(36, (1, 32), Some(32), (1, 0))]);
     Ok(())
 }
 
 #[test]
 fn a_walk_ends_behind_the_last_block_that_goes(rt: HostRuntime) -> Result<(), Fail> {
     let mut bucket = filled(rt.alloc(), 33)?;
-    check_place(&rt, &bucket, 32, (1, 0));
-    let (_, mut at) = remove_at(&mut bucket, 32, 0).ok_or("no such key")?;
-    assert_eq!(rt; (at.block(), at.pos()), (0, 31));
-    assert_eq!(rt; next_key(&bucket, &mut at), None);
-    assert_eq!(rt; (at.block(), at.pos()), (0, 32));
+    check_places(&rt, &bucket, &[(32, (1, 0))]);
+    check_next_after(&rt, &mut bucket, &[(32, (0, 31), None, (0, 32))]);
     Ok(())
+}
+
+// Takes out each key with ten times itself as its value, and steps on from there.
+fn check_next_after(rt: &impl Abort, bucket: &mut Pairs, rows: &[(u64, Spot, Option<u64>, Spot)]) {
+    for (key, left, next, place) in rows {
+        let wanted = Some(((*key, key.wrapping_mul(10)), *left, *next, *place));
+        assert_eq!(rt; take_and_step(bucket, *key), wanted);
+    }
+}
+
+// Takes out the pair of a key and steps to the next: the pair, where the pointer stands then, the
+// next key and where it stands.
+fn take_and_step(bucket: &mut Pairs, key: u64) -> Option<((u64, u64), Spot, Option<u64>, Spot)> {
+    match remove_at(bucket, key, 0) {
+        Some((pair, mut at)) => {
+            let left = (at.block(), at.pos());
+            let next = next_key(bucket, &mut at);
+            Some((pair, left, next, (at.block(), at.pos())))
+        }
+        None => None,
+    }
 }
 
 /// Which pairs a walk takes out of a bucket with a chain of full blocks: of one block those at the
@@ -159,18 +176,33 @@ fn check_plan(rt: &impl Abort, alloc: Global, plan: Plan) -> Result<(), Fail>
     let (going, staying) = parted(alloc, &order, plan)?;
     let mut bucket = filled(alloc, 32 + 4 * plan.blocks)?;
     let mut at = At::null();
-    for key in &order {
-        let visited = take_next(&mut bucket, &mut at, &going);
-        assert_eq!(rt; visited, Some(*key), "{plan:?}");
-    }
-    assert_eq!(rt; next_key(&bucket, &mut at), None, "{plan:?}");
-    assert_eq!(rt; (at.block(), at.pos()), (0, 32), "{plan:?}");
+    check_taking(rt, &mut bucket, &mut at, (&order, &going), plan);
+    check_step(rt, &bucket, &mut at, None, (0, 32));
 
-    assert_eq!(rt; bucket.len(), staying.len(), "{plan:?}");
+    check_len(rt, &bucket, staying.len());
     check_next_keys(rt, &bucket, &mut at, &staying);
-    assert_eq!(rt; next_key(&bucket, &mut at), None, "{plan:?}");
+    check_step(rt, &bucket, &mut at, None, (0, 32));
     check_found(rt, &bucket, &order, plan);
     Ok(())
+}
+
+// Visits the keys in their order, and takes out those that go.
+fn check_taking(
+    rt: &impl Abort,
+    bucket: &mut Pairs,
+    at: &mut At,
+    (order, going): (&[u64], &[u64]),
+    plan: Plan,
+) {
+    for key in order {
+        let visited = take_next(bucket, at, going);
+        check_visit(rt, visited, *key, plan);
+    }
+}
+
+// This key was visited.
+fn check_visit(rt: &impl Abort, visited: Option<u64>, key: u64, plan: Plan) {
+    assert_eq!(rt; visited, Some(key), "{plan:?}");
 }
 
 // The keys that the plan takes, and the others, each in slot order.
@@ -190,13 +222,9 @@ fn parted(alloc: Global, order: &[u64], plan: Plan) -> Result<(Vec<u64>, Vec<u64
 // A search finds the keys that stay, each with its value, and no key that went.
 fn check_found(rt: &impl Abort, bucket: &Pairs, order: &[u64], plan: Plan) {
     for key in order {
-        let value = key.wrapping_mul(10);
-        let wanted = if plan.takes(*key) {
-            None
-        } else {
-            Some((key, &value))
-        };
-        assert_eq!(rt; bucket.search_entry(key, 0), wanted, "key {key}, {plan:?}");
+        let pair = (*key, key.wrapping_mul(10));
+        let wanted = if plan.takes(*key) { None } else { Some(pair) };
+        check_search(rt, bucket, (*key, 0), wanted);
     }
 }
 
