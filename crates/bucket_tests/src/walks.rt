@@ -129,18 +129,11 @@ impl Plan {
 
 #[test]
 fn a_walk_that_removes_visits_each_pair_once(rt: HostRuntime) -> Result<(), Fail> {
-    for blocks in 0..6 {
-        check_each_block(&rt, rt.alloc(), blocks)?;
-    }
-    Ok(())
-}
-
-// Removes from each block of the bucket in turn, the own slots among them.
-fn check_each_block(rt: &impl Abort, alloc: Global, blocks: u64) -> Result<(), Fail>
-    requires { blocks ≤ 5 }
-{
-    for block in 0..blocks + 1 {
-        check_each_pattern(rt, alloc, blocks, block)?;
+    for blocks in 0..6u64 {
+        // From each block in turn, the own slots among them.
+        for block in 0..blocks + 1 {
+            check_each_pattern(&rt, rt.alloc(), blocks, block)?;
+        }
     }
     Ok(())
 }
