@@ -1,5 +1,6 @@
 //! Long scripts on a table of the index kind, beside a map of the standard library. Which epoch it
 //! is, and which marks are kept, changes all the time, and no reply tells of it.
+use crate::by_key::check_same;
 use crate::epochs::{Answers, kept_by_rest};
 use crate::scripts::{Table, index_table};
 use bucket_table::script::{Call, Reply, ScriptHash, run};
@@ -18,6 +19,9 @@ const KEYS: u64 = 60;
 
 // How many own slots the bucket has.
 const OWN_SLOTS: usize = 32;
+
+// Calls, and the reply to each.
+type Script = (Vec<Call<u64, u64>>, Vec<Reply<u64, u64>>);
 
 /// What becomes of a map, and a sequence of numbers that chooses its calls.
 #[derive(Drop)]
@@ -110,6 +114,14 @@ fn check_script(
     script: u64,
 ) -> Result<(), Fail> {
     let answers = course.next_answers();
+    let (calls, wanted) = next_script(alloc, course)?;
+    let replies = run(alloc, table, calls, &answers)?;
+    check_same(rt, replies.as_slice(), wanted.as_slice(), script);
+    Ok(())
+}
+
+// The calls of a script, and their replies on the map.
+fn next_script(alloc: Global, course: &mut Course) -> Result<Script, Fail> {
     let mut calls = Vec::new(alloc);
     let mut wanted = Vec::new(alloc);
     for _ in 0..CALLS {
@@ -117,15 +129,12 @@ fn check_script(
         calls.push(call)?;
         wanted.push(course.reply(call)?)?;
     }
-    let replies = run(alloc, table, calls, &answers)?;
-    assert_eq!(rt; replies.as_slice(), wanted.as_slice(), "script {script}");
-    Ok(())
+    Ok((calls, wanted))
 }
 
 // The table has the pairs of the map.
 fn check_pairs(rt: &impl Abort, table: &Table, map: &BTreeMap<u64, u64>) {
     for key in 0..KEYS {
-        let there = map.get_key_value(&key);
-        assert_eq!(rt; table.peek_entry(&key), there, "key {key}");
+        check_same(rt, table.peek_entry(&key), map.get_key_value(&key), key);
     }
 }

@@ -1,7 +1,9 @@
-//! Index buckets: how they are filled and looked at, and calls that begin with a search for a key.
+//! Index buckets: how they are filled and looked at, calls that begin with a search for a key, and
+//! checks of one fact each.
 use bucket_slots::bucket::{AllocError, Bucket, EntryPtr, Generation, INDEX};
 use bucket_table::script::FixedGeneration;
 use std::alloc::Global;
+use std::fmt::Debug;
 use std::process::Abort;
 use std::test::Fail;
 
@@ -13,6 +15,9 @@ pub(crate) type At = EntryPtr<u64, u64, INDEX>;
 
 /// A block's number and a position.
 pub(crate) type Spot = (usize, usize);
+
+/// What a search for a key finds, what a peek finds, and where a pointer to the key points.
+pub(crate) type Known = (Option<(u64, u64)>, Option<(u64, u64)>, Option<Spot>);
 
 /// Epoch 0, and every mark is kept.
 pub(crate) const KEEP: FixedGeneration = FixedGeneration {
@@ -58,7 +63,7 @@ pub(crate) fn mark_keys<V: Drop, G: Generation>(
     generation: &G,
 ) {
     for key in keys {
-        assert!(rt; mark_key(bucket, *key, 0, generation), "key {key}");
+        check_same(rt, mark_key(bucket, *key, 0, generation), true, *key);
     }
 }
 
@@ -79,6 +84,62 @@ pub(crate) fn move_key(
     Ok(Some((to.block(), to.pos())))
 }
 
+/// Inserts a pair, and returns where it stands.
+pub(crate) fn insert<G: Generation>(
+    bucket: &mut Pairs,
+    hash: u64,
+    pair: (u64, u64),
+    generation: &G,
+) -> Result<Spot, Fail> {
+    let at = bucket.insert(hash, pair, generation)?;
+    Ok((at.block(), at.pos()))
+}
+
+/// What is known of a key.
+pub(crate) fn known(bucket: &Pairs, key: u64, hash: u64) -> Known {
+    (
+        searched(bucket, key, hash),
+        peeked(bucket, key, hash),
+        place_of(bucket, key, hash),
+    )
+}
+
+/// The pair that a search finds.
+pub(crate) fn searched(bucket: &Pairs, key: u64, hash: u64) -> Option<(u64, u64)> {
+    let (found, value) = bucket.search_entry(&key, hash)?;
+    Some((*found, *value))
+}
+
+// The pair that a peek finds.
+fn peeked(bucket: &Pairs, key: u64, hash: u64) -> Option<(u64, u64)> {
+    let (found, value) = bucket.peek_entry(&key, hash)?;
+    Some((*found, *value))
+}
+
+// Where the pointer to a key points, if it is valid.
+fn place_of(bucket: &Pairs, key: u64, hash: u64) -> Option<Spot> {
+    let at = bucket.get_entry_ptr(&key, hash);
+    if !at.is_valid() {
+        return None;
+    }
+    Some((at.block(), at.pos()))
+}
+
+/// The key in an own slot, live or marked.
+pub(crate) fn key_in(bucket: &Pairs, pos: usize) -> Option<u64> {
+    bucket.data_block().key(pos).copied()
+}
+
+/// Two values are equal.
+pub(crate) fn check_same<T: PartialEq + Debug + Drop>(
+    rt: &impl Abort,
+    found: T,
+    wanted: T,
+    row: u64,
+) {
+    assert_eq!(rt; found, wanted, "row {row}");
+}
+
 /// Inserts keys one after another under hash 0, each with value 0, and compares each place.
 pub(crate) fn check_insertions<G: Generation>(
     rt: &impl Abort,
@@ -87,23 +148,61 @@ pub(crate) fn check_insertions<G: Generation>(
     rows: &[(u64, Spot)],
 ) -> Result<(), Fail> {
     for (key, place) in rows {
-        let at = bucket.insert(0, (*key, 0), generation)?;
-        assert_eq!(rt; (at.block(), at.pos()), *place, "key {key}");
+        let stands = insert(bucket, 0, (*key, 0), generation)?;
+        check_same(rt, stands, *place, *key);
     }
     Ok(())
 }
 
-/// The key stands at this place.
-pub(crate) fn check_place(rt: &impl Abort, bucket: &Pairs, key: u64, place: Spot) {
-    let at = bucket.get_entry_ptr(&key, 0);
-    assert!(rt; at.is_valid(), "key {key}");
-    assert_eq!(rt; (at.block(), at.pos()), place, "key {key}");
+/// Moves keys one after another, and compares each place.
+pub(crate) fn check_moves(
+    rt: &impl Abort,
+    target: &mut Pairs,
+    source: &mut Pairs,
+    rows: &[(u64, Spot)],
+) -> Result<(), Fail> {
+    for (key, place) in rows {
+        let stands = move_key(target, source, *key)?;
+        check_same(rt, stands, Some(*place), *key);
+    }
+    Ok(())
+}
+
+/// Each key stands at its place.
+pub(crate) fn check_places(rt: &impl Abort, bucket: &Pairs, rows: &[(u64, Spot)]) {
+    for (key, place) in rows {
+        check_same(rt, place_of(bucket, *key, 0), Some(*place), *key);
+    }
+}
+
+/// Each own slot has its key, live or marked, or is free.
+pub(crate) fn check_slots(rt: &impl Abort, bucket: &Pairs, rows: &[(usize, Option<u64>)]) {
+    for (pos, key) in rows {
+        check_same(rt, key_in(bucket, *pos), *key, *pos as u64);
+    }
 }
 
 /// No search finds the key.
 pub(crate) fn check_absent(rt: &impl Abort, bucket: &Pairs, key: u64, hash: u64) {
-    assert_eq!(rt; bucket.search_entry(&key, hash), None, "a search of {key}");
-    assert_eq!(rt; bucket.peek_entry(&key, hash), None, "a peek of {key}");
-    let at = bucket.get_entry_ptr(&key, hash);
-    assert!(rt; !at.is_valid(), "the pointer to {key}");
+    check_same(rt, known(bucket, key, hash), (None, None, None), key);
+}
+
+/// The bucket has this many live pairs.
+pub(crate) fn check_len<V: Drop>(rt: &impl Abort, bucket: &Bucket<u64, V, (), INDEX>, len: usize) {
+    assert_eq!(rt; bucket.len(), len);
+}
+
+/// Clears the bucket, and returns its occupied own slots.
+pub(crate) fn clear<G: Generation>(bucket: &mut Pairs, generation: &G) -> u32 {
+    bucket.clear_unreachable_entries(generation)
+}
+
+/// A clearing answers with these occupied own slots.
+pub(crate) fn check_clearing<G: Generation>(
+    rt: &impl Abort,
+    bucket: &mut Pairs,
+    generation: &G,
+    occupancy: u32,
+) {
+    assert_eq!(rt; clear(bucket, generation), occupancy);
 }

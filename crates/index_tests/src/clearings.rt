@@ -1,6 +1,7 @@
 //! Clearings of one index bucket: what a test keeps and lets go, and which blocks go after it.
 use crate::by_key::{
-    KEEP, LET_GO, Pairs, Spot, check_absent, check_insertions, check_place, filled, mark_keys,
+    KEEP, LET_GO, Pairs, Spot, check_absent, check_clearing, check_insertions, check_len,
+    check_places, check_same, check_slots, clear, filled, mark_keys, searched,
 };
 use std::alloc::Global;
 use std::process::Abort;
@@ -15,24 +16,25 @@ const ALL_BUT_TWO: u32 = 4294967292;
 // Keys 0 to 32, of which 0 and 1 in own slots and 32 in the chain are marked.
 fn three_marked(rt: &impl Abort, alloc: Global) -> Result<Pairs, Fail> {
     let mut bucket = filled(alloc, 33, 0)?;
-    check_place(rt, &bucket, 32, (1, 0));
+    check_places(rt, &bucket, &[(32, (1, 0))]);
     mark_keys(rt, &mut bucket, &[0, 1, 32], &KEEP);
-    assert_eq!(rt; bucket.len(), 30);
+    check_len(rt, &bucket, 30);
     Ok(bucket)
 }
+
+// Marked pairs still stand in their slots.
+const WHILE_MARKS_ARE_KEPT: [(usize, Option<u64>); 3] = [(0, Some(0)), (1, Some(1)), (2, Some(2))];
 
 #[test]
 fn a_clearing_that_keeps_every_mark_changes_nothing(rt: HostRuntime) -> Result<(), Fail> {
     let mut bucket = three_marked(&rt, rt.alloc())?;
     for _ in 0..2 {
-        assert_eq!(rt; bucket.clear_unreachable_entries(&KEEP), ALL_OWN);
-        assert_eq!(rt; bucket.clear_unreachable_entries(&()), ALL_OWN);
-        assert_eq!(rt; bucket.len(), 30);
+        check_clearing(&rt, &mut bucket, &KEEP, ALL_OWN);
+        check_clearing(&rt, &mut bucket, &(), ALL_OWN);
+        check_len(&rt, &bucket, 30);
     }
-    // Marked pairs still stand in their slots, and the chain's first slot is taken.
-    for pos in [0, 1, 2] {
-        assert_eq!(rt; bucket.data_block().key(pos), Some(&(pos as u64)));
-    }
+    check_slots(&rt, &bucket, &WHILE_MARKS_ARE_KEPT);
+    // The chain's first slot is taken.
     check_insertions(&rt, &mut bucket, &KEEP, &[(40, (1, 1))])
 }
 
@@ -42,36 +44,40 @@ const AFTER_THREE_WENT: [(u64, Spot); 3] = [(50, (0, 0)), (51, (0, 1)), (52, (1,
 #[test]
 fn a_clearing_that_keeps_no_mark_frees_the_marked_slots(rt: HostRuntime) -> Result<(), Fail> {
     let mut bucket = three_marked(&rt, rt.alloc())?;
-    assert_eq!(rt; bucket.clear_unreachable_entries(&LET_GO), ALL_BUT_TWO);
-    assert_eq!(rt; bucket.len(), 30);
-    for pos in [0, 1] {
-        assert_eq!(rt; bucket.data_block().key(pos), None, "slot {pos}");
-    }
+    check_clearing(&rt, &mut bucket, &LET_GO, ALL_BUT_TWO);
+    check_len(&rt, &bucket, 30);
+    check_three_went(&rt, &bucket);
+    check_insertions(&rt, &mut bucket, &KEEP, &AFTER_THREE_WENT)
+}
+
+// The marked pairs are nowhere, and each other pair stands in its own slot.
+fn check_three_went(rt: &impl Abort, bucket: &Pairs) {
+    check_slots(rt, bucket, &[(0, None), (1, None)]);
     for key in [0, 1, 32] {
-        check_absent(&rt, &bucket, key, 0);
+        check_absent(rt, bucket, key, 0);
     }
     for key in 2..32 {
-        check_place(&rt, &bucket, key, (0, key as usize));
+        check_places(rt, bucket, &[(key, (0, key as usize))]);
     }
-    check_insertions(&rt, &mut bucket, &KEEP, &AFTER_THREE_WENT)
 }
 
 #[test]
 fn a_clearing_of_a_bucket_without_marks_changes_nothing(rt: HostRuntime) -> Result<(), Fail> {
     for (keys, occupancy) in [(0, 0), (1, 1), (5, 31), (32, ALL_OWN), (37, ALL_OWN)] {
         let mut bucket = filled(rt.alloc(), keys, 0)?;
-        assert_eq!(rt;
-            bucket.clear_unreachable_entries(&LET_GO),
-            occupancy,
-            "of {keys} keys"
-        );
-        assert_eq!(rt; bucket.len() as u64, keys);
-        for key in 0..keys {
-            let value = key.wrapping_mul(10);
-            assert_eq!(rt; bucket.search_entry(&key, 0), Some((&key, &value)));
-        }
+        let left = clear(&mut bucket, &LET_GO);
+        check_same(&rt, (left, bucket.len()), (occupancy, keys as usize), keys);
+        check_filled(&rt, &bucket, keys);
     }
     Ok(())
+}
+
+// A search finds each key from 0 on with its value.
+fn check_filled(rt: &impl Abort, bucket: &Pairs, keys: u64) {
+    for key in 0..keys {
+        let pair = (key, key.wrapping_mul(10));
+        check_same(rt, searched(bucket, key, 0), Some(pair), key);
+    }
 }
 
 // Of keys 0 to 36 the chain is [36], [32 to 35]. These keys are marked and let go, and then these
@@ -128,19 +134,25 @@ fn free_blocks_go_from_the_end_of_the_chain_alone(rt: HostRuntime) -> Result<(),
     for (marked, coming) in MARKED_IN_THE_CHAIN {
         let mut bucket = filled(rt.alloc(), 37, 0)?;
         mark_keys(&rt, &mut bucket, marked, &KEEP);
-        assert_eq!(rt; bucket.clear_unreachable_entries(&LET_GO), ALL_OWN);
+        check_clearing(&rt, &mut bucket, &LET_GO, ALL_OWN);
         check_insertions(&rt, &mut bucket, &KEEP, &coming)?;
     }
     Ok(())
 }
 
+// Where the other keys of the chain stand then.
+const BEHIND_A_FREE_HEAD: [(u64, Spot); 4] = [
+    (32, (2, 0)),
+    (33, (2, 1)),
+    (34, (2, 2)),
+    (35, (2, 3)),
+];
+
 #[test]
 fn a_head_that_is_free_stays_before_a_live_pair(rt: HostRuntime) -> Result<(), Fail> {
     let mut bucket = filled(rt.alloc(), 37, 0)?;
     mark_keys(&rt, &mut bucket, &[36], &KEEP);
-    assert_eq!(rt; bucket.clear_unreachable_entries(&LET_GO), ALL_OWN);
-    for (key, pos) in [(32, 0), (33, 1), (34, 2), (35, 3)] {
-        check_place(&rt, &bucket, key, (2, pos));
-    }
+    check_clearing(&rt, &mut bucket, &LET_GO, ALL_OWN);
+    check_places(&rt, &bucket, &BEHIND_A_FREE_HEAD);
     Ok(())
 }

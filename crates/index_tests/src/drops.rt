@@ -1,8 +1,9 @@
 //! What becomes of the values of marked pairs: each is dropped once, when its pair is let go or with
 //! its bucket.
-use crate::by_key::{KEEP, LET_GO, mark_key, mark_keys};
+use crate::by_key::{KEEP, LET_GO, check_len, check_same, mark_key, mark_keys};
 use bucket_slots::bucket::{Bucket, INDEX, MAP};
 use bucket_slots::lru::LruList;
+use bucket_table::script::FixedGeneration;
 use std::alloc::Global;
 use std::process::Abort;
 use std::rc::Rc;
@@ -15,27 +16,41 @@ type Shared = Bucket<u64, Rc<i32>, (), INDEX>;
 fn sharing(alloc: Global, counted: &Rc<i32>, keys: u64) -> Result<Shared, Fail> {
     let mut bucket = Shared::new(alloc);
     for key in 0..keys {
-        bucket.insert(0, (key, counted.clone()?), &KEEP)?;
+        share(&mut bucket, counted, key, &KEEP)?;
     }
     Ok(bucket)
+}
+
+// Inserts a key whose value is one share more.
+fn share(
+    bucket: &mut Shared,
+    counted: &Rc<i32>,
+    key: u64,
+    generation: &FixedGeneration,
+) -> Result<(), Fail> {
+    bucket.insert(0, (key, counted.clone()?), generation)?;
+    Ok(())
+}
+
+// There are this many shares.
+fn check_shares(rt: &impl Abort, counted: &Rc<i32>, shares: usize) {
+    assert_eq!(rt; Rc::strong_count(counted), shares);
 }
 
 #[test]
 fn a_clearing_drops_what_it_lets_go(rt: HostRuntime) -> Result<(), Fail> {
     let counted = Rc::new(rt.alloc(), 0)?;
     let mut bucket = sharing(rt.alloc(), &counted, 37)?;
-    assert_eq!(rt; Rc::strong_count(&counted), 38);
+    check_shares(&rt, &counted, 38);
     mark_keys(&rt, &mut bucket, &[0, 31, 32, 36], &KEEP);
-    assert_eq!(rt; Rc::strong_count(&counted), 38);
-    bucket.clear_unreachable_entries(&KEEP);
-    assert_eq!(rt; Rc::strong_count(&counted), 38);
-    // Two in own slots and two in the chain.
-    bucket.clear_unreachable_entries(&LET_GO);
-    assert_eq!(rt; Rc::strong_count(&counted), 34);
-    bucket.clear_unreachable_entries(&LET_GO);
-    assert_eq!(rt; Rc::strong_count(&counted), 34);
+    check_shares(&rt, &counted, 38);
+    // Two in own slots go and two in the chain.
+    for (generation, shares) in [(KEEP, 38), (LET_GO, 34), (LET_GO, 34)] {
+        bucket.clear_unreachable_entries(&generation);
+        check_shares(&rt, &counted, shares);
+    }
     drop(bucket);
-    assert_eq!(rt; Rc::strong_count(&counted), 1);
+    check_shares(&rt, &counted, 1);
     Ok(())
 }
 
@@ -45,14 +60,14 @@ fn an_insertion_that_clears_drops_what_it_lets_go(rt: HostRuntime) -> Result<(),
     let mut bucket = sharing(rt.alloc(), &counted, 37)?;
     mark_keys(&rt, &mut bucket, &[3, 4, 33, 36], &KEEP);
     // One pair comes and none goes.
-    bucket.insert(0, (40, counted.clone()?), &KEEP)?;
-    assert_eq!(rt; Rc::strong_count(&counted), 39);
+    share(&mut bucket, &counted, 40, &KEEP)?;
+    check_shares(&rt, &counted, 39);
     // One comes and the four go, those in the chain among them.
-    bucket.insert(0, (41, counted.clone()?), &LET_GO)?;
-    assert_eq!(rt; Rc::strong_count(&counted), 36);
-    assert_eq!(rt; bucket.len(), 35);
+    share(&mut bucket, &counted, 41, &LET_GO)?;
+    check_shares(&rt, &counted, 36);
+    check_len(&rt, &bucket, 35);
     drop(bucket);
-    assert_eq!(rt; Rc::strong_count(&counted), 1);
+    check_shares(&rt, &counted, 1);
     Ok(())
 }
 
@@ -61,10 +76,10 @@ fn marked_pairs_go_with_their_bucket(rt: HostRuntime) -> Result<(), Fail> {
     let counted = Rc::new(rt.alloc(), 0)?;
     let mut bucket = sharing(rt.alloc(), &counted, 41)?;
     mark_keys(&rt, &mut bucket, &[0, 7, 32, 39, 40], &KEEP);
-    assert_eq!(rt; Rc::strong_count(&counted), 42);
-    assert_eq!(rt; bucket.len(), 36);
+    check_shares(&rt, &counted, 42);
+    check_len(&rt, &bucket, 36);
     drop(bucket);
-    assert_eq!(rt; Rc::strong_count(&counted), 1);
+    check_shares(&rt, &counted, 1);
     Ok(())
 }
 
@@ -73,18 +88,24 @@ fn a_killed_index_bucket_keeps_its_marked_pairs(rt: HostRuntime) -> Result<(), F
     let counted = Rc::new(rt.alloc(), 0)?;
     let mut bucket = sharing(rt.alloc(), &counted, 41)?;
     for key in 0..41 {
-        assert!(rt; !kill_empty(&mut bucket), "a bucket with pairs stays");
-        assert!(rt; mark_key(&mut bucket, key, 0, &KEEP), "key {key}");
+        // A bucket with pairs stays.
+        check_same(&rt, kill_empty(&mut bucket), false, key);
+        check_same(&rt, mark_key(&mut bucket, key, 0, &KEEP), true, key);
     }
-    assert_eq!(rt; bucket.len(), 0);
-    assert!(rt; kill_empty(&mut bucket));
-    assert!(rt; bucket.is_killed());
-    assert!(rt; !kill_empty(&mut bucket), "it is killed already");
-    assert_eq!(rt; Rc::strong_count(&counted), 42);
-    assert!(rt; bucket.data_block().val(31).is_some());
+    check_kill(&rt, &mut bucket);
+    check_shares(&rt, &counted, 42);
+    check_same(&rt, bucket.data_block().val(31).is_some(), true, 31);
     drop(bucket);
-    assert_eq!(rt; Rc::strong_count(&counted), 1);
+    check_shares(&rt, &counted, 1);
     Ok(())
+}
+
+// A bucket of marked pairs alone is killed, and no second time.
+fn check_kill(rt: &impl Abort, bucket: &mut Shared) {
+    check_len(rt, bucket, 0);
+    check_same(rt, kill_empty(bucket), true, 0);
+    check_same(rt, bucket.is_killed(), true, 1);
+    check_same(rt, kill_empty(bucket), false, 2);
 }
 
 // Where key 36 stands among keys 0 to 36 that come into a killed bucket, for which ten blocks were
@@ -92,9 +113,9 @@ fn a_killed_index_bucket_keeps_its_marked_pairs(rt: HostRuntime) -> Result<(), F
 #[test]
 fn an_index_bucket_alone_keeps_its_chain_when_killed(rt: HostRuntime) -> Result<(), Fail> {
     let index = place_after_kill::<INDEX>(&rt, rt.alloc())?;
-    assert_eq!(rt; index, (2, 0));
+    check_same(&rt, index, (2, 0), u64::from(INDEX));
     let map = place_after_kill::<MAP>(&rt, rt.alloc())?;
-    assert_eq!(rt; map, (1, 0));
+    check_same(&rt, map, (1, 0), u64::from(MAP));
     Ok(())
 }
 
@@ -105,7 +126,7 @@ fn place_after_kill<const TYPE: u8>(
 ) -> Result<(usize, usize), Fail> {
     let mut bucket = Bucket::<u64, u64, (), TYPE>::new(alloc);
     bucket.reserve_slots(72)?;
-    assert!(rt; kill_empty(&mut bucket));
+    check_same(rt, kill_empty(&mut bucket), true, u64::from(TYPE));
     let mut place = (0, 0);
     for key in 0..37 {
         let at = bucket.insert(0, (key, 0), &())?;

@@ -1,5 +1,8 @@
 //! Every epoch: a pair marked with it goes or stays as the test says of that epoch alone.
-use crate::by_key::{Pairs, Spot, check_insertions, filled, mark_key};
+use crate::by_key::{
+    Pairs, Spot, check_clearing, check_insertions, check_len, check_same, clear, filled, key_in,
+    mark_key,
+};
 use bucket_slots::bucket::Generation;
 use bucket_table::script::FixedGeneration;
 use std::alloc::Global;
@@ -66,9 +69,10 @@ fn marked_from(rt: &impl Abort, alloc: Global, first: u8, keys: u8) -> Result<Pa
             epoch: first.wrapping_add(key),
             keep: true,
         };
-        assert!(rt; mark_key(&mut bucket, u64::from(key), 0, &now), "key {key}");
+        let key = u64::from(key);
+        check_same(rt, mark_key(&mut bucket, key, 0, &now), true, key);
     }
-    assert_eq!(rt; bucket.len(), 0);
+    check_len(rt, &bucket, 0);
     Ok(bucket)
 }
 
@@ -100,9 +104,8 @@ fn check_eighths(
 ) -> Result<(), Fail> {
     for eighth in 0..8 {
         let mut bucket = marked_from(rt, alloc, 32 * eighth, 32)?;
-        let left = bucket.clear_unreachable_entries(answers);
-        assert_eq!(rt; left, occupancy, "eighth {eighth}");
-        assert_eq!(rt; bucket.len(), 0, "eighth {eighth}");
+        let left = clear(&mut bucket, answers);
+        check_same(rt, (left, bucket.len()), (occupancy, 0), u64::from(eighth));
     }
     Ok(())
 }
@@ -113,29 +116,41 @@ fn each_mark_is_asked_for_on_its_own(rt: HostRuntime) -> Result<(), Fail> {
     for eighth in 0..8 {
         let first = 32 * eighth;
         let mut bucket = marked_from(&rt, rt.alloc(), first, 32)?;
-        let left = bucket.clear_unreachable_entries(&answers);
-        for pos in 0..32u8 {
-            let epoch = first.wrapping_add(pos);
-            let stays = answers.kept[epoch as usize];
-            assert_eq!(rt; left >> u32::from(pos) & 1 == 1, stays, "epoch {epoch}");
-            let there = bucket.data_block().key(pos as usize).is_some();
-            assert_eq!(rt; there, stays, "epoch {epoch}");
-        }
+        let left = clear(&mut bucket, &answers);
+        check_own_slots(&rt, &bucket, first, left, &answers);
     }
     Ok(())
+}
+
+// What is left has the bits of the slots that are kept, and these slots have their keys. The first
+// slot's epoch is given.
+fn check_own_slots(rt: &impl Abort, bucket: &Pairs, first: u8, left: u32, answers: &Answers) {
+    for pos in 0..32u8 {
+        let epoch = first.wrapping_add(pos);
+        let stays = answers.kept[epoch as usize];
+        let occupied = left >> u32::from(pos) & 1 == 1;
+        let there = key_in(bucket, pos as usize).is_some();
+        check_same(rt, (occupied, there), (stays, stays), u64::from(epoch));
+    }
 }
 
 #[test]
 fn an_insertion_goes_to_the_one_slot_whose_mark_goes(rt: HostRuntime) -> Result<(), Fail> {
     for gone in 0..=255u8 {
         let mut bucket = marked_from(&rt, rt.alloc(), gone / 32 * 32, 32)?;
-        let place = (0, gone as usize % 32);
-        check_insertions(&rt, &mut bucket, &kept_but(gone), &[(40, place)])?;
-        assert_eq!(rt; bucket.len(), 1, "epoch {gone}");
-        // Every slot is occupied again, by the pair that came and by 31 marked ones.
-        let left = bucket.clear_unreachable_entries(&kept_but(gone));
-        assert_eq!(rt; left, 4294967295, "epoch {gone}");
+        check_insertion(&rt, &mut bucket, gone)?;
     }
+    Ok(())
+}
+
+// Every slot is marked, and the pair goes to that of the one epoch that is let go.
+fn check_insertion(rt: &impl Abort, bucket: &mut Pairs, gone: u8) -> Result<(), Fail> {
+    let answers = kept_but(gone);
+    let place = (0, gone as usize % 32);
+    check_insertions(rt, bucket, &answers, &[(40, place)])?;
+    check_same(rt, bucket.len(), 1, u64::from(gone));
+    // Every slot is occupied again, by the pair that came and by 31 marked ones.
+    check_same(rt, clear(bucket, &answers), 4294967295, u64::from(gone));
     Ok(())
 }
 
@@ -165,13 +180,19 @@ fn marks_in_the_chain_go_as_those_in_own_slots_do(rt: HostRuntime) -> Result<(),
     let answers = kept_by_rest(0, 2, 0);
     for quarter in 0..4 {
         let mut bucket = marked_from(&rt, rt.alloc(), 64 * quarter, 64)?;
-        assert_eq!(rt; bucket.clear_unreachable_entries(&answers), 1431655765);
-        for key in 0..16u64 {
-            let place = (0, 2 * key as usize + 1);
-            check_insertions(&rt, &mut bucket, &answers, &[(70 + key, place)])?;
-        }
+        check_clearing(&rt, &mut bucket, &answers, 1431655765);
+        fill_odd_slots(&rt, &mut bucket, &answers)?;
         check_insertions(&rt, &mut bucket, &answers, &FREE_IN_BLOCKS)?;
-        assert_eq!(rt; bucket.len(), 32);
+        check_len(&rt, &bucket, 32);
+    }
+    Ok(())
+}
+
+// The pairs that come first take the own slots with an odd number.
+fn fill_odd_slots(rt: &impl Abort, bucket: &mut Pairs, answers: &Answers) -> Result<(), Fail> {
+    for key in 0..16u64 {
+        let place = (0, 2 * key as usize + 1);
+        check_insertions(rt, bucket, answers, &[(70 + key, place)])?;
     }
     Ok(())
 }

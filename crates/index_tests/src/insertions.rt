@@ -1,7 +1,7 @@
 //! Insertions into one index bucket: when they look at marks, and what goes where.
 use crate::by_key::{
-    KEEP, LET_GO, Pairs, Spot, check_absent, check_insertions, check_place, filled, mark_keys,
-    move_key,
+    KEEP, LET_GO, Pairs, Spot, check_absent, check_clearing, check_insertions, check_len,
+    check_moves, check_places, check_slots, filled, mark_keys,
 };
 use crate::epochs::kept_by_rest;
 use std::alloc::Global;
@@ -15,17 +15,15 @@ const ALL_OWN: u32 = 4294967295;
 fn marks_that_are_kept_send_a_pair_to_the_chain(rt: HostRuntime) -> Result<(), Fail> {
     let mut bucket = filled(rt.alloc(), 32, 0)?;
     mark_keys(&rt, &mut bucket, &[0, 1, 2, 3], &KEEP);
-    assert_eq!(rt; bucket.len(), 28);
+    check_len(&rt, &bucket, 28);
     check_absent(&rt, &bucket, 0, 0);
     check_insertions(&rt, &mut bucket, &KEEP, &[(32, (1, 0))])?;
     // The same bucket, but no mark is kept any more.
     check_insertions(&rt, &mut bucket, &LET_GO, &[(33, (0, 0))])?;
-    assert_eq!(rt; bucket.len(), 30);
-    check_place(&rt, &bucket, 32, (1, 0));
+    check_len(&rt, &bucket, 30);
+    check_places(&rt, &bucket, &[(32, (1, 0))]);
     // The other three went with the first.
-    for pos in [1, 2, 3] {
-        assert_eq!(rt; bucket.data_block().key(pos), None, "slot {pos}");
-    }
+    check_slots(&rt, &bucket, &[(1, None), (2, None), (3, None)]);
     check_insertions(&rt, &mut bucket, &KEEP, &[(34, (0, 1)), (35, (0, 2))])
 }
 
@@ -34,7 +32,7 @@ fn marks_stay_while_an_own_slot_is_free(rt: HostRuntime) -> Result<(), Fail> {
     let mut bucket = filled(rt.alloc(), 31, 0)?;
     mark_keys(&rt, &mut bucket, &[4], &KEEP);
     check_insertions(&rt, &mut bucket, &LET_GO, &[(40, (0, 31))])?;
-    assert_eq!(rt; bucket.data_block().key(4), Some(&4));
+    check_slots(&rt, &bucket, &[(4, Some(4))]);
     // No own slot is free now, so that the next insertion looks at the mark.
     check_insertions(&rt, &mut bucket, &LET_GO, &[(41, (0, 4))])
 }
@@ -52,8 +50,8 @@ fn one_kept_and_three_expired(rt: &impl Abort, alloc: Global) -> Result<Pairs, F
     let mut bucket = filled(alloc, 36, 0)?;
     mark_keys(rt, &mut bucket, &[7], &kept_by_rest(1, 255, 1));
     mark_keys(rt, &mut bucket, &[32, 33, 35], &kept_by_rest(2, 255, 1));
-    assert_eq!(rt; bucket.len(), 32);
-    check_place(rt, &bucket, 34, (1, 2));
+    check_len(rt, &bucket, 32);
+    check_places(rt, &bucket, &[(34, (1, 2))]);
     Ok(bucket)
 }
 
@@ -70,10 +68,9 @@ fn a_block_with_a_live_pair_stays_and_takes_the_next(rt: HostRuntime) -> Result<
     let mut bucket = one_kept_and_three_expired(&rt, rt.alloc())?;
     let now = kept_by_rest(2, 255, 1);
     check_insertions(&rt, &mut bucket, &now, &AROUND_THE_LIVE_PAIR)?;
-    assert_eq!(rt; bucket.len(), 36);
-    assert_eq!(rt; bucket.data_block().key(7), Some(&7));
-    check_place(&rt, &bucket, 34, (2, 2));
-    check_place(&rt, &bucket, 42, (2, 3));
+    check_len(&rt, &bucket, 36);
+    check_slots(&rt, &bucket, &[(7, Some(7))]);
+    check_places(&rt, &bucket, &[(34, (2, 2)), (42, (2, 3))]);
     Ok(())
 }
 
@@ -85,12 +82,11 @@ fn a_pair_is_placed_before_free_blocks_go(rt: HostRuntime) -> Result<(), Fail> {
     bucket.reserve_slots(8)?;
     // The original gives both up first, and asks for memory again.
     check_insertions(&rt, &mut bucket, &KEEP, &[(40, (2, 0))])?;
-    check_place(&rt, &bucket, 32, (1, 0));
+    check_places(&rt, &bucket, &[(32, (1, 0))]);
     // The last of them goes after the placing, so that the fifth pair makes a new head.
     check_insertions(&rt, &mut bucket, &KEEP, &[(41, (2, 1)), (42, (2, 2))])?;
     check_insertions(&rt, &mut bucket, &KEEP, &[(43, (2, 3)), (44, (1, 0))])?;
-    check_place(&rt, &bucket, 40, (3, 0));
-    check_place(&rt, &bucket, 43, (3, 3));
+    check_places(&rt, &bucket, &[(40, (3, 0)), (43, (3, 3))]);
     Ok(())
 }
 
@@ -110,7 +106,7 @@ fn free_blocks_go_though_an_own_slot_took_the_pair(rt: HostRuntime) -> Result<()
     bucket.reserve_slots(8)?;
     check_insertions(&rt, &mut bucket, &LET_GO, &[(40, (0, 5)), (41, (0, 6))])?;
     check_insertions(&rt, &mut bucket, &LET_GO, &AFTER_FREE_BLOCKS_WENT)?;
-    assert_eq!(rt; bucket.len(), 37);
+    check_len(&rt, &bucket, 37);
     Ok(())
 }
 
@@ -119,16 +115,15 @@ fn a_move_into_a_bucket_leaves_its_marks(rt: HostRuntime) -> Result<(), Fail> {
     let mut source = filled(rt.alloc(), 40, 0)?;
     let mut target = filled(rt.alloc(), 32, 0)?;
     mark_keys(&rt, &mut target, &[0, 1, 2, 31], &KEEP);
-    for (key, place) in [(32, (1, 0)), (33, (1, 1)), (39, (1, 2))] {
-        let moved = move_key(&mut target, &mut source, key)?;
-        assert_eq!(rt; moved, Some(place), "key {key}");
-        assert_eq!(rt; target.data_block().key(0), Some(&0));
-        assert_eq!(rt; target.data_block().key(31), Some(&31));
+    for row in [(32, (1, 0)), (33, (1, 1)), (39, (1, 2))] {
+        check_moves(&rt, &mut target, &mut source, &[row])?;
+        check_slots(&rt, &target, &[(0, Some(0)), (31, Some(31))]);
     }
     // A clearing that keeps all marks says that no own slot is free, and one that keeps none frees
     // the slots 0, 1, 2 and 31.
-    assert_eq!(rt; target.clear_unreachable_entries(&KEEP), ALL_OWN);
-    assert_eq!(rt; target.clear_unreachable_entries(&LET_GO), 2147483640);
-    assert_eq!(rt; (source.len(), target.len()), (37, 31));
+    check_clearing(&rt, &mut target, &KEEP, ALL_OWN);
+    check_clearing(&rt, &mut target, &LET_GO, 2147483640);
+    check_len(&rt, &source, 37);
+    check_len(&rt, &target, 31);
     Ok(())
 }

@@ -1,5 +1,5 @@
 //! Scripts on a table of the index kind, under epochs that change between them.
-use crate::by_key::{KEEP, LET_GO};
+use crate::by_key::{KEEP, LET_GO, check_same};
 use bucket_slots::bucket::{Generation, INDEX};
 use bucket_table::hash_table::HashTable;
 use bucket_table::script::{Call, FixedGeneration, Reply, ScriptHash, run};
@@ -77,7 +77,7 @@ fn a_key_may_come_again_beside_its_mark(rt: HostRuntime) -> Result<(), Fail> {
             check_replies(&rt, rt.alloc(), &mut table, &kept, &COMES_AGAIN)?;
             check_replies(&rt, rt.alloc(), &mut table, &let_go, &COMES_AGAIN)?;
         }
-        assert_eq!(rt; table.peek_entry(&1), None, "epoch {epoch}");
+        check_same(&rt, table.peek_entry(&1), None, u64::from(epoch));
     }
     Ok(())
 }
@@ -109,14 +109,20 @@ fn check_replies<G: Generation>(
     generation: &G,
     rows: &[Row],
 ) -> Result<(), Fail> {
+    let calls = calls_of(alloc, rows)?;
+    let replies = run(alloc, table, calls, generation)?;
+    check_same(rt, replies.len(), rows.len(), 0);
+    for (i, (_, wanted)) in rows.iter().enumerate() {
+        check_same(rt, replies.get(i), Some(wanted), i as u64);
+    }
+    Ok(())
+}
+
+// The calls of the rows.
+fn calls_of(alloc: Global, rows: &[Row]) -> Result<Vec<Call<u64, u64>>, Fail> {
     let mut calls = Vec::with_capacity(alloc, rows.len())?;
     for (call, _) in rows {
         calls.push(*call)?;
     }
-    let replies = run(alloc, table, calls, generation)?;
-    assert_eq!(rt; replies.len(), rows.len());
-    for (i, (call, wanted)) in rows.iter().enumerate() {
-        assert_eq!(rt; replies.get(i), Some(wanted), "row {i}, {call:?}");
-    }
-    Ok(())
+    Ok(calls)
 }

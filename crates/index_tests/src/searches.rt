@@ -1,6 +1,9 @@
 //! Walks over an index bucket and searches of it: neither meets a marked pair.
-use crate::by_key::{At, KEEP, Pairs, check_absent, filled, mark_key};
+use crate::by_key::{
+    At, KEEP, Pairs, Spot, check_absent, check_len, check_same, filled, insert, mark_key, searched,
+};
 use bucket_table::script::FixedGeneration;
+use std::alloc::Global;
 use std::process::Abort;
 use std::test::Fail;
 
@@ -22,17 +25,24 @@ const STAYING_IN_THE_CHAIN: [u64; 5] = [36, 37, 39, 33, 34];
 #[test]
 fn marked_pairs_are_found_and_walked_no_more(rt: HostRuntime) -> Result<(), Fail> {
     for epoch in EPOCHS {
-        let now = FixedGeneration { epoch, keep: true };
-        let mut bucket = filled(rt.alloc(), 41, HASH)?;
-        for key in MARKED {
-            assert!(rt; mark_key(&mut bucket, key, HASH, &now), "key {key}");
-            assert!(rt; !mark_key(&mut bucket, key, HASH, &now), "key {key}");
-        }
-        assert_eq!(rt; bucket.len(), 34, "epoch {epoch}");
+        let bucket = seven_marked(&rt, rt.alloc(), epoch)?;
         check_searches(&rt, &bucket);
         check_walk(&rt, &bucket);
     }
     Ok(())
+}
+
+// Keys 0 to 40, of which seven are marked with the epoch.
+fn seven_marked(rt: &impl Abort, alloc: Global, epoch: u8) -> Result<Pairs, Fail> {
+    let now = FixedGeneration { epoch, keep: true };
+    let mut bucket = filled(alloc, 41, HASH)?;
+    for key in MARKED {
+        // A marked pair is not found to be marked again.
+        check_same(rt, mark_key(&mut bucket, key, HASH, &now), true, key);
+        check_same(rt, mark_key(&mut bucket, key, HASH, &now), false, key);
+    }
+    check_same(rt, bucket.len(), 34, u64::from(epoch));
+    Ok(bucket)
 }
 
 // A search finds each key that stays, and none that is marked.
@@ -41,9 +51,8 @@ fn check_searches(rt: &impl Abort, bucket: &Pairs) {
         if MARKED.contains(&key) {
             check_absent(rt, bucket, key, HASH);
         } else {
-            let value = key * 10;
-            let found = bucket.search_entry(&key, HASH);
-            assert_eq!(rt; found, Some((&key, &value)));
+            let pair = (key, key * 10);
+            check_same(rt, searched(bucket, key, HASH), Some(pair), key);
         }
     }
 }
@@ -53,15 +62,20 @@ fn check_walk(rt: &impl Abort, bucket: &Pairs) {
     let mut at = At::null();
     for key in 0..32 {
         if !MARKED.contains(&key) {
-            assert_eq!(rt; next_key(bucket, &mut at), Some(key));
+            check_same(rt, next_key(bucket, &mut at), Some(key), key);
         }
     }
     for key in STAYING_IN_THE_CHAIN {
-        assert_eq!(rt; next_key(bucket, &mut at), Some(key));
+        check_same(rt, next_key(bucket, &mut at), Some(key), key);
     }
-    assert_eq!(rt; next_key(bucket, &mut at), None);
-    assert_eq!(rt; (at.block(), at.pos()), (0, 32));
-    assert_eq!(rt; next_key(bucket, &mut at), Some(1));
+    check_same(rt, next_key(bucket, &mut at), None, 41);
+    check_same(rt, spot(&at), (0, 32), 41);
+    check_same(rt, next_key(bucket, &mut at), Some(1), 1);
+}
+
+// Where the pointer points.
+fn spot(at: &At) -> Spot {
+    (at.block(), at.pos())
 }
 
 // Steps to the next pair and returns its key.
@@ -79,28 +93,33 @@ fn a_key_that_comes_again_is_found_behind_its_mark(rt: HostRuntime) -> Result<()
         epoch: BYTE,
         keep: true,
     };
-    assert!(rt; mark_key(&mut bucket, 0, HASH, &now));
+    check_same(&rt, mark_key(&mut bucket, 0, HASH, &now), true, 0);
     check_absent(&rt, &bucket, 0, HASH);
-    let at = bucket.insert(HASH, (0, 99), &now)?;
-    assert_eq!(rt; (at.block(), at.pos()), (0, 3));
-    assert_eq!(rt; bucket.search_entry(&0, HASH), Some((&0, &99)));
-    assert_eq!(rt; bucket.len(), 3);
+    let stands = insert(&mut bucket, HASH, (0, 99), &now)?;
+    check_same(&rt, stands, (0, 3), 0);
+    check_same(&rt, searched(&bucket, 0, HASH), Some((0, 99)), 0);
+    check_len(&rt, &bucket, 3);
     // The earlier pair is still in its slot.
-    assert_eq!(rt; bucket.data_block().val(0), Some(&0));
-    assert_eq!(rt; bucket.data_block().val(3), Some(&99));
+    check_same(&rt, value_in(&bucket, 0), Some(0), 0);
+    check_same(&rt, value_in(&bucket, 3), Some(99), 3);
     Ok(())
+}
+
+// The value in an own slot, live or marked.
+fn value_in(bucket: &Pairs, pos: usize) -> Option<u64> {
+    bucket.data_block().val(pos).copied()
 }
 
 #[test]
 fn a_bucket_of_marks_alone_finds_and_walks_nothing(rt: HostRuntime) -> Result<(), Fail> {
     let mut bucket = filled(rt.alloc(), 37, 0)?;
     for key in 0..37 {
-        assert!(rt; mark_key(&mut bucket, key, 0, &KEEP), "key {key}");
+        check_same(&rt, mark_key(&mut bucket, key, 0, &KEEP), true, key);
     }
-    assert_eq!(rt; bucket.len(), 0);
+    check_len(&rt, &bucket, 0);
     for key in 0..37 {
         check_absent(&rt, &bucket, key, 0);
     }
-    assert_eq!(rt; next_key(&bucket, &mut At::null()), None);
+    check_same(&rt, next_key(&bucket, &mut At::null()), None, 37);
     Ok(())
 }
