@@ -131,13 +131,23 @@ const MARKED_IN_THE_CHAIN: [(&[u64], [(u64, Spot); 5]); 4] = [
 
 #[test]
 fn free_blocks_go_from_the_end_of_the_chain_alone(rt: HostRuntime) -> Result<(), Fail> {
-    for (marked, coming) in MARKED_IN_THE_CHAIN {
-        let mut bucket = filled(rt.alloc(), 37, 0)?;
-        mark_keys(&rt, &mut bucket, marked, &KEEP);
-        check_clearing(&rt, &mut bucket, &LET_GO, ALL_OWN);
-        check_insertions(&rt, &mut bucket, &KEEP, &coming)?;
+    for (marked, coming) in &MARKED_IN_THE_CHAIN {
+        check_chain(&rt, rt.alloc(), marked, coming)?;
     }
     Ok(())
+}
+
+// Marks keys of the chain and lets them go, and then these pairs come.
+fn check_chain(
+    rt: &impl Abort,
+    alloc: Global,
+    marked: &[u64],
+    coming: &[(u64, Spot)],
+) -> Result<(), Fail> {
+    let mut bucket = filled(alloc, 37, 0)?;
+    mark_keys(rt, &mut bucket, marked, &KEEP);
+    check_clearing(rt, &mut bucket, &LET_GO, ALL_OWN);
+    check_insertions(rt, &mut bucket, &KEEP, coming)
 }
 
 // Where the other keys of the chain stand then.

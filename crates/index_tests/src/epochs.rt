@@ -180,19 +180,18 @@ fn marks_in_the_chain_go_as_those_in_own_slots_do(rt: HostRuntime) -> Result<(),
     let answers = kept_by_rest(0, 2, 0);
     for quarter in 0..4 {
         let mut bucket = marked_from(&rt, rt.alloc(), 64 * quarter, 64)?;
-        check_clearing(&rt, &mut bucket, &answers, 1431655765);
-        fill_odd_slots(&rt, &mut bucket, &answers)?;
-        check_insertions(&rt, &mut bucket, &answers, &FREE_IN_BLOCKS)?;
+        check_odd_slots(&rt, &mut bucket, &answers)?;
         check_len(&rt, &bucket, 32);
     }
     Ok(())
 }
 
-// The pairs that come first take the own slots with an odd number.
-fn fill_odd_slots(rt: &impl Abort, bucket: &mut Pairs, answers: &Answers) -> Result<(), Fail> {
+// The pairs that come take the slots with an odd number, first those of the bucket's own.
+fn check_odd_slots(rt: &impl Abort, bucket: &mut Pairs, answers: &Answers) -> Result<(), Fail> {
+    check_clearing(rt, bucket, answers, 1431655765);
     for key in 0..16u64 {
         let place = (0, 2 * key as usize + 1);
         check_insertions(rt, bucket, answers, &[(70 + key, place)])?;
     }
-    Ok(())
+    check_insertions(rt, bucket, answers, &FREE_IN_BLOCKS)
 }

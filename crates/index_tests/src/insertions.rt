@@ -17,14 +17,19 @@ fn marks_that_are_kept_send_a_pair_to_the_chain(rt: HostRuntime) -> Result<(), F
     mark_keys(&rt, &mut bucket, &[0, 1, 2, 3], &KEEP);
     check_len(&rt, &bucket, 28);
     check_absent(&rt, &bucket, 0, 0);
-    check_insertions(&rt, &mut bucket, &KEEP, &[(32, (1, 0))])?;
+    check_kept_and_let_go(&rt, &mut bucket)
+}
+
+// The first four of 32 pairs are marked.
+fn check_kept_and_let_go(rt: &impl Abort, bucket: &mut Pairs) -> Result<(), Fail> {
+    check_insertions(rt, bucket, &KEEP, &[(32, (1, 0))])?;
     // The same bucket, but no mark is kept any more.
-    check_insertions(&rt, &mut bucket, &LET_GO, &[(33, (0, 0))])?;
-    check_len(&rt, &bucket, 30);
-    check_places(&rt, &bucket, &[(32, (1, 0))]);
+    check_insertions(rt, bucket, &LET_GO, &[(33, (0, 0))])?;
+    check_len(rt, bucket, 30);
+    check_places(rt, bucket, &[(32, (1, 0))]);
     // The other three went with the first.
-    check_slots(&rt, &bucket, &[(1, None), (2, None), (3, None)]);
-    check_insertions(&rt, &mut bucket, &KEEP, &[(34, (0, 1)), (35, (0, 2))])
+    check_slots(rt, bucket, &[(1, None), (2, None), (3, None)]);
+    check_insertions(rt, bucket, &KEEP, &[(34, (0, 1)), (35, (0, 2))])
 }
 
 #[test]
@@ -80,18 +85,28 @@ fn a_pair_is_placed_before_free_blocks_go(rt: HostRuntime) -> Result<(), Fail> {
     let mut bucket = filled(rt.alloc(), 36, 0)?;
     mark_keys(&rt, &mut bucket, &[7], &KEEP);
     bucket.reserve_slots(8)?;
+    check_placed_before(&rt, &mut bucket)
+}
+
+// What comes after the first: the fifth of all makes a new head.
+const INTO_ONE_BLOCK: [(u64, Spot); 4] = [(41, (2, 1)), (42, (2, 2)), (43, (2, 3)), (44, (1, 0))];
+
+// The bucket has a block full of live pairs, and two free ones behind it.
+fn check_placed_before(rt: &impl Abort, bucket: &mut Pairs) -> Result<(), Fail> {
     // The original gives both up first, and asks for memory again.
-    check_insertions(&rt, &mut bucket, &KEEP, &[(40, (2, 0))])?;
-    check_places(&rt, &bucket, &[(32, (1, 0))]);
-    // The last of them goes after the placing, so that the fifth pair makes a new head.
-    check_insertions(&rt, &mut bucket, &KEEP, &[(41, (2, 1)), (42, (2, 2))])?;
-    check_insertions(&rt, &mut bucket, &KEEP, &[(43, (2, 3)), (44, (1, 0))])?;
-    check_places(&rt, &bucket, &[(40, (3, 0)), (43, (3, 3))]);
+    check_insertions(rt, bucket, &KEEP, &[(40, (2, 0))])?;
+    check_places(rt, bucket, &[(32, (1, 0))]);
+    // The last of them goes after the placing.
+    check_insertions(rt, bucket, &KEEP, &INTO_ONE_BLOCK)?;
+    check_places(rt, bucket, &[(40, (3, 0)), (43, (3, 3))]);
     Ok(())
 }
 
-// What comes after an insertion that gave two free blocks up: the fifth pair tells that both went.
-const AFTER_FREE_BLOCKS_WENT: [(u64, Spot); 5] = [
+// Pairs of which the first two go to own slots. Two free blocks go then, and the last pair tells
+// that both went.
+const AFTER_FREE_BLOCKS_WENT: [(u64, Spot); 7] = [
+    (40, (0, 5)),
+    (41, (0, 6)),
     (42, (1, 0)),
     (43, (1, 1)),
     (44, (1, 2)),
@@ -104,7 +119,6 @@ fn free_blocks_go_though_an_own_slot_took_the_pair(rt: HostRuntime) -> Result<()
     let mut bucket = filled(rt.alloc(), 32, 0)?;
     mark_keys(&rt, &mut bucket, &[5, 6], &KEEP);
     bucket.reserve_slots(8)?;
-    check_insertions(&rt, &mut bucket, &LET_GO, &[(40, (0, 5)), (41, (0, 6))])?;
     check_insertions(&rt, &mut bucket, &LET_GO, &AFTER_FREE_BLOCKS_WENT)?;
     check_len(&rt, &bucket, 37);
     Ok(())
@@ -115,15 +129,21 @@ fn a_move_into_a_bucket_leaves_its_marks(rt: HostRuntime) -> Result<(), Fail> {
     let mut source = filled(rt.alloc(), 40, 0)?;
     let mut target = filled(rt.alloc(), 32, 0)?;
     mark_keys(&rt, &mut target, &[0, 1, 2, 31], &KEEP);
-    for row in [(32, (1, 0)), (33, (1, 1)), (39, (1, 2))] {
-        check_moves(&rt, &mut target, &mut source, &[row])?;
-        check_slots(&rt, &target, &[(0, Some(0)), (31, Some(31))]);
-    }
+    check_marks_stay(&rt, &mut target, &mut source)?;
     // A clearing that keeps all marks says that no own slot is free, and one that keeps none frees
     // the slots 0, 1, 2 and 31.
     check_clearing(&rt, &mut target, &KEEP, ALL_OWN);
     check_clearing(&rt, &mut target, &LET_GO, 2147483640);
     check_len(&rt, &source, 37);
     check_len(&rt, &target, 31);
+    Ok(())
+}
+
+// The marked keys 0 and 31 stay in their slots through three moves.
+fn check_marks_stay(rt: &impl Abort, target: &mut Pairs, source: &mut Pairs) -> Result<(), Fail> {
+    for row in [(32, (1, 0)), (33, (1, 1)), (39, (1, 2))] {
+        check_moves(rt, target, source, &[row])?;
+        check_slots(rt, target, &[(0, Some(0)), (31, Some(31))]);
+    }
     Ok(())
 }

@@ -29,14 +29,19 @@ const INTO_THE_ADDED_BLOCK: [(u64, Spot); 4] = [
 fn marked_slots_count_as_taken(rt: HostRuntime) -> Result<(), Fail> {
     let mut source = filled(rt.alloc(), 40, 0)?;
     let mut bucket = four_marked(&rt, rt.alloc())?;
-    reserve_four_twice(&mut bucket)?;
-    check_len(&rt, &bucket, 28);
-    check_moves(&rt, &mut bucket, &mut source, &INTO_THE_ADDED_BLOCK)?;
-    check_len(&rt, &source, 36);
-    check_len(&rt, &bucket, 32);
+    check_added_block(&rt, &mut bucket, &mut source)
+}
+
+// The bucket has four marked slots and no free one.
+fn check_added_block(rt: &impl Abort, bucket: &mut Pairs, source: &mut Pairs) -> Result<(), Fail> {
+    reserve_four_twice(bucket)?;
+    check_len(rt, bucket, 28);
+    check_moves(rt, bucket, source, &INTO_THE_ADDED_BLOCK)?;
+    check_len(rt, source, 36);
+    check_len(rt, bucket, 32);
     // One block was added, and it is full: the next pair makes a new head.
-    check_moves(&rt, &mut bucket, &mut source, &[(36, (1, 0))])?;
-    check_places(&rt, &bucket, &[(32, (2, 0)), (35, (2, 3))]);
+    check_moves(rt, bucket, source, &[(36, (1, 0))])?;
+    check_places(rt, bucket, &[(32, (2, 0)), (35, (2, 3))]);
     Ok(())
 }
 
@@ -62,12 +67,17 @@ fn what_is_reserved_for_marked_slots_stands_at_the_end(rt: HostRuntime) -> Resul
     let mut source = filled(rt.alloc(), 44, 0)?;
     let mut bucket = filled(rt.alloc(), 36, 0)?;
     mark_keys(&rt, &mut bucket, &[0, 1, 2, 3], &KEEP);
-    reserve_four_twice(&mut bucket)?;
-    check_moves(&rt, &mut bucket, &mut source, &INTO_THE_LAST_BLOCK)?;
-    check_places(&rt, &bucket, &[(32, (1, 0))]);
+    check_last_block(&rt, &mut bucket, &mut source)
+}
+
+// The bucket has four marked slots, no free one, and a block of live pairs.
+fn check_last_block(rt: &impl Abort, bucket: &mut Pairs, source: &mut Pairs) -> Result<(), Fail> {
+    reserve_four_twice(bucket)?;
+    check_moves(rt, bucket, source, &INTO_THE_LAST_BLOCK)?;
+    check_places(rt, bucket, &[(32, (1, 0))]);
     // One block was reserved, and it is full.
-    check_moves(&rt, &mut bucket, &mut source, &[(40, (1, 0))])?;
-    check_places(&rt, &bucket, &[(36, (3, 0))]);
+    check_moves(rt, bucket, source, &[(40, (1, 0))])?;
+    check_places(rt, bucket, &[(36, (3, 0))]);
     Ok(())
 }
 
@@ -76,11 +86,15 @@ fn a_moved_pair_passes_a_marked_slot_in_its_block(rt: HostRuntime) -> Result<(),
     let mut source = filled(rt.alloc(), 40, 0)?;
     let mut bucket = filled(rt.alloc(), 34, 0)?;
     mark_keys(&rt, &mut bucket, &[32], &KEEP);
-    // Two slots are free in the block, behind a marked and a live one.
+    check_free_slots(&rt, &mut bucket, &mut source)
+}
+
+// Two slots are free in the block, behind a marked and a live one, and then the pairs make a head.
+fn check_free_slots(rt: &impl Abort, bucket: &mut Pairs, source: &mut Pairs) -> Result<(), Fail> {
     bucket.reserve_slots(2)?;
     let rows = [(36, (1, 2)), (37, (1, 3)), (38, (1, 0))];
-    check_moves(&rt, &mut bucket, &mut source, &rows)?;
-    check_places(&rt, &bucket, &[(33, (2, 1))]);
+    check_moves(rt, bucket, source, &rows)?;
+    check_places(rt, bucket, &[(33, (2, 1))]);
     Ok(())
 }
 
@@ -101,10 +115,15 @@ fn slots_that_were_let_go_are_free(rt: HostRuntime) -> Result<(), Fail> {
     let mut bucket = four_marked(&rt, rt.alloc())?;
     // All own slots but the first four: the sum of 2^i over i from 4 to 31.
     check_clearing(&rt, &mut bucket, &LET_GO, 4294967280);
+    check_own_and_added(&rt, &mut bucket)
+}
+
+// Four own slots are free, and one slot more is reserved.
+fn check_own_and_added(rt: &impl Abort, bucket: &mut Pairs) -> Result<(), Fail> {
     bucket.reserve_slots(5)?;
-    check_insertions(&rt, &mut bucket, &KEEP, &INTO_FREE_SLOTS)?;
+    check_insertions(rt, bucket, &KEEP, &INTO_FREE_SLOTS)?;
     // One block was added, and it is full.
-    check_insertions(&rt, &mut bucket, &KEEP, &[(48, (1, 0))])?;
-    check_places(&rt, &bucket, &[(44, (2, 0))]);
+    check_insertions(rt, bucket, &KEEP, &[(48, (1, 0))])?;
+    check_places(rt, bucket, &[(44, (2, 0))]);
     Ok(())
 }

@@ -45,11 +45,16 @@ fn removed_keys_are_absent_while_their_marks_are_kept_and_after(
 ) -> Result<(), Fail> {
     for hasher in [ScriptHash::Zero, ScriptHash::Id, ScriptHash::Spread] {
         let mut table = index_table(rt.alloc(), hasher);
-        put_keys(&rt, rt.alloc(), &mut table, 32)?;
-        check_replies(&rt, rt.alloc(), &mut table, &KEEP, &FOUR_GO)?;
-        check_replies(&rt, rt.alloc(), &mut table, &LET_GO, &ONE_COMES)?;
+        check_going(&rt, rt.alloc(), &mut table)?;
     }
     Ok(())
+}
+
+// Four keys of 32 go, and then one comes again.
+fn check_going(rt: &impl Abort, alloc: Global, table: &mut Table) -> Result<(), Fail> {
+    put_keys(rt, alloc, table, 32)?;
+    check_replies(rt, alloc, table, &KEEP, &FOUR_GO)?;
+    check_replies(rt, alloc, table, &LET_GO, &ONE_COMES)
 }
 
 // A key that is put, removed and put again, beside its own mark.
@@ -71,13 +76,24 @@ fn a_key_may_come_again_beside_its_mark(rt: HostRuntime) -> Result<(), Fail> {
     for epoch in [0, 1, 255] {
         // Key 1 has the hash 1, so that epoch 1 is equal to its byte.
         let mut table = index_table(rt.alloc(), ScriptHash::Id);
-        let kept = FixedGeneration { epoch, keep: true };
-        let let_go = FixedGeneration { epoch, keep: false };
-        for _ in 0..20 {
-            check_replies(&rt, rt.alloc(), &mut table, &kept, &COMES_AGAIN)?;
-            check_replies(&rt, rt.alloc(), &mut table, &let_go, &COMES_AGAIN)?;
-        }
+        check_coming_again(&rt, rt.alloc(), &mut table, epoch)?;
         check_same(&rt, table.peek_entry(&1), None, u64::from(epoch));
+    }
+    Ok(())
+}
+
+// The same calls under one epoch, while its marks are kept and not.
+fn check_coming_again(
+    rt: &impl Abort,
+    alloc: Global,
+    table: &mut Table,
+    epoch: u8,
+) -> Result<(), Fail> {
+    for _ in 0..20 {
+        for keep in [true, false] {
+            let generation = FixedGeneration { epoch, keep };
+            check_replies(rt, alloc, table, &generation, &COMES_AGAIN)?;
+        }
     }
     Ok(())
 }

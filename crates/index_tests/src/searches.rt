@@ -97,12 +97,16 @@ fn a_key_that_comes_again_is_found_behind_its_mark(rt: HostRuntime) -> Result<()
     check_absent(&rt, &bucket, 0, HASH);
     let stands = insert(&mut bucket, HASH, (0, 99), &now)?;
     check_same(&rt, stands, (0, 3), 0);
-    check_same(&rt, searched(&bucket, 0, HASH), Some((0, 99)), 0);
-    check_len(&rt, &bucket, 3);
-    // The earlier pair is still in its slot.
-    check_same(&rt, value_in(&bucket, 0), Some(0), 0);
-    check_same(&rt, value_in(&bucket, 3), Some(99), 3);
+    check_again(&rt, &bucket);
     Ok(())
+}
+
+// A search finds the pair that came last, and the earlier one is still in its slot.
+fn check_again(rt: &impl Abort, bucket: &Pairs) {
+    check_same(rt, searched(bucket, 0, HASH), Some((0, 99)), 0);
+    check_len(rt, bucket, 3);
+    check_same(rt, value_in(bucket, 0), Some(0), 0);
+    check_same(rt, value_in(bucket, 3), Some(99), 3);
 }
 
 // The value in an own slot, live or marked.
