@@ -5,7 +5,6 @@ use bucket_table::script::FixedGeneration;
 use std::alloc::Global;
 use std::fmt::Debug;
 use std::process::Abort;
-use std::test::Fail;
 
 /// A bucket of numbers.
 pub(crate) type Pairs = Bucket<u64, u64, (), INDEX>;
@@ -32,10 +31,10 @@ pub(crate) const LET_GO: FixedGeneration = FixedGeneration {
 };
 
 /// A bucket of keys from 0 on, each with ten times itself as its value, all under one hash.
-pub(crate) fn filled(alloc: Global, keys: u64, hash: u64) -> Result<Pairs, Fail> {
+pub(crate) fn filled(alloc: Global, keys: u64, hash: u64) -> Result<Pairs, AllocError> {
     let mut bucket = Pairs::new(alloc);
     for key in 0..keys {
-        bucket.insert(hash, (key, key.wrapping_mul(10)), &KEEP)?;
+        insert(&mut bucket, hash, (key, key.wrapping_mul(10)), &KEEP)?;
     }
     Ok(bucket)
 }
@@ -90,9 +89,11 @@ pub(crate) fn insert<G: Generation>(
     hash: u64,
     pair: (u64, u64),
     generation: &G,
-) -> Result<Spot, Fail> {
-    let at = bucket.insert(hash, pair, generation)?;
-    Ok((at.block(), at.pos()))
+) -> Result<Spot, AllocError> {
+    match bucket.insert(hash, pair, generation) {
+        Ok(at) => Ok((at.block(), at.pos())),
+        Err(_) => Err(AllocError),
+    }
 }
 
 /// What is known of a key.
@@ -146,7 +147,7 @@ pub(crate) fn check_insertions<G: Generation>(
     bucket: &mut Pairs,
     generation: &G,
     rows: &[(u64, Spot)],
-) -> Result<(), Fail> {
+) -> Result<(), AllocError> {
     for (key, place) in rows {
         let stands = insert(bucket, 0, (*key, 0), generation)?;
         check_same(rt, stands, *place, *key);
@@ -160,7 +161,7 @@ pub(crate) fn check_moves(
     target: &mut Pairs,
     source: &mut Pairs,
     rows: &[(u64, Spot)],
-) -> Result<(), Fail> {
+) -> Result<(), AllocError> {
     for (key, place) in rows {
         let stands = move_key(target, source, *key)?;
         check_same(rt, stands, Some(*place), *key);

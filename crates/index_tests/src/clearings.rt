@@ -3,9 +3,9 @@ use crate::by_key::{
     KEEP, LET_GO, Pairs, Spot, check_absent, check_clearing, check_insertions, check_len,
     check_places, check_same, check_slots, clear, filled, mark_keys, searched,
 };
+use bucket_slots::bucket::AllocError;
 use std::alloc::Global;
 use std::process::Abort;
-use std::test::Fail;
 
 // All own slots are occupied: the sum of 2^i over i from 0 to 31.
 const ALL_OWN: u32 = 4294967295;
@@ -14,7 +14,7 @@ const ALL_OWN: u32 = 4294967295;
 const ALL_BUT_TWO: u32 = 4294967292;
 
 // Keys 0 to 32, of which 0 and 1 in own slots and 32 in the chain are marked.
-fn three_marked(rt: &impl Abort, alloc: Global) -> Result<Pairs, Fail> {
+fn three_marked(rt: &impl Abort, alloc: Global) -> Result<Pairs, AllocError> {
     let mut bucket = filled(alloc, 33, 0)?;
     check_places(rt, &bucket, &[(32, (1, 0))]);
     mark_keys(rt, &mut bucket, &[0, 1, 32], &KEEP);
@@ -26,7 +26,7 @@ fn three_marked(rt: &impl Abort, alloc: Global) -> Result<Pairs, Fail> {
 const WHILE_MARKS_ARE_KEPT: [(usize, Option<u64>); 3] = [(0, Some(0)), (1, Some(1)), (2, Some(2))];
 
 #[test]
-fn a_clearing_that_keeps_every_mark_changes_nothing(rt: HostRuntime) -> Result<(), Fail> {
+fn a_clearing_that_keeps_every_mark_changes_nothing(rt: HostRuntime) -> Result<(), AllocError> {
     let mut bucket = three_marked(&rt, rt.alloc())?;
     for _ in 0..2 {
         check_clearing(&rt, &mut bucket, &KEEP, ALL_OWN);
@@ -42,7 +42,7 @@ fn a_clearing_that_keeps_every_mark_changes_nothing(rt: HostRuntime) -> Result<(
 const AFTER_THREE_WENT: [(u64, Spot); 3] = [(50, (0, 0)), (51, (0, 1)), (52, (1, 0))];
 
 #[test]
-fn a_clearing_that_keeps_no_mark_frees_the_marked_slots(rt: HostRuntime) -> Result<(), Fail> {
+fn a_clearing_that_keeps_no_mark_frees_the_marked_slots(rt: HostRuntime) -> Result<(), AllocError> {
     let mut bucket = three_marked(&rt, rt.alloc())?;
     check_clearing(&rt, &mut bucket, &LET_GO, ALL_BUT_TWO);
     check_len(&rt, &bucket, 30);
@@ -62,7 +62,7 @@ fn check_three_went(rt: &impl Abort, bucket: &Pairs) {
 }
 
 #[test]
-fn a_clearing_of_a_bucket_without_marks_changes_nothing(rt: HostRuntime) -> Result<(), Fail> {
+fn a_clearing_of_a_bucket_without_marks_changes_nothing(rt: HostRuntime) -> Result<(), AllocError> {
     for (keys, occupancy) in [(0, 0), (1, 1), (5, 31), (32, ALL_OWN), (37, ALL_OWN)] {
         let mut bucket = filled(rt.alloc(), keys, 0)?;
         let left = clear(&mut bucket, &LET_GO);
@@ -130,7 +130,7 @@ const MARKED_IN_THE_CHAIN: [(&[u64], [(u64, Spot); 5]); 4] = [
 ];
 
 #[test]
-fn free_blocks_go_from_the_end_of_the_chain_alone(rt: HostRuntime) -> Result<(), Fail> {
+fn free_blocks_go_from_the_end_of_the_chain_alone(rt: HostRuntime) -> Result<(), AllocError> {
     for (marked, coming) in &MARKED_IN_THE_CHAIN {
         check_chain(&rt, rt.alloc(), marked, coming)?;
     }
@@ -143,7 +143,7 @@ fn check_chain(
     alloc: Global,
     marked: &[u64],
     coming: &[(u64, Spot)],
-) -> Result<(), Fail> {
+) -> Result<(), AllocError> {
     let mut bucket = filled(alloc, 37, 0)?;
     mark_keys(rt, &mut bucket, marked, &KEEP);
     check_clearing(rt, &mut bucket, &LET_GO, ALL_OWN);
@@ -159,7 +159,7 @@ const BEHIND_A_FREE_HEAD: [(u64, Spot); 4] = [
 ];
 
 #[test]
-fn a_head_that_is_free_stays_before_a_live_pair(rt: HostRuntime) -> Result<(), Fail> {
+fn a_head_that_is_free_stays_before_a_live_pair(rt: HostRuntime) -> Result<(), AllocError> {
     let mut bucket = filled(rt.alloc(), 37, 0)?;
     mark_keys(&rt, &mut bucket, &[36], &KEEP);
     check_clearing(&rt, &mut bucket, &LET_GO, ALL_OWN);

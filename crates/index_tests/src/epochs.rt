@@ -3,11 +3,10 @@ use crate::by_key::{
     Pairs, Spot, check_clearing, check_insertions, check_len, check_same, clear, filled, key_in,
     mark_key,
 };
-use bucket_slots::bucket::Generation;
+use bucket_slots::bucket::{AllocError, Generation};
 use bucket_table::script::FixedGeneration;
 use std::alloc::Global;
 use std::process::Abort;
-use std::test::Fail;
 
 /// One epoch, and an answer for each mark.
 #[derive(Drop)]
@@ -62,7 +61,7 @@ fn kept_by_square() -> Answers {
 }
 
 // A bucket of this many keys, key i marked with the epoch i after the first.
-fn marked_from(rt: &impl Abort, alloc: Global, first: u8, keys: u8) -> Result<Pairs, Fail> {
+fn marked_from(rt: &impl Abort, alloc: Global, first: u8, keys: u8) -> Result<Pairs, AllocError> {
     let mut bucket = filled(alloc, u64::from(keys), 0)?;
     for key in 0..keys {
         let now = FixedGeneration {
@@ -88,7 +87,7 @@ const BY_REST: [(u8, u8, u32); 6] = [
 ];
 
 #[test]
-fn the_marks_of_a_rest_stay(rt: HostRuntime) -> Result<(), Fail> {
+fn the_marks_of_a_rest_stay(rt: HostRuntime) -> Result<(), AllocError> {
     for (divisor, rest, occupancy) in BY_REST {
         check_eighths(&rt, rt.alloc(), &kept_by_rest(0, divisor, rest), occupancy)?;
     }
@@ -101,7 +100,7 @@ fn check_eighths(
     alloc: Global,
     answers: &Answers,
     occupancy: u32,
-) -> Result<(), Fail> {
+) -> Result<(), AllocError> {
     for eighth in 0..8 {
         let mut bucket = marked_from(rt, alloc, 32 * eighth, 32)?;
         let left = clear(&mut bucket, answers);
@@ -111,7 +110,7 @@ fn check_eighths(
 }
 
 #[test]
-fn each_mark_is_asked_for_on_its_own(rt: HostRuntime) -> Result<(), Fail> {
+fn each_mark_is_asked_for_on_its_own(rt: HostRuntime) -> Result<(), AllocError> {
     let answers = kept_by_square();
     for eighth in 0..8 {
         let first = 32 * eighth;
@@ -135,7 +134,7 @@ fn check_own_slots(rt: &impl Abort, bucket: &Pairs, first: u8, left: u32, answer
 }
 
 #[test]
-fn an_insertion_goes_to_the_one_slot_whose_mark_goes(rt: HostRuntime) -> Result<(), Fail> {
+fn an_insertion_goes_to_the_one_slot_whose_mark_goes(rt: HostRuntime) -> Result<(), AllocError> {
     for gone in 0..=255u8 {
         let mut bucket = marked_from(&rt, rt.alloc(), gone / 32 * 32, 32)?;
         check_insertion(&rt, &mut bucket, gone)?;
@@ -144,7 +143,7 @@ fn an_insertion_goes_to_the_one_slot_whose_mark_goes(rt: HostRuntime) -> Result<
 }
 
 // Every slot is marked, and the pair goes to that of the one epoch that is let go.
-fn check_insertion(rt: &impl Abort, bucket: &mut Pairs, gone: u8) -> Result<(), Fail> {
+fn check_insertion(rt: &impl Abort, bucket: &mut Pairs, gone: u8) -> Result<(), AllocError> {
     let answers = kept_but(gone);
     let place = (0, gone as usize % 32);
     check_insertions(rt, bucket, &answers, &[(40, place)])?;
@@ -176,7 +175,7 @@ const FREE_IN_BLOCKS: [(u64, Spot); 16] = [
 ];
 
 #[test]
-fn marks_in_the_chain_go_as_those_in_own_slots_do(rt: HostRuntime) -> Result<(), Fail> {
+fn marks_in_the_chain_go_as_those_in_own_slots_do(rt: HostRuntime) -> Result<(), AllocError> {
     let answers = kept_by_rest(0, 2, 0);
     for quarter in 0..4 {
         let mut bucket = marked_from(&rt, rt.alloc(), 64 * quarter, 64)?;
@@ -187,7 +186,11 @@ fn marks_in_the_chain_go_as_those_in_own_slots_do(rt: HostRuntime) -> Result<(),
 }
 
 // The pairs that come take the slots with an odd number, first those of the bucket's own.
-fn check_odd_slots(rt: &impl Abort, bucket: &mut Pairs, answers: &Answers) -> Result<(), Fail> {
+fn check_odd_slots(
+    rt: &impl Abort,
+    bucket: &mut Pairs,
+    answers: &Answers,
+) -> Result<(), AllocError> {
     check_clearing(rt, bucket, answers, 1431655765);
     for key in 0..16u64 {
         let place = (0, 2 * key as usize + 1);

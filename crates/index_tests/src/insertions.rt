@@ -4,15 +4,15 @@ use crate::by_key::{
     check_moves, check_places, check_slots, filled, mark_keys,
 };
 use crate::epochs::kept_by_rest;
+use bucket_slots::bucket::AllocError;
 use std::alloc::Global;
 use std::process::Abort;
-use std::test::Fail;
 
 // All own slots are occupied: the sum of 2^i over i from 0 to 31.
 const ALL_OWN: u32 = 4294967295;
 
 #[test]
-fn marks_that_are_kept_send_a_pair_to_the_chain(rt: HostRuntime) -> Result<(), Fail> {
+fn marks_that_are_kept_send_a_pair_to_the_chain(rt: HostRuntime) -> Result<(), AllocError> {
     let mut bucket = filled(rt.alloc(), 32, 0)?;
     mark_keys(&rt, &mut bucket, &[0, 1, 2, 3], &KEEP);
     check_len(&rt, &bucket, 28);
@@ -21,7 +21,7 @@ fn marks_that_are_kept_send_a_pair_to_the_chain(rt: HostRuntime) -> Result<(), F
 }
 
 // The first four of 32 pairs are marked.
-fn check_kept_and_let_go(rt: &impl Abort, bucket: &mut Pairs) -> Result<(), Fail> {
+fn check_kept_and_let_go(rt: &impl Abort, bucket: &mut Pairs) -> Result<(), AllocError> {
     check_insertions(rt, bucket, &KEEP, &[(32, (1, 0))])?;
     // The same bucket, but no mark is kept any more.
     check_insertions(rt, bucket, &LET_GO, &[(33, (0, 0))])?;
@@ -33,7 +33,7 @@ fn check_kept_and_let_go(rt: &impl Abort, bucket: &mut Pairs) -> Result<(), Fail
 }
 
 #[test]
-fn marks_stay_while_an_own_slot_is_free(rt: HostRuntime) -> Result<(), Fail> {
+fn marks_stay_while_an_own_slot_is_free(rt: HostRuntime) -> Result<(), AllocError> {
     let mut bucket = filled(rt.alloc(), 31, 0)?;
     mark_keys(&rt, &mut bucket, &[4], &KEEP);
     check_insertions(&rt, &mut bucket, &LET_GO, &[(40, (0, 31))])?;
@@ -43,7 +43,7 @@ fn marks_stay_while_an_own_slot_is_free(rt: HostRuntime) -> Result<(), Fail> {
 }
 
 #[test]
-fn marks_in_the_chain_stay_while_no_own_slot_is_marked(rt: HostRuntime) -> Result<(), Fail> {
+fn marks_in_the_chain_stay_while_no_own_slot_is_marked(rt: HostRuntime) -> Result<(), AllocError> {
     let mut bucket = filled(rt.alloc(), 33, 0)?;
     mark_keys(&rt, &mut bucket, &[32], &KEEP);
     check_insertions(&rt, &mut bucket, &LET_GO, &[(40, (1, 1)), (41, (1, 2))])
@@ -51,7 +51,7 @@ fn marks_in_the_chain_stay_while_no_own_slot_is_marked(rt: HostRuntime) -> Resul
 
 // Own slots with 31 live pairs and one mark of epoch 1, which is kept, and in the chain live key 34
 // between three marks of epoch 2, which are not.
-fn one_kept_and_three_expired(rt: &impl Abort, alloc: Global) -> Result<Pairs, Fail> {
+fn one_kept_and_three_expired(rt: &impl Abort, alloc: Global) -> Result<Pairs, AllocError> {
     let mut bucket = filled(alloc, 36, 0)?;
     mark_keys(rt, &mut bucket, &[7], &kept_by_rest(1, 255, 1));
     mark_keys(rt, &mut bucket, &[32, 33, 35], &kept_by_rest(2, 255, 1));
@@ -69,7 +69,7 @@ const AROUND_THE_LIVE_PAIR: [(u64, Spot); 4] = [
 ];
 
 #[test]
-fn a_block_with_a_live_pair_stays_and_takes_the_next(rt: HostRuntime) -> Result<(), Fail> {
+fn a_block_with_a_live_pair_stays_and_takes_the_next(rt: HostRuntime) -> Result<(), AllocError> {
     let mut bucket = one_kept_and_three_expired(&rt, rt.alloc())?;
     let now = kept_by_rest(2, 255, 1);
     check_insertions(&rt, &mut bucket, &now, &AROUND_THE_LIVE_PAIR)?;
@@ -80,7 +80,7 @@ fn a_block_with_a_live_pair_stays_and_takes_the_next(rt: HostRuntime) -> Result<
 }
 
 #[test]
-fn a_pair_is_placed_before_free_blocks_go(rt: HostRuntime) -> Result<(), Fail> {
+fn a_pair_is_placed_before_free_blocks_go(rt: HostRuntime) -> Result<(), AllocError> {
     // A chain of one block full of live pairs, and two blocks reserved behind it.
     let mut bucket = filled(rt.alloc(), 36, 0)?;
     mark_keys(&rt, &mut bucket, &[7], &KEEP);
@@ -92,7 +92,7 @@ fn a_pair_is_placed_before_free_blocks_go(rt: HostRuntime) -> Result<(), Fail> {
 const INTO_ONE_BLOCK: [(u64, Spot); 4] = [(41, (2, 1)), (42, (2, 2)), (43, (2, 3)), (44, (1, 0))];
 
 // The bucket has a block full of live pairs, and two free ones behind it.
-fn check_placed_before(rt: &impl Abort, bucket: &mut Pairs) -> Result<(), Fail> {
+fn check_placed_before(rt: &impl Abort, bucket: &mut Pairs) -> Result<(), AllocError> {
     // The original gives both up first, and asks for memory again.
     check_insertions(rt, bucket, &KEEP, &[(40, (2, 0))])?;
     check_places(rt, bucket, &[(32, (1, 0))]);
@@ -115,7 +115,7 @@ const AFTER_FREE_BLOCKS_WENT: [(u64, Spot); 7] = [
 ];
 
 #[test]
-fn free_blocks_go_though_an_own_slot_took_the_pair(rt: HostRuntime) -> Result<(), Fail> {
+fn free_blocks_go_though_an_own_slot_took_the_pair(rt: HostRuntime) -> Result<(), AllocError> {
     let mut bucket = filled(rt.alloc(), 32, 0)?;
     mark_keys(&rt, &mut bucket, &[5, 6], &KEEP);
     bucket.reserve_slots(8)?;
@@ -125,7 +125,7 @@ fn free_blocks_go_though_an_own_slot_took_the_pair(rt: HostRuntime) -> Result<()
 }
 
 #[test]
-fn a_move_into_a_bucket_leaves_its_marks(rt: HostRuntime) -> Result<(), Fail> {
+fn a_move_into_a_bucket_leaves_its_marks(rt: HostRuntime) -> Result<(), AllocError> {
     let mut source = filled(rt.alloc(), 40, 0)?;
     let mut target = filled(rt.alloc(), 32, 0)?;
     mark_keys(&rt, &mut target, &[0, 1, 2, 31], &KEEP);
@@ -140,7 +140,11 @@ fn a_move_into_a_bucket_leaves_its_marks(rt: HostRuntime) -> Result<(), Fail> {
 }
 
 // The marked keys 0 and 31 stay in their slots through three moves.
-fn check_marks_stay(rt: &impl Abort, target: &mut Pairs, source: &mut Pairs) -> Result<(), Fail> {
+fn check_marks_stay(
+    rt: &impl Abort,
+    target: &mut Pairs,
+    source: &mut Pairs,
+) -> Result<(), AllocError> {
     for row in [(32, (1, 0)), (33, (1, 1)), (39, (1, 2))] {
         check_moves(rt, target, source, &[row])?;
         check_slots(rt, target, &[(0, Some(0)), (31, Some(31))]);

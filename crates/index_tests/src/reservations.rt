@@ -3,12 +3,12 @@ use crate::by_key::{
     KEEP, LET_GO, Pairs, Spot, check_clearing, check_insertions, check_len, check_moves,
     check_places, filled, mark_keys,
 };
+use bucket_slots::bucket::AllocError;
 use std::alloc::Global;
 use std::process::Abort;
-use std::test::Fail;
 
 // A bucket of 32 pairs, of which the first four are marked.
-fn four_marked(rt: &impl Abort, alloc: Global) -> Result<Pairs, Fail> {
+fn four_marked(rt: &impl Abort, alloc: Global) -> Result<Pairs, AllocError> {
     let mut bucket = filled(alloc, 32, 0)?;
     mark_keys(rt, &mut bucket, &[0, 1, 2, 3], &KEEP);
     check_len(rt, &bucket, 28);
@@ -26,14 +26,18 @@ const INTO_THE_ADDED_BLOCK: [(u64, Spot); 4] = [
 // Here 4 more than the 28 live pairs are 32, the own slots; and yet none of these is free. The
 // original compares those numbers and adds no block.
 #[test]
-fn marked_slots_count_as_taken(rt: HostRuntime) -> Result<(), Fail> {
+fn marked_slots_count_as_taken(rt: HostRuntime) -> Result<(), AllocError> {
     let mut source = filled(rt.alloc(), 40, 0)?;
     let mut bucket = four_marked(&rt, rt.alloc())?;
     check_added_block(&rt, &mut bucket, &mut source)
 }
 
 // The bucket has four marked slots and no free one.
-fn check_added_block(rt: &impl Abort, bucket: &mut Pairs, source: &mut Pairs) -> Result<(), Fail> {
+fn check_added_block(
+    rt: &impl Abort,
+    bucket: &mut Pairs,
+    source: &mut Pairs,
+) -> Result<(), AllocError> {
     reserve_four_twice(bucket)?;
     check_len(rt, bucket, 28);
     check_moves(rt, bucket, source, &INTO_THE_ADDED_BLOCK)?;
@@ -46,7 +50,7 @@ fn check_added_block(rt: &impl Abort, bucket: &mut Pairs, source: &mut Pairs) ->
 }
 
 // Reserves four slots where none is free. Then four are, so that the second call adds none.
-fn reserve_four_twice(bucket: &mut Pairs) -> Result<(), Fail> {
+fn reserve_four_twice(bucket: &mut Pairs) -> Result<(), AllocError> {
     bucket.reserve_slots(4)?;
     bucket.reserve_slots(4)?;
     Ok(())
@@ -63,7 +67,7 @@ const INTO_THE_LAST_BLOCK: [(u64, Spot); 4] = [
 // The same with a block of live pairs before: what is reserved stands behind it, while a block that
 // a move has to make would stand before it.
 #[test]
-fn what_is_reserved_for_marked_slots_stands_at_the_end(rt: HostRuntime) -> Result<(), Fail> {
+fn what_is_reserved_for_marked_slots_stands_at_the_end(rt: HostRuntime) -> Result<(), AllocError> {
     let mut source = filled(rt.alloc(), 44, 0)?;
     let mut bucket = filled(rt.alloc(), 36, 0)?;
     mark_keys(&rt, &mut bucket, &[0, 1, 2, 3], &KEEP);
@@ -71,7 +75,11 @@ fn what_is_reserved_for_marked_slots_stands_at_the_end(rt: HostRuntime) -> Resul
 }
 
 // The bucket has four marked slots, no free one, and a block of live pairs.
-fn check_last_block(rt: &impl Abort, bucket: &mut Pairs, source: &mut Pairs) -> Result<(), Fail> {
+fn check_last_block(
+    rt: &impl Abort,
+    bucket: &mut Pairs,
+    source: &mut Pairs,
+) -> Result<(), AllocError> {
     reserve_four_twice(bucket)?;
     check_moves(rt, bucket, source, &INTO_THE_LAST_BLOCK)?;
     check_places(rt, bucket, &[(32, (1, 0))]);
@@ -82,7 +90,7 @@ fn check_last_block(rt: &impl Abort, bucket: &mut Pairs, source: &mut Pairs) -> 
 }
 
 #[test]
-fn a_moved_pair_passes_a_marked_slot_in_its_block(rt: HostRuntime) -> Result<(), Fail> {
+fn a_moved_pair_passes_a_marked_slot_in_its_block(rt: HostRuntime) -> Result<(), AllocError> {
     let mut source = filled(rt.alloc(), 40, 0)?;
     let mut bucket = filled(rt.alloc(), 34, 0)?;
     mark_keys(&rt, &mut bucket, &[32], &KEEP);
@@ -90,7 +98,11 @@ fn a_moved_pair_passes_a_marked_slot_in_its_block(rt: HostRuntime) -> Result<(),
 }
 
 // Two slots are free in the block, behind a marked and a live one, and then the pairs make a head.
-fn check_free_slots(rt: &impl Abort, bucket: &mut Pairs, source: &mut Pairs) -> Result<(), Fail> {
+fn check_free_slots(
+    rt: &impl Abort,
+    bucket: &mut Pairs,
+    source: &mut Pairs,
+) -> Result<(), AllocError> {
     bucket.reserve_slots(2)?;
     let rows = [(36, (1, 2)), (37, (1, 3)), (38, (1, 0))];
     check_moves(rt, bucket, source, &rows)?;
@@ -111,7 +123,7 @@ const INTO_FREE_SLOTS: [(u64, Spot); 8] = [
 ];
 
 #[test]
-fn slots_that_were_let_go_are_free(rt: HostRuntime) -> Result<(), Fail> {
+fn slots_that_were_let_go_are_free(rt: HostRuntime) -> Result<(), AllocError> {
     let mut bucket = four_marked(&rt, rt.alloc())?;
     // All own slots but the first four: the sum of 2^i over i from 4 to 31.
     check_clearing(&rt, &mut bucket, &LET_GO, 4294967280);
@@ -119,7 +131,7 @@ fn slots_that_were_let_go_are_free(rt: HostRuntime) -> Result<(), Fail> {
 }
 
 // Four own slots are free, and one slot more is reserved.
-fn check_own_and_added(rt: &impl Abort, bucket: &mut Pairs) -> Result<(), Fail> {
+fn check_own_and_added(rt: &impl Abort, bucket: &mut Pairs) -> Result<(), AllocError> {
     bucket.reserve_slots(5)?;
     check_insertions(rt, bucket, &KEEP, &INTO_FREE_SLOTS)?;
     // One block was added, and it is full.

@@ -2,10 +2,10 @@
 use crate::by_key::{
     At, KEEP, Pairs, Spot, check_absent, check_len, check_same, filled, insert, mark_key, searched,
 };
+use bucket_slots::bucket::AllocError;
 use bucket_table::script::FixedGeneration;
 use std::alloc::Global;
 use std::process::Abort;
-use std::test::Fail;
 
 // Own slots and slots of the chain of keys 0 to 40, the only pair of its head among them.
 const MARKED: [u64; 7] = [0, 5, 31, 32, 35, 38, 40];
@@ -23,7 +23,7 @@ const EPOCHS: [u8; 4] = [BYTE, 0, 6, 255];
 const STAYING_IN_THE_CHAIN: [u64; 5] = [36, 37, 39, 33, 34];
 
 #[test]
-fn marked_pairs_are_found_and_walked_no_more(rt: HostRuntime) -> Result<(), Fail> {
+fn marked_pairs_are_found_and_walked_no_more(rt: HostRuntime) -> Result<(), AllocError> {
     for epoch in EPOCHS {
         let bucket = seven_marked(&rt, rt.alloc(), epoch)?;
         check_searches(&rt, &bucket);
@@ -33,7 +33,7 @@ fn marked_pairs_are_found_and_walked_no_more(rt: HostRuntime) -> Result<(), Fail
 }
 
 // Keys 0 to 40, of which seven are marked with the epoch.
-fn seven_marked(rt: &impl Abort, alloc: Global, epoch: u8) -> Result<Pairs, Fail> {
+fn seven_marked(rt: &impl Abort, alloc: Global, epoch: u8) -> Result<Pairs, AllocError> {
     let now = FixedGeneration { epoch, keep: true };
     let mut bucket = filled(alloc, 41, HASH)?;
     for key in MARKED {
@@ -87,7 +87,7 @@ fn next_key(bucket: &Pairs, at: &mut At) -> Option<u64> {
 }
 
 #[test]
-fn a_key_that_comes_again_is_found_behind_its_mark(rt: HostRuntime) -> Result<(), Fail> {
+fn a_key_that_comes_again_is_found_behind_its_mark(rt: HostRuntime) -> Result<(), AllocError> {
     let mut bucket = filled(rt.alloc(), 3, u64::from(BYTE))?;
     let now = FixedGeneration {
         epoch: BYTE,
@@ -115,7 +115,7 @@ fn value_in(bucket: &Pairs, pos: usize) -> Option<u64> {
 }
 
 #[test]
-fn a_bucket_of_marks_alone_finds_and_walks_nothing(rt: HostRuntime) -> Result<(), Fail> {
+fn a_bucket_of_marks_alone_finds_and_walks_nothing(rt: HostRuntime) -> Result<(), AllocError> {
     let mut bucket = filled(rt.alloc(), 37, 0)?;
     for key in 0..37 {
         check_same(&rt, mark_key(&mut bucket, key, 0, &KEEP), true, key);
