@@ -1,5 +1,6 @@
 //! Arrays: their lengths, their buckets, and that each pair in them is dropped once.
-use bucket_slots::bucket::{CACHE, INDEX, MAP};
+use crate::checks::check_same;
+use bucket_slots::bucket::{AllocError, CACHE, INDEX, MAP};
 use bucket_slots::bucket_array::BucketArray;
 use bucket_table::hash_table::sample;
 use std::alloc::Global;
@@ -8,6 +9,9 @@ use std::rc::Rc;
 use std::test::Fail;
 
 type Array = BucketArray<u64, u64, (), MAP>;
+
+// An array of shared values.
+type Shared = BucketArray<u64, Rc<i32>, (), MAP>;
 
 // A capacity, and the slots and the length of an array for it.
 const LENGTHS: [(usize, usize, usize); 8] = [
@@ -22,84 +26,114 @@ const LENGTHS: [(usize, usize, usize); 8] = [
 ];
 
 #[test]
-fn an_array_has_the_least_power_of_two_of_slots(rt: HostRuntime) -> Result<(), Fail> {
+fn an_array_has_the_least_power_of_two_of_slots(rt: HostRuntime) -> Result<(), AllocError> {
     for (capacity, slots, len) in LENGTHS {
         let array = Array::alloc(rt.alloc(), capacity)?;
-        assert_eq!(rt; array.num_slots(), slots, "slots for {capacity}");
-        assert_eq!(rt; array.len(), len, "length for {capacity}");
+        check_same(&rt, extent(&array), (slots, len), capacity);
     }
     Ok(())
+}
+
+// The slots and the length of an array.
+fn extent(array: &Array) -> (usize, usize) {
+    (array.num_slots(), array.len())
 }
 
 #[test]
 fn what_passes_the_address_space_is_refused_at_once(rt: HostRuntime) {
     for capacity in [usize::MAX, 1 << 63, 1 << 62] {
-        assert!(rt;
-            Array::alloc(rt.alloc(), capacity).is_err(),
-            "capacity {capacity}"
-        );
+        let refused = Array::alloc(rt.alloc(), capacity).is_err();
+        check_same(&rt, refused, true, capacity);
     }
 }
 
 #[test]
-fn the_samples_of_an_array_are_those_of_its_length(rt: HostRuntime) -> Result<(), Fail> {
+fn the_samples_of_an_array_are_those_of_its_length(rt: HostRuntime) -> Result<(), AllocError> {
     for (capacity, small, large, full) in [(64, 1, 1, 2), (512, 4, 4, 16), (32768, 8, 16, 128)] {
         let array = Array::alloc(rt.alloc(), capacity)?;
-        assert_eq!(rt;
-            array.small_sample_size(),
-            small,
-            "small sample for {capacity}"
-        );
-        assert_eq!(rt;
-            array.large_sample_size(),
-            large,
-            "large sample for {capacity}"
-        );
-        assert_eq!(rt;
-            array.full_sample_size(),
-            full,
-            "full sample for {capacity}"
-        );
+        check_same(&rt, samples(&array), (small, large, full), capacity);
     }
     Ok(())
 }
 
+// The small, the large and the full sample of an array.
+fn samples(array: &Array) -> (usize, usize, usize) {
+    (
+        array.small_sample_size(),
+        array.large_sample_size(),
+        array.full_sample_size(),
+    )
+}
+
 #[test]
-fn new_buckets_are_empty_and_not_killed(rt: HostRuntime) -> Result<(), Fail> {
+fn new_buckets_are_empty_and_not_killed(rt: HostRuntime) -> Result<(), AllocError> {
     let array = Array::alloc(rt.alloc(), 256)?;
     for index in 0..array.len() {
-        assert_eq!(rt; array.bucket(index).len(), 0);
-        assert!(rt; !array.bucket(index).is_killed());
+        check_bucket(&rt, &array, index, (0, false));
         for pos in 0..32 {
-            assert_eq!(rt;
-                array.data_block(index).key(pos),
-                None,
-                "slot {pos} of {index}"
-            );
+            check_same(&rt, key_in(&array, index, pos), Some(None), (index, pos));
         }
     }
     Ok(())
 }
 
+// A bucket has this many pairs, and is killed or not.
+fn check_bucket(rt: &impl Abort, array: &Array, index: usize, wanted: (usize, bool)) {
+    check_same(rt, bucket_state(array, index), Some(wanted), index);
+}
+
+// How many pairs a bucket of the array has, and whether it is killed.
+fn bucket_state(array: &Array, index: usize) -> Option<(usize, bool)> {
+    if index >= array.len() {
+        return None;
+    }
+    let bucket = array.bucket(index);
+    Some((bucket.len(), bucket.is_killed()))
+}
+
+// What a slot of a bucket of the array has as its key.
+fn key_in(array: &Array, index: usize, pos: usize) -> Option<Option<u64>> {
+    if index >= array.len() {
+        return None;
+    }
+    Some(array.data_block(index).key(pos).copied())
+}
+
+// What a slot of a bucket of the array has as its value.
+fn value_in(array: &Array, index: usize, pos: usize) -> Option<Option<u64>> {
+    if index >= array.len() {
+        return None;
+    }
+    Some(array.data_block(index).val(pos).copied())
+}
+
 #[test]
-fn a_change_of_one_bucket_leaves_the_others(rt: HostRuntime) -> Result<(), Fail> {
+fn a_change_of_one_bucket_leaves_the_others(rt: HostRuntime) -> Result<(), AllocError> {
     let mut array = unequal_buckets(&rt, rt.alloc())?;
     for (index, pairs) in [(0, 40), (1, 0), (2, 3), (3, 1)] {
-        assert!(rt; index < array.len());
-        assert_eq!(rt; array.bucket(index).len(), pairs, "bucket {index}");
+        check_bucket(&rt, &array, index, (pairs, false));
     }
-    assert!(rt; array.len() == 4);
-    assert_eq!(rt; array.data_block(2).val(1), Some(&10));
-    assert_eq!(rt; array.data_block(1).val(1), None);
-
-    let empty = array.bucket_mut(1);
-    assert!(rt; empty.len() == 0 && !empty.is_killed());
-    empty.kill();
-    for (index, killed) in [(0, false), (1, true), (2, false), (3, false)] {
-        assert!(rt; index < array.len());
-        assert_eq!(rt; array.bucket(index).is_killed(), killed, "bucket {index}");
+    check_same(&rt, array.len(), 4, 4);
+    check_same(&rt, value_in(&array, 2, 1), Some(Some(10)), 2);
+    check_same(&rt, value_in(&array, 1, 1), Some(None), 1);
+    check_same(&rt, kill_empty(&mut array, 1), true, 1);
+    for (index, pairs, killed) in [(0, 40, false), (1, 0, true), (2, 3, false), (3, 1, false)] {
+        check_bucket(&rt, &array, index, (pairs, killed));
     }
     Ok(())
+}
+
+// Kills a bucket of the array that has no pair and isn't killed, and returns whether it was one.
+fn kill_empty(array: &mut Array, index: usize) -> bool {
+    if index >= array.len() {
+        return false;
+    }
+    let bucket = array.bucket_mut(index);
+    if bucket.len() != 0 || bucket.is_killed() {
+        return false;
+    }
+    bucket.kill();
+    true
 }
 
 // The start and the size of a sample of four buckets with 40, 0, 3 and 1 live slots, and the
@@ -114,53 +148,72 @@ const ESTIMATES: [(usize, usize, usize); 6] = [
 ];
 
 #[test]
-fn an_estimate_scales_a_sample_up(rt: HostRuntime) -> Result<(), Fail> {
+fn an_estimate_scales_a_sample_up(rt: HostRuntime) -> Result<(), AllocError> {
     let array = unequal_buckets(&rt, rt.alloc())?;
     for (start, size, estimate) in ESTIMATES {
-        assert!(rt; start < 4 && size > 0 && size <= 4 && start + size <= array.len());
-        assert_eq!(rt;
-            sample(&array, start, size),
-            estimate,
-            "{size} buckets from {start}"
-        );
+        let estimated = sampled(&array, start, size);
+        check_same(&rt, estimated, Some(estimate), (start, size));
     }
     Ok(())
 }
 
+// The estimate of a sample, if the array has these buckets and they are one or more.
+fn sampled(array: &Array, start: usize, size: usize) -> Option<usize> {
+    if size == 0 || start > array.len() || size > array.len() - start {
+        return None;
+    }
+    Some(sample(array, start, size))
+}
+
 #[test]
-fn arrays_of_each_kind_are_made(rt: HostRuntime) -> Result<(), Fail> {
+fn arrays_of_each_kind_are_made(rt: HostRuntime) -> Result<(), AllocError> {
     let index = BucketArray::<u8, u8, (), INDEX>::alloc(rt.alloc(), 0)?;
-    assert_eq!(rt; index.len(), 2);
+    check_same(&rt, index.len(), 2, INDEX);
     let cache = BucketArray::<u8, u8, (), CACHE>::alloc(rt.alloc(), 0)?;
-    assert_eq!(rt; cache.len(), 2);
+    check_same(&rt, cache.len(), 2, CACHE);
     Ok(())
 }
 
 #[test]
 fn pairs_still_held_are_dropped_with_the_array(rt: HostRuntime) -> Result<(), Fail> {
     let counted = Rc::new(rt.alloc(), 0)?;
-    let mut array = BucketArray::<u64, Rc<i32>, (), MAP>::alloc(rt.alloc(), 64)?;
+    let mut array = Shared::alloc(rt.alloc(), 64)?;
     for key in 0..40 {
-        let index = key as usize % 2;
-        assert!(rt; index < array.len());
-        array
-            .bucket_mut(index)
-            .insert(key, (key, counted.clone()?), &())?;
+        share(&rt, &mut array, &counted, key)?;
     }
-    assert_eq!(rt; Rc::strong_count(&counted), 41);
+    check_same(&rt, Rc::strong_count(&counted), 41, 40);
     drop(array);
-    assert_eq!(rt; Rc::strong_count(&counted), 1);
+    check_same(&rt, Rc::strong_count(&counted), 1, 0);
+    Ok(())
+}
+
+// Inserts a key whose value is one share more, into bucket 0 or 1.
+fn share(rt: &impl Abort, array: &mut Shared, counted: &Rc<i32>, key: u64) -> Result<(), Fail> {
+    let index = key as usize % 2;
+    assert!(rt; index < array.len());
+    array
+        .bucket_mut(index)
+        .insert(key, (key, counted.clone()?), &())?;
     Ok(())
 }
 
 // Four buckets with 40, 0, 3 and 1 pairs.
-fn unequal_buckets(rt: &impl Abort, alloc: Global) -> Result<Array, Fail> {
+fn unequal_buckets(rt: &impl Abort, alloc: Global) -> Result<Array, AllocError> {
     let mut array = Array::alloc(alloc, 128)?;
     for (index, pairs) in [(2, 3), (0, 40), (3, 1)] {
         for key in 0..pairs {
-            assert!(rt; index < array.len());
-            array.bucket_mut(index).insert(key, (key, key * 10), &())?;
+            put(rt, &mut array, index, key)?;
         }
     }
     Ok(array)
+}
+
+// Inserts a key into a bucket of the array, with ten times itself as its value.
+fn put(rt: &impl Abort, array: &mut Array, index: usize, key: u64) -> Result<(), AllocError> {
+    assert!(rt; index < array.len());
+    let pair = (key, key.wrapping_mul(10));
+    match array.bucket_mut(index).insert(key, pair, &()) {
+        Ok(_) => Ok(()),
+        Err(_) => Err(AllocError),
+    }
 }

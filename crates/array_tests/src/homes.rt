@@ -2,11 +2,11 @@
 ghost use Rattle.std.specs.Prelude.{◌≡◌, ◌<◌};
 ghost use Rattle.std.specs.Int.{IsPowerOfTwo};
 
-use bucket_slots::bucket::MAP;
+use crate::checks::check_same;
+use bucket_slots::bucket::{AllocError, MAP};
 use bucket_slots::bucket_array::BucketArray;
 use bucket_table::hash_table::from_index_to_range;
 use std::process::Abort;
-use std::test::Fail;
 
 // Arrays of buckets without keys and values, which take little memory.
 type Homes = BucketArray<(), (), (), MAP>;
@@ -38,24 +38,26 @@ const SAMPLED: [(u64, bool); 8] = [
     (1 << 63, true),
 ];
 
+// A hash, and its home in an array of two buckets.
+const HALVES: [(u64, usize); 4] = [(0, 0), ((1 << 63) - 1, 0), (1 << 63, 1), (u64::MAX, 1)];
+
 #[test]
-fn the_upper_half_of_hashes_is_at_home_in_bucket_one(rt: HostRuntime) -> Result<(), Fail> {
+fn the_upper_half_of_hashes_is_at_home_in_bucket_one(rt: HostRuntime) -> Result<(), AllocError> {
     let array = Homes::alloc(rt.alloc(), 64)?;
-    assert_eq!(rt; array.bucket_index(0), 0);
-    assert_eq!(rt; array.bucket_index((1 << 63) - 1), 0);
-    assert_eq!(rt; array.bucket_index(1 << 63), 1);
-    assert_eq!(rt; array.bucket_index(u64::MAX), 1);
+    for (hash, index) in HALVES {
+        check_same(&rt, array.bucket_index(hash), index, hash);
+    }
     Ok(())
 }
 
 #[test]
 fn a_low_byte_in_as_many_as_the_large_sample_starts_a_sampling(
     rt: HostRuntime,
-) -> Result<(), Fail> {
+) -> Result<(), AllocError> {
     let array = Homes::alloc(rt.alloc(), 256)?;
-    assert_eq!(rt; array.len(), 8);
+    check_same(&rt, array.len(), 8, 256);
     for (hash, starts) in SAMPLED {
-        assert_eq!(rt; array.initiate_sampling(hash), starts, "hash {hash}");
+        check_same(&rt, array.initiate_sampling(hash), starts, hash);
     }
     Ok(())
 }
@@ -64,32 +66,37 @@ fn a_low_byte_in_as_many_as_the_large_sample_starts_a_sampling(
 fn ranges_are_those_of_the_rows(rt: HostRuntime) {
     for (from, to, index, range) in RANGES {
         let shared = range_of(&rt, from, to, index);
-        assert_eq!(rt; shared, range, "bucket {index} of {from}, in {to}");
+        check_same(&rt, shared, range, (index, from, to));
     }
 }
 
 // Each bucket's interval begins where the one before it ends.
 #[test]
-fn each_interval_is_at_home_at_both_ends(rt: HostRuntime) -> Result<(), Fail> {
+fn each_interval_is_at_home_at_both_ends(rt: HostRuntime) -> Result<(), AllocError> {
     for k in 1..=MOST {
         let len = 1usize << k;
         let width = 1u64 << (64 - k);
         let array = Homes::alloc(rt.alloc(), 32 << k)?;
-        assert_eq!(rt; array.len(), len);
-        let mut first: u64 = 0;
-        for index in 0..len {
-            let last = first.wrapping_add(width.wrapping_sub(1));
-            assert_eq!(rt;
-                array.bucket_index(first),
-                index,
-                "first of {index} of {len}"
-            );
-            assert_eq!(rt; array.bucket_index(last), index, "last of {index} of {len}");
-            first = last.wrapping_add(1);
-        }
-        assert_eq!(rt; first, 0);
+        check_same(&rt, array.len(), len, k);
+        check_intervals(&rt, &array, len, width);
     }
     Ok(())
+}
+
+// The intervals of this width follow one another, and the last ends where the first begins.
+fn check_intervals(rt: &impl Abort, array: &Homes, len: usize, width: u64) {
+    let mut first: u64 = 0;
+    for index in 0..len {
+        let last = first.wrapping_add(width.wrapping_sub(1));
+        check_same(rt, homes(array, first, last), (index, index), (index, len));
+        first = last.wrapping_add(1);
+    }
+    check_same(rt, first, 0, len);
+}
+
+// The homes of two hashes.
+fn homes(array: &Homes, first: u64, last: u64) -> (usize, usize) {
+    (array.bucket_index(first), array.bucket_index(last))
 }
 
 // The home of the first hash of a bucket begins its range in another array, and the home of the
@@ -97,32 +104,31 @@ fn each_interval_is_at_home_at_both_ends(rt: HostRuntime) -> Result<(), Fail> {
 #[test]
 fn ranges_go_from_the_home_of_the_first_hash_to_that_of_the_last(
     rt: HostRuntime,
-) -> Result<(), Fail> {
+) -> Result<(), AllocError> {
     for k in [1, 5, 10, 15, MOST] {
         let to = 1usize << k;
         let array = Homes::alloc(rt.alloc(), 32 << k)?;
         for other in 1..=MOST {
             let from = 1usize << other;
             let width = 1u64 << (64 - other);
-            let mut first: u64 = 0;
-            for index in 0..from {
-                let last = first.wrapping_add(width.wrapping_sub(1));
-                let (start, end) = range_of(&rt, from, to, index);
-                assert_eq!(rt;
-                    start,
-                    array.bucket_index(first),
-                    "{index} of {from} in {to}"
-                );
-                assert_eq!(rt;
-                    end - 1,
-                    array.bucket_index(last),
-                    "{index} of {from} in {to}"
-                );
-                first = last.wrapping_add(1);
-            }
+            check_ranges(&rt, &array, (from, to), width);
         }
     }
     Ok(())
+}
+
+// The ranges of each bucket of an array in another, whose lengths are given in that order. The
+// intervals of the first have this width.
+fn check_ranges(rt: &impl Abort, array: &Homes, lengths: (usize, usize), width: u64) {
+    let (from, to) = lengths;
+    let mut first: u64 = 0;
+    for index in 0..from {
+        let last = first.wrapping_add(width.wrapping_sub(1));
+        let (start, end) = range_of(rt, from, to, index);
+        let ends = homes(array, first, last);
+        check_same(rt, (start, end - 1), ends, (index, from, to));
+        first = last.wrapping_add(1);
+    }
 }
 
 // The range of a bucket in another array.
@@ -131,7 +137,7 @@ fn range_of(rt: &impl Abort, from: usize, to: usize, index: usize) -> (usize, us
 {
     let first = power_of_two(rt, from);
     let second = power_of_two(rt, to);
-    assert!(rt; index < first, "no bucket {index} of {from}");
+    assert!(rt; index < first);
     from_index_to_range(first, second, index)
 }
 
@@ -140,8 +146,8 @@ fn power_of_two(rt: &impl Abort, n: usize) -> usize
     ensures value { result ≡ n }
     ensures power { IsPowerOfTwo result }
 {
-    assert!(rt; n <= 1 << 63, "{n} is no power of two");
+    assert!(rt; n <= 1 << 63);
     let power = n.next_power_of_two();
-    assert_eq!(rt; power, n, "{n} is no power of two");
+    assert_eq!(rt; power, n);
     power
 }

@@ -2,6 +2,7 @@
 ghost use Rattle.std.specs.Prelude.{◌≡◌, ◌≤◌, ◌^◌};
 ghost use Rattle.bucket_slots.specs.Sizing.{IsPowerIn};
 
+use crate::checks::check_same;
 use bucket_slots::bucket::MAP;
 use bucket_slots::bucket_array::{
     BucketArray, full_sample_size_of, large_sample_size_of, small_sample_size_of,
@@ -78,66 +79,80 @@ const FOR_ENTRIES: [(usize, usize); 7] = [
 #[test]
 fn samples_grow_with_the_logarithm_of_the_length(rt: HostRuntime) {
     for (len, small, large, full) in SAMPLES {
-        let power = sampled_len(&rt, len);
-        assert_eq!(rt; small_sample_size_of(power), small, "small sample of {len}");
-        assert_eq!(rt; large_sample_size_of(power), large, "large sample of {len}");
-        assert_eq!(rt; full_sample_size_of(power), full, "full sample of {len}");
+        check_same(&rt, samples_of(&rt, len), (small, large, full), len);
     }
+}
+
+// The small, the large and the full sample of a length.
+fn samples_of(rt: &impl Abort, len: usize) -> (usize, usize, usize) {
+    let power = sampled_len(rt, len);
+    (
+        small_sample_size_of(power),
+        large_sample_size_of(power),
+        full_sample_size_of(power),
+    )
 }
 
 #[test]
 fn more_than_thirteen_of_sixteen_are_too_many(rt: HostRuntime) {
     for (capacity, entries, enlarge) in FULL {
-        assert_eq!(rt;
-            Array::need_enlarge(capacity, entries),
-            enlarge,
-            "{entries} in {capacity}"
-        );
+        let needed = Array::need_enlarge(capacity, entries);
+        check_same(&rt, needed, enlarge, (capacity, entries));
     }
 }
 
 #[test]
 fn fewer_than_one_of_eight_are_too_few(rt: HostRuntime) {
     for (capacity, entries, shrink) in EMPTY {
-        assert_eq!(rt;
-            Array::need_shrink(capacity, entries),
-            shrink,
-            "{entries} in {capacity}"
-        );
+        let needed = Array::need_shrink(capacity, entries);
+        check_same(&rt, needed, shrink, (capacity, entries));
     }
 }
 
 #[test]
 fn the_best_capacity_is_between_the_bounds(rt: HostRuntime) {
     for (capacity, entries, minimum, maximum, best) in CAPACITIES {
-        let most = greatest_capacity(&rt, maximum);
-        let slots = power_up_to(&rt, capacity, most);
-        assert!(rt; minimum <= most);
-        assert_eq!(rt;
-            Array::optimal_capacity(slots, entries, minimum, most),
-            best,
-            "{entries} in {capacity}, from {minimum} to {maximum}"
-        );
+        let found = best_capacity(&rt, capacity, entries, (minimum, maximum));
+        check_same(&rt, found, best, (capacity, entries, minimum, maximum));
     }
+}
+
+// The best capacity for entries, from the least to the greatest.
+fn best_capacity(
+    rt: &impl Abort,
+    capacity: usize,
+    entries: usize,
+    bounds: (usize, usize),
+) -> usize {
+    let (minimum, maximum) = bounds;
+    let most = greatest_capacity(rt, maximum);
+    let slots = power_up_to(rt, capacity, most);
+    assert!(rt; minimum <= most);
+    Array::optimal_capacity(slots, entries, minimum, most)
 }
 
 #[test]
 fn a_quarter_more_slots_than_entries(rt: HostRuntime) {
     for (entries, capacity) in FOR_ENTRIES {
-        assert_eq!(rt;
+        check_same(
+            &rt,
             table_capacity_from_num_entries(entries),
             capacity,
-            "for {entries}"
+            entries,
         );
     }
 }
 
 #[test]
 fn a_hint_promises_its_upper_bound(rt: HostRuntime) {
-    assert_eq!(rt; num_entries_from_hint((3, None)), 3);
-    assert_eq!(rt; num_entries_from_hint((3, Some(9))), 9);
-    assert_eq!(rt; num_entries_from_hint((usize::MAX, Some(0))), 0);
-    assert_eq!(rt; Array::minimum_capacity(), 64);
+    for (hint, entries) in [
+        ((3, None), 3),
+        ((3, Some(9)), 9),
+        ((usize::MAX, Some(0)), 0),
+    ] {
+        check_same(&rt, num_entries_from_hint(hint), entries, hint.0);
+    }
+    check_same(&rt, Array::minimum_capacity(), 64, 0);
 }
 
 // The number again, known to be a length that has samples.
@@ -145,7 +160,7 @@ fn sampled_len(rt: &impl Abort, len: usize) -> usize
     ensures value { result ≡ len }
     ensures length { IsPowerIn 2 (2 ^ 58) result }
 {
-    assert!(rt; len >= 2 && len <= 1 << 58, "{len} is no length");
+    assert!(rt; len >= 2 && len <= 1 << 58);
     power_up_to(rt, len, 1 << 58)
 }
 
@@ -154,10 +169,7 @@ fn greatest_capacity(rt: &impl Abort, maximum: usize) -> usize
     ensures value { result ≡ maximum }
     ensures capacity { IsPowerIn 64 (2 ^ 63) result }
 {
-    assert!(rt;
-        maximum >= 64 && maximum <= M,
-        "{maximum} is no greatest capacity"
-    );
+    assert!(rt; maximum >= 64 && maximum <= M);
     power_up_to(rt, maximum, M)
 }
 
@@ -167,8 +179,8 @@ fn power_up_to(rt: &impl Abort, n: usize, most: usize) -> usize
     ensures value { result ≡ n }
     ensures power { IsPowerIn 1 most result }
 {
-    assert!(rt; n <= most, "{n} passes {most}");
+    assert!(rt; n <= most);
     let power = n.next_power_of_two();
-    assert_eq!(rt; power, n, "{n} is no power of two");
+    assert_eq!(rt; power, n);
     power
 }
