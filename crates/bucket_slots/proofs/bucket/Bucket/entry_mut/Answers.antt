@@ -1,9 +1,13 @@
-use Rattle.std.proofs.Common.{refl, sym, ap, ◌∙◌}
+use Rattle.std.proofs.Common.{arith, refl, sym, ap, ◌∙◌}
+use Rattle.std.proofs.lemmas.Grind.{common_steps}
 use Rattle.bucket_slots.specs.BucketView.{slot_in}
 use Rattle.bucket_slots.specs.Slots.{live_pair}
 use Rattle.bucket_slots.proofs.BucketValues.{IsBucket-chain_value, IsBucket-own_value, bucket_with_value-chain}
 use Rattle.bucket_slots.proofs.Pointing.{chain_live, own_live}
 use Rattle.bucket_slots.proofs.bucket.Bucket.entry_mut.Goals as goal
+
+pub entry_mut-requires : goal.entry_mut-requires
+entry_mut-requires g c = grind (arith, common_steps)
 
 pub invariant_of-self-lent : goal.invariant_of-self-lent
 invariant_of-self-lent g c w =

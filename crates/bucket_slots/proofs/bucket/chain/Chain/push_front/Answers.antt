@@ -1,6 +1,16 @@
 use Rattle.std.proofs.Common.{arith, ◌≡◌, length}
+use Rattle.std.proofs.lemmas.Grind.{common_steps}
 use Rattle.bucket_slots.proofs.ChainRows.{IsChain-cons}
 use Rattle.bucket_slots.proofs.bucket.chain.Chain.push_front.Goals as goal
+
+pub new-requires : goal.new-requires
+new-requires g c = grind (arith, common_steps)
+
+pub array_drop-requires : goal.array_drop-requires
+array_drop-requires g c = grind (arith, common_steps)
+
+pub invariant_of-self : goal.invariant_of-self
+invariant_of-self g c = grind (arith, common_steps)
 
 pub invariant_of-self-2 : goal.invariant_of-self-2
 invariant_of-self-2 g c =
