@@ -1,6 +1,13 @@
-use Rattle.std.proofs.Common.{rules}
+use Rattle.std.proofs.Common.{arith, rules}
+use Rattle.std.proofs.lemmas.Grind.{common_steps}
 use Rattle.bucket_table.proofs.RunSteps.{kept, null_is}
 use Rattle.bucket_table.proofs.script.put.Goals as goal
+
+pub hash-hash-requires : goal.hash-hash-requires
+hash-hash-requires g c = grind (arith, common_steps)
+
+pub find-at-requires : goal.find-at-requires
+find-at-requires g c = grind (arith, common_steps)
 
 pub returns-then-is_valid-clause-step : goal.returns-then-is_valid-clause-step
 returns-then-is_valid-clause-step g c =

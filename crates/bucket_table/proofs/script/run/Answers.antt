@@ -1,6 +1,13 @@
 use Rattle.std.proofs.Common.{◌≡◌, ◌+◌, ◌++◌, ◌∷◌, [], length, arith, ap, ◌∙◌, length-append}
+use Rattle.std.proofs.lemmas.Grind.{common_steps}
 use Rattle.bucket_table.proofs.RunSteps.{run_next}
 use Rattle.bucket_table.proofs.script.run.Goals as goal
+
+pub sound-requires : goal.sound-requires
+sound-requires g c = grind (arith, common_steps)
+
+pub unreachable-requires : goal.unreachable-requires
+unreachable-requires g c = grind (arith, common_steps)
 
 pub loop-call-preserved : goal.loop-call-preserved
 loop-call-preserved g c =
@@ -12,3 +19,6 @@ loop-call-preserved g c =
       told = longer ∙ ap (λ n. n + 1) c.loop-call.invariant.told;
       room = omega (arith, c.in-Ok-push.ensures.capacity, c.loop-call.invariant.room);
     }
+
+pub returns-clause-run : goal.returns-clause-run
+returns-clause-run g c = grind (arith, common_steps)

@@ -1,7 +1,14 @@
-use Rattle.std.proofs.Common.{rules}
+use Rattle.std.proofs.Common.{arith, rules}
+use Rattle.std.proofs.lemmas.Grind.{common_steps}
 use Rattle.bucket_slots.proofs.CallerLemmas.{live_from_pair}
 use Rattle.bucket_table.proofs.RunSteps.{kept, null_is, taken_is}
 use Rattle.bucket_table.proofs.script.write.Goals as goal
+
+pub hash-hash-requires : goal.hash-hash-requires
+hash-hash-requires g c = grind (arith, common_steps)
+
+pub find-at-requires : goal.find-at-requires
+find-at-requires g c = grind (arith, common_steps)
 
 pub returns-then-not-is_valid-clause-step : goal.returns-then-not-is_valid-clause-step
 returns-then-not-is_valid-clause-step g c =

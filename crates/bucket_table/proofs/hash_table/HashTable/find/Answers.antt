@@ -1,5 +1,10 @@
+use Rattle.std.proofs.Common.{arith}
+use Rattle.std.proofs.lemmas.Grind.{common_steps}
 use Rattle.bucket_table.proofs.LookUps.{absent_here, found_here}
 use Rattle.bucket_table.proofs.hash_table.HashTable.find.Goals as goal
+
+pub get_entry_ptr-requires : goal.get_entry_ptr-requires
+get_entry_ptr-requires g c = grind (arith, common_steps)
 
 pub returns-clause-found : goal.returns-clause-found
 returns-clause-found g c =

@@ -1,4 +1,5 @@
-use Rattle.std.proofs.Common.{◌∙◌, ap, sym, rules}
+use Rattle.std.proofs.Common.{arith, ◌∙◌, ap, sym, rules}
+use Rattle.std.proofs.lemmas.Grind.{common_steps}
 use Rattle.bucket_slots.specs.BucketView.{slot_in}
 use Rattle.bucket_slots.specs.Slots.{is_live, live_pair}
 use Rattle.bucket_slots.proofs.CallerLemmas.{live_not_free, read_apart}
@@ -46,3 +47,6 @@ returns-clause-map g c =
     let alive = ap (λ t. is_live (slot_in t.bucket c.args.at.now)) c.self.view_is ∙ c.requires.live_slot in
     let pair = read_apart (slot_in c.self.inside.bucket c.args.at.now) _ _ alive c.key.ensures c.val.ensures in
     (removed g.K.PartialEq.eq g.H.KeyHash.hash_of g.met.K.Eq.laws g.row.TYPE _ _ _ c.args.at.now _ _ c.self.view_is c.self.invariant.1 pair after).pairs
+
+pub returns-clause-bucket : goal.returns-clause-bucket
+returns-clause-bucket g c = grind (arith, common_steps)
