@@ -1,6 +1,7 @@
 use Rattle.std.proofs.Common.{◌≡◌, ◌+◌, ◌++◌, ◌∷◌, [], length, arith, ap, ◌∙◌, length-append}
 use Rattle.std.proofs.lemmas.Grind.{common_steps}
 use Rattle.bucket_table.proofs.RunSteps.{run_next}
+use Rattle.std.proofs.Common.{rules, lives}
 use Rattle.bucket_table.proofs.script.run.Goals as goal
 
 pub sound-requires : goal.sound-requires
@@ -22,3 +23,21 @@ loop-call-preserved g c =
 
 pub returns-clause-run : goal.returns-clause-run
 returns-clause-run g c = grind (arith, common_steps)
+
+pub len-requires : goal.len-requires
+len-requires g c κs within = search (rules, lives, within) depth 24 fits 20000
+
+pub with_capacity-requires : goal.with_capacity-requires
+with_capacity-requires g c κs within = search (rules, lives, within) depth 24 fits 20000
+
+pub drop-calls-requires : goal.drop-calls-requires
+drop-calls-requires g c κs within = search (rules, lives, within) depth 24 fits 20000
+
+pub deref-call-items-requires : goal.deref-call-items-requires
+deref-call-items-requires g c κs within = search (rules, lives, within) depth 24 fits 20000
+
+pub push-requires : goal.push-requires
+push-requires g c κs within = search (rules, lives, within) depth 24 fits 20000
+
+pub drop-calls-requires-2 : goal.drop-calls-requires-2
+drop-calls-requires-2 g c κs within = search (rules, lives, within) depth 24 fits 20000
