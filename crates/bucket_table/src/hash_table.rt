@@ -5,7 +5,7 @@
 //! with the low byte of its key's hash), and `IsCapacityRange` of the two capacities.
 //!
 //! Ports the trait `HashTable` of scc's `src/hash_table.rs`, as a struct that owns its parts.
-ghost use Rattle.std.specs.Prelude.{◌≡◌, ◌≢◌, ◌≤◌, ◌↔◌, [], None, Some, IsNone, IsTrue, Contains, IfNone, IfSome, IfErr, OnOk, OnErr, OnSome, length};
+ghost use Rattle.std.specs.Prelude.{◌≡◌, ◌≤◌, ◌↔◌, [], None, Some, IsNone, IsTrue, Contains, IfNone, IfSome, IfErr, OnOk, OnErr, OnSome, length};
 ghost use Rattle.std.specs.Int.{IsPowerOfTwo};
 ghost use Rattle.bucket_slots.specs.BucketView.{first_place, slot_in};
 ghost use Rattle.bucket_slots.specs.Clearing.{slots_for_insertion};
@@ -19,7 +19,7 @@ mod capacity;
 mod sampling;
 
 use crate::key_hash::KeyHash;
-use bucket_slots::bucket::{BUCKET_LEN, Bucket, CACHE, EntryPtr, Generation, INDEX};
+use bucket_slots::bucket::{Bucket, CACHE, EntryPtr, Generation, INDEX};
 use bucket_slots::lru::LruList;
 pub use capacity::{
     from_index_to_range, num_entries_from_hint, ranges_part_the_indices,
@@ -122,15 +122,17 @@ impl<K: Eq + Drop, V: Drop, H: KeyHash<K> + Drop, L: LruList + Drop, const TYPE:
         self.bucket.len()
     }
 
-    /// Returns a pointer to the pair whose key is equal, or the null pointer.
-    pub(crate) fn find(&self, key: &K, hash: u64) -> EntryPtr<K, V, TYPE>
+    /// Returns a pointer to the pair whose key is equal; `None` where the map has none.
+    pub(crate) fn find(&self, key: &K, hash: u64) -> Option<EntryPtr<K, V, TYPE>>
         requires own_hash { hash ≡ H.hash_of self.now.hasher key.now }
-        ensures found { result.pos ≢ BUCKET_LEN → (pair : K × V)
-            × (live_pair (slot_in self.now.bucket result) ≡ Some pair)
-            × IsThere K.eq key.now (pairs_of self.now) pair }
-        ensures absent { result.pos ≡ BUCKET_LEN → IsAbsent K.eq key.now (pairs_of self.now) }
+        ensures found { IfSome result (λ at. (pair : K × V)
+            × (live_pair (slot_in self.now.bucket at) ≡ Some pair)
+            × IsThere K.eq key.now (pairs_of self.now) pair) }
+        ensures live_slot { IfSome result (λ at. IsTrue (is_live (slot_in self.now.bucket at))) }
+        ensures absent { IfNone result (IsAbsent K.eq key.now (pairs_of self.now)) }
     {
-        self.bucket.get_entry_ptr(key, hash)
+        let at = self.bucket.get_entry_ptr(key, hash);
+        if at.is_valid() { Some(at) } else { None }
     }
 
     /// Inserts a pair whose key the map hasn't.

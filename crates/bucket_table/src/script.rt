@@ -104,10 +104,9 @@ fn put<
     ensures hasher { table.new.hasher ≡ table.old.hasher }
 {
     let hash = table.hash(&key);
-    let at = table.find(&key, hash);
-    if at.is_valid() {
+    let None = table.find(&key, hash) else {
         return Reply::Present;
-    }
+    };
     match table.insert(hash, (key, value), generation) {
         Ok(_) => Reply::Done,
         Err(_) => Reply::Refused,
@@ -140,10 +139,9 @@ fn remove<
     ensures hasher { table.new.hasher ≡ table.old.hasher }
 {
     let hash = table.hash(&key);
-    let mut at = table.find(&key, hash);
-    if !at.is_valid() {
+    let Some(mut at) = table.find(&key, hash) else {
         return Reply::Absent;
-    }
+    };
     let (found, value) = table.remove(&mut at, generation);
     Reply::Pair(found, value)
 }
@@ -158,10 +156,9 @@ fn write<K: Eq + Copy, V: Copy, H: KeyHash<K> + Drop, L: LruList + Drop, const T
     ensures hasher { table.new.hasher ≡ table.old.hasher }
 {
     let hash = table.hash(&key);
-    let at = table.find(&key, hash);
-    if !at.is_valid() {
+    let Some(at) = table.find(&key, hash) else {
         return Reply::Absent;
-    }
+    };
     Reply::Old(table.write(&at, value))
 }
 
@@ -177,10 +174,9 @@ fn touch<K: Eq + Copy, V: Copy, H: KeyHash<K> + Drop, L: LruList + Drop, const T
         return Reply::WrongKind;
     }
     let hash = table.hash(&key);
-    let at = table.find(&key, hash);
-    if !at.is_valid() {
+    let Some(at) = table.find(&key, hash) else {
         return Reply::Absent;
-    }
+    };
     table.touch(&at);
     Reply::Done
 }
