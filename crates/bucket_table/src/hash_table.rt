@@ -5,7 +5,7 @@
 //! with the low byte of its key's hash), and `IsCapacityRange` of the two capacities.
 //!
 //! Ports the trait `HashTable` of scc's `src/hash_table.rs`, as a struct that owns its parts.
-ghost use Rattle.std.specs.Prelude.{◌≡◌, ◌≤◌, ◌↔◌, [], None, Some, IsNone, IsTrue, Contains, IfNone, IfSome, IfErr, OnOk, OnErr, OnSome, length};
+ghost use Rattle.std.specs.Prelude.{◌≡◌, ◌≤◌, ◌↔◌, [], false, None, Some, IsNone, IsTrue, Contains, IfNone, IfSome, IfErr, OnOk, OnErr, OnSome, length};
 ghost use Rattle.std.specs.Int.{IsPowerOfTwo};
 ghost use Rattle.bucket_slots.specs.BucketView.{first_place, slot_in};
 ghost use Rattle.bucket_slots.specs.Clearing.{slots_for_insertion};
@@ -129,6 +129,7 @@ impl<K: Eq + Drop, V: Drop, H: KeyHash<K> + Drop, L: LruList + Drop, const TYPE:
             × (live_pair (slot_in self.now.bucket at) ≡ Some pair)
             × IsThere K.eq key.now (pairs_of self.now) pair) }
         ensures live_slot { IfSome result (λ at. IsTrue (is_live (slot_in self.now.bucket at))) }
+        ensures occupied { IfSome result (λ at. is_free (slot_in self.now.bucket at) ≡ false) }
         ensures absent { IfNone result (IsAbsent K.eq key.now (pairs_of self.now)) }
     {
         let at = self.bucket.get_entry_ptr(key, hash);
@@ -166,6 +167,7 @@ impl<K: Eq + Drop, V: Drop, H: KeyHash<K> + Drop, L: LruList + Drop, const TYPE:
         K: Copy,
         V: Copy,
         requires live_slot { IsTrue (is_live (slot_in self.old.bucket at.old)) }
+        requires occupied { is_free (slot_in self.old.bucket at.old) ≡ false }
         ensures pair { live_pair (slot_in self.old.bucket at.old) ≡ Some result }
         ensures map { TakesPair (state_of TYPE self.old) result (state_of TYPE self.new) }
         ensures bucket { self.new.bucket

@@ -105,7 +105,9 @@ impl<K: Drop, V: Drop, L: LruList + Drop, const TYPE: u8> Bucket<K, V, L, TYPE> 
         if let Some(at) = self.chain.first_free() {
             return Ok(at);
         }
-        self.chain.push_front()?;
+        let Ok(()) = self.chain.push_front() else {
+            return Err(AllocError);
+        };
         Ok(EntryPtr::at(1, 0))
     }
 

@@ -73,7 +73,9 @@ impl<K: Drop, V: Drop, L: LruList + Drop, const TYPE: u8> Bucket<K, V, L, TYPE> 
         ensures source_unchanged { OnErr result (from.new ≡ from.old) }
         ensures no_free_slot { OnErr result (first_place is_free self.old ≡ None) }
     {
-        let at = self.free_place()?;
+        let Ok(at) = self.free_place() else {
+            return Err(AllocError);
+        };
         let pair = from.vacate(from_ptr);
         self.fill(&at, (hash % 256) as u8, pair);
         Ok(at)

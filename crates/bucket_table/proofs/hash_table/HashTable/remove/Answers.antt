@@ -20,14 +20,6 @@ pub returns-then-this-ne-INDEX-clause-bucket : goal.returns-then-this-ne-INDEX-c
 returns-then-this-ne-INDEX-clause-bucket g c =
     rw (← c.self.view_is) (c.remove.ensures.slots ∙ taking_frees g.row.TYPE c.self.inside.bucket c.args.at.now _ c.if-this-ne-INDEX.true)
 
-pub key-requires : goal.key-requires
-key-requires g c =
-    (search rules, (search rules, live_not_free (slot_in c.self.inside.bucket c.args.at.now) (ap (λ t. is_live (slot_in t.bucket c.args.at.now)) c.self.view_is ∙ c.requires.live_slot)))
-
-pub val-requires : goal.val-requires
-val-requires g c =
-    (search rules, (search rules, live_not_free (slot_in c.self.inside.bucket c.args.at.now) (ap (λ t. is_live (slot_in t.bucket c.args.at.now)) c.self.view_is ∙ c.requires.live_slot)))
-
 pub invariant_of-self-2 : goal.invariant_of-self-2
 invariant_of-self-2 g c =
     let after = c.mark_removed.ensures.slots ∙ taking_marks g.row.TYPE c.self.inside.bucket c.args.at.now _ c.if-this-ne-INDEX.false in
