@@ -3,7 +3,8 @@ use Rattle.bucket_slots.specs.BucketView.{BucketView, first_place}
 use Rattle.bucket_slots.specs.Clearing.{is_full_with_marks, looks_at_marks, slots_after_insertion, slots_for_insertion}
 use Rattle.bucket_slots.specs.Placing.{place_for_next}
 use Rattle.bucket_slots.specs.Slots.{is_free}
-use Rattle.bucket_slots.proofs.BucketMarks.{looks_at_none, looks_at_some, other_kind_looks_at_none}
+use Rattle.bucket_slots.proofs.BucketMarks.{looks_at_none, looks_at_some}
+use Rattle.bucket_slots.proofs.BucketPlacing.{no_marks_looked_at}
 use Rattle.bucket_slots.proofs.bucket.Bucket.insert.Given as given
 use Rattle.bucket_slots.proofs.bucket.Bucket.insert.Goals as goal
 use Rattle.bucket_slots.proofs.bucket.Bucket.insert.Goals.{else-this-eq-INDEX-via-then-this-eq-INDEX+else-is_full_with_marks, else-this-eq-INDEX-via-else-this-eq-INDEX}
@@ -20,7 +21,7 @@ looks_not g c = elim c.else-this-eq-INDEX.branch [
   | else-this-eq-INDEX-via-then-this-eq-INDEX+else-is_full_with_marks w ↦
       let full = ap (λ b. is_full_with_marks b.own) (sym w.self.view_is) ∙ sym w.is_full_with_marks.ensures ∙ w.if-is_full_with_marks.false in
       looks_at_none g.row.TYPE c.args.self.now full
-  | else-this-eq-INDEX-via-else-this-eq-INDEX w ↦ other_kind_looks_at_none g.row.TYPE c.args.self.now w.if-this-eq-INDEX.false
+  | else-this-eq-INDEX-via-else-this-eq-INDEX w ↦ no_marks_looked_at g.row.TYPE c.args.self.now w.if-this-eq-INDEX.false
 ]
 
 pub returns-then-is_full_with_marks-clause-place : goal.returns-then-is_full_with_marks-clause-place
