@@ -1,5 +1,7 @@
 //! Calls on one bucket that begin with a search for a key, or with a step of a walk.
-ghost use Rattle.std.specs.Prelude.{◌≢◌};
+ghost use Rattle.std.specs.Prelude.{◌≢◌, IfSome, IsTrue};
+ghost use Rattle.bucket_slots.specs.BucketView.{slot_in};
+ghost use Rattle.bucket_slots.specs.Slots.{is_live};
 
 use crate::pairs::{At, Pairs};
 use bucket_slots::bucket::{AllocError, Bucket, CACHE, EntryPtr, INDEX};
@@ -9,6 +11,18 @@ use std::mem;
 /// A block's number and a position.
 pub(crate) type Spot = (usize, usize);
 
+/// Returns a pointer to the pair of a key, if there is one.
+fn find<V: Drop, L: LruList + Drop, const TYPE: u8>(
+    bucket: &Bucket<u64, V, L, TYPE>,
+    key: u64,
+    hash: u64,
+) -> Option<EntryPtr<u64, V, TYPE>>
+    ensures { IfSome result (λ at. IsTrue (is_live (slot_in bucket.now at))) }
+{
+    let at = bucket.get_entry_ptr(&key, hash);
+    if at.is_valid() { Some(at) } else { None }
+}
+
 /// Takes out the pair of a key, and returns it with the pointer as the removal leaves it.
 pub(crate) fn remove_at<V: Drop, L: LruList + Drop, const TYPE: u8>(
     bucket: &mut Bucket<u64, V, L, TYPE>,
@@ -17,10 +31,7 @@ pub(crate) fn remove_at<V: Drop, L: LruList + Drop, const TYPE: u8>(
 ) -> Option<((u64, V), EntryPtr<u64, V, TYPE>)>
     requires not_index { TYPE ≢ INDEX }
 {
-    let mut at = bucket.get_entry_ptr(&key, hash);
-    if !at.is_valid() {
-        return None;
-    }
+    let mut at = find(bucket, key, hash)?;
     let pair = bucket.remove(&mut at);
     Some((pair, at))
 }
@@ -32,10 +43,7 @@ pub(crate) fn write_key<V: Drop, L: LruList + Drop, const TYPE: u8>(
     hash: u64,
     value: V,
 ) -> Option<V> {
-    let at = bucket.get_entry_ptr(&key, hash);
-    if !at.is_valid() {
-        return None;
-    }
+    let at = find(bucket, key, hash)?;
     Some(mem::replace(bucket.entry_mut(&at).1, value))
 }
 
@@ -45,10 +53,9 @@ pub(crate) fn touch_key<V: Drop, L: LruList + Drop>(
     key: u64,
     hash: u64,
 ) -> bool {
-    let at = bucket.get_entry_ptr(&key, hash);
-    if !at.is_valid() {
+    let Some(at) = find(bucket, key, hash) else {
         return false;
-    }
+    };
     bucket.update_lru_tail(&at);
     true
 }
@@ -61,8 +68,10 @@ pub(crate) fn move_key<V: Drop, L: LruList + Drop, const TYPE: u8>(
     key: u64,
     hash: u64,
 ) -> Result<Option<(Spot, Spot)>, AllocError> {
-    let mut from = source.get_entry_ptr(&key, hash);
-    if !from.is_valid() || target.is_killed() {
+    let Some(mut from) = find(source, key, hash) else {
+        return Ok(None);
+    };
+    if target.is_killed() {
         return Ok(None);
     }
     match target.extract_from(hash, source, &mut from) {

@@ -1,5 +1,9 @@
 //! Index buckets: how they are filled and looked at, calls that begin with a search for a key, and
 //! checks of one fact each.
+ghost use Rattle.std.specs.Prelude.{IfSome, IsTrue};
+ghost use Rattle.bucket_slots.specs.BucketView.{slot_in};
+ghost use Rattle.bucket_slots.specs.Slots.{is_live};
+
 use bucket_slots::bucket::{AllocError, Bucket, EntryPtr, Generation, INDEX};
 use bucket_table::script::FixedGeneration;
 use std::alloc::Global;
@@ -39,6 +43,18 @@ pub(crate) fn filled(alloc: Global, keys: u64, hash: u64) -> Result<Pairs, Alloc
     Ok(bucket)
 }
 
+// Returns a pointer to the pair of a key, if there is one.
+fn find<V: Drop>(
+    bucket: &Bucket<u64, V, (), INDEX>,
+    key: u64,
+    hash: u64,
+) -> Option<EntryPtr<u64, V, INDEX>>
+    ensures { IfSome result (λ at. IsTrue (is_live (slot_in bucket.now at))) }
+{
+    let at = bucket.get_entry_ptr(&key, hash);
+    if at.is_valid() { Some(at) } else { None }
+}
+
 /// Marks the pair of a key as removed, and returns whether there was one.
 pub(crate) fn mark_key<V: Drop, G: Generation>(
     bucket: &mut Bucket<u64, V, (), INDEX>,
@@ -46,10 +62,9 @@ pub(crate) fn mark_key<V: Drop, G: Generation>(
     hash: u64,
     generation: &G,
 ) -> bool {
-    let mut at = bucket.get_entry_ptr(&key, hash);
-    if !at.is_valid() {
+    let Some(mut at) = find(bucket, key, hash) else {
         return false;
-    }
+    };
     bucket.mark_removed(&mut at, generation);
     true
 }
@@ -72,10 +87,9 @@ pub(crate) fn move_key(
     source: &mut Pairs,
     key: u64,
 ) -> Result<Option<Spot>, AllocError> {
-    let mut from = source.get_entry_ptr(&key, 0);
-    if !from.is_valid() {
+    let Some(mut from) = find(source, key, 0) else {
         return Ok(None);
-    }
+    };
     if target.is_killed() {
         return Ok(None);
     }
@@ -119,10 +133,7 @@ fn peeked(bucket: &Pairs, key: u64, hash: u64) -> Option<(u64, u64)> {
 
 // Where the pointer to a key points, if it is valid.
 fn place_of(bucket: &Pairs, key: u64, hash: u64) -> Option<Spot> {
-    let at = bucket.get_entry_ptr(&key, hash);
-    if !at.is_valid() {
-        return None;
-    }
+    let at = find(bucket, key, hash)?;
     Some((at.block(), at.pos()))
 }
 
