@@ -2,30 +2,6 @@ use Rattle.std.proofs.Common.{arith}
 use Rattle.std.proofs.lemmas.Grind.{common_steps}
 use Rattle.bucket_table.proofs.script.step.Goals as goal
 
-pub put-requires : goal.put-requires
-put-requires g c = grind (arith, common_steps)
-
-pub write-requires : goal.write-requires
-write-requires g c = grind (arith, common_steps)
-
-pub remove-requires : goal.remove-requires
-remove-requires g c = grind (arith, common_steps)
-
-pub touch-requires : goal.touch-requires
-touch-requires g c = grind (arith, common_steps)
-
-pub evict-requires : goal.evict-requires
-evict-requires g c = grind (arith, common_steps)
-
-pub len-requires : goal.len-requires
-len-requires g c = grind (arith, common_steps)
-
-pub len-requires-in-Has : goal.len-requires-in-Has
-len-requires-in-Has g c = grind (arith, common_steps)
-
-pub peek-requires : goal.peek-requires
-peek-requires g c = grind (arith, common_steps)
-
 pub returns-in-Put-clause-step : goal.returns-in-Put-clause-step
 returns-in-Put-clause-step g c = grind (arith, common_steps)
 
