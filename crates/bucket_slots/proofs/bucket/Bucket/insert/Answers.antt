@@ -1,8 +1,5 @@
-use Rattle.std.proofs.Common.{◌≡◌, Bool, true, false, IfOk, OnOk, OnErr, None, sym, subst, ap, ◌∙◌, ◌%◌}
-use Rattle.bucket_slots.specs.BucketView.{BucketView, first_place}
-use Rattle.bucket_slots.specs.Clearing.{is_full_with_marks, looks_at_marks, slots_after_insertion, slots_for_insertion}
-use Rattle.bucket_slots.specs.Placing.{place_for_next}
-use Rattle.bucket_slots.specs.Slots.{is_free}
+use Rattle.std.proofs.Common.{◌≡◌, true, false, sym, ap, ◌∙◌}
+use Rattle.bucket_slots.specs.Clearing.{is_full_with_marks, looks_at_marks}
 use Rattle.bucket_slots.proofs.BucketMarks.{looks_at_none, looks_at_some}
 use Rattle.bucket_slots.proofs.BucketPlacing.{no_marks_looked_at}
 use Rattle.bucket_slots.proofs.bucket.Bucket.insert.Given as given
