@@ -1,8 +1,8 @@
-use Rattle.std.proofs.Common.{arith, ◌∙◌, ap, sym, rules}
+use Rattle.std.proofs.Common.{arith, ◌∙◌, ap, sym}
 use Rattle.std.proofs.lemmas.Grind.{common_steps}
 use Rattle.bucket_slots.specs.BucketView.{slot_in}
 use Rattle.bucket_slots.specs.Slots.{is_live, live_pair}
-use Rattle.bucket_slots.proofs.CallerLemmas.{live_not_free, read_apart}
+use Rattle.bucket_slots.proofs.CallerLemmas.{read_apart}
 use Rattle.bucket_table.proofs.OneMapSteps.{removed, taking_frees, taking_marks}
 use Rattle.bucket_table.proofs.hash_table.HashTable.remove.Goals as goal
 
