@@ -25,15 +25,21 @@ const REFILLED: [(u64, Spot); 4] = [(50, (0, 5)), (51, (0, 31)), (52, (1, 0)), (
 fn a_pair_moves_and_leaves_its_slot_free(rt: HostRuntime) -> Result<(), Fail> {
     let mut source = filled(rt.alloc(), 44)?;
     let mut target = Pairs::new(rt.alloc());
-    for (key, from, to, moved) in MOVED {
-        check_move(&rt, &mut target, &mut source, (key, 0), Some((to, from)))?;
-        check_lens(&rt, &source, &target, (44usize.wrapping_sub(moved), moved));
-        check_search(&rt, &source, (key, 0), None);
-        check_search(&rt, &target, (key, 0), Some((key, key.wrapping_mul(10))));
-    }
+    check_moves(&rt, &mut target, &mut source)?;
     check_places(&rt, &source, &[(36, (2, 0))]);
     check_insertions(&rt, &mut source, &REFILLED)?;
     check_len(&rt, &source, 44);
+    Ok(())
+}
+
+// Moves the pairs out of 44, one after another, and looks for each in both buckets.
+fn check_moves(rt: &impl Abort, target: &mut Pairs, source: &mut Pairs) -> Result<(), Fail> {
+    for (key, from, to, moved) in MOVED {
+        check_move(rt, target, source, (key, 0), Some((to, from)))?;
+        check_lens(rt, source, target, (44usize.wrapping_sub(moved), moved));
+        check_search(rt, source, (key, 0), None);
+        check_search(rt, target, (key, 0), Some((key, key.wrapping_mul(10))));
+    }
     Ok(())
 }
 
@@ -78,14 +84,25 @@ fn each_value_is_dropped_once_after_its_bucket_is_killed(rt: HostRuntime) -> Res
     let counted = Rc::new(rt.alloc(), 0)?;
     let mut source = Counted::new(rt.alloc());
     let mut target = Counted::new(rt.alloc());
-    for key in 0..41 {
-        insert_clone(&mut source, key, &counted)?;
-        check_clone_moves(&rt, &mut source, &mut target, key)?;
-    }
+    check_clones_move(&rt, &mut source, &mut target, &counted)?;
     check_lens(&rt, &source, &target, (0, 41));
     check_kill(&rt, &mut source);
     check_alive(&rt, &target);
     check_drops(&rt, source, target, &counted);
+    Ok(())
+}
+
+// Inserts 41 pairs one after another, and moves each.
+fn check_clones_move(
+    rt: &impl Abort,
+    source: &mut Counted,
+    target: &mut Counted,
+    counted: &Rc<i32>,
+) -> Result<(), Fail> {
+    for key in 0..41 {
+        insert_clone(source, key, counted)?;
+        check_clone_moves(rt, source, target, key)?;
+    }
     Ok(())
 }
 
