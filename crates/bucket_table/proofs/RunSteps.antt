@@ -1,9 +1,7 @@
 -- A run goes on by one step.
 use Rattle.std.proofs.Common.{ℕ, ◌≡◌, ◌<◌, ◌+◌, inl, inr, Bool, true, false, IsTrue, Option, Some, List, [], ◌∷◌, ◌++◌, length, take, get_or, refl, sym, ap, subst, ◌∙◌}
-use Rattle.std.proofs.lemmas.Bool.{cases_eq}
 use Rattle.std.proofs.lemmas.List.{take_more}
 use Rattle.std.proofs.lemmas.List.Sorted.{IsPermutation-refl}
-use Rattle.bucket_slots.specs.declared.bucket.TheConstants.{BUCKET_LEN}
 use Rattle.bucket_table.specs.declared.script.call.Call.{Call}
 use Rattle.bucket_table.specs.declared.script.reply.Reply.{Reply}
 use Rattle.bucket_table.specs.Calls.{Step}
@@ -31,13 +29,6 @@ module _ {K V : Type 0} (eq : K → K → Bool) where
 -- a map is kept where nothing was done
 pub kept : {K V : Type 0} (state : MapState K V) → KeepsPairs state state
 kept state = record { pairs = IsPermutation-refl state.pairs; others = refl }
-
--- a pointer that isn't valid is a null pointer
-pub null_is : (valid : Bool) (pos : ℕ) → ((pos ≡ BUCKET_LEN → ⊥) → IsTrue valid) → valid ≡ false → pos ≡ BUCKET_LEN
-null_is valid pos points is = elim (cases_eq pos BUCKET_LEN) [
-  | inl null ↦ null
-  | inr other ↦ let yes : valid ≡ true = points other in absurd cc
-]
 
 -- what was taken from the slot that the search found has an equal key
 pub taken_is : {K V : Type 0} (eq : K → K → Bool) (key : K) (slot : Option (K × V)) (found taken : K × V) → slot ≡ Some found
