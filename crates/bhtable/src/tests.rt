@@ -1,7 +1,8 @@
 //! Scripts, and what `serve` answers them.
 use crate::serve;
 use std::alloc::{AllocError, Global};
-use std::io::Write;
+use std::fmt::Debug;
+use std::io::{Read, Write};
 use std::process::Abort;
 use std::test::Fail;
 
@@ -27,28 +28,42 @@ fn check_lines(rt: &impl Abort, alloc: Global, lines: &[(&str, &str)]) -> Result
     let input = script(alloc, lines)?;
     let mut output: Vec<u8> = Vec::new(alloc);
     let status = serve(alloc, input.as_slice(), &mut output);
-    assert_eq!(rt; status, 0);
-    let text = std::str::from_utf8(output.as_slice())?;
-    let mut replies = text.lines();
-    for (line, reply) in lines {
-        assert_eq!(rt; replies.next(), Some(*reply), "at {line}");
-    }
-    assert_eq!(rt; replies.next(), None);
+    check_same(rt, status, 0, "status");
+    check_replies(rt, std::str::from_utf8(output.as_slice())?, lines);
     Ok(())
 }
 
+// The text has the reply of each line, and no more.
+fn check_replies(rt: &impl Abort, text: &str, lines: &[(&str, &str)]) {
+    let mut replies = text.lines();
+    for (line, reply) in lines {
+        check_same(rt, replies.next(), Some(*reply), *line);
+    }
+    check_same(rt, replies.next(), None, "the end");
+}
+
+// Two values are equal. The row helps to find the place.
+fn check_same<T: PartialEq + Debug + Drop, R: Debug + Drop>(
+    rt: &impl Abort,
+    found: T,
+    wanted: T,
+    row: R,
+) {
+    assert_eq!(rt; found, wanted, "row {row:?}");
+}
+
 // An input, and all of its output.
-fn check_text(
+fn check_text<R: Read + Drop>(
     rt: &impl Abort,
     alloc: Global,
-    input: &[u8],
+    input: R,
     text: &str,
     status: u8,
 ) -> Result<(), Fail> {
     let mut output: Vec<u8> = Vec::new(alloc);
     let ended = serve(alloc, input, &mut output);
-    assert_eq!(rt; std::str::from_utf8(output.as_slice())?, text);
-    assert_eq!(rt; ended, status, "after {text}");
+    check_same(rt, std::str::from_utf8(output.as_slice())?, text, status);
+    check_same(rt, ended, status, text);
     Ok(())
 }
 

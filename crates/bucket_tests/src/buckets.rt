@@ -1,5 +1,6 @@
 //! One bucket: where pairs go, what comes out, what a search finds, and that all is dropped.
 use crate::by_key::remove_at;
+use crate::checks::check_same;
 use crate::counted::{Counted, check_count, insert_clone};
 use crate::pairs::{
     Pairs, check_absent, check_found, check_insertions, check_len, check_removals, check_taken,
@@ -23,7 +24,7 @@ fn a_new_bucket_finds_nothing(rt: HostRuntime) {
 }
 
 fn check_alive(rt: &impl Abort, bucket: &Pairs) {
-    assert!(rt; !bucket.is_killed());
+    check_same(rt, bucket.is_killed(), false, "killed");
 }
 
 // An own slot has this key and this value.
@@ -33,7 +34,7 @@ fn check_own_pair(
     slot: usize,
     wanted: (Option<u64>, Option<u64>),
 ) {
-    assert_eq!(rt; own_pair(bucket, slot), wanted, "slot {slot}");
+    check_same(rt, own_pair(bucket, slot), wanted, slot);
 }
 
 // Keys 0 to 31: the key in each own slot that is made free and filled again.
@@ -180,7 +181,7 @@ fn filled_with(alloc: Global, counted: &Rc<i32>) -> Result<Counted, Fail> {
 // Drops three of the values, and then the bucket.
 fn check_drops(rt: &impl Abort, mut bucket: Counted, counted: &Rc<i32>) {
     for key in [4, 39, 40] {
-        assert!(rt; remove_at(&mut bucket, key, 0).is_some(), "key {key}");
+        check_same(rt, remove_at(&mut bucket, key, 0).is_some(), true, key);
     }
     check_count(rt, counted, 39);
 }
@@ -209,7 +210,7 @@ fn check_insertion_at(
     index: usize,
     key: u64,
 ) -> Result<(), Fail> {
-    assert_eq!(rt; buckets.len(), 3);
+    check_same(rt, buckets.len(), 3, "buckets");
     insert_into(buckets, index, (key, key.wrapping_mul(10)))
 }
 
@@ -225,7 +226,7 @@ fn insert_into(buckets: &mut Vec<Pairs>, index: usize, pair: (u64, u64)) -> Resu
 // Each bucket has this many pairs.
 fn check_lens(rt: &impl Abort, buckets: &Vec<Pairs>, rows: &[(usize, usize)]) {
     for (index, len) in rows {
-        assert_eq!(rt; len_of(buckets, *index), Some(*len), "bucket {index}");
+        check_same(rt, len_of(buckets, *index), Some(*len), *index);
     }
 }
 

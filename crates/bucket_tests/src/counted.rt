@@ -1,4 +1,5 @@
 //! Buckets of values that are counted, so that a test sees when each is dropped.
+use crate::checks::check_same;
 use bucket_slots::bucket::{Bucket, MAP};
 use std::process::Abort;
 use std::rc::Rc;
@@ -20,5 +21,5 @@ fn insert_value(bucket: &mut Counted, key: u64, value: Rc<i32>) -> Result<(), Fa
 
 /// The value and its clones are this many.
 pub(crate) fn check_count(rt: &impl Abort, counted: &Rc<i32>, count: usize) {
-    assert_eq!(rt; Rc::strong_count(counted), count);
+    check_same(rt, Rc::strong_count(counted), count, "clones");
 }

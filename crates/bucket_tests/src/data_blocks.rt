@@ -1,6 +1,7 @@
 //! Rows of places: every call, at both lengths.
 ghost use Rattle.std.specs.Prelude.{◌<◌};
 
+use crate::checks::check_same;
 use bucket_slots::data_block::DataBlock;
 use std::alloc::Global;
 use std::mem;
@@ -22,7 +23,12 @@ fn a_row_of_4_keeps_lends_and_gives_back(rt: HostRuntime) {
 fn lends_texts_without_moving_them(rt: HostRuntime) -> Result<(), Fail> {
     let mut block = text_block(rt.alloc())?;
     check_text_lent(&rt, &mut block, "new".to_string(rt.alloc())?);
-    assert_eq!(rt; block.val(2).map(|value| value.as_str()), Some("new"));
+    check_same(
+        &rt,
+        block.val(2).map(|value| value.as_str()),
+        Some("new"),
+        2,
+    );
     Ok(())
 }
 
@@ -38,7 +44,7 @@ fn text_block(alloc: Global) -> Result<DataBlock<String, String, 4>, Fail> {
 // Reads the key of the pair, and writes its value.
 fn check_text_lent(rt: &impl Abort, block: &mut DataBlock<String, String, 4>, text: String) {
     if let Some((key, value)) = block.pair_mut(2) {
-        assert_eq!(rt; key.as_str(), "key");
+        check_same(rt, key.as_str(), "key", 2);
         *value = text;
     }
 }
@@ -68,7 +74,7 @@ fn check_first_and_last<const LEN: usize>(
     check_take(rt, block, last, None);
     check_empty(rt, block, &[last]);
     check_pairs(rt, block, &[(0, 1, 10)]);
-    assert!(rt; let_go(block, 0));
+    check_same(rt, let_go(block, 0), true, 0);
     check_empty(rt, block, &[0]);
 }
 
@@ -79,9 +85,9 @@ fn check_empty<const LEN: usize>(
     places: &[usize],
 ) {
     for pos in places {
-        assert_eq!(rt; seen(block, *pos), (None, None), "place {pos}");
+        check_same(rt, seen(block, *pos), (None, None), *pos);
         let lent = (write_value(block, *pos, 9), write_pair(block, *pos, 9));
-        assert_eq!(rt; lent, (None, None), "place {pos}");
+        check_same(rt, lent, (None, None), *pos);
     }
 }
 
@@ -92,11 +98,7 @@ fn check_pairs<const LEN: usize>(
     rows: &[(usize, u64, u64)],
 ) {
     for (pos, key, value) in rows {
-        assert_eq!(rt;
-            seen(block, *pos),
-            (Some(*key), Some(*value)),
-            "place {pos}"
-        );
+        check_same(rt, seen(block, *pos), (Some(*key), Some(*value)), *pos);
     }
 }
 
@@ -106,9 +108,9 @@ fn check_loans<const LEN: usize>(
     block: &mut DataBlock<u64, u64, LEN>,
     pos: usize,
 ) {
-    assert_eq!(rt; write_value(block, pos, 51), Some(50));
+    check_same(rt, write_value(block, pos, 51), Some(50), pos);
     check_pairs(rt, block, &[(pos, 5, 51)]);
-    assert_eq!(rt; write_pair(block, pos, 52), Some((5, 51)));
+    check_same(rt, write_pair(block, pos, 52), Some((5, 51)), pos);
 }
 
 // Fills the place, or finds it filled.
@@ -121,7 +123,7 @@ fn check_fill<const LEN: usize>(
 )
     requires { pos < LEN }
 {
-    assert_eq!(rt; fill(block, pos, pair), fills, "pair {pair:?}");
+    check_same(rt, fill(block, pos, pair), fills, pair);
 }
 
 // Takes this pair out of the place, or finds none.
@@ -131,7 +133,7 @@ fn check_take<const LEN: usize>(
     pos: usize,
     pair: Option<(u64, u64)>,
 ) {
-    assert_eq!(rt; take(block, pos), pair, "place {pos}");
+    check_same(rt, take(block, pos), pair, pos);
 }
 
 // The key and the value at a place.

@@ -1,5 +1,6 @@
 //! Pointers into a bucket.
 use crate::by_key::Spot;
+use crate::checks::check_same;
 use crate::pairs::{At, Pairs, insert_pair};
 use std::alloc::Global;
 use std::test::Fail;
@@ -9,7 +10,7 @@ const HASHES: [(u64, u8); 4] = [(0, 0), (255, 255), (256, 0), (4660, 52)];
 
 #[test]
 fn the_null_pointer_is_not_valid(rt: HostRuntime) {
-    assert_eq!(rt; named(&At::null()), (false, (0, 32)));
+    check_same(&rt, named(&At::null()), (false, (0, 32)), "null");
 }
 
 // Whether a pointer is valid, and where it stands.
@@ -23,7 +24,12 @@ fn a_clone_names_the_same_place(rt: HostRuntime) -> Result<(), Fail> {
     insert_pair(&mut bucket, 0, (1, 10))?;
     let at = bucket.insert(0, (2, 20), &())?;
     let wanted = (true, (0, 1));
-    assert_eq!(rt; (named(&at.clone()), named(&at)), (wanted, wanted));
+    check_same(
+        &rt,
+        (named(&at.clone()), named(&at)),
+        (wanted, wanted),
+        "clone",
+    );
     Ok(())
 }
 
@@ -31,7 +37,7 @@ fn a_clone_names_the_same_place(rt: HostRuntime) -> Result<(), Fail> {
 fn an_insertion_answers_where_its_pair_stands(rt: HostRuntime) -> Result<(), Fail> {
     for (hash, byte) in HASHES {
         let found = first_pair(rt.alloc(), hash)?;
-        assert_eq!(rt; found, (byte, 7, 70), "under {hash}");
+        check_same(&rt, found, (byte, 7, 70), hash);
     }
     Ok(())
 }

@@ -1,5 +1,6 @@
 //! Evictions from one bucket of a cache: from own slots alone, in the order of the touches.
 use crate::by_key::{Spot, remove_at, touch_key};
+use crate::checks::check_same;
 use bucket_slots::bucket::{Bucket, CACHE};
 use bucket_slots::lru::DoublyLinkedList;
 use std::alloc::Global;
@@ -51,7 +52,7 @@ fn untouched_pairs_are_evicted_at_slot_zero(rt: HostRuntime) -> Result<(), Fail>
 // Evicts a key with its own value, or nothing, and this many pairs are left.
 fn check_eviction(rt: &impl Abort, bucket: &mut Cache, key: Option<u64>, len: usize) {
     check_evicted(rt, bucket, key);
-    assert_eq!(rt; bucket.len(), len);
+    check_same(rt, bucket.len(), len, key);
 }
 
 // Evicts a key with its own value, or nothing.
@@ -60,13 +61,13 @@ fn check_evicted(rt: &impl Abort, bucket: &mut Cache, key: Option<u64>) {
         Some(key) => Some((key, key)),
         None => None,
     };
-    assert_eq!(rt; bucket.evict_lru_head(), wanted);
+    check_same(rt, bucket.evict_lru_head(), wanted, "evicted");
 }
 
 // Inserts the key, which then stands at this place.
 fn check_insertion(rt: &impl Abort, bucket: &mut Cache, key: u64, place: Spot) -> Result<(), Fail> {
     let at = insert_key(bucket, key)?;
-    assert_eq!(rt; at, place, "key {key}");
+    check_same(rt, at, place, key);
     Ok(())
 }
 
@@ -110,7 +111,7 @@ fn check_removal(rt: &impl Abort, bucket: &mut Cache, key: u64, wanted: Option<(
         Some((pair, _)) => Some(pair),
         None => None,
     };
-    assert_eq!(rt; removed, wanted, "key {key}");
+    check_same(rt, removed, wanted, key);
 }
 
 // Every number of pairs up to twice the own slots: each is touched as it comes, and once the own
@@ -164,7 +165,7 @@ fn touch_both(
     plain: &mut Vec<u64>,
     key: u64,
 ) -> Result<(), Fail> {
-    assert!(rt; touch_key(bucket, key, 0), "key {key}");
+    check_same(rt, touch_key(bucket, key, 0), true, key);
     plain.retain(|other| *other != key);
     plain.insert(0, key)?;
     Ok(())
@@ -176,7 +177,7 @@ fn check_order(rt: &impl Abort, bucket: &mut Cache, plain: &[u64], pairs: u64) -
         check_evicted(rt, bucket, None);
         return Ok(());
     }
-    assert_eq!(rt; plain.len(), 32);
+    check_same(rt, plain.len(), 32, pairs);
     check_evictions(rt, bucket, plain)
 }
 
@@ -223,7 +224,7 @@ fn check_evictions(rt: &impl Abort, bucket: &mut Cache, newest_first: &[u64]) ->
         insert_key(bucket, key.wrapping_add(1000))?;
     }
     let in_slot_zero = key_in(bucket, 0);
-    assert!(rt; in_slot_zero.is_some());
+    check_same(rt, in_slot_zero.is_some(), true, "slot 0");
     check_evicted(rt, bucket, in_slot_zero);
     Ok(())
 }

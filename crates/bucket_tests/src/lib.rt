@@ -7,6 +7,8 @@ mod buckets;
 #[cfg(test)]
 mod by_key;
 #[cfg(test)]
+mod checks;
+#[cfg(test)]
 mod counted;
 #[cfg(test)]
 mod data_blocks;

@@ -1,6 +1,7 @@
 //! The mask of the bytes that equal one byte.
 ghost use Rattle.std.specs.Prelude.{◌≤◌};
 
+use crate::checks::check_same;
 use bucket_slots::matcher::match_partial_hash;
 use std::process::Abort;
 
@@ -51,11 +52,7 @@ fn check_masks<const LEN: usize>(rt: &impl Abort, rows: &[([u8; LEN], u8, u32)])
     requires { LEN ≤ 32 }
 {
     for (bytes, byte, mask) in rows {
-        assert_eq!(rt;
-            match_partial_hash(bytes, *byte),
-            *mask,
-            "{bytes:?} with {byte}"
-        );
+        check_same(rt, match_partial_hash(bytes, *byte), *mask, (*bytes, *byte));
     }
 }
 
@@ -70,14 +67,9 @@ fn check_bits<const LEN: usize>(rt: &impl Abort, seed: u64, bytes: &[u8; LEN])
                 None => false,
             };
             let bit = mask >> i as u32 & 1 == 1;
-            check_bit(rt, bit, wanted, (seed, byte));
+            check_same(rt, bit, wanted, (seed, byte));
         }
     }
-}
-
-// A bit is as the bytes of the row say.
-fn check_bit(rt: &impl Abort, bit: bool, wanted: bool, row: (u64, u8)) {
-    assert_eq!(rt; bit, wanted, "row and byte {row:?}");
 }
 
 // Bytes of 0 to 4, so that each byte stands more than once in a row of 32.

@@ -1,5 +1,6 @@
 //! Pairs that move from one bucket to another, and what is left where they stood.
 use crate::by_key::{Spot, kill_empty, move_key};
+use crate::checks::check_same;
 use crate::counted::{Counted, check_count, insert_clone};
 use crate::pairs::{
     Pairs, check_insertions, check_len, check_places, check_search, filled, insert_pair,
@@ -52,7 +53,7 @@ fn check_move(
     wanted: Option<(Spot, Spot)>,
 ) -> Result<(), Fail> {
     let places = move_pair(target, source, key, hash)?;
-    assert_eq!(rt; places, wanted, "key {key} under {hash}");
+    check_same(rt, places, wanted, (key, hash));
     Ok(())
 }
 
@@ -113,22 +114,27 @@ fn check_clone_moves(
     target: &mut Counted,
     key: u64,
 ) -> Result<(), Fail> {
-    assert!(rt; !kill_empty(source), "a bucket with pairs stays");
+    check_same(rt, kill_empty(source), false, "killed with pairs");
     let places = move_key(target, source, key, 0)?;
-    assert!(rt; places.is_some(), "key {key}");
+    check_same(rt, places.is_some(), true, key);
     Ok(())
 }
 
 // Kills an empty bucket, which then finds nothing.
 fn check_kill(rt: &impl Abort, source: &mut Counted) {
-    assert!(rt; kill_empty(source));
-    assert!(rt; source.is_killed());
-    assert_eq!(rt; source.len(), 0);
-    assert!(rt; source.search_entry(&0, 0).is_none());
+    check_same(rt, kill_empty(source), true, "kills");
+    check_same(rt, source.is_killed(), true, "killed");
+    check_same(rt, source.len(), 0, "pairs");
+    check_same(
+        rt,
+        source.search_entry(&0, 0).is_none(),
+        true,
+        "finds nothing",
+    );
 }
 
 fn check_alive(rt: &impl Abort, target: &Counted) {
-    assert!(rt; !target.is_killed());
+    check_same(rt, target.is_killed(), false, "killed");
 }
 
 // Drops first the bucket without pairs, and then the one with 41.
@@ -147,5 +153,5 @@ fn check_lens<V: Drop>(
     target: &Bucket<u64, V, (), MAP>,
     lens: (usize, usize),
 ) {
-    assert_eq!(rt; (source.len(), target.len()), lens);
+    check_same(rt, (source.len(), target.len()), lens, "pairs");
 }

@@ -1,5 +1,6 @@
 //! More keys than a bucket has own slots: they come, stay, change and go.
 use crate::by_key::{next_key, write_key};
+use crate::checks::check_same;
 use crate::pairs::{At, Pairs, check_len, check_search, filled, take_pair};
 use std::process::Abort;
 use std::test::Fail;
@@ -25,7 +26,7 @@ fn more_keys_than_own_slots_come_and_go(rt: HostRuntime) -> Result<(), Fail> {
 fn check_coming(rt: &impl Abort, bucket: &mut Pairs, mask: u64) -> Result<(), Fail> {
     for key in 0..MORE_THAN_OWN {
         let at = bucket.insert(key & mask, (key, 0), &())?;
-        assert!(rt; at.is_valid(), "key {key}");
+        check_same(rt, at.is_valid(), true, key);
         check_len(rt, bucket, key as usize + 1);
     }
     Ok(())
@@ -55,12 +56,12 @@ fn check_out(rt: &impl Abort, bucket: &mut Pairs, key: u64, hash: u64) {
         Some((pair, _)) => Some(pair),
         None => None,
     };
-    assert_eq!(rt; pair, Some((key, 0)));
+    check_same(rt, pair, Some((key, 0)), key);
 }
 
 // A walk over an empty bucket ends at once.
 fn check_no_step(rt: &impl Abort, bucket: &Pairs) {
-    assert_eq!(rt; next_key(bucket, &mut At::null()), None);
+    check_same(rt, next_key(bucket, &mut At::null()), None, "next");
 }
 
 #[test]
@@ -78,7 +79,7 @@ fn a_written_value_is_the_only_one_that_changes(rt: HostRuntime) -> Result<(), F
 
 // Writes 7 and gets the earlier value.
 fn check_write(rt: &impl Abort, bucket: &mut Pairs, key: u64, earlier: Option<u64>) {
-    assert_eq!(rt; write_key(bucket, key, 0, 7), earlier, "key {key}");
+    check_same(rt, write_key(bucket, key, 0, 7), earlier, key);
 }
 
 // The key has value 7, and each other key of the 41 its own.

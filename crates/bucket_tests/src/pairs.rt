@@ -1,5 +1,6 @@
 //! Buckets of numbers: how the tests fill them, and rows of what is so of them.
 use crate::by_key::{Spot, remove_at};
+use crate::checks::check_same;
 use bucket_slots::bucket::{Bucket, EntryPtr, MAP};
 use std::alloc::Global;
 use std::process::Abort;
@@ -64,7 +65,7 @@ pub(crate) fn own_pair(bucket: &Pairs, slot: usize) -> (Option<u64>, Option<u64>
 
 /// The bucket has this many pairs.
 pub(crate) fn check_len(rt: &impl Abort, bucket: &Pairs, len: usize) {
-    assert_eq!(rt; bucket.len(), len);
+    check_same(rt, bucket.len(), len, "pairs");
 }
 
 /// Inserts keys one after another under hash 0, each with ten times itself as its value, and
@@ -76,14 +77,9 @@ pub(crate) fn check_insertions(
 ) -> Result<(), Fail> {
     for (key, place) in rows {
         let at = insert_pair(bucket, 0, (*key, key.wrapping_mul(10)))?;
-        check_spot(rt, *key, at, *place);
+        check_same(rt, at, *place, *key);
     }
     Ok(())
-}
-
-// This is where the key was inserted.
-fn check_spot(rt: &impl Abort, key: u64, at: Spot, place: Spot) {
-    assert_eq!(rt; at, place, "key {key}");
 }
 
 /// Takes out keys one after another that stand under hash 0, each with ten times itself as its
@@ -103,11 +99,7 @@ pub(crate) fn check_taken(
     (key, hash): (u64, u64),
     wanted: Option<((u64, u64), Spot)>,
 ) {
-    assert_eq!(rt;
-        take_pair(bucket, key, hash),
-        wanted,
-        "key {key} under {hash}"
-    );
+    check_same(rt, take_pair(bucket, key, hash), wanted, (key, hash));
 }
 
 /// A search for the key under the hash finds this pair, or none.
@@ -117,7 +109,7 @@ pub(crate) fn check_search(
     (key, hash): (u64, u64),
     wanted: Option<(u64, u64)>,
 ) {
-    assert_eq!(rt; search(bucket, key, hash), wanted, "key {key} under {hash}");
+    check_same(rt, search(bucket, key, hash), wanted, (key, hash));
 }
 
 /// Each search finds the key under the hash, with this value at this place.
@@ -125,7 +117,7 @@ pub(crate) fn check_found(rt: &impl Abort, bucket: &Pairs, rows: &[(u64, u64, u6
     for (key, hash, value, place) in rows {
         let wanted = Some((*key, *value));
         let found = (search(bucket, *key, *hash), peek(bucket, *key, *hash));
-        assert_eq!(rt; found, (wanted, wanted), "key {key} under {hash}");
+        check_same(rt, found, (wanted, wanted), (*key, *hash));
         check_pointer(rt, bucket, (*key, *hash), (*place, true));
         check_own_value(rt, bucket, *place, *value);
     }
@@ -135,7 +127,7 @@ pub(crate) fn check_found(rt: &impl Abort, bucket: &Pairs, rows: &[(u64, u64, u6
 pub(crate) fn check_absent(rt: &impl Abort, bucket: &Pairs, rows: &[(u64, u64)]) {
     for (key, hash) in rows {
         let found = (search(bucket, *key, *hash), peek(bucket, *key, *hash));
-        assert_eq!(rt; found, (None, None), "key {key} under {hash}");
+        check_same(rt, found, (None, None), (*key, *hash));
         check_pointer(rt, bucket, (*key, *hash), ((0, 32), false));
     }
 }
@@ -149,12 +141,12 @@ pub(crate) fn check_places(rt: &impl Abort, bucket: &Pairs, rows: &[(u64, Spot)]
 
 // The pointer to the key under the hash stands there, and is valid or not.
 fn check_pointer(rt: &impl Abort, bucket: &Pairs, (key, hash): (u64, u64), wanted: (Spot, bool)) {
-    assert_eq!(rt; point(bucket, key, hash), wanted, "key {key} under {hash}");
+    check_same(rt, point(bucket, key, hash), wanted, (key, hash));
 }
 
 // Where the place is an own slot, the value stands in it.
 fn check_own_value(rt: &impl Abort, bucket: &Pairs, (block, pos): Spot, value: u64) {
     if block == 0 {
-        assert_eq!(rt; own_pair(bucket, pos).1, Some(value), "slot {pos}");
+        check_same(rt, own_pair(bucket, pos).1, Some(value), pos);
     }
 }

@@ -1,6 +1,7 @@
 //! Recency lists on their own, as their owner keeps them.
 ghost use Rattle.std.specs.Prelude.{◌<◌, ℕ, List};
 
+use crate::checks::check_same;
 use bucket_slots::lru::{DoublyLinkedList, LruList};
 use std::marker::Model;
 use std::process::Abort;
@@ -166,7 +167,7 @@ fn the_list_that_keeps_nothing_stays_empty(rt: HostRuntime) {
 // Makes the calls one after another, and compares each answer.
 fn check_acts<L: LruList>(rt: &impl Abort, recent: &mut Recent<L>, rows: &[(Act, Answer)]) {
     for (act, wanted) in rows {
-        assert_eq!(rt; recent.answer(rt, *act), *wanted, "{act:?}");
+        check_same(rt, recent.answer(rt, *act), *wanted, *act);
     }
 }
 

@@ -1,5 +1,6 @@
 //! Room that is made in a bucket's chain before pairs come, and given up by a kill.
 use crate::by_key::{Spot, kill_empty};
+use crate::checks::check_same;
 use crate::pairs::{Pairs, check_insertions, check_len, check_places, filled, insert_pair};
 use std::process::Abort;
 use std::test::Fail;
@@ -51,7 +52,7 @@ fn reserve(bucket: &mut Pairs, additional: usize) -> Result<(), Fail> {
 
 // Kills a bucket, and then can't.
 fn check_killed_once(rt: &impl Abort, bucket: &mut Pairs) {
-    assert!(rt; kill_empty(bucket));
-    assert!(rt; bucket.is_killed());
-    assert!(rt; !kill_empty(bucket), "it is killed already");
+    check_same(rt, kill_empty(bucket), true, "kills");
+    check_same(rt, bucket.is_killed(), true, "killed");
+    check_same(rt, kill_empty(bucket), false, "kills again");
 }

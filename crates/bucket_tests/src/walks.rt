@@ -2,6 +2,7 @@
 ghost use Rattle.std.specs.Prelude.{◌≤◌};
 
 use crate::by_key::{Spot, next_key, remove_at, take_next};
+use crate::checks::check_same;
 use crate::pairs::{At, Pairs, check_len, check_places, check_search, filled};
 use std::alloc::Global;
 use std::process::Abort;
@@ -20,7 +21,7 @@ fn a_walk_over_one_pair_ends_and_starts_anew(rt: HostRuntime) -> Result<(), Fail
 // A step to this key, or to the end, and where the pointer stands then.
 fn check_step(rt: &impl Abort, bucket: &Pairs, at: &mut At, key: Option<u64>, place: Spot) {
     let step = (next_key(bucket, at), at.is_valid(), (at.block(), at.pos()));
-    assert_eq!(rt; step, (key, key.is_some(), place));
+    check_same(rt, step, (key, key.is_some(), place), place);
 }
 
 // The keys of the chain of keys 0 to 40, in slot order.
@@ -82,7 +83,7 @@ fn a_walk_ends_behind_the_last_block_that_goes(rt: HostRuntime) -> Result<(), Fa
 fn check_next_after(rt: &impl Abort, bucket: &mut Pairs, rows: &[(u64, Spot, Option<u64>, Spot)]) {
     for (key, left, next, place) in rows {
         let wanted = Some(((*key, key.wrapping_mul(10)), *left, *next, *place));
-        assert_eq!(rt; take_and_step(bucket, *key), wanted);
+        check_same(rt, take_and_step(bucket, *key), wanted, *key);
     }
 }
 
@@ -189,13 +190,8 @@ fn check_taking(
 ) {
     for key in order {
         let visited = take_next(bucket, at, going);
-        check_visit(rt, visited, *key, plan);
+        check_same(rt, visited, Some(*key), plan);
     }
-}
-
-// This key was visited.
-fn check_visit(rt: &impl Abort, visited: Option<u64>, key: u64, plan: Plan) {
-    assert_eq!(rt; visited, Some(key), "{plan:?}");
 }
 
 // The keys that the plan takes, and the others, each in slot order.
@@ -241,6 +237,6 @@ fn slot_order(alloc: Global, blocks: u64) -> Result<Vec<u64>, Fail>
 // A walk goes on through these keys.
 fn check_next_keys(rt: &impl Abort, bucket: &Pairs, at: &mut At, keys: &[u64]) {
     for key in keys {
-        assert_eq!(rt; next_key(bucket, at), Some(*key));
+        check_same(rt, next_key(bucket, at), Some(*key), *key);
     }
 }

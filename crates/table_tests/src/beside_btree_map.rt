@@ -1,4 +1,5 @@
 //! A long script, beside a map of the standard library.
+use crate::checks::check_same;
 use crate::tables::{Table, table_of};
 use bucket_table::script::{Call, Reply, ScriptHash, run};
 use std::collections::BTreeMap;
@@ -31,7 +32,7 @@ fn a_script_replies_as_a_btree_map_does(rt: HostRuntime) -> Result<(), Fail> {
             wanted.push(reply_of(&mut map, call)?)?;
             most = map.len().max(most);
         }
-        assert!(rt; most > OWN_SLOTS, "the pairs reach into the chain");
+        check_same(&rt, most > OWN_SLOTS, true, "pairs in the chain");
         let replies = run(rt.alloc(), &mut table, calls.clone()?, &())?;
         check_alike(&rt, &calls, &replies, &wanted, hasher);
         check_pairs(&rt, &table, &map, hasher);
@@ -47,13 +48,9 @@ fn check_alike(
     wanted: &[Reply<u64, u64>],
     hasher: ScriptHash,
 ) {
-    assert_eq!(rt; replies.len(), wanted.len());
+    check_same(rt, replies.len(), wanted.len(), hasher);
     for (i, call) in calls.iter().enumerate() {
-        assert_eq!(rt;
-            replies.get(i),
-            wanted.get(i),
-            "call {i}, {call:?}, {hasher:?}"
-        );
+        check_same(rt, replies.get(i), wanted.get(i), (i, *call, hasher));
     }
 }
 
@@ -61,7 +58,7 @@ fn check_alike(
 fn check_pairs(rt: &impl Abort, table: &Table, map: &BTreeMap<u64, u64>, hasher: ScriptHash) {
     for key in 0..KEYS {
         let there = map.get_key_value(&key);
-        assert_eq!(rt; table.peek_entry(&key), there, "key {key}, {hasher:?}");
+        check_same(rt, table.peek_entry(&key), there, (key, hasher));
     }
 }
 

@@ -6,4 +6,6 @@ mod beside_btree_map;
 #[cfg(test)]
 mod caches;
 #[cfg(test)]
+mod checks;
+#[cfg(test)]
 mod tables;

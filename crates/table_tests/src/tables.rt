@@ -1,6 +1,7 @@
 //! A table: its hashes, and a script of calls on it.
 ghost use Rattle.std.specs.Prelude.{◌≤◌};
 
+use crate::checks::check_same;
 use bucket_slots::bucket::MAP;
 use bucket_slots::lru::LruList;
 use bucket_table::hash_table::HashTable;
@@ -31,8 +32,8 @@ const HASHES: [(ScriptHash, u64, u64); 8] = [
 fn hashes_keys_as_its_hasher_says(rt: HostRuntime) {
     for (hasher, key, hash) in HASHES {
         let table = table_of(rt.alloc(), hasher, 0);
-        assert_eq!(rt; *table.hasher(), hasher);
-        assert_eq!(rt; table.hash(&key), hash, "key {key} under {hasher:?}");
+        check_same(&rt, *table.hasher(), hasher, key);
+        check_same(&rt, table.hash(&key), hash, (key, hasher));
     }
 }
 
@@ -55,8 +56,8 @@ fn a_pair_stays_as_it_was_put_until_it_is_taken(rt: HostRuntime) -> Result<(), F
     for hasher in [ScriptHash::Zero, ScriptHash::Id, ScriptHash::Spread] {
         let mut table = table_of(rt.alloc(), hasher, 0);
         check_replies(&rt, rt.alloc(), &mut table, &ONE_PAIR)?;
-        assert_eq!(rt; table.peek_entry(&1), Some((&1, &12)), "under {hasher:?}");
-        assert_eq!(rt; table.peek_entry(&2), None, "under {hasher:?}");
+        check_same(&rt, table.peek_entry(&1), Some((&1, &12)), hasher);
+        check_same(&rt, table.peek_entry(&2), None, hasher);
     }
     Ok(())
 }
@@ -112,7 +113,7 @@ fn a_map_answers_writes_and_counts_and_touches_nothing(rt: HostRuntime) -> Resul
     for hasher in [ScriptHash::Zero, ScriptHash::Id, ScriptHash::Spread] {
         let mut table = table_of(rt.alloc(), hasher, 0);
         check_replies(&rt, rt.alloc(), &mut table, &VALUES_AND_NUMBERS)?;
-        assert_eq!(rt; table.peek_entry(&1), Some((&1, &11)), "under {hasher:?}");
+        check_same(&rt, table.peek_entry(&1), Some((&1, &11)), hasher);
     }
     Ok(())
 }
@@ -122,7 +123,7 @@ fn no_calls_have_no_replies(rt: HostRuntime) -> Result<(), Fail> {
     let mut table = table_of(rt.alloc(), ScriptHash::Id, 0);
     check_replies(&rt, rt.alloc(), &mut table, &ONE_PAIR)?;
     check_replies(&rt, rt.alloc(), &mut table, &[])?;
-    assert_eq!(rt; table.peek_entry(&1), Some((&1, &12)));
+    check_same(&rt, table.peek_entry(&1), Some((&1, &12)), "as it was");
     Ok(())
 }
 
@@ -151,9 +152,9 @@ pub(crate) fn check_replies<L: LruList + Drop, const TYPE: u8>(
         calls.push(*call)?;
     }
     let replies = run(alloc, table, calls, &())?;
-    assert_eq!(rt; replies.len(), rows.len());
+    check_same(rt, replies.len(), rows.len(), "replies");
     for (i, (call, wanted)) in rows.iter().enumerate() {
-        assert_eq!(rt; replies.get(i), Some(wanted), "row {i}, {call:?}");
+        check_same(rt, replies.get(i), Some(wanted), (i, *call));
     }
     Ok(())
 }

@@ -111,15 +111,21 @@ fn reads_no_line_that_is_not_text(rt: HostRuntime) -> Result<(), Fail> {
     check_text(
         &rt,
         rt.alloc(),
-        b"new map id 0 64\npeek 1 \xff\n",
+        b"new map id 0 64\npeek 1 \xff\n".as_slice(),
         output,
         2,
     )?;
-    check_text(&rt, rt.alloc(), b"new map id 0 64\n\xc2\n", output, 2)?;
     check_text(
         &rt,
         rt.alloc(),
-        b"new map id 0 64\npeek \xc0\xb1\n",
+        b"new map id 0 64\n\xc2\n".as_slice(),
+        output,
+        2,
+    )?;
+    check_text(
+        &rt,
+        rt.alloc(),
+        b"new map id 0 64\npeek \xc0\xb1\n".as_slice(),
         output,
         2,
     )

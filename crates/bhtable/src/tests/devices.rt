@@ -1,4 +1,5 @@
 //! Readers that give little or fail, writers that fail, and the order of reads and writes.
+use super::{check_same, check_text};
 use crate::serve;
 use std::cell::Cell;
 use std::io;
@@ -41,9 +42,7 @@ fn reads_lines_that_come_in_pieces(rt: HostRuntime) -> Result<(), Fail> {
             reads_left: 1000,
             fault: ErrorKind::Other,
         };
-        let mut output: Vec<u8> = Vec::new(rt.alloc());
-        assert_eq!(rt; serve(rt.alloc(), input, &mut output), 0);
-        assert_eq!(rt; std::str::from_utf8(output.as_slice())?, REPLIES);
+        check_text(&rt, rt.alloc(), input, REPLIES, 0)?;
     }
     Ok(())
 }
@@ -57,9 +56,7 @@ fn repeats_a_read_that_is_interrupted(rt: HostRuntime) -> Result<(), Fail> {
             reads_left,
             fault: ErrorKind::Interrupted,
         };
-        let mut output: Vec<u8> = Vec::new(rt.alloc());
-        assert_eq!(rt; serve(rt.alloc(), input, &mut output), 0);
-        assert_eq!(rt; std::str::from_utf8(output.as_slice())?, REPLIES);
+        check_text(&rt, rt.alloc(), input, REPLIES, 0)?;
     }
     Ok(())
 }
@@ -82,9 +79,7 @@ fn answers_what_came_before_the_input_failed(rt: HostRuntime) -> Result<(), Fail
             reads_left,
             fault: ErrorKind::Other,
         };
-        let mut output: Vec<u8> = Vec::new(rt.alloc());
-        assert_eq!(rt; serve(rt.alloc(), input, &mut output), 4, "after {text}");
-        assert_eq!(rt; std::str::from_utf8(output.as_slice())?, text);
+        check_text(&rt, rt.alloc(), input, text, 4)?;
     }
     Ok(())
 }
@@ -133,12 +128,9 @@ fn ends_where_the_output_fails(rt: HostRuntime) -> Result<(), Fail> {
             writes_left,
         };
         let script = b"new map id 0 64\nput 1 10\npeek 1\npoke 1\n";
-        assert_eq!(rt;
-            serve(rt.alloc(), script.as_slice(), &mut output),
-            status,
-            "after {text}"
-        );
-        assert_eq!(rt; std::str::from_utf8(written.as_slice())?, text);
+        let ended = serve(rt.alloc(), script.as_slice(), &mut output);
+        check_same(&rt, ended, status, text);
+        check_same(&rt, std::str::from_utf8(written.as_slice())?, text, status);
     }
     Ok(())
 }
@@ -203,7 +195,7 @@ fn answers_each_line_before_it_reads_on(rt: HostRuntime) -> Result<(), Fail> {
     let mut output = Listener {
         answered: &answered,
     };
-    assert_eq!(rt; serve(rt.alloc(), input, &mut output), 0);
-    assert_eq!(rt; answered.get(), 5);
+    let status = serve(rt.alloc(), input, &mut output);
+    check_same(&rt, (status, answered.get()), (0, 5), "status and answers");
     Ok(())
 }

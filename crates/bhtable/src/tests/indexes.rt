@@ -47,7 +47,7 @@ fn epochs_are_set_beside_any_table(rt: HostRuntime) -> Result<(), Fail> {
     check_text(
         &rt,
         rt.alloc(),
-        b"new map id 0 64\nput 1 2\nepoch 3 drop\nremove 1\nnew cache id 0 64\nepoch 3 keep\ncount\n",
+        b"new map id 0 64\nput 1 2\nepoch 3 drop\nremove 1\nnew cache id 0 64\nepoch 3 keep\ncount\n".as_slice(),
         "ok\nok\nok\npair 1 2\nok\nok\n0\n",
         0,
     )
