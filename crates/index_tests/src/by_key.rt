@@ -142,14 +142,14 @@ pub(crate) fn key_in(bucket: &Pairs, pos: usize) -> Option<u64> {
     bucket.data_block().key(pos).copied()
 }
 
-/// Two values are equal.
-pub(crate) fn check_same<T: PartialEq + Debug + Drop>(
+/// Two values are equal. The row helps to find the place.
+pub(crate) fn check_same<T: PartialEq + Debug + Drop, R: Debug + Drop>(
     rt: &impl Abort,
     found: T,
     wanted: T,
-    row: u64,
+    row: R,
 ) {
-    assert_eq!(rt; found, wanted, "row {row}");
+    assert_eq!(rt; found, wanted, "row {row:?}");
 }
 
 /// Inserts keys one after another under hash 0, each with value 0, and compares each place.
@@ -201,7 +201,7 @@ pub(crate) fn check_absent(rt: &impl Abort, bucket: &Pairs, key: u64, hash: u64)
 
 /// The bucket has this many live pairs.
 pub(crate) fn check_len<V: Drop>(rt: &impl Abort, bucket: &Bucket<u64, V, (), INDEX>, len: usize) {
-    assert_eq!(rt; bucket.len(), len);
+    check_same(rt, bucket.len(), len, "pairs");
 }
 
 /// Clears the bucket, and returns its occupied own slots.
@@ -216,5 +216,5 @@ pub(crate) fn check_clearing<G: Generation>(
     generation: &G,
     occupancy: u32,
 ) {
-    assert_eq!(rt; clear(bucket, generation), occupancy);
+    check_same(rt, clear(bucket, generation), occupancy, "occupied slots");
 }

@@ -34,7 +34,7 @@ fn share(
 
 // There are this many shares.
 fn check_shares(rt: &impl Abort, counted: &Rc<i32>, shares: usize) {
-    assert_eq!(rt; Rc::strong_count(counted), shares);
+    check_same(rt, Rc::strong_count(counted), shares, "shares");
 }
 
 #[test]
