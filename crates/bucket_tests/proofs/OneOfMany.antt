@@ -1,5 +1,5 @@
 -- One member of a list is put back as it was.
-use Rattle.std.proofs.Common.{ℕ, ◌≡◌, Result, Ok, Err, OnErr, OnOk, List, get_or, set, ap, ◌∙◌}
+use Rattle.std.proofs.Common.{ℕ, ◌≡◌, Result, Ok, Err, OnErr, List, get_or, set, ap, ◌∙◌}
 use Rattle.std.proofs.lemmas.List.{set-get_or}
 
 -- where a call on the member fails and leaves it, the list is as it was
@@ -8,9 +8,3 @@ pub unchanged_by_failure : {A E X : Type 0} (result : Result A E) (members : Lis
 unchanged_by_failure (Ok answer) members index before after member same = tt
 unchanged_by_failure (Err error) members index before after member same =
     ap (set members index) (same ∙ member) ∙ set-get_or members index before
-
--- where a call on the member succeeds, the list has what the call leaves
-pub changed_by_success : {A E X : Type 0} (result : Result A E) (members : List X) (index : ℕ) (after wanted : X) → OnOk result (after ≡ wanted)
-    → OnOk result (set members index after ≡ set members index wanted)
-changed_by_success (Ok answer) members index after wanted same = ap (set members index) same
-changed_by_success (Err error) members index after wanted same = tt

@@ -1,7 +1,8 @@
-use Rattle.std.proofs.Common.{◌∙◌}
+use Rattle.std.proofs.Common.{set, ap, ◌∙◌}
 use Rattle.std.proofs.lemmas.List.{get_or_default}
+use Rattle.std.proofs.lemmas.Result.{on_ok_weaker}
 use Rattle.bucket_slots.specs.BucketView.{empty_bucket}
-use Rattle.bucket_tests.proofs.OneOfMany.{changed_by_success, unchanged_by_failure}
+use Rattle.bucket_tests.proofs.OneOfMany.{unchanged_by_failure}
 use Rattle.bucket_tests.proofs.probe.insert_at.Goals as goal
 
 pub returns-clause-place : goal.returns-clause-place
@@ -11,7 +12,7 @@ returns-clause-place g c =
 pub returns-clause-buckets : goal.returns-clause-buckets
 returns-clause-buckets g c =
     let there = c.index_mut.ensures.value ∙ get_or_default c.args.buckets.now.items c.args.index _ empty_bucket c.requires.within in
-    changed_by_success c.insert.result c.args.buckets.now.items c.args.index _ _ (rw there at c.insert.ensures.slots)
+    on_ok_weaker c.insert.result (ap (set c.args.buckets.now.items c.args.index)) (rw there at c.insert.ensures.slots)
 
 pub returns-clause-unchanged : goal.returns-clause-unchanged
 returns-clause-unchanged g c =
