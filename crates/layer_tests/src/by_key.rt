@@ -1,0 +1,127 @@
+//! Calls on one bucket that begin with a search for a key, or with a step of a walk.
+ghost use Rattle.std.specs.Prelude.{◌≢◌, IfSome, IsTrue};
+ghost use Rattle.bucket_slots.specs.BucketView.{slot_in};
+ghost use Rattle.bucket_slots.specs.Slots.{is_live};
+
+use crate::pairs::{At, Pairs};
+use bucket_slots::bucket::{AllocError, Bucket, CACHE, EntryPtr, Generation, INDEX, MAP};
+use bucket_slots::lru::LruList;
+use std::mem;
+
+/// A block's number and a position.
+pub(crate) type Spot = (usize, usize);
+
+/// Returns a pointer to the pair of a key, if there is one.
+fn find<V: Drop, L: LruList + Drop, const TYPE: u8>(
+    bucket: &Bucket<u64, V, L, TYPE>,
+    key: u64,
+    hash: u64,
+) -> Option<EntryPtr<u64, V, TYPE>>
+    ensures { IfSome result (λ at. IsTrue (is_live (slot_in bucket.now at))) }
+{
+    let at = bucket.get_entry_ptr(&key, hash);
+    if at.is_valid() { Some(at) } else { None }
+}
+
+/// Takes out the pair of a key, and returns it with the pointer as the removal leaves it.
+pub(crate) fn remove_at<V: Drop, L: LruList + Drop, const TYPE: u8>(
+    bucket: &mut Bucket<u64, V, L, TYPE>,
+    key: u64,
+    hash: u64,
+) -> Option<((u64, V), EntryPtr<u64, V, TYPE>)>
+    requires not_index { TYPE ≢ INDEX }
+{
+    let mut at = find(bucket, key, hash)?;
+    let pair = bucket.remove(&mut at);
+    Some((pair, at))
+}
+
+/// Writes the value of a key and returns the earlier one.
+pub(crate) fn write_key<V: Drop, L: LruList + Drop, const TYPE: u8>(
+    bucket: &mut Bucket<u64, V, L, TYPE>,
+    key: u64,
+    hash: u64,
+    value: V,
+) -> Option<V> {
+    let at = find(bucket, key, hash)?;
+    Some(mem::replace(bucket.entry_mut(&at).1, value))
+}
+
+/// Touches the pair of a key, and returns whether there is one.
+pub(crate) fn touch_key<V: Drop, L: LruList + Drop>(
+    bucket: &mut Bucket<u64, V, L, CACHE>,
+    key: u64,
+    hash: u64,
+) -> bool {
+    let Some(at) = find(bucket, key, hash) else {
+        return false;
+    };
+    bucket.update_lru_tail(&at);
+    true
+}
+
+/// Moves the pair of a key to a bucket that isn't killed. Returns where it stands there, and where
+/// the pointer to its earlier place is then.
+pub(crate) fn move_key<V: Drop, L: LruList + Drop, const TYPE: u8>(
+    target: &mut Bucket<u64, V, L, TYPE>,
+    source: &mut Bucket<u64, V, L, TYPE>,
+    key: u64,
+    hash: u64,
+) -> Result<Option<(Spot, Spot)>, AllocError> {
+    let Some(mut from) = find(source, key, hash) else {
+        return Ok(None);
+    };
+    if target.is_killed() {
+        return Ok(None);
+    }
+    match target.extract_from(hash, source, &mut from) {
+        Ok(to) => Ok(Some(((to.block(), to.pos()), (from.block(), from.pos())))),
+        Err(refused) => Err(refused),
+    }
+}
+
+/// Kills a bucket that has no pair and isn't killed, and returns whether it was one.
+pub(crate) fn kill_empty<V: Drop, L: LruList + Drop, const TYPE: u8>(
+    bucket: &mut Bucket<u64, V, L, TYPE>,
+) -> bool {
+    if bucket.len() != 0 || bucket.is_killed() {
+        return false;
+    }
+    bucket.kill();
+    true
+}
+
+/// Marks the pair of a key as removed, and returns whether there was one.
+pub(crate) fn mark_key<V: Drop, G: Generation>(
+    bucket: &mut Bucket<u64, V, (), INDEX>,
+    key: u64,
+    hash: u64,
+    generation: &G,
+) -> bool {
+    let Some(mut at) = find(bucket, key, hash) else {
+        return false;
+    };
+    bucket.mark_removed(&mut at, generation);
+    true
+}
+
+/// Steps to the next pair and returns its key.
+pub(crate) fn next_key<const TYPE: u8>(bucket: &Pairs<TYPE>, at: &mut At<TYPE>) -> Option<u64> {
+    if !at.find_next(bucket) {
+        return None;
+    }
+    Some(*at.key(bucket))
+}
+
+/// Steps to the next pair, takes it out where its key is among those that go, and returns the key.
+pub(crate) fn take_next(bucket: &mut Pairs<MAP>, at: &mut At<MAP>, going: &[u64]) -> Option<u64> {
+    if !at.find_next(bucket) {
+        return None;
+    }
+    let key = *at.key(bucket);
+    if !going.contains(&key) {
+        return Some(key);
+    }
+    let (gone, _) = bucket.remove(at);
+    Some(gone)
+}
