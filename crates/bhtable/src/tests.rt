@@ -1,6 +1,6 @@
 //! Scripts, and what `serve` answers them.
 use crate::serve;
-use std::alloc::{AllocError, Global};
+use std::alloc::Global;
 use std::fmt::Debug;
 use std::io::{Read, Write};
 use std::process::Abort;
@@ -13,33 +13,65 @@ mod forms;
 mod indexes;
 mod maps;
 
-// The script of the lines, each ended by a newline.
-fn script(alloc: Global, lines: &[(&str, &str)]) -> Result<Vec<u8>, AllocError> {
-    let mut input = Vec::new(alloc);
-    for (line, _) in lines {
-        input.extend_from_slice(line.as_bytes())?;
-        input.push(b'\n')?;
+// A script, and what it is to be answered.
+#[derive(Drop)]
+struct Dialogue {
+    input: Vec<u8>,
+    replies: Vec<u8>,
+}
+
+impl Dialogue {
+    // Nothing is said yet.
+    fn new(alloc: Global) -> Self {
+        Dialogue {
+            input: Vec::new(alloc),
+            replies: Vec::new(alloc),
+        }
     }
-    Ok(input)
+
+    // Lines, each with its newline, and their replies.
+    fn push(&mut self, lines: &str, replies: &str) -> Result<(), Fail> {
+        self.input.extend_from_slice(lines.as_bytes())?;
+        self.replies.extend_from_slice(replies.as_bytes())?;
+        Ok(())
+    }
+
+    // A put of a new key.
+    fn push_put(&mut self, key: u8, value: u8) -> Result<(), Fail> {
+        writeln!(self.input, "put {key} {value}")?;
+        self.push("", "ok\n")
+    }
+
+    // A line that makes a table, and a put of each key below `keys` with the key as the value.
+    fn push_puts(&mut self, table: &str, keys: u8) -> Result<(), Fail> {
+        self.push(table, "ok\n")?;
+        for key in 0..keys {
+            self.push_put(key, key)?;
+        }
+        Ok(())
+    }
+
+    // Serves the script to its end, and compares all that is answered.
+    fn check(&self, rt: &impl Abort, alloc: Global) -> Result<(), Fail> {
+        let text = std::str::from_utf8(self.replies.as_slice())?;
+        check_text(rt, alloc, self.input.as_slice(), text, 0)
+    }
 }
 
 // Line in, line out: serves the lines in order, and compares each reply.
 fn check_lines(rt: &impl Abort, alloc: Global, lines: &[(&str, &str)]) -> Result<(), Fail> {
-    let input = script(alloc, lines)?;
-    let mut output: Vec<u8> = Vec::new(alloc);
-    let status = serve(alloc, input.as_slice(), &mut output);
-    check_same(rt, status, 0, "status");
-    check_replies(rt, std::str::from_utf8(output.as_slice())?, lines);
-    Ok(())
+    let mut dialogue = Dialogue::new(alloc);
+    push_lines(&mut dialogue, lines)?;
+    dialogue.check(rt, alloc)
 }
 
-// The text has the reply of each line, and no more.
-fn check_replies(rt: &impl Abort, text: &str, lines: &[(&str, &str)]) {
-    let mut replies = text.lines();
+// Lines and replies without their newlines.
+fn push_lines(dialogue: &mut Dialogue, lines: &[(&str, &str)]) -> Result<(), Fail> {
     for (line, reply) in lines {
-        check_same(rt, replies.next(), Some(*reply), *line);
+        dialogue.push(line, reply)?;
+        dialogue.push("\n", "\n")?;
     }
-    check_same(rt, replies.next(), None, "the end");
+    Ok(())
 }
 
 // Two values are equal. The row helps to find the place.
@@ -67,6 +99,19 @@ fn check_text<R: Read + Drop>(
     Ok(())
 }
 
+// Inputs, and all of the output of each.
+fn check_texts(
+    rt: &impl Abort,
+    alloc: Global,
+    rows: &[(&str, &str)],
+    status: u8,
+) -> Result<(), Fail> {
+    for (input, text) in rows {
+        check_text(rt, alloc, input.as_bytes(), text, status)?;
+    }
+    Ok(())
+}
+
 // Serves a line that makes a table, puts of the keys below `keys` with the key as the value, and
 // then the lines, and compares all replies.
 fn check_after_puts(
@@ -74,24 +119,10 @@ fn check_after_puts(
     alloc: Global,
     table: &str,
     keys: u8,
-    lines: &str,
-    replies: &str,
+    (lines, replies): (&str, &str),
 ) -> Result<(), Fail> {
-    let mut input: Vec<u8> = Vec::new(alloc);
-    let mut text: Vec<u8> = Vec::new(alloc);
-    writeln!(input, "{table}")?;
-    text.extend_from_slice(b"ok\n")?;
-    for key in 0..keys {
-        writeln!(input, "put {key} {key}")?;
-        text.extend_from_slice(b"ok\n")?;
-    }
-    input.extend_from_slice(lines.as_bytes())?;
-    text.extend_from_slice(replies.as_bytes())?;
-    check_text(
-        rt,
-        alloc,
-        input.as_slice(),
-        std::str::from_utf8(text.as_slice())?,
-        0,
-    )
+    let mut dialogue = Dialogue::new(alloc);
+    dialogue.push_puts(table, keys)?;
+    dialogue.push(lines, replies)?;
+    dialogue.check(rt, alloc)
 }

@@ -1,15 +1,22 @@
 //! Lines that can't be read.
-use super::check_text;
+use super::{check_text, check_texts};
 use std::test::Fail;
 
-// Input, and all of its output; the status is 2.
-const UNREADABLE: [(&str, &str); 67] = [
-    // Before the first table.
+// Calls before the first table.
+const BEFORE_A_TABLE: [(&str, &str); 4] = [
     ("peek 1", "bad line 1\n"),
     ("count", "bad line 1\n"),
     ("put 1 2\nnew map id 0 64", "bad line 1\n"),
     ("\n \n\r\nremove 1", "bad line 4\n"),
-    // Tables.
+];
+
+#[test]
+fn refuses_a_call_before_the_first_table(rt: HostRuntime) -> Result<(), Fail> {
+    check_texts(&rt, rt.alloc(), &BEFORE_A_TABLE, 2)
+}
+
+// Tables that can't be made.
+const TABLES: [(&str, &str); 18] = [
     ("new map id 0 100", "bad line 1\n"),
     ("new map id 65 64", "bad line 1\n"),
     ("new map id 0 32", "bad line 1\n"),
@@ -31,7 +38,15 @@ const UNREADABLE: [(&str, &str); 67] = [
     ("new cache id 0 100", "bad line 1\n"),
     ("new cache 0 64", "bad line 1\n"),
     ("newmap id 0 64", "bad line 1\n"),
-    // Calls.
+];
+
+#[test]
+fn refuses_a_table_that_cannot_be_made(rt: HostRuntime) -> Result<(), Fail> {
+    check_texts(&rt, rt.alloc(), &TABLES, 2)
+}
+
+// Calls with too few words or too many, or that there aren't.
+const CALLS: [(&str, &str); 18] = [
     ("\nnew map id 0 64\nput 1", "ok\nbad line 3\n"),
     ("new map id 0 64\nput", "ok\nbad line 2\n"),
     ("new map id 0 64\nput 1 2 3", "ok\nbad line 2\n"),
@@ -50,7 +65,15 @@ const UNREADABLE: [(&str, &str); 67] = [
     ("new map id 0 64\nhas 1", "ok\nbad line 2\n"),
     ("new map id 0 64\nCount", "ok\nbad line 2\n"),
     ("new map id 0 64\nslots", "ok\nbad line 2\n"),
-    // Epochs.
+];
+
+#[test]
+fn refuses_a_call_with_too_few_words_or_too_many(rt: HostRuntime) -> Result<(), Fail> {
+    check_texts(&rt, rt.alloc(), &CALLS, 2)
+}
+
+// Epochs that can't be, and calls that are misspelt.
+const EPOCHS: [(&str, &str); 13] = [
     ("epoch 0 keep", "bad line 1\n"),
     ("new index id 0 64\nepoch 256 keep", "ok\nbad line 2\n"),
     ("new index id 0 64\nepoch 255 hold", "ok\nbad line 2\n"),
@@ -70,7 +93,15 @@ const UNREADABLE: [(&str, &str); 67] = [
     ),
     ("new map id 0 64\npee 1", "ok\nbad line 2\n"),
     ("new map id 0 64\npeeks 1", "ok\nbad line 2\n"),
-    // Numbers.
+];
+
+#[test]
+fn refuses_an_epoch_that_cannot_be(rt: HostRuntime) -> Result<(), Fail> {
+    check_texts(&rt, rt.alloc(), &EPOCHS, 2)
+}
+
+// Words that are no numbers.
+const NUMBERS: [(&str, &str); 7] = [
     ("new map id 0 64\nput 1 +2", "ok\nbad line 2\n"),
     ("new map id 0 64\nput 1 -2", "ok\nbad line 2\n"),
     (
@@ -87,7 +118,15 @@ const UNREADABLE: [(&str, &str); 67] = [
     ),
     ("new map id 0 64\npeek 0x1", "ok\nbad line 2\n"),
     ("new map id 0 64\npeek 1_0", "ok\nbad line 2\n"),
-    // Bytes that are part of a word.
+];
+
+#[test]
+fn refuses_what_is_no_number(rt: HostRuntime) -> Result<(), Fail> {
+    check_texts(&rt, rt.alloc(), &NUMBERS, 2)
+}
+
+// Bytes that are part of a word.
+const BYTES: [(&str, &str); 7] = [
     ("new map id 0 64\npeek 1\r\r\n", "ok\nbad line 2\n"),
     ("new map id 0 64\npeek\r1\n", "ok\nbad line 2\n"),
     ("new map id 0 64\npeek 1\0\n", "ok\nbad line 2\n"),
@@ -98,11 +137,8 @@ const UNREADABLE: [(&str, &str); 67] = [
 ];
 
 #[test]
-fn ends_at_a_line_that_cannot_be_read(rt: HostRuntime) -> Result<(), Fail> {
-    for (input, output) in UNREADABLE {
-        check_text(&rt, rt.alloc(), input.as_bytes(), output, 2)?;
-    }
-    Ok(())
+fn takes_other_bytes_as_parts_of_words(rt: HostRuntime) -> Result<(), Fail> {
+    check_texts(&rt, rt.alloc(), &BYTES, 2)
 }
 
 #[test]

@@ -1,57 +1,59 @@
 //! What a cache answers.
-use super::{check_after_puts, check_lines};
+use super::{Dialogue, check_after_puts, check_lines};
 use std::io::Write;
 use std::test::Fail;
 
 // How many keys are put, the lines after that, and their replies.
-const EVICTIONS: [(u8, &str, &str); 5] = [
+const EVICTIONS: [(u8, (&str, &str)); 5] = [
     // The pair that was touched goes, and then the bucket isn't full.
-    (32, "touch 7\nevict 0\nevict 0\n", "ok\npair 7 7\nnothing\n"),
+    (
+        32,
+        ("touch 7\nevict 0\nevict 0\n", "ok\npair 7 7\nnothing\n"),
+    ),
     // No pair was touched, so that of the first slot goes.
     (
         32,
-        "evict 0\nput 32 32\nevict 0\ncount\n",
-        "pair 0 0\nok\npair 32 32\n31\n",
+        (
+            "evict 0\nput 32 32\nevict 0\ncount\n",
+            "pair 0 0\nok\npair 32 32\n31\n",
+        ),
     ),
     // Too few pairs.
-    (31, "evict 0\nevict 30\ncount\n", "nothing\nnothing\n31\n"),
-    (0, "evict 0\nhas\n", "nothing\nfalse\n"),
+    (31, ("evict 0\nevict 30\ncount\n", "nothing\nnothing\n31\n")),
+    (0, ("evict 0\nhas\n", "nothing\nfalse\n")),
     // The pair touched longest ago goes first; a read, a peek and a write touch nothing.
     (
         32,
-        "touch 9\ntouch 4\nread 9\npeek 9\nwrite 9 1\nevict 99\nput 9 2\nevict 99\n",
-        "ok\nok\nvalue 9\nvalue 9\nold 9\npair 9 1\nok\npair 4 4\n",
+        (
+            "touch 9\ntouch 4\nread 9\npeek 9\nwrite 9 1\nevict 99\nput 9 2\nevict 99\n",
+            "ok\nok\nvalue 9\nvalue 9\nold 9\npair 9 1\nok\npair 4 4\n",
+        ),
     ),
 ];
 
 #[test]
 fn evicts_the_pair_touched_longest_ago(rt: HostRuntime) -> Result<(), Fail> {
-    for (keys, lines, replies) in EVICTIONS {
-        check_after_puts(
-            &rt,
-            rt.alloc(),
-            "new cache zero 64 64",
-            keys,
-            lines,
-            replies,
-        )?;
+    for (keys, lines) in &EVICTIONS {
+        check_after_puts(&rt, rt.alloc(), "new cache zero 64 64\n", *keys, *lines)?;
     }
     Ok(())
 }
 
 #[test]
 fn evicts_none_of_the_pairs_that_overflow(rt: HostRuntime) -> Result<(), Fail> {
-    let mut touches: Vec<u8> = Vec::new(rt.alloc());
-    let mut replies: Vec<u8> = Vec::new(rt.alloc());
+    let mut dialogue = Dialogue::new(rt.alloc());
+    push_40_touches(&mut dialogue)?;
+    dialogue.check(&rt, rt.alloc())
+}
+
+// Forty pairs that are all touched, and evictions until an own slot is free.
+fn push_40_touches(dialogue: &mut Dialogue) -> Result<(), Fail> {
+    dialogue.push_puts("new cache zero 64 64\n", 40)?;
     for key in 0..40u8 {
-        writeln!(touches, "touch {key}")?;
-        replies.extend_from_slice(b"ok\n")?;
+        writeln!(dialogue.input, "touch {key}")?;
+        dialogue.push("", "ok\n")?;
     }
-    touches.extend_from_slice(b"evict 0\ncount\nevict 0\n")?;
-    replies.extend_from_slice(b"pair 0 0\n39\nnothing\n")?;
-    let lines = std::str::from_utf8(touches.as_slice())?;
-    let text = std::str::from_utf8(replies.as_slice())?;
-    check_after_puts(&rt, rt.alloc(), "new cache zero 64 64", 40, lines, text)
+    dialogue.push("evict 0\ncount\nevict 0\n", "pair 0 0\n39\nnothing\n")
 }
 
 const A_PAIR_COMES_AND_GOES: [(&str, &str); 16] = [

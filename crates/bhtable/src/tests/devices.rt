@@ -1,9 +1,11 @@
 //! Readers that give little or fail, writers that fail, and the order of reads and writes.
 use super::{check_same, check_text};
 use crate::serve;
+use std::alloc::Global;
 use std::cell::Cell;
 use std::io;
 use std::io::{ErrorKind, Read, Write};
+use std::process::Abort;
 use std::test::Fail;
 
 const SCRIPT: &str = "new map id 0 64\nput 1 10\npeek 1\n";
@@ -121,18 +123,35 @@ const OUTPUT_FAULTS: [(usize, &str, u8); 6] = [
 #[test]
 fn ends_where_the_output_fails(rt: HostRuntime) -> Result<(), Fail> {
     for (writes_left, text, status) in OUTPUT_FAULTS {
-        let mut written: Vec<u8> = Vec::new(rt.alloc());
-        let mut output = Sink {
-            written: &mut written,
-            piece_len: 5,
-            writes_left,
-        };
-        let script = b"new map id 0 64\nput 1 10\npeek 1\npoke 1\n";
-        let ended = serve(rt.alloc(), script.as_slice(), &mut output);
-        check_same(&rt, ended, status, text);
-        check_same(&rt, std::str::from_utf8(written.as_slice())?, text, status);
+        check_fault(&rt, rt.alloc(), writes_left, text, status)?;
     }
     Ok(())
+}
+
+// What is written before the fault, and the status then.
+fn check_fault(
+    rt: &impl Abort,
+    alloc: Global,
+    writes_left: usize,
+    text: &str,
+    status: u8,
+) -> Result<(), Fail> {
+    let mut written = Vec::new(alloc);
+    let ended = serve_into(alloc, &mut written, writes_left);
+    check_same(rt, ended, status, text);
+    check_same(rt, std::str::from_utf8(written.as_slice())?, text, status);
+    Ok(())
+}
+
+// Serves a script whose last line can't be read, to a writer that fails after these writes.
+fn serve_into(alloc: Global, written: &mut Vec<u8>, writes_left: usize) -> u8 {
+    let mut output = Sink {
+        written,
+        piece_len: 5,
+        writes_left,
+    };
+    let script = b"new map id 0 64\nput 1 10\npeek 1\npoke 1\n";
+    serve(alloc, script.as_slice(), &mut output)
 }
 
 // Says the next line once the one before it is answered, and fails where it isn't.

@@ -1,6 +1,7 @@
 //! The forms that a line may have.
-use super::check_text;
+use super::{check_text, check_texts};
 use std::alloc::{AllocError, Global};
+use std::process::Abort;
 use std::test::Fail;
 
 // Input, and all of its output; the status is 0.
@@ -30,10 +31,7 @@ const READABLE: [(&str, &str); 9] = [
 
 #[test]
 fn reads_each_form_of_a_line(rt: HostRuntime) -> Result<(), Fail> {
-    for (input, output) in READABLE {
-        check_text(&rt, rt.alloc(), input.as_bytes(), output, 0)?;
-    }
-    Ok(())
+    check_texts(&rt, rt.alloc(), &READABLE, 0)
 }
 
 // `new map id 0 64`, and a line of this many bytes before what ends it: spaces, and then words.
@@ -53,15 +51,26 @@ fn long_script(
     Ok(input)
 }
 
+// Serves such a script, and compares all of its output.
+fn check_long(
+    rt: &impl Abort,
+    alloc: Global,
+    (len, words, ending): (usize, &str, &str),
+    text: &str,
+    status: u8,
+) -> Result<(), Fail> {
+    let input = long_script(alloc, len, words, ending)?;
+    check_text(rt, alloc, input.as_slice(), text, status)
+}
+
 const ENDINGS: [&str; 4] = ["\n", "\r\n", "", "\r"];
 
 #[test]
 fn reads_a_line_of_4096_bytes_and_none_of_4097(rt: HostRuntime) -> Result<(), Fail> {
     for ending in ENDINGS {
-        let longest = long_script(rt.alloc(), 4096, "peek 1", ending)?;
-        check_text(&rt, rt.alloc(), longest.as_slice(), "ok\nabsent\n", 0)?;
-        let longer = long_script(rt.alloc(), 4097, "peek 1", ending)?;
-        check_text(&rt, rt.alloc(), longer.as_slice(), "ok\nbad line 2\n", 2)?;
+        let (longest, longer) = ((4096, "peek 1", ending), (4097, "peek 1", ending));
+        check_long(&rt, rt.alloc(), longest, "ok\nabsent\n", 0)?;
+        check_long(&rt, rt.alloc(), longer, "ok\nbad line 2\n", 2)?;
     }
     Ok(())
 }
@@ -69,18 +78,16 @@ fn reads_a_line_of_4096_bytes_and_none_of_4097(rt: HostRuntime) -> Result<(), Fa
 #[test]
 fn counts_the_bytes_of_a_line_without_words(rt: HostRuntime) -> Result<(), Fail> {
     for ending in ENDINGS {
-        let longest = long_script(rt.alloc(), 4096, "", ending)?;
-        check_text(&rt, rt.alloc(), longest.as_slice(), "ok\n", 0)?;
-        let longer = long_script(rt.alloc(), 4097, "", ending)?;
-        check_text(&rt, rt.alloc(), longer.as_slice(), "ok\nbad line 2\n", 2)?;
+        let (longest, longer) = ((4096, "", ending), (4097, "", ending));
+        check_long(&rt, rt.alloc(), longest, "ok\n", 0)?;
+        check_long(&rt, rt.alloc(), longer, "ok\nbad line 2\n", 2)?;
     }
     Ok(())
 }
 
 #[test]
 fn drops_one_carriage_return_and_no_more(rt: HostRuntime) -> Result<(), Fail> {
-    let longest = long_script(rt.alloc(), 4095, "peek 1", "\r\r\n")?;
-    check_text(&rt, rt.alloc(), longest.as_slice(), "ok\nbad line 2\n", 2)?;
-    let endless = long_script(rt.alloc(), 200_000, "", "")?;
-    check_text(&rt, rt.alloc(), endless.as_slice(), "ok\nbad line 2\n", 2)
+    let (longest, endless) = ((4095, "peek 1", "\r\r\n"), (200_000, "", ""));
+    check_long(&rt, rt.alloc(), longest, "ok\nbad line 2\n", 2)?;
+    check_long(&rt, rt.alloc(), endless, "ok\nbad line 2\n", 2)
 }

@@ -3,40 +3,48 @@ use super::{check_after_puts, check_text};
 use std::test::Fail;
 
 // How many keys are put, the lines after that, and their replies.
-const SCRIPTS: [(u8, &str, &str); 5] = [
+const SCRIPTS: [(u8, (&str, &str)); 5] = [
     // Removed pairs are gone at once, though their slots are marked with an epoch that is equal to
     // their hash's byte; once marks go, their slots are taken again.
     (
         32,
-        "remove 0\nremove 1\nremove 2\nremove 3\npeek 0\nput 32 32\nepoch 0 drop\nput 33 33\ncount\n",
-        "pair 0 0\npair 1 1\npair 2 2\npair 3 3\nabsent\nok\nok\nok\n30\n",
+        (
+            "remove 0\nremove 1\nremove 2\nremove 3\npeek 0\nput 32 32\nepoch 0 drop\nput 33 33\ncount\n",
+            "pair 0 0\npair 1 1\npair 2 2\npair 3 3\nabsent\nok\nok\nok\n30\n",
+        ),
     ),
     // A key comes again beside its own mark, and goes again.
     (
         1,
-        "remove 0\nput 0 5\npeek 0\nremove 0\nremove 0\nhas\n",
-        "pair 0 0\nok\nvalue 5\npair 0 5\nabsent\nfalse\n",
+        (
+            "remove 0\nput 0 5\npeek 0\nremove 0\nremove 0\nhas\n",
+            "pair 0 0\nok\nvalue 5\npair 0 5\nabsent\nfalse\n",
+        ),
     ),
     // An epoch stays until the next, or until a fresh table.
     (
         2,
-        "epoch 255 keep\nremove 0\nepoch 007 drop\nread 1\nnew index id 0 64\ncount\n",
-        "ok\npair 0 0\nok\nvalue 1\nok\n0\n",
+        (
+            "epoch 255 keep\nremove 0\nepoch 007 drop\nread 1\nnew index id 0 64\ncount\n",
+            "ok\npair 0 0\nok\nvalue 1\nok\n0\n",
+        ),
     ),
     // A write reaches a live pair alone.
     (
         2,
-        "remove 1\nwrite 1 9\nwrite 0 8\nread 0\n",
-        "pair 1 1\nabsent\nold 0\nvalue 8\n",
+        (
+            "remove 1\nwrite 1 9\nwrite 0 8\nread 0\n",
+            "pair 1 1\nabsent\nold 0\nvalue 8\n",
+        ),
     ),
     // An index is no cache.
-    (1, "touch 0\nevict 0\n", "wrong kind\nwrong kind\n"),
+    (1, ("touch 0\nevict 0\n", "wrong kind\nwrong kind\n")),
 ];
 
 #[test]
 fn an_index_answers_as_a_map_while_marks_come_and_go(rt: HostRuntime) -> Result<(), Fail> {
-    for (keys, lines, replies) in SCRIPTS {
-        check_after_puts(&rt, rt.alloc(), "new index zero 0 64", keys, lines, replies)?;
+    for (keys, lines) in &SCRIPTS {
+        check_after_puts(&rt, rt.alloc(), "new index zero 0 64\n", *keys, *lines)?;
     }
     Ok(())
 }

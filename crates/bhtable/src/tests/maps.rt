@@ -1,5 +1,5 @@
 //! What a map answers.
-use super::{check_lines, check_text};
+use super::{Dialogue, check_lines};
 use std::io::Write;
 use std::test::Fail;
 
@@ -33,40 +33,34 @@ fn begins_each_table_empty(rt: HostRuntime) -> Result<(), Fail> {
     check_lines(&rt, rt.alloc(), &A_FRESH_MAP)
 }
 
-// A put of each of 40 keys, and the replies.
-fn push_puts(input: &mut Vec<u8>, replies: &mut Vec<u8>) -> Result<(), Fail> {
-    for key in 0..40u8 {
-        let value = key + 100;
-        writeln!(input, "put {key} {value}")?;
-        replies.extend_from_slice(b"ok\n")?;
-    }
-    Ok(())
-}
-
-// A read, a removal and another read of each of 40 keys, and the replies.
-fn push_removals(input: &mut Vec<u8>, replies: &mut Vec<u8>) -> Result<(), Fail> {
-    for key in 0..40u8 {
-        let value = key + 100;
-        writeln!(input, "read {key}\nremove {key}\nread {key}")?;
-        writeln!(replies, "value {value}\npair {key} {value}\nabsent")?;
-    }
-    Ok(())
-}
-
 #[test]
 fn puts_reads_and_removes_40_pairs_of_one_hash(rt: HostRuntime) -> Result<(), Fail> {
-    let mut input: Vec<u8> = Vec::new(rt.alloc());
-    let mut replies: Vec<u8> = Vec::new(rt.alloc());
-    input.extend_from_slice(b"new map zero 0 64\n")?;
-    replies.extend_from_slice(b"ok\n")?;
-    push_puts(&mut input, &mut replies)?;
-    input.extend_from_slice(b"count\nput 39 0\nput 31 0\n")?;
-    replies.extend_from_slice(b"40\npresent\npresent\n")?;
-    push_removals(&mut input, &mut replies)?;
-    input.extend_from_slice(b"count\nhas\n")?;
-    replies.extend_from_slice(b"0\nfalse\n")?;
-    let text = std::str::from_utf8(replies.as_slice())?;
-    check_text(&rt, rt.alloc(), input.as_slice(), text, 0)
+    let mut dialogue = Dialogue::new(rt.alloc());
+    push_40_pairs(&mut dialogue)?;
+    dialogue.check(&rt, rt.alloc())
+}
+
+// Forty pairs that come and go.
+fn push_40_pairs(dialogue: &mut Dialogue) -> Result<(), Fail> {
+    dialogue.push("new map zero 0 64\n", "ok\n")?;
+    for key in 0..40 {
+        dialogue.push_put(key, key + 100)?;
+    }
+    dialogue.push("count\nput 39 0\nput 31 0\n", "40\npresent\npresent\n")?;
+    for key in 0..40 {
+        push_removal(dialogue, key, key + 100)?;
+    }
+    dialogue.push("count\nhas\n", "0\nfalse\n")
+}
+
+// A read, a removal and another read of a key that has this value.
+fn push_removal(dialogue: &mut Dialogue, key: u8, value: u8) -> Result<(), Fail> {
+    writeln!(dialogue.input, "read {key}\nremove {key}\nread {key}")?;
+    writeln!(
+        dialogue.replies,
+        "value {value}\npair {key} {value}\nabsent"
+    )?;
+    Ok(())
 }
 
 const A_VALUE_WRITTEN_TWICE: [(&str, &str); 7] = [
@@ -121,14 +115,16 @@ fn counts_pairs_and_touches_none(rt: HostRuntime) -> Result<(), Fail> {
 // More replies than are held at once, and more calls than a table is given at once.
 #[test]
 fn answers_every_line_of_a_long_script(rt: HostRuntime) -> Result<(), Fail> {
-    let mut input: Vec<u8> = Vec::new(rt.alloc());
-    let mut replies: Vec<u8> = Vec::new(rt.alloc());
-    input.extend_from_slice(b"new map id 0 64\nput 7 12345678901234567890\n")?;
-    replies.extend_from_slice(b"ok\nok\n")?;
+    let mut dialogue = Dialogue::new(rt.alloc());
+    push_6000_peeks(&mut dialogue)?;
+    dialogue.check(&rt, rt.alloc())
+}
+
+// Six thousand peeks in a map of one pair, every other one at its key.
+fn push_6000_peeks(dialogue: &mut Dialogue) -> Result<(), Fail> {
+    dialogue.push("new map id 0 64\nput 7 12345678901234567890\n", "ok\nok\n")?;
     for _ in 0..3000u16 {
-        input.extend_from_slice(b"peek 7\npeek 8\n")?;
-        replies.extend_from_slice(b"value 12345678901234567890\nabsent\n")?;
+        dialogue.push("peek 7\npeek 8\n", "value 12345678901234567890\nabsent\n")?;
     }
-    let text = std::str::from_utf8(replies.as_slice())?;
-    check_text(&rt, rt.alloc(), input.as_slice(), text, 0)
+    Ok(())
 }
