@@ -4,6 +4,7 @@ mod Digits
 mod Ending
 mod Finding
 mod LineSplits
+mod Naming
 mod Numbers
 mod Outputs
 mod PowersOfTwo

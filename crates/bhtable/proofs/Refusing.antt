@@ -1,47 +1,41 @@
 -- What no request asks for: an unknown verb, words that a verb refuses, and words left over.
-use Rattle.std.proofs.Common.{◌≡◌, ℕ, List, [], ◌∷◌, ◌++◌, length, Option, Some, None, cond, refl, sym, ap, ◌∙◌, subst, arith, length-append}
-use Rattle.std.specs.Str.{bytes_eq}
+use Rattle.std.proofs.Common.{◌≡◌, ℕ, List, [], ◌∷◌, ◌++◌, length, map, Option, Some, None, refl, sym, ap, ◌∙◌, subst, arith, length-append}
+use Rattle.bhtable.specs.Meanings.{meaning}
 use Rattle.bhtable.specs.Requests.{Asks, AsksNothing, IsRefused, count_of, verb_word}
+use Rattle.bhtable.specs.declared.request.TheConstants.{VERBS}
 use Rattle.bhtable.specs.declared.request.Request.{Request}
 use Rattle.bhtable.specs.declared.request.Request.TheVariants.{New as RequestNew, Call as RequestCall, Epoch as RequestEpoch}
 use Rattle.bhtable.specs.declared.request.Verb.{Verb}
 use Rattle.bhtable.specs.declared.request.Verb.TheVariants.{New, Put, Write, Read, Peek, Remove, Touch, Evict, Count, Has, Epoch}
 use Rattle.bucket_table.specs.declared.script.call.Call.TheVariants.{Put as CallPut, Write as CallWrite, Read as CallRead, Peek as CallPeek, Remove as CallRemove, Touch as CallTouch, Evict as CallEvict, Count as CallCount, Has as CallHas}
+use Rattle.bhtable.proofs.Naming.{AreNamed}
 
--- the verb that a word names
-abbrev named : List ℕ → Option Verb
-named word =
-    cond (bytes_eq word (verb_word New)) (Some New)
-    (cond (bytes_eq word (verb_word Put)) (Some Put)
-    (cond (bytes_eq word (verb_word Write)) (Some Write)
-    (cond (bytes_eq word (verb_word Read)) (Some Read)
-    (cond (bytes_eq word (verb_word Peek)) (Some Peek)
-    (cond (bytes_eq word (verb_word Remove)) (Some Remove)
-    (cond (bytes_eq word (verb_word Touch)) (Some Touch)
-    (cond (bytes_eq word (verb_word Evict)) (Some Evict)
-    (cond (bytes_eq word (verb_word Count)) (Some Count)
-    (cond (bytes_eq word (verb_word Has)) (Some Has)
-    (cond (bytes_eq word (verb_word Epoch)) (Some Epoch) None))))))))))
+-- the rows that a verb is looked up in
+abbrev pub verbs : List (List ℕ × Verb)
+verbs = map (λ row. (row.0.now, row.1)) VERBS
 
-named-verb_word : (verb : Verb) → named (verb_word verb) ≡ Some verb
-named-verb_word New = refl
-named-verb_word Put = refl
-named-verb_word Write = refl
-named-verb_word Read = refl
-named-verb_word Peek = refl
-named-verb_word Remove = refl
-named-verb_word Touch = refl
-named-verb_word Evict = refl
-named-verb_word Count = refl
-named-verb_word Has = refl
-named-verb_word Epoch = refl
+pub verbs_named : AreNamed verb_word verbs
+verbs_named = (refl, (refl, (refl, (refl, (refl, (refl, (refl, (refl, (refl, (refl, (refl, tt)))))))))))
+
+pub verb_known : (verb : Verb) → meaning verbs (verb_word verb) ≡ Some verb
+verb_known New = refl
+verb_known Put = refl
+verb_known Write = refl
+verb_known Read = refl
+verb_known Peek = refl
+verb_known Remove = refl
+verb_known Touch = refl
+verb_known Evict = refl
+verb_known Count = refl
+verb_known Has = refl
+verb_known Epoch = refl
 
 Some-injective : (a b : Verb) → Some a ≡ Some b → a ≡ b
 Some-injective a b same = ap (λ (verb : Option Verb). elim verb [ Some named ↦ named | None ↦ a ]) same
 
 -- no two verbs have one word
 verb_word_injective : (a b : Verb) → verb_word a ≡ verb_word b → a ≡ b
-verb_word_injective a b same = Some-injective a b (sym (named-verb_word a) ∙ ap named same ∙ named-verb_word b)
+verb_word_injective a b same = Some-injective a b (sym (verb_known a) ∙ ap (meaning verbs) same ∙ verb_known b)
 
 -- the verb of a request
 abbrev pub verb_for : Request → Verb

@@ -2,6 +2,7 @@ pub mod Answers
 pub mod InputLines
 pub mod Limits
 pub mod Lines
+pub mod Meanings
 pub mod Numbers
 pub mod Outputs
 pub mod Replies

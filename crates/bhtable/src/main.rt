@@ -8,6 +8,7 @@ ghost use Rattle.bhtable.specs.Sessions.{HasEnded, HasTaken};
 ghost use Rattle.bhtable.specs.Window.{unread};
 
 mod line;
+mod meanings;
 mod replies;
 mod request;
 mod session;

@@ -10,6 +10,7 @@ ghost use Rattle.bhtable.specs.declared.request.Kind.{Kind};
 ghost use Rattle.bhtable.specs.declared.request.Verb.{Verb};
 ghost use Rattle.bucket_table.specs.declared.script.hashes.ScriptHash.{ScriptHash};
 
+use crate::meanings::meaning_of;
 use crate::words::Words;
 use bucket_table::script::{Call, FixedGeneration, ScriptHash};
 
@@ -67,6 +68,35 @@ enum Verb {
     Epoch,
 }
 
+const VERBS: [(&[u8], Verb); 11] = [
+    (b"new", Verb::New),
+    (b"put", Verb::Put),
+    (b"write", Verb::Write),
+    (b"read", Verb::Read),
+    (b"peek", Verb::Peek),
+    (b"remove", Verb::Remove),
+    (b"touch", Verb::Touch),
+    (b"evict", Verb::Evict),
+    (b"count", Verb::Count),
+    (b"has", Verb::Has),
+    (b"epoch", Verb::Epoch),
+];
+
+const KINDS: [(&[u8], Kind); 3] = [
+    (b"map", Kind::Map),
+    (b"index", Kind::Index),
+    (b"cache", Kind::Cache),
+];
+
+const HASHES: [(&[u8], ScriptHash); 3] = [
+    (b"zero", ScriptHash::Zero),
+    (b"id", ScriptHash::Id),
+    (b"spread", ScriptHash::Spread),
+];
+
+// Whether marks are kept.
+const MARKS: [(&[u8], bool); 2] = [(b"keep", true), (b"drop", false)];
+
 /// Reads what a line asks for: nothing, where it has no words.
 pub(crate) fn request_in(line: &[u8]) -> Result<Option<Request>, Unreadable>
     ensures asked { IfOk result (λ request.
@@ -102,20 +132,7 @@ fn verb_of(word: &[u8]) -> Option<Verb>
     ensures named { IfSome result (λ verb. word.now ≡ verb_word verb) }
     ensures refused { IfNone result ((verb : Verb) → word.now ≡ verb_word verb → ⊥) }
 {
-    match word {
-        b"new" => Some(Verb::New),
-        b"put" => Some(Verb::Put),
-        b"write" => Some(Verb::Write),
-        b"read" => Some(Verb::Read),
-        b"peek" => Some(Verb::Peek),
-        b"remove" => Some(Verb::Remove),
-        b"touch" => Some(Verb::Touch),
-        b"evict" => Some(Verb::Evict),
-        b"count" => Some(Verb::Count),
-        b"has" => Some(Verb::Has),
-        b"epoch" => Some(Verb::Epoch),
-        _ => None,
-    }
+    meaning_of(&VERBS, word)
 }
 
 // What a verb asks for with the words behind it.
@@ -158,24 +175,14 @@ fn kind_of(word: &[u8]) -> Option<Kind>
     ensures named { IfSome result (λ kind. word.now ≡ kind_word kind) }
     ensures refused { IfNone result ((kind : Kind) → word.now ≡ kind_word kind → ⊥) }
 {
-    match word {
-        b"map" => Some(Kind::Map),
-        b"index" => Some(Kind::Index),
-        b"cache" => Some(Kind::Cache),
-        _ => None,
-    }
+    meaning_of(&KINDS, word)
 }
 
 fn hash_of(word: &[u8]) -> Option<ScriptHash>
     ensures named { IfSome result (λ hash. word.now ≡ hash_word hash) }
     ensures refused { IfNone result ((hash : ScriptHash) → word.now ≡ hash_word hash → ⊥) }
 {
-    match word {
-        b"zero" => Some(ScriptHash::Zero),
-        b"id" => Some(ScriptHash::Id),
-        b"spread" => Some(ScriptHash::Spread),
-        _ => None,
-    }
+    meaning_of(&HASHES, word)
 }
 
 fn generation_in(words: &mut Words<'_>) -> Option<FixedGeneration>
@@ -197,11 +204,7 @@ fn keep_of(word: &[u8]) -> Option<bool>
     ensures named { IfSome result (λ keep. word.now ≡ mark_word keep) }
     ensures refused { IfNone result ((keep : Bool) → word.now ≡ mark_word keep → ⊥) }
 {
-    match word {
-        b"keep" => Some(true),
-        b"drop" => Some(false),
-        _ => None,
-    }
+    meaning_of(&MARKS, word)
 }
 
 // The greatest is a power of two from 64 to 2^63, and the least at most that.
