@@ -1,4 +1,4 @@
-use Rattle.std.proofs.Common.{arith, refl, sym, ap, ◌∙◌}
+use Rattle.std.proofs.Common.{arith, rules, refl, sym, ap, ◌∙◌}
 use Rattle.std.proofs.lemmas.Grind.{common_steps}
 use Rattle.bucket_slots.specs.BucketView.{slot_in}
 use Rattle.bucket_slots.specs.Slots.{live_pair}
@@ -13,6 +13,9 @@ pub invariant_of-self-lent : goal.invariant_of-self-lent
 invariant_of-self-lent g c w =
     let here = own_live _ _ c.args.at.now _ _ c.self.view_is c.block-block.ensures c.pos-pos.ensures c.if-block-eq0.true c.self.invariant.1.own_long c.requires.live_slot in
     (c.self.invariant.0, IsBucket-own_value g.row.TYPE _ c.self.inside.len c.pos-pos.result w c.self.invariant.1 here.0.short)
+
+pub returns-then-block-eq0 : goal.returns-then-block-eq0
+returns-then-block-eq0 g c = search rules
 
 pub entry_mut-requires-2 : goal.entry_mut-requires-2
 entry_mut-requires-2 g c =
