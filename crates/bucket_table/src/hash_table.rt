@@ -50,13 +50,7 @@ impl<K: Eq, V, H: KeyHash<K>, L: LruList, const TYPE: u8> Model for HashTable<K,
     ghost invariant = { λ table. IsCapacityRange table.minimum table.maximum × IsOneMap K.eq (H.hash_of table.hasher) (record { hasher = table.hasher; minimum = table.minimum; maximum = table.maximum; bucket = table.bucket }) };
 }
 
-impl<K: Eq + Drop, V: Drop, H: KeyHash<K> + Drop, L: LruList + Drop, const TYPE: u8> HashTable<
-    K,
-    V,
-    H,
-    L,
-    TYPE,
-> {
+impl<K: Eq, V, H: KeyHash<K>, L: LruList, const TYPE: u8> HashTable<K, V, H, L, TYPE> {
     /// Returns a table with no pair.
     ///
     /// `minimum` and `maximum` are numbers of slots. The allocator serves all that the table
@@ -136,26 +130,6 @@ impl<K: Eq + Drop, V: Drop, H: KeyHash<K> + Drop, L: LruList + Drop, const TYPE:
         if at.is_valid() { Some(at) } else { None }
     }
 
-    /// Inserts a pair whose key the map hasn't.
-    pub(crate) fn insert<G: Generation>(
-        &mut self,
-        hash: u64,
-        pair: (K, V),
-        generation: &G,
-    ) -> Result<EntryPtr<K, V, TYPE>, (K, V)>
-        requires own_hash { hash ≡ H.hash_of self.old.hasher pair.0 }
-        requires key_absent { IsAbsent K.eq pair.0 (pairs_of self.old) }
-        ensures map { OnOk result (AddsPair (state_of TYPE self.old) pair (state_of TYPE self.new)) }
-        ensures hasher { self.new.hasher ≡ self.old.hasher }
-        ensures pair_returned { IfErr result (λ back. back ≡ pair) }
-        ensures unchanged { OnErr result (self.new ≡ self.old) }
-        ensures no_free_slot { OnErr result
-            (first_place is_free
-            (slots_for_insertion TYPE (G.keeps generation.now) self.old.bucket) ≡ None) }
-    {
-        self.bucket.insert(hash, pair, generation)
-    }
-
     /// Takes the pair at a live slot out of the map and returns it. An index keeps it in its slot,
     /// marked with the epoch of now.
     pub(crate) fn remove<G: Generation>(
@@ -215,5 +189,27 @@ impl<K: Eq + Drop, V: Drop, H: KeyHash<K> + Drop, L: LruList + Drop, const TYPE:
         ensures hasher { self.new.hasher ≡ self.old.hasher }
     {
         self.bucket.evict_lru_head()
+    }
+}
+
+impl<K: Eq + Drop, V: Drop, H: KeyHash<K>, L: LruList, const TYPE: u8> HashTable<K, V, H, L, TYPE> {
+    /// Inserts a pair whose key the map hasn't.
+    pub(crate) fn insert<G: Generation>(
+        &mut self,
+        hash: u64,
+        pair: (K, V),
+        generation: &G,
+    ) -> Result<EntryPtr<K, V, TYPE>, (K, V)>
+        requires own_hash { hash ≡ H.hash_of self.old.hasher pair.0 }
+        requires key_absent { IsAbsent K.eq pair.0 (pairs_of self.old) }
+        ensures map { OnOk result (AddsPair (state_of TYPE self.old) pair (state_of TYPE self.new)) }
+        ensures hasher { self.new.hasher ≡ self.old.hasher }
+        ensures pair_returned { IfErr result (λ back. back ≡ pair) }
+        ensures unchanged { OnErr result (self.new ≡ self.old) }
+        ensures no_free_slot { OnErr result
+            (first_place is_free
+            (slots_for_insertion TYPE (G.keeps generation.now) self.old.bucket) ≡ None) }
+    {
+        self.bucket.insert(hash, pair, generation)
     }
 }

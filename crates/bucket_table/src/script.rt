@@ -33,14 +33,7 @@ use std::alloc::Global;
 /// Want of memory for the replies: no call was done.
 ///
 /// O(calls), and the cost of each. Own.
-pub fn run<
-    K: Eq + Copy,
-    V: Copy,
-    H: KeyHash<K> + Drop,
-    L: LruList + Drop,
-    G: Generation,
-    const TYPE: u8,
->(
+pub fn run<K: Eq + Copy, V: Copy, H: KeyHash<K>, L: LruList, G: Generation, const TYPE: u8>(
     alloc: Global,
     table: &mut HashTable<K, V, H, L, TYPE>,
     calls: Vec<Call<K, V>>,
@@ -68,14 +61,11 @@ pub fn run<
 }
 
 /// Does one call.
-fn step<
-    K: Eq + Copy,
-    V: Copy,
-    H: KeyHash<K> + Drop,
-    L: LruList + Drop,
-    G: Generation,
-    const TYPE: u8,
->(table: &mut HashTable<K, V, H, L, TYPE>, call: &Call<K, V>, generation: &G) -> Reply<K, V>
+fn step<K: Eq + Copy, V: Copy, H: KeyHash<K>, L: LruList, G: Generation, const TYPE: u8>(
+    table: &mut HashTable<K, V, H, L, TYPE>,
+    call: &Call<K, V>,
+    generation: &G,
+) -> Reply<K, V>
     ensures step { Step K.eq (state_of TYPE table.old) call.now result (state_of TYPE table.new) }
     ensures hasher { table.new.hasher ≡ table.old.hasher }
 {
@@ -92,14 +82,12 @@ fn step<
 }
 
 /// Inserts a pair where its key is absent.
-fn put<
-    K: Eq + Copy,
-    V: Copy,
-    H: KeyHash<K> + Drop,
-    L: LruList + Drop,
-    G: Generation,
-    const TYPE: u8,
->(table: &mut HashTable<K, V, H, L, TYPE>, key: K, value: V, generation: &G) -> Reply<K, V>
+fn put<K: Eq + Copy, V: Copy, H: KeyHash<K>, L: LruList, G: Generation, const TYPE: u8>(
+    table: &mut HashTable<K, V, H, L, TYPE>,
+    key: K,
+    value: V,
+    generation: &G,
+) -> Reply<K, V>
     ensures step { Step K.eq (state_of TYPE table.old) (Call.Put key value) result (state_of TYPE table.new) }
     ensures hasher { table.new.hasher ≡ table.old.hasher }
 {
@@ -114,7 +102,7 @@ fn put<
 }
 
 /// Reads a value, and moves nothing.
-fn peek<K: Eq + Copy, V: Copy, H: KeyHash<K> + Drop, L: LruList + Drop, const TYPE: u8>(
+fn peek<K: Eq + Copy, V: Copy, H: KeyHash<K>, L: LruList, const TYPE: u8>(
     table: &HashTable<K, V, H, L, TYPE>,
     key: K,
 ) -> Reply<K, V>
@@ -127,14 +115,11 @@ fn peek<K: Eq + Copy, V: Copy, H: KeyHash<K> + Drop, L: LruList + Drop, const TY
 }
 
 /// Takes a pair out.
-fn remove<
-    K: Eq + Copy,
-    V: Copy,
-    H: KeyHash<K> + Drop,
-    L: LruList + Drop,
-    G: Generation,
-    const TYPE: u8,
->(table: &mut HashTable<K, V, H, L, TYPE>, key: K, generation: &G) -> Reply<K, V>
+fn remove<K: Eq + Copy, V: Copy, H: KeyHash<K>, L: LruList, G: Generation, const TYPE: u8>(
+    table: &mut HashTable<K, V, H, L, TYPE>,
+    key: K,
+    generation: &G,
+) -> Reply<K, V>
     ensures step { Step K.eq (state_of TYPE table.old) (Call.Remove key) result (state_of TYPE table.new) }
     ensures hasher { table.new.hasher ≡ table.old.hasher }
 {
@@ -147,7 +132,7 @@ fn remove<
 }
 
 /// Writes a value.
-fn write<K: Eq + Copy, V: Copy, H: KeyHash<K> + Drop, L: LruList + Drop, const TYPE: u8>(
+fn write<K: Eq + Copy, V: Copy, H: KeyHash<K>, L: LruList, const TYPE: u8>(
     table: &mut HashTable<K, V, H, L, TYPE>,
     key: K,
     value: V,
@@ -163,7 +148,7 @@ fn write<K: Eq + Copy, V: Copy, H: KeyHash<K> + Drop, L: LruList + Drop, const T
 }
 
 /// Touches a pair of a cache.
-fn touch<K: Eq + Copy, V: Copy, H: KeyHash<K> + Drop, L: LruList + Drop, const TYPE: u8>(
+fn touch<K: Eq + Copy, V: Copy, H: KeyHash<K>, L: LruList, const TYPE: u8>(
     table: &mut HashTable<K, V, H, L, TYPE>,
     key: K,
 ) -> Reply<K, V>
@@ -182,7 +167,7 @@ fn touch<K: Eq + Copy, V: Copy, H: KeyHash<K> + Drop, L: LruList + Drop, const T
 }
 
 /// Evicts a pair of a cache.
-fn evict<K: Eq + Copy, V: Copy, H: KeyHash<K> + Drop, L: LruList + Drop, const TYPE: u8>(
+fn evict<K: Eq + Copy, V: Copy, H: KeyHash<K>, L: LruList, const TYPE: u8>(
     table: &mut HashTable<K, V, H, L, TYPE>,
 ) -> Reply<K, V>
     ensures step { (key : K) → Step K.eq (state_of TYPE table.old) (Call.Evict key) result (state_of TYPE table.new) }

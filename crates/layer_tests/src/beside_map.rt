@@ -51,7 +51,7 @@ pub(crate) fn reply_of(
 }
 
 /// The table has the pairs of the map.
-pub(crate) fn check_pairs<L: LruList + Drop, const TYPE: u8>(
+pub(crate) fn check_pairs<L: LruList, const TYPE: u8>(
     rt: &impl Abort,
     table: &Table<L, TYPE>,
     map: &BTreeMap<u64, u64>,

@@ -12,7 +12,7 @@ use std::mem;
 pub(crate) type Spot = (usize, usize);
 
 /// Returns a pointer to the pair of a key, if there is one.
-fn find<V: Drop, L: LruList + Drop, const TYPE: u8>(
+fn find<V, L: LruList, const TYPE: u8>(
     bucket: &Bucket<u64, V, L, TYPE>,
     key: u64,
     hash: u64,
@@ -24,7 +24,7 @@ fn find<V: Drop, L: LruList + Drop, const TYPE: u8>(
 }
 
 /// Takes out the pair of a key, and returns it with the pointer as the removal leaves it.
-pub(crate) fn remove_at<V: Drop, L: LruList + Drop, const TYPE: u8>(
+pub(crate) fn remove_at<V: Drop, L: LruList, const TYPE: u8>(
     bucket: &mut Bucket<u64, V, L, TYPE>,
     key: u64,
     hash: u64,
@@ -37,7 +37,7 @@ pub(crate) fn remove_at<V: Drop, L: LruList + Drop, const TYPE: u8>(
 }
 
 /// Writes the value of a key and returns the earlier one.
-pub(crate) fn write_key<V: Drop, L: LruList + Drop, const TYPE: u8>(
+pub(crate) fn write_key<V: Drop, L: LruList, const TYPE: u8>(
     bucket: &mut Bucket<u64, V, L, TYPE>,
     key: u64,
     hash: u64,
@@ -48,7 +48,7 @@ pub(crate) fn write_key<V: Drop, L: LruList + Drop, const TYPE: u8>(
 }
 
 /// Touches the pair of a key, and returns whether there is one.
-pub(crate) fn touch_key<V: Drop, L: LruList + Drop>(
+pub(crate) fn touch_key<V, L: LruList>(
     bucket: &mut Bucket<u64, V, L, CACHE>,
     key: u64,
     hash: u64,
@@ -62,7 +62,7 @@ pub(crate) fn touch_key<V: Drop, L: LruList + Drop>(
 
 /// Moves the pair of a key to a bucket that isn't killed. Returns where it stands there, and where
 /// the pointer to its earlier place is then.
-pub(crate) fn move_key<V: Drop, L: LruList + Drop, const TYPE: u8>(
+pub(crate) fn move_key<V: Drop, L: LruList, const TYPE: u8>(
     target: &mut Bucket<u64, V, L, TYPE>,
     source: &mut Bucket<u64, V, L, TYPE>,
     key: u64,
@@ -81,7 +81,7 @@ pub(crate) fn move_key<V: Drop, L: LruList + Drop, const TYPE: u8>(
 }
 
 /// Kills a bucket that has no pair and isn't killed, and returns whether it was one.
-pub(crate) fn kill_empty<V: Drop, L: LruList + Drop, const TYPE: u8>(
+pub(crate) fn kill_empty<V: Drop, L: LruList, const TYPE: u8>(
     bucket: &mut Bucket<u64, V, L, TYPE>,
 ) -> bool {
     if bucket.len() != 0 || bucket.is_killed() {
@@ -92,7 +92,7 @@ pub(crate) fn kill_empty<V: Drop, L: LruList + Drop, const TYPE: u8>(
 }
 
 /// Marks the pair of a key as removed, and returns whether there was one.
-pub(crate) fn mark_key<V: Drop, G: Generation>(
+pub(crate) fn mark_key<V, G: Generation>(
     bucket: &mut Bucket<u64, V, (), INDEX>,
     key: u64,
     hash: u64,

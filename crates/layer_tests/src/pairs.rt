@@ -81,7 +81,7 @@ pub(crate) fn own_pair<const TYPE: u8>(
 }
 
 /// The bucket has this many live pairs.
-pub(crate) fn check_len<V: Drop, const TYPE: u8>(
+pub(crate) fn check_len<V, const TYPE: u8>(
     rt: &impl Abort,
     bucket: &Bucket<u64, V, (), TYPE>,
     len: usize,

@@ -14,7 +14,7 @@ use bucket_slots::lru::LruList;
 /// Returns the number of live slots of one bucket of a vector.
 ///
 /// Takes no memory. O(1). Own.
-pub fn len_at<K: Drop, V: Drop, L: LruList + Drop, const TYPE: u8>(
+pub fn len_at<K, V, L: LruList, const TYPE: u8>(
     buckets: &Vec<Bucket<K, V, L, TYPE>>,
     index: usize,
 ) -> usize
@@ -32,7 +32,7 @@ pub fn len_at<K: Drop, V: Drop, L: LruList + Drop, const TYPE: u8>(
 /// Want of memory: the pair comes back and the buckets are as they were.
 ///
 /// O(blocks in the bucket's chain). Own.
-pub fn insert_at<K: Drop, V: Drop, L: LruList + Drop, G: Generation, const TYPE: u8>(
+pub fn insert_at<K: Drop, V: Drop, L: LruList, G: Generation, const TYPE: u8>(
     buckets: &mut Vec<Bucket<K, V, L, TYPE>>,
     index: usize,
     hash: u64,

@@ -17,7 +17,7 @@ pub(crate) type Table<L, const TYPE: u8> = HashTable<u64, u64, ScriptHash, L, TY
 pub(crate) type Row = (Call<u64, u64>, Reply<u64, u64>);
 
 /// A table with no pair, whose greatest capacity is 64 slots.
-pub(crate) fn new_table<L: LruList + Drop, const TYPE: u8>(
+pub(crate) fn new_table<L: LruList, const TYPE: u8>(
     alloc: Global,
     hasher: ScriptHash,
     minimum: usize,
@@ -28,7 +28,7 @@ pub(crate) fn new_table<L: LruList + Drop, const TYPE: u8>(
 }
 
 /// Puts keys from 0 on, each its own value.
-pub(crate) fn put_keys<L: LruList + Drop, const TYPE: u8>(
+pub(crate) fn put_keys<L: LruList, const TYPE: u8>(
     rt: &impl Abort,
     alloc: Global,
     table: &mut Table<L, TYPE>,
@@ -42,7 +42,7 @@ pub(crate) fn put_keys<L: LruList + Drop, const TYPE: u8>(
 }
 
 /// Runs the calls as one script, and compares each reply with the one beside its call.
-pub(crate) fn check_replies<L: LruList + Drop, G: Generation, const TYPE: u8>(
+pub(crate) fn check_replies<L: LruList, G: Generation, const TYPE: u8>(
     rt: &impl Abort,
     alloc: Global,
     table: &mut Table<L, TYPE>,

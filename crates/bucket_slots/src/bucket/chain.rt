@@ -72,7 +72,7 @@ impl<K: Drop, V: Drop> Drop for Chain<K, V> {
     }
 }
 
-impl<K: Drop, V: Drop> Chain<K, V> {
+impl<K, V> Chain<K, V> {
     ghost use Rattle.bucket_slots.specs.Layout.ChainLoans.{LendsEntry};
 
     /// Returns a chain of no blocks. Takes no memory.
@@ -185,6 +185,58 @@ impl<K: Drop, V: Drop> Chain<K, V> {
         self.blocks[block].byte(pos)
     }
 
+    /// Returns the number of free slots.
+    pub(crate) fn free_len(&self) -> usize
+        ensures { result ≡ free_len (flattened self.now) }
+    {
+        let mut free = 0;
+        for i in 0..self.blocks.len() {
+            self.room();
+            free += self.blocks[i].free_len();
+        }
+        free
+    }
+
+    /// Takes the pair out of a live slot of a block and returns it. No block goes.
+    pub(crate) fn vacate(&mut self, block: usize, pos: usize) -> (K, V)
+        requires within { block < length self.old }
+        requires pos { pos < 4 }
+        requires live_slot { IsTrue (is_live (slot_at (row_at self.old block) pos)) }
+        ensures pair { live_pair (slot_at (row_at self.old block) pos) ≡ Some result }
+        ensures slots { self.new ≡ rows_with self.old block pos free }
+    {
+        self.room();
+        let row = &mut self.blocks[block];
+        row.take(pos)
+    }
+
+    /// Marks a live slot of a block.
+    pub(crate) fn mark(&mut self, block: usize, pos: usize, epoch: u8)
+        requires within { block < length self.old }
+        requires pos { pos < 4 }
+        requires live_slot { IsTrue (is_live (slot_at (row_at self.old block) pos)) }
+        ensures { self.new
+            ≡ rows_with self.old block pos (slot_marked epoch (slot_at (row_at self.old block) pos)) }
+    {
+        self.room();
+        let row = &mut self.blocks[block];
+        row.mark(pos, epoch);
+    }
+
+    /// Whether there is a last block, and all of its slots are free.
+    fn ends_free(&self) -> bool
+        ensures { IsTrue result ↔ EndsFree self.now }
+    {
+        let count = self.blocks.len();
+        if count == 0 {
+            return false;
+        }
+        self.room();
+        self.blocks[count - 1].is_empty()
+    }
+}
+
+impl<K: Drop, V: Drop> Chain<K, V> {
     /// Puts a live pair into a free slot of a block.
     pub(crate) fn put(&mut self, block: usize, pos: usize, byte: u8, key: K, value: V)
         requires within { block < length self.old }
@@ -257,31 +309,6 @@ impl<K: Drop, V: Drop> Chain<K, V> {
         *self = Chain::new(alloc);
     }
 
-    /// Returns the number of free slots.
-    pub(crate) fn free_len(&self) -> usize
-        ensures { result ≡ free_len (flattened self.now) }
-    {
-        let mut free = 0;
-        for i in 0..self.blocks.len() {
-            self.room();
-            free += self.blocks[i].free_len();
-        }
-        free
-    }
-
-    /// Takes the pair out of a live slot of a block and returns it. No block goes.
-    pub(crate) fn vacate(&mut self, block: usize, pos: usize) -> (K, V)
-        requires within { block < length self.old }
-        requires pos { pos < 4 }
-        requires live_slot { IsTrue (is_live (slot_at (row_at self.old block) pos)) }
-        ensures pair { live_pair (slot_at (row_at self.old block) pos) ≡ Some result }
-        ensures slots { self.new ≡ rows_with self.old block pos free }
-    {
-        self.room();
-        let row = &mut self.blocks[block];
-        row.take(pos)
-    }
-
     /// Takes the pair out of a live slot of a block, and unlinks the block where that leaves it
     /// all free. Returns the pair, and where its pointer stands then.
     pub(crate) fn take<const TYPE: u8>(
@@ -307,19 +334,6 @@ impl<K: Drop, V: Drop> Chain<K, V> {
             return (pair, EntryPtr::at(block + 1, BUCKET_LEN));
         }
         (pair, EntryPtr::at(block, BUCKET_LEN - 1))
-    }
-
-    /// Marks a live slot of a block.
-    pub(crate) fn mark(&mut self, block: usize, pos: usize, epoch: u8)
-        requires within { block < length self.old }
-        requires pos { pos < 4 }
-        requires live_slot { IsTrue (is_live (slot_at (row_at self.old block) pos)) }
-        ensures { self.new
-            ≡ rows_with self.old block pos (slot_marked epoch (slot_at (row_at self.old block) pos)) }
-    {
-        self.room();
-        let row = &mut self.blocks[block];
-        row.mark(pos, epoch);
     }
 
     /// Drops the pair of each marked slot whose mark the test doesn't keep. No block goes.
@@ -351,26 +365,10 @@ impl<K: Drop, V: Drop> Chain<K, V> {
             let _ = self.blocks.pop();
         }
     }
-
-    /// Whether there is a last block, and all of its slots are free.
-    fn ends_free(&self) -> bool
-        ensures { IsTrue result ↔ EndsFree self.now }
-    {
-        let count = self.blocks.len();
-        if count == 0 {
-            return false;
-        }
-        self.room();
-        self.blocks[count - 1].is_empty()
-    }
 }
 
 /// Lends the pair in a live slot of one of the blocks, its value for writing.
-fn entry_in<K: Drop, V: Drop>(
-    blocks: &mut Vec<Row<K, V, BLOCK_LEN>>,
-    block: usize,
-    pos: usize,
-) -> (&K, &mut V)
+fn entry_in<K, V>(blocks: &mut Vec<Row<K, V, BLOCK_LEN>>, block: usize, pos: usize) -> (&K, &mut V)
     requires fits { BlockFits K.row V.row }
     requires within { block < vec_len blocks.old }
     requires pos { pos < 4 }

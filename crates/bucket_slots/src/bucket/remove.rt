@@ -9,7 +9,7 @@ ghost use Rattle.bucket_slots.specs.Walking.{pairs_ahead};
 use crate::bucket::{Bucket, CACHE, EntryPtr, INDEX};
 use crate::lru::LruList;
 
-impl<K: Drop, V: Drop, L: LruList + Drop, const TYPE: u8> Bucket<K, V, L, TYPE> {
+impl<K: Drop, V: Drop, L: LruList, const TYPE: u8> Bucket<K, V, L, TYPE> {
     /// Takes the pair out of a live slot and returns it.
     ///
     /// An own slot leaves the recency list. A block of the chain that is then all free goes, and

@@ -149,7 +149,7 @@ fn check_drops(rt: &impl Abort, source: Counted, target: Counted, counted: &Rc<i
 }
 
 // How many pairs both buckets have.
-fn check_lens<V: Drop>(
+fn check_lens<V>(
     rt: &impl Abort,
     source: &Bucket<u64, V, (), MAP>,
     target: &Bucket<u64, V, (), MAP>,

@@ -20,7 +20,7 @@ pub(crate) const LET_GO: FixedGeneration = FixedGeneration {
 };
 
 /// Marks the pairs of these keys, which are there under hash 0, with the epoch of now.
-pub(crate) fn mark_keys<V: Drop, G: Generation>(
+pub(crate) fn mark_keys<V, G: Generation>(
     rt: &impl Abort,
     bucket: &mut Bucket<u64, V, (), INDEX>,
     keys: &[u64],
