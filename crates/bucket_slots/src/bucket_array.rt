@@ -71,6 +71,40 @@ impl<K: Drop, V: Drop, L: LruList + Drop, const TYPE: u8> Drop for BucketArray<K
     }
 }
 
+impl<K: Drop, V: Drop, L: LruList + Drop, const TYPE: u8> BucketArray<K, V, L, TYPE> {
+    /// Returns an array for a capacity in slots, all of its buckets empty.
+    ///
+    /// Its slots are the least power of two that is at least the capacity, from 64 to 2^62. The
+    /// allocator serves the buckets and their chains.
+    ///
+    /// # Errors
+    ///
+    /// Want of memory: nothing is kept. All memory is asked for at once, before a bucket is made.
+    ///
+    /// O(buckets). scc: `BucketArray::new`.
+    pub fn alloc(alloc: Global, capacity: usize) -> Result<Self, AllocError>
+        ensures { IfOk result (IsNewArray capacity) }
+    {
+        if !fits_in_memory::<Bucket<K, V, L, TYPE>>() {
+            return Err(AllocError);
+        }
+        let len = sizing::len_for(capacity);
+        let Ok(mut buckets) = Vec::with_capacity(alloc, len) else {
+            return Err(AllocError);
+        };
+        for _i in 0..len {
+            let Ok(()) = buckets.push(Bucket::new(alloc)) else {
+                unreachable!()
+            };
+        }
+        Ok(BucketArray {
+            hash_offset: 64 - len.ilog2(),
+            sample_size: large_sample_size_of(len) as u8,
+            buckets,
+        })
+    }
+}
+
 impl<K, V, L: LruList, const TYPE: u8> BucketArray<K, V, L, TYPE> {
     ghost use Rattle.bucket_slots.specs.ArrayLoans.{LendsBucket};
     ghost use Rattle.bucket_slots.specs.ArrayRoom.{BucketFits};
@@ -230,39 +264,5 @@ impl<K, V, L: LruList, const TYPE: u8> BucketArray<K, V, L, TYPE> {
             (record { KEEPS = L.KEEPS; listed = L.listed; IsTail = L.IsTail }) L.Default }
     {
         let _ = self.buckets.as_slice();
-    }
-}
-
-impl<K: Drop, V: Drop, L: LruList + Drop, const TYPE: u8> BucketArray<K, V, L, TYPE> {
-    /// Returns an array for a capacity in slots, all of its buckets empty.
-    ///
-    /// Its slots are the least power of two that is at least the capacity, from 64 to 2^62. The
-    /// allocator serves the buckets and their chains.
-    ///
-    /// # Errors
-    ///
-    /// Want of memory: nothing is kept. All memory is asked for at once, before a bucket is made.
-    ///
-    /// O(buckets). scc: `BucketArray::new`.
-    pub fn alloc(alloc: Global, capacity: usize) -> Result<Self, AllocError>
-        ensures { IfOk result (IsNewArray capacity) }
-    {
-        if !fits_in_memory::<Bucket<K, V, L, TYPE>>() {
-            return Err(AllocError);
-        }
-        let len = sizing::len_for(capacity);
-        let Ok(mut buckets) = Vec::with_capacity(alloc, len) else {
-            return Err(AllocError);
-        };
-        for _i in 0..len {
-            let Ok(()) = buckets.push(Bucket::new(alloc)) else {
-                unreachable!()
-            };
-        }
-        Ok(BucketArray {
-            hash_offset: 64 - len.ilog2(),
-            sample_size: large_sample_size_of(len) as u8,
-            buckets,
-        })
     }
 }

@@ -13,25 +13,6 @@ use crate::lru::LruList;
 /// The number of slots of a block of the chain.
 const BLOCK_LEN: usize = 4;
 
-impl<K, V, L: LruList, const TYPE: u8> Bucket<K, V, L, TYPE> {
-    /// Takes the pair out of a live slot and returns it; no block goes.
-    fn vacate(&mut self, at: &EntryPtr<K, V, TYPE>) -> (K, V)
-        requires live_slot { IsTrue (is_live (slot_in self.old at.now)) }
-        ensures pair { live_pair (slot_in self.old at.now) ≡ Some result }
-        ensures slots { self.new ≡ slots_vacated self.old at.now }
-    {
-        self.chain.sound();
-        self.len -= 1;
-        let block = at.block();
-        let pos = at.pos();
-        if block == 0 {
-            self.tail = unlist::<L, TYPE>(&mut self.lru, self.tail, pos as u8);
-            return self.own.take(pos);
-        }
-        self.chain.vacate(block - 1, pos)
-    }
-}
-
 impl<K: Drop, V: Drop, L: LruList, const TYPE: u8> Bucket<K, V, L, TYPE> {
     /// Makes sure that `additional` slots are free, by the fewest blocks of free slots at the
     /// chain's end.
@@ -114,5 +95,24 @@ impl<K: Drop, V: Drop, L: LruList, const TYPE: u8> Bucket<K, V, L, TYPE> {
         if TYPE != INDEX {
             self.chain.clear();
         }
+    }
+}
+
+impl<K, V, L: LruList, const TYPE: u8> Bucket<K, V, L, TYPE> {
+    /// Takes the pair out of a live slot and returns it; no block goes.
+    fn vacate(&mut self, at: &EntryPtr<K, V, TYPE>) -> (K, V)
+        requires live_slot { IsTrue (is_live (slot_in self.old at.now)) }
+        ensures pair { live_pair (slot_in self.old at.now) ≡ Some result }
+        ensures slots { self.new ≡ slots_vacated self.old at.now }
+    {
+        self.chain.sound();
+        self.len -= 1;
+        let block = at.block();
+        let pos = at.pos();
+        if block == 0 {
+            self.tail = unlist::<L, TYPE>(&mut self.lru, self.tail, pos as u8);
+            return self.own.take(pos);
+        }
+        self.chain.vacate(block - 1, pos)
     }
 }
