@@ -11,7 +11,8 @@ AreNamed name [] = ⊤
 AreNamed name (row ∷ rows) = (row.0 ≡ name row.1) × AreNamed name rows
 
 named_by_row : {T : Type 0} (name : T → List ℕ) (row : List ℕ × T) (later : Option (List ℕ × T)) (word : List ℕ) (b : Bool) → bytes_eq row.0 word ≡ b
-    → row.0 ≡ name row.1 → IfSome (option_map (λ row. row.1) later) (λ value. word ≡ name value) → IfSome (option_map (λ row. row.1) (cond b (Some row) later)) (λ value. word ≡ name value)
+    → row.0 ≡ name row.1 → IfSome (option_map (λ row. row.1) later) (λ value. word ≡ name value)
+    → IfSome (option_map (λ row. row.1) (cond b (Some row) later)) (λ value. word ≡ name value)
 named_by_row name row later word true same named others = sym ((bytes_decides row.0 word).0 same) ∙ named
 named_by_row name row later word false other named others = others
 
