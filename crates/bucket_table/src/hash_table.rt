@@ -148,7 +148,8 @@ impl<K: Eq, V, H: KeyHash<K>, L: LruList, const TYPE: u8> HashTable<K, V, H, L, 
             ≡ slots_after_taking TYPE self.old.bucket at.old (G.epoch_of generation.now) }
         ensures hasher { self.new.hasher ≡ self.old.hasher }
     {
-        if TYPE != INDEX {
+        let frees = TYPE != INDEX;
+        if frees {
             return self.bucket.remove(at);
         }
         let pair = (*at.key(&self.bucket), *at.val(&self.bucket));
