@@ -25,7 +25,8 @@ module _ {K V : Type 0} (b : BucketView K V) where
 
   -- a mark takes one out, and so does a removal
   pub taken : (c : BucketView K V) (marks : Bool) (at : Place) (epoch : ℕ) (p : K × V) → live_pair (slot_in b at) ≡ Some p
-      → c ≡ (if marks then slots_marked b at epoch else slots_without b at) → (byte : ℕ) × Exchanges (entries_in b) (entries_in c) [] ((p, byte) ∷ [])
+      → c ≡ (if marks then slots_marked b at epoch else slots_without b at)
+      → (byte : ℕ) × Exchanges (entries_in b) (entries_in c) [] ((p, byte) ∷ [])
   taken c true at epoch p here is = let out = entries_in-slots_marked b at epoch p here in rw is (out.0, went_out _ _ _ out.1)
   taken c false at epoch p here is = let out = entries_in-slots_without b at p here in rw is (out.0, went_out _ _ _ out.1)
 

@@ -1,4 +1,5 @@
 pub mod Exchanging
+pub mod DistinctKeys
 pub mod BucketChanges
 pub mod OneMapSteps
 pub mod LookUps
