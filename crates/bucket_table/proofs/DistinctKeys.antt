@@ -17,19 +17,24 @@ module _ {K V : Type 0} (eq : K → K → Bool) (laws : IsEquivalence eq) where
 
 module _ {K V H : Type 0} (eq : K → K → Bool) (laws : IsEquivalence eq) where
   -- a key that was absent comes
-  pub added_keys : {old new : MapState K V H} {p : K × V} → AddsPair old p new → IsAbsent eq p.0 old.pairs → IsDistinct eq (keys old.pairs)
-      → IsDistinct eq (keys new.pairs)
+  pub added_keys : {old new : MapState K V H} {p : K × V} → AddsPair old p new → IsAbsent eq p.0 old.pairs
+      → IsDistinct eq (keys old.pairs) → IsDistinct eq (keys new.pairs)
   added_keys {old} {new} {p} adds none one =
-      let other = All-weaker (λ (q : K × V). eq q.0 p.0 ≡ false) (λ q. eq p.0 q.0 ≡ false) (λ q same. laws.symm p.0 q.0 ∙ same) old.pairs none in
-      let apart = All-map (λ k. eq p.0 k ≡ false) (λ (q : K × V). q.0) old.pairs other in
-      moved_keys eq laws (p ∷ old.pairs) new.pairs adds.pairs (IsDistinct-cons eq p.0 (keys old.pairs) (recursion_from_All (λ k. eq p.0 k ≡ false) (keys old.pairs) apart) one)
+      let flipped = λ (q : K × V) (same : eq q.0 p.0 ≡ false). laws.symm p.0 q.0 ∙ same in
+      let other = All-weaker (λ (q : K × V). eq q.0 p.0 ≡ false) (λ q. eq p.0 q.0 ≡ false) flipped old.pairs none in
+      let all = All-map (λ k. eq p.0 k ≡ false) (λ (q : K × V). q.0) old.pairs other in
+      let apart = recursion_from_All (λ k. eq p.0 k ≡ false) (keys old.pairs) all in
+      moved_keys eq laws (p ∷ old.pairs) new.pairs adds.pairs (IsDistinct-cons eq p.0 (keys old.pairs) apart one)
 
   -- a key goes
-  pub taken_keys : {old new : MapState K V H} {p : K × V} → TakesPair old p new → IsDistinct eq (keys old.pairs) → IsDistinct eq (keys new.pairs)
-  taken_keys {old} {new} {p} takes one = IsDistinct-tail eq p.0 (keys new.pairs) (moved_keys eq laws old.pairs (p ∷ new.pairs) takes.pairs one)
+  pub taken_keys : {old new : MapState K V H} {p : K × V} → TakesPair old p new → IsDistinct eq (keys old.pairs)
+      → IsDistinct eq (keys new.pairs)
+  taken_keys {old} {new} {p} takes one =
+      IsDistinct-tail eq p.0 (keys new.pairs) (moved_keys eq laws old.pairs (p ∷ new.pairs) takes.pairs one)
 
   -- a key stays beside another value
   pub changed_keys : {old new : MapState K V H} {p : K × V} {value : V} → ChangesValue old p value new → IsDistinct eq (keys old.pairs)
       → IsDistinct eq (keys new.pairs)
   changed_keys {old} {new} {p} {value} changes one =
-      moved_keys eq laws ((p.0, value) ∷ changes.rest) new.pairs changes.after_is (moved_keys eq laws old.pairs (p ∷ changes.rest) changes.before_is one)
+      let before = moved_keys eq laws old.pairs (p ∷ changes.rest) changes.before_is one in
+      moved_keys eq laws ((p.0, value) ∷ changes.rest) new.pairs changes.after_is before

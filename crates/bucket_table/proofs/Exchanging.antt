@@ -35,7 +35,8 @@ All-behind P [] ys all = all
 All-behind P (x ∷ xs) ys all = All-behind P xs ys (All-tail P x (xs ++ ys) all)
 
 -- what holds of each old element and of each that comes holds of each new one
-pub All-exchanged : {E : Type 0} (P : E → Type 0) (old new came out : List E) → Exchanges old new came out → All P came → All P old → All P new
+pub All-exchanged : {E : Type 0} (P : E → Type 0) (old new came out : List E) → Exchanges old new came out
+    → All P came → All P old → All P new
 All-exchanged P old new came out x fresh all =
     let stays = All-behind P out x.rest (All-permutation P old (out ++ x.rest) x.before_is all) in
     All-permutation P (came ++ x.rest) new x.after_is (All-append P came x.rest fresh stays)
