@@ -13,11 +13,12 @@ pub mod RowSearch
 pub mod RowMarks
 pub mod Expiring
 pub mod Counting
+pub mod Entries
 pub mod FreeCounting
-pub mod MarkCounting
 pub mod ChainRows
 pub mod FirstPlaces
 pub mod Pointing
+pub mod ChangedSlots
 pub mod BucketPlacing
 pub mod NextInRow
 pub mod NextSlots
@@ -27,7 +28,6 @@ pub mod BucketMoving
 pub mod BucketRecency
 pub mod BucketValues
 pub mod AheadAfterRemoval
-pub mod Entries
 pub mod FreeEnds
 pub mod BucketMarks
 pub mod CallerLemmas
