@@ -1,0 +1,1 @@
+-- Masks: what their bits say of a list's elements.
