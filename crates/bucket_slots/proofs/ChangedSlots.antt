@@ -6,13 +6,13 @@ use Rattle.std.proofs.lemmas.Bool.Decides.{nat_tests}
 use Rattle.std.proofs.lemmas.List.{get_or-set_other, get_or-set_same, length-set}
 use Rattle.std.proofs.lemmas.List.Elements.{All-filter, filter_passes}
 use Rattle.bucket_slots.specs.declared.bucket.TheConstants.{CACHE, INDEX}
-use Rattle.bucket_slots.specs.BucketView.{BucketView, all_slots, block_at, with_slot_at}
+use Rattle.bucket_slots.specs.BucketView.{BucketView, Place, all_slots, block_at, slot_in, with_slot, with_slot_at}
 use Rattle.bucket_slots.specs.Layout.BucketFields.{IsBucket}
 use Rattle.bucket_slots.specs.Marking.{slot_marked}
 use Rattle.bucket_slots.specs.Moving.{slots_vacated_at}
 use Rattle.bucket_slots.specs.Recency.{order_without}
 use Rattle.bucket_slots.specs.Slots.{Slot, free, is_live, is_marked, live, marked, slot_at, slot_with_value}
-use Rattle.bucket_slots.proofs.Counting.{length-live_pairs, sum_by-with_slot, tally}
+use Rattle.bucket_slots.proofs.Counting.{length-live_pairs, linked_row, sum_by-with_slot, tally}
 use Rattle.bucket_slots.proofs.FirstPlaces.{live_occupied}
 use Rattle.bucket_slots.proofs.Pointing.{inside_row}
 
@@ -39,6 +39,18 @@ module _ {K V : Type 0} where
     | inl same ↦ rw (same, get_or-set_same own pos x free short) alive
     | inr other ↦ rw (get_or-set_other own pos i x free other) h
   ]
+
+  -- what stands there afterwards
+  pub block_at-with_slot : (s : BucketView K V) (block pos : ℕ) (x : Slot K V) → pos < length (block_at s block)
+      → block_at (with_slot_at s block pos x) block ≡ set (block_at s block) pos x
+  block_at-with_slot s zero pos x short = refl
+  block_at-with_slot s (suc i) pos x short =
+      get_or-set_same s.chain i (set (get_or s.chain i []) pos x) [] (linked_row s.chain i pos short)
+
+  pub slot_in-with_slot : (s : BucketView K V) (at : Place) (x : Slot K V) → at.pos < length (block_at s at.block)
+      → slot_in (with_slot s at x) at ≡ x
+  slot_in-with_slot s at x short =
+      ap (λ row. slot_at row at.pos) (block_at-with_slot s at.block at.pos x short) ∙ get_or-set_same (block_at s at.block) at.pos x free short
 
   -- where a slot is live afterwards, the listed ones stay live
   AreLive-changed : (s : BucketView K V) (block pos : ℕ) (x : Slot K V) → pos < length (block_at s block) → is_live x ≡ true

@@ -9,5 +9,4 @@ pub mod Expiring
 pub mod Masks
 pub mod Room
 pub mod RowLoans
-pub mod Walks
 pub mod ArrayFields
