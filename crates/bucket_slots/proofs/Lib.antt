@@ -15,7 +15,6 @@ pub mod RowMarks
 pub mod Expiring
 pub mod Counting
 pub mod Entries
-pub mod FreeCounting
 pub mod ChainRows
 pub mod FirstPlaces
 pub mod Pointing
