@@ -2,17 +2,16 @@
 use Rattle.std.proofs.Common.{ℕ, ◌-◌, ◌<◌, ◌≡◌, ◌==◌, ◌^◌, true, false, not, ◌&&◌, cond, min, if◌then◌else◌, Bool, List, Option, Some, None, is_some, option_map, length, map, get_or, set, refl, sym, ap, ◌∙◌, arith, bit_and}
 use Rattle.std.specs.Int.{bit_at}
 use Rattle.std.proofs.lemmas.Grind.{common_steps}
-use Rattle.std.proofs.lemmas.List.{get_or-map, get_or-set_other, get_or-set_same, get_or_default, length-map, map-set, set-get_or}
+use Rattle.std.proofs.lemmas.List.{get_or-map, get_or-set_other, get_or-set_same, get_or_default, map-set, set-get_or}
 use Rattle.std.proofs.lemmas.List.Folds.{map_fixed}
 use Rattle.std.proofs.lemmas.Nat.Bits.{bit_at-zero, bit_at_and}
-use Rattle.std.proofs.lemmas.Option.{same_Some}
 use Rattle.bucket_slots.specs.Clearing.{slot_without_expired}
 use Rattle.bucket_slots.specs.Layout.Bitmaps.{IsLowest, SetsBit}
 use Rattle.bucket_slots.specs.Layout.Blocks.{IsRow, has_byte, row_slots, slot_of}
 use Rattle.bucket_slots.specs.Layout.Expiring.{IsExpiring}
 use Rattle.bucket_slots.specs.Masks.{IsMaskOf}
 use Rattle.bucket_slots.specs.Searching.{is_wanted}
-use Rattle.bucket_slots.specs.Slots.{Slot, byte_of, free, is_free, is_live, is_marked, live, live_pair, marked, pair_of, slot_at}
+use Rattle.bucket_slots.specs.Slots.{Slot, free, is_free, is_live, is_marked, live, marked, pair_of, slot_at}
 use Rattle.bucket_slots.proofs.Masks.{IsLeft-first, IsLeft-next, IsMaskOf-alike, IsMaskOf-and_not, IsMaskOf-from, bit-mask, within}
 use Rattle.bucket_slots.proofs.RowSlots.{length-row_slots, slot_held}
 
