@@ -31,8 +31,10 @@ pub mod BucketMarks
 pub mod CallerLemmas
 pub mod SearchCallerLemmas
 pub mod MarkCallerLemmas
+pub mod RoomCallerLemmas
 pub mod PowersOfTwo
 pub mod Intervals
 pub mod Doublings
 pub mod Sampled
+pub mod Capacities
 pub mod ArrayCallerLemmas
