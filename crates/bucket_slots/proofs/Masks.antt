@@ -85,6 +85,11 @@ module _ {A : Type 0} (test : A → Bool) where
       | inr other ↦ rw (s.others j other, get_or-set_other (map test xs) i j (test x) false other) (mask j)
     ])
 
+    -- where no bit is set no element passes
+    pub position-no_bit : (d : A) → test d ≡ false → bits ≡ 0 → position test xs ≡ None
+    position-no_bit d fails none =
+        position_nowhere test xs d (λ i below. bit_is_not _ (sym (bit-mask i d fails) ∙ ap (λ m. bit_at m i) none ∙ bit_at-zero i))
+
     -- the lowest bit is the first element that passes
     pub position-lowest : (k : ℕ) (d : A) → test d ≡ false → IsLowest bits k → position test xs ≡ Some k
     position-lowest k d fails low =
