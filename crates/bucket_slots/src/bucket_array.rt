@@ -32,9 +32,7 @@ use crate::bucket::{AllocError, BUCKET_LEN, Bucket};
 use crate::data_block::DataBlock;
 use crate::lru::LruList;
 use sizing::MINIMUM_CAPACITY;
-pub use sizing::{
-    MAXIMUM_SLOTS, full_sample_size_of, large_sample_size_of, small_sample_size_of,
-};
+pub use sizing::{MAXIMUM_SLOTS, full_sample_size_of, large_sample_size_of, small_sample_size_of};
 use std::alloc::Global;
 use std::marker::Model;
 use std::mem::ManuallyDrop;
