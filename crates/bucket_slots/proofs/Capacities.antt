@@ -5,7 +5,8 @@ use Rattle.std.proofs.lemmas.Bool.{cases_lt}
 use Rattle.bucket_slots.specs.Sizing.{IsGrownCapacity, IsLeastDoubling, IsLengthFor, IsOptimalCapacity}
 use Rattle.bucket_slots.proofs.PowersOfTwo.{least_is_one}
 
-below_least : (start entries maximum m n : ℕ) → IsLeastDoubling start entries maximum m → IsLeastDoubling start entries maximum n → m < n → ⊥
+below_least : (start entries maximum m n : ℕ) → IsLeastDoubling start entries maximum m → IsLeastDoubling start entries maximum n → m < n
+    → ⊥
 below_least start entries maximum m n a b less =
     let (k, is) = a.is_doubling in
     let small : m / 2 < entries = subst (λ (x : ℕ). x / 2 < entries) (sym is) (b.least k (subst (λ (x : ℕ). x < n) is less)) in
@@ -28,7 +29,8 @@ grown_is_one capacity entries minimum maximum m n (p, p_least, a) (q, q_least, b
 
 -- a capacity is below the minimum, too full, too empty, or neither
 by_fullness : (P : Type 0) (capacity entries minimum : ℕ) → (capacity < minimum → P) → ((capacity / 16) * 13 < entries → P)
-    → (minimum ≤ capacity → entries < capacity / 8 → P) → (minimum ≤ capacity → entries ≤ (capacity / 16) * 13 → capacity / 8 ≤ entries → P) → P
+    → (minimum ≤ capacity → entries < capacity / 8 → P)
+        → (minimum ≤ capacity → entries ≤ (capacity / 16) * 13 → capacity / 8 ≤ entries → P) → P
 by_fullness P capacity entries minimum below full empty kept =
     ⊎_elim below (λ (high : minimum ≤ capacity).
     ⊎_elim full (λ (not_full : entries ≤ (capacity / 16) * 13).

@@ -50,7 +50,8 @@ module _ {K V : Type 0} where
   pub slot_in-with_slot : (s : BucketView K V) (at : Place) (x : Slot K V) → at.pos < length (block_at s at.block)
       → slot_in (with_slot s at x) at ≡ x
   slot_in-with_slot s at x short =
-      ap (λ row. slot_at row at.pos) (block_at-with_slot s at.block at.pos x short) ∙ get_or-set_same (block_at s at.block) at.pos x free short
+      ap (λ row. slot_at row at.pos) (block_at-with_slot s at.block at.pos x short)
+          ∙ get_or-set_same (block_at s at.block) at.pos x free short
 
   -- where a slot is live afterwards, the listed ones stay live
   AreLive-changed : (s : BucketView K V) (block pos : ℕ) (x : Slot K V) → pos < length (block_at s block) → is_live x ≡ true
@@ -64,7 +65,8 @@ module _ {K V : Type 0} where
   AreLive-without own pos x listed h k d below =
       let slot = get_or (order_without listed pos) k d in
       let other = apart slot pos (filter_passes (λ (y : ℕ). not (y == pos)) listed k d below) in
-      rw (get_or-set_other own pos slot x free other) (All-filter (λ (y : ℕ). not (y == pos)) (λ y. IsTrue (is_live (slot_at own y))) listed h k d below)
+      rw (get_or-set_other own pos slot x free other)
+          (All-filter (λ (y : ℕ). not (y == pos)) (λ y. IsTrue (is_live (slot_at own y))) listed h k d below)
 
   -- the stored length follows the slot
   pub IsBucket-changed : (kind : ℕ) (s : BucketView K V) (len count block pos : ℕ) (x : Slot K V) (listed : List ℕ) → IsBucket kind s len
@@ -87,7 +89,8 @@ module _ {K V : Type 0} where
   live_inside slots pos alive = inside_row slots pos (live_occupied (slot_at slots pos) alive).0
 
   -- with a live slot the stored length isn't 0
-  pub some_live : (kind : ℕ) (s : BucketView K V) (len block pos : ℕ) → IsBucket kind s len → is_live (slot_at (block_at s block) pos) ≡ true
+  pub some_live : (kind : ℕ) (s : BucketView K V) (len block pos : ℕ) → IsBucket kind s len
+      → is_live (slot_at (block_at s block) pos) ≡ true
       → 1 ≤ len
   some_live kind s len block pos h alive =
       let lives = sum_by-with_slot (λ (y : Slot K V). tally (is_live y)) s block pos free (live_inside (block_at s block) pos alive) in
@@ -98,15 +101,18 @@ module _ {K V : Type 0} where
       → pos < length (block_at s block) → slot_at (block_at s block) pos ≡ free
       → IsBucket kind (slots_changed s block pos (live pair byte) s.listed) (len + 1)
   IsBucket-filled kind s len block pos pair byte h short vacant =
-      IsBucket-changed kind s len (len + 1) block pos (live pair byte) s.listed h short (omega (arith, ap (λ (y : Slot K V). tally (is_live y)) vacant)) (λ _. refl)
+      IsBucket-changed kind s len (len + 1) block pos (live pair byte) s.listed h short
+          (omega (arith, ap (λ (y : Slot K V). tally (is_live y)) vacant)) (λ _. refl)
       (AreLive-changed s block pos (live pair byte) short refl h.listed_live) h.unlisted
 
   -- a live slot is vacated
-  pub IsBucket-vacated : (kind : ℕ) (s : BucketView K V) (len block pos : ℕ) → IsBucket kind s len → is_live (slot_at (block_at s block) pos) ≡ true
+  pub IsBucket-vacated : (kind : ℕ) (s : BucketView K V) (len block pos : ℕ) → IsBucket kind s len
+      → is_live (slot_at (block_at s block) pos) ≡ true
       → IsBucket kind (slots_vacated_at s block pos) (len - 1)
   IsBucket-vacated kind s len zero pos h alive =
       IsBucket-changed kind s len (len - 1) zero pos free (order_without s.listed pos) h (live_inside s.own pos alive)
-      (omega (arith, some_live kind s len zero pos h alive, ap tally alive)) (λ _. refl) (AreLive-without s.own pos free s.listed h.listed_live)
+      (omega (arith, some_live kind s len zero pos h alive, ap tally alive)) (λ _. refl)
+          (AreLive-without s.own pos free s.listed h.listed_live)
       (λ other. ap (λ listed. order_without listed pos) (h.unlisted other))
   IsBucket-vacated kind s len (suc i) pos h alive =
       IsBucket-changed kind s len (len - 1) (suc i) pos free s.listed h (live_inside (block_at s (suc i)) pos alive)
@@ -128,7 +134,8 @@ module _ {K V : Type 0} where
       (omega (arith, some_live kind s len block pos h alive, ap tally alive, ap tally (marked_is_dead slot epoch)))
       (λ other. absurd (other index)) (rw none (λ k d below. absurd (omega arith))) h.unlisted
 
-  live-value : (x : Slot K V) (value : V) → is_live x ≡ true → (is_live (slot_with_value x value) ≡ true) × (is_marked (slot_with_value x value) ≡ false)
+  live-value : (x : Slot K V) (value : V) → is_live x ≡ true
+      → (is_live (slot_with_value x value) ≡ true) × (is_marked (slot_with_value x value) ≡ false)
   live-value free value alive = cc
   live-value (live pair byte) value alive = (refl, refl)
   live-value (marked pair byte) value alive = cc
