@@ -7,7 +7,7 @@ pub mod ChainLoans
 pub mod Elements
 pub mod Expiring
 pub mod Masks
+pub mod RecencySteps
 pub mod Room
 pub mod RowLoans
-pub mod Walks
 pub mod ArrayFields

@@ -32,7 +32,7 @@ use crate::bucket::{AllocError, BUCKET_LEN, Bucket};
 use crate::data_block::DataBlock;
 use crate::lru::LruList;
 use sizing::MINIMUM_CAPACITY;
-pub use sizing::{full_sample_size_of, large_sample_size_of, small_sample_size_of};
+pub use sizing::{MAXIMUM_SLOTS, full_sample_size_of, large_sample_size_of, small_sample_size_of};
 use std::alloc::Global;
 use std::marker::Model;
 use std::mem::ManuallyDrop;
@@ -256,12 +256,13 @@ impl<K, V, L: LruList, const TYPE: u8> BucketArray<K, V, L, TYPE> {
     }
 
     /// No work: a proof of generic code learns that a bucket takes fewer than 2^63 bytes, as each
-    /// slice's member, before it calls a method of one.
+    /// slice's member, before it calls a method of one, and which lengths an array has.
     ///
     /// O(1). Own.
     pub fn room(&self)
-        ensures { BucketFits K.row V.row L.row TYPE.row
+        ensures fits { BucketFits K.row V.row L.row TYPE.row
             (record { KEEPS = L.KEEPS; listed = L.listed; IsTail = L.IsTail }) L.Default }
+        ensures length { IsLength (length self.now) }
     {
         let _ = self.buckets.as_slice();
     }

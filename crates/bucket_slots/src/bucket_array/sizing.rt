@@ -22,7 +22,7 @@ use crate::bucket::BUCKET_LEN;
 pub(crate) const MINIMUM_CAPACITY: usize = 2 * BUCKET_LEN;
 
 /// The greatest number of slots of an array. A greater capacity is cut to it.
-const MAXIMUM_SLOTS: usize = 1 << 62;
+pub const MAXIMUM_SLOTS: usize = 1 << 62;
 
 /// The greatest number of buckets that a full estimate looks at.
 const FULL_SAMPLE: usize = 128;

@@ -1,0 +1,153 @@
+-- What the fields of a bucket keep where one of its slots changes.
+use Rattle.std.proofs.Common.{ℕ, ◌+◌, ◌-◌, ◌<◌, ◌≤◌, ◌≡◌, ◌≢◌, ◌==◌, inl, inr, Bool, true, false, not, IsTrue, List, [], ◌∷◌, length, get_or, set, refl, ap, ◌∙◌, arith, suc, zero}
+use Rattle.std.specs.List.{All}
+use Rattle.std.proofs.lemmas.Bool.{cases_eq}
+use Rattle.std.proofs.lemmas.Bool.Decides.{nat_tests}
+use Rattle.std.proofs.lemmas.List.{get_or-set_other, get_or-set_same, length-set}
+use Rattle.std.proofs.lemmas.List.Elements.{All-filter, filter_passes}
+use Rattle.bucket_slots.specs.declared.bucket.TheConstants.{CACHE, INDEX}
+use Rattle.bucket_slots.specs.BucketView.{BucketView, Place, all_slots, block_at, slot_in, with_slot, with_slot_at}
+use Rattle.bucket_slots.specs.Layout.BucketFields.{IsBucket}
+use Rattle.bucket_slots.specs.Marking.{slot_marked}
+use Rattle.bucket_slots.specs.Moving.{slots_vacated_at}
+use Rattle.bucket_slots.specs.Recency.{order_without}
+use Rattle.bucket_slots.specs.Slots.{Slot, free, is_live, is_marked, live, marked, slot_at, slot_with_value}
+use Rattle.bucket_slots.proofs.Counting.{length-live_pairs, linked_row, sum_by-with_slot, tally}
+use Rattle.bucket_slots.proofs.FirstPlaces.{live_occupied}
+use Rattle.bucket_slots.proofs.Pointing.{inside_row}
+
+apart : (x pos : ℕ) → not (x == pos) ≡ true → x ≢ pos
+apart x pos passed same = let e : (x == pos) ≡ true = rw same (grind (arith, nat_tests)) in cc
+
+module _ {K V : Type 0} where
+  -- the listed slots are live own ones
+  abbrev AreLive : List (Slot K V) → List ℕ → Type 0
+  AreLive own listed = All (λ slot. IsTrue (is_live (slot_at own slot))) listed
+
+  -- a bucket with another slot and another recency list
+  abbrev pub slots_changed : BucketView K V → ℕ → ℕ → Slot K V → List ℕ → BucketView K V
+  slots_changed s block pos x listed =
+      record { own = (with_slot_at s block pos x).own; chain = (with_slot_at s block pos x).chain; listed = listed; killed = s.killed }
+
+  length-own : (s : BucketView K V) (block pos : ℕ) (x : Slot K V) → length (with_slot_at s block pos x).own ≡ length s.own
+  length-own s zero pos x = length-set s.own pos x
+  length-own s (suc i) pos x = refl
+
+  still_live : (own : List (Slot K V)) (pos i : ℕ) (x : Slot K V) → pos < length own → is_live x ≡ true → IsTrue (is_live (slot_at own i))
+      → IsTrue (is_live (slot_at (set own pos x) i))
+  still_live own pos i x short alive h = elim (cases_eq i pos) [
+    | inl same ↦ rw (same, get_or-set_same own pos x free short) alive
+    | inr other ↦ rw (get_or-set_other own pos i x free other) h
+  ]
+
+  -- what stands there afterwards
+  pub block_at-with_slot : (s : BucketView K V) (block pos : ℕ) (x : Slot K V) → pos < length (block_at s block)
+      → block_at (with_slot_at s block pos x) block ≡ set (block_at s block) pos x
+  block_at-with_slot s zero pos x short = refl
+  block_at-with_slot s (suc i) pos x short =
+      get_or-set_same s.chain i (set (get_or s.chain i []) pos x) [] (linked_row s.chain i pos short)
+
+  pub slot_in-with_slot : (s : BucketView K V) (at : Place) (x : Slot K V) → at.pos < length (block_at s at.block)
+      → slot_in (with_slot s at x) at ≡ x
+  slot_in-with_slot s at x short =
+      ap (λ row. slot_at row at.pos) (block_at-with_slot s at.block at.pos x short)
+          ∙ get_or-set_same (block_at s at.block) at.pos x free short
+
+  -- where a slot is live afterwards, the listed ones stay live
+  AreLive-changed : (s : BucketView K V) (block pos : ℕ) (x : Slot K V) → pos < length (block_at s block) → is_live x ≡ true
+      → AreLive s.own s.listed → AreLive (with_slot_at s block pos x).own s.listed
+  AreLive-changed s zero pos x short alive h k d below = still_live s.own pos (get_or s.listed k d) x short alive (h k d below)
+  AreLive-changed s (suc i) pos x short alive h k d below = h k d below
+
+  -- and those but one do, whatever that one is
+  AreLive-without : (own : List (Slot K V)) (pos : ℕ) (x : Slot K V) (listed : List ℕ) → AreLive own listed
+      → AreLive (set own pos x) (order_without listed pos)
+  AreLive-without own pos x listed h k d below =
+      let slot = get_or (order_without listed pos) k d in
+      let other = apart slot pos (filter_passes (λ (y : ℕ). not (y == pos)) listed k d below) in
+      rw (get_or-set_other own pos slot x free other)
+          (All-filter (λ (y : ℕ). not (y == pos)) (λ y. IsTrue (is_live (slot_at own y))) listed h k d below)
+
+  -- the stored length follows the slot
+  pub IsBucket-changed : (kind : ℕ) (s : BucketView K V) (len count block pos : ℕ) (x : Slot K V) (listed : List ℕ) → IsBucket kind s len
+      → pos < length (block_at s block) → count + tally (is_live (slot_at (block_at s block) pos)) ≡ len + tally (is_live x)
+      → (kind ≢ INDEX → is_marked x ≡ false) → AreLive (with_slot_at s block pos x).own listed → (kind ≢ CACHE → listed ≡ [])
+      → IsBucket kind (slots_changed s block pos x listed) count
+  IsBucket-changed kind s len count block pos x listed h short counts unmarked kept unlisted =
+      let made = with_slot_at s block pos x in
+      let lives = sum_by-with_slot (λ (y : Slot K V). tally (is_live y)) s block pos x short in
+      let marks = sum_by-with_slot (λ (y : Slot K V). tally (is_marked y)) s block pos x short in
+      record {
+        counted = omega (arith, h.counted, length-live_pairs (all_slots s), length-live_pairs (all_slots made));
+        own_long = length-own s block pos x ∙ h.own_long;
+        listed_live = kept;
+        unlisted = unlisted;
+        unmarked = λ other. omega (arith, h.unmarked other, ap tally (unmarked other));
+      }
+
+  pub live_inside : (slots : List (Slot K V)) (pos : ℕ) → is_live (slot_at slots pos) ≡ true → pos < length slots
+  live_inside slots pos alive = inside_row slots pos (live_occupied (slot_at slots pos) alive).0
+
+  -- with a live slot the stored length isn't 0
+  pub some_live : (kind : ℕ) (s : BucketView K V) (len block pos : ℕ) → IsBucket kind s len
+      → is_live (slot_at (block_at s block) pos) ≡ true
+      → 1 ≤ len
+  some_live kind s len block pos h alive =
+      let lives = sum_by-with_slot (λ (y : Slot K V). tally (is_live y)) s block pos free (live_inside (block_at s block) pos alive) in
+      omega (arith, h.counted, length-live_pairs (all_slots s), ap tally alive)
+
+  -- a pair is put into a free slot
+  pub IsBucket-filled : (kind : ℕ) (s : BucketView K V) (len block pos : ℕ) (pair : K × V) (byte : ℕ) → IsBucket kind s len
+      → pos < length (block_at s block) → slot_at (block_at s block) pos ≡ free
+      → IsBucket kind (slots_changed s block pos (live pair byte) s.listed) (len + 1)
+  IsBucket-filled kind s len block pos pair byte h short vacant =
+      IsBucket-changed kind s len (len + 1) block pos (live pair byte) s.listed h short
+          (omega (arith, ap (λ (y : Slot K V). tally (is_live y)) vacant)) (λ _. refl)
+      (AreLive-changed s block pos (live pair byte) short refl h.listed_live) h.unlisted
+
+  -- a live slot is vacated
+  pub IsBucket-vacated : (kind : ℕ) (s : BucketView K V) (len block pos : ℕ) → IsBucket kind s len
+      → is_live (slot_at (block_at s block) pos) ≡ true
+      → IsBucket kind (slots_vacated_at s block pos) (len - 1)
+  IsBucket-vacated kind s len zero pos h alive =
+      IsBucket-changed kind s len (len - 1) zero pos free (order_without s.listed pos) h (live_inside s.own pos alive)
+      (omega (arith, some_live kind s len zero pos h alive, ap tally alive)) (λ _. refl)
+          (AreLive-without s.own pos free s.listed h.listed_live)
+      (λ other. ap (λ listed. order_without listed pos) (h.unlisted other))
+  IsBucket-vacated kind s len (suc i) pos h alive =
+      IsBucket-changed kind s len (len - 1) (suc i) pos free s.listed h (live_inside (block_at s (suc i)) pos alive)
+      (omega (arith, some_live kind s len (suc i) pos h alive, ap tally alive)) (λ _. refl) h.listed_live h.unlisted
+
+  marked_is_dead : (x : Slot K V) (epoch : ℕ) → is_live (slot_marked epoch x) ≡ false
+  marked_is_dead free epoch = refl
+  marked_is_dead (live pair byte) epoch = refl
+  marked_is_dead (marked pair byte) epoch = refl
+
+  -- a live slot of an index is marked
+  pub IsBucket-marked : (kind : ℕ) (s : BucketView K V) (len block pos epoch : ℕ) → kind ≡ INDEX → IsBucket kind s len
+      → is_live (slot_at (block_at s block) pos) ≡ true
+      → IsBucket kind (slots_changed s block pos (slot_marked epoch (slot_at (block_at s block) pos)) s.listed) (len - 1)
+  IsBucket-marked kind s len block pos epoch index h alive =
+      let slot = slot_at (block_at s block) pos in
+      let none : s.listed ≡ [] = h.unlisted (λ cache. omega (arith, cache, index)) in
+      IsBucket-changed kind s len (len - 1) block pos (slot_marked epoch slot) s.listed h (live_inside (block_at s block) pos alive)
+      (omega (arith, some_live kind s len block pos h alive, ap tally alive, ap tally (marked_is_dead slot epoch)))
+      (λ other. absurd (other index)) (rw none (λ k d below. absurd (omega arith))) h.unlisted
+
+  live-value : (x : Slot K V) (value : V) → is_live x ≡ true
+      → (is_live (slot_with_value x value) ≡ true) × (is_marked (slot_with_value x value) ≡ false)
+  live-value free value alive = cc
+  live-value (live pair byte) value alive = (refl, refl)
+  live-value (marked pair byte) value alive = cc
+
+  -- the value in a live slot changes
+  pub IsBucket-value : (kind : ℕ) (s : BucketView K V) (len block pos : ℕ) (value : V) → IsBucket kind s len
+      → is_live (slot_at (block_at s block) pos) ≡ true
+      → IsBucket kind (slots_changed s block pos (slot_with_value (slot_at (block_at s block) pos) value) s.listed) len
+  IsBucket-value kind s len block pos value h alive =
+      let slot = slot_at (block_at s block) pos in
+      let same = live-value slot value alive in
+      let short = live_inside (block_at s block) pos alive in
+      IsBucket-changed kind s len len block pos (slot_with_value slot value) s.listed h short
+      (omega (arith, ap tally alive, ap tally same.0)) (λ _. same.1)
+      (AreLive-changed s block pos (slot_with_value slot value) short same.0 h.listed_live) h.unlisted

@@ -1,0 +1,180 @@
+-- Masks: what their bits say of a list's elements, and what they become where an element changes.
+use Rattle.std.proofs.Common.{ℕ, ◌+◌, ◌-◌, ◌<◌, ◌≤◌, ◌≡◌, ◌≢◌, ◌^◌, inl, inr, Bool, true, false, not, ◌&&◌, cond, min, eqb, List, [], ◌∷◌, Option, Some, None, is_some, length, map, get_or, set, refl, sym, ap, subst, ◌∙◌, arith, bit_and, w32}
+use Rattle.std.specs.Int.{bit_at}
+use Rattle.std.specs.List.{count_by, list_all, list_any, position}
+use Rattle.std.specs.Simd.Lanes.{mask_l}
+use Rattle.std.proofs.lemmas.Bool.{cases_eq, cases_lt, not-false, not-true}
+use Rattle.std.proofs.lemmas.Bool.Decides.{nat_tests}
+use Rattle.std.proofs.lemmas.Grind.{common_steps}
+use Rattle.std.proofs.lemmas.List.{get_or-map, get_or-set_other, get_or-set_same, get_or_past, length-map, map-set}
+use Rattle.std.proofs.lemmas.List.Folds.{list_any_at, list_any_none}
+use Rattle.std.proofs.lemmas.List.Quantifiers.{position-Some}
+use Rattle.std.proofs.lemmas.Nat.Bits.{bit_at-zero, bit_at_and, bit_at_not, same_from_bits}
+use Rattle.std.proofs.lemmas.Simd.{bit_mask_l, ones-mask_l}
+use lib.Count.{ones}
+use Rattle.bucket_slots.specs.Layout.Bitmaps.{IsLowest, IsLowestClear, SetsBit}
+use Rattle.bucket_slots.specs.Layout.Masks.{IsLeft}
+use Rattle.bucket_slots.specs.Masks.{IsMaskOf}
+use Rattle.bucket_slots.proofs.Positions.{position-None, position_at, position_nowhere}
+
+pub bit_is : (b : Bool) → ◌≡◌ {A = ℕ} (cond b 1 0) 1 → b ≡ true
+bit_is true e = refl
+bit_is false e = absurd (omega arith)
+
+pub bit_is_not : (b : Bool) → ◌≡◌ {A = ℕ} (cond b 1 0) 0 → b ≡ false
+bit_is_not true e = absurd (omega arith)
+bit_is_not false e = refl
+
+-- a bit that is as wanted stays where nothing changes
+pub bit_already : (bits k bit : ℕ) → bit_at bits k ≡ bit → SetsBit bits k bit bits
+bit_already bits k bit is = record { same = is; others = λ i other. refl }
+
+-- a mask is std's number of the answers
+mask_is : {A : Type 0} (test : A → Bool) (xs : List A) (bits : ℕ) → IsMaskOf test xs bits → bits ≡ mask_l (map test xs)
+mask_is test xs bits mask = same_from_bits bits (mask_l (map test xs)) (λ i. mask i ∙ sym (bit_mask_l (map test xs) i))
+
+-- an element that passes is none past the end
+pub within : {A : Type 0} (test : A → Bool) (xs : List A) (i : ℕ) (d : A) → test d ≡ false → test (get_or xs i d) ≡ true → i < length xs
+within test xs i d fails passes = elim (cases_lt i (length xs)) [
+  | inl below ↦ below
+  | inr past ↦ let here : test (get_or xs i d) ≡ false = rw (get_or_past xs i d past) fails in absurd cc
+]
+
+module _ {A : Type 0} (test : A → Bool) where
+  any_is : (xs : List A) → list_any test xs ≡ not (eqb (mask_l (map test xs)) 0)
+  any_is [] = refl
+  any_is (x ∷ xs) = let rest = any_is xs in grind (arith, nat_tests, common_steps)
+
+  all_is : (xs : List A) → list_all test xs ≡ eqb (mask_l (map (λ x. not (test x)) xs)) 0
+  all_is [] = refl
+  all_is (x ∷ xs) = let rest = all_is xs in grind (arith, nat_tests, common_steps)
+
+  -- of the elements those that pass and those that don't
+  count_not : (xs : List A) → count_by (λ x. not (test x)) xs + count_by test xs ≡ length xs
+  count_not [] = refl
+  count_not (x ∷ xs) = let rest = count_not xs in grind (arith, nat_tests, common_steps)
+
+  -- the answer at an index, where the test fails past the end
+  answer_at : (xs : List A) (i : ℕ) (d : A) → test d ≡ false → get_or (map test xs) i false ≡ test (get_or xs i d)
+  answer_at xs i d fails = elim (cases_lt i (length xs)) [
+    | inl below ↦ get_or-map test xs i d false below
+    | inr past ↦ get_or_past (map test xs) i false (simp length-map past) ∙ sym (ap test (get_or_past xs i d past) ∙ fails)
+  ]
+
+  -- a number whose bits are the elements' answers is their mask
+  pub IsMaskOf-from : (xs : List A) (bits : ℕ) (d : A) → test d ≡ false → ((i : ℕ) → bit_at bits i ≡ cond (test (get_or xs i d)) 1 0) → IsMaskOf test xs bits
+  IsMaskOf-from xs bits d fails each i = each i ∙ ap (λ b. cond b 1 0) (sym (answer_at xs i d fails))
+
+  module _ (xs : List A) (bits : ℕ) (mask : IsMaskOf test xs bits) where
+    -- no bit is set exactly where no element passes
+    pub any-mask : list_any test xs ≡ not (eqb bits 0)
+    any-mask = any_is xs ∙ ap (λ m. not (eqb m 0)) (sym (mask_is test xs bits mask))
+
+    -- as many bits are set as elements pass
+    pub ones-mask : ones bits ≡ count_by test xs
+    ones-mask = ap ones (mask_is test xs bits mask) ∙ ones-mask_l test xs
+
+    -- each element's bit, and 0 past the end
+    pub bit-mask : (i : ℕ) (d : A) → test d ≡ false → bit_at bits i ≡ cond (test (get_or xs i d)) 1 0
+    bit-mask i d fails = mask i ∙ ap (λ b. cond b 1 0) (answer_at xs i d fails)
+
+    -- one element is another one, and its bit is set or cleared
+    pub IsMaskOf-set : (i after : ℕ) (x : A) → i < length xs → SetsBit bits i (cond (test x) 1 0) after → IsMaskOf test (set xs i x) after
+    IsMaskOf-set i after x below s j = rw map-set (elim (cases_eq j i) [
+      | inl same ↦ rw (same, s.same, get_or-set_same (map test xs) i (test x) false (simp length-map below))
+      | inr other ↦ rw (s.others j other, get_or-set_other (map test xs) i j (test x) false other) (mask j)
+    ])
+
+    -- where no bit is set no element passes
+    pub position-no_bit : (d : A) → test d ≡ false → bits ≡ 0 → position test xs ≡ None
+    position-no_bit d fails none =
+        position_nowhere test xs d (λ i below. bit_is_not _ (sym (bit-mask i d fails) ∙ ap (λ m. bit_at m i) none ∙ bit_at-zero i))
+
+    -- the lowest bit is the first element that passes
+    pub position-lowest : (k : ℕ) (d : A) → test d ≡ false → IsLowest bits k → position test xs ≡ Some k
+    position-lowest k d fails low =
+        let here : test (get_or xs k d) ≡ true = bit_is _ (sym (bit-mask k d fails) ∙ low.set) in
+        position_at test xs k d (within test xs k d fails here) (λ j below. bit_is_not _ (sym (bit-mask j d fails) ∙ low.lower j below)) here
+
+  module _ (xs : List A) (bits : ℕ) (mask : IsMaskOf (λ x. not (test x)) xs bits) where
+    -- no bit is set exactly where each element passes
+    pub all-mask : list_all test xs ≡ eqb bits 0
+    all-mask = all_is xs ∙ ap (λ m. eqb m 0) (sym (mask_is (λ x. not (test x)) xs bits mask))
+
+    -- the bits that are set and the elements that pass are as many as the elements
+    pub ones-mask_not : ones bits + count_by test xs ≡ length xs
+    ones-mask_not = ap (λ n. n + count_by test xs) (ap ones (mask_is (λ x. not (test x)) xs bits mask) ∙ ones-mask_l (λ x. not (test x)) xs) ∙ count_not xs
+
+    clear_bit : (i : ℕ) (d : A) → i < length xs → bit_at bits i ≡ cond (not (test (get_or xs i d))) 1 0
+    clear_bit i d below = mask i ∙ ap (λ b. cond b 1 0) (get_or-map (λ x. not (test x)) xs i d false below)
+
+    -- the lowest bit that isn't set is the first element that passes, or none does
+    pub position-lowest_clear : (k : ℕ) (d : A) → IsLowestClear bits k → k < length xs → position test xs ≡ Some k
+    position-lowest_clear k d low h =
+        position_at test xs k d h (λ j below. not-true _ (bit_is _ (sym (clear_bit j d (omega arith)) ∙ low.lower j below)))
+        (not-false _ (bit_is_not _ (sym (clear_bit k d h) ∙ low.clear)))
+
+    pub position-all_set : (k : ℕ) (d : A) → IsLowestClear bits k → length xs ≤ k → position test xs ≡ None
+    position-all_set k d low h =
+        position_nowhere test xs d (λ j below. not-true _ (bit_is _ (sym (clear_bit j d below) ∙ low.lower j (omega arith))))
+
+  -- an element passes exactly where there is a first one
+  pub any-position : (xs : List A) (d : A) (found : Option ℕ) → found ≡ position test xs → list_any test xs ≡ is_some found
+  any-position xs d None e = list_any_none test xs (λ i e₀ below. position-None test xs i e₀ (sym e) below)
+  any-position xs d (Some pos) e = let at = position-Some test xs pos d (sym e) in list_any_at test xs pos d at.0 at.1
+
+  -- the bits of a mask are left at first
+  pub IsLeft-first : (P : A → Type 0) (d : A) (xs : List A) (bits : ℕ) → test d ≡ false → ((x : A) → test x ≡ false → P x) → IsMaskOf test xs bits
+      → IsLeft test P d xs bits
+  IsLeft-first P d xs bits fails others mask = record {
+    waiting = λ i h. bit_is (test (get_or xs i d)) (sym (bit-mask xs bits mask i d fails) ∙ h);
+    done = λ i h. others _ (bit_is_not (test (get_or xs i d)) (sym (bit-mask xs bits mask i d fails) ∙ h));
+  }
+
+  -- one of them goes, once P holds there
+  pub IsLeft-next : (P : A → Type 0) (d : A) (xs ys : List A) (bits k after : ℕ) → IsLeft test P d xs bits → SetsBit bits k 0 after
+      → ((i : ℕ) → i ≢ k → get_or ys i d ≡ get_or xs i d) → P (get_or ys k d) → IsLeft test P d ys after
+  IsLeft-next P d xs ys bits k after l s same here =
+      let not_it : (i : ℕ) → bit_at after i ≡ 1 → i ≢ k = λ i h e. absurd (let clear : bit_at after i ≡ 0 = rw e s.same in omega arith) in
+      record {
+        waiting = λ i h. rw (same i (not_it i h)) (l.waiting i (sym (s.others i (not_it i h)) ∙ h));
+        done = λ i h. elim (cases_eq i k) [
+          | inl e ↦ rw e here
+          | inr other ↦ rw (same i other) (l.done i (sym (s.others i other) ∙ h))
+        ];
+      }
+
+  -- where the others fail a second test, the lowest of those that are left is the first that passes it, if it does
+  pub position-left : (want : A → Bool) (d : A) (xs : List A) (bits k : ℕ) → want d ≡ false → IsLeft test (λ x. want x ≡ false) d xs bits
+      → IsLowest bits k → want (get_or xs k d) ≡ true → position want xs ≡ Some k
+  position-left want d xs bits k fails l low here =
+      position_at want xs k d (within want xs k d fails here) (λ j below. l.done j (low.lower j below)) here
+
+  -- and where none is left, none passes it
+  pub position-none_left : (want : A → Bool) (d : A) (xs : List A) → IsLeft test (λ x. want x ≡ false) d xs 0 → position want xs ≡ None
+  position-none_left want d xs l = position_nowhere want xs d (λ j below. l.done j (bit_at-zero j))
+
+module _ {A : Type 0} where
+  -- a mask is one of each test that answers alike
+  pub IsMaskOf-alike : (test other : A → Bool) (xs : List A) (bits : ℕ) → ((x : A) → test x ≡ other x) → IsMaskOf test xs bits → IsMaskOf other xs bits
+  IsMaskOf-alike test other xs bits alike mask = subst (λ t. IsMaskOf t xs bits) (λ j x. alike x j) mask
+
+  -- what one mask has and another has not
+  pub IsMaskOf-and_not : (test other : A → Bool) (xs : List A) (bits without : ℕ) (d : A) → test d ≡ false → other d ≡ false
+      → length xs ≤ 32 → without < 2 ^ 32 → IsMaskOf test xs bits → IsMaskOf other xs without
+      → IsMaskOf (λ x. test x && not (other x)) xs (bit_and bits (2 ^ 32 - 1 - without))
+  IsMaskOf-and_not test other xs bits without d fails clear few fits mask others =
+      IsMaskOf-from (λ x. test x && not (other x)) xs (bit_and bits (2 ^ 32 - 1 - without)) d (rw fails refl) (λ i.
+      let here = bit-mask test xs bits mask i d fails in
+      let away = bit-mask other xs without others i d clear in
+      bit_at_and bits (2 ^ 32 - 1 - without) i ∙ elim (cases_lt i 32) [
+        | inl below ↦ rw (bit_at_not w32 without i fits below, here, away) (both_bits (test (get_or xs i d)) (other (get_or xs i d)))
+        | inr past ↦
+            let none : test (get_or xs i d) ≡ false = rw (get_or_past xs i d (omega arith)) fails in
+            rw (here, none) (omega arith)
+      ])
+    where
+      both_bits : (this that : Bool) → min (cond this 1 0) (1 - cond that 1 0) ≡ cond (this && not that) 1 0
+      both_bits true true = omega arith
+      both_bits true false = omega arith
+      both_bits false that = omega arith

@@ -1,0 +1,131 @@
+-- What the bitmaps of a row say of its slots.
+use Rattle.std.proofs.Common.{ℕ, ◌-◌, ◌<◌, ◌≡◌, ◌==◌, ◌^◌, true, false, not, ◌&&◌, cond, min, if◌then◌else◌, Bool, List, Option, Some, None, is_some, option_map, length, map, get_or, set, refl, sym, ap, ◌∙◌, arith, bit_and}
+use Rattle.std.specs.Int.{bit_at}
+use Rattle.std.proofs.lemmas.Grind.{common_steps}
+use Rattle.std.proofs.lemmas.List.{get_or-map, get_or-set_other, get_or-set_same, get_or_default, map-set, set-get_or}
+use Rattle.std.proofs.lemmas.List.Folds.{map_fixed}
+use Rattle.std.proofs.lemmas.Nat.Bits.{bit_at-zero, bit_at_and}
+use Rattle.bucket_slots.specs.Clearing.{slot_without_expired}
+use Rattle.bucket_slots.specs.Layout.Bitmaps.{IsLowest, SetsBit}
+use Rattle.bucket_slots.specs.Layout.Blocks.{IsRow, has_byte, row_slots, slot_of}
+use Rattle.bucket_slots.specs.Layout.Expiring.{IsExpiring}
+use Rattle.bucket_slots.specs.Masks.{IsMaskOf}
+use Rattle.bucket_slots.specs.Searching.{is_wanted}
+use Rattle.bucket_slots.specs.Slots.{Slot, free, is_free, is_live, is_marked, live, marked, pair_of, slot_at}
+use Rattle.bucket_slots.proofs.Masks.{IsLeft-first, IsLeft-next, IsMaskOf-alike, IsMaskOf-and_not, IsMaskOf-from, bit-mask, within}
+use Rattle.bucket_slots.proofs.RowSlots.{length-row_slots, slot_held}
+
+twice : (b : Bool) → b ≡ not (not b)
+twice true = refl
+twice false = refl
+
+module _ {K V : Type 0} where
+  is_live_by : (slot : Slot K V) → (not (is_free slot) && not (is_marked slot)) ≡ is_live slot
+  is_live_by free = refl
+  is_live_by (live pair byte) = refl
+  is_live_by (marked pair byte) = refl
+
+  candidate_bit : (slot : Slot K V) (byte own bit : ℕ) → slot_of (pair_of slot) own (cond (is_marked slot) 1 0) ≡ slot
+      → (is_live slot ≡ true → bit ≡ cond (own == byte) 1 0) → min bit (cond (is_live slot) 1 0) ≡ cond (has_byte byte slot) 1 0
+  candidate_bit free byte own bit whole compared = omega arith
+  candidate_bit (live pair stored) byte own bit whole compared =
+      let same : own ≡ stored = cc in
+      rw (compared refl, same) (grind (arith, common_steps))
+  candidate_bit (marked pair stored) byte own bit whole compared = omega arith
+
+  module _ (len : ℕ) (places : List (Option (K × V))) (bytes : List ℕ) (occupied marks : ℕ) (slots : List (Slot K V))
+      (row : IsRow len places bytes occupied marks) (view : row_slots places bytes marks ≡ slots) where
+    pub length-slots : length slots ≡ len
+    length-slots = rw (← view) (length-row_slots places bytes marks ∙ row.long)
+
+    -- the filled places are the slots that aren't free
+    pub occupied_mask : IsMaskOf (λ slot. not (is_free slot)) slots occupied
+    occupied_mask = IsMaskOf-from (λ slot. not (is_free slot)) slots occupied free refl (λ i.
+        (slot_held len places bytes occupied marks slots row view i).filled ∙ ap (λ b. cond b 1 0) (twice (is_some (pair_of (slot_at slots i)))))
+
+    pub mark_mask : IsMaskOf is_marked slots marks
+    mark_mask = rw (← view) row.marked
+
+    -- the occupied slots with no mark are the live ones
+    pub live_mask : marks < 2 ^ 32 → IsMaskOf is_live slots (bit_and occupied (2 ^ 32 - 1 - marks))
+    live_mask fits =
+        IsMaskOf-alike (λ slot. not (is_free slot) && not (is_marked slot)) is_live slots _ is_live_by
+        (IsMaskOf-and_not (λ slot. not (is_free slot)) is_marked slots occupied marks free refl refl (omega (arith, length-slots, row.few)) fits occupied_mask mark_mask)
+
+    -- those of them whose byte matches
+    pub candidate_mask : (byte mask : ℕ) → marks < 2 ^ 32 → IsMaskOf (λ own. own == byte) bytes mask
+        → IsMaskOf (has_byte byte) slots (bit_and (bit_and mask occupied) (2 ^ 32 - 1 - marks))
+    candidate_mask byte mask fits match = IsMaskOf-from (has_byte byte) slots _ free refl (λ i.
+        let held = slot_held len places bytes occupied marks slots row view i in
+        let alive = bit-mask is_live slots _ (live_mask fits) i free refl in
+        let matched : min (bit_at mask i) (cond (is_live (slot_at slots i)) 1 0) ≡ cond (has_byte byte (slot_at slots i)) 1 0 =
+        candidate_bit (slot_at slots i) byte (get_or bytes i 0) (bit_at mask i) held.whole (λ h.
+        match i ∙ ap (λ b. cond b 1 0) (get_or-map (λ own. own == byte) bytes i 0 false (omega (arith, row.bytes_long, length-slots, within is_live slots i free refl h)))) in
+        omega (arith, bit_at_and (bit_and mask occupied) (2 ^ 32 - 1 - marks) i, bit_at_and mask occupied i, bit_at_and occupied (2 ^ 32 - 1 - marks) i))
+
+  -- a candidate is wanted where its key passes, and it has a key
+  pub wanted_by_key : (test : K → Bool) (byte : ℕ) (slot : Slot K V) (key : K) → has_byte byte slot ≡ true
+      → Some key ≡ option_map (λ pair. pair.0) (pair_of slot) → test key ≡ is_wanted test byte slot
+  wanted_by_key test byte free key matches found = cc
+  wanted_by_key test byte (live pair own) key matches found = let same : key ≡ pair.0 = cc in rw (matches, same) refl
+  wanted_by_key test byte (marked pair own) key matches found = cc
+
+  pub has_a_key : (byte : ℕ) (slot : Slot K V) → has_byte byte slot ≡ true → None ≡ option_map (λ pair. pair.0) (pair_of slot) → ⊥
+  has_a_key byte free matches none = cc
+  has_a_key byte (live pair own) matches none = cc
+  has_a_key byte (marked pair own) matches none = cc
+
+  -- a slot that is no candidate isn't wanted
+  pub unwanted : (test : K → Bool) (byte : ℕ) (slot : Slot K V) → has_byte byte slot ≡ false → is_wanted test byte slot ≡ false
+  unwanted test byte free other = refl
+  unwanted test byte (live pair own) other = rw other refl
+  unwanted test byte (marked pair own) other = refl
+
+module _ {K V : Type 0} (keeps : ℕ → Bool) where
+  -- a slot that is freed where it is expired isn't expired then, nor is one without a mark
+  freed_once : (slot : Slot K V) → slot_without_expired keeps (slot_without_expired keeps slot) ≡ slot_without_expired keeps slot
+  freed_once free = refl
+  freed_once (live pair byte) = refl
+  freed_once (marked pair byte) = at_byte (keeps byte) refl
+    where
+      at_byte : (kept : Bool) → keeps byte ≡ kept
+          → slot_without_expired keeps (if kept then marked pair byte else free) ≡ (if kept then marked pair byte else free)
+      at_byte true e = rw e refl
+      at_byte false e = refl
+
+  unmarked_stays : (slot : Slot K V) → is_marked slot ≡ false → slot_without_expired keeps slot ≡ slot
+  unmarked_stays free unmarked = refl
+  unmarked_stays (live pair byte) unmarked = refl
+  unmarked_stays (marked pair byte) unmarked = cc
+
+  -- a marked slot stays or is free, as the test says of its byte
+  pub expired_is : (slot : Slot K V) (byte : ℕ) (kept : Bool) → is_marked slot ≡ true → slot_of (pair_of slot) byte (cond (is_marked slot) 1 0) ≡ slot
+      → keeps byte ≡ kept → slot_without_expired keeps slot ≡ (if kept then slot else free)
+  expired_is free byte kept is whole e = cc
+  expired_is (live pair own) byte kept is whole e = cc
+  expired_is (marked pair own) byte kept is whole e = let same : own ≡ byte = cc in rw (same, e) refl
+
+  -- the marked slots are left at first
+  pub IsExpiring-first : (slots : List (Slot K V)) (bits : ℕ) → IsMaskOf is_marked slots bits → IsExpiring keeps slots slots bits
+  IsExpiring-first slots bits mask = record {
+    waiting = IsLeft-first is_marked (λ slot. slot_without_expired keeps slot ≡ slot) free slots bits refl unmarked_stays mask;
+    same = refl;
+  }
+
+  -- one slot that is left is freed, where it is expired
+  pub IsExpiring-next : (old new : List (Slot K V)) (left pos after : ℕ) → IsExpiring keeps old new left → IsLowest left pos → SetsBit left pos 0 after
+      → IsExpiring keeps old (set new pos (slot_without_expired keeps (slot_at new pos))) after
+  IsExpiring-next old new left pos after x low s =
+      let slot = slot_without_expired keeps (slot_at new pos) in
+      let below = within is_marked new pos free refl (x.waiting.waiting pos low.set) in
+      let there = get_or-set_same new pos slot free below in
+      let as_before = freed_once (slot_at new pos) ∙ sym (get_or-map (slot_without_expired keeps) new pos free free below) in
+      record {
+        waiting = IsLeft-next is_marked (λ slot. slot_without_expired keeps slot ≡ slot) free new (set new pos slot) left pos after x.waiting s
+            (λ i other. get_or-set_other new pos i slot free other) (rw there (freed_once (slot_at new pos)));
+        same = rw (map-set, as_before, set-get_or) x.same;
+      }
+
+  pub IsExpiring-last : (old new : List (Slot K V)) → IsExpiring keeps old new 0 → new ≡ map (slot_without_expired keeps) old
+  IsExpiring-last old new x =
+      sym (map_fixed (slot_without_expired keeps) new (λ i d below. rw (get_or_default new i d free below) (x.waiting.done i (bit_at-zero i)))) ∙ x.same
