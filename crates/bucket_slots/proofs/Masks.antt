@@ -33,6 +33,10 @@ bit_already bits k bit is = record { same = is; others = λ i other. refl }
 mask_is : {A : Type 0} (test : A → Bool) (xs : List A) (bits : ℕ) → IsMaskOf test xs bits → bits ≡ mask_l (map test xs)
 mask_is test xs bits mask = same_from_bits bits (mask_l (map test xs)) (λ i. mask i ∙ sym (bit_mask_l (map test xs) i))
 
+-- as many bits are set as elements pass
+ones-mask : {A : Type 0} (test : A → Bool) (xs : List A) (bits : ℕ) → IsMaskOf test xs bits → ones bits ≡ count_by test xs
+ones-mask test xs bits mask = ap ones (mask_is test xs bits mask) ∙ ones-mask_l test xs
+
 -- an element that passes is none past the end
 pub within : {A : Type 0} (test : A → Bool) (xs : List A) (i : ℕ) (d : A) → test d ≡ false → test (get_or xs i d) ≡ true → i < length xs
 within test xs i d fails passes = elim (cases_lt i (length xs)) [
@@ -62,17 +66,14 @@ module _ {A : Type 0} (test : A → Bool) where
   ]
 
   -- a number whose bits are the elements' answers is their mask
-  pub IsMaskOf-from : (xs : List A) (bits : ℕ) (d : A) → test d ≡ false → ((i : ℕ) → bit_at bits i ≡ cond (test (get_or xs i d)) 1 0) → IsMaskOf test xs bits
+  pub IsMaskOf-from : (xs : List A) (bits : ℕ) (d : A) → test d ≡ false → ((i : ℕ) → bit_at bits i ≡ cond (test (get_or xs i d)) 1 0)
+      → IsMaskOf test xs bits
   IsMaskOf-from xs bits d fails each i = each i ∙ ap (λ b. cond b 1 0) (sym (answer_at xs i d fails))
 
   module _ (xs : List A) (bits : ℕ) (mask : IsMaskOf test xs bits) where
     -- no bit is set exactly where no element passes
     pub any-mask : list_any test xs ≡ not (eqb bits 0)
     any-mask = any_is xs ∙ ap (λ m. not (eqb m 0)) (sym (mask_is test xs bits mask))
-
-    -- as many bits are set as elements pass
-    pub ones-mask : ones bits ≡ count_by test xs
-    ones-mask = ap ones (mask_is test xs bits mask) ∙ ones-mask_l test xs
 
     -- each element's bit, and 0 past the end
     pub bit-mask : (i : ℕ) (d : A) → test d ≡ false → bit_at bits i ≡ cond (test (get_or xs i d)) 1 0
@@ -94,7 +95,8 @@ module _ {A : Type 0} (test : A → Bool) where
     pub position-lowest : (k : ℕ) (d : A) → test d ≡ false → IsLowest bits k → position test xs ≡ Some k
     position-lowest k d fails low =
         let here : test (get_or xs k d) ≡ true = bit_is _ (sym (bit-mask k d fails) ∙ low.set) in
-        position_at test xs k d (within test xs k d fails here) (λ j below. bit_is_not _ (sym (bit-mask j d fails) ∙ low.lower j below)) here
+        position_at test xs k d (within test xs k d fails here) (λ j below. bit_is_not _ (sym (bit-mask j d fails) ∙ low.lower j below))
+        here
 
   module _ (xs : List A) (bits : ℕ) (mask : IsMaskOf (λ x. not (test x)) xs bits) where
     -- no bit is set exactly where each element passes
@@ -103,7 +105,7 @@ module _ {A : Type 0} (test : A → Bool) where
 
     -- the bits that are set and the elements that pass are as many as the elements
     pub ones-mask_not : ones bits + count_by test xs ≡ length xs
-    ones-mask_not = ap (λ n. n + count_by test xs) (ap ones (mask_is (λ x. not (test x)) xs bits mask) ∙ ones-mask_l (λ x. not (test x)) xs) ∙ count_not xs
+    ones-mask_not = ap (λ n. n + count_by test xs) (ones-mask (λ x. not (test x)) xs bits mask) ∙ count_not xs
 
     clear_bit : (i : ℕ) (d : A) → i < length xs → bit_at bits i ≡ cond (not (test (get_or xs i d))) 1 0
     clear_bit i d below = mask i ∙ ap (λ b. cond b 1 0) (get_or-map (λ x. not (test x)) xs i d false below)
@@ -124,7 +126,8 @@ module _ {A : Type 0} (test : A → Bool) where
   any-position xs d (Some pos) e = let at = position-Some test xs pos d (sym e) in list_any_at test xs pos d at.0 at.1
 
   -- the bits of a mask are left at first
-  pub IsLeft-first : (P : A → Type 0) (d : A) (xs : List A) (bits : ℕ) → test d ≡ false → ((x : A) → test x ≡ false → P x) → IsMaskOf test xs bits
+  pub IsLeft-first : (P : A → Type 0) (d : A) (xs : List A) (bits : ℕ) → test d ≡ false → ((x : A) → test x ≡ false → P x)
+      → IsMaskOf test xs bits
       → IsLeft test P d xs bits
   IsLeft-first P d xs bits fails others mask = record {
     waiting = λ i h. bit_is (test (get_or xs i d)) (sym (bit-mask xs bits mask i d fails) ∙ h);
@@ -156,7 +159,8 @@ module _ {A : Type 0} (test : A → Bool) where
 
 module _ {A : Type 0} where
   -- a mask is one of each test that answers alike
-  pub IsMaskOf-alike : (test other : A → Bool) (xs : List A) (bits : ℕ) → ((x : A) → test x ≡ other x) → IsMaskOf test xs bits → IsMaskOf other xs bits
+  pub IsMaskOf-alike : (test other : A → Bool) (xs : List A) (bits : ℕ) → ((x : A) → test x ≡ other x) → IsMaskOf test xs bits
+      → IsMaskOf other xs bits
   IsMaskOf-alike test other xs bits alike mask = subst (λ t. IsMaskOf t xs bits) (λ j x. alike x j) mask
 
   -- what one mask has and another has not

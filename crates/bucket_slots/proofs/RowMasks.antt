@@ -41,7 +41,8 @@ module _ {K V : Type 0} where
     -- the filled places are the slots that aren't free
     pub occupied_mask : IsMaskOf (λ slot. not (is_free slot)) slots occupied
     occupied_mask = IsMaskOf-from (λ slot. not (is_free slot)) slots occupied free refl (λ i.
-        (slot_held len places bytes occupied marks slots row view i).filled ∙ ap (λ b. cond b 1 0) (twice (is_some (pair_of (slot_at slots i)))))
+        (slot_held len places bytes occupied marks slots row view i).filled ∙ ap (λ b. cond b 1 0)
+        (twice (is_some (pair_of (slot_at slots i)))))
 
     pub mark_mask : IsMaskOf is_marked slots marks
     mark_mask = rw (← view) row.marked
@@ -50,7 +51,8 @@ module _ {K V : Type 0} where
     pub live_mask : marks < 2 ^ 32 → IsMaskOf is_live slots (bit_and occupied (2 ^ 32 - 1 - marks))
     live_mask fits =
         IsMaskOf-alike (λ slot. not (is_free slot) && not (is_marked slot)) is_live slots _ is_live_by
-        (IsMaskOf-and_not (λ slot. not (is_free slot)) is_marked slots occupied marks free refl refl (omega (arith, length-slots, row.few)) fits occupied_mask mark_mask)
+        (IsMaskOf-and_not (λ slot. not (is_free slot)) is_marked slots occupied marks free refl refl
+        (omega (arith, length-slots, row.few)) fits occupied_mask mark_mask)
 
     -- those of them whose byte matches
     pub candidate_mask : (byte mask : ℕ) → marks < 2 ^ 32 → IsMaskOf (λ own. own == byte) bytes mask
@@ -60,8 +62,15 @@ module _ {K V : Type 0} where
         let alive = bit-mask is_live slots _ (live_mask fits) i free refl in
         let matched : min (bit_at mask i) (cond (is_live (slot_at slots i)) 1 0) ≡ cond (has_byte byte (slot_at slots i)) 1 0 =
         candidate_bit (slot_at slots i) byte (get_or bytes i 0) (bit_at mask i) held.whole (λ h.
-        match i ∙ ap (λ b. cond b 1 0) (get_or-map (λ own. own == byte) bytes i 0 false (omega (arith, row.bytes_long, length-slots, within is_live slots i free refl h)))) in
-        omega (arith, bit_at_and (bit_and mask occupied) (2 ^ 32 - 1 - marks) i, bit_at_and mask occupied i, bit_at_and occupied (2 ^ 32 - 1 - marks) i))
+        match i ∙ ap (λ b. cond b 1 0) (get_or-map (λ own. own == byte) bytes i 0 false
+        (omega (arith, row.bytes_long, length-slots, within is_live slots i free refl h)))) in
+        omega (
+          arith,
+          bit_at_and (bit_and mask occupied) (2 ^ 32 - 1 - marks) i,
+          bit_at_and mask occupied i,
+          bit_at_and occupied
+              (2 ^ 32 - 1 - marks) i,
+        ))
 
   -- a candidate is wanted where its key passes, and it has a key
   pub wanted_by_key : (test : K → Bool) (byte : ℕ) (slot : Slot K V) (key : K) → has_byte byte slot ≡ true
@@ -99,7 +108,8 @@ module _ {K V : Type 0} (keeps : ℕ → Bool) where
   unmarked_stays (marked pair byte) unmarked = cc
 
   -- a marked slot stays or is free, as the test says of its byte
-  pub expired_is : (slot : Slot K V) (byte : ℕ) (kept : Bool) → is_marked slot ≡ true → slot_of (pair_of slot) byte (cond (is_marked slot) 1 0) ≡ slot
+  pub expired_is : (slot : Slot K V) (byte : ℕ) (kept : Bool) → is_marked slot ≡ true
+      → slot_of (pair_of slot) byte (cond (is_marked slot) 1 0) ≡ slot
       → keeps byte ≡ kept → slot_without_expired keeps slot ≡ (if kept then slot else free)
   expired_is free byte kept is whole e = cc
   expired_is (live pair own) byte kept is whole e = cc
@@ -113,7 +123,8 @@ module _ {K V : Type 0} (keeps : ℕ → Bool) where
   }
 
   -- one slot that is left is freed, where it is expired
-  pub IsExpiring-next : (old new : List (Slot K V)) (left pos after : ℕ) → IsExpiring keeps old new left → IsLowest left pos → SetsBit left pos 0 after
+  pub IsExpiring-next : (old new : List (Slot K V)) (left pos after : ℕ) → IsExpiring keeps old new left → IsLowest left pos
+      → SetsBit left pos 0 after
       → IsExpiring keeps old (set new pos (slot_without_expired keeps (slot_at new pos))) after
   IsExpiring-next old new left pos after x low s =
       let slot = slot_without_expired keeps (slot_at new pos) in
@@ -121,11 +132,13 @@ module _ {K V : Type 0} (keeps : ℕ → Bool) where
       let there = get_or-set_same new pos slot free below in
       let as_before = freed_once (slot_at new pos) ∙ sym (get_or-map (slot_without_expired keeps) new pos free free below) in
       record {
-        waiting = IsLeft-next is_marked (λ slot. slot_without_expired keeps slot ≡ slot) free new (set new pos slot) left pos after x.waiting s
+        waiting =
+            IsLeft-next is_marked (λ slot. slot_without_expired keeps slot ≡ slot) free new (set new pos slot) left pos after x.waiting s
             (λ i other. get_or-set_other new pos i slot free other) (rw there (freed_once (slot_at new pos)));
         same = rw (map-set, as_before, set-get_or) x.same;
       }
 
   pub IsExpiring-last : (old new : List (Slot K V)) → IsExpiring keeps old new 0 → new ≡ map (slot_without_expired keeps) old
   IsExpiring-last old new x =
-      sym (map_fixed (slot_without_expired keeps) new (λ i d below. rw (get_or_default new i d free below) (x.waiting.done i (bit_at-zero i)))) ∙ x.same
+      sym (map_fixed (slot_without_expired keeps) new
+      (λ i d below. rw (get_or_default new i d free below) (x.waiting.done i (bit_at-zero i)))) ∙ x.same
