@@ -6,7 +6,7 @@ use Rattle.bucket_slots.specs.Evicting.{slot_to_evict, slots_evicted}
 use Rattle.bucket_slots.specs.Marking.{slots_marked}
 use Rattle.bucket_slots.specs.Removing.{slots_without}
 use Rattle.bucket_slots.specs.Slots.{live_pair, slot_at}
-use Rattle.bucket_slots.proofs.CallerLemmas.{entries_in-slots_without, map-entries_in, pairs_in-slots_evicted, rewritten}
+use Rattle.bucket_slots.proofs.CallerLemmas.{entries_in-slots_without, map-entries_in, entries_in-slots_evicted, rewritten}
 use Rattle.bucket_slots.proofs.MarkCallerLemmas.{entries_in-slots_after_insertion, entries_in-slots_marked}
 use Rattle.bucket_table.proofs.Exchanging.{Exchanges, came_in, exchanged_by, went_out}
 
@@ -33,7 +33,7 @@ module _ {K V : Type 0} (b : BucketView K V) where
   -- and an eviction
   pub evicted : (p : K × V) → live_pair (slot_at b.own (slot_to_evict b)) ≡ Some p
       → (byte : ℕ) × Exchanges (entries_in b) (entries_in (slots_evicted b)) [] ((p, byte) ∷ [])
-  evicted p here = let out = pairs_in-slots_evicted b p here in (out.0, went_out _ _ _ out.1)
+  evicted p here = let out = entries_in-slots_evicted b p here in (out.0, went_out _ _ _ out.1)
 
   -- a write exchanges one for another
   pub written : (at : Place) (p : K × V) (value : V) → live_pair (slot_in b at) ≡ Some p → (byte : ℕ)

@@ -144,8 +144,7 @@ impl<K: Eq, V, H: KeyHash<K>, L: LruList, const TYPE: u8> HashTable<K, V, H, L, 
         ensures bucket { self.new.bucket
             ≡ slots_after_taking TYPE self.old.bucket at.old (G.epoch_of generation.now) }
     {
-        let frees = TYPE != INDEX;
-        if frees {
+        if TYPE != INDEX {
             return self.bucket.remove(at);
         }
         let pair = (*at.key(&self.bucket), *at.val(&self.bucket));
