@@ -7,9 +7,10 @@ use Rattle.bucket_table.specs.declared.script.call.Call.{Call}
 use Rattle.bucket_table.specs.declared.script.reply.Reply.{Reply}
 use Rattle.bhtable.specs.Answers.{AreAnswers, IsAnswer}
 use Rattle.bhtable.specs.Requests.{Asks}
-use Rattle.bhtable.specs.Sessions.{AskForCalls}
-use Rattle.bhtable.specs.Texts.{line_of, lines_of_replies, text_of}
-use Rattle.bhtable.specs.Words.{words_of}
+use Rattle.bhtable.specs.Layout.Sessions.{AskForCalls}
+use Rattle.bhtable.specs.Layout.Replies.{lines_of_replies}
+use Rattle.bhtable.specs.Texts.{line_of, text_of}
+use Rattle.bhtable.specs.Words.{parts_of}
 use Rattle.bhtable.specs.declared.request.Request.TheVariants.{Call as Calls}
 
 pub answers_append : (first second : List (List ℕ)) (old between new : Option (MapState ℕ ℕ)) (text more : List ℕ)
@@ -31,7 +32,7 @@ answers_append (line ∷ first) second old between new text more (short, answers
 
 -- one line more without words, or with a call
 pub asked_nothing_more : (lines : List (List ℕ)) (calls : List (Call ℕ ℕ)) (line : List ℕ) → AskForCalls lines calls
-    → length line ≤ 4096 → words_of line ≡ [] → AskForCalls (lines ++ line ∷ []) calls
+    → length line ≤ 4096 → parts_of line ≡ [] → AskForCalls (lines ++ line ∷ []) calls
 asked_nothing_more [] calls line asked short blank = (short, inl (blank, asked))
 asked_nothing_more (first ∷ lines) calls line (fits, asked) short blank = (
   fits,
@@ -42,7 +43,7 @@ asked_nothing_more (first ∷ lines) calls line (fits, asked) short blank = (
 )
 
 pub asked_one_more : (lines : List (List ℕ)) (calls : List (Call ℕ ℕ)) (line : List ℕ) (call : Call ℕ ℕ) → AskForCalls lines calls
-    → length line ≤ 4096 → Asks (words_of line) (Calls call) → AskForCalls (lines ++ line ∷ []) (calls ++ call ∷ [])
+    → length line ≤ 4096 → Asks (parts_of line) (Calls call) → AskForCalls (lines ++ line ∷ []) (calls ++ call ∷ [])
 asked_one_more [] calls line call asked short asks =
     (short, inr (call, [], asks, ap (λ (cs : List (Call ℕ ℕ)). cs ++ call ∷ []) asked, refl))
 asked_one_more (first ∷ lines) calls line call (fits, asked) short asks = (
@@ -59,19 +60,9 @@ asked_one_more (first ∷ lines) calls line call (fits, asked) short asks = (
   ],
 )
 
-answered_call : (line : List ℕ) (call : Call ℕ ℕ) (reply : Reply ℕ ℕ) (before after : MapState ℕ ℕ) → Asks (words_of line) (Calls call)
+answered_call : (line : List ℕ) (call : Call ℕ ℕ) (reply : Reply ℕ ℕ) (before after : MapState ℕ ℕ) → Asks (parts_of line) (Calls call)
     → Step nat_eq before call reply after → IsAnswer (Some before) line (line_of (text_of reply)) (Some after)
-answered_call line call reply before after asks step = inr (inr (inl (record {
-  call = call;
-  reply = reply;
-  before = before;
-  after = after;
-  asked = asks;
-  there = refl;
-  step = step;
-  answer = refl;
-  changed = refl;
-})))
+answered_call line call reply before after asks step = inr (Calls call, reply, asks, step, refl)
 
 -- without calls the lines have no words, and no answer
 pub answered_nothing : (lines : List (List ℕ)) (table : Option (MapState ℕ ℕ)) → AskForCalls lines []

@@ -3,8 +3,8 @@ use Rattle.std.proofs.Common.{◌≡◌, ℕ, ◌+◌, ◌↔◌, inl, inr, List
 use Rattle.std.specs.Result.{result_and}
 use Rattle.bucket_table.specs.MapState.{MapState}
 use Rattle.bhtable.specs.Answers.{IsUnreadable}
-use Rattle.bhtable.specs.Sessions.{HasEnded, HasReplied, HasStopped, HasTaken, HasTakenSome, map_at_hand}
-use Rattle.bhtable.specs.Status.{IsLack}
+use Rattle.bhtable.specs.Layout.Sessions.{HasEnded, HasReplied, HasStopped, HasTaken, HasTakenSome, map_at_hand}
+use Rattle.bhtable.specs.Layout.Stops.{IsLack}
 use Rattle.bhtable.specs.declared.session.Session.{Session}
 use Rattle.bhtable.specs.declared.stop.Stop.{Stop}
 use Rattle.bhtable.specs.declared.stop.Stop.TheVariants.{BadLine, NoMemory, InputFailed, OutputFailed}

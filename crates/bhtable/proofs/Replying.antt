@@ -7,7 +7,7 @@ use Rattle.bucket_table.specs.MapState.{MapState}
 use Rattle.bucket_table.specs.declared.script.reply.Reply.TheVariants.{Done}
 use Rattle.bhtable.specs.Answers.{AreAnswers, IsAnswer}
 use Rattle.bhtable.specs.Outputs.{HasAnswered}
-use Rattle.bhtable.specs.Sessions.{HasReplied}
+use Rattle.bhtable.specs.Layout.Sessions.{HasReplied}
 use Rattle.bhtable.specs.Texts.{line_of, text_of}
 use Rattle.bhtable.proofs.Answering.{answers_append}
 

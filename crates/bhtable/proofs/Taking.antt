@@ -6,11 +6,10 @@ use Rattle.bucket_table.specs.MapState.{MapState}
 use Rattle.bucket_table.specs.Runs.{Run}
 use Rattle.bucket_table.specs.declared.script.call.Call.{Call}
 use Rattle.bucket_table.specs.declared.script.reply.Reply.{Reply}
-use Rattle.bhtable.specs.Replies.{ArePushed}
+use Rattle.bhtable.specs.Layout.Replies.{ArePushed, lines_of_replies}
 use Rattle.bhtable.specs.Requests.{Asks}
-use Rattle.bhtable.specs.Sessions.{AskForCalls, HasReplied, HasStopped, HasTaken, HasTakenSome, map_at_hand}
-use Rattle.bhtable.specs.Texts.{lines_of_replies}
-use Rattle.bhtable.specs.Words.{words_of}
+use Rattle.bhtable.specs.Layout.Sessions.{AskForCalls, HasReplied, HasStopped, HasTaken, HasTakenSome, map_at_hand}
+use Rattle.bhtable.specs.Words.{parts_of}
 use Rattle.bhtable.specs.declared.request.Request.TheVariants.{Call as Calls}
 use Rattle.bhtable.specs.declared.session.Session.{Session}
 use Rattle.bhtable.specs.declared.stop.Stop.{Stop}
@@ -19,7 +18,7 @@ use Rattle.bhtable.proofs.Answering.{answered_all, answered_nothing, answered_so
 use Rattle.bhtable.proofs.Replying.{replied_more}
 
 pub taken_blank : (start output : Option (List ℕ)) (session : Session) (lines : List (List ℕ)) (line : List ℕ)
-    → HasTaken start output session lines → length line ≤ 4096 → words_of line ≡ []
+    → HasTaken start output session lines → length line ≤ 4096 → parts_of line ≡ []
     → HasTaken start output session (lines ++ line ∷ [])
 taken_blank start output session lines line taken short blank = record {
   answered = taken.answered;
@@ -32,7 +31,7 @@ taken_blank start output session lines line taken short blank = record {
 
 -- a call more, which needs a table
 pub taken_call : (start output : Option (List ℕ)) (session session2 : Session) (lines : List (List ℕ)) (line : List ℕ) (call : Call ℕ ℕ)
-    → HasTaken start output session lines → length line ≤ 4096 → Asks (words_of line) (Calls call)
+    → HasTaken start output session lines → length line ≤ 4096 → Asks (parts_of line) (Calls call)
     → session2.calls.items ≡ session.calls.items ++ call ∷ [] → session2.table ≡ session.table
     → session2.replies ≡ session.replies → IsSome session.table
     → HasTaken start output session2 (lines ++ line ∷ [])

@@ -1,14 +1,16 @@
 -- What a session holds after a line that changes no pair, and after its replies are written out.
-use Rattle.std.proofs.Common.{◌≡◌, ℕ, ◌≤◌, inr, List, [], ◌∷◌, ◌++◌, Option, None, Some, IsSome, Result, Ok, Err, OnOk, IfErr, MatchResult, length, sym, subst, ◌∙◌, append-nil}
+use Rattle.std.proofs.Common.{◌≡◌, ℕ, ◌≤◌, inr, List, [], ◌∷◌, ◌++◌, Option, None, Some, IsSome, Result, Ok, Err, OnOk, IfErr, MatchResult, length, refl, sym, subst, ◌∙◌, append-nil}
 use Rattle.std.specs.Io.KnownBytes.{Appends, append_known}
 use Rattle.bucket_table.specs.MapState.{MapState}
+use Rattle.bucket_table.specs.declared.script.generation.FixedGeneration.{FixedGeneration}
 use Rattle.bucket_table.specs.declared.script.reply.Reply.TheVariants.{Done}
-use Rattle.bhtable.specs.Answers.{IsAnswer}
+use Rattle.bhtable.specs.Answers.{Answers, IsAnswer}
 use Rattle.bhtable.specs.Outputs.{HasAnswered}
-use Rattle.bhtable.specs.Replies.{IsPushed}
-use Rattle.bhtable.specs.Sessions.{HasReplied, HasStopped, HasTaken, IsBadAt, map_at_hand}
-use Rattle.bhtable.specs.Status.{IsLack}
+use Rattle.bhtable.specs.Layout.Replies.{IsPushed}
+use Rattle.bhtable.specs.Layout.Sessions.{HasReplied, HasStopped, HasTaken, IsBadAt, map_at_hand}
+use Rattle.bhtable.specs.Layout.Stops.{IsLack}
 use Rattle.bhtable.specs.Texts.{line_of, text_of}
+use Rattle.bhtable.specs.declared.request.Request.TheVariants.{Epoch}
 use Rattle.bhtable.specs.declared.session.Session.{Session}
 use Rattle.bhtable.specs.declared.session.Table.{Table}
 use Rattle.bhtable.specs.declared.stop.Stop.{Stop}
@@ -55,10 +57,11 @@ taken_done start output output2 session session2 lines line after (Err InputFail
 taken_done start output output2 session session2 lines line after (Err OutputFailed) replied none short answer unknown table calls =
     calls ∙ none
 
--- where there is a table there is a map
-pub map_there : (table : Option Table) → IsSome table → map_at_hand table ≡ None → ⊥
-map_there None there none = absurd (cc)
-map_there (Some table) there none = absurd (cc)
+-- where there is a table, an epoch leaves it as it is
+pub epoch_answered : (table : Option Table) (generation : FixedGeneration) → IsSome table
+    → Answers (map_at_hand table) (Epoch generation) Done (map_at_hand table)
+epoch_answered None generation there = absurd (cc)
+epoch_answered (Some table) generation there = refl
 
 -- the text that waited is in the output
 pub wrote : (start output output2 : Option (List ℕ)) (session session2 : Session) (lines : List (List ℕ)) (result : Result (Unit {0}) Stop)

@@ -2,7 +2,7 @@
 use Rattle.std.proofs.Common.{◌≡◌, ℕ, ◌↔◌, inl, inr, List, Option, None, Some, IsSome, refl}
 use Rattle.bucket_table.specs.MapState.{MapState}
 use Rattle.bhtable.specs.Answers.{IsUnreadable}
-use Rattle.bhtable.specs.Sessions.{map_at_hand, map_of}
+use Rattle.bhtable.specs.Layout.Sessions.{map_at_hand, map_of}
 use Rattle.bhtable.specs.declared.session.Table.{Table}
 
 none_is_not_some : (table : Option Table) → table ≡ None → IsSome table → ⊥

@@ -3,13 +3,11 @@ use Rattle.std.specs.Prelude.{ℕ, ◌≡◌, ◌⊎◌, ◌<◌, ◌≤◌, Lis
 use Rattle.bucket_slots.specs.declared.bucket.TheConstants.{CACHE, INDEX, MAP}
 use Rattle.bucket_table.specs.Calls.{Step}
 use Rattle.bucket_table.specs.MapState.{MapState}
-use Rattle.bucket_table.specs.declared.script.call.Call.{Call}
-use Rattle.bucket_table.specs.declared.script.generation.FixedGeneration.{FixedGeneration}
 use Rattle.bucket_table.specs.declared.script.reply.Reply.{Reply}
 use Rattle.bucket_table.specs.declared.script.reply.Reply.TheVariants.{Done}
 use Rattle.bhtable.specs.Requests.{Asks}
 use Rattle.bhtable.specs.Texts.{line_of, text_of}
-use Rattle.bhtable.specs.Words.{words_of}
+use Rattle.bhtable.specs.Words.{parts_of}
 use Rattle.bhtable.specs.declared.request.Kind.{Kind}
 use Rattle.bhtable.specs.declared.request.Kind.TheVariants.{Map, Index, Cache}
 use Rattle.bhtable.specs.declared.request.NewTable.{NewTable}
@@ -31,38 +29,18 @@ fresh_map table = record {
   pairs = [];
 }
 
--- the words ask for a fresh table, and are answered that it is there
-pub record StartsTable (words : List (List ℕ)) (text : List ℕ) (new : Option (MapState ℕ ℕ)) : Type 0 where
-  pub table : NewTable
-  pub asked : Asks words (New table)
-  pub answer : text ≡ line_of (text_of Done)
-  pub fresh : new ≡ Some (fresh_map table)
-
--- the words ask for a call on the table at hand, and are answered its reply
-pub record DoesCall (old : Option (MapState ℕ ℕ)) (words : List (List ℕ)) (text : List ℕ) (new : Option (MapState ℕ ℕ)) : Type 0 where
-  pub call : Call ℕ ℕ
-  pub reply : Reply ℕ ℕ
-  pub before : MapState ℕ ℕ
-  pub after : MapState ℕ ℕ
-  pub asked : Asks words (Calls call)
-  pub there : old ≡ Some before
-  pub step : Step nat_eq before call reply after
-  pub answer : text ≡ line_of (text_of reply)
-  pub changed : new ≡ Some after
-
--- the words ask for another epoch beside a table, whose map stays, and are answered that it is set
-pub record SetsEpoch (old : Option (MapState ℕ ℕ)) (words : List (List ℕ)) (text : List ℕ) (new : Option (MapState ℕ ℕ)) : Type 0 where
-  pub generation : FixedGeneration
-  pub asked : Asks words (Epoch generation)
-  pub there : old ≡ None → ⊥
-  pub answer : text ≡ line_of (text_of Done)
-  pub kept : new ≡ old
+-- from the table `old` the request may have this reply, and `new` is the table after it, which an epoch leaves as it is
+abbrev pub Answers : Option (MapState ℕ ℕ) → Request → Reply ℕ ℕ → Option (MapState ℕ ℕ) → Type 0
+Answers old (New table) Done new = new ≡ Some (fresh_map table)
+Answers (Some before) (Calls call) reply (Some after) = Step nat_eq before call reply after
+Answers (Some map) (Epoch generation) Done new = new ≡ Some map
+Answers old request reply new = ⊥
 
 -- from the table `old` the line may be answered by this text, and `new` is the table after it; a line without words is passed over
 abbrev pub IsAnswer : Option (MapState ℕ ℕ) → List ℕ → List ℕ → Option (MapState ℕ ℕ) → Type 0
 IsAnswer old line text new =
-    ((words_of line ≡ []) × (text ≡ []) × (new ≡ old)) ⊎ StartsTable (words_of line) text new
-    ⊎ DoesCall old (words_of line) text new ⊎ SetsEpoch old (words_of line) text new
+    ((parts_of line ≡ []) × (text ≡ []) × (new ≡ old)) ⊎ ((request : Request) × (reply : Reply ℕ ℕ)
+    × Asks (parts_of line) request × Answers old request reply new × (text ≡ line_of (text_of reply)))
 
 -- the lines, none too long, may be answered by this text, one after another
 abbrev pub AreAnswers : Option (MapState ℕ ℕ) → List (List ℕ) → List ℕ → Option (MapState ℕ ℕ) → Type 0
@@ -81,4 +59,4 @@ NeedsTable (Epoch generation) = Unit {0}
 abbrev pub IsUnreadable : Option (MapState ℕ ℕ) → List ℕ → Type 0
 IsUnreadable table line =
     (4096 < length line)
-    ⊎ ((words_of line ≡ [] → ⊥) × ((request : Request) → Asks (words_of line) request → NeedsTable request × (table ≡ None)))
+    ⊎ ((parts_of line ≡ [] → ⊥) × ((request : Request) → Asks (parts_of line) request → NeedsTable request × (table ≡ None)))

@@ -5,8 +5,6 @@ use Rattle.bucket_table.specs.MapState.{MapState}
 use Rattle.bhtable.specs.Answers.{AreAnswers, IsUnreadable}
 use Rattle.bhtable.specs.InputLines.{lines_of}
 use Rattle.bhtable.specs.Texts.{bad_line, line_of}
-use Rattle.bhtable.specs.declared.stop.Stop.{Stop}
-use Rattle.bhtable.specs.declared.stop.Stop.TheVariants.{BadLine, NoMemory, InputFailed, OutputFailed}
 
 -- the output grew by the answers of all these lines, and then by `last`
 pub record HasAnswered (lines : List (List ℕ)) (old new : Option (List ℕ)) (last : List ℕ) : Type 0 where
@@ -23,28 +21,13 @@ pub record HasAnsweredSome (lines : List (List ℕ)) (old new : Option (List ℕ
   pub answered : HasAnswered first old new last
 
 -- the output grew by the answers of the lines before one that can't be read, and then by its number
-pub record HasBadLine (lines : List (List ℕ)) (old new : Option (List ℕ)) (number : ℕ) : Type 0 where
+pub record HasBadLine (lines : List (List ℕ)) (old new : Option (List ℕ)) : Type 0 where
   pub first : List (List ℕ)
   pub line : List ℕ
   pub others : List (List ℕ)
   pub in_order : lines ≡ first ++ line ∷ others
-  pub numbered : number ≡ length first + 1
-  pub answered : HasAnswered first old new (bad_line number)
+  pub answered : HasAnswered first old new (bad_line (length first + 1))
   pub unreadable : IsUnreadable answered.table line
-
--- the output up to a stop, before a last line that tells of it; a writer that fails leaves nothing known
-abbrev pub IsOutputUpTo : Stop → List (List ℕ) → Option (List ℕ) → Option (List ℕ) → Type 0
-IsOutputUpTo (BadLine number) lines old new = HasBadLine lines old new number
-IsOutputUpTo NoMemory lines old new = HasAnsweredSome lines old new []
-IsOutputUpTo InputFailed lines old new = HasAnsweredSome lines old new []
-IsOutputUpTo OutputFailed lines old new = Unit {0}
-
--- the last line that a stop adds to what is in the output already
-abbrev pub last_line_of : Stop → List ℕ
-last_line_of (BadLine number) = []
-last_line_of NoMemory = line_of (codes "no memory")
-last_line_of InputFailed = line_of (codes "input failed")
-last_line_of OutputFailed = []
 
 -- the bytes are those that a reader has left, where they are known
 abbrev pub IsInput : Option (List ℕ) → List ℕ → Type 0
@@ -54,7 +37,7 @@ IsInput known bytes = IfSome known (λ all. all ≡ bytes)
 abbrev pub IsOutputOf : List (List ℕ) → Option (List ℕ) → Option (List ℕ) → ℕ → Type 0
 IsOutputOf lines old new status =
     ((status ≡ 0) × HasAnswered lines old new [])
-    ⊎ ((status ≡ 2) × ((number : ℕ) × HasBadLine lines old new number))
+    ⊎ ((status ≡ 2) × HasBadLine lines old new)
     ⊎ ((status ≡ 3) × HasAnsweredSome lines old new (line_of (codes "no memory")))
     ⊎ (status ≡ 4)
 

@@ -26,8 +26,3 @@ line_of text = text ++ 10 ∷ []
 -- the line that tells of a line that can't be read
 abbrev pub bad_line : ℕ → List ℕ
 bad_line number = line_of (codes "bad line " ++ decimal number)
-
--- the lines of replies
-abbrev pub lines_of_replies : List (Reply ℕ ℕ) → List ℕ
-lines_of_replies [] = []
-lines_of_replies (reply ∷ replies) = line_of (text_of reply) ++ lines_of_replies replies

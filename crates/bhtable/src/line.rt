@@ -44,8 +44,8 @@ pub(crate) enum Found {
 impl<R: Read + Drop> Lines<R> {
     ghost use Rattle.std.specs.Prelude.{ℕ, ◌⊎◌, ◌<◌, true, false, List, [], ◌++◌, take, drop, IfErr, IfOk, OnErr};
     ghost use Rattle.std.specs.Io.KnownBytes.{Consumes, IsAtEnd, Keeps};
-    ghost use Rattle.bhtable.specs.Lines.{IsFoundIn, IsWithin};
-    ghost use Rattle.bhtable.specs.Window.{unread};
+    ghost use Rattle.bhtable.specs.Layout.Found.{IsFoundIn, IsWithin};
+    ghost use Rattle.bhtable.specs.Layout.Window.{unread};
 
     /// The lines of a reader of which nothing is read yet.
     pub(crate) fn new(alloc: Global, input: R) -> Result<Self, AllocError>
@@ -121,7 +121,7 @@ fn newline_in(bytes: &[u8]) -> Option<usize>
 
 impl Found {
     ghost use Rattle.std.specs.Prelude.{take};
-    ghost use Rattle.bhtable.specs.Lines.{IsFound, IsWithin};
+    ghost use Rattle.bhtable.specs.Layout.Found.{IsFound, IsWithin};
 
     // A line of `len` bytes but for the one carriage return that may end them.
     fn of(bytes: &[u8], len: usize, whole_len: usize) -> Found

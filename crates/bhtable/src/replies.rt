@@ -1,7 +1,7 @@
 //! Replies on their way to a writer.
 ghost use Rattle.std.specs.Prelude.{◌≡◌, ◌-◌, ◌≤◌, [], IfErr, IfOk, OnOk, length};
 ghost use Rattle.std.specs.Io.KnownBytes.{Appends, Keeps, append_known};
-ghost use Rattle.bhtable.specs.Replies.{ArePushed, IsPushed, IsTold};
+ghost use Rattle.bhtable.specs.Layout.Replies.{ArePushed, IsPushed, IsTold};
 ghost use Rattle.bhtable.specs.Texts.{bad_line, line_of, text_of};
 
 use crate::stop::Stop;

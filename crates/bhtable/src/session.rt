@@ -7,11 +7,11 @@ ghost use Rattle.std.specs.Prelude.{◌≡◌, ◌⊎◌, ◌≤◌, ◌↔◌, 
 ghost use Rattle.bucket_table.specs.Runs.{Run};
 ghost use Rattle.bhtable.specs.Answers.{fresh_map};
 ghost use Rattle.bhtable.specs.Limits.{AreLimits};
-ghost use Rattle.bhtable.specs.Outputs.{HasAnswered, IsOutputUpTo};
+ghost use Rattle.bhtable.specs.Layout.Stops.{IsLack, IsOutputUpTo};
+ghost use Rattle.bhtable.specs.Outputs.{HasAnswered};
 ghost use Rattle.bhtable.specs.Requests.{Asks};
-ghost use Rattle.bhtable.specs.Sessions.{HasEnded, HasReplied, HasStopped, HasTaken, IsBadAt, hasher_of, map_at_hand, map_of};
-ghost use Rattle.bhtable.specs.Status.{IsLack};
-ghost use Rattle.bhtable.specs.Words.{words_of};
+ghost use Rattle.bhtable.specs.Layout.Sessions.{HasEnded, HasReplied, HasStopped, HasTaken, IsBadAt, hasher_of, map_at_hand, map_of};
+ghost use Rattle.bhtable.specs.Words.{parts_of};
 
 use crate::replies::Replies;
 use crate::request::{Kind, NewTable, Request, request_in};
@@ -82,7 +82,7 @@ impl Session {
             (λ stop. HasStopped stop start (W.contents output.new) self.new lines
             × IsBadAt stop (map_at_hand self.new.table) line.now) }
         ensures stop { IfErr result (λ stop. (stop ≡ Stop.BadLine number) ⊎ IsLack stop) }
-        ensures passed_over { words_of line.now ≡ [] → (result ≡ Ok tt) × (self.new ≡ self.old) }
+        ensures passed_over { parts_of line.now ≡ [] → (result ≡ Ok tt) × (self.new ≡ self.old) }
     {
         match request_in(line) {
             Ok(None) => Ok(()),
@@ -134,7 +134,7 @@ impl Session {
         requires { AreLimits new.limits.minimum new.limits.maximum }
         ensures taken { (start : Option (List ℕ)) (lines : List (List ℕ)) (line : List ℕ)
             → HasTaken start (W.contents output.old) self.old lines
-            → length line ≤ 4096 → Asks (words_of line) (Request.New new)
+            → length line ≤ 4096 → Asks (parts_of line) (Request.New new)
             → MatchResult result
             (λ _. HasTaken start (W.contents output.new) self.new (lines ++ line ∷ []))
             (λ stop. HasStopped stop start (W.contents output.new) self.new lines) }
@@ -157,7 +157,7 @@ impl Session {
         requires { IsSome self.old.table }
         ensures taken { (start : Option (List ℕ)) (lines : List (List ℕ)) (line : List ℕ)
             → HasTaken start (W.contents output.old) self.old lines
-            → length line ≤ 4096 → Asks (words_of line) (Request.Epoch generation)
+            → length line ≤ 4096 → Asks (parts_of line) (Request.Epoch generation)
             → MatchResult result
             (λ _. HasTaken start (W.contents output.new) self.new (lines ++ line ∷ []))
             (λ stop. HasStopped stop start (W.contents output.new) self.new lines) }
@@ -173,7 +173,7 @@ impl Session {
         requires { IsSome self.old.table }
         ensures taken { (start : Option (List ℕ)) (lines : List (List ℕ)) (line : List ℕ)
             → HasTaken start (W.contents output.old) self.old lines
-            → length line ≤ 4096 → Asks (words_of line) (Request.Call call)
+            → length line ≤ 4096 → Asks (parts_of line) (Request.Call call)
             → MatchResult result
             (λ _. HasTaken start (W.contents output.new) self.new (lines ++ line ∷ []))
             (λ stop. HasStopped stop start (W.contents output.new) self.new lines) }

@@ -1,6 +1,6 @@
 use Rattle.std.proofs.Common.{[], refl, arith}
 use Rattle.std.proofs.lemmas.Result.{err_from_is_err_and}
-use Rattle.bhtable.specs.Window.{unread}
+use Rattle.bhtable.specs.Layout.Window.{unread}
 use Rattle.bhtable.proofs.Finding.{found_cut}
 use Rattle.bhtable.proofs.Reading.{nothing_read}
 use Rattle.bhtable.proofs.Serving.{ends_at_end, ends_at_line, ends_at_long_line, ends_between, ends_unread, line_taken, read_on}

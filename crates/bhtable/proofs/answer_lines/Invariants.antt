@@ -1,5 +1,5 @@
 use Rattle.std.proofs.Common.{◌≤◌}
-use Rattle.bhtable.specs.Window.{unread}
+use Rattle.bhtable.specs.Layout.Window.{unread}
 use Rattle.bhtable.proofs.Serving.{HasCome}
 use Rattle.bhtable.proofs.answer_lines.Given as goal
 

@@ -1,5 +1,5 @@
 use Rattle.std.proofs.Common.{◌≡◌, map, length}
-use Rattle.bhtable.specs.Meanings.{meaning}
+use Rattle.bhtable.specs.Layout.Meanings.{meaning}
 use Rattle.bhtable.proofs.meanings.meaning_of.Given as goal
 
 abbrev pub invariant-loop-table : goal.invariant-loop-table

@@ -1,6 +1,6 @@
 use Rattle.std.proofs.Common.{take}
 use Rattle.std.specs.Io.KnownBytes.{Appends, append_known}
-use Rattle.bhtable.specs.Texts.{lines_of_replies}
+use Rattle.bhtable.specs.Layout.Replies.{lines_of_replies}
 use Rattle.bhtable.proofs.replies.Replies.push_all.Given as goal
 
 abbrev pub invariant-loop-reply : goal.invariant-loop-reply

@@ -1,5 +1,5 @@
 use Rattle.std.proofs.Common.{◌≡◌, [], Some, refl}
-use Rattle.bhtable.specs.Sessions.{map_of}
+use Rattle.bhtable.specs.Layout.Sessions.{map_of}
 use Rattle.bhtable.specs.declared.session.Session.{Session}
 use Rattle.bhtable.proofs.Taking.{no_items, pushed, replied_all}
 use Rattle.bhtable.proofs.session.Session.answer.Goals as goal

@@ -8,7 +8,7 @@ use Rattle.bucket_table.specs.declared.script.call.Call.{Call}
 use Rattle.bucket_table.specs.declared.script.hashes.ScriptHash.{ScriptHash}
 use Rattle.bhtable.specs.Answers.{AreAnswers, IsUnreadable}
 use Rattle.bhtable.specs.Requests.{Asks}
-use Rattle.bhtable.specs.Words.{words_of}
+use Rattle.bhtable.specs.Words.{parts_of}
 use Rattle.bhtable.specs.declared.request.Request.TheVariants.{Call as Calls}
 use Rattle.bhtable.specs.declared.session.Session.{Session}
 use Rattle.bhtable.specs.declared.session.Table.{Table}
@@ -37,8 +37,8 @@ map_at_hand (Some table) = Some (map_of table)
 abbrev pub AskForCalls : List (List ℕ) → List (Call ℕ ℕ) → Type 0
 AskForCalls [] calls = calls ≡ []
 AskForCalls (line ∷ lines) calls =
-    (length line ≤ 4096) × (((words_of line ≡ []) × AskForCalls lines calls)
-    ⊎ ((call : Call ℕ ℕ) × (others : List (Call ℕ ℕ)) × Asks (words_of line) (Calls call) × (calls ≡ call ∷ others)
+    (length line ≤ 4096) × (((parts_of line ≡ []) × AskForCalls lines calls)
+    ⊎ ((call : Call ℕ ℕ) × (others : List (Call ℕ ℕ)) × Asks (parts_of line) (Calls call) × (calls ≡ call ∷ others)
     × AskForCalls lines others))
 
 -- from the output `start` on, these lines are answered, in the output and in the text that waits for it
