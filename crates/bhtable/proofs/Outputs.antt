@@ -4,8 +4,8 @@ use Rattle.std.proofs.KnownBytes.{Appends-nil, Appends-trans}
 use Rattle.std.specs.Io.KnownBytes.{Appends, append_known}
 use Rattle.std.specs.Result.{result_and}
 use Rattle.bhtable.specs.InputLines.{lines_of}
-use Rattle.bhtable.specs.Layout.Stops.{IsOutputUpTo, last_line_of, status_of}
-use Rattle.bhtable.specs.Outputs.{HasAnswered, HasAnsweredSome, IsInput, IsOutputOf, IsServed}
+use Rattle.bhtable.specs.Layout.Stops.{IsInput, IsOutputUpTo, last_line_of, status_of}
+use Rattle.bhtable.specs.Outputs.{HasAnswered, HasAnsweredSome, IsOutputOf, IsServed}
 use Rattle.bhtable.specs.Layout.Replies.{IsPushed, IsTold}
 use Rattle.bhtable.specs.Texts.{bad_line}
 use Rattle.bhtable.specs.declared.stop.Stop.{Stop}

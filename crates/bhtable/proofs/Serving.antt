@@ -3,9 +3,8 @@ use Rattle.std.proofs.Common.{◌≡◌, ℕ, ◌+◌, ◌<◌, ◌⊎◌, inl, 
 use Rattle.std.specs.Io.KnownBytes.{Consumes, IsAtEnd}
 use Rattle.bhtable.specs.InputLines.{lines_of}
 use Rattle.bhtable.specs.Layout.Found.{IsFoundIn}
-use Rattle.bhtable.specs.Outputs.{IsInput}
 use Rattle.bhtable.specs.Layout.Sessions.{HasEnded, HasFoundBad, HasStopped, HasTaken, HasTakenSome, IsBadAt, map_at_hand}
-use Rattle.bhtable.specs.Layout.Stops.{IsLack}
+use Rattle.bhtable.specs.Layout.Stops.{IsInput, IsLack}
 use Rattle.bhtable.specs.declared.line.Found.TheVariants.{Line as FoundLine, TooLong, End}
 use Rattle.bhtable.specs.declared.line.Line.{Line}
 use Rattle.bhtable.specs.declared.session.Session.{Session}

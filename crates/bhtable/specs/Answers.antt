@@ -22,16 +22,12 @@ kind_letter Cache = CACHE
 
 -- a fresh table has no pairs
 abbrev pub fresh_map : NewTable → MapState ℕ ℕ
-fresh_map table = record {
-  kind = kind_letter table.kind;
-  minimum = table.limits.minimum;
-  maximum = table.limits.maximum;
-  pairs = [];
-}
+fresh_map new =
+    record { kind = kind_letter new.kind; minimum = new.limits.minimum; maximum = new.limits.maximum; pairs = [] }
 
 -- from the table `old` the request may have this reply, and `new` is the table after it, which an epoch leaves as it is
 abbrev pub Answers : Option (MapState ℕ ℕ) → Request → Reply ℕ ℕ → Option (MapState ℕ ℕ) → Type 0
-Answers old (New table) Done new = new ≡ Some (fresh_map table)
+Answers old (New fresh) Done new = new ≡ Some (fresh_map fresh)
 Answers (Some before) (Calls call) reply (Some after) = Step nat_eq before call reply after
 Answers (Some map) (Epoch generation) Done new = new ≡ Some map
 Answers old request reply new = ⊥
@@ -51,7 +47,7 @@ AreAnswers old (line ∷ lines) text new =
 
 -- a call or an epoch, which needs a table
 abbrev pub NeedsTable : Request → Type 0
-NeedsTable (New table) = ⊥
+NeedsTable (New new) = ⊥
 NeedsTable (Calls call) = Unit {0}
 NeedsTable (Epoch generation) = Unit {0}
 

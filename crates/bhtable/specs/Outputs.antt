@@ -29,18 +29,13 @@ pub record HasBadLine (lines : List (List ℕ)) (old new : Option (List ℕ)) : 
   pub answered : HasAnswered first old new (bad_line (length first + 1))
   pub unreadable : IsUnreadable answered.table line
 
--- the bytes are those that a reader has left, where they are known
-abbrev pub IsInput : Option (List ℕ) → List ℕ → Type 0
-IsInput known bytes = IfSome known (λ all. all ≡ bytes)
-
 -- every line was answered at 0, every line before the one that is named at 2, and the first lines at 3
 abbrev pub IsOutputOf : List (List ℕ) → Option (List ℕ) → Option (List ℕ) → ℕ → Type 0
 IsOutputOf lines old new status =
     ((status ≡ 0) × HasAnswered lines old new [])
     ⊎ ((status ≡ 2) × HasBadLine lines old new)
-    ⊎ ((status ≡ 3) × HasAnsweredSome lines old new (line_of (codes "no memory")))
-    ⊎ (status ≡ 4)
+    ⊎ ((status ≡ 3) × HasAnsweredSome lines old new (line_of (codes "no memory"))) ⊎ (status ≡ 4)
 
--- an input, known or not, was answered so, with this status
+-- an input, whose bytes may be known, was answered so, with this status
 abbrev pub IsServed : Option (List ℕ) → Option (List ℕ) → Option (List ℕ) → ℕ → Type 0
-IsServed input old new status = (bytes : List ℕ) × IsInput input bytes × IsOutputOf (lines_of bytes) old new status
+IsServed input old new status = (bytes : List ℕ) × IfSome input (λ all. all ≡ bytes) × IsOutputOf (lines_of bytes) old new status

@@ -38,22 +38,19 @@ call_line (Evict key) = (codes "evict", key ∷ [])
 call_line Count = (codes "count", [])
 call_line Has = (codes "has", [])
 
--- a request's verb, and what stands behind it: of a table its kind, its hash and two limits, of an epoch a number and a mark's word
+-- a request's verb, and what stands behind it: for a table its kind, its hash and two limits, for an epoch its number and a mark's word
 abbrev pub request_line : Request → List ℕ × List Part
-request_line (New table) = (
-  codes "new",
-  text (kind_word table.kind) ∷ text (hash_word table.hash)
-      ∷ number table.limits.minimum ∷ number table.limits.maximum ∷ [],
-)
+request_line (New new) =
+    (codes "new", text (kind_word new.kind) ∷ text (hash_word new.hash) ∷ number new.limits.minimum ∷ number new.limits.maximum ∷ [])
 request_line (Calls call) = ((call_line call).0, map number (call_line call).1)
 request_line (Epoch generation) = (codes "epoch", number generation.epoch ∷ text (mark_word generation.keep) ∷ [])
 
--- its numbers are such as a table takes: limits, and an epoch of a byte
+-- its numbers are such as a table takes
 abbrev pub IsInRange : Request → Type 0
-IsInRange (New table) = AreLimits table.limits.minimum table.limits.maximum
+IsInRange (New new) = AreLimits new.limits.minimum new.limits.maximum
 IsInRange (Calls call) = Unit {0}
 IsInRange (Epoch generation) = generation.epoch < 256
 
--- the parts of a line ask for this
+-- the parts of a line are those of this request
 abbrev pub Asks : List Part → Request → Type 0
 Asks parts request = (parts ≡ text (request_line request).0 ∷ (request_line request).1) × IsInRange request

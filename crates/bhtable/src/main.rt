@@ -3,8 +3,8 @@
 
 ghost use Rattle.std.specs.Prelude.{◌≡◌, ℕ, false, List, [], MatchResult};
 ghost use Rattle.bhtable.specs.InputLines.{lines_of};
-ghost use Rattle.bhtable.specs.Layout.Stops.{IsOutputUpTo};
-ghost use Rattle.bhtable.specs.Outputs.{HasAnswered, IsInput, IsServed};
+ghost use Rattle.bhtable.specs.Layout.Stops.{IsInput, IsOutputUpTo};
+ghost use Rattle.bhtable.specs.Outputs.{HasAnswered, IsServed};
 ghost use Rattle.bhtable.specs.Layout.Sessions.{HasEnded, HasTaken};
 ghost use Rattle.bhtable.specs.Layout.Window.{unread};
 

@@ -1,9 +1,13 @@
--- Why a script ends before its input does, and what is in the output then.
-use Rattle.std.specs.Prelude.{ℕ, List, [], Option, codes}
+-- What is in the output when a script ends, also before its input does.
+use Rattle.std.specs.Prelude.{ℕ, ◌≡◌, List, [], Option, IfSome, codes}
 use Rattle.bhtable.specs.Outputs.{HasAnsweredSome, HasBadLine}
 use Rattle.bhtable.specs.Texts.{line_of}
 use Rattle.bhtable.specs.declared.stop.Stop.{Stop}
 use Rattle.bhtable.specs.declared.stop.Stop.TheVariants.{BadLine, NoMemory, InputFailed, OutputFailed}
+
+-- the bytes are those that a reader has left, where they are known
+abbrev pub IsInput : Option (List ℕ) → List ℕ → Type 0
+IsInput known bytes = IfSome known (λ all. all ≡ bytes)
 
 -- the status after a stop
 abbrev pub status_of : Stop → ℕ
