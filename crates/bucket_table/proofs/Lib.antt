@@ -1,3 +1,5 @@
+pub mod Exchanging
+pub mod BucketChanges
 pub mod OneMapSteps
 pub mod LookUps
 pub mod RunSteps

@@ -25,7 +25,6 @@ pub use capacity::{
     from_index_to_range, num_entries_from_hint, ranges_part_the_indices,
     table_capacity_from_num_entries,
 };
-pub use sampling::sample;
 use std::alloc::Global;
 use std::marker::Model;
 use std::mem;
@@ -123,7 +122,6 @@ impl<K: Eq, V, H: KeyHash<K>, L: LruList, const TYPE: u8> HashTable<K, V, H, L, 
             × (live_pair (slot_in self.now.bucket at) ≡ Some pair)
             × IsThere K.eq key.now (pairs_of self.now) pair) }
         ensures live_slot { IfSome result (λ at. IsTrue (is_live (slot_in self.now.bucket at))) }
-        ensures occupied { IfSome result (λ at. is_free (slot_in self.now.bucket at) ≡ false) }
         ensures absent { IfNone result (IsAbsent K.eq key.now (pairs_of self.now)) }
     {
         let at = self.bucket.get_entry_ptr(key, hash);
@@ -141,12 +139,10 @@ impl<K: Eq, V, H: KeyHash<K>, L: LruList, const TYPE: u8> HashTable<K, V, H, L, 
         K: Copy,
         V: Copy,
         requires live_slot { IsTrue (is_live (slot_in self.old.bucket at.old)) }
-        requires occupied { is_free (slot_in self.old.bucket at.old) ≡ false }
         ensures pair { live_pair (slot_in self.old.bucket at.old) ≡ Some result }
         ensures map { TakesPair (state_of TYPE self.old) result (state_of TYPE self.new) }
         ensures bucket { self.new.bucket
             ≡ slots_after_taking TYPE self.old.bucket at.old (G.epoch_of generation.now) }
-        ensures hasher { self.new.hasher ≡ self.old.hasher }
     {
         let frees = TYPE != INDEX;
         if frees {
@@ -160,10 +156,9 @@ impl<K: Eq, V, H: KeyHash<K>, L: LruList, const TYPE: u8> HashTable<K, V, H, L, 
     /// Writes the value at a live slot and returns the earlier one.
     pub(crate) fn write(&mut self, at: &EntryPtr<K, V, TYPE>, value: V) -> V
         requires live_slot { IsTrue (is_live (slot_in self.old.bucket at.now)) }
-        ensures map { (key : K)
+        ensures { (key : K)
             × (live_pair (slot_in self.old.bucket at.now) ≡ Some (key, result))
             × ChangesValue (state_of TYPE self.old) (key, result) value (state_of TYPE self.new) }
-        ensures hasher { self.new.hasher ≡ self.old.hasher }
     {
         mem::replace(self.bucket.entry_mut(at).1, value)
     }
@@ -174,7 +169,6 @@ impl<K: Eq, V, H: KeyHash<K>, L: LruList, const TYPE: u8> HashTable<K, V, H, L, 
         requires live_slot { IsTrue (is_live (slot_in self.old.bucket at.now)) }
         ensures map { KeepsPairs (state_of TYPE self.old) (state_of TYPE self.new) }
         ensures bucket { self.new.bucket ≡ slots_touched L.KEEPS self.old.bucket at.now }
-        ensures hasher { self.new.hasher ≡ self.old.hasher }
     {
         self.bucket.update_lru_tail(at);
     }
@@ -187,7 +181,6 @@ impl<K: Eq, V, H: KeyHash<K>, L: LruList, const TYPE: u8> HashTable<K, V, H, L, 
         ensures bucket { OnSome result (self.new.bucket ≡ slots_evicted self.old.bucket) }
         ensures none { IsNone result ↔ Contains self.old.bucket.own free }
         ensures unchanged { IfNone result (self.new ≡ self.old) }
-        ensures hasher { self.new.hasher ≡ self.old.hasher }
     {
         self.bucket.evict_lru_head()
     }
@@ -204,7 +197,6 @@ impl<K: Eq + Drop, V: Drop, H: KeyHash<K>, L: LruList, const TYPE: u8> HashTable
         requires own_hash { hash ≡ H.hash_of self.old.hasher pair.0 }
         requires key_absent { IsAbsent K.eq pair.0 (pairs_of self.old) }
         ensures map { OnOk result (AddsPair (state_of TYPE self.old) pair (state_of TYPE self.new)) }
-        ensures hasher { self.new.hasher ≡ self.old.hasher }
         ensures pair_returned { IfErr result (λ back. back ≡ pair) }
         ensures unchanged { OnErr result (self.new ≡ self.old) }
         ensures no_free_slot { OnErr result
