@@ -1,8 +1,7 @@
 -- How a script ends: what is answered, and what is left in the output.
 use Rattle.std.proofs.Common.{◌≡◌, ℕ, ◌+◌, ◌↔◌, inl, inr, List, [], ◌∷◌, ◌++◌, Option, IsSome, Result, Ok, Err, MatchResult, length, refl, sym, ap, ◌∙◌, append_assoc, append-nil}
 use Rattle.std.specs.Result.{result_and}
-use Rattle.bucket_table.specs.MapState.{MapState}
-use Rattle.bhtable.specs.Answers.{IsUnreadable}
+use Rattle.bhtable.specs.Answers.{IsUnreadable, ScriptMap}
 use Rattle.bhtable.specs.Layout.Sessions.{HasEnded, HasReplied, HasStopped, HasTaken, HasTakenSome, map_at_hand}
 use Rattle.bhtable.specs.Layout.Stops.{IsLack}
 use Rattle.bhtable.specs.declared.session.Session.{Session}
@@ -15,7 +14,7 @@ use Rattle.bhtable.proofs.Unreadable.{still_unreadable}
 pub record HasRepliedSome (start output : Option (List ℕ)) (waiting : List ℕ) (lines : List (List ℕ)) : Type 0 where
   pub first : List (List ℕ)
   pub others : List (List ℕ)
-  pub table : Option (MapState ℕ ℕ)
+  pub table : Option (ScriptMap)
   pub in_order : lines ≡ first ++ others
   pub replied : HasReplied start output waiting first table
 
@@ -24,7 +23,7 @@ pub record HasRepliedBad (start output : Option (List ℕ)) (waiting : List ℕ)
   pub first : List (List ℕ)
   pub line : List ℕ
   pub others : List (List ℕ)
-  pub table : Option (MapState ℕ ℕ)
+  pub table : Option (ScriptMap)
   pub in_order : lines ≡ first ++ line ∷ others
   pub numbered : number ≡ length first + 1
   pub replied : HasReplied start output waiting first table
@@ -33,7 +32,7 @@ pub record HasRepliedBad (start output : Option (List ℕ)) (waiting : List ℕ)
 -- what is answered of all lines of an input, once no call waits
 abbrev pub IsReplied : Result (Unit {0}) Stop → Option (List ℕ) → Option (List ℕ) → List ℕ → List (List ℕ) → Type 0
 IsReplied (Ok done) start output waiting lines =
-    (table : Option (MapState ℕ ℕ)) × HasReplied start output waiting lines table
+    (table : Option (ScriptMap)) × HasReplied start output waiting lines table
 IsReplied (Err (BadLine number)) start output waiting lines = HasRepliedBad start output waiting lines number
 IsReplied (Err NoMemory) start output waiting lines = HasRepliedSome start output waiting lines
 IsReplied (Err InputFailed) start output waiting lines = HasRepliedSome start output waiting lines

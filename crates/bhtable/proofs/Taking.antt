@@ -1,14 +1,13 @@
 -- What a session holds after a line, and after the calls that wait are answered.
-use Rattle.std.proofs.Common.{◌≡◌, ℕ, ◌≤◌, ◌==◌, inl, inr, true, List, [], ◌∷◌, ◌++◌, Option, Some, IsSome, Result, Ok, Err, MatchResult, length, nat_eq, arith, eqb-true, refl, sym, ap, ◌∙◌, append_assoc, append-nil}
+use Rattle.std.proofs.Common.{◌≡◌, ℕ, ◌≤◌, ◌==◌, inl, inr, true, List, [], ◌∷◌, ◌++◌, Option, Some, IsSome, Result, Ok, Err, MatchResult, length, arith, eqb-true, refl, sym, ap, ◌∙◌, append_assoc, append-nil}
 use Rattle.std.proofs.KnownBytes.{Appends-nil}
 use Rattle.std.specs.Io.KnownBytes.{Appends, append_known}
-use Rattle.bucket_table.specs.MapState.{MapState}
-use Rattle.bucket_table.specs.Runs.{Run}
 use Rattle.bucket_table.specs.declared.script.call.Call.{Call}
 use Rattle.bucket_table.specs.declared.script.reply.Reply.{Reply}
+use Rattle.bhtable.specs.Answers.{ScriptMap}
 use Rattle.bhtable.specs.Layout.Replies.{ArePushed, lines_of_replies}
 use Rattle.bhtable.specs.Requests.{Asks}
-use Rattle.bhtable.specs.Layout.Sessions.{AskForCalls, HasReplied, HasStopped, HasTaken, HasTakenSome, map_at_hand}
+use Rattle.bhtable.specs.Layout.Sessions.{AskForCalls, HasReplied, HasStopped, HasTaken, HasTakenSome, ScriptRun, map_at_hand}
 use Rattle.bhtable.specs.Words.{parts_of}
 use Rattle.bhtable.specs.declared.request.Request.TheVariants.{Call as Calls}
 use Rattle.bhtable.specs.declared.session.Session.{Session}
@@ -72,9 +71,9 @@ taken_all start output session lines replied none = record {
 }
 
 -- the first of the replies were appended
-some_pushed : (start output output2 : Option (List ℕ)) (session session2 : Session) (lines : List (List ℕ)) (before after : MapState ℕ ℕ)
+some_pushed : (start output output2 : Option (List ℕ)) (session session2 : Session) (lines : List (List ℕ)) (before after : ScriptMap)
     (replies others : List (Reply ℕ ℕ)) → HasTaken start output session lines → map_at_hand session.table ≡ Some before
-    → Run nat_eq before session.calls.items (replies ++ others) after
+    → ScriptRun before session.calls.items (replies ++ others) after
     → Appends (append_known output session.replies.text.items) (append_known output2 session2.replies.text.items) (lines_of_replies replies)
     → session2.calls.items ≡ [] → HasTakenSome start output2 session2 lines
 some_pushed start output output2 session session2 lines before after replies others taken there ran grown none =
@@ -95,9 +94,9 @@ some_pushed start output output2 session session2 lines before after replies oth
       );
     }
 
-all_pushed : (start output output2 : Option (List ℕ)) (session session2 : Session) (lines : List (List ℕ)) (before after : MapState ℕ ℕ)
+all_pushed : (start output output2 : Option (List ℕ)) (session session2 : Session) (lines : List (List ℕ)) (before after : ScriptMap)
     (replies : List (Reply ℕ ℕ)) → HasTaken start output session lines → map_at_hand session.table ≡ Some before
-    → Run nat_eq before session.calls.items replies after
+    → ScriptRun before session.calls.items replies after
     → Appends (append_known output session.replies.text.items) (append_known output2 session2.replies.text.items) (lines_of_replies replies)
     → HasReplied start output2 session2.replies.text.items lines (Some after)
 all_pushed start output output2 session session2 lines before after replies taken there ran grown =
@@ -106,10 +105,10 @@ all_pushed start output output2 session session2 lines before after replies take
     (answered_all taken.waiting session.calls.items replies before after taken.calls ran) grown)
 
 -- the calls that waited are done, and their replies were appended as far as that went
-pub pushed : (start output output2 : Option (List ℕ)) (session session2 : Session) (lines : List (List ℕ)) (before after : MapState ℕ ℕ)
+pub pushed : (start output output2 : Option (List ℕ)) (session session2 : Session) (lines : List (List ℕ)) (before after : ScriptMap)
     (replies : List (Reply ℕ ℕ)) (result : Result (Unit {0}) Stop) → HasTaken start output session lines
     → map_at_hand session.table ≡ Some before → map_at_hand session2.table ≡ Some after
-    → Run nat_eq before session.calls.items replies after
+    → ScriptRun before session.calls.items replies after
     → ArePushed result (append_known output session.replies.text.items) (append_known output2 session2.replies.text.items) replies
     → session2.calls.items ≡ []
     → MatchResult result

@@ -1,10 +1,9 @@
 -- What a session holds after a line that changes no pair, and after its replies are written out.
 use Rattle.std.proofs.Common.{◌≡◌, ℕ, ◌≤◌, inr, List, [], ◌∷◌, ◌++◌, Option, None, Some, IsSome, Result, Ok, Err, OnOk, IfErr, MatchResult, length, refl, sym, subst, ◌∙◌, append-nil}
 use Rattle.std.specs.Io.KnownBytes.{Appends, append_known}
-use Rattle.bucket_table.specs.MapState.{MapState}
 use Rattle.bucket_table.specs.declared.script.generation.FixedGeneration.{FixedGeneration}
 use Rattle.bucket_table.specs.declared.script.reply.Reply.TheVariants.{Done}
-use Rattle.bhtable.specs.Answers.{Answers, IsAnswer}
+use Rattle.bhtable.specs.Answers.{Answers, IsAnswer, ScriptMap}
 use Rattle.bhtable.specs.Outputs.{HasAnswered}
 use Rattle.bhtable.specs.Layout.Replies.{IsPushed}
 use Rattle.bhtable.specs.Layout.Sessions.{HasReplied, HasStopped, HasTaken, IsBadAt, map_at_hand}
@@ -19,7 +18,7 @@ use Rattle.bhtable.proofs.Replying.{answered_out, replied_done, replied_out, rep
 use Rattle.bhtable.proofs.Taking.{taken_all}
 
 -- a want of memory or a writer that fails isn't a line that can't be read
-pub at_line : (result : Result (Unit {0}) Stop) (P : Unit {0} → Type 0) (Q : Stop → Type 0) (table : Option (MapState ℕ ℕ)) (line : List ℕ)
+pub at_line : (result : Result (Unit {0}) Stop) (P : Unit {0} → Type 0) (Q : Stop → Type 0) (table : Option (ScriptMap)) (line : List ℕ)
     → MatchResult result P Q → MatchResult result (λ _. Unit {0}) IsLack
     → MatchResult result P (λ stop. Q stop × IsBadAt stop table line)
 at_line (Ok done) P Q table line left lack = left
@@ -30,7 +29,7 @@ at_line (Err OutputFailed) P Q table line left lack = (left, tt)
 
 -- a line that is told that it is done, once no call waits
 pub taken_done : (start output output2 : Option (List ℕ)) (session session2 : Session) (lines : List (List ℕ)) (line : List ℕ)
-    (after : Option (MapState ℕ ℕ)) (result : Result (Unit {0}) Stop)
+    (after : Option (ScriptMap)) (result : Result (Unit {0}) Stop)
     → HasReplied start output session.replies.text.items lines (map_at_hand session.table)
     → session.calls.items ≡ [] → length line ≤ 4096 → IsAnswer (map_at_hand session.table) line (line_of (text_of Done)) after
     → IsPushed result (append_known output session.replies.text.items) (append_known output2 session2.replies.text.items) (line_of (text_of Done))

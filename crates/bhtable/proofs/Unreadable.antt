@@ -1,7 +1,6 @@
 -- Lines that can't be read.
 use Rattle.std.proofs.Common.{◌≡◌, ℕ, ◌↔◌, inl, inr, List, Option, None, Some, IsSome, refl}
-use Rattle.bucket_table.specs.MapState.{MapState}
-use Rattle.bhtable.specs.Answers.{IsUnreadable}
+use Rattle.bhtable.specs.Answers.{IsUnreadable, ScriptMap}
 use Rattle.bhtable.specs.Layout.Sessions.{map_at_hand, map_of}
 use Rattle.bhtable.specs.declared.session.Table.{Table}
 
@@ -9,7 +8,7 @@ none_is_not_some : (table : Option Table) → table ≡ None → IsSome table �
 none_is_not_some None none there = absurd (cc)
 none_is_not_some (Some table) none there = absurd (cc)
 
-some_is_not_none : (map : MapState ℕ ℕ) → Some map ≡ None → ⊥
+some_is_not_none : (map : ScriptMap) → Some map ≡ None → ⊥
 some_is_not_none map same = absurd (cc)
 
 -- another table doesn't make it readable

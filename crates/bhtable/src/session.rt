@@ -3,14 +3,13 @@
 //! Calls are gathered and given to the table together, since it makes room for all their replies at
 //! once. They are answered before a `new` and an `epoch`, before the output is written, and where
 //! 1,024 wait.
-ghost use Rattle.std.specs.Prelude.{◌≡◌, ◌⊎◌, ◌≤◌, ◌↔◌, ℕ, List, [], ◌∷◌, ◌++◌, Option, IfErr, IfOk, IsSome, MatchResult, OnErr, OnOk, length, nat_eq, true};
-ghost use Rattle.bucket_table.specs.Runs.{Run};
+ghost use Rattle.std.specs.Prelude.{◌≡◌, ◌⊎◌, ◌≤◌, ◌↔◌, ℕ, List, [], ◌∷◌, ◌++◌, Option, IfErr, IfOk, IsSome, MatchResult, OnErr, OnOk, length, true};
 ghost use Rattle.bhtable.specs.Answers.{fresh_map};
 ghost use Rattle.bhtable.specs.Limits.{AreLimits};
 ghost use Rattle.bhtable.specs.Layout.Stops.{IsLack, IsOutputUpTo};
 ghost use Rattle.bhtable.specs.Outputs.{HasAnswered};
 ghost use Rattle.bhtable.specs.Requests.{Asks};
-ghost use Rattle.bhtable.specs.Layout.Sessions.{HasEnded, HasReplied, HasStopped, HasTaken, IsBadAt, hasher_of, map_at_hand, map_of};
+ghost use Rattle.bhtable.specs.Layout.Sessions.{HasEnded, HasReplied, HasStopped, HasTaken, IsBadAt, ScriptRun, map_at_hand, map_of};
 ghost use Rattle.bhtable.specs.Words.{parts_of};
 
 use crate::replies::Replies;
@@ -218,8 +217,7 @@ impl Session {
 impl Table {
     fn new(alloc: Global, new: NewTable) -> Self
         requires { AreLimits new.limits.minimum new.limits.maximum }
-        ensures map { map_of result ≡ fresh_map new }
-        ensures hasher { hasher_of result ≡ new.hash }
+        ensures { map_of result ≡ fresh_map new }
     {
         let (minimum, maximum) = (new.limits.minimum, new.limits.maximum);
         match new.kind {
@@ -236,7 +234,7 @@ impl Table {
         generation: &FixedGeneration,
     ) -> Result<Vec<Reply<u64, u64>>, AllocError>
         ensures run { IfOk result (λ replies.
-            Run nat_eq (map_of self.old) calls.items replies.items (map_of self.new)) }
+            ScriptRun (map_of self.old) calls.items replies.items (map_of self.new)) }
         ensures no_call { OnErr result (self.new ≡ self.old) }
     {
         match self {

@@ -17,4 +17,4 @@ returns-clause-taken g c start lines line taken short asks =
     } in
     let answer = inr (New c.args.new, Done, asks, refl, refl) in
     taken_done start _ _ c.answer.new.self session lines line _ c.push.result answered.1 answered.0 short answer c.push.ensures
-    (ap Some c.new.ensures.map) refl
+    (ap Some c.new.ensures) refl
