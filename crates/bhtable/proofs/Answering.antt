@@ -12,11 +12,11 @@ use Rattle.bhtable.specs.Texts.{line_of, text_of}
 use Rattle.bhtable.specs.Words.{parts_of}
 use Rattle.bhtable.specs.declared.request.Request.TheVariants.{Call as Calls}
 
-pub answers_append : (first second : List (List ℕ)) (old between new : Option (ScriptMap)) (text more : List ℕ)
+pub answers_append : (first second : List (List ℕ)) (old between new : Option ScriptMap) (text more : List ℕ)
     → AreAnswers old first text between → AreAnswers between second more new
     → AreAnswers old (first ++ second) (text ++ more) new
 answers_append [] second old between new text more answers later =
-    rw answers.0 (subst (λ (table : Option (ScriptMap)). AreAnswers table second more new) answers.1 later)
+    rw answers.0 (subst (λ (table : Option ScriptMap). AreAnswers table second more new) answers.1 later)
 answers_append (line ∷ first) second old between new text more (short, answers) later = (
   short,
   (
@@ -64,7 +64,7 @@ answered_call : (line : List ℕ) (call : Call ℕ ℕ) (reply : Reply ℕ ℕ) 
 answered_call line call reply before after asks step = inr (Calls call, reply, asks, step, refl)
 
 -- without calls the lines have no words, and no answer
-pub answered_nothing : (lines : List (List ℕ)) (table : Option (ScriptMap)) → AskForCalls lines []
+pub answered_nothing : (lines : List (List ℕ)) (table : Option ScriptMap) → AskForCalls lines []
     → AreAnswers table lines [] table
 answered_nothing [] table asked = (refl, refl)
 answered_nothing (line ∷ lines) table (short, asked) = elim asked [
@@ -73,10 +73,10 @@ answered_nothing (line ∷ lines) table (short, asked) = elim asked [
 ]
 
 -- the first of the lines are answered by this text
-pub record AreSomeAnswered (old : Option (ScriptMap)) (lines : List (List ℕ)) (text : List ℕ) : Type 0 where
+pub record AreSomeAnswered (old : Option ScriptMap) (lines : List (List ℕ)) (text : List ℕ) : Type 0 where
   pub first : List (List ℕ)
   pub others : List (List ℕ)
-  pub table : Option (ScriptMap)
+  pub table : Option ScriptMap
   pub in_order : lines ≡ first ++ others
   pub answers : AreAnswers old first text table
 

@@ -32,7 +32,9 @@ meant_by : {T : Type 0} (name : T → List ℕ) (rows : List (List ℕ × T)) (b
     → ((value : T) → part_of (name value) ≡ text (name value)) → IsMeant name (part_of bytes) found
 meant_by name rows bytes (Some value) same named known plain = ap part_of named ∙ plain value
 meant_by name rows bytes None same named known plain = λ value part_is.
-    let none : Some value ≡ None = sym (known value) ∙ ap (meaning rows) (sym (word_written bytes (name value) part_is)) ∙ same in absurd (cc)
+    let named : bytes ≡ name value = word_written bytes (name value) part_is in
+    let none : Some value ≡ None = sym (known value) ∙ ap (meaning rows) (sym named) ∙ same in
+    absurd (cc)
 
 -- so rows tell what a part means, where each meaning is found by its word
 pub meant : {T : Type 0} (name : T → List ℕ) (rows : List (List ℕ × T)) (bytes : List ℕ) → AreNamed name rows

@@ -46,12 +46,12 @@ taken_call start output session session2 lines line call taken short asks pushed
 -- where no call waits, all lines that were taken are answered
 pub replied_all : (start output : Option (List ℕ)) (session : Session) (lines : List (List ℕ)) → HasTaken start output session lines
     → session.calls.items ≡ []
-    → HasReplied start output session.replies.text.items lines (map_at_hand session.table)
+    → HasReplied start output session.replies lines (map_at_hand session.table)
 replied_all start output session lines taken none =
     let blank : AskForCalls taken.waiting [] = rw none at taken.calls in
     let table = map_at_hand session.table in
     rw taken.in_order (replied_more start output output _ _ [] taken.answered taken.waiting table table taken.replied
-    (answered_nothing taken.waiting table blank) (Appends-nil (append_known output session.replies.text.items)))
+    (answered_nothing taken.waiting table blank) (Appends-nil (append_known output session.replies)))
 
 -- a vector without elements
 pub no_items : {X : Type 0} (items : List X) (len : ℕ) → len ≡ length items → true ≡ (len == 0) → items ≡ []
@@ -59,7 +59,7 @@ no_items [] len same empty = refl
 no_items (item ∷ items) len same empty = absurd (omega (arith, same, eqb-true len 0 (sym empty)))
 
 pub taken_all : (start output : Option (List ℕ)) (session : Session) (lines : List (List ℕ))
-    → HasReplied start output session.replies.text.items lines (map_at_hand session.table) → session.calls.items ≡ []
+    → HasReplied start output session.replies lines (map_at_hand session.table) → session.calls.items ≡ []
     → HasTaken start output session lines
 taken_all start output session lines replied none = record {
   answered = lines;
@@ -74,7 +74,7 @@ taken_all start output session lines replied none = record {
 some_pushed : (start output output2 : Option (List ℕ)) (session session2 : Session) (lines : List (List ℕ)) (before after : ScriptMap)
     (replies others : List (Reply ℕ ℕ)) → HasTaken start output session lines → map_at_hand session.table ≡ Some before
     → ScriptRun before session.calls.items (replies ++ others) after
-    → Appends (append_known output session.replies.text.items) (append_known output2 session2.replies.text.items) (lines_of_replies replies)
+    → Appends (append_known output session.replies) (append_known output2 session2.replies) (lines_of_replies replies)
     → session2.calls.items ≡ [] → HasTakenSome start output2 session2 lines
 some_pushed start output output2 session session2 lines before after replies others taken there ran grown none =
     let some = answered_some taken.waiting session.calls.items replies others before after taken.calls ran in
@@ -97,8 +97,8 @@ some_pushed start output output2 session session2 lines before after replies oth
 all_pushed : (start output output2 : Option (List ℕ)) (session session2 : Session) (lines : List (List ℕ)) (before after : ScriptMap)
     (replies : List (Reply ℕ ℕ)) → HasTaken start output session lines → map_at_hand session.table ≡ Some before
     → ScriptRun before session.calls.items replies after
-    → Appends (append_known output session.replies.text.items) (append_known output2 session2.replies.text.items) (lines_of_replies replies)
-    → HasReplied start output2 session2.replies.text.items lines (Some after)
+    → Appends (append_known output session.replies) (append_known output2 session2.replies) (lines_of_replies replies)
+    → HasReplied start output2 session2.replies lines (Some after)
 all_pushed start output output2 session session2 lines before after replies taken there ran grown =
     let replied = rw there at taken.replied in
     rw taken.in_order (replied_more start output output2 _ _ _ taken.answered taken.waiting (Some before) (Some after) replied
@@ -109,10 +109,10 @@ pub pushed : (start output output2 : Option (List ℕ)) (session session2 : Sess
     (replies : List (Reply ℕ ℕ)) (result : Result (Unit {0}) Stop) → HasTaken start output session lines
     → map_at_hand session.table ≡ Some before → map_at_hand session2.table ≡ Some after
     → ScriptRun before session.calls.items replies after
-    → ArePushed result (append_known output session.replies.text.items) (append_known output2 session2.replies.text.items) replies
+    → ArePushed result (append_known output session.replies) (append_known output2 session2.replies) replies
     → session2.calls.items ≡ []
     → MatchResult result
-    (λ _. HasReplied start output2 session2.replies.text.items lines (map_at_hand session2.table))
+    (λ _. HasReplied start output2 session2.replies lines (map_at_hand session2.table))
     (λ stop. HasStopped stop start output2 session2 lines)
 pushed start output output2 session session2 lines before after replies (Ok done) taken there there2 ran (first, others, parts, all) none =
     let whole : replies ≡ first = parts ∙ ap (λ (rs : List (Reply ℕ ℕ)). first ++ rs) all.0 ∙ append-nil first in

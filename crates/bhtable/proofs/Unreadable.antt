@@ -18,4 +18,4 @@ still_unreadable None None line same unreadable = unreadable
 still_unreadable None (Some table) line same unreadable = absurd (none_is_not_some None refl (same.0 refl))
 still_unreadable (Some table) new line same (inl long) = inl long
 still_unreadable (Some table) new line same (inr words) =
-    inr (words.0, λ request asks. absurd (some_is_not_none (map_of table) (words.1 request asks).1))
+    inr (words.0, λ request asks. absurd (some_is_not_none (map_of table) (words.1 request asks).0))

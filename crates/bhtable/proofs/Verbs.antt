@@ -88,7 +88,8 @@ starts_with_verb bytes parts request (same, in_range) = word_written bytes (requ
 pub asked_all : (bytes : List ℕ) (parts : List Part) (form : Form) (request : Request) → meaning forms bytes ≡ Some form
     → (request_line request).0 ≡ form_word form → Begins parts request [] → Asks (part_of bytes ∷ parts) request
 asked_all bytes parts form request found verb begins =
-    let first : part_of bytes ≡ text (request_line request).0 = ap part_of (verb_of_form bytes form found ∙ sym verb) ∙ verb_is_word request in
+    let verb_is : bytes ≡ (request_line request).0 = verb_of_form bytes form found ∙ sym verb in
+    let first : part_of bytes ≡ text (request_line request).0 = ap part_of verb_is ∙ verb_is_word request in
     let others : parts ≡ (request_line request).1 = begins.0 ∙ append-nil (request_line request).1 in
     (cc, begins.1)
 
@@ -106,8 +107,8 @@ refused_parts bytes parts form found refused request (same, in_range) =
     let others : parts ≡ (request_line request).1 = cc in
     refused request [] (sym verb ∙ verb_of_form bytes form found) (others ∙ sym (append-nil (request_line request).1), in_range)
 
-pub parts_left : (bytes : List ℕ) (parts left rest : List Part) (part : Part) (form : Form) (request : Request) → meaning forms bytes ≡ Some form
-    → (request_line request).0 ≡ form_word form → Begins parts request left → left ≡ part ∷ rest
+pub parts_left : (bytes : List ℕ) (parts left rest : List Part) (part : Part) (form : Form) (request : Request)
+    → meaning forms bytes ≡ Some form → (request_line request).0 ≡ form_word form → Begins parts request left → left ≡ part ∷ rest
     → AsksNothing (part_of bytes ∷ parts)
 parts_left bytes parts left rest part form request found verb begins more request2 (same, in_range) =
     let verb2 = starts_with_verb bytes parts request2 (same, in_range) in

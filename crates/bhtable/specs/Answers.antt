@@ -32,33 +32,26 @@ fresh_map new =
     record { kind = kind_letter new.kind; hasher = new.hash; minimum = new.limits.minimum; maximum = new.limits.maximum; pairs = [] }
 
 -- from the table `old` the request may have this reply, and `new` is the table after it, which an epoch leaves as it is
-abbrev pub Answers : Option (ScriptMap) → Request → Reply ℕ ℕ → Option (ScriptMap) → Type 0
+abbrev pub Answers : Option ScriptMap → Request → Reply ℕ ℕ → Option ScriptMap → Type 0
 Answers old (New fresh) Done new = new ≡ Some (fresh_map fresh)
 Answers (Some before) (Calls call) reply (Some after) = Step nat_eq script_hash before call reply after
 Answers (Some map) (Epoch generation) Done new = new ≡ Some map
 Answers old request reply new = ⊥
 
 -- from the table `old` the line may be answered by this text, and `new` is the table after it; a line without words is passed over
-abbrev pub IsAnswer : Option (ScriptMap) → List ℕ → List ℕ → Option (ScriptMap) → Type 0
+abbrev pub IsAnswer : Option ScriptMap → List ℕ → List ℕ → Option ScriptMap → Type 0
 IsAnswer old line text new =
     ((parts_of line ≡ []) × (text ≡ []) × (new ≡ old)) ⊎ ((request : Request) × (reply : Reply ℕ ℕ)
     × Asks (parts_of line) request × Answers old request reply new × (text ≡ line_of (text_of reply)))
 
 -- the lines, none too long, may be answered by this text, one after another
-abbrev pub AreAnswers : Option (ScriptMap) → List (List ℕ) → List ℕ → Option (ScriptMap) → Type 0
+abbrev pub AreAnswers : Option ScriptMap → List (List ℕ) → List ℕ → Option ScriptMap → Type 0
 AreAnswers old [] text new = (text ≡ []) × (new ≡ old)
 AreAnswers old (line ∷ lines) text new =
-    (length line ≤ 4096) × ((first : List ℕ) × (rest : List ℕ) × (between : Option (ScriptMap))
+    (length line ≤ 4096) × ((first : List ℕ) × (rest : List ℕ) × (between : Option ScriptMap)
     × IsAnswer old line first between × AreAnswers between lines rest new × (text ≡ first ++ rest))
 
--- a call or an epoch, which needs a table
-abbrev pub NeedsTable : Request → Type 0
-NeedsTable (New new) = ⊥
-NeedsTable (Calls call) = Unit {0}
-NeedsTable (Epoch generation) = Unit {0}
-
 -- the line is too long, or has words that ask for nothing but perhaps a call or an epoch before the first table
-abbrev pub IsUnreadable : Option (ScriptMap) → List ℕ → Type 0
-IsUnreadable table line =
-    (4096 < length line)
-    ⊎ ((parts_of line ≡ [] → ⊥) × ((request : Request) → Asks (parts_of line) request → NeedsTable request × (table ≡ None)))
+abbrev pub IsUnreadable : Option ScriptMap → List ℕ → Type 0
+IsUnreadable table line = (4096 < length line) ⊎ ((parts_of line ≡ [] → ⊥)
+    × ((request : Request) → Asks (parts_of line) request → (table ≡ None) × ((new : NewTable) → request ≡ New new → ⊥)))

@@ -1,7 +1,6 @@
 pub mod Answers
 pub mod InputLines
 pub mod Layout
-pub mod Limits
 pub mod Numbers
 pub mod Outputs
 pub mod Requests

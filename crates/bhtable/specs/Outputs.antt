@@ -8,7 +8,7 @@ use Rattle.bhtable.specs.Texts.{bad_line, line_of}
 -- the output grew by the answers of all these lines, and then by `last`
 pub record HasAnswered (lines : List (List ℕ)) (old new : Option (List ℕ)) (last : List ℕ) : Type 0 where
   pub text : List ℕ
-  pub table : Option (ScriptMap)
+  pub table : Option ScriptMap
   pub answers : AreAnswers None lines text table
   pub written : Appends old new (text ++ last)
 

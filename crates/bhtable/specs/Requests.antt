@@ -1,6 +1,6 @@
 -- What a line asks for.
-use Rattle.std.specs.Prelude.{ℕ, ◌≡◌, ◌<◌, Bool, true, false, List, [], ◌∷◌, codes, map}
-use Rattle.bhtable.specs.Limits.{AreLimits}
+use Rattle.std.specs.Prelude.{ℕ, ◌≡◌, ◌<◌, ◌≤◌, Bool, List, [], ◌∷◌, codes, if◌then◌else◌, map}
+use Rattle.std.specs.Int.{IsPowerOfTwo}
 use Rattle.bhtable.specs.Words.{Part, number, text}
 use Rattle.bhtable.specs.declared.request.Kind.{Kind}
 use Rattle.bhtable.specs.declared.request.Kind.TheVariants.{Map, Index, Cache}
@@ -23,8 +23,7 @@ hash_word Spread = codes "spread"
 
 -- whether marks are kept
 abbrev pub mark_word : Bool → List ℕ
-mark_word true = codes "keep"
-mark_word false = codes "drop"
+mark_word keep = if keep then codes "keep" else codes "drop"
 
 -- a call's verb, and the numbers behind it
 abbrev pub call_line : Call ℕ ℕ → List ℕ × List ℕ
@@ -44,6 +43,10 @@ request_line (New new) =
     (codes "new", text (kind_word new.kind) ∷ text (hash_word new.hash) ∷ number new.limits.minimum ∷ number new.limits.maximum ∷ [])
 request_line (Calls call) = ((call_line call).0, map number (call_line call).1)
 request_line (Epoch generation) = (codes "epoch", number generation.epoch ∷ text (mark_word generation.keep) ∷ [])
+
+-- the least and the greatest number of slots that a table may have
+abbrev pub AreLimits : ℕ → ℕ → Type 0
+AreLimits minimum maximum = IsPowerOfTwo maximum × (64 ≤ maximum) × (minimum ≤ maximum)
 
 -- its numbers are such as a table takes
 abbrev pub IsInRange : Request → Type 0

@@ -4,8 +4,7 @@
 //! no test of its own.
 ghost use Rattle.std.specs.Prelude.{◌≡◌, ◌≤◌, ◌↔◌, ℕ, List, [], ◌∷◌, IfNone, IfOk, IfSome, IsSome, MatchOption, OnErr, length, take};
 ghost use Rattle.bhtable.specs.Layout.Forms.{AsksNothing, Begins, IsMeant, form_word};
-ghost use Rattle.bhtable.specs.Limits.{AreLimits};
-ghost use Rattle.bhtable.specs.Requests.{Asks, call_line, hash_word, kind_word, mark_word, request_line};
+ghost use Rattle.bhtable.specs.Requests.{AreLimits, Asks, call_line, hash_word, kind_word, mark_word, request_line};
 ghost use Rattle.bhtable.specs.Words.{Part, part_of, parts_of};
 ghost use Rattle.bhtable.specs.declared.request.NewTable.{NewTable};
 ghost use Rattle.bhtable.specs.declared.request.Request.{Request};

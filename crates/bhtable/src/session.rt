@@ -5,10 +5,9 @@
 //! 1,024 wait.
 ghost use Rattle.std.specs.Prelude.{◌≡◌, ◌⊎◌, ◌≤◌, ◌↔◌, ℕ, List, [], ◌∷◌, ◌++◌, Option, IfErr, IfOk, IsSome, MatchResult, OnErr, OnOk, length, true};
 ghost use Rattle.bhtable.specs.Answers.{fresh_map};
-ghost use Rattle.bhtable.specs.Limits.{AreLimits};
 ghost use Rattle.bhtable.specs.Layout.Stops.{IsLack, IsOutputUpTo};
 ghost use Rattle.bhtable.specs.Outputs.{HasAnswered};
-ghost use Rattle.bhtable.specs.Requests.{Asks};
+ghost use Rattle.bhtable.specs.Requests.{AreLimits, Asks};
 ghost use Rattle.bhtable.specs.Layout.Sessions.{HasEnded, HasReplied, HasStopped, HasTaken, IsBadAt, ScriptRun, map_at_hand, map_of};
 ghost use Rattle.bhtable.specs.Words.{parts_of};
 
@@ -192,7 +191,7 @@ impl Session {
         ensures answered { (start : Option (List ℕ)) (lines : List (List ℕ))
             → HasTaken start (W.contents output.old) self.old lines
             → (self.new.calls.items ≡ []) × MatchResult result
-            (λ _. HasReplied start (W.contents output.new) self.new.replies.text.items lines
+            (λ _. HasReplied start (W.contents output.new) self.new.replies lines
             (map_at_hand self.new.table))
             (λ stop. HasStopped stop start (W.contents output.new) self.new lines) }
         ensures none { self.old.calls.items ≡ [] → (result ≡ Ok tt) × (self.new ≡ self.old)

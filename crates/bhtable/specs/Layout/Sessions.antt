@@ -29,7 +29,7 @@ map_of (Index table) = state_of INDEX table
 map_of (Cache table) = state_of CACHE table
 
 -- the map at hand, where there is a table
-abbrev pub map_at_hand : Option Table → Option (ScriptMap)
+abbrev pub map_at_hand : Option Table → Option ScriptMap
 map_at_hand None = None
 map_at_hand (Some table) = Some (map_of table)
 
@@ -43,7 +43,7 @@ AskForCalls (line ∷ lines) calls =
 
 -- from the output `start` on, these lines are answered, in the output and in the text that waits for it
 pub record HasReplied (start output : Option (List ℕ)) (waiting : List ℕ) (lines : List (List ℕ))
-    (table : Option (ScriptMap)) : Type 0 where
+    (table : Option ScriptMap) : Type 0 where
   pub text : List ℕ
   pub answers : AreAnswers None lines text table
   pub written : Appends start (append_known output waiting) text
@@ -53,7 +53,7 @@ pub record HasTaken (start output : Option (List ℕ)) (session : Session) (line
   pub answered : List (List ℕ)
   pub waiting : List (List ℕ)
   pub in_order : lines ≡ answered ++ waiting
-  pub replied : HasReplied start output session.replies.text.items answered (map_at_hand session.table)
+  pub replied : HasReplied start output session.replies answered (map_at_hand session.table)
   pub calls : AskForCalls waiting session.calls.items
   pub needed : session.table ≡ None → session.calls.items ≡ []
 
@@ -64,7 +64,7 @@ pub record HasTakenSome (start output : Option (List ℕ)) (session : Session) (
   pub in_order : lines ≡ first ++ others
   pub kept : HasTaken start output session first
       ⊎ ((session.calls.items ≡ [])
-      × ((table : Option (ScriptMap)) × HasReplied start output session.replies.text.items first table))
+      × ((table : Option ScriptMap) × HasReplied start output session.replies first table))
 
 -- the lines before one that can't be read are taken, and this is its number
 pub record HasFoundBad (start output : Option (List ℕ)) (session : Session) (lines : List (List ℕ)) (number : ℕ)
@@ -85,7 +85,7 @@ HasStopped InputFailed start output session lines = ⊥
 HasStopped OutputFailed start output session lines = session.calls.items ≡ []
 
 -- a stop at a bad line comes at a line that can't be read
-abbrev pub IsBadAt : Stop → Option (ScriptMap) → List ℕ → Type 0
+abbrev pub IsBadAt : Stop → Option ScriptMap → List ℕ → Type 0
 IsBadAt (BadLine number) table line = IsUnreadable table line
 IsBadAt NoMemory table line = Unit {0}
 IsBadAt InputFailed table line = Unit {0}

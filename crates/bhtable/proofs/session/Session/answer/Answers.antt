@@ -27,6 +27,6 @@ returns-clause-answered g c start lines taken =
     } in
     let ran = rw (c.replace-calls.ensures.value, ← c.as_slice.ensures.value) at c.in-Ok.ensures.run in (
       none,
-      pushed start _ _ c.args.self.now session lines (map_of c.in-Some.table) (map_of c.run.new.self) c.as_slice.result.now c.push_all.result
-          taken (rw c.in-Some.is refl) refl ran c.push_all.ensures none,
+      pushed start _ _ c.args.self.now session lines (map_of c.in-Some.table) (map_of c.run.new.self) c.as_slice.result.now
+          c.push_all.result taken (rw c.in-Some.is refl) refl ran c.push_all.ensures none,
     )
