@@ -48,8 +48,11 @@ impl<R: Read> Model for Lines<R> {
 
     ghost Value = { LinesView };
 
-    ghost view = { λ lines. record { unread = unread lines.window; is_ended = lines.is_ended;
-        left = R.remaining lines.input } };
+    ghost view = { λ lines. record {
+      unread = unread lines.window;
+      is_ended = lines.is_ended;
+      left = R.remaining lines.input;
+    } };
 }
 
 impl<R: Read + Drop> Lines<R> {
