@@ -1,22 +1,22 @@
 -- The answers of lines, one after another, and those that a run of calls gives.
 use Rattle.std.proofs.Common.{◌≡◌, ℕ, ◌≤◌, inl, inr, List, [], ◌∷◌, ◌++◌, Option, Some, length, nat_eq, refl, ap, ◌∙◌, subst, append_assoc}
 use Rattle.bucket_table.specs.Calls.{Step}
-use Rattle.bucket_table.specs.MapState.{MapState}
-use Rattle.bucket_table.specs.Runs.{Run}
+use Rattle.bucket_table.specs.Hashes.{script_hash}
 use Rattle.bucket_table.specs.declared.script.call.Call.{Call}
 use Rattle.bucket_table.specs.declared.script.reply.Reply.{Reply}
-use Rattle.bhtable.specs.Answers.{AreAnswers, IsAnswer}
+use Rattle.bhtable.specs.Answers.{AreAnswers, IsAnswer, ScriptMap}
 use Rattle.bhtable.specs.Requests.{Asks}
-use Rattle.bhtable.specs.Sessions.{AskForCalls}
-use Rattle.bhtable.specs.Texts.{line_of, lines_of_replies, text_of}
-use Rattle.bhtable.specs.Words.{words_of}
+use Rattle.bhtable.specs.Layout.Sessions.{AskForCalls, ScriptRun}
+use Rattle.bhtable.specs.Layout.Replies.{lines_of_replies}
+use Rattle.bhtable.specs.Texts.{line_of, text_of}
+use Rattle.bhtable.specs.Words.{parts_of}
 use Rattle.bhtable.specs.declared.request.Request.TheVariants.{Call as Calls}
 
-pub answers_append : (first second : List (List ℕ)) (old between new : Option (MapState ℕ ℕ)) (text more : List ℕ)
+pub answers_append : (first second : List (List ℕ)) (old between new : Option ScriptMap) (text more : List ℕ)
     → AreAnswers old first text between → AreAnswers between second more new
     → AreAnswers old (first ++ second) (text ++ more) new
 answers_append [] second old between new text more answers later =
-    rw answers.0 (subst (λ (table : Option (MapState ℕ ℕ)). AreAnswers table second more new) answers.1 later)
+    rw answers.0 (subst (λ (table : Option ScriptMap). AreAnswers table second more new) answers.1 later)
 answers_append (line ∷ first) second old between new text more (short, answers) later = (
   short,
   (
@@ -31,7 +31,7 @@ answers_append (line ∷ first) second old between new text more (short, answers
 
 -- one line more without words, or with a call
 pub asked_nothing_more : (lines : List (List ℕ)) (calls : List (Call ℕ ℕ)) (line : List ℕ) → AskForCalls lines calls
-    → length line ≤ 4096 → words_of line ≡ [] → AskForCalls (lines ++ line ∷ []) calls
+    → length line ≤ 4096 → parts_of line ≡ [] → AskForCalls (lines ++ line ∷ []) calls
 asked_nothing_more [] calls line asked short blank = (short, inl (blank, asked))
 asked_nothing_more (first ∷ lines) calls line (fits, asked) short blank = (
   fits,
@@ -42,7 +42,7 @@ asked_nothing_more (first ∷ lines) calls line (fits, asked) short blank = (
 )
 
 pub asked_one_more : (lines : List (List ℕ)) (calls : List (Call ℕ ℕ)) (line : List ℕ) (call : Call ℕ ℕ) → AskForCalls lines calls
-    → length line ≤ 4096 → Asks (words_of line) (Calls call) → AskForCalls (lines ++ line ∷ []) (calls ++ call ∷ [])
+    → length line ≤ 4096 → Asks (parts_of line) (Calls call) → AskForCalls (lines ++ line ∷ []) (calls ++ call ∷ [])
 asked_one_more [] calls line call asked short asks =
     (short, inr (call, [], asks, ap (λ (cs : List (Call ℕ ℕ)). cs ++ call ∷ []) asked, refl))
 asked_one_more (first ∷ lines) calls line call (fits, asked) short asks = (
@@ -59,22 +59,12 @@ asked_one_more (first ∷ lines) calls line call (fits, asked) short asks = (
   ],
 )
 
-answered_call : (line : List ℕ) (call : Call ℕ ℕ) (reply : Reply ℕ ℕ) (before after : MapState ℕ ℕ) → Asks (words_of line) (Calls call)
-    → Step nat_eq before call reply after → IsAnswer (Some before) line (line_of (text_of reply)) (Some after)
-answered_call line call reply before after asks step = inr (inr (inl (record {
-  call = call;
-  reply = reply;
-  before = before;
-  after = after;
-  asked = asks;
-  there = refl;
-  step = step;
-  answer = refl;
-  changed = refl;
-})))
+answered_call : (line : List ℕ) (call : Call ℕ ℕ) (reply : Reply ℕ ℕ) (before after : ScriptMap) → Asks (parts_of line) (Calls call)
+    → Step nat_eq script_hash before call reply after → IsAnswer (Some before) line (line_of (text_of reply)) (Some after)
+answered_call line call reply before after asks step = inr (Calls call, reply, asks, step, refl)
 
 -- without calls the lines have no words, and no answer
-pub answered_nothing : (lines : List (List ℕ)) (table : Option (MapState ℕ ℕ)) → AskForCalls lines []
+pub answered_nothing : (lines : List (List ℕ)) (table : Option ScriptMap) → AskForCalls lines []
     → AreAnswers table lines [] table
 answered_nothing [] table asked = (refl, refl)
 answered_nothing (line ∷ lines) table (short, asked) = elim asked [
@@ -83,22 +73,22 @@ answered_nothing (line ∷ lines) table (short, asked) = elim asked [
 ]
 
 -- the first of the lines are answered by this text
-pub record AreSomeAnswered (old : Option (MapState ℕ ℕ)) (lines : List (List ℕ)) (text : List ℕ) : Type 0 where
+pub record AreSomeAnswered (old : Option ScriptMap) (lines : List (List ℕ)) (text : List ℕ) : Type 0 where
   pub first : List (List ℕ)
   pub others : List (List ℕ)
-  pub table : Option (MapState ℕ ℕ)
+  pub table : Option ScriptMap
   pub in_order : lines ≡ first ++ others
   pub answers : AreAnswers old first text table
 
 -- the first replies of a run answer the first lines
-pub answered_some : (lines : List (List ℕ)) (calls : List (Call ℕ ℕ)) (replies left : List (Reply ℕ ℕ)) (before after : MapState ℕ ℕ)
-    → AskForCalls lines calls → Run nat_eq before calls (replies ++ left) after
+pub answered_some : (lines : List (List ℕ)) (calls : List (Call ℕ ℕ)) (replies left : List (Reply ℕ ℕ)) (before after : ScriptMap)
+    → AskForCalls lines calls → ScriptRun before calls (replies ++ left) after
     → AreSomeAnswered (Some before) lines (lines_of_replies replies)
 answered_some lines calls [] left before after asked ran =
     record { first = []; others = lines; table = Some before; in_order = refl; answers = (refl, refl) }
 answered_some [] calls (reply ∷ replies) left before after asked ran =
-    let none : Run nat_eq before [] (reply ∷ replies ++ left) after =
-    subst (λ (cs : List (Call ℕ ℕ)). Run nat_eq before cs (reply ∷ replies ++ left) after) asked ran in
+    let none : ScriptRun before [] (reply ∷ replies ++ left) after =
+    subst (λ (cs : List (Call ℕ ℕ)). ScriptRun before cs (reply ∷ replies ++ left) after) asked ran in
     absurd none
 answered_some (line ∷ lines) calls (reply ∷ replies) left before after (short, asked) ran = elim asked [
   | inl none ↦
@@ -111,8 +101,8 @@ answered_some (line ∷ lines) calls (reply ∷ replies) left before after (shor
         answers = (short, ([], _, Some before, inl (none.0, refl, refl), later.answers, refl));
       }
   | inr one ↦
-      let step : Run nat_eq before (one.0 ∷ one.1) (reply ∷ replies ++ left) after =
-      subst (λ (cs : List (Call ℕ ℕ)). Run nat_eq before cs (reply ∷ replies ++ left) after) one.3 ran in
+      let step : ScriptRun before (one.0 ∷ one.1) (reply ∷ replies ++ left) after =
+      subst (λ (cs : List (Call ℕ ℕ)). ScriptRun before cs (reply ∷ replies ++ left) after) one.3 ran in
       let later = answered_some lines one.1 replies left step.0 after one.4 step.2 in
       record {
         first = line ∷ later.first;
@@ -134,8 +124,8 @@ answered_some (line ∷ lines) calls (reply ∷ replies) left before after (shor
 ]
 
 -- all replies of a run answer all lines
-pub answered_all : (lines : List (List ℕ)) (calls : List (Call ℕ ℕ)) (replies : List (Reply ℕ ℕ)) (before after : MapState ℕ ℕ)
-    → AskForCalls lines calls → Run nat_eq before calls replies after
+pub answered_all : (lines : List (List ℕ)) (calls : List (Call ℕ ℕ)) (replies : List (Reply ℕ ℕ)) (before after : ScriptMap)
+    → AskForCalls lines calls → ScriptRun before calls replies after
     → AreAnswers (Some before) lines (lines_of_replies replies) (Some after)
 answered_all [] [] [] before after asked ran = (refl, ap Some ran)
 answered_all [] [] (reply ∷ replies) before after asked ran = absurd ran
@@ -143,8 +133,8 @@ answered_all [] (call ∷ calls) replies before after asked ran = absurd (cc)
 answered_all (line ∷ lines) calls [] before after (short, asked) ran = elim asked [
   | inl none ↦ (short, ([], [], Some before, inl (none.0, refl, refl), answered_all lines calls [] before after none.1 ran, refl))
   | inr one ↦
-      let none : Run nat_eq before (one.0 ∷ one.1) [] after =
-      subst (λ (cs : List (Call ℕ ℕ)). Run nat_eq before cs [] after) one.3 ran in
+      let none : ScriptRun before (one.0 ∷ one.1) [] after =
+      subst (λ (cs : List (Call ℕ ℕ)). ScriptRun before cs [] after) one.3 ran in
       absurd none
 ]
 answered_all (line ∷ lines) calls (reply ∷ replies) before after (short, asked) ran = elim asked [
@@ -160,8 +150,8 @@ answered_all (line ∷ lines) calls (reply ∷ replies) before after (short, ask
     ),
   )
   | inr one ↦
-      let step : Run nat_eq before (one.0 ∷ one.1) (reply ∷ replies) after =
-      subst (λ (cs : List (Call ℕ ℕ)). Run nat_eq before cs (reply ∷ replies) after) one.3 ran in (
+      let step : ScriptRun before (one.0 ∷ one.1) (reply ∷ replies) after =
+      subst (λ (cs : List (Call ℕ ℕ)). ScriptRun before cs (reply ∷ replies) after) one.3 ran in (
         short,
         (
           line_of (text_of reply),

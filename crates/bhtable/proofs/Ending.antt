@@ -1,10 +1,9 @@
 -- How a script ends: what is answered, and what is left in the output.
 use Rattle.std.proofs.Common.{◌≡◌, ℕ, ◌+◌, ◌↔◌, inl, inr, List, [], ◌∷◌, ◌++◌, Option, IsSome, Result, Ok, Err, MatchResult, length, refl, sym, ap, ◌∙◌, append_assoc, append-nil}
 use Rattle.std.specs.Result.{result_and}
-use Rattle.bucket_table.specs.MapState.{MapState}
-use Rattle.bhtable.specs.Answers.{IsUnreadable}
-use Rattle.bhtable.specs.Sessions.{HasEnded, HasReplied, HasStopped, HasTaken, HasTakenSome, map_at_hand}
-use Rattle.bhtable.specs.Status.{IsLack}
+use Rattle.bhtable.specs.Answers.{IsUnreadable, ScriptMap}
+use Rattle.bhtable.specs.Layout.Sessions.{HasEnded, HasReplied, HasStopped, HasTaken, HasTakenSome, map_at_hand}
+use Rattle.bhtable.specs.Layout.Stops.{IsLack}
 use Rattle.bhtable.specs.declared.session.Session.{Session}
 use Rattle.bhtable.specs.declared.stop.Stop.{Stop}
 use Rattle.bhtable.specs.declared.stop.Stop.TheVariants.{BadLine, NoMemory, InputFailed, OutputFailed}
@@ -15,7 +14,7 @@ use Rattle.bhtable.proofs.Unreadable.{still_unreadable}
 pub record HasRepliedSome (start output : Option (List ℕ)) (waiting : List ℕ) (lines : List (List ℕ)) : Type 0 where
   pub first : List (List ℕ)
   pub others : List (List ℕ)
-  pub table : Option (MapState ℕ ℕ)
+  pub table : Option ScriptMap
   pub in_order : lines ≡ first ++ others
   pub replied : HasReplied start output waiting first table
 
@@ -24,7 +23,7 @@ pub record HasRepliedBad (start output : Option (List ℕ)) (waiting : List ℕ)
   pub first : List (List ℕ)
   pub line : List ℕ
   pub others : List (List ℕ)
-  pub table : Option (MapState ℕ ℕ)
+  pub table : Option ScriptMap
   pub in_order : lines ≡ first ++ line ∷ others
   pub numbered : number ≡ length first + 1
   pub replied : HasReplied start output waiting first table
@@ -33,7 +32,7 @@ pub record HasRepliedBad (start output : Option (List ℕ)) (waiting : List ℕ)
 -- what is answered of all lines of an input, once no call waits
 abbrev pub IsReplied : Result (Unit {0}) Stop → Option (List ℕ) → Option (List ℕ) → List ℕ → List (List ℕ) → Type 0
 IsReplied (Ok done) start output waiting lines =
-    (table : Option (MapState ℕ ℕ)) × HasReplied start output waiting lines table
+    (table : Option ScriptMap) × HasReplied start output waiting lines table
 IsReplied (Err (BadLine number)) start output waiting lines = HasRepliedBad start output waiting lines number
 IsReplied (Err NoMemory) start output waiting lines = HasRepliedSome start output waiting lines
 IsReplied (Err InputFailed) start output waiting lines = HasRepliedSome start output waiting lines
@@ -43,7 +42,7 @@ IsReplied (Err OutputFailed) start output waiting lines = Unit {0}
 pub record IsAnswered (result : Result (Unit {0}) Stop) (output output2 : Option (List ℕ)) (session session2 : Session) : Type 0 where
   pub answered : (start : Option (List ℕ)) (lines : List (List ℕ)) → HasTaken start output session lines
       → (session2.calls.items ≡ []) × MatchResult result
-      (λ _. HasReplied start output2 session2.replies.text.items lines (map_at_hand session2.table))
+      (λ _. HasReplied start output2 session2.replies lines (map_at_hand session2.table))
       (λ stop. HasStopped stop start output2 session2 lines)
   pub none : session.calls.items ≡ [] → (result ≡ Ok tt) × (session2 ≡ session) × (output2 ≡ output)
   pub table : IsSome session2.table ↔ IsSome session.table
@@ -54,7 +53,7 @@ err_is_not_ok result stop failed done = absurd (cc)
 
 some_of : (start output : Option (List ℕ)) (session : Session) (lines first others : List (List ℕ)) → lines ≡ first ++ others
     → session.calls.items ≡ [] → HasTakenSome start output session first
-    → HasRepliedSome start output session.replies.text.items lines
+    → HasRepliedSome start output session.replies lines
 some_of start output session lines first others parts none some =
     let in_order = parts ∙ ap (λ (ls : List (List ℕ)). ls ++ others) some.in_order ∙ append_assoc some.first some.others others in
     elim some.kept [
@@ -77,7 +76,7 @@ some_of start output session lines first others parts none some =
 -- a stop on the way
 stopped : (stop : Stop) (start output : Option (List ℕ)) (session : Session) (lines first others : List (List ℕ)) → lines ≡ first ++ others
     → IsLack stop → session.calls.items ≡ [] → HasStopped stop start output session first
-    → IsReplied (Err stop) start output session.replies.text.items lines
+    → IsReplied (Err stop) start output session.replies lines
 stopped (BadLine number) start output session lines first others parts lack none left = absurd lack
 stopped NoMemory start output session lines first others parts lack none left =
     some_of start output session lines first others parts none left
@@ -87,9 +86,9 @@ stopped OutputFailed start output session lines first others parts lack none lef
 -- where the first of the lines are taken, or answered
 some_answered : (result : Result (Unit {0}) Stop) (stop : Stop) (start output output2 : Option (List ℕ)) (session session2 : Session)
     (lines : List (List ℕ)) → IsAnswered result output output2 session session2 → HasTakenSome start output session lines
-    → (HasRepliedSome start output2 session2.replies.text.items lines
-    → IsReplied (Err stop) start output2 session2.replies.text.items lines)
-    → IsReplied (result_and {U = Unit {0}} result (Err stop)) start output2 session2.replies.text.items lines
+    → (HasRepliedSome start output2 session2.replies lines
+    → IsReplied (Err stop) start output2 session2.replies lines)
+    → IsReplied (result_and {U = Unit {0}} result (Err stop)) start output2 session2.replies lines
 some_answered (Ok done) stop start output output2 session session2 lines step some made = made (elim some.kept [
   | inl taken ↦ record {
     first = some.first;
@@ -119,7 +118,7 @@ some_answered (Err lack) stop start output output2 session session2 lines step s
 pub ended_answered : (result ended : Result (Unit {0}) Stop) (start output output2 : Option (List ℕ)) (session session2 : Session)
     (lines : List (List ℕ))
     → IsAnswered result output output2 session session2 → HasEnded ended start output session lines
-    → IsReplied (result_and result ended) start output2 session2.replies.text.items lines
+    → IsReplied (result_and result ended) start output2 session2.replies lines
 ended_answered (Ok done) (Ok all) start output output2 session session2 lines step taken =
     (map_at_hand session2.table, (step.answered start lines taken).1)
 ended_answered (Err stop) (Ok all) start output output2 session session2 lines step taken =

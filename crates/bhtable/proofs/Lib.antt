@@ -1,5 +1,4 @@
 mod Answering
-mod Asking
 mod Digits
 mod Ending
 mod Finding
@@ -7,14 +6,15 @@ mod LineSplits
 mod Naming
 mod Numbers
 mod Outputs
+mod Parts
 mod PowersOfTwo
 mod PushingAll
 mod Reading
-mod Refusing
 mod Replying
 mod Serving
 mod Splitting
 mod Taking
 mod Turning
 mod Unreadable
+mod Verbs
 mod WindowLemmas

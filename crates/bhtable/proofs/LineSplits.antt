@@ -2,8 +2,7 @@
 use Rattle.std.proofs.Common.{◌≡◌, ℕ, ◌+◌, ◌-◌, ◌<◌, ◌≤◌, ◌==◌, List, [], ◌∷◌, ◌++◌, Bool, true, false, cond, not, length, take, drop, get_or, inl, inr, suc, sym, ap, ◌∙◌, arith, append_assoc, append-nil, length-append, length-take-le}
 use Rattle.std.proofs.lemmas.Bool.{cases_Bool}
 use Rattle.std.specs.List.{position_or_len}
-use Rattle.bhtable.specs.InputLines.{lines_after, lines_of, without_return}
-use Rattle.bhtable.specs.Lines.{line_len}
+use Rattle.bhtable.specs.InputLines.{line_len, lines_after, lines_of, without_return}
 
 abbrev pub newline_at : List ℕ → ℕ
 newline_at bytes = position_or_len (λ byte. byte == 10) bytes

@@ -1,11 +1,31 @@
 -- Reading a number digit by digit.
-use Rattle.std.proofs.Common.{◌≡◌, ℕ, ◌+◌, ◌-◌, ◌*◌, ◌<◌, ◌≤◌, ◌^◌, List, [], ◌∷◌, ◌&&◌, Bool, true, false, ◌↔◌, IsSome, Option, None, length, drop, get_or, subst, sym, ap, ◌∙◌, arith}
-use Rattle.std.proofs.lemmas.Bool.{and_parts, false≢true}
+use Rattle.std.proofs.Common.{◌≡◌, ℕ, ◌+◌, ◌-◌, ◌*◌, ◌<◌, ◌≤◌, ◌^◌, List, [], ◌∷◌, ◌&&◌, Bool, true, false, Option, None, is_some, nat_le, nat_lt, length, drop, get_or, subst, sym, ap, ◌∙◌, arith}
+use Rattle.std.proofs.lemmas.Bool.{and_from, and_parts, false_from_ne_true, false≢true, le-leb, leb-true, lt-ltb, ltb-true}
 use Rattle.std.proofs.lemmas.List.{drop_all, at_drop_more}
 use Rattle.std.specs.Char.{is_ascii_digit}
 use Rattle.std.specs.Str.{all_ascii_digits}
-use Rattle.bhtable.proofs.PowersOfTwo.{refused}
-use Rattle.bhtable.specs.Numbers.{IsNumber, value_after, value_of}
+use Rattle.bhtable.specs.Numbers.{is_number, value_after, value_of}
+
+-- what is true of a number's word
+pub record IsNumber (word : List ℕ) : Type 0 where
+  pub some : 0 < length word
+  pub few : length word ≤ 20
+  pub digits : all_ascii_digits word ≡ true
+  pub fits : value_of word < 2 ^ 64
+
+number_parts : (bytes : List ℕ) → is_number bytes ≡ true → IsNumber bytes
+unfolding is_number
+number_parts bytes holds =
+    let fits = and_parts _ (nat_lt (value_of bytes) (2 ^ 64)) holds in
+    let digits = and_parts _ (all_ascii_digits bytes) fits.0 in
+    let len = and_parts (nat_lt 0 (length bytes)) (nat_le (length bytes) 20) digits.0 in
+    record { some = ltb-true _ _ len.0; few = leb-true _ _ len.1; digits = digits.1; fits = ltb-true _ _ fits.1 }
+
+pub number_from : (bytes : List ℕ) → IsNumber bytes → is_number bytes ≡ true
+unfolding is_number
+number_from bytes number =
+    let len = and_from _ _ (lt-ltb _ _ number.some) (le-leb _ _ number.few) in
+    and_from _ _ (and_from _ _ len number.digits) (lt-ltb _ _ number.fits)
 
 -- `number` is read so far, and `left` isn't read yet
 pub record IsReadTo (word : List ℕ) (number : ℕ) (left : List ℕ) : Type 0 where
@@ -60,5 +80,14 @@ all_read word number at so_far end some few =
     let read : IsReadTo word number [] = subst (λ (left : List ℕ). IsReadTo word number left) (drop_all at word end) so_far in
     record { some = some; few = few; digits = sym read.digits; fits = omega (arith, read.value, read.fits) }
 
-pub none_if : {P : Type 0} (answer : Option ℕ) → answer ≡ None → (P → ⊥) → IsSome answer ↔ P
-none_if {P} answer none never = rw none (refused never)
+pub no_number : (word : List ℕ) → (IsNumber word → ⊥) → false ≡ is_number word
+no_number word never = sym (false_from_ne_true _ (λ holds. never (number_parts word holds)))
+
+pub none_if : (answer : Option ℕ) (word : List ℕ) → answer ≡ None → (IsNumber word → ⊥) → is_some answer ≡ is_number word
+none_if answer word none never = rw none (no_number word never)
+
+pub other_byte_at : (word : List ℕ) (number at : ℕ) → IsReadTo word number (drop at word) → at < length word
+    → is_ascii_digit (get_or word at 0) ≡ false → IsNumber word → ⊥
+other_byte_at word number at so_far inside =
+    no_digit word number (get_or word at 0) (drop (at + 1) word)
+    (subst (λ (left : List ℕ). IsReadTo word number left) (next_byte word at inside) so_far)

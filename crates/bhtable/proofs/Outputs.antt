@@ -1,12 +1,12 @@
 -- What is left in the output once everything is written out, and with which status.
-use Rattle.std.proofs.Common.{◌≡◌, ℕ, ◌⊎◌, inl, inr, List, [], ◌∷◌, ◌++◌, Option, Some, None, Result, Ok, Err, MatchResult, refl, sym, subst, append-nil}
+use Rattle.std.proofs.Common.{◌≡◌, ℕ, ◌⊎◌, inl, inr, List, [], ◌∷◌, ◌++◌, ◌+◌, length, Option, Some, None, Result, Ok, Err, MatchResult, refl, sym, subst, append-nil}
 use Rattle.std.proofs.KnownBytes.{Appends-nil, Appends-trans}
 use Rattle.std.specs.Io.KnownBytes.{Appends, append_known}
 use Rattle.std.specs.Result.{result_and}
 use Rattle.bhtable.specs.InputLines.{lines_of}
-use Rattle.bhtable.specs.Outputs.{HasAnswered, HasAnsweredSome, IsInput, IsOutputOf, IsOutputUpTo, IsServed, last_line_of}
-use Rattle.bhtable.specs.Replies.{IsPushed, IsTold}
-use Rattle.bhtable.specs.Status.{status_of}
+use Rattle.bhtable.specs.Layout.Stops.{IsInput, IsOutputUpTo, last_line_of, status_of}
+use Rattle.bhtable.specs.Outputs.{HasAnswered, HasAnsweredSome, IsOutputOf, IsServed}
+use Rattle.bhtable.specs.Layout.Replies.{IsPushed, IsTold}
 use Rattle.bhtable.specs.Texts.{bad_line}
 use Rattle.bhtable.specs.declared.stop.Stop.{Stop}
 use Rattle.bhtable.specs.declared.stop.Stop.TheVariants.{BadLine, NoMemory, InputFailed, OutputFailed}
@@ -33,13 +33,12 @@ bad_out (Ok done) number start output output2 output3 waiting waiting2 lines bad
   line = bad.line;
   others = bad.others;
   in_order = bad.in_order;
-  numbered = bad.numbered;
   answered = record {
     text = bad.replied.text;
     table = bad.table;
     answers = bad.replied.answers;
-    written = written_out start output output2 output3 waiting waiting2 bad.replied.text (bad_line number) bad.replied.written grown
-        written;
+    written = rw (← bad.numbered)
+        (written_out start output output2 output3 waiting waiting2 bad.replied.text (bad_line number) bad.replied.written grown written);
   };
   unreadable = bad.unreadable;
 }
@@ -107,27 +106,25 @@ answered_then lines start output output2 last answered written = record {
 reported : (stop : Stop) (lines : List (List ℕ)) (start output output2 : Option (List ℕ)) (status : ℕ)
     → IsOutputUpTo stop lines start output
     → status ≡ status_of stop → Appends output output2 (last_line_of stop) → IsOutputOf lines start output2 status
-reported (BadLine number) lines start output output2 status bad is written = inr (inl (
-  is,
-  (
-    number,
-    record {
-      first = bad.first;
-      line = bad.line;
-      others = bad.others;
-      in_order = bad.in_order;
-      numbered = bad.numbered;
-      answered = record {
-        text = bad.answered.text;
-        table = bad.answered.table;
-        answers = bad.answered.answers;
-        written = subst (λ (text : List ℕ). Appends start output2 text) (append-nil (bad.answered.text ++ bad_line number))
-            (Appends-trans start output output2 (bad.answered.text ++ bad_line number) [] bad.answered.written written);
-      };
-      unreadable = bad.unreadable;
-    },
-  ),
-))
+reported (BadLine number) lines start output output2 status bad is written =
+    let all = bad.answered.text ++ bad_line (length bad.first + 1) in
+    inr (inl (
+      is,
+      record {
+        first = bad.first;
+        line = bad.line;
+        others = bad.others;
+        in_order = bad.in_order;
+        answered = record {
+          text = bad.answered.text;
+          table = bad.answered.table;
+          answers = bad.answered.answers;
+          written = subst (λ (text : List ℕ). Appends start output2 text) (append-nil all)
+              (Appends-trans start output output2 all [] bad.answered.written written);
+        };
+        unreadable = bad.unreadable;
+      },
+    ))
 reported NoMemory lines start output output2 status some is written = inr (inr (inl (
   is,
   record {

@@ -4,8 +4,8 @@ use Rattle.std.proofs.KnownBytes.{Appends-trans}
 use Rattle.std.proofs.lemmas.List.{take_more}
 use Rattle.std.specs.Io.KnownBytes.{Appends}
 use Rattle.bucket_table.specs.declared.script.reply.Reply.{Reply}
-use Rattle.bhtable.specs.Replies.{IsLeftBy}
-use Rattle.bhtable.specs.Texts.{line_of, lines_of_replies, text_of}
+use Rattle.bhtable.specs.Layout.Replies.{IsLeftBy, lines_of_replies}
+use Rattle.bhtable.specs.Texts.{line_of, text_of}
 use Rattle.bhtable.specs.declared.stop.Stop.{Stop}
 use Rattle.bhtable.specs.declared.stop.Stop.TheVariants.{BadLine, NoMemory, InputFailed, OutputFailed}
 

@@ -3,8 +3,8 @@ use Rattle.std.proofs.Common.{◌≡◌, ℕ, ◌<◌, ◌⊎◌, inl, inr, List
 use Rattle.std.proofs.KnownBytes.{Consumes-nil, Consumes-trans}
 use Rattle.std.specs.Io.KnownBytes.{Consumes, IsAtEnd}
 use Rattle.bhtable.specs.InputLines.{lines_of}
-use Rattle.bhtable.specs.Lines.{IsFoundIn}
-use Rattle.bhtable.specs.Outputs.{IsInput}
+use Rattle.bhtable.specs.Layout.Found.{IsFoundIn}
+use Rattle.bhtable.specs.Layout.Stops.{IsInput}
 use Rattle.bhtable.specs.declared.line.Found.TheVariants.{Line as FoundLine}
 use Rattle.bhtable.specs.declared.line.Line.{Line}
 use Rattle.bhtable.proofs.Finding.{found_line}

@@ -3,11 +3,10 @@ use Rattle.std.proofs.Common.{◌≡◌, ℕ, ◌≤◌, true, List, [], ◌∷�
 use Rattle.std.proofs.KnownBytes.{Appends-kept, Appends-nil, Appends-trans, append_known-grown}
 use Rattle.std.specs.Io.{StartsWith}
 use Rattle.std.specs.Io.KnownBytes.{Appends, Keeps, append_known}
-use Rattle.bucket_table.specs.MapState.{MapState}
 use Rattle.bucket_table.specs.declared.script.reply.Reply.TheVariants.{Done}
-use Rattle.bhtable.specs.Answers.{AreAnswers, IsAnswer}
+use Rattle.bhtable.specs.Answers.{AreAnswers, IsAnswer, ScriptMap}
 use Rattle.bhtable.specs.Outputs.{HasAnswered}
-use Rattle.bhtable.specs.Sessions.{HasReplied}
+use Rattle.bhtable.specs.Layout.Sessions.{HasReplied}
 use Rattle.bhtable.specs.Texts.{line_of, text_of}
 use Rattle.bhtable.proofs.Answering.{answers_append}
 
@@ -22,7 +21,8 @@ cut_back output output2 old between grown cut len (Err error) kept failed starts
     append_known-grown (append_known output old) output2 between cut [] kept (same ∙ sym (append-nil between))
 
 -- more lines, whose answers are appended
-pub replied_more : (start output output2 : Option (List ℕ)) (waiting waiting2 text : List ℕ) (lines more : List (List ℕ)) (table table2 : Option (MapState ℕ ℕ))
+pub replied_more : (start output output2 : Option (List ℕ)) (waiting waiting2 text : List ℕ) (lines more : List (List ℕ))
+    (table table2 : Option ScriptMap)
     → HasReplied start output waiting lines table → AreAnswers table more text table2
     → Appends (append_known output waiting) (append_known output2 waiting2) text
     → HasReplied start output2 waiting2 (lines ++ more) table2
@@ -33,7 +33,7 @@ replied_more start output output2 waiting waiting2 text lines more table table2 
 }
 
 -- the same lines, where nothing is appended
-pub replied_same : (start output output2 : Option (List ℕ)) (waiting waiting2 : List ℕ) (lines : List (List ℕ)) (table : Option (MapState ℕ ℕ))
+pub replied_same : (start output output2 : Option (List ℕ)) (waiting waiting2 : List ℕ) (lines : List (List ℕ)) (table : Option ScriptMap)
     → HasReplied start output waiting lines table → Appends (append_known output waiting) (append_known output2 waiting2) []
     → HasReplied start output2 waiting2 lines table
 replied_same start output output2 waiting waiting2 lines table replied kept =
@@ -42,7 +42,7 @@ replied_same start output output2 waiting waiting2 lines table replied kept =
 
 -- one line more, which is told that it is done
 pub replied_done : (start output output2 : Option (List ℕ)) (waiting waiting2 : List ℕ) (lines : List (List ℕ)) (line : List ℕ)
-    (table after : Option (MapState ℕ ℕ)) → HasReplied start output waiting lines table → length line ≤ 4096
+    (table after : Option ScriptMap) → HasReplied start output waiting lines table → length line ≤ 4096
     → IsAnswer table line (line_of (text_of Done)) after
     → Appends (append_known output waiting) (append_known output2 waiting2) (line_of (text_of Done))
     → HasReplied start output2 waiting2 (lines ++ line ∷ []) after
@@ -69,16 +69,17 @@ pub written_out : (start output output2 output3 : Option (List ℕ)) (waiting wa
 written_out start output output2 output3 waiting waiting2 text last replied grown written =
     Appends-kept start _ output3 (text ++ last) (Appends-trans start _ _ text last replied grown) (flushed output2 output3 waiting2 written)
 
-pub answered_out : (start output output2 : Option (List ℕ)) (waiting : List ℕ) (lines : List (List ℕ)) (table : Option (MapState ℕ ℕ))
+pub answered_out : (start output output2 : Option (List ℕ)) (waiting : List ℕ) (lines : List (List ℕ)) (table : Option ScriptMap)
     → HasReplied start output waiting lines table → Appends output output2 waiting → HasAnswered lines start output2 []
 answered_out start output output2 waiting lines table replied written = record {
   text = replied.text;
   table = table;
   answers = replied.answers;
-  written = written_out start output output output2 waiting waiting replied.text [] replied.written (Appends-nil (append_known output waiting)) written;
+  written = written_out start output output output2 waiting waiting replied.text [] replied.written
+      (Appends-nil (append_known output waiting)) written;
 }
 
-pub replied_out : (start output output2 : Option (List ℕ)) (waiting waiting2 : List ℕ) (lines : List (List ℕ)) (table : Option (MapState ℕ ℕ))
+pub replied_out : (start output output2 : Option (List ℕ)) (waiting waiting2 : List ℕ) (lines : List (List ℕ)) (table : Option ScriptMap)
     → HasReplied start output waiting lines table → Appends output output2 waiting → waiting2 ≡ []
     → HasReplied start output2 waiting2 lines table
 replied_out start output output2 waiting waiting2 lines table replied written empty =

@@ -2,10 +2,9 @@
 use Rattle.std.proofs.Common.{◌≡◌, ℕ, ◌+◌, ◌<◌, ◌⊎◌, inl, inr, List, [], ◌∷◌, ◌++◌, Bool, true, false, Option, Result, Ok, Err, length, take, drop, sym, ap, ◌∙◌, append-nil, append_assoc, length-append}
 use Rattle.std.specs.Io.KnownBytes.{Consumes, IsAtEnd}
 use Rattle.bhtable.specs.InputLines.{lines_of}
-use Rattle.bhtable.specs.Lines.{IsFoundIn}
-use Rattle.bhtable.specs.Outputs.{IsInput}
-use Rattle.bhtable.specs.Sessions.{HasEnded, HasFoundBad, HasStopped, HasTaken, HasTakenSome, IsBadAt, map_at_hand}
-use Rattle.bhtable.specs.Status.{IsLack}
+use Rattle.bhtable.specs.Layout.Found.{IsFoundIn}
+use Rattle.bhtable.specs.Layout.Sessions.{HasEnded, HasFoundBad, HasStopped, HasTaken, HasTakenSome, IsBadAt, map_at_hand}
+use Rattle.bhtable.specs.Layout.Stops.{IsInput, IsLack}
 use Rattle.bhtable.specs.declared.line.Found.TheVariants.{Line as FoundLine, TooLong, End}
 use Rattle.bhtable.specs.declared.line.Line.{Line}
 use Rattle.bhtable.specs.declared.session.Session.{Session}

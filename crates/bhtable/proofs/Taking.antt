@@ -1,16 +1,14 @@
 -- What a session holds after a line, and after the calls that wait are answered.
-use Rattle.std.proofs.Common.{◌≡◌, ℕ, ◌≤◌, ◌==◌, inl, inr, true, List, [], ◌∷◌, ◌++◌, Option, Some, IsSome, Result, Ok, Err, MatchResult, length, nat_eq, arith, eqb-true, refl, sym, ap, ◌∙◌, append_assoc, append-nil}
+use Rattle.std.proofs.Common.{◌≡◌, ℕ, ◌≤◌, ◌==◌, inl, inr, true, List, [], ◌∷◌, ◌++◌, Option, Some, IsSome, Result, Ok, Err, MatchResult, length, arith, eqb-true, refl, sym, ap, ◌∙◌, append_assoc, append-nil}
 use Rattle.std.proofs.KnownBytes.{Appends-nil}
 use Rattle.std.specs.Io.KnownBytes.{Appends, append_known}
-use Rattle.bucket_table.specs.MapState.{MapState}
-use Rattle.bucket_table.specs.Runs.{Run}
 use Rattle.bucket_table.specs.declared.script.call.Call.{Call}
 use Rattle.bucket_table.specs.declared.script.reply.Reply.{Reply}
-use Rattle.bhtable.specs.Replies.{ArePushed}
+use Rattle.bhtable.specs.Answers.{ScriptMap}
+use Rattle.bhtable.specs.Layout.Replies.{ArePushed, lines_of_replies}
 use Rattle.bhtable.specs.Requests.{Asks}
-use Rattle.bhtable.specs.Sessions.{AskForCalls, HasReplied, HasStopped, HasTaken, HasTakenSome, map_at_hand}
-use Rattle.bhtable.specs.Texts.{lines_of_replies}
-use Rattle.bhtable.specs.Words.{words_of}
+use Rattle.bhtable.specs.Layout.Sessions.{AskForCalls, HasReplied, HasStopped, HasTaken, HasTakenSome, ScriptRun, map_at_hand}
+use Rattle.bhtable.specs.Words.{parts_of}
 use Rattle.bhtable.specs.declared.request.Request.TheVariants.{Call as Calls}
 use Rattle.bhtable.specs.declared.session.Session.{Session}
 use Rattle.bhtable.specs.declared.stop.Stop.{Stop}
@@ -19,7 +17,7 @@ use Rattle.bhtable.proofs.Answering.{answered_all, answered_nothing, answered_so
 use Rattle.bhtable.proofs.Replying.{replied_more}
 
 pub taken_blank : (start output : Option (List ℕ)) (session : Session) (lines : List (List ℕ)) (line : List ℕ)
-    → HasTaken start output session lines → length line ≤ 4096 → words_of line ≡ []
+    → HasTaken start output session lines → length line ≤ 4096 → parts_of line ≡ []
     → HasTaken start output session (lines ++ line ∷ [])
 taken_blank start output session lines line taken short blank = record {
   answered = taken.answered;
@@ -32,7 +30,7 @@ taken_blank start output session lines line taken short blank = record {
 
 -- a call more, which needs a table
 pub taken_call : (start output : Option (List ℕ)) (session session2 : Session) (lines : List (List ℕ)) (line : List ℕ) (call : Call ℕ ℕ)
-    → HasTaken start output session lines → length line ≤ 4096 → Asks (words_of line) (Calls call)
+    → HasTaken start output session lines → length line ≤ 4096 → Asks (parts_of line) (Calls call)
     → session2.calls.items ≡ session.calls.items ++ call ∷ [] → session2.table ≡ session.table
     → session2.replies ≡ session.replies → IsSome session.table
     → HasTaken start output session2 (lines ++ line ∷ [])
@@ -48,12 +46,12 @@ taken_call start output session session2 lines line call taken short asks pushed
 -- where no call waits, all lines that were taken are answered
 pub replied_all : (start output : Option (List ℕ)) (session : Session) (lines : List (List ℕ)) → HasTaken start output session lines
     → session.calls.items ≡ []
-    → HasReplied start output session.replies.text.items lines (map_at_hand session.table)
+    → HasReplied start output session.replies lines (map_at_hand session.table)
 replied_all start output session lines taken none =
     let blank : AskForCalls taken.waiting [] = rw none at taken.calls in
     let table = map_at_hand session.table in
     rw taken.in_order (replied_more start output output _ _ [] taken.answered taken.waiting table table taken.replied
-    (answered_nothing taken.waiting table blank) (Appends-nil (append_known output session.replies.text.items)))
+    (answered_nothing taken.waiting table blank) (Appends-nil (append_known output session.replies)))
 
 -- a vector without elements
 pub no_items : {X : Type 0} (items : List X) (len : ℕ) → len ≡ length items → true ≡ (len == 0) → items ≡ []
@@ -61,7 +59,7 @@ no_items [] len same empty = refl
 no_items (item ∷ items) len same empty = absurd (omega (arith, same, eqb-true len 0 (sym empty)))
 
 pub taken_all : (start output : Option (List ℕ)) (session : Session) (lines : List (List ℕ))
-    → HasReplied start output session.replies.text.items lines (map_at_hand session.table) → session.calls.items ≡ []
+    → HasReplied start output session.replies lines (map_at_hand session.table) → session.calls.items ≡ []
     → HasTaken start output session lines
 taken_all start output session lines replied none = record {
   answered = lines;
@@ -73,10 +71,10 @@ taken_all start output session lines replied none = record {
 }
 
 -- the first of the replies were appended
-some_pushed : (start output output2 : Option (List ℕ)) (session session2 : Session) (lines : List (List ℕ)) (before after : MapState ℕ ℕ)
+some_pushed : (start output output2 : Option (List ℕ)) (session session2 : Session) (lines : List (List ℕ)) (before after : ScriptMap)
     (replies others : List (Reply ℕ ℕ)) → HasTaken start output session lines → map_at_hand session.table ≡ Some before
-    → Run nat_eq before session.calls.items (replies ++ others) after
-    → Appends (append_known output session.replies.text.items) (append_known output2 session2.replies.text.items) (lines_of_replies replies)
+    → ScriptRun before session.calls.items (replies ++ others) after
+    → Appends (append_known output session.replies) (append_known output2 session2.replies) (lines_of_replies replies)
     → session2.calls.items ≡ [] → HasTakenSome start output2 session2 lines
 some_pushed start output output2 session session2 lines before after replies others taken there ran grown none =
     let some = answered_some taken.waiting session.calls.items replies others before after taken.calls ran in
@@ -96,25 +94,25 @@ some_pushed start output output2 session session2 lines before after replies oth
       );
     }
 
-all_pushed : (start output output2 : Option (List ℕ)) (session session2 : Session) (lines : List (List ℕ)) (before after : MapState ℕ ℕ)
+all_pushed : (start output output2 : Option (List ℕ)) (session session2 : Session) (lines : List (List ℕ)) (before after : ScriptMap)
     (replies : List (Reply ℕ ℕ)) → HasTaken start output session lines → map_at_hand session.table ≡ Some before
-    → Run nat_eq before session.calls.items replies after
-    → Appends (append_known output session.replies.text.items) (append_known output2 session2.replies.text.items) (lines_of_replies replies)
-    → HasReplied start output2 session2.replies.text.items lines (Some after)
+    → ScriptRun before session.calls.items replies after
+    → Appends (append_known output session.replies) (append_known output2 session2.replies) (lines_of_replies replies)
+    → HasReplied start output2 session2.replies lines (Some after)
 all_pushed start output output2 session session2 lines before after replies taken there ran grown =
     let replied = rw there at taken.replied in
     rw taken.in_order (replied_more start output output2 _ _ _ taken.answered taken.waiting (Some before) (Some after) replied
     (answered_all taken.waiting session.calls.items replies before after taken.calls ran) grown)
 
 -- the calls that waited are done, and their replies were appended as far as that went
-pub pushed : (start output output2 : Option (List ℕ)) (session session2 : Session) (lines : List (List ℕ)) (before after : MapState ℕ ℕ)
+pub pushed : (start output output2 : Option (List ℕ)) (session session2 : Session) (lines : List (List ℕ)) (before after : ScriptMap)
     (replies : List (Reply ℕ ℕ)) (result : Result (Unit {0}) Stop) → HasTaken start output session lines
     → map_at_hand session.table ≡ Some before → map_at_hand session2.table ≡ Some after
-    → Run nat_eq before session.calls.items replies after
-    → ArePushed result (append_known output session.replies.text.items) (append_known output2 session2.replies.text.items) replies
+    → ScriptRun before session.calls.items replies after
+    → ArePushed result (append_known output session.replies) (append_known output2 session2.replies) replies
     → session2.calls.items ≡ []
     → MatchResult result
-    (λ _. HasReplied start output2 session2.replies.text.items lines (map_at_hand session2.table))
+    (λ _. HasReplied start output2 session2.replies lines (map_at_hand session2.table))
     (λ stop. HasStopped stop start output2 session2 lines)
 pushed start output output2 session session2 lines before after replies (Ok done) taken there there2 ran (first, others, parts, all) none =
     let whole : replies ≡ first = parts ∙ ap (λ (rs : List (Reply ℕ ℕ)). first ++ rs) all.0 ∙ append-nil first in

@@ -2,19 +2,23 @@
 use Rattle.std.specs.Prelude.{ℕ, ◌≡◌, ◌⊎◌, ◌<◌, ◌≤◌, List, [], ◌∷◌, ◌++◌, Option, None, Some, length, nat_eq}
 use Rattle.bucket_slots.specs.declared.bucket.TheConstants.{CACHE, INDEX, MAP}
 use Rattle.bucket_table.specs.Calls.{Step}
+use Rattle.bucket_table.specs.Hashes.{script_hash}
 use Rattle.bucket_table.specs.MapState.{MapState}
-use Rattle.bucket_table.specs.declared.script.call.Call.{Call}
-use Rattle.bucket_table.specs.declared.script.generation.FixedGeneration.{FixedGeneration}
+use Rattle.bucket_table.specs.declared.script.hashes.ScriptHash.{ScriptHash}
 use Rattle.bucket_table.specs.declared.script.reply.Reply.{Reply}
 use Rattle.bucket_table.specs.declared.script.reply.Reply.TheVariants.{Done}
 use Rattle.bhtable.specs.Requests.{Asks}
 use Rattle.bhtable.specs.Texts.{line_of, text_of}
-use Rattle.bhtable.specs.Words.{words_of}
+use Rattle.bhtable.specs.Words.{parts_of}
 use Rattle.bhtable.specs.declared.request.Kind.{Kind}
 use Rattle.bhtable.specs.declared.request.Kind.TheVariants.{Map, Index, Cache}
 use Rattle.bhtable.specs.declared.request.NewTable.{NewTable}
 use Rattle.bhtable.specs.declared.request.Request.{Request}
 use Rattle.bhtable.specs.declared.request.Request.TheVariants.{New, Call as Calls, Epoch}
+
+-- the map of a script, of numbers under numbers
+abbrev pub ScriptMap : Type 0
+ScriptMap = MapState ℕ ℕ ScriptHash
 
 -- the letter of a kind
 abbrev pub kind_letter : Kind → ℕ
@@ -23,62 +27,31 @@ kind_letter Index = INDEX
 kind_letter Cache = CACHE
 
 -- a fresh table has no pairs
-abbrev pub fresh_map : NewTable → MapState ℕ ℕ
-fresh_map table = record {
-  kind = kind_letter table.kind;
-  minimum = table.limits.minimum;
-  maximum = table.limits.maximum;
-  pairs = [];
-}
+abbrev pub fresh_map : NewTable → ScriptMap
+fresh_map new =
+    record { kind = kind_letter new.kind; hasher = new.hash; minimum = new.limits.minimum; maximum = new.limits.maximum; pairs = [] }
 
--- the words ask for a fresh table, and are answered that it is there
-pub record StartsTable (words : List (List ℕ)) (text : List ℕ) (new : Option (MapState ℕ ℕ)) : Type 0 where
-  pub table : NewTable
-  pub asked : Asks words (New table)
-  pub answer : text ≡ line_of (text_of Done)
-  pub fresh : new ≡ Some (fresh_map table)
-
--- the words ask for a call on the table at hand, and are answered its reply
-pub record DoesCall (old : Option (MapState ℕ ℕ)) (words : List (List ℕ)) (text : List ℕ) (new : Option (MapState ℕ ℕ)) : Type 0 where
-  pub call : Call ℕ ℕ
-  pub reply : Reply ℕ ℕ
-  pub before : MapState ℕ ℕ
-  pub after : MapState ℕ ℕ
-  pub asked : Asks words (Calls call)
-  pub there : old ≡ Some before
-  pub step : Step nat_eq before call reply after
-  pub answer : text ≡ line_of (text_of reply)
-  pub changed : new ≡ Some after
-
--- the words ask for another epoch beside a table, whose map stays, and are answered that it is set
-pub record SetsEpoch (old : Option (MapState ℕ ℕ)) (words : List (List ℕ)) (text : List ℕ) (new : Option (MapState ℕ ℕ)) : Type 0 where
-  pub generation : FixedGeneration
-  pub asked : Asks words (Epoch generation)
-  pub there : old ≡ None → ⊥
-  pub answer : text ≡ line_of (text_of Done)
-  pub kept : new ≡ old
+-- from the table `old` the request may have this reply, and `new` is the table after it, which an epoch leaves as it is
+abbrev pub Answers : Option ScriptMap → Request → Reply ℕ ℕ → Option ScriptMap → Type 0
+Answers old (New fresh) Done new = new ≡ Some (fresh_map fresh)
+Answers (Some before) (Calls call) reply (Some after) = Step nat_eq script_hash before call reply after
+Answers (Some map) (Epoch generation) Done new = new ≡ Some map
+Answers old request reply new = ⊥
 
 -- from the table `old` the line may be answered by this text, and `new` is the table after it; a line without words is passed over
-abbrev pub IsAnswer : Option (MapState ℕ ℕ) → List ℕ → List ℕ → Option (MapState ℕ ℕ) → Type 0
+abbrev pub IsAnswer : Option ScriptMap → List ℕ → List ℕ → Option ScriptMap → Type 0
 IsAnswer old line text new =
-    ((words_of line ≡ []) × (text ≡ []) × (new ≡ old)) ⊎ StartsTable (words_of line) text new
-    ⊎ DoesCall old (words_of line) text new ⊎ SetsEpoch old (words_of line) text new
+    ((parts_of line ≡ []) × (text ≡ []) × (new ≡ old)) ⊎ ((request : Request) × (reply : Reply ℕ ℕ)
+    × Asks (parts_of line) request × Answers old request reply new × (text ≡ line_of (text_of reply)))
 
 -- the lines, none too long, may be answered by this text, one after another
-abbrev pub AreAnswers : Option (MapState ℕ ℕ) → List (List ℕ) → List ℕ → Option (MapState ℕ ℕ) → Type 0
+abbrev pub AreAnswers : Option ScriptMap → List (List ℕ) → List ℕ → Option ScriptMap → Type 0
 AreAnswers old [] text new = (text ≡ []) × (new ≡ old)
 AreAnswers old (line ∷ lines) text new =
-    (length line ≤ 4096) × ((first : List ℕ) × (rest : List ℕ) × (between : Option (MapState ℕ ℕ))
+    (length line ≤ 4096) × ((first : List ℕ) × (rest : List ℕ) × (between : Option ScriptMap)
     × IsAnswer old line first between × AreAnswers between lines rest new × (text ≡ first ++ rest))
 
--- a call or an epoch, which needs a table
-abbrev pub NeedsTable : Request → Type 0
-NeedsTable (New table) = ⊥
-NeedsTable (Calls call) = Unit {0}
-NeedsTable (Epoch generation) = Unit {0}
-
 -- the line is too long, or has words that ask for nothing but perhaps a call or an epoch before the first table
-abbrev pub IsUnreadable : Option (MapState ℕ ℕ) → List ℕ → Type 0
-IsUnreadable table line =
-    (4096 < length line)
-    ⊎ ((words_of line ≡ [] → ⊥) × ((request : Request) → Asks (words_of line) request → NeedsTable request × (table ≡ None)))
+abbrev pub IsUnreadable : Option ScriptMap → List ℕ → Type 0
+IsUnreadable table line = (4096 < length line) ⊎ ((parts_of line ≡ [] → ⊥)
+    × ((request : Request) → Asks (parts_of line) request → (table ≡ None) × ((new : NewTable) → request ≡ New new → ⊥)))

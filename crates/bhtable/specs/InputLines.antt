@@ -1,6 +1,9 @@
 -- The lines of an input.
-use Rattle.std.specs.Prelude.{ℕ, List, [], ◌∷◌, ◌++◌, ◌==◌, cond, take}
-use Rattle.bhtable.specs.Lines.{line_len}
+use Rattle.std.specs.Prelude.{ℕ, ◌-◌, List, [], ◌∷◌, ◌++◌, ◌==◌, cond, if◌then◌else◌, length, slice_index, take}
+
+-- how many bytes of a line count: all but one carriage return at their end
+abbrev pub line_len : List ℕ → ℕ
+line_len bytes = if slice_index bytes (length bytes - 1) == 13 then length bytes - 1 else length bytes
 
 -- the bytes of a line, but for one carriage return at their end
 abbrev pub without_return : List ℕ → List ℕ

@@ -1,14 +1,8 @@
 pub mod Answers
 pub mod InputLines
-pub mod Limits
-pub mod Lines
-pub mod Meanings
+pub mod Layout
 pub mod Numbers
 pub mod Outputs
-pub mod Replies
 pub mod Requests
-pub mod Sessions
-pub mod Status
 pub mod Texts
-pub mod Window
 pub mod Words

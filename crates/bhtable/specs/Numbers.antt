@@ -1,5 +1,5 @@
 -- The numbers of a line.
-use Rattle.std.specs.Prelude.{ℕ, ◌≡◌, ◌+◌, ◌-◌, ◌*◌, ◌<◌, ◌≤◌, ◌^◌, List, [], ◌∷◌, length, IsTrue}
+use Rattle.std.specs.Prelude.{ℕ, ◌+◌, ◌-◌, ◌*◌, ◌^◌, Bool, ◌&&◌, List, [], ◌∷◌, length, nat_le, nat_lt}
 use Rattle.std.specs.Str.{all_ascii_digits}
 
 -- the number that decimal digits write when they follow those of `number`
@@ -12,16 +12,5 @@ abbrev pub value_of : List ℕ → ℕ
 value_of digits = value_after 0 digits
 
 -- 1 to 20 decimal digits, which write a number below 2^64
-pub record IsNumber (word : List ℕ) : Type 0 where
-  pub some : 0 < length word
-  pub few : length word ≤ 20
-  pub digits : IsTrue (all_ascii_digits word)
-  pub fits : value_of word < 2 ^ 64
-
--- the word is that number
-abbrev pub Writes : List ℕ → ℕ → Type 0
-Writes word number = IsNumber word × (value_of word ≡ number)
-
--- the first of the words isn't a number
-abbrev pub NoNumberIsNext : List (List ℕ) → Type 0
-NoNumberIsNext words = (word : List ℕ) (rest : List (List ℕ)) → words ≡ word ∷ rest → IsNumber word → ⊥
+unfoldable pub is_number : List ℕ → Bool
+is_number bytes = nat_lt 0 (length bytes) && nat_le (length bytes) 20 && all_ascii_digits bytes && nat_lt (value_of bytes) (2 ^ 64)

@@ -1,17 +1,14 @@
 -- What a script leaves in its output.
 use Rattle.std.specs.Prelude.{ℕ, ◌≡◌, ◌⊎◌, ◌+◌, List, [], ◌∷◌, ◌++◌, Option, None, IfSome, codes, length}
 use Rattle.std.specs.Io.KnownBytes.{Appends}
-use Rattle.bucket_table.specs.MapState.{MapState}
-use Rattle.bhtable.specs.Answers.{AreAnswers, IsUnreadable}
+use Rattle.bhtable.specs.Answers.{AreAnswers, IsUnreadable, ScriptMap}
 use Rattle.bhtable.specs.InputLines.{lines_of}
 use Rattle.bhtable.specs.Texts.{bad_line, line_of}
-use Rattle.bhtable.specs.declared.stop.Stop.{Stop}
-use Rattle.bhtable.specs.declared.stop.Stop.TheVariants.{BadLine, NoMemory, InputFailed, OutputFailed}
 
 -- the output grew by the answers of all these lines, and then by `last`
 pub record HasAnswered (lines : List (List ℕ)) (old new : Option (List ℕ)) (last : List ℕ) : Type 0 where
   pub text : List ℕ
-  pub table : Option (MapState ℕ ℕ)
+  pub table : Option ScriptMap
   pub answers : AreAnswers None lines text table
   pub written : Appends old new (text ++ last)
 
@@ -23,41 +20,21 @@ pub record HasAnsweredSome (lines : List (List ℕ)) (old new : Option (List ℕ
   pub answered : HasAnswered first old new last
 
 -- the output grew by the answers of the lines before one that can't be read, and then by its number
-pub record HasBadLine (lines : List (List ℕ)) (old new : Option (List ℕ)) (number : ℕ) : Type 0 where
+pub record HasBadLine (lines : List (List ℕ)) (old new : Option (List ℕ)) : Type 0 where
   pub first : List (List ℕ)
   pub line : List ℕ
   pub others : List (List ℕ)
   pub in_order : lines ≡ first ++ line ∷ others
-  pub numbered : number ≡ length first + 1
-  pub answered : HasAnswered first old new (bad_line number)
+  pub answered : HasAnswered first old new (bad_line (length first + 1))
   pub unreadable : IsUnreadable answered.table line
-
--- the output up to a stop, before a last line that tells of it; a writer that fails leaves nothing known
-abbrev pub IsOutputUpTo : Stop → List (List ℕ) → Option (List ℕ) → Option (List ℕ) → Type 0
-IsOutputUpTo (BadLine number) lines old new = HasBadLine lines old new number
-IsOutputUpTo NoMemory lines old new = HasAnsweredSome lines old new []
-IsOutputUpTo InputFailed lines old new = HasAnsweredSome lines old new []
-IsOutputUpTo OutputFailed lines old new = Unit {0}
-
--- the last line that a stop adds to what is in the output already
-abbrev pub last_line_of : Stop → List ℕ
-last_line_of (BadLine number) = []
-last_line_of NoMemory = line_of (codes "no memory")
-last_line_of InputFailed = line_of (codes "input failed")
-last_line_of OutputFailed = []
-
--- the bytes are those that a reader has left, where they are known
-abbrev pub IsInput : Option (List ℕ) → List ℕ → Type 0
-IsInput known bytes = IfSome known (λ all. all ≡ bytes)
 
 -- every line was answered at 0, every line before the one that is named at 2, and the first lines at 3
 abbrev pub IsOutputOf : List (List ℕ) → Option (List ℕ) → Option (List ℕ) → ℕ → Type 0
 IsOutputOf lines old new status =
     ((status ≡ 0) × HasAnswered lines old new [])
-    ⊎ ((status ≡ 2) × ((number : ℕ) × HasBadLine lines old new number))
-    ⊎ ((status ≡ 3) × HasAnsweredSome lines old new (line_of (codes "no memory")))
-    ⊎ (status ≡ 4)
+    ⊎ ((status ≡ 2) × HasBadLine lines old new)
+    ⊎ ((status ≡ 3) × HasAnsweredSome lines old new (line_of (codes "no memory"))) ⊎ (status ≡ 4)
 
--- an input, known or not, was answered so, with this status
+-- an input, whose bytes may be known, was answered so, with this status
 abbrev pub IsServed : Option (List ℕ) → Option (List ℕ) → Option (List ℕ) → ℕ → Type 0
-IsServed input old new status = (bytes : List ℕ) × IsInput input bytes × IsOutputOf (lines_of bytes) old new status
+IsServed input old new status = (bytes : List ℕ) × IfSome input (λ all. all ≡ bytes) × IsOutputOf (lines_of bytes) old new status

@@ -1,5 +1,5 @@
 -- The text of replies.
-use Rattle.std.specs.Prelude.{ℕ, true, false, List, [], ◌∷◌, ◌++◌, codes}
+use Rattle.std.specs.Prelude.{ℕ, List, [], ◌∷◌, ◌++◌, codes, if◌then◌else◌}
 use Rattle.std.specs.Fmt.{decimal}
 use Rattle.bucket_table.specs.declared.script.reply.Reply.{Reply}
 use Rattle.bucket_table.specs.declared.script.reply.Reply.TheVariants.{Done, Present, Absent, Value, Old, Pair, Nothing, Number, Truth, Refused, WrongKind}
@@ -14,8 +14,7 @@ text_of (Old value) = codes "old " ++ decimal value
 text_of (Pair key value) = codes "pair " ++ decimal key ++ codes " " ++ decimal value
 text_of Nothing = codes "nothing"
 text_of (Number number) = decimal number
-text_of (Truth true) = codes "true"
-text_of (Truth false) = codes "false"
+text_of (Truth truth) = if truth then codes "true" else codes "false"
 text_of Refused = codes "refused 3"
 text_of WrongKind = codes "wrong kind"
 
@@ -26,8 +25,3 @@ line_of text = text ++ 10 ∷ []
 -- the line that tells of a line that can't be read
 abbrev pub bad_line : ℕ → List ℕ
 bad_line number = line_of (codes "bad line " ++ decimal number)
-
--- the lines of replies
-abbrev pub lines_of_replies : List (Reply ℕ ℕ) → List ℕ
-lines_of_replies [] = []
-lines_of_replies (reply ∷ replies) = line_of (text_of reply) ++ lines_of_replies replies

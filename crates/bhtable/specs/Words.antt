@@ -1,5 +1,6 @@
 -- The words of a line.
-use Rattle.std.specs.Prelude.{ℕ, List, [], ◌∷◌, ◌++◌, Bool, ◌==◌, ◌||◌, cond}
+use Rattle.std.specs.Prelude.{ℕ, List, [], ◌∷◌, ◌++◌, Bool, ◌==◌, ◌||◌, cond, map}
+use Rattle.bhtable.specs.Numbers.{is_number, value_of}
 
 -- a space or a tab
 abbrev pub is_blank : ℕ → Bool
@@ -19,3 +20,16 @@ words_after word (byte ∷ bytes) =
 -- what stands between blanks
 abbrev pub words_of : List ℕ → List (List ℕ)
 words_of bytes = words_after [] bytes
+
+-- a part of a line: a number, or a text that is none
+pub data Part : Type 0 where
+  number : ℕ → Part
+  text : List ℕ → Part
+
+-- the part that a word is
+unfoldable pub part_of : List ℕ → Part
+part_of bytes = cond (is_number bytes) (number (value_of bytes)) (text bytes)
+
+-- the words of the bytes, as parts of a line
+abbrev pub parts_of : List ℕ → List Part
+parts_of bytes = map part_of (words_of bytes)

@@ -8,6 +8,7 @@ use crate::stop::Stop;
 use crate::window::Window;
 use std::alloc::{AllocError, Global};
 use std::io::Read;
+use std::marker::Model;
 
 /// The most bytes of a line, without its newline and the one carriage return before that.
 pub(crate) const LONGEST_LINE: usize = 4096;
@@ -41,16 +42,28 @@ pub(crate) enum Found {
     End,
 }
 
+impl<R: Read> Model for Lines<R> {
+    ghost use Rattle.bhtable.specs.Layout.LinesView.{LinesView};
+    ghost use Rattle.bhtable.specs.Layout.Window.{unread};
+
+    ghost Value = { LinesView };
+
+    ghost view = { λ lines. record {
+      unread = unread lines.window;
+      is_ended = lines.is_ended;
+      left = R.remaining lines.input;
+    } };
+}
+
 impl<R: Read + Drop> Lines<R> {
     ghost use Rattle.std.specs.Prelude.{ℕ, ◌⊎◌, ◌<◌, true, false, List, [], ◌++◌, take, drop, IfErr, IfOk, OnErr};
     ghost use Rattle.std.specs.Io.KnownBytes.{Consumes, IsAtEnd, Keeps};
-    ghost use Rattle.bhtable.specs.Lines.{IsFoundIn, IsWithin};
-    ghost use Rattle.bhtable.specs.Window.{unread};
+    ghost use Rattle.bhtable.specs.Layout.Found.{IsFoundIn, IsWithin};
 
     /// The lines of a reader of which nothing is read yet.
     pub(crate) fn new(alloc: Global, input: R) -> Result<Self, AllocError>
-        ensures { IfOk result (λ lines. (unread lines.window ≡ []) × (lines.is_ended ≡ false)
-            × (R.remaining lines.input ≡ R.remaining input)) }
+        ensures { IfOk result (λ lines. (lines.unread ≡ []) × (lines.is_ended ≡ false)
+            × (lines.left ≡ R.remaining input)) }
     {
         Ok(Lines {
             input,
@@ -61,8 +74,8 @@ impl<R: Read + Drop> Lines<R> {
 
     /// What stands at the front.
     pub(crate) fn find(&self) -> Found
-        ensures found { IsFoundIn self.now.is_ended (unread self.now.window) result }
-        ensures within { IsWithin (unread self.now.window) result }
+        ensures found { IsFoundIn self.now.is_ended self.now.unread result }
+        ensures within { IsWithin self.now.unread result }
     {
         let unread = self.window.unread();
         match newline_in(unread) {
@@ -76,17 +89,17 @@ impl<R: Read + Drop> Lines<R> {
 
     /// The bytes of a line that was found.
     pub(crate) fn bytes(&self, line: Line) -> &[u8]
-        requires { line.whole_len ≤ length (unread self.now.window) }
-        ensures { result.now ≡ take line.len (unread self.now.window) }
+        requires { line.whole_len ≤ length self.now.unread }
+        ensures { result.now ≡ take line.len self.now.unread }
     {
         &self.window.unread()[..line.len]
     }
 
     /// Passes a line that was found.
     pub(crate) fn pass(&mut self, line: Line)
-        requires { line.whole_len ≤ length (unread self.old.window) }
-        ensures passed { unread self.new.window ≡ drop line.whole_len (unread self.old.window) }
-        ensures input { self.new.input ≡ self.old.input }
+        requires { line.whole_len ≤ length self.old.unread }
+        ensures passed { self.new.unread ≡ drop line.whole_len self.old.unread }
+        ensures left { self.new.left ≡ self.old.left }
         ensures ended { self.new.is_ended ≡ self.old.is_ended }
     {
         self.window.pass(line.whole_len);
@@ -94,14 +107,14 @@ impl<R: Read + Drop> Lines<R> {
 
     /// Reads once, behind what isn't passed yet; a read that is interrupted is repeated.
     pub(crate) fn read_more(&mut self) -> Result<(), Stop>
-        requires { length (unread self.old.window) ≤ 4097 }
+        requires { length self.old.unread ≤ 4097 }
         ensures read { IfOk result (λ _. (more : List ℕ)
-            × (unread self.new.window ≡ unread self.old.window ++ more)
-            × Consumes (R.remaining self.old.input) (R.remaining self.new.input) more
-            × (((self.new.is_ended ≡ true) × IsAtEnd (R.remaining self.new.input))
+            × (self.new.unread ≡ self.old.unread ++ more)
+            × Consumes self.old.left self.new.left more
+            × (((self.new.is_ended ≡ true) × IsAtEnd self.new.left)
             ⊎ ((self.new.is_ended ≡ self.old.is_ended) × (0 < length more)))) }
-        ensures kept { OnErr result ((unread self.new.window ≡ unread self.old.window)
-            × Keeps (R.remaining self.old.input) (R.remaining self.new.input)) }
+        ensures kept { OnErr result ((self.new.unread ≡ self.old.unread)
+            × Keeps self.old.left self.new.left) }
         ensures stop { IfErr result (λ stop. stop ≡ Stop.InputFailed) }
     {
         match self.window.read_from(&mut self.input) {
@@ -121,7 +134,7 @@ fn newline_in(bytes: &[u8]) -> Option<usize>
 
 impl Found {
     ghost use Rattle.std.specs.Prelude.{take};
-    ghost use Rattle.bhtable.specs.Lines.{IsFound, IsWithin};
+    ghost use Rattle.bhtable.specs.Layout.Found.{IsFound, IsWithin};
 
     // A line of `len` bytes but for the one carriage return that may end them.
     fn of(bytes: &[u8], len: usize, whole_len: usize) -> Found

@@ -3,9 +3,9 @@
 
 ghost use Rattle.std.specs.Prelude.{◌≡◌, ℕ, false, List, [], MatchResult};
 ghost use Rattle.bhtable.specs.InputLines.{lines_of};
-ghost use Rattle.bhtable.specs.Outputs.{HasAnswered, IsInput, IsOutputUpTo, IsServed};
-ghost use Rattle.bhtable.specs.Sessions.{HasEnded, HasTaken};
-ghost use Rattle.bhtable.specs.Window.{unread};
+ghost use Rattle.bhtable.specs.Layout.Stops.{IsInput, IsOutputUpTo};
+ghost use Rattle.bhtable.specs.Outputs.{HasAnswered, IsServed};
+ghost use Rattle.bhtable.specs.Layout.Sessions.{HasEnded, HasTaken};
 
 mod line;
 mod meanings;
@@ -64,10 +64,10 @@ fn answer_lines<R: Read + Drop, W: Write>(
     session: &mut Session,
     output: &mut W,
 ) -> Result<(), Stop>
-    requires none { unread lines.old.window ≡ [] }
+    requires none { lines.old.unread ≡ [] }
     requires goes_on { lines.old.is_ended ≡ false }
     requires fresh { HasTaken (W.contents output.old) (W.contents output.old) session.old [] }
-    ensures { (bytes : List ℕ) × IsInput (R.remaining lines.old.input) bytes
+    ensures { (bytes : List ℕ) × IsInput lines.old.left bytes
         × HasEnded result (W.contents output.old) (W.contents output.new) session.new (lines_of bytes) }
 {
     let mut number = 0;

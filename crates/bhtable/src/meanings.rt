@@ -1,6 +1,6 @@
 //! What words mean, by tables of words and meanings.
 ghost use Rattle.std.specs.Prelude.{◌≡◌, map};
-ghost use Rattle.bhtable.specs.Meanings.{meaning};
+ghost use Rattle.bhtable.specs.Layout.Meanings.{meaning};
 
 /// Returns what a word means: what stands beside it in the first row that has it, if one has.
 ///

@@ -1,7 +1,7 @@
 //! Replies on their way to a writer.
-ghost use Rattle.std.specs.Prelude.{◌≡◌, ◌-◌, ◌≤◌, [], IfErr, IfOk, OnOk, length};
+ghost use Rattle.std.specs.Prelude.{◌≡◌, ◌-◌, ◌≤◌, ℕ, List, [], IfErr, IfOk, OnOk, length};
 ghost use Rattle.std.specs.Io.KnownBytes.{Appends, Keeps, append_known};
-ghost use Rattle.bhtable.specs.Replies.{ArePushed, IsPushed, IsTold};
+ghost use Rattle.bhtable.specs.Layout.Replies.{ArePushed, IsPushed, IsTold};
 ghost use Rattle.bhtable.specs.Texts.{bad_line, line_of, text_of};
 
 use crate::stop::Stop;
@@ -9,6 +9,7 @@ use crate::text::{append_bad_line, append_reply};
 use bucket_table::script::Reply;
 use std::alloc::{AllocError, Global};
 use std::io::Write;
+use std::marker::Model;
 
 // How much is written at a time.
 const TEXT_CAPACITY: usize = 64 * 1024;
@@ -16,16 +17,22 @@ const TEXT_CAPACITY: usize = 64 * 1024;
 // More than the longest reply, of a word and two numbers.
 const REPLY_ROOM: usize = 64;
 
-/// Replies on their way to a writer.
+/// Replies on their way to a writer: their text, as far as it isn't written.
 #[derive(Drop)]
 pub(crate) struct Replies {
     text: Vec<u8>,
 }
 
+impl Model for Replies {
+    ghost Value = { List ℕ };
+
+    ghost view = { λ replies. replies.text.items };
+}
+
 impl Replies {
     /// No replies yet.
     pub(crate) fn new(alloc: Global) -> Result<Self, AllocError>
-        ensures { IfOk result (λ replies. replies.text.items ≡ []) }
+        ensures { IfOk result (λ replies. replies ≡ []) }
     {
         let text = Vec::with_capacity(alloc, TEXT_CAPACITY)?;
         Ok(Replies { text })
@@ -37,8 +44,8 @@ impl Replies {
         replies: &[Reply<u64, u64>],
         output: &mut W,
     ) -> Result<(), Stop>
-        ensures { ArePushed result (append_known (W.contents output.old) self.old.text.items)
-            (append_known (W.contents output.new) self.new.text.items) replies.now }
+        ensures { ArePushed result (append_known (W.contents output.old) self.old)
+            (append_known (W.contents output.new) self.new) replies.now }
     {
         for reply in replies {
             self.push(reply, output)?;
@@ -52,8 +59,8 @@ impl Replies {
         reply: &Reply<u64, u64>,
         output: &mut W,
     ) -> Result<(), Stop>
-        ensures { IsPushed result (append_known (W.contents output.old) self.old.text.items)
-            (append_known (W.contents output.new) self.new.text.items) (line_of (text_of reply.now)) }
+        ensures { IsPushed result (append_known (W.contents output.old) self.old)
+            (append_known (W.contents output.new) self.new) (line_of (text_of reply.now)) }
     {
         self.make_room(output)?;
         let len = self.text.len();
@@ -66,8 +73,8 @@ impl Replies {
 
     /// Appends that a line can't be read, where that is the stop.
     pub(crate) fn push_stop<W: Write>(&mut self, stop: Stop, output: &mut W) -> Result<(), Stop>
-        ensures { IsTold stop result (append_known (W.contents output.old) self.old.text.items)
-            (append_known (W.contents output.new) self.new.text.items) }
+        ensures { IsTold stop result (append_known (W.contents output.old) self.old)
+            (append_known (W.contents output.new) self.new) }
     {
         match stop {
             Stop::BadLine(number) => self.push_bad_line(number, output),
@@ -77,8 +84,8 @@ impl Replies {
 
     // Appends that the line of this number can't be read.
     fn push_bad_line<W: Write>(&mut self, number: u64, output: &mut W) -> Result<(), Stop>
-        ensures { IsPushed result (append_known (W.contents output.old) self.old.text.items)
-            (append_known (W.contents output.new) self.new.text.items) (bad_line number) }
+        ensures { IsPushed result (append_known (W.contents output.old) self.old)
+            (append_known (W.contents output.new) self.new) (bad_line number) }
     {
         self.make_room(output)?;
         let len = self.text.len();
@@ -91,9 +98,9 @@ impl Replies {
 
     /// Writes every reply out and flushes the writer.
     pub(crate) fn write_out<W: Write>(&mut self, output: &mut W) -> Result<(), Stop>
-        ensures empty { OnOk result (self.new.text.items ≡ []) }
+        ensures empty { OnOk result (self.new ≡ []) }
         ensures written { OnOk result (Appends (W.contents output.old) (W.contents output.new)
-            self.old.text.items) }
+            self.old) }
         ensures stop { IfErr result (λ stop. stop ≡ Stop.OutputFailed) }
     {
         if self.text.is_empty() {
@@ -105,9 +112,9 @@ impl Replies {
 
     // Room for a line more, which writing makes.
     fn make_room<W: Write>(&mut self, output: &mut W) -> Result<(), Stop>
-        ensures room { OnOk result (length self.new.text.items ≤ TEXT_CAPACITY - REPLY_ROOM) }
-        ensures kept { OnOk result (Keeps (append_known (W.contents output.old) self.old.text.items)
-            (append_known (W.contents output.new) self.new.text.items)) }
+        ensures room { OnOk result (length self.new ≤ TEXT_CAPACITY - REPLY_ROOM) }
+        ensures kept { OnOk result (Keeps (append_known (W.contents output.old) self.old)
+            (append_known (W.contents output.new) self.new)) }
         ensures stop { IfErr result (λ stop. stop ≡ Stop.OutputFailed) }
     {
         if self.text.len() > TEXT_CAPACITY - REPLY_ROOM {
@@ -118,9 +125,9 @@ impl Replies {
 
     // What can't be written is let go.
     fn write_text<W: Write>(&mut self, output: &mut W) -> Result<(), Stop>
-        ensures empty { self.new.text.items ≡ [] }
+        ensures empty { self.new ≡ [] }
         ensures written { OnOk result (Appends (W.contents output.old) (W.contents output.new)
-            self.old.text.items) }
+            self.old) }
         ensures stop { IfErr result (λ stop. stop ≡ Stop.OutputFailed) }
     {
         let written = output.write_all(self.text.as_slice());

@@ -2,13 +2,14 @@
 //!
 //! Words are compared as bytes. Whatever isn't UTF-8 stands in a word that no line has, so it needs
 //! no test of its own.
-ghost use Rattle.std.specs.Prelude.{◌≡◌, ◌↔◌, ℕ, Bool, List, [], ◌∷◌, ◌++◌, IfNone, IfOk, IfSome, IsSome, MatchOption, OnErr, length};
-ghost use Rattle.bhtable.specs.Limits.{AreLimits};
-ghost use Rattle.bhtable.specs.Requests.{Asks, AsksForEpoch, AsksForTable, AsksNothing, IsRefused, NoEpochIsNext, NoTableIsNext, count_of, hash_word, kind_word, mark_word, verb_word};
-ghost use Rattle.bhtable.specs.Words.{words_of};
-ghost use Rattle.bhtable.specs.declared.request.Kind.{Kind};
-ghost use Rattle.bhtable.specs.declared.request.Verb.{Verb};
-ghost use Rattle.bucket_table.specs.declared.script.hashes.ScriptHash.{ScriptHash};
+ghost use Rattle.std.specs.Prelude.{◌≡◌, ◌≤◌, ◌↔◌, ℕ, List, [], ◌∷◌, IfNone, IfOk, IfSome, IsSome, MatchOption, OnErr, length, take};
+ghost use Rattle.bhtable.specs.Layout.Forms.{AsksNothing, Begins, IsMeant, form_word};
+ghost use Rattle.bhtable.specs.Requests.{AreLimits, Asks, call_line, hash_word, kind_word, mark_word, request_line};
+ghost use Rattle.bhtable.specs.Words.{Part, part_of, parts_of};
+ghost use Rattle.bhtable.specs.declared.request.NewTable.{NewTable};
+ghost use Rattle.bhtable.specs.declared.request.Request.{Request};
+ghost use Rattle.bucket_table.specs.declared.script.call.Call.{Call};
+ghost use Rattle.bucket_table.specs.declared.script.generation.FixedGeneration.{FixedGeneration};
 
 use crate::meanings::meaning_of;
 use crate::words::Words;
@@ -52,34 +53,30 @@ pub(crate) struct Limits {
     pub(crate) maximum: usize,
 }
 
-// The first word of a line.
+// What stands behind the verb of a line.
 #[derive(Clone, Copy)]
-enum Verb {
-    New,
-    Put,
-    Write,
-    Read,
-    Peek,
-    Remove,
-    Touch,
-    Evict,
-    Count,
-    Has,
+enum Form {
+    // A kind, a hash and two limits.
+    Table,
+    // A byte, and whether marks are kept.
     Epoch,
+    // The numbers of a call like this one.
+    Call(Call<u64, u64>),
 }
 
-const VERBS: [(&[u8], Verb); 11] = [
-    (b"new", Verb::New),
-    (b"put", Verb::Put),
-    (b"write", Verb::Write),
-    (b"read", Verb::Read),
-    (b"peek", Verb::Peek),
-    (b"remove", Verb::Remove),
-    (b"touch", Verb::Touch),
-    (b"evict", Verb::Evict),
-    (b"count", Verb::Count),
-    (b"has", Verb::Has),
-    (b"epoch", Verb::Epoch),
+// Each verb, and its form: of a call, with zeros where a line has its numbers.
+const FORMS: [(&[u8], Form); 11] = [
+    (b"new", Form::Table),
+    (b"epoch", Form::Epoch),
+    (b"put", Form::Call(Call::Put(0, 0))),
+    (b"write", Form::Call(Call::Write(0, 0))),
+    (b"read", Form::Call(Call::Read(0))),
+    (b"peek", Form::Call(Call::Peek(0))),
+    (b"remove", Form::Call(Call::Remove(0))),
+    (b"touch", Form::Call(Call::Touch(0))),
+    (b"evict", Form::Call(Call::Evict(0))),
+    (b"count", Form::Call(Call::Count)),
+    (b"has", Form::Call(Call::Has)),
 ];
 
 const KINDS: [(&[u8], Kind); 3] = [
@@ -100,9 +97,9 @@ const MARKS: [(&[u8], bool); 2] = [(b"keep", true), (b"drop", false)];
 /// Reads what a line asks for: nothing, where it has no words.
 pub(crate) fn request_in(line: &[u8]) -> Result<Option<Request>, Unreadable>
     ensures asked { IfOk result (λ request.
-        MatchOption request (words_of line.now ≡ []) (Asks (words_of line.now))) }
-    ensures unreadable { OnErr result ((words_of line.now ≡ [] → ⊥)
-        × AsksNothing (words_of line.now)) }
+        MatchOption request (parts_of line.now ≡ []) (Asks (parts_of line.now))) }
+    ensures unreadable { OnErr result ((parts_of line.now ≡ [] → ⊥)
+        × AsksNothing (parts_of line.now)) }
 {
     let mut words = Words::of(line);
     let Some(first) = words.next_word() else {
@@ -115,53 +112,80 @@ pub(crate) fn request_in(line: &[u8]) -> Result<Option<Request>, Unreadable>
 }
 
 // What a line asks for, with no word left over.
-#[tactic(auto, using(crate::proofs::Refusing::refused_words, crate::proofs::Refusing::words_left))]
 fn whole_request(first: &[u8], words: Words<'_>) -> Option<Request>
-    ensures asked { IfSome result (Asks (first.now ∷ words_of words.entry.rest.now)) }
-    ensures refused { IfNone result (AsksNothing (first.now ∷ words_of words.entry.rest.now)) }
+    ensures asked { IfSome result (Asks (part_of first.now ∷ words.entry)) }
+    ensures refused { IfNone result (AsksNothing (part_of first.now ∷ words.entry)) }
 {
     let mut words = words;
-    let request = request_of(verb_of(first)?, &mut words)?;
+    let form = meaning_of(&FORMS, first)?;
+    let request = request_of(form, &mut words)?;
     match words.next_word() {
         None => Some(request),
         Some(_) => None,
     }
 }
 
-fn verb_of(word: &[u8]) -> Option<Verb>
-    ensures named { IfSome result (λ verb. word.now ≡ verb_word verb) }
-    ensures refused { IfNone result ((verb : Verb) → word.now ≡ verb_word verb → ⊥) }
+// What a verb of this form asks for with the words behind it.
+fn request_of(form: Form, words: &mut Words<'_>) -> Option<Request>
+    ensures asked { IfSome result (λ request. ((request_line request).0 ≡ form_word form)
+        × Begins words.old request words.new) }
+    ensures refused { IfNone result ((request : Request) (rest : List Part)
+        → (request_line request).0 ≡ form_word form → Begins words.old request rest → ⊥) }
 {
-    meaning_of(&VERBS, word)
+    match form {
+        Form::Table => Some(Request::New(new_table(words)?)),
+        Form::Epoch => Some(Request::Epoch(generation_in(words)?)),
+        Form::Call(model) => Some(Request::Call(call_in(model, words)?)),
+    }
 }
 
-// What a verb asks for with the words behind it.
-fn request_of(verb: Verb, words: &mut Words<'_>) -> Option<Request>
-    ensures asked { IfSome result (λ request. (used : List (List ℕ)) × (length used ≡ count_of verb)
-        × (words_of words.old.rest.now ≡ used ++ words_of words.new.rest.now)
-        × Asks (verb_word verb ∷ used) request) }
-    ensures refused { IfNone result (IsRefused verb (words_of words.old.rest.now)) }
+// A call like the model, with the numbers of a line.
+fn call_in(model: Call<u64, u64>, words: &mut Words<'_>) -> Option<Call<u64, u64>>
+    ensures asked { IfSome result (λ call. ((call_line call).0 ≡ (call_line model).0)
+        × Begins words.old (Request.Call call) words.new) }
+    ensures refused { IfNone result ((call : Call ℕ ℕ) (rest : List Part)
+        → (call_line call).0 ≡ (call_line model).0 → Begins words.old (Request.Call call) rest → ⊥) }
 {
-    match verb {
-        Verb::New => Some(Request::New(new_table(words)?)),
-        Verb::Put => Some(Request::Call(Call::Put(words.number()?, words.number()?))),
-        Verb::Write => Some(Request::Call(Call::Write(words.number()?, words.number()?))),
-        Verb::Read => Some(Request::Call(Call::Read(words.number()?))),
-        Verb::Peek => Some(Request::Call(Call::Peek(words.number()?))),
-        Verb::Remove => Some(Request::Call(Call::Remove(words.number()?))),
-        Verb::Touch => Some(Request::Call(Call::Touch(words.number()?))),
-        Verb::Evict => Some(Request::Call(Call::Evict(words.number()?))),
-        Verb::Count => Some(Request::Call(Call::Count)),
-        Verb::Has => Some(Request::Call(Call::Has)),
-        Verb::Epoch => Some(Request::Epoch(generation_in(words)?)),
+    match operand_len(model) {
+        0 => Some(call_of(model, 0, 0)),
+        1 => Some(call_of(model, words.number()?, 0)),
+        _ => Some(call_of(model, words.number()?, words.number()?)),
+    }
+}
+
+// How many numbers stand behind a call's verb.
+fn operand_len(call: Call<u64, u64>) -> usize
+    ensures len { result ≡ length (call_line call).1 }
+    ensures few { result ≤ 2 }
+{
+    match call {
+        Call::Count | Call::Has => 0,
+        Call::Put(..) | Call::Write(..) => 2,
+        _ => 1,
+    }
+}
+
+// A call like the model, with as many of these numbers as it has.
+fn call_of(model: Call<u64, u64>, first: u64, second: u64) -> Call<u64, u64>
+    ensures { call_line result
+        ≡ ((call_line model).0, take (length (call_line model).1) (first ∷ second ∷ [])) }
+{
+    match model {
+        Call::Put(..) => Call::Put(first, second),
+        Call::Write(..) => Call::Write(first, second),
+        Call::Read(_) => Call::Read(first),
+        Call::Peek(_) => Call::Peek(first),
+        Call::Remove(_) => Call::Remove(first),
+        Call::Touch(_) => Call::Touch(first),
+        Call::Evict(_) => Call::Evict(first),
+        Call::Count | Call::Has => model,
     }
 }
 
 fn new_table(words: &mut Words<'_>) -> Option<NewTable>
-    ensures asked { IfSome result (λ new. (used : List (List ℕ)) × (length used ≡ count_of Verb.New)
-        × (words_of words.old.rest.now ≡ used ++ words_of words.new.rest.now)
-        × AsksForTable used new) }
-    ensures refused { IfNone result (NoTableIsNext (words_of words.old.rest.now)) }
+    ensures asked { IfSome result (λ new. Begins words.old (Request.New new) words.new) }
+    ensures refused { IfNone result ((new : NewTable) (rest : List Part)
+        → Begins words.old (Request.New new) rest → ⊥) }
 {
     let kind = kind_of(words.next_word()?)?;
     let hash = hash_of(words.next_word()?)?;
@@ -172,24 +196,22 @@ fn new_table(words: &mut Words<'_>) -> Option<NewTable>
 }
 
 fn kind_of(word: &[u8]) -> Option<Kind>
-    ensures named { IfSome result (λ kind. word.now ≡ kind_word kind) }
-    ensures refused { IfNone result ((kind : Kind) → word.now ≡ kind_word kind → ⊥) }
+    ensures { IsMeant kind_word (part_of word.now) result }
 {
     meaning_of(&KINDS, word)
 }
 
 fn hash_of(word: &[u8]) -> Option<ScriptHash>
-    ensures named { IfSome result (λ hash. word.now ≡ hash_word hash) }
-    ensures refused { IfNone result ((hash : ScriptHash) → word.now ≡ hash_word hash → ⊥) }
+    ensures { IsMeant hash_word (part_of word.now) result }
 {
     meaning_of(&HASHES, word)
 }
 
 fn generation_in(words: &mut Words<'_>) -> Option<FixedGeneration>
-    ensures asked { IfSome result (λ generation. (used : List (List ℕ)) × (length used ≡ count_of Verb.Epoch)
-        × (words_of words.old.rest.now ≡ used ++ words_of words.new.rest.now)
-        × AsksForEpoch used generation) }
-    ensures refused { IfNone result (NoEpochIsNext (words_of words.old.rest.now)) }
+    ensures asked { IfSome result (λ generation.
+        Begins words.old (Request.Epoch generation) words.new) }
+    ensures refused { IfNone result ((generation : FixedGeneration) (rest : List Part)
+        → Begins words.old (Request.Epoch generation) rest → ⊥) }
 {
     let epoch = words.number()?;
     let keep = keep_of(words.next_word()?)?;
@@ -201,8 +223,7 @@ fn generation_in(words: &mut Words<'_>) -> Option<FixedGeneration>
 }
 
 fn keep_of(word: &[u8]) -> Option<bool>
-    ensures named { IfSome result (λ keep. word.now ≡ mark_word keep) }
-    ensures refused { IfNone result ((keep : Bool) → word.now ≡ mark_word keep → ⊥) }
+    ensures { IsMeant mark_word (part_of word.now) result }
 {
     meaning_of(&MARKS, word)
 }

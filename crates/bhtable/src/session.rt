@@ -3,15 +3,13 @@
 //! Calls are gathered and given to the table together, since it makes room for all their replies at
 //! once. They are answered before a `new` and an `epoch`, before the output is written, and where
 //! 1,024 wait.
-ghost use Rattle.std.specs.Prelude.{◌≡◌, ◌⊎◌, ◌≤◌, ◌↔◌, ℕ, List, [], ◌∷◌, ◌++◌, Option, IfErr, IfOk, IsSome, MatchResult, OnErr, OnOk, length, nat_eq, true};
-ghost use Rattle.bucket_table.specs.Runs.{Run};
+ghost use Rattle.std.specs.Prelude.{◌≡◌, ◌⊎◌, ◌≤◌, ◌↔◌, ℕ, List, [], ◌∷◌, ◌++◌, Option, IfErr, IfOk, IsSome, MatchResult, OnErr, OnOk, length, true};
 ghost use Rattle.bhtable.specs.Answers.{fresh_map};
-ghost use Rattle.bhtable.specs.Limits.{AreLimits};
-ghost use Rattle.bhtable.specs.Outputs.{HasAnswered, IsOutputUpTo};
-ghost use Rattle.bhtable.specs.Requests.{Asks};
-ghost use Rattle.bhtable.specs.Sessions.{HasEnded, HasReplied, HasStopped, HasTaken, IsBadAt, hasher_of, map_at_hand, map_of};
-ghost use Rattle.bhtable.specs.Status.{IsLack};
-ghost use Rattle.bhtable.specs.Words.{words_of};
+ghost use Rattle.bhtable.specs.Layout.Stops.{IsLack, IsOutputUpTo};
+ghost use Rattle.bhtable.specs.Outputs.{HasAnswered};
+ghost use Rattle.bhtable.specs.Requests.{AreLimits, Asks};
+ghost use Rattle.bhtable.specs.Layout.Sessions.{HasEnded, HasReplied, HasStopped, HasTaken, IsBadAt, ScriptRun, map_at_hand, map_of};
+ghost use Rattle.bhtable.specs.Words.{parts_of};
 
 use crate::replies::Replies;
 use crate::request::{Kind, NewTable, Request, request_in};
@@ -82,7 +80,7 @@ impl Session {
             (λ stop. HasStopped stop start (W.contents output.new) self.new lines
             × IsBadAt stop (map_at_hand self.new.table) line.now) }
         ensures stop { IfErr result (λ stop. (stop ≡ Stop.BadLine number) ⊎ IsLack stop) }
-        ensures passed_over { words_of line.now ≡ [] → (result ≡ Ok tt) × (self.new ≡ self.old) }
+        ensures passed_over { parts_of line.now ≡ [] → (result ≡ Ok tt) × (self.new ≡ self.old) }
     {
         match request_in(line) {
             Ok(None) => Ok(()),
@@ -134,7 +132,7 @@ impl Session {
         requires { AreLimits new.limits.minimum new.limits.maximum }
         ensures taken { (start : Option (List ℕ)) (lines : List (List ℕ)) (line : List ℕ)
             → HasTaken start (W.contents output.old) self.old lines
-            → length line ≤ 4096 → Asks (words_of line) (Request.New new)
+            → length line ≤ 4096 → Asks (parts_of line) (Request.New new)
             → MatchResult result
             (λ _. HasTaken start (W.contents output.new) self.new (lines ++ line ∷ []))
             (λ stop. HasStopped stop start (W.contents output.new) self.new lines) }
@@ -157,7 +155,7 @@ impl Session {
         requires { IsSome self.old.table }
         ensures taken { (start : Option (List ℕ)) (lines : List (List ℕ)) (line : List ℕ)
             → HasTaken start (W.contents output.old) self.old lines
-            → length line ≤ 4096 → Asks (words_of line) (Request.Epoch generation)
+            → length line ≤ 4096 → Asks (parts_of line) (Request.Epoch generation)
             → MatchResult result
             (λ _. HasTaken start (W.contents output.new) self.new (lines ++ line ∷ []))
             (λ stop. HasStopped stop start (W.contents output.new) self.new lines) }
@@ -173,7 +171,7 @@ impl Session {
         requires { IsSome self.old.table }
         ensures taken { (start : Option (List ℕ)) (lines : List (List ℕ)) (line : List ℕ)
             → HasTaken start (W.contents output.old) self.old lines
-            → length line ≤ 4096 → Asks (words_of line) (Request.Call call)
+            → length line ≤ 4096 → Asks (parts_of line) (Request.Call call)
             → MatchResult result
             (λ _. HasTaken start (W.contents output.new) self.new (lines ++ line ∷ []))
             (λ stop. HasStopped stop start (W.contents output.new) self.new lines) }
@@ -193,7 +191,7 @@ impl Session {
         ensures answered { (start : Option (List ℕ)) (lines : List (List ℕ))
             → HasTaken start (W.contents output.old) self.old lines
             → (self.new.calls.items ≡ []) × MatchResult result
-            (λ _. HasReplied start (W.contents output.new) self.new.replies.text.items lines
+            (λ _. HasReplied start (W.contents output.new) self.new.replies lines
             (map_at_hand self.new.table))
             (λ stop. HasStopped stop start (W.contents output.new) self.new lines) }
         ensures none { self.old.calls.items ≡ [] → (result ≡ Ok tt) × (self.new ≡ self.old)
@@ -218,8 +216,7 @@ impl Session {
 impl Table {
     fn new(alloc: Global, new: NewTable) -> Self
         requires { AreLimits new.limits.minimum new.limits.maximum }
-        ensures map { map_of result ≡ fresh_map new }
-        ensures hasher { hasher_of result ≡ new.hash }
+        ensures { map_of result ≡ fresh_map new }
     {
         let (minimum, maximum) = (new.limits.minimum, new.limits.maximum);
         match new.kind {
@@ -236,7 +233,7 @@ impl Table {
         generation: &FixedGeneration,
     ) -> Result<Vec<Reply<u64, u64>>, AllocError>
         ensures run { IfOk result (λ replies.
-            Run nat_eq (map_of self.old) calls.items replies.items (map_of self.new)) }
+            ScriptRun (map_of self.old) calls.items replies.items (map_of self.new)) }
         ensures no_call { OnErr result (self.new ≡ self.old) }
     {
         match self {

@@ -1,8 +1,7 @@
 //! Why a script ends before its input does: the last line of output, and the exit status.
 ghost use Rattle.std.specs.Prelude.{◌≡◌, ◌⊎◌, OnOk};
 ghost use Rattle.std.specs.Io.KnownBytes.{Appends};
-ghost use Rattle.bhtable.specs.Outputs.{last_line_of};
-ghost use Rattle.bhtable.specs.Status.{status_of};
+ghost use Rattle.bhtable.specs.Layout.Stops.{last_line_of, status_of};
 ghost use Rattle.bhtable.specs.declared.stop.Stop.TheVariants.{NoMemory};
 
 use std::alloc::AllocError;

@@ -22,7 +22,7 @@ pub(crate) struct Window {
 }
 
 impl Window {
-    ghost use Rattle.bhtable.specs.Window.{unread};
+    ghost use Rattle.bhtable.specs.Layout.Window.{unread};
 
     /// A window on which nothing is read yet.
     pub(crate) fn new(alloc: Global) -> Result<Self, AllocError>

@@ -1,8 +1,10 @@
 //! The words of a line, and the numbers that they write.
-ghost use Rattle.std.specs.Prelude.{◌≡◌, ℕ, ◌-◌, ◌<◌, ◌≤◌, ◌↔◌, true, false, List, [], ◌∷◌, length, take, drop, slice_index, IfNone, IfSome, IsSome, MatchOption};
+ghost use Rattle.std.specs.Prelude.{◌≡◌, ℕ, ◌-◌, ◌<◌, ◌≤◌, true, false, List, [], ◌∷◌, is_some, length, take, drop, slice_index, IfSome, MatchOption};
 ghost use Rattle.std.specs.Char.{is_ascii_digit};
-ghost use Rattle.bhtable.specs.Numbers.{IsNumber, NoNumberIsNext, Writes, value_of};
-ghost use Rattle.bhtable.specs.Words.{is_blank, with_word, words_of};
+ghost use Rattle.bhtable.specs.Numbers.{is_number, value_of};
+ghost use Rattle.bhtable.specs.Words.{Part, number, is_blank, part_of, parts_of, with_word, words_of};
+
+use std::marker::Model;
 
 // The most digits of a number.
 const LONGEST_NUMBER: usize = 20;
@@ -13,18 +15,24 @@ pub(crate) struct Words<'a> {
     rest: &'a [u8],
 }
 
+impl<'a> Model for Words<'a> {
+    ghost Value = { List Part };
+
+    ghost view = { λ words. parts_of words.rest.now };
+}
+
 impl<'a> Words<'a> {
     /// The words of a line, of which none is read yet.
     pub(crate) fn of(line: &'a [u8]) -> Self
-        ensures { result.rest.now ≡ line.now }
+        ensures { result ≡ parts_of line.now }
     {
         Words { rest: line }
     }
 
     /// Reads the next word.
     pub(crate) fn next_word(&mut self) -> Option<&'a [u8]>
-        ensures { MatchOption result (words_of self.old.rest.now ≡ [])
-            (λ word. words_of self.old.rest.now ≡ word.now ∷ words_of self.new.rest.now) }
+        ensures { MatchOption result (self.old ≡ [])
+            (λ word. self.old ≡ part_of word.now ∷ self.new) }
     {
         let rest = &self.rest[blanks_len(self.rest)..];
         let len = word_len(rest);
@@ -34,9 +42,9 @@ impl<'a> Words<'a> {
 
     /// Reads the next word as a number.
     pub(crate) fn number(&mut self) -> Option<u64>
-        ensures read { IfSome result (λ number. (word : List ℕ)
-            × (words_of self.old.rest.now ≡ word ∷ words_of self.new.rest.now) × Writes word number) }
-        ensures refused { IfNone result (NoNumberIsNext (words_of self.old.rest.now)) }
+        ensures { MatchOption result
+            ((value : ℕ) (rest : List Part) → self.old ≡ number value ∷ rest → ⊥)
+            (λ value. self.old ≡ number value ∷ self.new) }
     {
         number_of(self.next_word()?)
     }
@@ -79,7 +87,7 @@ fn word_len(bytes: &[u8]) -> usize
 
 // A number of 1 to 20 decimal digits below 2^64.
 fn number_of(word: &[u8]) -> Option<u64>
-    ensures accepted { IsSome result ↔ IsNumber word.now }
+    ensures accepted { is_some result ≡ is_number word.now }
     ensures value { IfSome result (λ number. number ≡ value_of word.now) }
 {
     if word.is_empty() || word.len() > LONGEST_NUMBER {

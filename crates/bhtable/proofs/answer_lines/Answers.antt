@@ -1,6 +1,5 @@
 use Rattle.std.proofs.Common.{[], refl, arith}
 use Rattle.std.proofs.lemmas.Result.{err_from_is_err_and}
-use Rattle.bhtable.specs.Window.{unread}
 use Rattle.bhtable.proofs.Finding.{found_cut}
 use Rattle.bhtable.proofs.Reading.{nothing_read}
 use Rattle.bhtable.proofs.Serving.{ends_at_end, ends_at_line, ends_at_long_line, ends_between, ends_unread, line_taken, read_on}
@@ -63,7 +62,7 @@ loop-turn-preserved g c =
               w.output-is,
               w.number-is,
               w.pass.ensures.passed,
-              w.pass.ensures.input,
+              w.pass.ensures.left,
               w.pass.ensures.ended,
             )
                 (line_taken _ _ _ _ _ _ _ _ come _ w.take.new.self w.in-Line.line w.in-Line.ensures.found (rw w.bytes.ensures at taken));
@@ -74,7 +73,7 @@ loop-turn-preserved g c =
             counted = omega (arith, w.number-is, l.invariant.counted);
             come = rw (w.lines-is, w.session-is, w.output-is, w.number-is)
                 (read_on _ _ _ _ _ _ _ _ come _ _ _ _ w.write_out.new.self
-                (found_cut l.lines.is_ended (unread l.lines.window) w.in-Cut.ensures.found) written.1
+                (found_cut l.lines.is_ended l.lines.unread w.in-Cut.ensures.found) written.1
                 w.in_ok-read_more-in-Cut.ensures.read);
           }
     ]

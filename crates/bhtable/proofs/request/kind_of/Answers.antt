@@ -1,10 +1,12 @@
-use Rattle.std.proofs.Common.{◌≡◌, ℕ, List, map, Some, refl}
-use Rattle.bhtable.specs.Meanings.{meaning}
+use Rattle.std.proofs.Common.{◌≡◌, ℕ, List, map, Some, refl, rules}
+use Rattle.bhtable.specs.Layout.Meanings.{meaning}
+use Rattle.bhtable.specs.Numbers.{is_number}
 use Rattle.bhtable.specs.Requests.{kind_word}
+use Rattle.bhtable.specs.Words.{part_of, text}
+use Rattle.bhtable.specs.declared.request.TheConstants.{KINDS}
 use Rattle.bhtable.specs.declared.request.Kind.{Kind}
 use Rattle.bhtable.specs.declared.request.Kind.TheVariants.{Map, Index, Cache}
-use Rattle.bhtable.specs.declared.request.TheConstants.{KINDS}
-use Rattle.bhtable.proofs.Naming.{named_by_meaning, unnamed_by_none}
+use Rattle.bhtable.proofs.Naming.{meant}
 use Rattle.bhtable.proofs.request.kind_of.Goals as goal
 
 abbrev rows : List (List ℕ × Kind)
@@ -15,8 +17,11 @@ known Map = refl
 known Index = refl
 known Cache = refl
 
-pub returns-clause-named : goal.returns-clause-named
-returns-clause-named c = rw c.meaning_of.ensures (named_by_meaning kind_word rows c.args.word.now (refl, (refl, (refl, tt))))
+plain : (value : Kind) → part_of (kind_word value) ≡ text (kind_word value)
+unfolding part_of is_number
+plain Map = refl
+plain Index = refl
+plain Cache = refl
 
-pub returns-clause-refused : goal.returns-clause-refused
-returns-clause-refused c = rw c.meaning_of.ensures (unnamed_by_none kind_word rows c.args.word.now known)
+pub returns : goal.returns
+returns c = rw c.meaning_of.ensures (meant kind_word rows c.args.word.now (search rules) known plain)

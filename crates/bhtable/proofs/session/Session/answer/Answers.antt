@@ -1,5 +1,5 @@
 use Rattle.std.proofs.Common.{◌≡◌, [], Some, refl}
-use Rattle.bhtable.specs.Sessions.{map_of}
+use Rattle.bhtable.specs.Layout.Sessions.{map_of}
 use Rattle.bhtable.specs.declared.session.Session.{Session}
 use Rattle.bhtable.proofs.Taking.{no_items, pushed, replied_all}
 use Rattle.bhtable.proofs.session.Session.answer.Goals as goal
@@ -27,6 +27,6 @@ returns-clause-answered g c start lines taken =
     } in
     let ran = rw (c.replace-calls.ensures.value, ← c.as_slice.ensures.value) at c.in-Ok.ensures.run in (
       none,
-      pushed start _ _ c.args.self.now session lines (map_of c.in-Some.table) (map_of c.run.new.self) c.as_slice.result.now c.push_all.result
-          taken (rw c.in-Some.is refl) refl ran c.push_all.ensures none,
+      pushed start _ _ c.args.self.now session lines (map_of c.in-Some.table) (map_of c.run.new.self) c.as_slice.result.now
+          c.push_all.result taken (rw c.in-Some.is refl) refl ran c.push_all.ensures none,
     )

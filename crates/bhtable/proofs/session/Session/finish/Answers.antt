@@ -14,17 +14,17 @@ returns g c start lines left =
       table = c.answer.ensures.table;
       stop = c.answer.ensures.stop;
     } in
-    let replied : IsReplied (result_and c.answer.result c.args.ended) start output c.answer.new.self.replies.text.items lines =
+    let replied : IsReplied (result_and c.answer.result c.args.ended) start output c.answer.new.self.replies lines =
     ended_answered c.answer.result c.args.ended start _ output c.args.self c.answer.new.self lines step left in
     let written = c.in_ok-write_out.ensures.written in
     elim c.match-and.branch [
       | in-Ok w ↦
           let ended : result_and c.answer.result c.args.ended ≡ Ok w.in-Ok.field-0 = sym c.and.ensures ∙ w.in-Ok.is in
-          rw w.ended-is (all_out start output _ c.answer.new.self.replies.text.items lines (rw ended at replied)
+          rw w.ended-is (all_out start output _ c.answer.new.self.replies lines (rw ended at replied)
           (rw (w.output-is, w.self-is) at written))
       | in-Err w ↦
           let ended : result_and c.answer.result c.args.ended ≡ Err w.in-Err.stop = sym c.and.ensures ∙ w.in-Err.is in
           rw (w.ended-is, w.and-ended.ensures) (stop_out w.in-Err.stop w.push_stop.result start output _ _
-          c.answer.new.self.replies.text.items w.push_stop.new.self.text.items lines (rw ended at replied) w.push_stop.ensures
+          c.answer.new.self.replies w.push_stop.new.self lines (rw ended at replied) w.push_stop.ensures
           (rw (w.output-is, w.self-is) at written))
     ]

@@ -1,5 +1,5 @@
 use Rattle.std.proofs.Common.{refl, IsSome}
-use Rattle.bhtable.specs.Sessions.{HasTaken}
+use Rattle.bhtable.specs.Layout.Sessions.{HasTaken}
 use Rattle.bhtable.specs.declared.session.Session.{Session}
 use Rattle.bhtable.proofs.Taking.{taken_all, taken_call, taken_so_far}
 use Rattle.bhtable.proofs.session.Session.gather.Goals as goal

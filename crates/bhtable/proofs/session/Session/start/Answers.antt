@@ -1,4 +1,6 @@
-use Rattle.std.proofs.Common.{Some, inl, inr, true, refl, ap}
+use Rattle.std.proofs.Common.{Some, inr, true, refl, ap}
+use Rattle.bucket_table.specs.declared.script.reply.Reply.TheVariants.{Done}
+use Rattle.bhtable.specs.declared.request.Request.TheVariants.{New}
 use Rattle.bhtable.specs.declared.session.Session.{Session}
 use Rattle.bhtable.proofs.Turning.{taken_done}
 use Rattle.bhtable.proofs.session.Session.start.Goals as goal
@@ -13,6 +15,6 @@ returns-clause-taken g c start lines line taken short asks =
       calls = c.answer.new.self.calls;
       replies = c.push.new.self;
     } in
-    let answer = inr (inl (record { table = c.args.new; asked = asks; answer = refl; fresh = refl })) in
+    let answer = inr (New c.args.new, Done, asks, refl, refl) in
     taken_done start _ _ c.answer.new.self session lines line _ c.push.result answered.1 answered.0 short answer c.push.ensures
-    (ap Some c.new.ensures.map) refl
+    (ap Some c.new.ensures) refl

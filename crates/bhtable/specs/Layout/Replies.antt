@@ -1,10 +1,15 @@
 -- What becomes of replies and of a writer when lines are appended to them.
-use Rattle.std.specs.Prelude.{ℕ, ◌≡◌, List, [], ◌++◌, Option, MatchResult, Ok, Result}
+use Rattle.std.specs.Prelude.{ℕ, ◌≡◌, List, [], ◌∷◌, ◌++◌, Option, MatchResult, Ok, Result}
 use Rattle.std.specs.Io.KnownBytes.{Appends}
 use Rattle.bucket_table.specs.declared.script.reply.Reply.{Reply}
-use Rattle.bhtable.specs.Texts.{bad_line, lines_of_replies}
+use Rattle.bhtable.specs.Texts.{bad_line, line_of, text_of}
 use Rattle.bhtable.specs.declared.stop.Stop.{Stop}
 use Rattle.bhtable.specs.declared.stop.Stop.TheVariants.{BadLine, NoMemory, InputFailed, OutputFailed}
+
+-- the lines of replies
+abbrev pub lines_of_replies : List (Reply ℕ ℕ) → List ℕ
+lines_of_replies [] = []
+lines_of_replies (reply ∷ replies) = line_of (text_of reply) ++ lines_of_replies replies
 
 -- what is written and what waits grew by these lines before memory was wanted; a writer that fails leaves nothing known
 abbrev pub IsLeftBy : Stop → Option (List ℕ) → Option (List ℕ) → List ℕ → Type 0

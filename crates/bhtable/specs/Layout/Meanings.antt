@@ -1,5 +1,5 @@
 -- What words mean, by rows of a word and its meaning.
-use Rattle.std.specs.Prelude.{ℕ, List, find, map, Option, option_map}
+use Rattle.std.specs.Prelude.{ℕ, List, find, Option, option_map}
 use Rattle.std.specs.Str.{bytes_eq}
 
 -- what stands beside the word in the first row that has it

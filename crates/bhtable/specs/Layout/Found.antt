@@ -1,11 +1,8 @@
 -- What is found at the front of the bytes that are read.
-use Rattle.std.specs.Prelude.{ℕ, ◌≡◌, ◌-◌, ◌+◌, ◌<◌, ◌≤◌, ◌==◌, Bool, true, false, List, [], length, take, position, slice_index, if◌then◌else◌, MatchOption}
+use Rattle.std.specs.Prelude.{ℕ, ◌≡◌, ◌+◌, ◌<◌, ◌≤◌, ◌==◌, Bool, true, false, List, [], length, take, position, MatchOption}
+use Rattle.bhtable.specs.InputLines.{line_len}
 use Rattle.bhtable.specs.declared.line.Found.{Found}
 use Rattle.bhtable.specs.declared.line.Found.TheVariants.{Line, TooLong, Cut, End}
-
--- how many bytes of a line count: all but one carriage return at their end
-abbrev pub line_len : List ℕ → ℕ
-line_len bytes = if slice_index bytes (length bytes - 1) == 13 then length bytes - 1 else length bytes
 
 -- these bytes, of which as many as `whole` stand at the front with what ends them, are found as a line or are too many for one
 abbrev pub IsFound : List ℕ → ℕ → Found → Type 0

@@ -1,0 +1,25 @@
+-- How a line is read: its verb tells of which form it is, and then come the parts behind the verb.
+use Rattle.std.specs.Prelude.{ℕ, ◌≡◌, List, ◌++◌, Option, MatchOption, codes}
+use Rattle.bhtable.specs.Requests.{Asks, IsInRange, call_line, request_line}
+use Rattle.bhtable.specs.Words.{Part, text}
+use Rattle.bhtable.specs.declared.request.Form.{Form}
+use Rattle.bhtable.specs.declared.request.Form.TheVariants.{Table, Epoch, Call as Calls}
+use Rattle.bhtable.specs.declared.request.Request.{Request}
+
+-- the verb of a form
+abbrev pub form_word : Form → List ℕ
+form_word Table = codes "new"
+form_word Epoch = codes "epoch"
+form_word (Calls model) = (call_line model).0
+
+-- the parts begin with what stands behind the verb of a request, and `rest` comes then
+abbrev pub Begins : List Part → Request → List Part → Type 0
+Begins parts request rest = (parts ≡ (request_line request).1 ++ rest) × IsInRange request
+
+-- no request asks for these parts
+abbrev pub AsksNothing : List Part → Type 0
+AsksNothing parts = (request : Request) → Asks parts request → ⊥
+
+-- what a part means, which may be nothing, where each meaning has a word
+abbrev pub IsMeant : {T : Type 0} → (T → List ℕ) → Part → Option T → Type 0
+IsMeant {T} name part meant = MatchOption meant ((value : T) → part ≡ text (name value) → ⊥) (λ value. part ≡ text (name value))
