@@ -1,15 +1,12 @@
-//! Calls on one bucket that begin with a search for a key, or with a step of a walk.
-ghost use Rattle.std.specs.Prelude.{◌≢◌, IfSome, IsTrue};
+//! Calls on one bucket that begin with a search for a key.
+ghost use Rattle.std.specs.Prelude.{◌≡◌, ◌≢◌, IfSome, IsTrue};
 ghost use Rattle.bucket_slots.specs.BucketView.{slot_in};
 ghost use Rattle.bucket_slots.specs.Slots.{is_live};
 
-use crate::pairs::{At, Pairs};
-use bucket_slots::bucket::{AllocError, Bucket, CACHE, EntryPtr, Generation, INDEX, MAP};
+use crate::steps::Spot;
+use bucket_slots::bucket::{AllocError, Bucket, CACHE, EntryPtr, Generation, INDEX};
 use bucket_slots::lru::LruList;
 use std::mem;
-
-/// A block's number and a position.
-pub(crate) type Spot = (usize, usize);
 
 /// Returns a pointer to the pair of a key, if there is one.
 fn find<V, L: LruList, const TYPE: u8>(
@@ -48,11 +45,13 @@ pub(crate) fn write_key<V: Drop, L: LruList, const TYPE: u8>(
 }
 
 /// Touches the pair of a key, and returns whether there is one.
-pub(crate) fn touch_key<V, L: LruList>(
-    bucket: &mut Bucket<u64, V, L, CACHE>,
+pub(crate) fn touch_key<V, L: LruList, const TYPE: u8>(
+    bucket: &mut Bucket<u64, V, L, TYPE>,
     key: u64,
     hash: u64,
-) -> bool {
+) -> bool
+    requires cache { TYPE ≡ CACHE }
+{
     let Some(at) = find(bucket, key, hash) else {
         return false;
     };
@@ -92,36 +91,17 @@ pub(crate) fn kill_empty<V: Drop, L: LruList, const TYPE: u8>(
 }
 
 /// Marks the pair of a key as removed, and returns whether there was one.
-pub(crate) fn mark_key<V, G: Generation>(
-    bucket: &mut Bucket<u64, V, (), INDEX>,
+pub(crate) fn mark_key<V, L: LruList, G: Generation, const TYPE: u8>(
+    bucket: &mut Bucket<u64, V, L, TYPE>,
     key: u64,
     hash: u64,
     generation: &G,
-) -> bool {
+) -> bool
+    requires index { TYPE ≡ INDEX }
+{
     let Some(mut at) = find(bucket, key, hash) else {
         return false;
     };
     bucket.mark_removed(&mut at, generation);
     true
-}
-
-/// Steps to the next pair and returns its key.
-pub(crate) fn next_key<const TYPE: u8>(bucket: &Pairs<TYPE>, at: &mut At<TYPE>) -> Option<u64> {
-    if !at.find_next(bucket) {
-        return None;
-    }
-    Some(*at.key(bucket))
-}
-
-/// Steps to the next pair, takes it out where its key is among those that go, and returns the key.
-pub(crate) fn take_next(bucket: &mut Pairs<MAP>, at: &mut At<MAP>, going: &[u64]) -> Option<u64> {
-    if !at.find_next(bucket) {
-        return None;
-    }
-    let key = *at.key(bucket);
-    if !going.contains(&key) {
-        return Some(key);
-    }
-    let (gone, _) = bucket.remove(at);
-    Some(gone)
 }

@@ -1,6 +1,6 @@
-//! Tests of buckets, of arrays of buckets, of tables and of scripts, in one crate at the top, since a
-//! crate with tests is proved twice. The functions that aren't tests show that generic code reaches
-//! a bucket behind a vector.
+//! Tests of buckets, of arrays of buckets, of tables and of scripts, in one crate at the top,
+//! since a crate with tests is proved twice. The functions that aren't tests show that generic
+//! code reaches a bucket behind a vector.
 #![tactic(auto)]
 
 #[cfg(test)]
@@ -8,19 +8,31 @@ mod arrays;
 #[cfg(test)]
 mod beside_map;
 #[cfg(test)]
-mod buckets;
-#[cfg(test)]
 mod by_key;
+#[cfg(test)]
+mod caches;
 #[cfg(test)]
 mod checks;
 #[cfg(test)]
-mod counted;
+mod data_blocks;
+#[cfg(test)]
+mod drops;
 #[cfg(test)]
 mod indexes;
 #[cfg(test)]
-mod pairs;
+mod maps;
+#[cfg(test)]
+mod matching;
+#[cfg(test)]
+mod pointers;
 pub mod probe;
+#[cfg(test)]
+mod recency_lists;
 #[cfg(test)]
 mod scripts;
 #[cfg(test)]
-mod tables;
+mod sizes;
+#[cfg(test)]
+mod stage;
+#[cfg(test)]
+mod steps;

@@ -31,12 +31,8 @@ const WHOLE_ROWS: [([u8; 32], u8, u32); 4] = [
 const MADE_ROWS: u64 = 200;
 
 #[test]
-fn sets_the_bit_of_each_equal_byte_of_a_block(rt: HostRuntime) {
+fn sets_the_bit_of_each_equal_byte_of_a_block_and_of_a_whole_row(rt: HostRuntime) {
     check_masks(&rt, &BLOCKS);
-}
-
-#[test]
-fn sets_the_bit_of_each_equal_byte_of_a_whole_row(rt: HostRuntime) {
     check_masks(&rt, &WHOLE_ROWS);
 }
 

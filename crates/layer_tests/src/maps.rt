@@ -1,0 +1,218 @@
+//! One bucket of a map, or two: where pairs go, what comes out, what a search and a walk find, and
+//! what moves from one to the other.
+use crate::steps::Step::*;
+use crate::steps::{Step, Story, stories};
+use bucket_slots::bucket::MAP;
+use std::alloc::Global;
+use std::process::Abort;
+use std::test::Fail;
+
+type Stage = crate::stage::Stage<(), MAP>;
+
+const PLACES: &[Story] = stories! {
+    "a new bucket finds nothing", 0:
+        Len(0), Killed(false), Lacks(0, 4), Free(0, 32);
+    "a pair goes to the lowest free own slot", 32:
+        Len(32), Take(4, Some((0, 4))), Len(31), Own(4, None), Put(4, (0, 4)), Len(32),
+        Own(4, Some(4)), Take(20, Some((0, 20))), Len(31), Own(20, None), Put(20, (0, 20)),
+        Len(32), Own(20, Some(20)), Take(0, Some((0, 0))), Len(31), Own(0, None), Put(0, (0, 0)),
+        Len(32), Own(0, Some(0));
+    "the lowest of several free slots is taken first", 32:
+        Take(9, Some((0, 9))), Take(4, Some((0, 4))), Take(30, Some((0, 30))),
+        Put(40, (0, 4)), Put(41, (0, 9)), Put(42, (0, 30));
+    // The block that was the head stands behind the new one then.
+    "a pair that finds no free slot makes a new head", 32:
+        Put(32, (1, 0)), Put(33, (1, 1)), Put(34, (1, 2)), Put(35, (1, 3)), Put(36, (1, 0)),
+        Len(37), Find(36, Some((1, 0))), Find(32, Some((2, 0))), Find(35, Some((2, 3))),
+        Find(31, Some((0, 31)));
+    // The chain of keys 0 to 40 is [40], [36 to 39], [32 to 35].
+    "a block goes with its last pair", 41:
+        Take(36, Some((2, 0))), Take(37, Some((2, 1))), Take(38, Some((2, 2))),
+        Take(39, Some((2, 32))), Take(40, Some((1, 32))), Len(36), Find(32, Some((1, 0))),
+        Find(35, Some((1, 3)));
+    "the last block leaves its pointer behind the own slots", 33:
+        Take(32, Some((0, 31))), Len(32), Find(32, None);
+    // 261 has the low byte 5, and only that is compared.
+    "a search wants the byte and the key", 0:
+        Under(5, 0), Put(1, (0, 0)), Under(6, 0), Put(2, (0, 1)), Under(5, 0),
+        Find(1, Some((0, 0))), Find(2, None), Find(3, None), Under(261, 0),
+        Find(1, Some((0, 0))), Under(6, 0), Find(1, None), Find(3, None);
+    "the first of two equal keys is found", 0:
+        Under(5, 0), Put(1, (0, 0)), Values(10, 1), Put(1, (0, 1)), Values(10, 0),
+        Find(1, Some((0, 0))), Take(1, Some((0, 0))), Values(10, 1), Find(1, Some((0, 1)));
+    "a pair that is out is not found", 2:
+        Take(0, Some((0, 0))), Find(0, None), Find(1, Some((0, 1))), Take(1, Some((0, 1))),
+        Len(0), Find(1, None), Take(1, None);
+    "more keys than own slots come and go, all under one hash", 0:
+        Values(0, 0), Fill(0, 34), Len(34), Holds(0, 34), Lacks(34, 68), Drain(0, 34), Len(0),
+        Next(None, (0, 32));
+    "more keys than own slots come and go, under as many hashes", 0:
+        Values(0, 0), Under(0, 31), Fill(0, 34), Len(34), Holds(0, 34), Lacks(34, 68),
+        Drain(0, 34), Len(0), Next(None, (0, 32));
+    // No slot is free after ten pairs, so that the next makes a new head.
+    "reserved slots take the pairs that come", 30:
+        Reserve(10), Reserve(10), Len(30), Put(30, (0, 30)), Put(31, (0, 31)), Put(32, (1, 0)),
+        Put(33, (1, 1)), Put(34, (1, 2)), Put(35, (1, 3)), Put(36, (2, 0)), Put(37, (2, 1)),
+        Put(38, (2, 2)), Put(39, (2, 3)), Put(40, (1, 0)), Find(32, Some((2, 0))),
+        Find(39, Some((3, 3)));
+    // With the two blocks that were reserved, key 36 would stand in the second.
+    "a killed bucket gives its chain up", 0:
+        Values(0, 0), Reserve(40), Kill(true), Killed(true), Kill(false), Fill(0, 37),
+        Find(36, Some((1, 0))), Find(32, Some((2, 0)));
+    // Of ten blocks: key 36 stands in the second that had to be made.
+    "a killed bucket of a map keeps no block", 0:
+        Values(0, 0), Reserve(72), Kill(true), Fill(0, 36), Put(36, (1, 0));
+};
+
+const WALKS: &[Story] = stories! {
+    "a walk over one pair ends and starts anew", 1:
+        Next(Some(0), (0, 0)), Next(None, (0, 32)), Next(Some(0), (0, 0));
+    "a walk goes through the own slots and then from the head", 41:
+        WalkUp(0, 32), Walk(&[40, 36, 37, 38, 39, 32, 33, 34, 35]), Next(None, (0, 32));
+    "a walk goes on behind a removed pair", 41:
+        Take(36, Some((2, 0))), Next(Some(37), (2, 1)), Take(37, Some((2, 1))),
+        Next(Some(38), (2, 2)), Take(38, Some((2, 2))), Next(Some(39), (2, 3)),
+        Take(39, Some((2, 32))), Next(Some(32), (2, 0)), Take(40, Some((1, 32))),
+        Next(Some(32), (1, 0)), Len(36);
+    "the only pair of the head takes its block along", 37:
+        Find(36, Some((1, 0))), Find(32, Some((2, 0))), Find(33, Some((2, 1))),
+        Find(34, Some((2, 2))), Find(35, Some((2, 3))), Take(36, Some((1, 32))),
+        Next(Some(32), (1, 0));
+    "a walk ends behind the last block that goes", 33:
+        Find(32, Some((1, 0))), Take(32, Some((0, 31))), Next(None, (0, 32));
+};
+
+const MOVES: &[Story] = stories! {
+    // The slots of keys 0 to 43 are all occupied. What comes then takes the slots that were left,
+    // and no block went.
+    "a pair moves and leaves its slot free", 44:
+        Swap, Move(5, Some((0, 0))), Left((0, 5)), Lens(1, 43), Find(5, Some((0, 0))),
+        Move(31, Some((0, 1))), Left((0, 31)), Lens(2, 42), Find(31, Some((0, 1))),
+        Move(40, Some((0, 2))), Left((1, 0)), Lens(3, 41), Find(40, Some((0, 2))),
+        Move(34, Some((0, 3))), Left((3, 2)), Lens(4, 40), Find(34, Some((0, 3))),
+        Swap, Find(36, Some((2, 0))), Put(50, (0, 5)), Put(51, (0, 31)), Put(52, (1, 0)),
+        Put(53, (3, 2)), Len(44);
+    // The byte of both hashes is 5.
+    "a pair moves under the hash that is handed in", 0:
+        Under(5, 0), Put(1, (0, 0)), Swap, Under(261, 0), Move(1, Some((0, 0))), Left((0, 0)),
+        Under(5, 0), Holds(1, 2), Under(6, 0), Lacks(1, 2), Under(5, 0), Move(1, None);
+};
+
+#[test]
+fn buckets_of_a_map_go_through_the_stories(rt: HostRuntime) -> Result<(), Fail> {
+    for stories in [PLACES, WALKS, MOVES] {
+        for story in stories {
+            Stage::new(rt.alloc()).tell(&rt, story)?;
+        }
+    }
+    Ok(())
+}
+
+#[test]
+fn a_written_value_is_the_only_one_that_changes(rt: HostRuntime) -> Result<(), Fail> {
+    // In the first and the last own slot, and in each block of the chain.
+    for key in [0, 3, 31, 32, 35, 36, 39, 40u64] {
+        let steps = [
+            Fill(0, 41),
+            Write(key, 7, Some(key * 10)),
+            Write(41, 7, None),
+            Len(41),
+            Holds(0, key),
+            Holds(key + 1, 41),
+            Values(0, 7),
+            Holds(key, key + 1),
+        ];
+        let mut stage = Stage::new(rt.alloc());
+        stage.play(&rt, "one value is written", &steps)?;
+    }
+    Ok(())
+}
+
+/// Which pairs a walk takes out of a bucket with a chain of full blocks: of one block those at the
+/// bits of a pattern, where the own slots count as eight blocks alike, and of the others all or
+/// none.
+#[derive(Clone, Copy)]
+struct Plan {
+    blocks: u64,
+    block: u64,
+    pattern: u64,
+    others: bool,
+}
+
+impl Plan {
+    fn takes(&self, key: u64) -> bool {
+        if self.block_of(key) != self.block {
+            return self.others;
+        }
+        self.pattern >> (key % 4) & 1 == 1
+    }
+
+    // The number of the block of a key: the last four keys stand in the head.
+    fn block_of(&self, key: u64) -> u64 {
+        if key < 32 {
+            return 0;
+        }
+        self.blocks.saturating_sub((key - 32) / 4)
+    }
+
+    // The key in a slot: the chain's blocks begin with the one that came last.
+    fn key_in(&self, slot: u64) -> u64 {
+        if slot < 32 {
+            return slot;
+        }
+        let behind = self.blocks.saturating_sub((slot - 32) / 4 + 1);
+        behind.wrapping_mul(4).wrapping_add(32 + slot % 4)
+    }
+
+    // What is done with a key: a walk visits or removes it, a walk over what is left visits it or
+    // passes it by, and a search finds it or not.
+    fn step_with(&self, key: u64, round: u8) -> Step {
+        let next = key.wrapping_add(1);
+        match (round, self.takes(key)) {
+            (0, true) => TakeNext(key),
+            (1, true) => WalkUp(key, key),
+            (2, true) => Lacks(key, next),
+            (2, false) => Holds(key, next),
+            _ => WalkUp(key, next),
+        }
+    }
+}
+
+#[test]
+fn a_walk_that_removes_visits_each_pair_once(rt: HostRuntime) -> Result<(), Fail> {
+    for blocks in 0..6u64 {
+        // From each block in turn, the own slots among them; with all others, and with no other.
+        for block in 0..blocks + 1 {
+            for number in 0..32 {
+                let plan = Plan {
+                    blocks,
+                    block,
+                    pattern: number % 16,
+                    others: number >= 16,
+                };
+                check_plan(&rt, rt.alloc(), plan)?;
+            }
+        }
+    }
+    Ok(())
+}
+
+// Walks and removes; then walks over what is left; then looks for each key.
+fn check_plan(rt: &impl Abort, alloc: Global, plan: Plan) -> Result<(), Fail> {
+    let keys = plan.blocks.wrapping_mul(4).wrapping_add(32);
+    let mut stage = Stage::new(alloc);
+    stage.play(rt, "a bucket of full blocks", &[Fill(0, keys)])?;
+    for round in 0..3 {
+        let mut left: usize = 0;
+        for slot in 0..keys {
+            let key = plan.key_in(slot);
+            stage.play(rt, "a walk that removes", &[plan.step_with(key, round)])?;
+            left = left.wrapping_add(usize::from(!plan.takes(key)));
+        }
+        stage.play(rt, "what is left", &[Len(left)])?;
+        if round < 2 {
+            stage.play(rt, "the walk's end", &[Next(None, (0, 32))])?;
+        }
+    }
+    Ok(())
+}

@@ -1,0 +1,190 @@
+//! Recency lists on their own, as their owner keeps them.
+ghost use Rattle.std.specs.Prelude.{ℕ, List};
+
+use crate::checks::check_same;
+use crate::steps::steps;
+use Act::*;
+use bucket_slots::lru::{DoublyLinkedList, LruList};
+use std::marker::Model;
+use std::process::Abort;
+use std::test::Fail;
+
+/// A list with its tail, as its owner keeps them.
+#[derive(Drop)]
+struct Recent<L: LruList> {
+    list: L,
+    tail: u32,
+}
+
+impl<L: LruList> Model for Recent<L> {
+    ghost Value = { List ℕ };
+
+    ghost view = { λ recent. L.listed recent.list recent.tail };
+
+    ghost invariant = { λ recent. L.IsTail recent.list recent.tail };
+}
+
+/// A call on a list of slots below 32, with its answer.
+#[derive(Clone, Copy, Debug, PartialEq)]
+enum Act {
+    /// This slot goes, and the tail is that then; or none goes.
+    Evict(Option<(u8, u32)>),
+    /// A slot goes, and the tail is that then, where it changes.
+    Remove(u8, Option<u32>),
+    /// A slot is the newest, and the tail is that then, where it changes.
+    Promote(u8, Option<u32>),
+}
+
+impl<L: LruList> Recent<L> {
+    fn new() -> Self {
+        Recent {
+            list: L::default(),
+            tail: 0,
+        }
+    }
+
+    // Makes a call, and returns it with the answer that was found.
+    fn act(&mut self, rt: &impl Abort, act: Act) -> Act {
+        match act {
+            Evict(_) => {
+                let evicted = self.list.evict(self.tail);
+                if let Some((_, tail)) = evicted {
+                    self.tail = tail;
+                }
+                Evict(evicted)
+            }
+            Remove(slot, _) => {
+                assert!(rt; slot < 32);
+                let tail = self.list.remove(self.tail, slot);
+                self.tail = tail.unwrap_or(self.tail);
+                Remove(slot, tail)
+            }
+            Promote(slot, _) => {
+                assert!(rt; slot < 32);
+                let tail = self.list.promote(self.tail, slot);
+                self.tail = tail.unwrap_or(self.tail);
+                Promote(slot, tail)
+            }
+        }
+    }
+
+    // Makes the calls one after another, and compares each answer.
+    fn play(&mut self, rt: &impl Abort, story: &str, acts: &[Act]) {
+        for (row, act) in acts.iter().enumerate() {
+            let found = self.act(rt, *act);
+            check_same(rt, found, *act, (story, row));
+        }
+    }
+}
+
+const STORIES: [(&str, &[Act]); 5] = [
+    (
+        "the only slot is removed",
+        steps! {
+        Promote(5, Some(6)), Promote(5, None), Remove(5, Some(0)), Evict(None)
+    },
+    ),
+    (
+        "the oldest goes first",
+        steps! {
+        Promote(1, Some(2)), Promote(2, Some(3)), Promote(3, Some(4)), Remove(3, Some(3)),
+        Promote(1, Some(2)), Evict(Some((2, 2))), Evict(Some((1, 0))), Evict(None)
+    },
+    ),
+    // Slot 3 has slot 0 on both sides.
+    (
+        "slot three is evicted",
+        steps! {
+        Promote(3, Some(4)), Promote(0, Some(1)), Evict(Some((3, 1))), Evict(Some((0, 0))),
+        Evict(None)
+    },
+    ),
+    (
+        "slot three is removed",
+        steps! {
+        Promote(3, Some(4)), Promote(0, Some(1)), Remove(3, None), Evict(Some((0, 0))),
+        Evict(None)
+    },
+    ),
+    // A slot that isn't listed, on an empty list and beside slot 0.
+    (
+        "nothing is removed",
+        steps! {
+        Remove(3, None), Promote(0, Some(1)), Remove(3, None), Evict(Some((0, 0))), Evict(None)
+    },
+    ),
+];
+
+const NOTHING_IS_KEPT: &[Act] = &[
+    Promote(3, None),
+    Promote(0, None),
+    Remove(3, None),
+    Evict(None),
+];
+
+#[test]
+fn lists_answer_as_worked_out_by_hand(rt: HostRuntime) {
+    // A list that is empty again answers as a new one.
+    let mut used = Recent::<DoublyLinkedList>::new();
+    for (story, acts) in &STORIES {
+        Recent::<DoublyLinkedList>::new().play(&rt, story, acts);
+        used.play(&rt, story, acts);
+        used.play(&rt, story, acts);
+    }
+    Recent::<()>::new().play(
+        &rt,
+        "the list that keeps nothing stays empty",
+        NOTHING_IS_KEPT,
+    );
+}
+
+// At first among four slots, where the list is short and at times empty, then among all.
+#[test]
+fn agrees_with_a_plain_list_of_slots(rt: HostRuntime) -> Result<(), Fail> {
+    let mut recent = Recent::<DoublyLinkedList>::new();
+    let mut plain = Vec::new(rt.alloc());
+    let mut random = 1u32;
+    for step in 0..10_000 {
+        random = random.wrapping_mul(1_664_525).wrapping_add(1_013_904_223);
+        let slots = if step < 5_000 { 4 } else { 32 };
+        let slot = ((random >> 16) % slots) as u8;
+        let act = match random >> 29 {
+            0 | 1 => plain_eviction(&mut plain),
+            2 => Remove(slot, plain_removal(&mut plain, slot)),
+            _ => Promote(slot, plain_touch(&mut plain, slot)?),
+        };
+        recent.play(&rt, "beside a plain list", &[act]);
+    }
+    Ok(())
+}
+
+// The newest slot + 1, of a plain list with the newest slot first.
+fn plain_tail(plain: &[u8]) -> u32 {
+    plain.first().map_or(0, |newest| u32::from(*newest) + 1)
+}
+
+fn plain_eviction(plain: &mut Vec<u8>) -> Act {
+    match plain.pop() {
+        Some(slot) => Evict(Some((slot, plain_tail(plain)))),
+        None => Evict(None),
+    }
+}
+
+fn plain_removal(plain: &mut Vec<u8>, slot: u8) -> Option<u32> {
+    let was_newest = plain.first() == Some(&slot);
+    plain.retain(|other| *other != slot);
+    if was_newest {
+        Some(plain_tail(plain))
+    } else {
+        None
+    }
+}
+
+fn plain_touch(plain: &mut Vec<u8>, slot: u8) -> Result<Option<u32>, Fail> {
+    if plain.first() == Some(&slot) {
+        return Ok(None);
+    }
+    plain.retain(|other| *other != slot);
+    plain.insert(0, slot)?;
+    Ok(Some(plain_tail(plain)))
+}

@@ -1,0 +1,163 @@
+//! Steps on a bucket: calls with their answers. A story is a list of steps, and a stage plays it.
+use bucket_slots::bucket::Generation;
+
+/// A place: a block's number and a position in it.
+pub(crate) type Spot = (usize, usize);
+
+/// A name, how many keys from 0 on the bucket has at the start, and what happens then.
+pub(crate) type Story = (&'static str, u64, &'static [Step]);
+
+/// Stories whose steps may share a line: `"name", keys: step, step, ..;`.
+macro_rules! stories {
+    ($($story:literal, $keys:literal: $($step:expr),+;)+) => {
+        &[$(($story, $keys, &[$($step),+])),+]
+    };
+}
+
+/// Steps of any type, several on a line.
+macro_rules! steps {
+    ($($step:expr),+) => { &[$($step),+] };
+}
+
+pub(crate) use steps;
+pub(crate) use stories;
+
+/// Which marks are kept.
+#[derive(Clone, Copy, Debug, PartialEq)]
+pub(crate) enum Kept {
+    /// Every mark.
+    All,
+    /// No mark.
+    None,
+    /// Those that leave this rest, divided by the divisor.
+    Rest(u8, u8),
+    /// All but one.
+    But(u8),
+    /// Those whose square leaves less than 5, divided by 11: no rule of the bits.
+    Square,
+}
+
+impl Kept {
+    /// Whether the mark is kept.
+    pub(crate) fn keeps(&self, mark: u8) -> bool {
+        match *self {
+            Kept::All => true,
+            Kept::None => false,
+            Kept::Rest(divisor, rest) => divisor != 0 && mark % divisor == rest,
+            Kept::But(gone) => mark != gone,
+            Kept::Square => u32::from(mark) * u32::from(mark) % 11 < 5,
+        }
+    }
+}
+
+/// A setting for the steps that follow, or a call with the answer that is wanted. Of two keys the
+/// second is the first that is not meant.
+#[derive(Clone, Copy, Debug, PartialEq)]
+pub(crate) enum Step {
+    /// A key's hash from here on: a number, plus the bits of the key under a mask. At first 0.
+    Under(u64, u64),
+    /// A key's value from here on: the key so many times, plus a number. At first ten times.
+    Values(u64, u64),
+    /// The epoch from here on, and which marks are kept. At first it is 0, and all are.
+    Now(u8, Kept),
+    /// The bucket and the other one change places.
+    Swap,
+
+    /// Keys come, each with one pair more.
+    Fill(u64, u64),
+    /// Keys come, and each is touched.
+    Use(u64, u64),
+    /// A key comes, and stands there.
+    Put(u64, Spot),
+    /// Keys go with their values, each with one pair fewer, and are found no more.
+    Drain(u64, u64),
+    /// A key goes with its value, and leaves the walk's pointer there; or there is none.
+    Take(u64, Option<Spot>),
+    /// The walk's next pair goes, which has this key.
+    TakeNext(u64),
+    /// A key's value is written, and was the second.
+    Write(u64, u64, Option<u64>),
+    /// A key comes from the other bucket, where it is found no more, and stands at this place now.
+    Move(u64, Option<Spot>),
+    /// The pair that came last from the other bucket stood there.
+    Left(Spot),
+    /// The pairs of these keys are marked as removed, and not found to be marked again.
+    Marks(&'static [u64]),
+    /// The pairs of keys are marked, and the epoch is more by a number after each.
+    MarkUp(u64, u64, u8),
+    /// A clearing answers these occupied own slots.
+    Clear(u32),
+    /// The same, by the test that keeps every mark.
+    KeepAll(u32),
+    /// A key is touched, if it is there.
+    Touch(u64, bool),
+    /// A pair goes, which has this key and its value; or none.
+    Evict(Option<u64>),
+    /// So many slots are free then.
+    Reserve(usize),
+    /// The bucket is killed, if it has no pair and isn't killed.
+    Kill(bool),
+
+    /// Both searches find a key with its value, and its pointer stands there; or none finds it.
+    Find(u64, Option<Spot>),
+    /// Keys are found so.
+    Holds(u64, u64),
+    /// Keys aren't found.
+    Lacks(u64, u64),
+    /// Keys are found in the own slots of their numbers.
+    InOwn(u64, u64),
+    /// An own slot has this key, live or marked, with its value, or none.
+    Own(usize, Option<u64>),
+    /// Own slots have none.
+    Free(usize, usize),
+    /// The walk's next key, and where its pointer stands then.
+    Next(Option<u64>, Spot),
+    /// The walk's next keys.
+    Walk(&'static [u64]),
+    /// The walk's next keys, one after another.
+    WalkUp(u64, u64),
+    /// How many live pairs there are.
+    Len(usize),
+    /// How many there are in both buckets.
+    Lens(usize, usize),
+    /// Whether the bucket is killed.
+    Killed(bool),
+
+    /// What no step wants: another pair, or answers that don't agree.
+    Odd(Option<(u64, u64)>),
+}
+
+/// One epoch, and an answer for each mark.
+#[derive(Drop)]
+pub(crate) struct Answers {
+    /// The byte that marks a pair removed now.
+    pub(crate) epoch: u8,
+    kept: [bool; 256],
+}
+
+impl Generation for Answers {
+    ghost use Rattle.std.specs.Prelude.{slice_index_or, false};
+
+    ghost epoch_of = { λ answers. answers.epoch };
+
+    ghost keeps = { λ answers mark. slice_index_or answers.kept mark false };
+
+    fn epoch(&self) -> u8 {
+        self.epoch
+    }
+
+    fn same(&self, mark: u8) -> bool {
+        self.kept[mark as usize]
+    }
+}
+
+impl Answers {
+    /// Asks the rule for each mark.
+    pub(crate) fn new(epoch: u8, rule: Kept) -> Self {
+        let mut kept = [false; 256];
+        for mark in 0..=255u8 {
+            kept[mark as usize] = rule.keeps(mark);
+        }
+        Answers { epoch, kept }
+    }
+}
