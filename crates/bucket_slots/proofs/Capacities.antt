@@ -30,7 +30,7 @@ grown_is_one capacity entries minimum maximum m n (p, p_least, a) (q, q_least, b
 -- a capacity is below the minimum, too full, too empty, or neither
 by_fullness : (P : Type 0) (capacity entries minimum : ℕ) → (capacity < minimum → P) → ((capacity / 16) * 13 < entries → P)
     → (minimum ≤ capacity → entries < capacity / 8 → P)
-        → (minimum ≤ capacity → entries ≤ (capacity / 16) * 13 → capacity / 8 ≤ entries → P) → P
+    → (minimum ≤ capacity → entries ≤ (capacity / 16) * 13 → capacity / 8 ≤ entries → P) → P
 by_fullness P capacity entries minimum below full empty kept =
     ⊎_elim below (λ (high : minimum ≤ capacity).
     ⊎_elim full (λ (not_full : entries ≤ (capacity / 16) * 13).

@@ -51,7 +51,7 @@ module _ {K V : Type 0} where
       → slot_in (with_slot s at x) at ≡ x
   slot_in-with_slot s at x short =
       ap (λ row. slot_at row at.pos) (block_at-with_slot s at.block at.pos x short)
-          ∙ get_or-set_same (block_at s at.block) at.pos x free short
+      ∙ get_or-set_same (block_at s at.block) at.pos x free short
 
   -- where a slot is live afterwards, the listed ones stay live
   AreLive-changed : (s : BucketView K V) (block pos : ℕ) (x : Slot K V) → pos < length (block_at s block) → is_live x ≡ true
@@ -66,7 +66,7 @@ module _ {K V : Type 0} where
       let slot = get_or (order_without listed pos) k d in
       let other = apart slot pos (filter_passes (λ (y : ℕ). not (y == pos)) listed k d below) in
       rw (get_or-set_other own pos slot x free other)
-          (All-filter (λ (y : ℕ). not (y == pos)) (λ y. IsTrue (is_live (slot_at own y))) listed h k d below)
+      (All-filter (λ (y : ℕ). not (y == pos)) (λ y. IsTrue (is_live (slot_at own y))) listed h k d below)
 
   -- the stored length follows the slot
   pub IsBucket-changed : (kind : ℕ) (s : BucketView K V) (len count block pos : ℕ) (x : Slot K V) (listed : List ℕ) → IsBucket kind s len
@@ -102,7 +102,7 @@ module _ {K V : Type 0} where
       → IsBucket kind (slots_changed s block pos (live pair byte) s.listed) (len + 1)
   IsBucket-filled kind s len block pos pair byte h short vacant =
       IsBucket-changed kind s len (len + 1) block pos (live pair byte) s.listed h short
-          (omega (arith, ap (λ (y : Slot K V). tally (is_live y)) vacant)) (λ _. refl)
+      (omega (arith, ap (λ (y : Slot K V). tally (is_live y)) vacant)) (λ _. refl)
       (AreLive-changed s block pos (live pair byte) short refl h.listed_live) h.unlisted
 
   -- a live slot is vacated
@@ -112,7 +112,7 @@ module _ {K V : Type 0} where
   IsBucket-vacated kind s len zero pos h alive =
       IsBucket-changed kind s len (len - 1) zero pos free (order_without s.listed pos) h (live_inside s.own pos alive)
       (omega (arith, some_live kind s len zero pos h alive, ap tally alive)) (λ _. refl)
-          (AreLive-without s.own pos free s.listed h.listed_live)
+      (AreLive-without s.own pos free s.listed h.listed_live)
       (λ other. ap (λ listed. order_without listed pos) (h.unlisted other))
   IsBucket-vacated kind s len (suc i) pos h alive =
       IsBucket-changed kind s len (len - 1) (suc i) pos free s.listed h (live_inside (block_at s (suc i)) pos alive)

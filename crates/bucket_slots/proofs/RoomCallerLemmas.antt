@@ -56,8 +56,12 @@ module _ {K V : Type 0} where
   pub free_len_in-with_free_blocks : (s : BucketView K V) (n : ℕ) → free_len_in (with_free_blocks s n) ≡ free_len_in s + 4 * n
   free_len_in-with_free_blocks s n =
       let one : Slot K V → ℕ = λ x. tally (is_free x) in
-      omega (arith, sum_by-append one s.own (flattened s.chain), sum_by-append one s.own (flattened (s.chain ++ replicate n free_block)),
-          free_len-blocks s.chain n)
+      omega (
+        arith,
+        sum_by-append one s.own (flattened s.chain),
+        sum_by-append one s.own (flattened (s.chain ++ replicate n free_block)),
+        free_len-blocks s.chain n,
+      )
 
   -- no call but kill changes whether a bucket is killed
   killed-with_slot_at : (s : BucketView K V) (block pos : ℕ) (x : Slot K V) → (with_slot_at s block pos x).killed ≡ s.killed
@@ -75,7 +79,7 @@ module _ {K V : Type 0} where
 
   killed_placed : (looks : Bool) (keeps : ℕ → Bool) (s : BucketView K V) (pair : K × V) (byte : ℕ)
       → (if looks then slots_without_free_end (slots_with (slots_without_expired keeps s) pair byte) else slots_with s pair byte).killed
-          ≡ s.killed
+      ≡ s.killed
   killed_placed true keeps s pair byte = killed-slots_with (slots_without_expired keeps s) pair byte
   killed_placed false keeps s pair byte = killed-slots_with s pair byte
 
@@ -109,7 +113,7 @@ module _ {K V : Type 0} where
   pairs_left s false none =
       let all = ap length none in
       nil_from_length (live_pairs (s.own ++ []))
-          (omega (arith, length-live_pairs-append s.own [], length-live_pairs-append s.own (flattened s.chain)))
+      (omega (arith, length-live_pairs-append s.own [], length-live_pairs-append s.own (flattened s.chain)))
 
   -- a bucket that is killed had no pair, and has none
   pub pairs_in-slots_killed : (kind : ℕ) (s : BucketView K V) → pairs_in s ≡ [] → pairs_in (slots_killed kind s) ≡ []
