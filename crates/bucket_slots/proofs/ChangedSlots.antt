@@ -1,5 +1,5 @@
 -- What the fields of a bucket keep where one of its slots changes.
-use Rattle.std.proofs.Common.{ℕ, ◌+◌, ◌-◌, ◌<◌, ◌≤◌, ◌≡◌, ◌≢◌, ◌==◌, inl, inr, Bool, true, false, not, IsTrue, List, [], ◌∷◌, length, get_or, set, refl, ap, ◌∙◌, arith, suc, zero}
+use Rattle.std.proofs.Common.{ℕ, ◌+◌, ◌-◌, ◌<◌, ◌≤◌, ◌≡◌, ◌≢◌, ◌==◌, inl, inr, true, false, not, IsTrue, List, [], length, get_or, set, refl, ap, ◌∙◌, arith, suc, zero}
 use Rattle.std.specs.List.{All}
 use Rattle.std.proofs.lemmas.Bool.{cases_eq}
 use Rattle.std.proofs.lemmas.Bool.Decides.{nat_tests}

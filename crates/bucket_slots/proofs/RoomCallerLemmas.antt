@@ -1,6 +1,6 @@
 -- What callers of a bucket cite of its free slots, of what is ahead of a pointer, and of killed buckets.
-use Rattle.std.proofs.Common.{ℕ, ◌+◌, ◌*◌, ◌<◌, ◌≤◌, ◌≡◌, ◌==◌, Bool, true, false, cond, if◌then◌else◌, is_some, unwrap_or, Option, Some, None, Result, Ok, Err, OnErr, List, [], ◌∷◌, ◌++◌, length, replicate, refl, sym, ap, ◌∙◌, arith, suc, zero}
-use Rattle.std.proofs.lemmas.List.{length-append, nil_from_length}
+use Rattle.std.proofs.Common.{ℕ, ◌+◌, ◌*◌, ◌<◌, ◌≡◌, ◌==◌, Bool, true, false, if◌then◌else◌, is_some, Option, Some, None, Result, Ok, Err, OnErr, [], ◌∷◌, ◌++◌, length, replicate, refl, ap, ◌∙◌, arith, suc, zero}
+use Rattle.std.proofs.lemmas.List.{nil_from_length}
 use Rattle.std.proofs.lemmas.List.Sums.{sum_by-append, sum_by-le}
 use Rattle.bucket_slots.specs.declared.bucket.TheConstants.{INDEX}
 use Rattle.bucket_slots.specs.BucketView.{BucketView, Place, all_slots, bucket_with_value, first_place, flattened, pairs_in, with_slot_at}
