@@ -1,207 +1,364 @@
-//! A hash table: a hasher, a least and a greatest capacity, and for now one bucket.
+//! A table in the middle of a rehash.
 //!
-//! Model: `TableView`, whose pairs are the table's map.
-//! Invariant: the law of one map (`IsOneMap`: no two live pairs have equal keys, and each stands
-//! with the low byte of its key's hash), and `IsCapacityRange` of the two capacities.
-//!
-//! Ports the trait `HashTable` of scc's `src/hash_table.rs`, as a struct that owns its parts.
-ghost use Rattle.std.specs.Prelude.{◌≡◌, ◌≤◌, ◌↔◌, [], false, None, Some, IsNone, IsTrue, Contains, IfNone, IfSome, IfErr, OnOk, OnErr, OnSome, length};
-ghost use Rattle.std.specs.Int.{IsPowerOfTwo};
-ghost use Rattle.bucket_slots.specs.BucketView.{first_place, slot_in};
-ghost use Rattle.bucket_slots.specs.Clearing.{slots_for_insertion};
-ghost use Rattle.bucket_slots.specs.Evicting.{slots_evicted, slots_touched};
-ghost use Rattle.bucket_slots.specs.Slots.{free, is_free, is_live, live_pair};
-ghost use Rattle.bucket_table.specs.MapState.{AddsPair, ChangesValue, IsAbsent, IsThere, KeepsPairs, TakesPair};
-ghost use Rattle.bucket_table.specs.OneMap.{IsOneMap, pairs_of, state_of};
-ghost use Rattle.bucket_table.specs.Taking.{slots_after_taking};
+//! Model: `TableView`. Invariant: `IsOneMap`.
+ghost use Rattle.std.specs.Prelude.{◌≡◌, ◌≢◌, true, ◌<◌, [], false, None, Some, IfOk, IsSome, IfSome, IfNone, OnOk, OnErr, IsOk, length};
+ghost use Rattle.std.specs.Borrow.{Bor, RestsIfErr, RestsIfNone, sem};
+ghost use Rattle.std.specs.List.Sorted.{IsPermutation};
+ghost use Rattle.bucket_slots.specs.Homes.{IsHome};
+ghost use Rattle.bucket_table.specs.ArraysView.{RehashView, pairs_of};
+ghost use Rattle.bucket_table.specs.Counting.{counted_to};
+ghost use Rattle.bucket_table.specs.Finding.{FindsAlone, GrowsFirst};
+ghost use Rattle.bucket_table.specs.Free.{HasNoFreeHome, IsFreeHome};
+ghost use Rattle.bucket_table.specs.Refusing.{IsRefused};
+ghost use Rattle.bucket_table.specs.TableRow.{table_row};
+ghost use Rattle.bucket_table.specs.Locking.{IsLocked};
+ghost use Rattle.bucket_table.specs.LookingUp.{IsAbsent, IsThere};
+ghost use Rattle.bucket_table.specs.Optional.{IfHeld};
+ghost use Rattle.bucket_table.specs.Preparing.{IsReady, Prepares};
+ghost use Rattle.bucket_table.specs.Rehashing.{EndsRehash, IsEasyMove, IsOldIndex, IsUnmoved, KeepsArrays, RelocatesAt, StartsRehash};
+ghost use Rattle.bucket_table.specs.Relocation.{buckets_of};
+ghost use Rattle.bucket_table.specs.MapState.{KeepsPairs, RaisesMinimum, state_of};
+ghost use Rattle.bucket_table.specs.Resizes.{Reserves};
+ghost use Rattle.bucket_table.specs.Sides.{buckets_on};
+ghost use Rattle.bucket_table.specs.Units.{IsEasyUnit, IsUnitReady, KeepsBag, WorksUnit};
 
-mod capacity;
-mod sampling;
+pub(crate) mod capacity;
+mod cursor;
+mod finishing;
+mod locked_bucket;
+pub(crate) mod relocate;
+mod walks;
 
+use crate::arrays::Arrays;
 use crate::key_hash::KeyHash;
-use bucket_slots::bucket::{Bucket, CACHE, EntryPtr, Generation, INDEX};
+use crate::tickets::TicketError;
+use bucket_slots::bucket::AllocError;
 use bucket_slots::lru::LruList;
-pub use capacity::{
-    from_index_to_range, num_entries_from_hint, ranges_part_the_indices,
-    table_capacity_from_num_entries,
-};
-use std::alloc::Global;
+pub use locked_bucket::LockedBucket;
 use std::marker::Model;
-use std::mem;
 
-/// A map from keys to values, in buckets of the kind `TYPE` with recency lists `L`.
+/// A map from keys to values, in one array or two.
 #[derive(Drop)]
 pub struct HashTable<K: Eq, V, H: KeyHash<K>, L: LruList, const TYPE: u8> {
-    hasher: H,
-    minimum: usize,
-    maximum: usize,
-    bucket: Bucket<K, V, L, TYPE>,
+    pub(crate) hasher: H,
+    pub(crate) arrays: Arrays<K, V, L, TYPE>,
 }
 
 impl<K: Eq, V, H: KeyHash<K>, L: LruList, const TYPE: u8> Model for HashTable<K, V, H, L, TYPE> {
-    ghost use Rattle.bucket_table.specs.TableView.{IsCapacityRange, TableView};
-    ghost use Rattle.bucket_table.specs.OneMap.{IsOneMap};
+    ghost use Rattle.bucket_table.specs.ArraysView.{IsOneMap, TableView};
 
     ghost Value = { TableView K V H };
 
-    ghost view = { λ table. record { hasher = table.hasher; minimum = table.minimum; maximum = table.maximum; bucket = table.bucket } };
+    ghost view = { λ table. record { hasher = table.hasher; arrays = table.arrays } };
 
-    ghost invariant = { λ table. IsCapacityRange table.minimum table.maximum × IsOneMap K.eq (H.hash_of table.hasher) (record { hasher = table.hasher; minimum = table.minimum; maximum = table.maximum; bucket = table.bucket }) };
+    ghost invariant = { λ table. IsOneMap K.eq (H.hash_of table.hasher) table.arrays };
 }
 
 impl<K: Eq, V, H: KeyHash<K>, L: LruList, const TYPE: u8> HashTable<K, V, H, L, TYPE> {
-    /// Returns a table with no pair.
-    ///
-    /// `minimum` and `maximum` are numbers of slots. The allocator serves all that the table
-    /// will hold. Takes no memory. O(1). Own.
-    pub fn new(alloc: Global, hasher: H, minimum: usize, maximum: usize) -> Self
-        requires power { IsPowerOfTwo maximum }
-        requires large { 64 ≤ maximum }
-        requires bounded { minimum ≤ maximum }
-        ensures map { pairs_of result ≡ [] }
-        ensures hasher { result.hasher ≡ hasher }
-        ensures minimum { result.minimum ≡ minimum }
-        ensures maximum { result.maximum ≡ maximum }
+    /// Returns the pair whose key is equal; `None` where the map has none.
+    pub fn peek_entry(&self, key: &K) -> Option<(&K, &V)>
+        ensures found { IfSome result
+            (λ pair. IsThere K.eq key.now (pairs_of self.now.arrays) (pair.0.now, pair.1.now)) }
+        ensures absent { IfNone result (IsAbsent K.eq key.now (pairs_of self.now.arrays)) }
     {
-        HashTable {
-            hasher,
-            minimum,
-            maximum,
-            bucket: Bucket::new(alloc),
+        let hash = self.hasher.hash_one(key);
+        match self.arrays.peek_current(key, hash) {
+            Some((own, value)) => Some((own, value)),
+            None => self.arrays.peek_old(key, hash),
         }
     }
 
-    /// Returns the hasher.
-    ///
-    /// O(1). scc: `HashTable::hasher`.
-    pub fn hasher(&self) -> &H
-        ensures { result.now ≡ self.now.hasher }
-    {
-        &self.hasher
-    }
-
     /// Returns the hash of a key.
-    ///
-    /// O(1). scc: `HashTable::hash`.
     pub fn hash(&self, key: &K) -> u64
         ensures { result ≡ H.hash_of self.now.hasher key.now }
     {
         self.hasher.hash_one(key)
     }
 
-    /// Returns the pair whose key is equal; `None` where the map has none.
-    ///
-    /// Compares only keys whose hash has the same low byte. Takes no memory.
-    /// O(blocks in the chain). scc: `HashTable::peek_entry`.
-    pub fn peek_entry(&self, key: &K) -> Option<(&K, &V)>
-        ensures found { IfSome result
-            (λ pair. IsThere K.eq key.now (pairs_of self.now) (pair.0.now, pair.1.now)) }
-        ensures absent { IfNone result (IsAbsent K.eq key.now (pairs_of self.now)) }
-    {
-        self.bucket.peek_entry(key, self.hasher.hash_one(key))
-    }
-
-    /// No work: a proof learns what every table keeps.
-    pub(crate) fn sound(&self)
-        ensures { IsOneMap K.eq (H.hash_of self.now.hasher) self.now }
-    {
-        let _ = &self.hasher;
-    }
-
-    /// Returns the number of pairs.
-    pub(crate) fn len(&self) -> usize
-        ensures { result ≡ length (pairs_of self.now) }
-    {
-        self.bucket.len()
-    }
-
-    /// Returns a pointer to the pair whose key is equal; `None` where the map has none.
-    pub(crate) fn find(&self, key: &K, hash: u64) -> Option<EntryPtr<K, V, TYPE>>
-        requires own_hash { hash ≡ H.hash_of self.now.hasher key.now }
-        ensures found { IfSome result (λ at. (pair : K × V)
-            × (live_pair (slot_in self.now.bucket at) ≡ Some pair)
-            × IsThere K.eq key.now (pairs_of self.now) pair) }
-        ensures live_slot { IfSome result (λ at. IsTrue (is_live (slot_in self.now.bucket at))) }
-        ensures absent { IfNone result (IsAbsent K.eq key.now (pairs_of self.now)) }
-    {
-        let at = self.bucket.get_entry_ptr(key, hash);
-        if at.is_valid() { Some(at) } else { None }
-    }
-
-    /// Takes the pair at a live slot out of the map and returns it. An index keeps it in its slot,
-    /// marked with the epoch of now.
-    pub(crate) fn remove<G: Generation>(
-        &mut self,
-        at: &mut EntryPtr<K, V, TYPE>,
-        generation: &G,
-    ) -> (K, V)
-    where
-        K: Copy,
-        V: Copy,
-        requires live_slot { IsTrue (is_live (slot_in self.old.bucket at.old)) }
-        ensures pair { live_pair (slot_in self.old.bucket at.old) ≡ Some result }
-        ensures map { TakesPair (state_of TYPE self.old) result (state_of TYPE self.new) }
-        ensures bucket { self.new.bucket
-            ≡ slots_after_taking TYPE self.old.bucket at.old (G.epoch_of generation.now) }
-    {
-        if TYPE != INDEX {
-            return self.bucket.remove(at);
-        }
-        let pair = (*at.key(&self.bucket), *at.val(&self.bucket));
-        self.bucket.mark_removed(at, generation);
-        pair
-    }
-
-    /// Writes the value at a live slot and returns the earlier one.
-    pub(crate) fn write(&mut self, at: &EntryPtr<K, V, TYPE>, value: V) -> V
-        requires live_slot { IsTrue (is_live (slot_in self.old.bucket at.now)) }
-        ensures { (key : K)
-            × (live_pair (slot_in self.old.bucket at.now) ≡ Some (key, result))
-            × ChangesValue (state_of TYPE self.old) (key, result) value (state_of TYPE self.new) }
-    {
-        mem::replace(self.bucket.entry_mut(at).1, value)
-    }
-
-    /// Makes a live slot the one touched last.
-    pub(crate) fn touch(&mut self, at: &EntryPtr<K, V, TYPE>)
-        requires cache { TYPE ≡ CACHE }
-        requires live_slot { IsTrue (is_live (slot_in self.old.bucket at.now)) }
+    /// Hands out the next unit of the old array, and returns its ticket.
+    pub fn start_incremental_rehash(&mut self) -> Option<usize>
         ensures map { KeepsPairs (state_of TYPE self.old) (state_of TYPE self.new) }
-        ensures bucket { self.new.bucket ≡ slots_touched L.KEEPS self.old.bucket at.now }
+        ensures kept { KeepsArrays self.old.arrays self.new.arrays }
+        ensures rehash { StartsRehash self.old.arrays.rehash result self.new.arrays.rehash }
     {
-        self.bucket.update_lru_tail(at);
-    }
-
-    /// Takes out the pair touched longest ago, where all own slots are occupied, and returns it.
-    pub(crate) fn evict(&mut self) -> Option<(K, V)>
-        requires cache { TYPE ≡ CACHE }
-        ensures map { IfSome result
-            (λ pair. TakesPair (state_of TYPE self.old) pair (state_of TYPE self.new)) }
-        ensures bucket { OnSome result (self.new.bucket ≡ slots_evicted self.old.bucket) }
-        ensures none { IsNone result ↔ Contains self.old.bucket.own free }
-        ensures unchanged { IfNone result (self.new ≡ self.old) }
-    {
-        self.bucket.evict_lru_head()
+        self.arrays.start_incremental_rehash()
     }
 }
 
-impl<K: Eq + Drop, V: Drop, H: KeyHash<K>, L: LruList, const TYPE: u8> HashTable<K, V, H, L, TYPE> {
-    /// Inserts a pair whose key the map hasn't.
-    pub(crate) fn insert<G: Generation>(
+impl<K: Eq + Drop, V: Drop, H: KeyHash<K>, L: LruList + Drop, const TYPE: u8> HashTable<
+    K,
+    V,
+    H,
+    L,
+    TYPE,
+> {
+    /// Moves the pairs of an old bucket to their homes in the current array, and kills it.
+    ///
+    /// # Errors
+    ///
+    /// Want of memory: no pair has moved, and the bucket isn't killed.
+    pub fn relocate_bucket_sync(&mut self, index: usize) -> Result<(), AllocError>
+        requires within { IsOldIndex self.old.arrays index }
+        ensures map { KeepsPairs (state_of TYPE self.old) (state_of TYPE self.new) }
+        ensures done { OnOk result (RelocatesAt index self.old.arrays self.new.arrays) }
+        ensures refused { OnErr result (IsUnmoved self.old.arrays self.new.arrays) }
+        ensures succeeds { IsEasyMove index self.old.arrays → IsOk result }
+    {
+        self.arrays.relocate(&self.hasher, index)
+    }
+
+    /// Ends a ticket, and returns whether the old array went.
+    pub fn end_incremental_rehash(
+        &mut self,
+        ticket: usize,
+        success: bool,
+    ) -> Result<bool, TicketError>
+        ensures map { KeepsPairs (state_of TYPE self.old) (state_of TYPE self.new) }
+        ensures kept { KeepsArrays self.old.arrays self.new.arrays }
+        ensures rehash { EndsRehash self.old.arrays.rehash ticket success result self.new.arrays.rehash }
+    {
+        self.arrays.end_incremental_rehash(ticket, success)
+    }
+
+    /// Works a unit, and moves the sources of the home of a hash. Returns whether there is a
+    /// current array.
+    ///
+    /// # Errors
+    ///
+    /// Want of memory: a source isn't killed.
+    pub fn prepare(&mut self, hash: u64) -> Result<bool, AllocError>
+        ensures map { KeepsPairs (state_of TYPE self.old) (state_of TYPE self.new) }
+        ensures kept { KeepsArrays self.old.arrays self.new.arrays }
+        ensures bag { KeepsBag self.old.arrays.rehash self.new.arrays.rehash }
+        ensures ready { Prepares self.new.arrays hash result }
+        ensures unit { (was : RehashView K V)
+            → (self.old.arrays.rehash ≡ Some was)
+            → IsUnitReady was
+            → IsEasyUnit was.tickets.position self.old.arrays was
+            → WorksUnit was self.new.arrays.rehash }
+        ensures alone { self.old.arrays.rehash ≡ None → self.new ≡ self.old }
+        ensures succeeds { self.old.arrays.rehash ≡ None → IsOk result }
+    {
+        self.arrays.prepare(&self.hasher, hash)
+    }
+
+    /// Returns what a function answers on the pair whose key is equal; `None` where the map has
+    /// none.
+    pub fn reader_sync<R, F: FnOnce(&K, &V) -> R>(&mut self, key: &K, reader: F) -> Option<R>
+        requires callable { (own : Bor K) (value : Bor V) → F.pre reader own value }
+        ensures found { IfSome result (λ answer. (own : Bor K) × (value : Bor V)
+            × IsThere K.eq key.now (pairs_of self.new.arrays) (own.now, value.now)
+            × F.post reader own value answer) }
+        ensures absent { IfNone result (IsAbsent K.eq key.now (pairs_of self.new.arrays)) }
+        ensures map { KeepsPairs (state_of TYPE self.old) (state_of TYPE self.new) }
+        ensures bag { KeepsBag self.old.arrays.rehash self.new.arrays.rehash }
+        ensures unit { (was : RehashView K V)
+            → (self.old.arrays.rehash ≡ Some was)
+            → IsUnitReady was
+            → IsEasyUnit was.tickets.position self.old.arrays was
+            → WorksUnit was self.new.arrays.rehash }
+        ensures alone { self.old.arrays.rehash ≡ None → self.new ≡ self.old }
+    {
+        let hash = self.hasher.hash_one(key);
+        let _ = self.prepare(hash);
+        match self.peek_entry(key) {
+            Some((own, value)) => Some(reader(own, value)),
+            None => None,
+        }
+    }
+
+    /// Locks a bucket of the old or of the current array.
+    pub fn lock(&mut self, is_old: bool, index: usize) -> LockedBucket<'_, K, V, H, L, TYPE>
+        requires { IsLocked self.old.arrays is_old index }
+        ensures same_table { result.table.ghost_name ≡ self.entry.ghost_name }
+        ensures unchanged { result.table.now ≡ self.old }
+        ensures side { result.is_old ≡ is_old }
+        ensures index { result.index ≡ index }
+    {
+        LockedBucket {
+            table: self,
+            is_old,
+            index,
+        }
+    }
+
+    /// Locks the home of a hash in the current array.
+    pub fn lock_home(&mut self, hash: u64) -> LockedBucket<'_, K, V, H, L, TYPE>
+        requires ready { IsReady self.old.arrays hash }
+        ensures same_table { result.table.ghost_name ≡ self.entry.ghost_name }
+        ensures unchanged { result.table.now ≡ self.old }
+        ensures side { result.is_old ≡ false }
+        ensures home { IsHome (length (buckets_of result.table.now.arrays.current)) hash result.index }
+    {
+        let index = self.arrays.home(hash);
+        LockedBucket {
+            table: self,
+            is_old: false,
+            index,
+        }
+    }
+
+    /// Prepares the home of a hash, and locks it. Returns `None` where there is no array.
+    ///
+    /// # Errors
+    ///
+    /// Want of memory.
+    pub fn optional_writer_sync(
         &mut self,
         hash: u64,
-        pair: (K, V),
-        generation: &G,
-    ) -> Result<EntryPtr<K, V, TYPE>, (K, V)>
-        requires own_hash { hash ≡ H.hash_of self.old.hasher pair.0 }
-        requires key_absent { IsAbsent K.eq pair.0 (pairs_of self.old) }
-        ensures map { OnOk result (AddsPair (state_of TYPE self.old) pair (state_of TYPE self.new)) }
-        ensures pair_returned { IfErr result (λ back. back ≡ pair) }
-        ensures unchanged { OnErr result (self.new ≡ self.old) }
-        ensures no_free_slot { OnErr result
-            (first_place is_free
-            (slots_for_insertion TYPE (G.keeps generation.now) self.old.bucket) ≡ None) }
+    ) -> Result<Option<LockedBucket<'_, K, V, H, L, TYPE>>, AllocError>
+        ensures same_table { IfHeld result (λ locked. locked.table.ghost_name ≡ self.entry.ghost_name) }
+        ensures kept { IfHeld result (λ locked. KeepsArrays self.old.arrays locked.table.now.arrays) }
+        ensures map { IfHeld result (λ locked. KeepsPairs (state_of TYPE self.old) (state_of TYPE locked.table.now)) }
+        ensures bag { IfHeld result (λ locked. KeepsBag self.old.arrays.rehash locked.table.now.arrays.rehash) }
+        ensures side { IfHeld result (λ locked. locked.is_old ≡ false) }
+        ensures home { IfHeld result (λ locked.
+            IsHome (length (buckets_of locked.table.now.arrays.current)) hash locked.index) }
+        ensures alone { self.old.arrays.rehash ≡ None → IfHeld result (λ locked. locked.table.now ≡ self.old) }
+        ensures succeeds { self.old.arrays.rehash ≡ None → IsOk result }
     {
-        self.bucket.insert(hash, pair, generation)
+        match self.prepare(hash) {
+            Ok(true) => Ok(Some(self.lock_home(hash))),
+            Ok(false) => Ok(None),
+            Err(refused) => Err(refused),
+        }
+    }
+
+    /// Finds the bucket for a writer of a hash: makes a first array where there is none, works a unit
+    /// and moves the sources of the hash's home beside an old array, and then may enlarge the table.
+    /// Returns whether the bucket is one of the old array, and its index.
+    ///
+    /// # Errors
+    ///
+    /// Want of memory for a first array, or a source isn't killed.
+    pub fn find(&mut self, hash: u64) -> Result<(bool, usize), AllocError>
+        ensures map { KeepsPairs (state_of TYPE self.old) (state_of TYPE self.new) }
+        ensures bag { KeepsBag self.old.arrays.rehash self.new.arrays.rehash }
+        ensures locked { IfOk result (λ found. IsLocked self.new.arrays found.0 found.1) }
+        ensures home { IfOk result (λ found. IsHome (length (buckets_on self.new.arrays found.0)) hash found.1) }
+        ensures alone { self.old.arrays.rehash ≡ None → FindsAlone TYPE hash self.old.arrays result self.new.arrays }
+    {
+        self.arrays.find(&self.hasher, hash)
+    }
+
+    /// Finds the bucket for a writer of a hash, and locks it.
+    ///
+    /// # Errors
+    ///
+    /// Want of memory for a first array, or a source isn't killed.
+    pub fn writer_sync(
+        &mut self,
+        hash: u64,
+    ) -> Result<LockedBucket<'_, K, V, H, L, TYPE>, AllocError>
+        ensures* rests { sem 𝓛 (RestsIfErr
+            (table_row K.row V.row H.row L.row TYPE.row K.PartialEq H.KeyHash
+            (record { KEEPS = L.KEEPS; listed = L.listed; IsTail = L.IsTail }) L.Default)
+            self.entry (λ locked. locked.table.ghost_name) result (IsRefused TYPE self.old)) }
+        ensures same_table { IfOk result (λ locked. locked.table.ghost_name ≡ self.entry.ghost_name) }
+        ensures map { IfOk result (λ locked. KeepsPairs (state_of TYPE self.old) (state_of TYPE locked.table.now)) }
+        ensures bag { IfOk result (λ locked. KeepsBag self.old.arrays.rehash locked.table.now.arrays.rehash) }
+        ensures home { IfOk result (λ locked.
+            IsHome (length (buckets_on locked.table.now.arrays locked.is_old)) hash locked.index) }
+        ensures alone { self.old.arrays.rehash ≡ None → IfOk result (λ locked.
+            GrowsFirst TYPE hash self.old.arrays locked.is_old locked.index locked.table.now.arrays) }
+        ensures succeeds { self.old.arrays.rehash ≡ None → IsSome self.old.arrays.current → IsOk result }
+    {
+        match self.find(hash) {
+            Ok((is_old, index)) => Ok(self.lock(is_old, index)),
+            Err(refused) => Err(refused),
+        }
+    }
+
+    /// The same as `writer_sync`, since no other lock is held here.
+    ///
+    /// # Errors
+    ///
+    /// Want of memory for a first array, or a source isn't killed.
+    pub fn try_reserve_bucket(
+        &mut self,
+        hash: u64,
+    ) -> Result<LockedBucket<'_, K, V, H, L, TYPE>, AllocError>
+        ensures* rests { sem 𝓛 (RestsIfErr
+            (table_row K.row V.row H.row L.row TYPE.row K.PartialEq H.KeyHash
+            (record { KEEPS = L.KEEPS; listed = L.listed; IsTail = L.IsTail }) L.Default)
+            self.entry (λ locked. locked.table.ghost_name) result (IsRefused TYPE self.old)) }
+        ensures same_table { IfOk result (λ locked. locked.table.ghost_name ≡ self.entry.ghost_name) }
+        ensures map { IfOk result (λ locked. KeepsPairs (state_of TYPE self.old) (state_of TYPE locked.table.now)) }
+        ensures bag { IfOk result (λ locked. KeepsBag self.old.arrays.rehash locked.table.now.arrays.rehash) }
+        ensures home { IfOk result (λ locked.
+            IsHome (length (buckets_on locked.table.now.arrays locked.is_old)) hash locked.index) }
+        ensures alone { self.old.arrays.rehash ≡ None → IfOk result (λ locked.
+            GrowsFirst TYPE hash self.old.arrays locked.is_old locked.index locked.table.now.arrays) }
+        ensures succeeds { self.old.arrays.rehash ≡ None → IsSome self.old.arrays.current → IsOk result }
+    {
+        self.writer_sync(hash)
+    }
+
+    /// Locks the home of a hash with no work before. Returns `None` where there is no array, where
+    /// an old one stands, and where it is asked and the home has 32 live pairs or more.
+    ///
+    /// Takes no memory.
+    pub fn try_optional_writer<const CHECK_SIZE: bool>(
+        &mut self,
+        hash: u64,
+    ) -> Option<LockedBucket<'_, K, V, H, L, TYPE>>
+        ensures* rests { sem 𝓛 (RestsIfNone
+            (table_row K.row V.row H.row L.row TYPE.row K.PartialEq H.KeyHash
+            (record { KEEPS = L.KEEPS; listed = L.listed; IsTail = L.IsTail }) L.Default)
+            self.entry (λ locked. locked.table.ghost_name) result (λ after. after ≡ self.old)) }
+        ensures same_table { IfSome result (λ locked. locked.table.ghost_name ≡ self.entry.ghost_name) }
+        ensures unchanged { IfSome result (λ locked. locked.table.now ≡ self.old) }
+        ensures side { IfSome result (λ locked. locked.is_old ≡ false) }
+        ensures free { IfSome result (λ locked. IsFreeHome CHECK_SIZE self.old.arrays hash locked.index) }
+        ensures none { IfNone result (HasNoFreeHome CHECK_SIZE self.old.arrays hash) }
+    {
+        match self.arrays.free_home(hash, CHECK_SIZE) {
+            Some(index) => Some(self.lock(false, index)),
+            None => None,
+        }
+    }
+
+    /// Raises the minimum by a number of slots, and resizes. Returns by how much it was raised: by
+    /// nothing where it would pass the maximum.
+    ///
+    /// Want of memory leaves the arrays.
+    pub fn reserve_capacity(&mut self, additional: usize) -> usize
+        ensures map { RaisesMinimum additional (state_of TYPE self.old) result (state_of TYPE self.new) }
+        ensures bag { KeepsBag self.old.arrays.rehash self.new.arrays.rehash }
+        ensures arrays { Reserves additional self.old.arrays result self.new.arrays }
+    {
+        self.arrays.reserve_capacity(additional)
+    }
+
+    /// Returns whether the map has a pair. Does to the table what `num_entries` does.
+    pub fn has_entry(&mut self) -> bool
+        ensures some { result ≡ true → pairs_of self.new.arrays ≢ [] }
+        ensures none { result ≡ false → pairs_of self.new.arrays ≡ [] }
+        ensures map { KeepsPairs (state_of TYPE self.old) (state_of TYPE self.new) }
+        ensures bag { KeepsBag self.old.arrays.rehash self.new.arrays.rehash }
+        ensures unit { (was : RehashView K V)
+            → (self.old.arrays.rehash ≡ Some was)
+            → IsUnitReady was
+            → IsEasyUnit was.tickets.position self.old.arrays was
+            → WorksUnit was self.new.arrays.rehash }
+        ensures alone { self.old.arrays.rehash ≡ None → (pairs_of self.old.arrays ≡ [] → ⊥) → self.new ≡ self.old }
+    {
+        self.num_entries() != 0
+    }
+
+    /// Works a unit, and returns how many pairs the map has, saturating. Where it has none and the
+    /// minimum is 0 the table may be dropped.
+    pub fn num_entries(&mut self) -> usize
+        ensures count { result ≡ counted_to (pairs_of self.new.arrays) }
+        ensures map { KeepsPairs (state_of TYPE self.old) (state_of TYPE self.new) }
+        ensures bag { KeepsBag self.old.arrays.rehash self.new.arrays.rehash }
+        ensures unit { (was : RehashView K V)
+            → (self.old.arrays.rehash ≡ Some was)
+            → IsUnitReady was
+            → IsEasyUnit was.tickets.position self.old.arrays was
+            → WorksUnit was self.new.arrays.rehash }
+        ensures alone { self.old.arrays.rehash ≡ None → (pairs_of self.old.arrays ≡ [] → ⊥) → self.new ≡ self.old }
+    {
+        self.arrays.num_entries(&self.hasher)
     }
 }

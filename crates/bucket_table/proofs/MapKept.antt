@@ -1,0 +1,71 @@
+-- The map of two arrays, where the pairs of a bucket move on.
+use Rattle.std.proofs.Common.{ℕ, ◌≡◌, ap, ◌∙◌, subst, Bool, Result, Ok, Err, OnOk, OnErr, List, ◌++◌, map}
+use Rattle.std.specs.Cmp.{IsEquivalence}
+use Rattle.std.specs.List.Sorted.{IsPermutation}
+use Rattle.std.proofs.lemmas.List.Sorted.{IsPermutation-map, IsPermutation-refl}
+use Rattle.std.proofs.lemmas.Map.Keys.{IsDistinct-IsPermutation}
+use Rattle.bucket_slots.specs.BucketView.{BucketView}
+use Rattle.bucket_table.specs.Relocation.{IsRelocated, KeepsEntries, entries_among}
+use Rattle.bucket_table.specs.ArraysView.{ArePlaced, ArraysView, IsOneMap, TableView, entries_of, pairs_of}
+use Rattle.bucket_table.specs.Finding.{KeepsMap}
+use Rattle.bucket_table.specs.MapState.{KeepsPairs, MapState, state_of}
+use Rattle.bucket_table.specs.Rehashing.{IsUnmoved, KeepsArrays, RelocatesAt}
+use Rattle.bucket_table.proofs.Relocating.{entries_among-kept}
+
+module _ {K V : Type 0} where
+  -- done or refused, the pairs are the same up to order
+  pub entries_kept : {A E : Type 0} (r : Result A E) (index : ℕ) (c l d m : List (BucketView K V)) → OnOk r (IsRelocated index c l d m)
+      → OnErr r (KeepsEntries c d) → OnErr r (m ≡ l) → IsPermutation (entries_among c ++ entries_among l) (entries_among d ++ entries_among m)
+  entries_kept (Ok x) index c l d m moved kept same = moved.entries
+  entries_kept (Err e) index c l d m moved kept same = rw (same, entries_among-kept c d kept) (IsPermutation-refl (entries_among c ++ entries_among l))
+
+  pub pairs_kept : (xs ys : List ((K × V) × ℕ)) → IsPermutation xs ys
+      → IsPermutation (map (λ (e : (K × V) × ℕ). e.0) xs) (map (λ (e : (K × V) × ℕ). e.0) ys)
+  pairs_kept xs ys moved = IsPermutation-map (λ (e : (K × V) × ℕ). e.0) xs ys moved
+
+  -- the arrays are one map still
+  pub one_map_kept : (eq : K → K → Bool) → IsEquivalence eq → (hash : K → ℕ) (old new : ArraysView K V) → IsOneMap eq hash old → KeepsArrays old new → ArePlaced hash new
+      → IsOneMap eq hash new
+  one_map_kept eq laws hash old new one kept placed = record {
+    distinct = IsDistinct-IsPermutation eq laws.symm _ _ (IsPermutation-map (λ (p : K × V). p.0) _ _ (pairs_kept (entries_of old) (entries_of new) kept.pairs)) one.distinct;
+    placed = placed;
+  }
+
+  pub map_kept : (old new : ArraysView K V) → KeepsArrays old new → IsPermutation (pairs_of old) (pairs_of new)
+  map_kept old new kept = pairs_kept (entries_of old) (entries_of new) kept.pairs
+
+  -- done or refused, a move keeps the map
+  pub kept_of : {A E : Type 0} (r : Result A E) (index : ℕ) (old new : ArraysView K V) → OnOk r (RelocatesAt index old new) → OnErr r (IsUnmoved old new) → KeepsArrays old new
+  kept_of (Ok x) index old new done refused = done.kept
+  kept_of (Err e) index old new done refused = refused.kept
+
+module _ {K V H : Type 0} where
+  pub map_seen : (t s : TableView K V H) (new : ArraysView K V) → t ≡ s → KeepsArrays t.arrays new → IsPermutation (pairs_of s.arrays) (pairs_of new)
+  map_seen t s new is kept = subst (λ (z : TableView K V H). IsPermutation (pairs_of z.arrays) (pairs_of new)) is (map_kept t.arrays new kept)
+
+  -- what a call that keeps the pairs and the capacities leaves of the map
+  pub state_seen : (kind : ℕ) (t s : TableView K V H) (new : ArraysView K V) → t ≡ s → KeepsMap t.arrays new → KeepsPairs (state_of kind s) (state_of kind (record { hasher = t.hasher; arrays = new }))
+  state_seen kind t s new is kept =
+      subst (λ (z : TableView K V H). KeepsPairs (state_of kind z) (state_of kind (record { hasher = t.hasher; arrays = new }))) is (record {
+        pairs = pairs_kept (entries_of t.arrays) (entries_of new) kept.pairs;
+        others = ap (λ (n : ℕ). record { kind = kind; hasher = t.hasher; minimum = n; maximum = new.maximum; pairs = pairs_of new }) kept.minimum
+            ∙ ap (λ (n : ℕ). record { kind = kind; hasher = t.hasher; minimum = t.arrays.minimum; maximum = n; pairs = pairs_of new }) kept.maximum;
+      })
+
+module _ {K V H : Type 0} where
+  -- what stays beside the pairs
+  pub hasher_kept : (a b : MapState K V H) → KeepsPairs a b → b.hasher ≡ a.hasher
+  hasher_kept a b keeps = ap (λ (m : MapState K V H). m.hasher) keeps.others
+
+  pub minimum_kept : (a b : MapState K V H) → KeepsPairs a b → b.minimum ≡ a.minimum
+  minimum_kept a b keeps = ap (λ (m : MapState K V H). m.minimum) keeps.others
+
+  pub maximum_kept : (a b : MapState K V H) → KeepsPairs a b → b.maximum ≡ a.maximum
+  maximum_kept a b keeps = ap (λ (m : MapState K V H). m.maximum) keeps.others
+
+module _ {K V : Type 0} where
+  pub one_map_found : (eq : K → K → Bool) → IsEquivalence eq → (hash : K → ℕ) (old new : ArraysView K V) → IsOneMap eq hash old → KeepsMap old new → ArePlaced hash new → IsOneMap eq hash new
+  one_map_found eq laws hash old new one kept placed = record {
+    distinct = IsDistinct-IsPermutation eq laws.symm _ _ (IsPermutation-map (λ (p : K × V). p.0) _ _ (pairs_kept (entries_of old) (entries_of new) kept.pairs)) one.distinct;
+    placed = placed;
+  }

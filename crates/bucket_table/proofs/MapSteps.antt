@@ -1,0 +1,239 @@
+-- The law of one map, and the map itself, where one bucket of one side changes.
+use Rattle.std.proofs.Common.{ℕ, zero, suc, ◌<◌, ◌≡◌, ◌%◌, Bool, true, false, if◌then◌else◌, Option, Some, None, List, [], ◌∷◌, ◌++◌, length, map, set, get_or, refl, sym, ap, subst, ◌∙◌, arith, append-nil, length-set}
+use Rattle.std.specs.Cmp.{IsEquivalence}
+use Rattle.std.specs.List.{All, IsDistinct}
+use Rattle.std.specs.List.Sorted.{IsPermutation}
+use Rattle.std.proofs.lemmas.List.{get_or-set_same, set-set}
+use Rattle.std.proofs.lemmas.List.Elements.{All-cons, All-nil, All-map, recursion_from_All}
+use Rattle.std.proofs.lemmas.List.Sorted.{All-permutation, IsPermutation-append_left, IsPermutation-cons, IsPermutation-map, IsPermutation-refl, IsPermutation-trans}
+use Rattle.std.proofs.lemmas.Map.Keys.{IsDistinct-cons, IsDistinct-tail, IsDistinct-IsPermutation}
+use Rattle.bucket_slots.specs.ArrayView.{bucket_at}
+use Rattle.bucket_slots.specs.BucketView.{BucketView, Place, bucket_with_value, empty_bucket, entries_in, pairs_in, slot_in, first_place}
+use Rattle.bucket_slots.specs.Clearing.{looks_at_marks, slots_after_insertion, slots_without_expired, slots_without_free_end}
+use Rattle.bucket_slots.specs.Evicting.{slot_to_evict, slots_evicted, slots_touched}
+use Rattle.bucket_slots.specs.Homes.{IsHome}
+use Rattle.bucket_slots.specs.Marking.{slots_marked}
+use Rattle.bucket_slots.specs.Moving.{slots_vacated_at}
+use Rattle.bucket_slots.specs.Placing.{slots_with, with_head_for, with_place_made}
+use Rattle.bucket_slots.specs.Removing.{slots_unlinked_at, slots_without}
+use Rattle.bucket_slots.specs.Slots.{is_free, live_pair, slot_at}
+use Rattle.bucket_slots.proofs.CallerLemmas.{entries_in-slots_without, map-entries_in, pairs_in-slots_evicted, rewritten}
+use Rattle.bucket_slots.proofs.Entries.{rotated}
+use Rattle.bucket_slots.proofs.MarkCallerLemmas.{entries_in-slots_after_insertion, entries_in-slots_marked}
+use Rattle.bucket_table.specs.ArraysView.{ArraysView, IsOneMap, RehashView, pairs_of}
+use Rattle.bucket_table.specs.Locking.{IsLocked}
+use Rattle.bucket_table.specs.LockedLaws.{killed-with_slot_at}
+use Rattle.bucket_table.specs.LookingUp.{IsAbsent}
+use Rattle.bucket_table.specs.Relocation.{IsEntryHome}
+use Rattle.bucket_table.specs.Sides.{array_with, arrays_with, buckets_on, rehash_with}
+use Rattle.bucket_table.proofs.SideChanges.{Exchanges, buckets_on-arrays_with, homes_moved, homes_on, pairs_exchanged, placed_change}
+
+module _ {K V : Type 0} (eq : K → K → Bool) (laws : IsEquivalence eq) where
+  -- distinct keys, and one more
+  pub distinct_added : (m n : List (K × V)) (p : K × V) → IsDistinct eq (map (λ (q : K × V). q.0) m) → IsAbsent eq p.0 m
+      → IsPermutation (p ∷ m) n → IsDistinct eq (map (λ (q : K × V). q.0) n)
+  distinct_added m n p one none moved =
+      let other : All (λ (q : K × V). eq p.0 q.0 ≡ false) m = λ k d below. laws.symm p.0 (get_or m k d).0 ∙ none k d below in
+      IsDistinct-IsPermutation eq laws.symm _ _ (IsPermutation-map (λ (q : K × V). q.0) (p ∷ m) n moved)
+      (IsDistinct-cons eq p.0 (map (λ (q : K × V). q.0) m) (recursion_from_All (λ k. eq p.0 k ≡ false) (map (λ (q : K × V). q.0) m) (All-map (λ k. eq p.0 k ≡ false) (λ (q : K × V). q.0) m other)) one)
+
+  -- distinct keys, and one less
+  pub distinct_taken : (m n : List (K × V)) (p : K × V) → IsDistinct eq (map (λ (q : K × V). q.0) m) → IsPermutation m (p ∷ n)
+      → IsDistinct eq (map (λ (q : K × V). q.0) n)
+  distinct_taken m n p one moved =
+      IsDistinct-tail eq p.0 (map (λ (q : K × V). q.0) n) (IsDistinct-IsPermutation eq laws.symm _ _ (IsPermutation-map (λ (q : K × V). q.0) m (p ∷ n) moved) one)
+
+  -- distinct keys, in another order
+  pub distinct_kept : (m n : List (K × V)) → IsDistinct eq (map (λ (q : K × V). q.0) m) → IsPermutation m n → IsDistinct eq (map (λ (q : K × V). q.0) n)
+  distinct_kept m n one moved = IsDistinct-IsPermutation eq laws.symm _ _ (IsPermutation-map (λ (q : K × V). q.0) m n moved) one
+
+-- no call of a bucket but kill changes whether it is killed
+module _ {K V : Type 0} where
+  killed-with_head_for : (s : BucketView K V) (found : Option Place) → (with_head_for s found).killed ≡ s.killed
+  killed-with_head_for s None = refl
+  killed-with_head_for s (Some place) = refl
+
+  killed-slots_with : (s : BucketView K V) (p : K × V) (byte : ℕ) → (slots_with s p byte).killed ≡ s.killed
+  killed-slots_with s p byte = killed-with_slot_at (with_place_made s) _ _ _ ∙ killed-with_head_for s (first_place is_free s)
+
+  killed_placed : (looks : Bool) (keeps : ℕ → Bool) (s : BucketView K V) (p : K × V) (byte : ℕ)
+      → (if looks then slots_without_free_end (slots_with (slots_without_expired keeps s) p byte) else slots_with s p byte).killed ≡ s.killed
+  killed_placed true keeps s p byte = killed-slots_with (slots_without_expired keeps s) p byte
+  killed_placed false keeps s p byte = killed-slots_with s p byte
+
+  killed-slots_after_insertion : (kind : ℕ) (keeps : ℕ → Bool) (s : BucketView K V) (p : K × V) (byte : ℕ)
+      → (slots_after_insertion kind keeps s p byte).killed ≡ s.killed
+  killed-slots_after_insertion kind keeps s p byte = killed_placed (looks_at_marks kind s) keeps s p byte
+
+  killed-vacated : (s : BucketView K V) (block pos : ℕ) → (slots_vacated_at s block pos).killed ≡ s.killed
+  killed-vacated s zero pos = refl
+  killed-vacated s (suc i) pos = refl
+
+  killed-unlinked : (s : BucketView K V) (block : ℕ) → (slots_unlinked_at s block).killed ≡ s.killed
+  killed-unlinked s zero = refl
+  killed-unlinked s (suc i) = refl
+
+  killed-slots_without : (s : BucketView K V) (at : Place) → (slots_without s at).killed ≡ s.killed
+  killed-slots_without s at = killed-unlinked (slots_vacated_at s at.block at.pos) at.block ∙ killed-vacated s at.block at.pos
+
+-- the changes of one bucket that a locked bucket makes
+module _ {K V : Type 0} (a : ArraysView K V) (side : Bool) (i : ℕ) (within : i < length (buckets_on a side)) where
+  abbrev bucket : BucketView K V
+  bucket = bucket_at (buckets_on a side) i
+
+  pub inserts : (kind : ℕ) (keeps : ℕ → Bool) (p : K × V) (byte : ℕ) → Exchanges a side i ((p, byte) ∷ []) [] (slots_after_insertion kind keeps bucket p byte)
+  inserts kind keeps p byte = record {
+    within = within;
+    moved = entries_in-slots_after_insertion kind keeps bucket p byte;
+    alive = killed-slots_after_insertion kind keeps bucket p byte;
+  }
+
+  pub removes : (at : Place) (p : K × V) → live_pair (slot_in bucket at) ≡ Some p → (byte : ℕ) × Exchanges a side i [] ((p, byte) ∷ []) (slots_without bucket at)
+  removes at p here =
+      let out = entries_in-slots_without bucket at p here in
+      (out.0, record { within = within; moved = out.1; alive = killed-slots_without bucket at })
+
+  pub marks : (at : Place) (epoch : ℕ) (p : K × V) → live_pair (slot_in bucket at) ≡ Some p → (byte : ℕ) × Exchanges a side i [] ((p, byte) ∷ []) (slots_marked bucket at epoch)
+  marks at epoch p here =
+      let out = entries_in-slots_marked bucket at epoch p here in
+      (out.0, record { within = within; moved = out.1; alive = killed-with_slot_at bucket at.block at.pos _ })
+
+  pub evicts : (p : K × V) → live_pair (slot_at bucket.own (slot_to_evict bucket)) ≡ Some p → (byte : ℕ) × Exchanges a side i [] ((p, byte) ∷ []) (slots_evicted bucket)
+  evicts p here =
+      let out = pairs_in-slots_evicted bucket p here in
+      (out.0, record { within = within; moved = out.1; alive = refl })
+
+  pub touches : (keeps : Bool) (at : Place) → Exchanges a side i [] [] (slots_touched keeps bucket at)
+  touches keeps at = record { within = within; moved = IsPermutation-refl (entries_in bucket); alive = refl }
+
+module _ {K V : Type 0} where
+  set_again_current : (array : Option (List (BucketView K V))) (i : ℕ) (b c : BucketView K V) → array_with (array_with array i b) i c ≡ array_with array i c
+  set_again_current None i b c = refl
+  set_again_current (Some bs) i b c = ap (λ (l : List (BucketView K V)). Some l) (set-set bs i b c)
+
+  set_again_old : (rehash : Option (RehashView K V)) (i : ℕ) (b c : BucketView K V) → rehash_with (rehash_with rehash i b) i c ≡ rehash_with rehash i c
+  set_again_old None i b c = refl
+  set_again_old (Some r) i b c = ap (λ (l : List (BucketView K V)). Some (record { buckets = l; tickets = r.tickets })) (set-set r.buckets i b c)
+
+  set_again : (a : ArraysView K V) (side : Bool) (i : ℕ) (b c : BucketView K V) → arrays_with (arrays_with a side i b) side i c ≡ arrays_with a side i c
+  set_again a true i b c = ap (λ (o : Option (RehashView K V)). record { minimum = a.minimum; maximum = a.maximum; current = a.current; rehash = o }) (set_again_old a.rehash i b c)
+  set_again a false i b c = ap (λ (o : Option (List (BucketView K V))). record { minimum = a.minimum; maximum = a.maximum; current = o; rehash = a.rehash }) (set_again_current a.current i b c)
+
+  -- the arrays without the pairs of a bucket
+  abbrev without_bucket : ArraysView K V → Bool → ℕ → ArraysView K V
+  without_bucket a side i = arrays_with a side i empty_bucket
+
+  pub record Splits (a : ArraysView K V) (side : Bool) (i : ℕ) (b : BucketView K V) : Type 0 where
+    pub before : IsPermutation (pairs_of a) (pairs_in (bucket_at (buckets_on a side) i) ++ pairs_of (without_bucket a side i))
+    pub after : IsPermutation (pairs_in b ++ pairs_of (without_bucket a side i)) (pairs_of (arrays_with a side i b))
+
+  only_pairs : (b : BucketView K V) (rest : List (K × V)) → map (λ (e : (K × V) × ℕ). e.0) (entries_in b) ++ rest ≡ pairs_in b ++ rest
+  only_pairs b rest = ap (λ (l : List (K × V)). l ++ rest) (map-entries_in b)
+
+  -- the pairs of a bucket apart from the others, and those of another in its place
+  pub splits : (a : ArraysView K V) (side : Bool) (i : ℕ) (b : BucketView K V) → i < length (buckets_on a side) → Splits a side i b
+  splits a side i b within =
+      let old = bucket_at (buckets_on a side) i in
+      let empty = without_bucket a side i in
+      let is : buckets_on empty side ≡ set (buckets_on a side) i empty_bucket = buckets_on-arrays_with a side i empty_bucket in
+      let there : bucket_at (buckets_on empty side) i ≡ empty_bucket = rw is (get_or-set_same (buckets_on a side) i empty_bucket empty_bucket within) in
+      let long : i < length (buckets_on empty side) = rw (is, length-set) within in
+      let none : entries_in (bucket_at (buckets_on empty side) i) ≡ [] = ap (λ (c : BucketView K V). entries_in c) there in
+      let out : IsPermutation (entries_in old) (entries_in old ++ []) = subst (IsPermutation (entries_in old)) (sym (append-nil (entries_in old))) (IsPermutation-refl (entries_in old)) in
+      let come : IsPermutation (entries_in b ++ entries_in (bucket_at (buckets_on empty side) i)) (entries_in b) = rw (none, append-nil) (IsPermutation-refl (entries_in b)) in
+      record {
+        before = subst (IsPermutation (pairs_of a)) (only_pairs old (pairs_of empty)) (pairs_exchanged a side i [] (entries_in old) empty_bucket within out);
+        after = subst (λ (z : ArraysView K V). IsPermutation (pairs_in b ++ pairs_of empty) (pairs_of z)) (set_again a side i empty_bucket b)
+            (subst (λ (l : List (K × V)). IsPermutation l (pairs_of (arrays_with empty side i b))) (only_pairs b (pairs_of empty)) (pairs_exchanged empty side i (entries_in b) [] b long come));
+      }
+
+module _ {K V : Type 0} (eq : K → K → Bool) (laws : IsEquivalence eq) (hash : K → ℕ) (a : ArraysView K V) (side : Bool) (i : ℕ) (one : IsOneMap eq hash a) (locked : IsLocked a side i) where
+  -- all of the law but that keys are distinct
+  one_map_after : (came out : List ((K × V) × ℕ)) (b : BucketView K V) → Exchanges a side i came out b → All (IsEntryHome hash (length (buckets_on a side)) i) came
+      → IsDistinct eq (map (λ (p : K × V). p.0) (pairs_of (arrays_with a side i b))) → IsOneMap eq hash (arrays_with a side i b)
+  one_map_after came out b x own distinct = record {
+    distinct = distinct;
+    placed = placed_change hash a side i b one.placed locked (homes_moved hash (length (buckets_on a side)) i came out (bucket_at (buckets_on a side) i) b x.moved (homes_on hash a side i one.placed x.within) own) x.alive;
+  }
+
+  pub record IsAdded (p : K × V) (b : BucketView K V) : Type 0 where
+    pub one_map : IsOneMap eq hash (arrays_with a side i b)
+    pub pairs : IsPermutation (p ∷ pairs_of a) (pairs_of (arrays_with a side i b))
+
+  -- one entry more
+  pub added : (p : K × V) (byte : ℕ) (b : BucketView K V) → Exchanges a side i ((p, byte) ∷ []) [] b → IsAbsent eq p.0 (pairs_of a)
+      → IsHome (length (buckets_on a side)) (hash p.0) i → byte ≡ hash p.0 % 256 → IsAdded p b
+  added p byte b x none home own =
+      let P : (K × V) × ℕ → Type 0 = IsEntryHome hash (length (buckets_on a side)) i in
+      let pairs : IsPermutation (p ∷ pairs_of a) (pairs_of (arrays_with a side i b)) = pairs_exchanged a side i ((p, byte) ∷ []) [] b x.within x.moved in
+      let here : P (p, byte) = record { home = home; own_byte = own } in
+      record {
+        one_map = one_map_after ((p, byte) ∷ []) [] b x (All-cons P (p, byte) [] here (All-nil P)) (distinct_added eq laws (pairs_of a) _ p one.distinct none pairs);
+        pairs = pairs;
+      }
+
+  pub record IsTaken (p : K × V) (b : BucketView K V) : Type 0 where
+    pub one_map : IsOneMap eq hash (arrays_with a side i b)
+    pub pairs : IsPermutation (pairs_of a) (p ∷ pairs_of (arrays_with a side i b))
+
+  -- one entry less
+  pub taken : (p : K × V) (byte : ℕ) (b : BucketView K V) → Exchanges a side i [] ((p, byte) ∷ []) b → IsTaken p b
+  taken p byte b x =
+      let pairs : IsPermutation (pairs_of a) (p ∷ pairs_of (arrays_with a side i b)) = pairs_exchanged a side i [] ((p, byte) ∷ []) b x.within x.moved in
+      record {
+        one_map = one_map_after [] ((p, byte) ∷ []) b x (All-nil _) (distinct_taken eq laws (pairs_of a) _ p one.distinct pairs);
+        pairs = pairs;
+      }
+
+  pub record IsKept (b : BucketView K V) : Type 0 where
+    pub one_map : IsOneMap eq hash (arrays_with a side i b)
+    pub pairs : IsPermutation (pairs_of a) (pairs_of (arrays_with a side i b))
+
+  -- the same entries
+  pub kept : (b : BucketView K V) → Exchanges a side i [] [] b → IsKept b
+  kept b x =
+      let pairs : IsPermutation (pairs_of a) (pairs_of (arrays_with a side i b)) = pairs_exchanged a side i [] [] b x.within x.moved in
+      record {
+        one_map = one_map_after [] [] b x (All-nil _) (distinct_kept eq laws (pairs_of a) _ one.distinct pairs);
+        pairs = pairs;
+      }
+
+  -- another value beside one key
+  pub record IsWritten (p : K × V) (value : V) (b : BucketView K V) : Type 0 where
+    pub one_map : IsOneMap eq hash (arrays_with a side i b)
+    pub alive : b.killed ≡ (bucket_at (buckets_on a side) i).killed
+    pub rest : List (K × V)
+    pub before : IsPermutation (pairs_of a) (p ∷ rest)
+    pub after : IsPermutation ((p.0, value) ∷ rest) (pairs_of (arrays_with a side i b))
+
+  pub written : (p : K × V) (value : V) (at : Place) → live_pair (slot_in (bucket_at (buckets_on a side) i) at) ≡ Some p
+      → IsWritten p value (bucket_with_value (bucket_at (buckets_on a side) i) at value)
+  written p value at here =
+      let old = bucket_at (buckets_on a side) i in
+      let new = bucket_with_value old at value in
+      let r = rewritten old at p value here in
+      let pair : (K × V) × ℕ → K × V = λ e. e.0 in
+      let e : (K × V) × ℕ = (p, r.byte) in
+      let f : (K × V) × ℕ = ((p.0, value), r.byte) in
+      let P : (K × V) × ℕ → Type 0 = IsEntryHome hash (length (buckets_on a side)) i in
+      let moved : IsPermutation (f ∷ entries_in old) (e ∷ entries_in new) =
+      IsPermutation-trans _ _ _ (IsPermutation-cons f _ _ r.before_is) (IsPermutation-trans _ _ _ (rotated (f ∷ []) (e ∷ []) r.rest) (IsPermutation-cons e _ _ r.after_is)) in
+      let x : Exchanges a side i (f ∷ []) (e ∷ []) new = record { within = locked.within; moved = moved; alive = killed-with_slot_at old at.block at.pos _ } in
+      let all = All-permutation P (entries_in old) (e ∷ r.rest) r.before_is (homes_on hash a side i one.placed locked.within) in
+      let first : P e = all 0 e (omega arith) in
+      let own : P f = record { home = first.home; own_byte = first.own_byte } in
+      let apart = splits a side i new locked.within in
+      let others = pairs_of (without_bucket a side i) in
+      let rest : List (K × V) = map pair r.rest ++ others in
+      let before : IsPermutation (pairs_of a) (p ∷ rest) =
+      IsPermutation-trans _ _ _ apart.before (IsPermutation-append_left others (pairs_in old) (p ∷ map pair r.rest) (rw (← map-entries_in old) (IsPermutation-map pair (entries_in old) (e ∷ r.rest) r.before_is))) in
+      let after : IsPermutation ((p.0, value) ∷ rest) (pairs_of (arrays_with a side i new)) =
+      IsPermutation-trans _ _ _ (IsPermutation-append_left others ((p.0, value) ∷ map pair r.rest) (pairs_in new) (rw (← map-entries_in new) (IsPermutation-map pair (f ∷ r.rest) (entries_in new) r.after_is))) apart.after in
+      let keys : IsDistinct eq (map (λ (q : K × V). q.0) ((p.0, value) ∷ rest)) = distinct_kept eq laws (pairs_of a) (p ∷ rest) one.distinct before in
+      record {
+        one_map = one_map_after (f ∷ []) (e ∷ []) new x (All-cons P f [] own (All-nil P)) (distinct_kept eq laws ((p.0, value) ∷ rest) _ keys after);
+        alive = x.alive;
+        rest = rest;
+        before = before;
+        after = after;
+      }

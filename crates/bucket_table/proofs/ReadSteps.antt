@@ -1,0 +1,32 @@
+-- A bucket that is read is as if it came back the same.
+use Rattle.std.proofs.Common.{ℕ, ◌<◌, ◌≡◌, Bool, false, [], length, refl, sym, subst}
+use Rattle.std.proofs.lemmas.List.Sorted.{IsPermutation-refl}
+use Rattle.bucket_slots.specs.BucketView.{BucketView}
+use Rattle.bucket_table.specs.ArraysView.{ArraysView, TableView}
+use Rattle.bucket_table.specs.Locking.{IsLocked}
+use Rattle.bucket_table.specs.Relocation.{buckets_of}
+use Rattle.bucket_table.specs.Sides.{bucket_on}
+use Rattle.bucket_table.specs.Visits.{reading}
+use Rattle.bucket_table.specs.Walks.{IsKeptBy, KeepsBuckets, keys_in}
+use Rattle.bucket_table.proofs.SideChanges.{arrays_with-same}
+use Rattle.bucket_table.proofs.Visiting.{IsLentAt}
+
+module _ {S K V : Type 0} (reads : S → BucketView K V → Bool → S → Type 0) where
+  -- a reader keeps all keys
+  pub keeps_read : KeepsBuckets (reading reads)
+  keeps_read f g lent left flag more last alive call =
+      subst (λ (b : BucketView K V). IsKeptBy lent b) (sym call.1) (record { gone = []; keys = IsPermutation-refl (keys_in lent); alive = alive })
+
+  -- it is lent a bucket, and the arrays stay
+  pub read_at : (arrays : ArraysView K V) (index : ℕ) (now next : S) (flag more : Bool) (seen : BucketView K V) → seen ≡ bucket_on arrays false index → reads now seen more next
+      → IsLentAt S (reading reads) arrays index now flag more flag next arrays
+  read_at arrays index now next flag more seen is call =
+      (bucket_on arrays false index, (subst (λ (b : BucketView K V). reads now b more next) is call, refl, refl), sym (arrays_with-same arrays false index))
+
+module _ {K V H : Type 0} where
+  -- the table, seen as its parts
+  pub within_seen : (t s : TableView K V H) (index : ℕ) → t ≡ s → IsLocked s.arrays false index → index < length (buckets_of t.arrays.current)
+  within_seen t s index is locked = subst (λ (z : TableView K V H). index < length (buckets_of z.arrays.current)) (sym is) locked.within
+
+  pub bucket_seen : (t s : TableView K V H) (index : ℕ) (b : BucketView K V) → t ≡ s → b ≡ bucket_on t.arrays false index → b ≡ bucket_on s.arrays false index
+  bucket_seen t s index b is same = subst (λ (z : TableView K V H). b ≡ bucket_on z.arrays false index) is same

@@ -1,0 +1,32 @@
+-- A raised minimum.
+use Rattle.std.proofs.Common.{ℕ, ◌+◌, ◌≡◌, Bool, sym, ap, subst, ◌∙◌}
+use Rattle.std.specs.Cmp.{IsEquivalence}
+use Rattle.bucket_table.specs.ArraysView.{ArePlaced, ArraysView, IsOneMap, TableView, entries_of, pairs_of}
+use Rattle.bucket_table.specs.Finding.{KeepsMap}
+use Rattle.bucket_table.specs.MapState.{RaisesMinimum, state_of}
+use Rattle.bucket_table.specs.Resizes.{Reserves, with_minimum}
+use Rattle.bucket_table.proofs.MapKept.{one_map_found, pairs_kept}
+
+module _ {K V : Type 0} where
+  -- the law says nothing of the minimum
+  pub placed_raised : (hash : K → ℕ) (t s : ArraysView K V) (least : ℕ) → t ≡ s → ArePlaced hash s → ArePlaced hash (with_minimum t least)
+  placed_raised hash t s least is law =
+      let here = subst (λ (a : ArraysView K V). ArePlaced hash a) (sym is) law in
+      record { homes = here.homes; rehashed = here.rehashed }
+
+  pub one_map_raised : (eq : K → K → Bool) → IsEquivalence eq → (hash : K → ℕ) (old new : ArraysView K V) (least : ℕ) → IsOneMap eq hash old → KeepsMap (with_minimum old least) new → ArePlaced hash new
+      → IsOneMap eq hash new
+  one_map_raised eq laws hash old new least one kept placed =
+      one_map_found eq laws hash (with_minimum old least) new (record { distinct = one.distinct; placed = record { homes = one.placed.homes; rehashed = one.placed.rehashed } }) kept placed
+
+module _ {K V H : Type 0} where
+  pub raised_seen : (kind additional answer : ℕ) (t s : TableView K V H) (new : ArraysView K V) → t ≡ s → Reserves additional t.arrays answer new
+      → KeepsMap (with_minimum t.arrays (t.arrays.minimum + answer)) new → RaisesMinimum additional (state_of kind s) answer (state_of kind (record { hasher = t.hasher; arrays = new }))
+  raised_seen kind additional answer t s new is reserves kept =
+      subst (λ (z : TableView K V H). RaisesMinimum additional (state_of kind z) answer (state_of kind (record { hasher = t.hasher; arrays = new }))) is (record {
+        too_much = λ much. (reserves.too_much much).0;
+        raised = λ fits. (reserves.raised fits).0;
+        pairs = pairs_kept (entries_of t.arrays) (entries_of new) kept.pairs;
+        others = ap (λ (n : ℕ). record { kind = kind; hasher = t.hasher; minimum = n; maximum = new.maximum; pairs = pairs_of new }) kept.minimum
+            ∙ ap (λ (n : ℕ). record { kind = kind; hasher = t.hasher; minimum = t.arrays.minimum + answer; maximum = n; pairs = pairs_of new }) kept.maximum;
+      })

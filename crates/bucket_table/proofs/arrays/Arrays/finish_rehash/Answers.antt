@@ -1,0 +1,41 @@
+use Rattle.std.proofs.Common.{arith}
+use Rattle.bucket_table.proofs.FinishingUnits.{all_done, few_left, none_left, one_more}
+use Rattle.bucket_table.proofs.UnitSteps.{kept_both, kept_none}
+use Rattle.bucket_table.proofs.arrays.Arrays.finish_rehash.Goals as goal
+
+pub loop-count-init : goal.loop-count-init
+loop-count-init g c = (c.requires.placed, kept_none c.args.self.now, c.requires.none_open, omega arith)
+
+pub returns-in_err-finish_unit-clause-kept : goal.returns-in_err-finish_unit-clause-kept
+returns-in_err-finish_unit-clause-kept g c = kept_both c.args.self.now c.loop-count.self c.finish_unit.new.self c.loop-count.invariant.1 c.finish_unit.ensures.kept
+
+pub loop-count-smaller : goal.loop-count-smaller
+loop-count-smaller g c =
+    let fewer = one_more c.loop-count.self.rehash c.finish_unit.new.self.rehash c.in_ok-finish_unit.field-0 c.in_ok-finish_unit.ensures.unit c.if-branch.true in
+    omega (arith, fewer)
+
+pub loop-count-preserved : goal.loop-count-preserved
+loop-count-preserved g c =
+    let fewer = one_more c.loop-count.self.rehash c.finish_unit.new.self.rehash c.in_ok-finish_unit.field-0 c.in_ok-finish_unit.ensures.unit c.if-branch.true in
+    let so_far = c.loop-count.invariant.3 in
+    (c.finish_unit.ensures.placed, kept_both c.args.self.now c.loop-count.self c.finish_unit.new.self c.loop-count.invariant.1 c.finish_unit.ensures.kept, c.finish_unit.ensures.none_open, omega (arith, fewer, so_far))
+
+pub overflow_add-count : goal.overflow_add-count
+overflow_add-count g c =
+    let fewer = one_more c.loop-count.self.rehash c.finish_unit.new.self.rehash c.in_ok-finish_unit.field-0 c.in_ok-finish_unit.ensures.unit c.if-branch.true in
+    let so_far = c.loop-count.invariant.3 in
+    let few = few_left c.args.self.now.rehash c.old_len-len.result c.old_len-len.ensures.value in
+    omega (arith, fewer, so_far, few, c.old_len-len.ensures.few)
+
+pub returns-clause-kept : goal.returns-clause-kept
+returns-clause-kept g c = kept_both c.args.self.now c.loop-count.self c.finish_unit.new.self c.loop-count.invariant.1 c.finish_unit.ensures.kept
+
+pub returns-clause-gone : goal.returns-clause-gone
+returns-clause-gone g c = (all_done c.loop-count.self.rehash c.finish_unit.new.self.rehash c.in_ok-finish_unit.field-0 c.in_ok-finish_unit.ensures.unit c.if-branch.false).1
+
+pub returns-clause-counted : goal.returns-clause-counted
+returns-clause-counted g c =
+    let done = all_done c.loop-count.self.rehash c.finish_unit.new.self.rehash c.in_ok-finish_unit.field-0 c.in_ok-finish_unit.ensures.unit c.if-branch.false in
+    let so_far = c.loop-count.invariant.3 in
+    let none = none_left c.loop-count.self.rehash done.0 in
+    omega (arith, so_far, none)

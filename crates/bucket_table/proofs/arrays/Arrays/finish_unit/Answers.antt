@@ -1,0 +1,39 @@
+use Rattle.std.proofs.Common.{Some, refl, rules}
+use Rattle.bucket_table.proofs.FinishingUnits.{finishes, unit_finished}
+use Rattle.bucket_table.proofs.Placing.{placed_end, placed_start}
+use Rattle.bucket_table.proofs.UnitWork.{handed}
+use Rattle.bucket_table.proofs.arrays.Arrays.finish_unit.Goals as goal
+
+pub returns-then-success-clause-placed : goal.returns-then-success-clause-placed
+returns-then-success-clause-placed g c =
+    placed_end (g.H.KeyHash.hash_of c.args.hasher.now) c.relocate_unit-success.new.self c.end_incremental_rehash.new.self c.in-Some.ticket c.relocate_unit-success.result c.end_incremental_rehash.result
+    c.relocate_unit-success.ensures.placed c.end_incremental_rehash.ensures.rehash c.end_incremental_rehash.ensures.others
+
+pub returns-else-success-clause-placed : goal.returns-else-success-clause-placed
+returns-else-success-clause-placed g c =
+    placed_end (g.H.KeyHash.hash_of c.args.hasher.now) c.relocate_unit-success.new.self c.end_incremental_rehash.new.self c.in-Some.ticket c.relocate_unit-success.result c.end_incremental_rehash.result
+    c.relocate_unit-success.ensures.placed c.end_incremental_rehash.ensures.rehash c.end_incremental_rehash.ensures.others
+
+pub returns-then-success-clause-none_open : goal.returns-then-success-clause-none_open
+returns-then-success-clause-none_open g c =
+    let h = handed _ _ c.in-Some.ticket c.requires.placed.rehashed c.in-Some.ensures.rehash in
+    (unit_finished c.args.self.now.rehash c.start_incremental_rehash.new.self.rehash c.end_incremental_rehash.new.self.rehash c.start_incremental_rehash.new.self c.relocate_unit-success.new.self c.in-Some.ticket c.relocate_unit-success.result c.end_incremental_rehash.result
+    c.requires.placed.rehashed c.requires.none_open h refl c.relocate_unit-success.ensures.worked c.end_incremental_rehash.ensures.rehash).unopened
+
+pub returns-else-success-clause-none_open : goal.returns-else-success-clause-none_open
+returns-else-success-clause-none_open g c =
+    let h = handed _ _ c.in-Some.ticket c.requires.placed.rehashed c.in-Some.ensures.rehash in
+    (unit_finished c.args.self.now.rehash c.start_incremental_rehash.new.self.rehash c.end_incremental_rehash.new.self.rehash c.start_incremental_rehash.new.self c.relocate_unit-success.new.self c.in-Some.ticket c.relocate_unit-success.result c.end_incremental_rehash.result
+    c.requires.placed.rehashed c.requires.none_open h refl c.relocate_unit-success.ensures.worked c.end_incremental_rehash.ensures.rehash).unopened
+
+pub returns-then-success-clause-unit : goal.returns-then-success-clause-unit
+returns-then-success-clause-unit g c =
+    let h = handed _ _ c.in-Some.ticket c.requires.placed.rehashed c.in-Some.ensures.rehash in
+    finishes c.args.self.now.rehash c.end_incremental_rehash.new.self.rehash h.was h.first_is
+    ((unit_finished c.args.self.now.rehash c.start_incremental_rehash.new.self.rehash c.end_incremental_rehash.new.self.rehash c.start_incremental_rehash.new.self c.relocate_unit-success.new.self c.in-Some.ticket c.relocate_unit-success.result c.end_incremental_rehash.result
+    c.requires.placed.rehashed c.requires.none_open h refl c.relocate_unit-success.ensures.worked c.end_incremental_rehash.ensures.rehash).fewer c.if-success.true)
+
+pub relocate_unit-success-requires : goal.relocate_unit-success-requires
+relocate_unit-success-requires g c =
+    let h = handed _ _ c.in-Some.ticket c.requires.placed.rehashed c.in-Some.ensures.rehash in
+    (search rules, ((h.started, h.middle_is, h.within), placed_start (g.H.KeyHash.hash_of c.args.hasher.now) c.args.self.now c.start_incremental_rehash.new.self (Some c.in-Some.ticket) c.requires.placed c.in-Some.ensures.rehash c.in-Some.ensures.others))

@@ -1,0 +1,18 @@
+use Rattle.std.proofs.Common.{arith, rules, subst, sym, ◌<◌, ℕ}
+use Rattle.bucket_table.proofs.WriterSteps.{kept_maps, kept_prepared}
+use Rattle.bucket_table.proofs.Preparing.{bag_both}
+use Rattle.bucket_table.proofs.arrays.Arrays.pass.Goals as goal
+
+pub returns-clause-kept : goal.returns-clause-kept
+returns-clause-kept g c = kept_maps c.args.self.now c.shrink_emptied.new.self c.leave.new.self c.shrink_emptied.ensures.kept (kept_prepared _ c.leave.new.self c.leave.ensures.kept)
+
+pub returns-clause-bag : goal.returns-clause-bag
+returns-clause-bag g c = bag_both c.args.self.now.rehash c.shrink_emptied.new.self.rehash c.leave.new.self.rehash c.shrink_emptied.ensures.bag c.leave.ensures.bag
+
+pub leave-requires : goal.leave-requires
+leave-requires g c =
+    let within : c.args.index < c.len_on-len.result = subst (λ (n : ℕ). c.args.index < n) (sym c.len_on-len.ensures.value) c.requires.within in
+    (search rules, (search rules, (c.len_on-len.ensures.power (omega (arith, within)), (within, c.shrink_emptied.ensures.placed (g.H.KeyHash.hash_of c.args.hasher.now) c.requires.placed))))
+
+pub returns-clause-departs : goal.returns-clause-departs
+returns-clause-departs g c = record { between = c.shrink_emptied.new.self; asked = c.shrink_emptied.ensures.asked; kept = c.leave.ensures.kept }

@@ -1,0 +1,24 @@
+use Rattle.std.proofs.Common.{◌<◌, arith}
+use Rattle.bucket_table.proofs.UnitSteps.{old_inside, range_more, range_none, some_refused, some_worked}
+use Rattle.bucket_table.proofs.arrays.Arrays.relocate_range.Goals as goal
+
+pub buckets-init : goal.buckets-init
+buckets-init g c =
+    let (was, is, within) = c.requires.within in
+    (range_none c.args.start c.args.self.now was is, c.requires.placed)
+
+pub returns-in_default-clause-worked : goal.returns-in_default-clause-worked
+returns-in_default-clause-worked g c =
+    some_refused _ c.buckets.index c.args.end _ _ _ c.buckets.invariant.0 c.in_default.ensures.refused
+
+pub buckets-preserved : goal.buckets-preserved
+buckets-preserved g c =
+    let below : c.buckets.index < c.args.end = c.buckets-test.true in (
+      range_more _ c.buckets.index _ _ _ c.buckets.invariant.0 c.in-Ok.ensures.done
+          (old_inside _ c.buckets.index c.args.end _ _ c.buckets.invariant.0 c.requires.within below),
+      c.in-Ok.ensures.placed,
+    )
+
+pub returns-clause-worked : goal.returns-clause-worked
+returns-clause-worked g c =
+    some_worked _ c.buckets.index c.args.end _ _ c.buckets.invariant.0 (omega (arith, c.buckets-test.false))

@@ -1,0 +1,19 @@
+use Rattle.std.proofs.Common.{◌<◌, ap, ◌∙◌, arith, length}
+use Rattle.std.proofs.lemmas.List.{take_all}
+use Rattle.bucket_table.specs.Counting.{counted_to}
+use Rattle.bucket_table.specs.Relocation.{entries_among}
+use Rattle.bucket_table.specs.Sampling.{live_len}
+use Rattle.bucket_table.proofs.CountSteps.{entries_among_more}
+use Rattle.bucket_table.proofs.arrays.counting.count_in.Goals as goal
+
+pub loop-index-preserved : goal.loop-index-preserved
+loop-index-preserved g c =
+    let within : c.loop-index.index < length c.args.array.now = omega (arith, c.loop-index-test.true, c.len-len.ensures.value) in
+    let more = entries_among_more c.args.array.now c.loop-index.index within in
+    let here = c.len-here.ensures ∙ ap live_len c.bucket.ensures in
+    omega (arith, more, here, c.loop-index.invariant, c.saturating_add-live.ensures)
+
+pub returns : goal.returns
+returns g c =
+    let full = take_all c.loop-index.index c.args.array.now (omega (arith, c.loop-index-test.false, c.len-len.ensures.value)) in
+    c.loop-index.invariant ∙ ap (λ l. counted_to (entries_among l)) full

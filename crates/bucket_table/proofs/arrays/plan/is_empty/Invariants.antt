@@ -1,0 +1,6 @@
+use Rattle.std.proofs.Common.{ℕ, ◌≡◌, ◌<◌, get_or}
+use Rattle.bucket_table.specs.Sampling.{live_counts}
+use Rattle.bucket_table.proofs.arrays.plan.is_empty.Given as goal
+
+abbrev pub invariant-loop-index : goal.invariant-loop-index
+invariant-loop-index g l = (i : ℕ) → i < l.index → get_or (live_counts l.array) i 0 ≡ 0

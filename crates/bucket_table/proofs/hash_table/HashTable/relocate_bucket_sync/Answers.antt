@@ -1,0 +1,12 @@
+use Rattle.bucket_table.proofs.MapKept.{kept_of, one_map_kept, state_seen}
+use Rattle.bucket_table.proofs.WriterSteps.{kept_prepared}
+use Rattle.bucket_table.proofs.hash_table.HashTable.relocate_bucket_sync.Goals as goal
+
+pub invariant_of-self : goal.invariant_of-self
+invariant_of-self g c =
+    let e = c.relocate.ensures in
+    one_map_kept g.K.PartialEq.eq g.met.K.Eq.laws (g.H.KeyHash.hash_of c.self.inside.hasher) c.self.inside.arrays c.relocate.new.self c.self.invariant
+    (kept_of c.relocate.result c.args.index c.self.inside.arrays c.relocate.new.self e.done e.refused) e.placed
+
+pub returns-clause-map : goal.returns-clause-map
+returns-clause-map g c = state_seen g.row.TYPE _ c.args.self.now c.relocate.new.self c.self.view_is (kept_prepared _ c.relocate.new.self (kept_of c.relocate.result c.args.index c.self.inside.arrays c.relocate.new.self c.relocate.ensures.done c.relocate.ensures.refused))

@@ -1,0 +1,6 @@
+use Rattle.bucket_table.proofs.TableCursor.{left_of}
+use Rattle.bucket_table.proofs.hash_table.HashTable.retain_at.Goals as goal
+
+pub invariant_of-self : goal.invariant_of-self
+invariant_of-self g c =
+    left_of g.K.PartialEq.eq g.met.K.Eq.laws g.H.KeyHash.hash_of _ c.args.self.now c.args.index _ _ c.retain_at.new.self c.self.view_is c.self.invariant c.requires.locked c.retain_at.ensures.retained

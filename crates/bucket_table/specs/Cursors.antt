@@ -1,0 +1,81 @@
+-- Where a cursor stands, and what it has behind it.
+use Rattle.std.specs.Prelude.{ℕ, ◌+◌, ◌*◌, ◌<◌, ◌≤◌, ◌≡◌, Bool, false, Option, Some, None, Result, Ok, Err, List, [], ◌∷◌, length}
+use Rattle.std.specs.List.{AllByRecursion}
+use Rattle.bucket_slots.specs.ArrayView.{bucket_at}
+use Rattle.bucket_slots.specs.BucketView.{Place, null_place, pairs_in, slot_in}
+use Rattle.bucket_slots.specs.Homes.{Meets, interval_width}
+use Rattle.bucket_slots.specs.Slots.{live_pair}
+use Rattle.bucket_slots.specs.Walking.{MovesToNext, pairs_ahead}
+use Rattle.bucket_table.specs.ArraysView.{ArraysView, old_buckets, pairs_of}
+use Rattle.bucket_table.specs.Asking.{AsksShrinking, ResizesIf}
+use Rattle.bucket_table.specs.Locking.{IsLocked}
+use Rattle.bucket_table.specs.Rehashing.{KeepsArrays}
+use Rattle.bucket_table.specs.Relocation.{buckets_of}
+use Rattle.bucket_table.specs.Sides.{bucket_on}
+
+-- no pair has a hash from one bound up to below another
+abbrev pub HasNoneBetween : {K V : Type 0} → (K → ℕ) → ℕ → ℕ → List (K × V) → Type 0
+HasNoneBetween hash low high pairs = AllByRecursion (λ pair. low ≤ hash pair.0 → hash pair.0 < high → ⊥) pairs
+
+-- no pair has a hash from the bound on
+abbrev pub HasNoneFrom : {K V : Type 0} → (K → ℕ) → ℕ → List (K × V) → Type 0
+HasNoneFrom hash low pairs = AllByRecursion (λ pair. hash pair.0 < low) pairs
+
+-- the first hash of a bucket of an array, and so the end of the one before
+abbrev pub bound_of : ℕ → ℕ → ℕ
+bound_of len index = index * interval_width len
+
+-- the pointer is at the first live pair of a current bucket, and no live pair with a hash from the bound on stands before it:
+-- not in a current bucket below, nor in an old one that has a target below, and none has a hash from the bound up to that bucket's first
+pub record IsFirstFrom {K V : Type 0} (hash : K → ℕ) (arrays : ArraysView K V) (bound index : ℕ) (at : Place) : Type 0 where
+  pub locked : IsLocked arrays false index
+  pub pair : K × V
+  pub slot : live_pair (slot_in (bucket_on arrays false index) at) ≡ Some pair
+  pub first : pairs_in (bucket_on arrays false index) ≡ pair ∷ pairs_ahead (bucket_on arrays false index) at
+  pub current : (j : ℕ) → j < index → HasNoneFrom hash bound (pairs_in (bucket_on arrays false j))
+  pub old : (k target : ℕ) → k < length (old_buckets arrays.rehash) → target < index
+      → Meets (length (old_buckets arrays.rehash)) k (length (buckets_of arrays.current)) target
+      → HasNoneFrom hash bound (pairs_in (bucket_at (old_buckets arrays.rehash) k))
+  pub passed : HasNoneBetween hash bound (bound_of (length (buckets_of arrays.current)) index) (pairs_of arrays)
+
+-- where a cursor stands that goes on from a hash: at the first live pair from there on, or nowhere where there is none
+abbrev pub GoesOnAt : {K V : Type 0} → (K → ℕ) → ℕ → Option ℕ → ArraysView K V → Place → Type 0
+GoesOnAt hash bound (Some index) arrays at = IsFirstFrom hash arrays bound index at
+GoesOnAt hash bound None arrays at = HasNoneFrom hash bound (pairs_of arrays) × (at ≡ null_place)
+
+-- and what it answers
+abbrev pub GoesOnFrom : {K V E : Type 0} → (K → ℕ) → ℕ → Result (Option ℕ) E → ArraysView K V → Place → Type 0
+GoesOnFrom hash bound (Ok found) arrays at = GoesOnAt hash bound found arrays at
+GoesOnFrom hash bound (Err refused) arrays at = at ≡ null_place
+
+-- a current bucket that was found reaches past a hash
+abbrev pub ReachesAt : {K V : Type 0} → ℕ → Option ℕ → ArraysView K V → Type 0
+ReachesAt bound (Some index) arrays = bound < bound_of (length (buckets_of arrays.current)) (index + 1)
+ReachesAt bound None arrays = Unit {0}
+
+abbrev pub ReachesPast : {K V E : Type 0} → ℕ → Result (Option ℕ) E → ArraysView K V → Type 0
+ReachesPast bound (Ok found) arrays = ReachesAt bound found arrays
+ReachesPast bound (Err refused) arrays = Unit {0}
+
+-- a cursor leaves a bucket whose interval ends at a hash: it goes on from there, to a bucket that reaches past it
+abbrev pub Leaves : {K V E : Type 0} → (K → ℕ) → ℕ → Result (Option ℕ) E → ArraysView K V → Place → Type 0
+Leaves hash bound result arrays at = GoesOnFrom hash bound result arrays at × ReachesPast bound result arrays
+
+-- the same where the answer names the side too: a cursor always goes on in the current array
+abbrev pub LeavesTo : {K V E : Type 0} → (K → ℕ) → ℕ → Result (Option (Bool × ℕ)) E → ArraysView K V → Place → Type 0
+LeavesTo hash bound (Ok (Some to)) arrays at = (to.0 ≡ false) × IsFirstFrom hash arrays bound to.1 at × ReachesAt bound (Some to.1) arrays
+LeavesTo hash bound (Ok None) arrays at = HasNoneFrom hash bound (pairs_of arrays) × (at ≡ null_place)
+LeavesTo hash bound (Err refused) arrays at = at ≡ null_place
+
+-- a bucket is left: where it has no live pair, and a shrinking is asked for near it, the arrays follow the plan or stay for want of memory; else they stay.
+-- Then units and sources are moved, which keeps the pairs and the length of the current array
+pub record Departs {K V : Type 0} (is_old : Bool) (index : ℕ) (old new : ArraysView K V) : Type 0 where
+  pub between : ArraysView K V
+  pub asked : ResizesIf ((pairs_in (bucket_on old is_old index) ≡ []) × AsksShrinking old index) old between
+  pub kept : KeepsArrays between new
+
+-- a cursor stays in its bucket, of the old or of the current array, at the next live pair
+pub record Stays {K V E : Type 0} (is_old : Bool) (index : ℕ) (old : ArraysView K V) (from : Place) (result : Result (Option (Bool × ℕ)) E) (new : ArraysView K V) (to : Place) : Type 0 where
+  pub answer : result ≡ Ok (Some (is_old, index))
+  pub unchanged : new ≡ old
+  pub moves : MovesToNext (bucket_on old is_old index) from to

@@ -1,0 +1,16 @@
+-- A current bucket whose old pairs have come.
+use Rattle.std.specs.Prelude.{ℕ, ◌≡◌, ◌<◌, Bool, true, false, None, Result, Ok, Err, length}
+use Rattle.bucket_slots.specs.Homes.{IsHome}
+use Rattle.bucket_table.specs.ArraysView.{AreSourcesKilled, ArraysView}
+use Rattle.bucket_table.specs.Relocation.{buckets_of}
+
+-- a current array stands, and each source of a hash's home is killed
+pub record IsReady {K V : Type 0} (arrays : ArraysView K V) (hash : ℕ) : Type 0 where
+  pub stands : 0 < length (buckets_of arrays.current)
+  pub killed : (index : ℕ) → IsHome (length (buckets_of arrays.current)) hash index → AreSourcesKilled arrays index
+
+-- what the preparation of a hash's home answers
+abbrev pub Prepares : {K V E : Type 0} → ArraysView K V → ℕ → Result Bool E → Type 0
+Prepares arrays hash (Ok true) = IsReady arrays hash
+Prepares arrays hash (Ok false) = arrays.current ≡ None
+Prepares arrays hash (Err refused) = 0 < length (buckets_of arrays.current)

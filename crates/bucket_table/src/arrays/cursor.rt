@@ -1,0 +1,236 @@
+//! Cursors over the arrays.
+ghost use Rattle.std.specs.Prelude.{◌≡◌, ◌≢◌, Bool, ◌<◌, ◌≤◌, ◌+◌, [], true, false, length, IfOk, IfSome, OnOk};
+ghost use Rattle.bucket_slots.specs.BucketView.{BucketView};
+ghost use Rattle.bucket_slots.specs.Sizing.{IsLength};
+ghost use Rattle.bucket_slots.specs.Walking.{pairs_ahead};
+ghost use Rattle.bucket_table.specs.ArraysView.{ArePlaced, AreSourcesKilled};
+ghost use Rattle.bucket_table.specs.Cursors.{Departs, GoesOnFrom, Leaves, LeavesTo, ReachesPast, Stays, bound_of};
+ghost use Rattle.bucket_table.specs.Finding.{KeepsMap};
+ghost use Rattle.bucket_table.specs.Rehashing.{KeepsArrays};
+ghost use Rattle.bucket_table.specs.Relocation.{buckets_of};
+ghost use Rattle.bucket_table.specs.Retains.{AnswersBy, Retains};
+ghost use Rattle.bucket_table.specs.Sides.{arrays_with, bucket_on, buckets_on};
+ghost use Rattle.bucket_table.specs.Units.{KeepsBag, KeepsKilled};
+
+use super::Arrays;
+use crate::hash_table::capacity::from_index_to_range;
+use crate::key_hash::KeyHash;
+use crate::retain::retain_in;
+use crate::visit::Visit;
+use bucket_slots::bucket::{AllocError, Bucket, EntryPtr, Generation};
+use bucket_slots::lru::LruList;
+
+impl<K: Eq + Drop, V: Drop, L: LruList + Drop, const TYPE: u8> Arrays<K, V, L, TYPE> {
+    /// Works a unit, and moves the sources of a current bucket.
+    ///
+    /// # Errors
+    ///
+    /// Want of memory: a source isn't killed.
+    pub(crate) fn prepare_at<H: KeyHash<K>>(
+        &mut self,
+        hasher: &H,
+        index: usize,
+    ) -> Result<(), AllocError>
+        requires within { index < length (buckets_of self.old.current) }
+        requires placed { ArePlaced (H.hash_of hasher.now) self.old }
+        ensures placed { ArePlaced (H.hash_of hasher.now) self.new }
+        ensures kept { KeepsArrays self.old self.new }
+        ensures bag { KeepsBag self.old.rehash self.new.rehash }
+        ensures still { KeepsKilled self.old.rehash self.new.rehash }
+        ensures ready { OnOk result (AreSourcesKilled self.new index) }
+    {
+        self.work_unit(hasher);
+        let to = self.len();
+        let from = self.old_len();
+        if from == 0 {
+            return Ok(());
+        }
+        let (start, end) = from_index_to_range(to, from, index);
+        if self.relocate_range(hasher, start, end) {
+            Ok(())
+        } else {
+            Err(AllocError)
+        }
+    }
+
+    /// Moves a pointer to the first live pair of the current buckets from `start` on, and returns
+    /// that bucket's index.
+    ///
+    /// # Errors
+    ///
+    /// Want of memory: the pointer is null.
+    pub(crate) fn first_from<H: KeyHash<K>>(
+        &mut self,
+        hasher: &H,
+        start: usize,
+        at: &mut EntryPtr<K, V, TYPE>,
+    ) -> Result<Option<usize>, AllocError>
+        requires placed { ArePlaced (H.hash_of hasher.now) self.old }
+        ensures placed { ArePlaced (H.hash_of hasher.now) self.new }
+        ensures kept { KeepsArrays self.old self.new }
+        ensures bag { KeepsBag self.old.rehash self.new.rehash }
+        ensures found { GoesOnFrom (H.hash_of hasher.now) (bound_of (length (buckets_of self.old.current)) start) result self.new at.new }
+        ensures order { IfOk result (λ found. IfSome found (λ index. start ≤ index)) }
+    {
+        *at = EntryPtr::null();
+        let mut index = start;
+        while index < self.len() {
+            let Ok(()) = self.prepare_at(hasher, index) else {
+                return Err(AllocError);
+            };
+            self.room_of(false);
+            if at.find_next(self.bucket_of(false, index)) {
+                return Ok(Some(index));
+            }
+            index += 1;
+        }
+        self.sound();
+        Ok(None)
+    }
+
+    /// Moves a pointer to the first live pair past a bucket of an array of `len` buckets, and
+    /// returns that pair's current bucket.
+    ///
+    /// # Errors
+    ///
+    /// Want of memory: the pointer is null.
+    fn leave<H: KeyHash<K>>(
+        &mut self,
+        hasher: &H,
+        index: usize,
+        len: usize,
+        at: &mut EntryPtr<K, V, TYPE>,
+    ) -> Result<Option<usize>, AllocError>
+        requires length { IsLength len }
+        requires within { index < len }
+        requires placed { ArePlaced (H.hash_of hasher.now) self.old }
+        ensures placed { ArePlaced (H.hash_of hasher.now) self.new }
+        ensures kept { KeepsArrays self.old self.new }
+        ensures bag { KeepsBag self.old.rehash self.new.rehash }
+        ensures found { GoesOnFrom (H.hash_of hasher.now) (bound_of len (index + 1)) result self.new at.new }
+        ensures reaches { ReachesPast (bound_of len (index + 1)) result self.new }
+    {
+        *at = EntryPtr::null();
+        self.sound();
+        let now = self.len();
+        if now == 0 {
+            return Ok(None);
+        }
+        if index + 1 == len {
+            return Ok(None);
+        }
+        self.first_from(hasher, scaled(len, now, index + 1), at)
+    }
+
+    /// Moves a pointer to the first live pair past a bucket, and returns that pair's current
+    /// bucket. Where the bucket is empty, the current array may get another length first.
+    ///
+    /// # Errors
+    ///
+    /// Want of memory: the pointer is null.
+    pub(crate) fn pass<H: KeyHash<K>>(
+        &mut self,
+        hasher: &H,
+        is_old: bool,
+        index: usize,
+        at: &mut EntryPtr<K, V, TYPE>,
+    ) -> Result<Option<usize>, AllocError>
+        requires within { index < length (buckets_on self.old is_old) }
+        requires placed { ArePlaced (H.hash_of hasher.now) self.old }
+        ensures placed { ArePlaced (H.hash_of hasher.now) self.new }
+        ensures kept { KeepsMap self.old self.new }
+        ensures bag { KeepsBag self.old.rehash self.new.rehash }
+        ensures leaves { Leaves (H.hash_of hasher.now) (bound_of (length (buckets_on self.old is_old)) (index + 1)) result self.new at.new }
+        ensures departs { Departs is_old index self.old self.new }
+    {
+        let len = self.len_on(is_old);
+        self.shrink_emptied(is_old, index);
+        self.leave(hasher, index, len, at)
+    }
+
+    /// Moves a pointer from where it is in a bucket to the next live pair. Returns whether that
+    /// pair's bucket is one of the old array, and its index.
+    ///
+    /// # Errors
+    ///
+    /// Want of memory: the pointer is null.
+    pub(crate) fn advance<H: KeyHash<K>>(
+        &mut self,
+        hasher: &H,
+        is_old: bool,
+        index: usize,
+        at: &mut EntryPtr<K, V, TYPE>,
+    ) -> Result<Option<(bool, usize)>, AllocError>
+        requires within { index < length (buckets_on self.old is_old) }
+        requires placed { ArePlaced (H.hash_of hasher.now) self.old }
+        ensures placed { ArePlaced (H.hash_of hasher.now) self.new }
+        ensures kept { KeepsMap self.old self.new }
+        ensures bag { KeepsBag self.old.rehash self.new.rehash }
+        ensures stays { pairs_ahead (bucket_on self.old is_old index) at.old ≢ []
+            → Stays is_old index self.old at.old result self.new at.new }
+        ensures leaves { pairs_ahead (bucket_on self.old is_old index) at.old ≡ []
+            → LeavesTo (H.hash_of hasher.now) (bound_of (length (buckets_on self.old is_old)) (index + 1)) result self.new at.new }
+        ensures departs { pairs_ahead (bucket_on self.old is_old index) at.old ≡ [] → Departs is_old index self.old self.new }
+    {
+        self.room_of(is_old);
+        if at.find_next(self.bucket_of(is_old, index)) {
+            return Ok(Some((is_old, index)));
+        }
+        match self.pass(hasher, is_old, index, at) {
+            Ok(Some(next)) => Ok(Some((false, next))),
+            Ok(None) => Ok(None),
+            Err(refused) => Err(refused),
+        }
+    }
+
+    /// Lends a current bucket to a visitor.
+    pub(crate) fn visit_at<F: Visit<Bucket<K, V, L, TYPE>>>(
+        &mut self,
+        index: usize,
+        visitor: &mut F,
+        flag: &mut bool,
+    ) -> bool
+        requires within { index < length (buckets_of self.old.current) }
+        requires may { F.may_visit visitor.old }
+        ensures again { F.may_visit visitor.new }
+        ensures visited { (left : BucketView K V)
+            × F.visits visitor.old (bucket_on self.old false index) flag.old result left flag.new visitor.new
+            × (self.new ≡ arrays_with self.old false index left) }
+    {
+        self.room_of(false);
+        visitor.visit(self.bucket_of_mut(false, index), flag)
+    }
+
+    /// Takes out of a current bucket each pair that `keep` refuses, or marks it in an index.
+    /// Returns how many.
+    pub(crate) fn retain_at<F: Fn(&K, &V) -> bool, G: Generation>(
+        &mut self,
+        index: usize,
+        keep: &F,
+        generation: &G,
+    ) -> usize
+        requires within { index < length (buckets_of self.old.current) }
+        requires callable { F.IsAlwaysCallable keep.now }
+        ensures retained { (left : BucketView K V)
+            × Retains (AnswersBy (λ key value answer. F.post keep.now key value answer)) (bucket_on self.old false index) left result
+            × (self.new ≡ arrays_with self.old false index left) }
+    {
+        self.room_of(false);
+        retain_in(self.bucket_of_mut(false, index), keep, generation)
+    }
+}
+
+/// Returns the index in an array of `to` buckets from which a walk goes on that has come to `index`
+/// in one of `from` buckets.
+fn scaled(from: usize, to: usize, index: usize) -> usize
+    requires from_length { IsLength from }
+    requires to_length { IsLength to }
+    requires within { index < from }
+    ensures early { bound_of to result ≤ bound_of from index }
+    ensures reaches { bound_of from index < bound_of to (result + 1) }
+{
+    if from == to {
+        return index;
+    }
+    from_index_to_range(from, to, index).0
+}

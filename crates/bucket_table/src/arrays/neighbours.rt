@@ -1,0 +1,121 @@
+//! Whether a resize is looked into near a bucket, from the few buckets of the small sample.
+ghost use Rattle.std.specs.Prelude.{ℕ, [], ◌≡◌, ◌<◌, ◌≤◌, ◌↔◌, IsTrue, length};
+ghost use Rattle.bucket_table.specs.Sampling.{IsCrowded, IsDeserted, live_counts};
+ghost use Rattle.bucket_table.specs.ArraysView.{ArePlaced};
+ghost use Rattle.bucket_table.specs.Finding.{KeepsMap};
+ghost use Rattle.bucket_table.specs.Sides.{buckets_on};
+ghost use Rattle.bucket_table.specs.Units.{KeepsBag};
+ghost use Rattle.bucket_slots.specs.ArrayView.{bucket_at};
+ghost use Rattle.bucket_slots.specs.BucketView.{pairs_in};
+ghost use Rattle.bucket_table.specs.Asking.{AsksGrowth, AsksShrinking, ResizesIf};
+
+use super::Arrays;
+use bucket_slots::bucket::BUCKET_LEN;
+use bucket_slots::bucket_array::BucketArray;
+use bucket_slots::lru::LruList;
+
+impl<K: Drop, V: Drop, L: LruList + Drop, const TYPE: u8> Arrays<K, V, L, TYPE> {
+    /// Resizes where the buckets near this index have few live slots.
+    ///
+    /// Want of memory leaves all as it was.
+    pub(crate) fn try_shrink(&mut self, index: usize)
+        ensures asked { ResizesIf (AsksShrinking self.old index) self.old self.new }
+        ensures kept { KeepsMap self.old self.new }
+        ensures bag { KeepsBag self.old.rehash self.new.rehash }
+        ensures placed { (hash : K → ℕ) → ArePlaced hash self.old → ArePlaced hash self.new }
+    {
+        if !self.asks_shrinking(index) {
+            return;
+        }
+        let _ = self.try_resize();
+    }
+
+    /// The same where a bucket has no live pair left.
+    pub(crate) fn shrink_emptied(&mut self, is_old: bool, index: usize)
+        requires within { index < length (buckets_on self.old is_old) }
+        ensures asked { ResizesIf ((pairs_in (bucket_at (buckets_on self.old is_old) index) ≡ []) × AsksShrinking self.old index)
+            self.old self.new }
+        ensures kept { KeepsMap self.old self.new }
+        ensures bag { KeepsBag self.old.rehash self.new.rehash }
+        ensures placed { (hash : K → ℕ) → ArePlaced hash self.old → ArePlaced hash self.new }
+    {
+        self.room_of(is_old);
+        if self.bucket_of(is_old, index).len() != 0 {
+            return;
+        }
+        self.try_shrink(index);
+    }
+}
+
+impl<K, V, L: LruList, const TYPE: u8> Arrays<K, V, L, TYPE> {
+    pub(crate) fn asks_growth(&self, index: usize) -> bool
+        ensures { IsTrue result ↔ AsksGrowth self.now index }
+    {
+        if self.rehash.is_some() {
+            return false;
+        }
+        match &self.current {
+            None => false,
+            Some(array) => is_crowded(array, index),
+        }
+    }
+
+    pub(crate) fn asks_shrinking(&self, index: usize) -> bool
+        ensures { IsTrue result ↔ AsksShrinking self.now index }
+    {
+        if self.rehash.is_some() {
+            return false;
+        }
+        match &self.current {
+            None => false,
+            Some(array) => {
+                if array.num_slots() <= self.minimum {
+                    return false;
+                }
+                is_deserted(array, index)
+            }
+        }
+    }
+}
+
+/// Returns whether near this index many slots are live.
+fn is_crowded<K, V, L: LruList, const TYPE: u8>(
+    array: &BucketArray<K, V, L, TYPE>,
+    index: usize,
+) -> bool
+    ensures { IsTrue result ↔ IsCrowded (live_counts array.now) index }
+{
+    array.room();
+    let _len = array.len();
+    let size = array.small_sample_size();
+    let start = index % size;
+    let mut live: usize = 0;
+    for offset in 0..size {
+        live = live.saturating_add(array.bucket(start + offset).len());
+        if BucketArray::<K, V, L, TYPE>::need_enlarge(size * BUCKET_LEN, live) {
+            return true;
+        }
+    }
+    false
+}
+
+/// Returns whether near this index few slots are live.
+fn is_deserted<K, V, L: LruList, const TYPE: u8>(
+    array: &BucketArray<K, V, L, TYPE>,
+    index: usize,
+) -> bool
+    ensures { IsTrue result ↔ IsDeserted (live_counts array.now) index }
+{
+    array.room();
+    let _len = array.len();
+    let size = array.small_sample_size();
+    let start = index % size;
+    let mut live: usize = 0;
+    for offset in 0..size {
+        live = live.saturating_add(array.bucket(start + offset).len());
+        if !BucketArray::<K, V, L, TYPE>::need_shrink(size * BUCKET_LEN, live) {
+            return false;
+        }
+    }
+    true
+}

@@ -1,0 +1,65 @@
+//! Old buckets that move on to the current array.
+ghost use Rattle.std.specs.Prelude.{◌≡◌, ◌<◌, ◌≤◌, ℕ, true, Some, IsOk, OnOk, OnErr, length};
+ghost use Rattle.bucket_table.specs.ArraysView.{ArePlaced, RehashView};
+ghost use Rattle.bucket_table.specs.Rehashing.{IsEasyMove, IsOldIndex, IsOldRange, IsUnmoved, RelocatesAt};
+ghost use Rattle.bucket_table.specs.Units.{IsEasyRange, WorksRange};
+
+use super::Arrays;
+use crate::hash_table::relocate::relocate;
+use crate::key_hash::KeyHash;
+use bucket_slots::bucket::AllocError;
+use bucket_slots::lru::LruList;
+
+impl<K: Eq + Drop, V: Drop, L: LruList + Drop, const TYPE: u8> Arrays<K, V, L, TYPE> {
+    /// Moves the pairs of an old bucket to their homes in the current array, and kills it.
+    ///
+    /// # Errors
+    ///
+    /// Want of memory: no pair has moved, and the bucket isn't killed.
+    pub(crate) fn relocate<H: KeyHash<K>>(
+        &mut self,
+        hasher: &H,
+        index: usize,
+    ) -> Result<(), AllocError>
+        requires within { IsOldIndex self.old index }
+        requires placed { ArePlaced (H.hash_of hasher.now) self.old }
+        ensures placed { ArePlaced (H.hash_of hasher.now) self.new }
+        ensures done { OnOk result (RelocatesAt index self.old self.new) }
+        ensures refused { OnErr result (IsUnmoved self.old self.new) }
+        ensures succeeds { IsEasyMove index self.old → IsOk result }
+    {
+        let Some(current) = &mut self.current else {
+            unreachable!()
+        };
+        let Some(rehash) = &mut self.rehash else {
+            unreachable!()
+        };
+        let linked = &mut rehash.array;
+        relocate(self.alloc, hasher, current, linked, index)
+    }
+
+    /// Moves the old buckets from `start` up to below `end`, one after another. Returns whether no
+    /// memory was refused; else it stops.
+    pub(crate) fn relocate_range<H: KeyHash<K>>(
+        &mut self,
+        hasher: &H,
+        start: usize,
+        end: usize,
+    ) -> bool
+        requires within { IsOldRange self.old end }
+        requires placed { ArePlaced (H.hash_of hasher.now) self.old }
+        ensures placed { ArePlaced (H.hash_of hasher.now) self.new }
+        ensures worked { WorksRange start end result self.old self.new }
+        ensures succeeds { (was : RehashView K V)
+            → (self.old.rehash ≡ Some was)
+            → IsEasyRange start end self.old was
+            → result ≡ true }
+    {
+        'buckets: for index in start..end {
+            let Ok(()) = self.relocate(hasher, index) else {
+                return false;
+            };
+        }
+        true
+    }
+}

@@ -1,0 +1,125 @@
+//! A resize: by its plan the current array becomes the old one, or is given up.
+ghost use Rattle.std.specs.Prelude.{◌≡◌, ◌≤◌, ◌+◌, ℕ, None, Some, IsSome, OnOk, OnErr};
+ghost use Rattle.bucket_table.specs.ArraysView.{ArePlaced, entries_of};
+ghost use Rattle.bucket_table.specs.Finding.{KeepsMap};
+ghost use Rattle.bucket_table.specs.ResizePlan.{IsCapacityWithin};
+ghost use Rattle.bucket_table.specs.Resizes.{IsPlanOf, IsResized, MakesArray, Reserves, Resizes, with_minimum};
+ghost use Rattle.bucket_table.specs.Units.{KeepsBag};
+
+use super::plan::{Plan, plan_of};
+use super::{Arrays, Rehash};
+use crate::tickets::Tickets;
+use bucket_slots::bucket::AllocError;
+use bucket_slots::bucket_array::BucketArray;
+use bucket_slots::lru::LruList;
+
+impl<K, V, L: LruList, const TYPE: u8> Arrays<K, V, L, TYPE> {
+    /// Returns the plan of a resize.
+    fn resize_plan(&self) -> Plan
+        ensures plan { IsPlanOf self.now result }
+        ensures capacity { IsCapacityWithin self.now.maximum result }
+    {
+        if self.rehash.is_some() {
+            return Plan::Keep;
+        }
+        match &self.current {
+            None => Plan::Keep,
+            Some(array) => plan_of(array, self.minimum, self.maximum),
+        }
+    }
+}
+
+impl<K: Drop, V: Drop, L: LruList + Drop, const TYPE: u8> Arrays<K, V, L, TYPE> {
+    /// Resizes the current array, or gives it up, as the plan of now says. Returns whether it did.
+    ///
+    /// # Errors
+    ///
+    /// Want of memory: all is as it was.
+    pub(crate) fn try_resize(&mut self) -> Result<bool, AllocError>
+        ensures plan { (plan : Plan) × IsPlanOf self.old plan × Resizes plan self.old result self.new }
+        ensures same_entries { entries_of self.new ≡ entries_of self.old }
+        ensures placed { (hash : K → ℕ) → ArePlaced hash self.old → ArePlaced hash self.new }
+    {
+        match self.resize_plan() {
+            Plan::Keep => Ok(false),
+            Plan::GiveUp => {
+                self.give_array_up();
+                Ok(true)
+            }
+            Plan::Resize(capacity) => match self.push_array(capacity) {
+                Ok(()) => Ok(true),
+                Err(refused) => Err(refused),
+            },
+        }
+    }
+
+    /// Makes an empty array for the minimum, where there is none.
+    ///
+    /// # Errors
+    ///
+    /// Want of memory: there is still none.
+    pub(crate) fn make_array(&mut self) -> Result<(), AllocError>
+        ensures made { OnOk result (MakesArray self.old self.new) }
+        ensures unchanged { OnErr result ((self.old.current ≡ None) × (self.new ≡ self.old)) }
+    {
+        if self.current.is_some() {
+            return Ok(());
+        }
+        let Ok(fresh) = BucketArray::alloc(self.alloc, self.minimum) else {
+            return Err(AllocError);
+        };
+        self.current = Some(fresh);
+        Ok(())
+    }
+
+    /// Raises the minimum by a number of slots, and resizes. Returns by how much it was raised: by
+    /// nothing where it would pass the maximum.
+    ///
+    /// Want of memory leaves the arrays.
+    pub(crate) fn reserve_capacity(&mut self, additional: usize) -> usize
+        ensures reserved { Reserves additional self.old result self.new }
+        ensures kept { KeepsMap (with_minimum self.old (self.old.minimum + result)) self.new }
+        ensures bag { KeepsBag self.old.rehash self.new.rehash }
+        ensures placed { (hash : K → ℕ) → ArePlaced hash self.old → ArePlaced hash self.new }
+    {
+        self.sound();
+        if additional > self.maximum - self.minimum {
+            return 0;
+        }
+        self.minimum += additional;
+        let _ = self.try_resize();
+        additional
+    }
+
+    /// Gives the current array up.
+    fn give_array_up(&mut self)
+        requires { self.old.rehash ≡ None }
+        ensures { self.new ≡ record self.old { current = None } }
+    {
+        self.current = None;
+    }
+
+    /// Makes an array for a capacity the current one, and the current one the old one.
+    ///
+    /// All memory is asked for first.
+    fn push_array(&mut self, capacity: usize) -> Result<(), AllocError>
+        requires stands { IsSome self.old.current }
+        requires alone { self.old.rehash ≡ None }
+        requires capacity { capacity ≤ self.old.maximum }
+        ensures resized { OnOk result (IsResized capacity self.old self.new) }
+        ensures unchanged { OnErr result (self.new ≡ self.old) }
+    {
+        let Ok(tickets) = Tickets::new(self.alloc, self.len()) else {
+            return Err(AllocError);
+        };
+        let Ok(fresh) = BucketArray::alloc(self.alloc, capacity) else {
+            return Err(AllocError);
+        };
+        let Some(array) = self.current.take() else {
+            unreachable!()
+        };
+        self.current = Some(fresh);
+        self.rehash = Some(Rehash { array, tickets });
+        Ok(())
+    }
+}

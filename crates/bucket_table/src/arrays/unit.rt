@@ -1,0 +1,51 @@
+//! A unit of a rehash inside a call.
+ghost use Rattle.std.specs.Prelude.{◌≡◌, ◌*◌, true, None, Some};
+ghost use Rattle.bucket_table.specs.ArraysView.{ArePlaced, RehashView};
+ghost use Rattle.bucket_table.specs.Rehashing.{IsOldIndex, KeepsArrays};
+ghost use Rattle.bucket_table.specs.Units.{IsEasyUnit, IsUnitReady, KeepsBag, KeepsKilled, WorksSome, WorksUnit};
+
+use super::Arrays;
+use crate::key_hash::KeyHash;
+use crate::tickets::{REHASHING_UNIT_LEN, TICKET_STEP};
+use bucket_slots::lru::LruList;
+
+impl<K: Eq + Drop, V: Drop, L: LruList + Drop, const TYPE: u8> Arrays<K, V, L, TYPE> {
+    /// Works a unit of the old array, where one is left. Want of memory ends it early.
+    pub(crate) fn work_unit<H: KeyHash<K>>(&mut self, hasher: &H)
+        requires placed { ArePlaced (H.hash_of hasher.now) self.old }
+        ensures placed { ArePlaced (H.hash_of hasher.now) self.new }
+        ensures kept { KeepsArrays self.old self.new }
+        ensures bag { KeepsBag self.old.rehash self.new.rehash }
+        ensures still { KeepsKilled self.old.rehash self.new.rehash }
+        ensures unit { (was : RehashView K V)
+            → (self.old.rehash ≡ Some was)
+            → IsUnitReady was
+            → IsEasyUnit was.tickets.position self.old was
+            → WorksUnit was self.new.rehash }
+        ensures alone { self.old.rehash ≡ None → self.new ≡ self.old }
+    {
+        self.sound();
+        let Some(ticket) = self.start_incremental_rehash() else {
+            return;
+        };
+        let success = self.relocate_unit(hasher, ticket / TICKET_STEP);
+        let _ = self.end_incremental_rehash(ticket, success);
+    }
+
+    /// Relocates each old bucket of a unit in turn, and returns whether no memory was refused.
+    pub(crate) fn relocate_unit<H: KeyHash<K>>(&mut self, hasher: &H, unit: usize) -> bool
+        requires within { IsOldIndex self.old (64 * unit) }
+        requires placed { ArePlaced (H.hash_of hasher.now) self.old }
+        ensures placed { ArePlaced (H.hash_of hasher.now) self.new }
+        ensures worked { WorksSome unit result self.old self.new }
+        ensures succeeds { (was : RehashView K V)
+            → (self.old.rehash ≡ Some was)
+            → IsEasyUnit unit self.old was
+            → result ≡ true }
+    {
+        let len = self.old_len();
+        let start = unit * REHASHING_UNIT_LEN;
+        let end = (start + REHASHING_UNIT_LEN).min(len);
+        self.relocate_range(hasher, start, end)
+    }
+}

@@ -1,0 +1,36 @@
+//! Finishing a rehash of a table.
+ghost use Rattle.std.specs.Prelude.{◌≡◌, None, IfOk};
+ghost use Rattle.bucket_table.specs.Finishing.{IsUnopened, units_left};
+ghost use Rattle.bucket_table.specs.MapState.{KeepsPairs, state_of};
+ghost use Rattle.bucket_table.specs.Rehashing.{KeepsArrays};
+
+use crate::hash_table::HashTable;
+use crate::key_hash::KeyHash;
+use bucket_slots::bucket::AllocError;
+use bucket_slots::lru::LruList;
+
+impl<K: Eq + Drop, V: Drop, H: KeyHash<K>, L: LruList + Drop, const TYPE: u8> HashTable<
+    K,
+    V,
+    H,
+    L,
+    TYPE,
+> {
+    /// Works the units of the old array, one after another, until it is gone. Returns how many.
+    ///
+    /// # Errors
+    ///
+    /// Want of memory: no ticket is open.
+    pub fn finish_rehash(&mut self) -> Result<usize, AllocError>
+        requires none_open { IsUnopened self.old.arrays.rehash }
+        ensures gone { IfOk result (λ count. self.new.arrays.rehash ≡ None) }
+        ensures counted { IfOk result (λ count. count ≡ units_left self.old.arrays.rehash) }
+
+        // Done or refused, the map is the same, and no ticket is open.
+        ensures map { KeepsPairs (state_of TYPE self.old) (state_of TYPE self.new) }
+        ensures kept { KeepsArrays self.old.arrays self.new.arrays }
+        ensures none_open { IsUnopened self.new.arrays.rehash }
+    {
+        self.arrays.finish_rehash(&self.hasher)
+    }
+}

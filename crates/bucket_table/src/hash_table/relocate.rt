@@ -1,0 +1,206 @@
+//! Pairs that move from an old bucket to their homes in the current array.
+//!
+//! Ports `relocate_bucket` of scc's `src/hash_table.rs`.
+ghost use Rattle.std.specs.Prelude.{◌≡◌, ◌+◌, ◌<◌, ◌≤◌, [], ℕ, Some, false, length, IsOk, OnErr, OnOk, slice_index};
+ghost use Rattle.std.specs.List.{All};
+ghost use Rattle.bucket_slots.specs.ArrayView.{bucket_at};
+ghost use Rattle.bucket_slots.specs.BucketView.{entries_in, pairs_in, slot_in};
+ghost use Rattle.bucket_slots.specs.Homes.{IsInRange};
+ghost use Rattle.bucket_slots.specs.Reserving.{free_len_in};
+ghost use Rattle.bucket_slots.specs.Slots.{is_free, live_pair};
+ghost use Rattle.bucket_table.specs.Relocation.{AreHome, AreTwoArrays, HasOwnByte, HasRoomFor, IsRelocated, IsWay, KeepsEntries, KeepsOthers, MovesInto, home_of, homed_len};
+
+use crate::hash_table::capacity::from_index_to_range;
+use crate::key_hash::KeyHash;
+use bucket_slots::bucket::{AllocError, BUCKET_LEN, Bucket, EntryPtr};
+use bucket_slots::bucket_array::BucketArray;
+use bucket_slots::lru::LruList;
+use std::alloc::Global;
+
+/// The pairs of so many targets are counted without memory.
+const COUNTED_TARGETS: usize = 8;
+
+/// Moves the pairs of an old bucket to their homes in the current array, and kills it. A bucket
+/// that is killed already stays as it is.
+///
+/// Room is made in all targets before a pair moves, where the old array is longer or the bucket
+/// has more pairs than an empty target takes.
+///
+/// # Errors
+///
+/// Want of memory: no pair has moved, and the bucket isn't killed.
+pub(crate) fn relocate<K: Eq + Drop, V: Drop, H: KeyHash<K>, L: LruList, const TYPE: u8>(
+    alloc: Global,
+    hasher: &H,
+    current: &mut BucketArray<K, V, L, TYPE>,
+    linked: &mut BucketArray<K, V, L, TYPE>,
+    index: usize,
+) -> Result<(), AllocError>
+    requires within { index < length linked.old }
+    requires law { AreTwoArrays (H.hash_of hasher.now) current.old linked.old }
+    ensures law { AreTwoArrays (H.hash_of hasher.now) current.new linked.new }
+    ensures moved { OnOk result (IsRelocated index current.old linked.old current.new linked.new) }
+    ensures kept { OnErr result (KeepsEntries current.old current.new) }
+    ensures linked_kept { OnErr result (linked.new ≡ linked.old) }
+    ensures never_refused { length linked.old ≤ length current.old
+        → length (pairs_in (bucket_at linked.old index)) ≤ BUCKET_LEN
+        → IsOk result }
+{
+    current.room();
+    let from = linked.len();
+    let to = current.len();
+    let (start, end) = from_index_to_range(from, to, index);
+    let source = linked.bucket_mut(index);
+    source.sound();
+    if source.is_killed() {
+        return Ok(());
+    }
+    if to < from || BUCKET_LEN < source.len() {
+        if let Err(refused) = reserve_targets(alloc, hasher, current, source, start, end) {
+            return Err(refused);
+        }
+    }
+    move_pairs(hasher, current, source, start, end);
+    source.kill();
+    Ok(())
+}
+
+/// Makes room for each pair of a bucket in its home, one of the buckets from `start` up to below
+/// `end`.
+fn reserve_targets<K: Eq + Drop, V: Drop, H: KeyHash<K>, L: LruList, const TYPE: u8>(
+    alloc: Global,
+    hasher: &H,
+    current: &mut BucketArray<K, V, L, TYPE>,
+    source: &Bucket<K, V, L, TYPE>,
+    start: usize,
+    end: usize,
+) -> Result<(), AllocError>
+    requires some { start < end }
+    requires within { end ≤ length current.old }
+    requires in_range { All
+        (λ pair. IsInRange start end (home_of (length current.old) (H.hash_of hasher.now pair.0)))
+        (pairs_in source.now) }
+    ensures room { OnOk result (HasRoomFor (H.hash_of hasher.now) current.new (pairs_in source.now)) }
+    ensures kept { KeepsEntries current.old current.new }
+    ensures others { KeepsOthers start end current.old current.new }
+{
+    let len = end - start;
+    if len == 1 {
+        return reserve_each(current, start, &[source.len()]);
+    }
+    if len <= COUNTED_TARGETS {
+        let mut counts = [0; COUNTED_TARGETS];
+        let part = &mut counts[..len];
+        count_targets(hasher, current, source, start, part);
+        return reserve_each(current, start, part);
+    }
+    let Ok(mut counts) = vec![in alloc; 0; len] else {
+        return Err(AllocError);
+    };
+    count_targets(hasher, current, source, start, &mut counts);
+    reserve_each(current, start, &counts)
+}
+
+/// Counts the pairs of a bucket by their homes, from the bucket `start` of an array on.
+fn count_targets<K: Eq, V, H: KeyHash<K>, L: LruList, const TYPE: u8>(
+    hasher: &H,
+    current: &BucketArray<K, V, L, TYPE>,
+    source: &Bucket<K, V, L, TYPE>,
+    start: usize,
+    counts: &mut [usize],
+)
+    requires zeros { (k : ℕ) → k < length counts.old → slice_index counts.old k ≡ 0 }
+    requires in_range { All
+        (λ pair. IsInRange start (start + length counts.old) (home_of (length current.now) (H.hash_of hasher.now pair.0)))
+        (pairs_in source.now) }
+    ensures { (k : ℕ) → k < length counts.old → slice_index counts.new k
+        ≡ homed_len (H.hash_of hasher.now) (length current.now) (start + k) (pairs_in source.now) }
+{
+    let _most = source.len();
+    let mut at = EntryPtr::null();
+    'pairs: while at.find_next(source) {
+        let home = current.bucket_index(hasher.hash_one(at.key(source)));
+        counts[home - start] += 1;
+    }
+}
+
+/// Makes room in the buckets of an array from `start` on, in each as many free slots as `counts`
+/// says.
+fn reserve_each<K: Drop, V: Drop, L: LruList, const TYPE: u8>(
+    current: &mut BucketArray<K, V, L, TYPE>,
+    start: usize,
+    counts: &[usize],
+) -> Result<(), AllocError>
+    requires within { start + length counts.now ≤ length current.old }
+    ensures room { OnOk result ((k : ℕ) → k < length counts.now
+        → slice_index counts.now k ≤ free_len_in (bucket_at current.new (start + k))) }
+    ensures kept { KeepsEntries current.old current.new }
+    ensures others { KeepsOthers start (start + length counts.now) current.old current.new }
+{
+    current.room();
+    let _buckets = current.len();
+    'counts: for k in 0..counts.len() {
+        if let Err(refused) = current.bucket_mut(start + k).reserve_slots(counts[k]) {
+            return Err(refused);
+        }
+    }
+    Ok(())
+}
+
+/// Moves each pair of a bucket to its home in an array that has room for it, one of the buckets
+/// from `start` up to below `end`.
+fn move_pairs<K: Eq + Drop, V: Drop, H: KeyHash<K>, L: LruList, const TYPE: u8>(
+    hasher: &H,
+    current: &mut BucketArray<K, V, L, TYPE>,
+    source: &mut Bucket<K, V, L, TYPE>,
+    start: usize,
+    end: usize,
+)
+    requires within { end ≤ length current.old }
+    requires in_range { All
+        (λ pair. IsInRange start end (home_of (length current.old) (H.hash_of hasher.now pair.0)))
+        (pairs_in source.old) }
+    requires own_bytes { All (HasOwnByte (H.hash_of hasher.now)) (entries_in source.old) }
+    requires homes { AreHome (H.hash_of hasher.now) current.old }
+    requires room { HasRoomFor (H.hash_of hasher.now) current.old (pairs_in source.old) }
+    requires alive { (j : ℕ) → j < length current.old → (bucket_at current.old j).killed ≡ false }
+    ensures moved { MovesInto (H.hash_of hasher.now) source.old current.old source.new current.new }
+    ensures homes { AreHome (H.hash_of hasher.now) current.new }
+    ensures emptied { pairs_in source.new ≡ [] }
+{
+    let mut at = EntryPtr::null();
+    'pairs: while at.find_next(source) {
+        source.sound();
+        let (home, hash) = way_of(hasher, current, source, &at, start, end);
+        let Ok(_) = current.bucket_mut(home).extract_from(hash, source, &mut at) else {
+            unreachable!()
+        };
+    }
+}
+
+/// Where the pair of a slot goes in an array: the index of its home, and a number with its byte.
+/// Where `start` is its one target, the stored byte is enough; else its key is hashed anew.
+fn way_of<K: Eq, V, H: KeyHash<K>, L: LruList, const TYPE: u8>(
+    hasher: &H,
+    current: &BucketArray<K, V, L, TYPE>,
+    source: &Bucket<K, V, L, TYPE>,
+    at: &EntryPtr<K, V, TYPE>,
+    start: usize,
+    end: usize,
+) -> (usize, u64)
+    requires occupied { is_free (slot_in source.now at.now) ≡ false }
+    requires within { end ≤ length current.now }
+    requires in_range { All
+        (λ pair. IsInRange start end (home_of (length current.now) (H.hash_of hasher.now pair.0)))
+        (pairs_in source.now) }
+    requires own_bytes { All (HasOwnByte (H.hash_of hasher.now)) (entries_in source.now) }
+    ensures { (pair : K × V) → live_pair (slot_in source.now at.now) ≡ Some pair
+        → IsWay (H.hash_of hasher.now) (length current.now) pair result.0 result.1 }
+{
+    let _buckets = current.len();
+    if end.saturating_sub(start) == 1 {
+        return (start, u64::from(at.partial_hash(source)));
+    }
+    let hash = hasher.hash_one(at.key(source));
+    (current.bucket_index(hash), hash)
+}

@@ -1,0 +1,164 @@
+//! Walks over a table's current buckets.
+ghost use Rattle.std.specs.Prelude.{◌≡◌, ◌≢◌, ◌<◌, ◌≤◌, ◌+◌, ◌⊎◌, ℕ, false, length, OnOk};
+ghost use Rattle.std.specs.Int.{IsPowerOfTwo};
+ghost use Rattle.bucket_slots.specs.BucketView.{BucketView};
+ghost use Rattle.bucket_slots.specs.Sizing.{IsLength};
+ghost use Rattle.bucket_table.specs.ArraysView.{AreSourcesKilled};
+ghost use Rattle.bucket_table.specs.Asking.{AsksShrinking, ResizesIf};
+ghost use Rattle.bucket_table.specs.Finding.{KeepsMap};
+ghost use Rattle.bucket_table.specs.Locking.{IsLocked};
+ghost use Rattle.bucket_table.specs.Rehashing.{KeepsArrays};
+ghost use Rattle.bucket_table.specs.Relocation.{buckets_of};
+ghost use Rattle.bucket_table.specs.Sides.{arrays_with, bucket_on};
+ghost use Rattle.bucket_table.specs.Units.{KeepsBag, KeepsKilled};
+ghost use Rattle.bucket_table.specs.Visits.{reading};
+ghost use Rattle.bucket_table.specs.Walks.{BeginsAt, KeepsBuckets, WalksBy};
+
+use crate::hash_table::HashTable;
+use crate::hash_table::capacity::from_index_to_range;
+use crate::key_hash::KeyHash;
+use crate::visit::{Read, Visit};
+use bucket_slots::bucket::{AllocError, Bucket};
+use bucket_slots::lru::LruList;
+
+impl<K: Eq + Drop, V: Drop, H: KeyHash<K>, L: LruList + Drop, const TYPE: u8> HashTable<
+    K,
+    V,
+    H,
+    L,
+    TYPE,
+> {
+    /// Lends the current buckets from `start` on, one after the other, until the visitor answers
+    /// false. Where the current array hasn't the length that `start` was meant for, the walk begins
+    /// where the hashes of that bucket do. Where the visitor has set its flag, the walk ends with a
+    /// resize.
+    ///
+    /// # Errors
+    ///
+    /// Want of memory: the walk ends there.
+    pub fn for_each_writer_sync<F: Visit<Bucket<K, V, L, TYPE>>>(
+        &mut self,
+        start: usize,
+        expected_len: usize,
+        visitor: &mut F,
+    ) -> Result<(), AllocError>
+        requires expected { expected_len ≢ 0 → IsPowerOfTwo expected_len × (start < expected_len) }
+        requires may { F.may_visit visitor.old }
+        requires owes { KeepsBuckets F.visits }
+        ensures again { F.may_visit visitor.new }
+        ensures walked { WalksBy F.visits (H.hash_of self.old.hasher) expected_len start visitor.old self.old.arrays result visitor.new self.new.arrays }
+        ensures hasher { self.new.hasher ≡ self.old.hasher }
+        ensures bag { KeepsBag self.old.arrays.rehash self.new.arrays.rehash }
+        ensures minimum { self.new.arrays.minimum ≡ self.old.arrays.minimum }
+        ensures maximum { self.new.arrays.maximum ≡ self.old.arrays.maximum }
+    {
+        let mut flag = false;
+        let mut more = true;
+        let len = self.arrays.len();
+        let mut index = first_index(start, expected_len, len);
+        while more && index < self.arrays.len() {
+            let Ok(()) = self.prepare_at(index) else {
+                return Err(AllocError);
+            };
+            self.sound();
+            more = self.visit_at(index, visitor, &mut flag);
+            index += 1;
+        }
+        if !flag {
+            return Ok(());
+        }
+        self.shrink();
+        Ok(())
+    }
+
+    /// Lends the current buckets for reading, one after the other, until the reader answers false.
+    ///
+    /// # Errors
+    ///
+    /// Want of memory: the walk ends there.
+    pub fn for_each_reader_sync<F: Read<Bucket<K, V, L, TYPE>>>(
+        &mut self,
+        reader: &mut F,
+    ) -> Result<(), AllocError>
+        requires may { F.may_read reader.old }
+        ensures again { F.may_read reader.new }
+        ensures walked { WalksBy (reading F.reads) (H.hash_of self.old.hasher) 0 0 reader.old self.old.arrays result reader.new self.new.arrays }
+        ensures hasher { self.new.hasher ≡ self.old.hasher }
+        ensures kept { KeepsArrays self.old.arrays self.new.arrays }
+        ensures bag { KeepsBag self.old.arrays.rehash self.new.arrays.rehash }
+    {
+        let mut more = true;
+        let mut index = 0;
+        while more && index < self.arrays.len() {
+            let Ok(()) = self.prepare_at(index) else {
+                return Err(AllocError);
+            };
+            self.sound();
+            self.arrays.room_of(false);
+            more = reader.read(self.arrays.bucket_of(false, index));
+            index += 1;
+        }
+        Ok(())
+    }
+
+    /// Works a unit, and moves the sources of a current bucket.
+    ///
+    /// # Errors
+    ///
+    /// Want of memory: a source isn't killed.
+    fn prepare_at(&mut self, index: usize) -> Result<(), AllocError>
+        requires within { index < length (buckets_of self.old.arrays.current) }
+        ensures hasher { self.new.hasher ≡ self.old.hasher }
+        ensures kept { KeepsArrays self.old.arrays self.new.arrays }
+        ensures bag { KeepsBag self.old.arrays.rehash self.new.arrays.rehash }
+        ensures still { KeepsKilled self.old.arrays.rehash self.new.arrays.rehash }
+        ensures ready { OnOk result (AreSourcesKilled self.new.arrays index) }
+    {
+        self.arrays.prepare_at(&self.hasher, index)
+    }
+
+    /// Lends a current bucket to a visitor.
+    fn visit_at<F: Visit<Bucket<K, V, L, TYPE>>>(
+        &mut self,
+        index: usize,
+        visitor: &mut F,
+        flag: &mut bool,
+    ) -> bool
+        requires locked { IsLocked self.old.arrays false index }
+        requires may { F.may_visit visitor.old }
+        requires owes { KeepsBuckets F.visits }
+        ensures again { F.may_visit visitor.new }
+        ensures hasher { self.new.hasher ≡ self.old.hasher }
+        ensures visited { (left : BucketView K V)
+            × F.visits visitor.old (bucket_on self.old.arrays false index) flag.old result left flag.new visitor.new
+            × (self.new.arrays ≡ arrays_with self.old.arrays false index left) }
+    {
+        self.arrays.visit_at(index, visitor, flag)
+    }
+
+    /// Resizes the current array where its first buckets have few live slots.
+    fn shrink(&mut self)
+        ensures hasher { self.new.hasher ≡ self.old.hasher }
+        ensures kept { KeepsMap self.old.arrays self.new.arrays }
+        ensures bag { KeepsBag self.old.arrays.rehash self.new.arrays.rehash }
+        ensures resized { ResizesIf (AsksShrinking self.old.arrays 0) self.old.arrays self.new.arrays }
+    {
+        self.arrays.try_shrink(0);
+    }
+}
+
+/// Returns the index in an array of `len` buckets at which a walk begins that was meant for bucket
+/// `start` of one of `expected_len`.
+fn first_index(start: usize, expected_len: usize, len: usize) -> usize
+    requires expected { expected_len ≢ 0 → IsPowerOfTwo expected_len × (start < expected_len) }
+    requires length { 0 < len → IsLength len }
+    ensures { BeginsAt len expected_len start result }
+{
+    if expected_len == 0 {
+        return start;
+    }
+    if len == 0 {
+        return start;
+    }
+    from_index_to_range(expected_len, len, start).0
+}

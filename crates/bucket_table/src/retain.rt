@@ -1,0 +1,52 @@
+//! Taking out of a bucket what a test refuses.
+ghost use Rattle.std.specs.Prelude.{◌≡◌, Bool, Some, IsTrue, ℕ, ◌∷◌};
+ghost use Rattle.std.specs.List.Sorted.{IsPermutation};
+ghost use Rattle.bucket_slots.specs.BucketView.{entries_in, slot_in};
+ghost use Rattle.bucket_slots.specs.Slots.{is_live, live_pair};
+ghost use Rattle.bucket_slots.specs.Walking.{pairs_ahead};
+ghost use Rattle.bucket_table.specs.Retains.{AnswersBy, Retains};
+
+use bucket_slots::bucket::{Bucket, EntryPtr, Generation, INDEX};
+use bucket_slots::lru::LruList;
+
+/// Takes out each pair that the test refuses, or marks it in an index. Returns how many.
+pub(crate) fn retain_in<
+    K: Drop,
+    V: Drop,
+    L: LruList,
+    F: Fn(&K, &V) -> bool,
+    G: Generation,
+    const TYPE: u8,
+>(bucket: &mut Bucket<K, V, L, TYPE>, keep: &F, generation: &G) -> usize
+    requires callable { F.IsAlwaysCallable keep.now }
+    ensures { Retains (AnswersBy (λ key value answer. F.post keep.now key value answer)) bucket.old bucket.new result }
+{
+    let mut count: usize = 0;
+    let mut at = EntryPtr::null();
+    while at.find_next(bucket) {
+        if !keep(at.key(bucket), at.val(bucket)) {
+            take_at(bucket, &mut at, generation);
+            count = count.saturating_add(1);
+        }
+    }
+    count
+}
+
+/// Takes the pair out of a live slot, or marks it in an index.
+pub(crate) fn take_at<K: Drop, V: Drop, L: LruList, G: Generation, const TYPE: u8>(
+    bucket: &mut Bucket<K, V, L, TYPE>,
+    at: &mut EntryPtr<K, V, TYPE>,
+    generation: &G,
+)
+    requires live_slot { IsTrue (is_live (slot_in bucket.old at.old)) }
+    ensures alive { bucket.new.killed ≡ bucket.old.killed }
+    ensures taken { (pair : K × V) → (live_pair (slot_in bucket.old at.old) ≡ Some pair)
+        → (byte : ℕ) × IsPermutation (entries_in bucket.old) ((pair, byte) ∷ entries_in bucket.new) }
+    ensures pairs_ahead { pairs_ahead bucket.new at.new ≡ pairs_ahead bucket.old at.old }
+{
+    if TYPE == INDEX {
+        bucket.mark_removed(at, generation);
+        return;
+    }
+    let _ = bucket.remove(at);
+}

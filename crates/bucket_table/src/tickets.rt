@@ -1,0 +1,122 @@
+//! The tickets of one old array: which of its units are handed out.
+ghost use Rattle.std.specs.Prelude.{◌≡◌, ◌+◌, ◌*◌, ◌/◌, ◌%◌, ◌^◌, ◌<◌, ◌≤◌, ◌≢◌, ℕ, [], length, IfOk, IsOk, IsTrue, ◌↔◌, MatchOption, slice_index};
+ghost use Rattle.std.specs.List.{Contains};
+ghost use Rattle.bucket_table.specs.State.{word_of};
+ghost use Rattle.bucket_table.specs.Steps.{Starts, Ends, IsOver};
+
+use std::alloc::{AllocError, Global};
+use std::marker::Model;
+
+/// How many old buckets a unit has.
+pub const REHASHING_UNIT_LEN: usize = 64;
+
+/// One more than the number of tickets that can be open at a time.
+pub const TICKET_STEP: usize = 2048;
+
+/// How many tickets can be open at a time.
+const MAXIMUM_OPEN: usize = 2047;
+
+/// Why a ticket can't be ended.
+#[derive(Clone, Copy, Debug, PartialEq, Drop)]
+pub enum TicketError {
+    NotOpen,
+    NotDone,
+}
+
+/// The tickets of an old array.
+#[derive(Drop)]
+pub struct Tickets {
+    position: usize,
+    open_units: Vec<usize>,
+    len: usize,
+}
+
+impl Model for Tickets {
+    ghost use Rattle.bucket_table.specs.State.{TicketState, IsTicketState};
+    ghost use Rattle.bucket_table.specs.Layout.{HasRoom, state_of};
+
+    ghost Value = { TicketState };
+
+    ghost view = { state_of };
+
+    ghost invariant = { HasRoom };
+}
+
+impl Tickets {
+    /// No unit is handed out.
+    pub fn new(alloc: Global, len: usize) -> Result<Tickets, AllocError>
+        requires { len ≤ 2 ^ 58 }
+        ensures position { IfOk result (λ tickets. tickets.position ≡ 0) }
+        ensures open_units { IfOk result (λ tickets. tickets.open_units ≡ []) }
+        ensures len { IfOk result (λ tickets. tickets.len ≡ len) }
+    {
+        let open_units = Vec::with_capacity(alloc, MAXIMUM_OPEN)?;
+        Ok(Tickets {
+            position: 0,
+            open_units,
+            len,
+        })
+    }
+
+    /// Returns the rehash word.
+    pub fn word(&self) -> usize
+        ensures { result ≡ word_of self.now }
+    {
+        self.position * TICKET_STEP + self.open_units.len()
+    }
+
+    /// Tests whether no unit is left, neither open nor to hand out.
+    pub fn is_over(&self) -> bool
+        ensures { IsTrue result ↔ IsOver self.now }
+    {
+        self.open_units.is_empty() && self.position * REHASHING_UNIT_LEN >= self.len
+    }
+
+    /// Hands out the next unit, and returns its ticket.
+    pub fn start(&mut self) -> Option<usize>
+        ensures { Starts self.old result self.new }
+    {
+        if self.open_units.len() == MAXIMUM_OPEN || self.position * REHASHING_UNIT_LEN >= self.len {
+            return None;
+        }
+        let unit = self.position;
+        self.open_units.push_reserved(unit);
+        self.position = unit + 1;
+        Some(unit * TICKET_STEP)
+    }
+
+    /// Ends a ticket, and returns whether the old array goes.
+    pub fn end(
+        &mut self,
+        ticket: usize,
+        success: bool,
+        unit_done: bool,
+    ) -> Result<bool, TicketError>
+        ensures { Ends self.old ticket success (IsTrue unit_done) result self.new }
+    {
+        let Some(place) = place_of(&self.open_units, ticket) else {
+            return Err(TicketError::NotOpen);
+        };
+        if success && !unit_done {
+            return Err(TicketError::NotDone);
+        }
+        let unit = self.open_units.swap_remove(place);
+        if success {
+            Ok(self.is_over())
+        } else {
+            self.position = self.position.min(unit);
+            Ok(false)
+        }
+    }
+}
+
+/// Returns a place where the ticket's unit is open.
+fn place_of(open_units: &[usize], ticket: usize) -> Option<usize>
+    ensures { MatchOption result ((unit : ℕ) → ticket ≡ 2048 * unit → Contains open_units.now unit → ⊥) (λ place. (place < length open_units.now) × (ticket ≡ 2048 * slice_index open_units.now place)) }
+{
+    if ticket % TICKET_STEP != 0 {
+        return None;
+    }
+    let unit = ticket / TICKET_STEP;
+    open_units.iter().position(|other| *other == unit)
+}
