@@ -17,7 +17,7 @@ use Rattle.bucket_table.specs.Sampling.{counted, estimate, live_counts}
 use Rattle.bucket_table.specs.declared.arrays.plan.Plan.{Plan}
 use Rattle.bucket_table.specs.declared.arrays.plan.Plan.TheVariants.{Keep, GiveUp, Resize}
 use Rattle.bucket_table.proofs.Plans.{plan_code}
-use Rattle.bucket_table.proofs.Vacating.{length-entries_in}
+use Rattle.bucket_slots.proofs.CallerLemmas.{length-entries_in}
 
 pub none_counted : {A : Type 0} (xs : List A) → length xs ≡ 0 → xs ≡ []
 none_counted [] e = refl

@@ -8,21 +8,19 @@ use Rattle.std.proofs.lemmas.List.Elements.{All-cons, All-nil, All-map, recursio
 use Rattle.std.proofs.lemmas.List.Sorted.{All-permutation, IsPermutation-append_left, IsPermutation-cons, IsPermutation-map, IsPermutation-refl, IsPermutation-trans}
 use Rattle.std.proofs.lemmas.Map.Keys.{IsDistinct-cons, IsDistinct-tail, IsDistinct-IsPermutation}
 use Rattle.bucket_slots.specs.ArrayView.{bucket_at}
-use Rattle.bucket_slots.specs.BucketView.{BucketView, Place, bucket_with_value, empty_bucket, entries_in, pairs_in, slot_in, first_place}
-use Rattle.bucket_slots.specs.Clearing.{looks_at_marks, slots_after_insertion, slots_without_expired, slots_without_free_end}
+use Rattle.bucket_slots.specs.BucketView.{BucketView, Place, bucket_with_value, empty_bucket, entries_in, pairs_in, slot_in}
+use Rattle.bucket_slots.specs.Clearing.{slots_after_insertion}
 use Rattle.bucket_slots.specs.Evicting.{slot_to_evict, slots_evicted, slots_touched}
 use Rattle.bucket_slots.specs.Homes.{IsHome}
 use Rattle.bucket_slots.specs.Marking.{slots_marked}
-use Rattle.bucket_slots.specs.Moving.{slots_vacated_at}
-use Rattle.bucket_slots.specs.Placing.{slots_with, with_head_for, with_place_made}
-use Rattle.bucket_slots.specs.Removing.{slots_unlinked_at, slots_without}
-use Rattle.bucket_slots.specs.Slots.{is_free, live_pair, slot_at}
-use Rattle.bucket_slots.proofs.CallerLemmas.{entries_in-slots_without, map-entries_in, pairs_in-slots_evicted, rewritten}
+use Rattle.bucket_slots.specs.Removing.{slots_without}
+use Rattle.bucket_slots.specs.Slots.{live_pair, slot_at}
+use Rattle.bucket_slots.proofs.CallerLemmas.{entries_in-slots_without, map-entries_in, entries_in-slots_evicted, rewritten}
 use Rattle.bucket_slots.proofs.Entries.{rotated}
 use Rattle.bucket_slots.proofs.MarkCallerLemmas.{entries_in-slots_after_insertion, entries_in-slots_marked}
+use Rattle.bucket_slots.proofs.RoomCallerLemmas.{killed-bucket_with_value, killed-slots_after_insertion, killed-slots_marked, killed-slots_without}
 use Rattle.bucket_table.specs.ArraysView.{ArraysView, IsOneMap, RehashView, pairs_of}
 use Rattle.bucket_table.specs.Locking.{IsLocked}
-use Rattle.bucket_table.specs.LockedLaws.{killed-with_slot_at}
 use Rattle.bucket_table.specs.LookingUp.{IsAbsent}
 use Rattle.bucket_table.specs.Relocation.{IsEntryHome}
 use Rattle.bucket_table.specs.Sides.{array_with, arrays_with, buckets_on, rehash_with}
@@ -47,35 +45,6 @@ module _ {K V : Type 0} (eq : K → K → Bool) (laws : IsEquivalence eq) where
   pub distinct_kept : (m n : List (K × V)) → IsDistinct eq (map (λ (q : K × V). q.0) m) → IsPermutation m n → IsDistinct eq (map (λ (q : K × V). q.0) n)
   distinct_kept m n one moved = IsDistinct-IsPermutation eq laws.symm _ _ (IsPermutation-map (λ (q : K × V). q.0) m n moved) one
 
--- no call of a bucket but kill changes whether it is killed
-module _ {K V : Type 0} where
-  killed-with_head_for : (s : BucketView K V) (found : Option Place) → (with_head_for s found).killed ≡ s.killed
-  killed-with_head_for s None = refl
-  killed-with_head_for s (Some place) = refl
-
-  killed-slots_with : (s : BucketView K V) (p : K × V) (byte : ℕ) → (slots_with s p byte).killed ≡ s.killed
-  killed-slots_with s p byte = killed-with_slot_at (with_place_made s) _ _ _ ∙ killed-with_head_for s (first_place is_free s)
-
-  killed_placed : (looks : Bool) (keeps : ℕ → Bool) (s : BucketView K V) (p : K × V) (byte : ℕ)
-      → (if looks then slots_without_free_end (slots_with (slots_without_expired keeps s) p byte) else slots_with s p byte).killed ≡ s.killed
-  killed_placed true keeps s p byte = killed-slots_with (slots_without_expired keeps s) p byte
-  killed_placed false keeps s p byte = killed-slots_with s p byte
-
-  killed-slots_after_insertion : (kind : ℕ) (keeps : ℕ → Bool) (s : BucketView K V) (p : K × V) (byte : ℕ)
-      → (slots_after_insertion kind keeps s p byte).killed ≡ s.killed
-  killed-slots_after_insertion kind keeps s p byte = killed_placed (looks_at_marks kind s) keeps s p byte
-
-  killed-vacated : (s : BucketView K V) (block pos : ℕ) → (slots_vacated_at s block pos).killed ≡ s.killed
-  killed-vacated s zero pos = refl
-  killed-vacated s (suc i) pos = refl
-
-  killed-unlinked : (s : BucketView K V) (block : ℕ) → (slots_unlinked_at s block).killed ≡ s.killed
-  killed-unlinked s zero = refl
-  killed-unlinked s (suc i) = refl
-
-  killed-slots_without : (s : BucketView K V) (at : Place) → (slots_without s at).killed ≡ s.killed
-  killed-slots_without s at = killed-unlinked (slots_vacated_at s at.block at.pos) at.block ∙ killed-vacated s at.block at.pos
-
 -- the changes of one bucket that a locked bucket makes
 module _ {K V : Type 0} (a : ArraysView K V) (side : Bool) (i : ℕ) (within : i < length (buckets_on a side)) where
   abbrev bucket : BucketView K V
@@ -96,11 +65,11 @@ module _ {K V : Type 0} (a : ArraysView K V) (side : Bool) (i : ℕ) (within : i
   pub marks : (at : Place) (epoch : ℕ) (p : K × V) → live_pair (slot_in bucket at) ≡ Some p → (byte : ℕ) × Exchanges a side i [] ((p, byte) ∷ []) (slots_marked bucket at epoch)
   marks at epoch p here =
       let out = entries_in-slots_marked bucket at epoch p here in
-      (out.0, record { within = within; moved = out.1; alive = killed-with_slot_at bucket at.block at.pos _ })
+      (out.0, record { within = within; moved = out.1; alive = killed-slots_marked bucket at epoch })
 
   pub evicts : (p : K × V) → live_pair (slot_at bucket.own (slot_to_evict bucket)) ≡ Some p → (byte : ℕ) × Exchanges a side i [] ((p, byte) ∷ []) (slots_evicted bucket)
   evicts p here =
-      let out = pairs_in-slots_evicted bucket p here in
+      let out = entries_in-slots_evicted bucket p here in
       (out.0, record { within = within; moved = out.1; alive = refl })
 
   pub touches : (keeps : Bool) (at : Place) → Exchanges a side i [] [] (slots_touched keeps bucket at)
@@ -218,7 +187,7 @@ module _ {K V : Type 0} (eq : K → K → Bool) (laws : IsEquivalence eq) (hash 
       let P : (K × V) × ℕ → Type 0 = IsEntryHome hash (length (buckets_on a side)) i in
       let moved : IsPermutation (f ∷ entries_in old) (e ∷ entries_in new) =
       IsPermutation-trans _ _ _ (IsPermutation-cons f _ _ r.before_is) (IsPermutation-trans _ _ _ (rotated (f ∷ []) (e ∷ []) r.rest) (IsPermutation-cons e _ _ r.after_is)) in
-      let x : Exchanges a side i (f ∷ []) (e ∷ []) new = record { within = locked.within; moved = moved; alive = killed-with_slot_at old at.block at.pos _ } in
+      let x : Exchanges a side i (f ∷ []) (e ∷ []) new = record { within = locked.within; moved = moved; alive = killed-bucket_with_value old at value } in
       let all = All-permutation P (entries_in old) (e ∷ r.rest) r.before_is (homes_on hash a side i one.placed locked.within) in
       let first : P e = all 0 e (omega arith) in
       let own : P f = record { home = first.home; own_byte = first.own_byte } in

@@ -16,23 +16,9 @@ use Rattle.bucket_table.proofs.Each.{each_implies, map_append, none_pass, nothin
 use Rattle.bucket_table.proofs.Filters.{IsPermutation-filter}
 
 module _ {K V : Type 0} where
-  killed_at : (s : BucketView K V) (block pos : ℕ) → (slots_without_at s block pos).killed ≡ s.killed
-  killed_at s zero pos = refl
-  killed_at s (suc i) pos = refl
-
-  pub killed_without : (s : BucketView K V) (at : Place) → (slots_without s at).killed ≡ s.killed
-  killed_without s at = killed_at s at.block at.pos
-
   -- the next slot is live, and one pair fewer is left once it is taken
   pub next_live : (s : BucketView K V) (old new : Place) → MovesToNext s old new → is_live (slot_in s new) ≡ true
   next_live s old new m = live_from_pair (slot_in s new) m.pair m.here
-
-  killed_with : (s : BucketView K V) (block pos : ℕ) (x : Slot K V) → (with_slot_at s block pos x).killed ≡ s.killed
-  killed_with s zero pos x = refl
-  killed_with s (suc i) pos x = refl
-
-  pub killed_marked : (s : BucketView K V) (at : Place) (epoch : ℕ) → (slots_marked s at epoch).killed ≡ s.killed
-  killed_marked s at epoch = killed_with s at.block at.pos (slot_marked epoch (slot_in s at))
 
   -- entries up to order are pairs up to order
   pub pairs_moved : (xs : List ((K × V) × ℕ)) (s t : BucketView K V) → IsPermutation (entries_in s) (xs ++ entries_in t)

@@ -10,35 +10,35 @@ loop-at-init g c = sets_out _ c.args.bucket.now c.null-at.result c.null-at.ensur
 
 pub key-requires : goal.key-requires
 key-requires g c =
-    (search rules, (search rules, live_not_free (slot_in c.loop-at.bucket c.find_next.new.self) (next_live c.loop-at.bucket c.loop-at.at c.find_next.new.self (c.find_next.ensures.found c.loop-at-test.true))))
+    (search rules, (search rules, live_not_free (slot_in c.loop-at.bucket c.find_next.new.self) (next_live c.loop-at.bucket c.loop-at.at c.find_next.new.self (c.find_next.ensures.ahead c.loop-at-test.true))))
 
 pub val-requires : goal.val-requires
 val-requires g c =
-    (search rules, (search rules, live_not_free (slot_in c.loop-at.bucket c.find_next.new.self) (next_live c.loop-at.bucket c.loop-at.at c.find_next.new.self (c.find_next.ensures.found c.loop-at-test.true))))
+    (search rules, (search rules, live_not_free (slot_in c.loop-at.bucket c.find_next.new.self) (next_live c.loop-at.bucket c.loop-at.at c.find_next.new.self (c.find_next.ensures.ahead c.loop-at-test.true))))
 
 pub take_at-requires : goal.take_at-requires
 take_at-requires g c =
-    (search rules, (search rules, next_live c.loop-at.bucket c.loop-at.at c.find_next.new.self (c.find_next.ensures.found c.loop-at-test.true)))
+    (search rules, (search rules, next_live c.loop-at.bucket c.loop-at.at c.find_next.new.self (c.find_next.ensures.ahead c.loop-at-test.true)))
 
 pub loop-at-smaller-then-not-keep : goal.loop-at-smaller-then-not-keep
 loop-at-smaller-then-not-keep g c =
-    let m = c.find_next.ensures.found c.loop-at-test.true in
+    let m = c.find_next.ensures.ahead c.loop-at-test.true in
     omega (arith, ap length m.ahead, ap length c.take_at.ensures.pairs_ahead)
 
 pub loop-at-preserved-then-not-keep : goal.loop-at-preserved-then-not-keep
 loop-at-preserved-then-not-keep g c =
-    let m = c.find_next.ensures.found c.loop-at-test.true in
+    let m = c.find_next.ensures.ahead c.loop-at-test.true in
     let is_not : c.keep.result ≡ false = search rules in
     takes _ c.args.bucket.now c.loop-at.bucket c.take_at.new.bucket c.loop-at.at c.find_next.new.self c.take_at.new.at c.loop-at.count _ m
     (λ test means. ap test (same_pair c.loop-at.bucket c.loop-at.at c.find_next.new.self m _ _ c.key.ensures c.val.ensures) ∙ sym (means _ _ _ c.keep.ensures) ∙ is_not)
     c.take_at.ensures.alive (c.take_at.ensures.taken m.pair m.here) c.take_at.ensures.pairs_ahead (search rules) c.loop-at.invariant
 
 pub loop-at-smaller : goal.loop-at-smaller
-loop-at-smaller g c = let m = c.find_next.ensures.found c.loop-at-test.true in omega (arith, ap length m.ahead)
+loop-at-smaller g c = let m = c.find_next.ensures.ahead c.loop-at-test.true in omega (arith, ap length m.ahead)
 
 pub loop-at-preserved : goal.loop-at-preserved
 loop-at-preserved g c =
-    let m = c.find_next.ensures.found c.loop-at-test.true in
+    let m = c.find_next.ensures.ahead c.loop-at-test.true in
     let is : c.keep.result ≡ true = search rules in
     passes _ c.args.bucket.now c.loop-at.bucket c.loop-at.at c.find_next.new.self c.loop-at.count m
     (λ test means. ap test (same_pair c.loop-at.bucket c.loop-at.at c.find_next.new.self m _ _ c.key.ensures c.val.ensures) ∙ sym (means _ _ _ c.keep.ensures) ∙ is) c.loop-at.invariant

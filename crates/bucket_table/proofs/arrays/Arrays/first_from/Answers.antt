@@ -25,7 +25,7 @@ returns-then-find_next-clause-bag g c = bag_both c.args.self.now.rehash c.loop-i
 pub returns-then-find_next-clause-found : goal.returns-then-find_next-clause-found
 returns-then-find_next-clause-found g c =
     stops_at (g.H.KeyHash.hash_of c.args.hasher.now) c.args.self.now c.loop-index.self c.prepare_at.new.self c.args.start c.loop-index.index c.len.result c.loop-index.at c.find_next.new.self c.bucket_of.result.now
-    c.loop-index.invariant c.prepare_at.ensures.placed c.prepare_at.ensures.kept c.prepare_at.ensures.bag c.len.ensures.value (search rules) c.len.ensures.power c.in-Ok.ensures.ready c.bucket_of.ensures (c.find_next.ensures.found c.if-find_next.true)
+    c.loop-index.invariant c.prepare_at.ensures.placed c.prepare_at.ensures.kept c.prepare_at.ensures.bag c.len.ensures.value (search rules) c.len.ensures.power c.in-Ok.ensures.ready c.bucket_of.ensures (c.find_next.ensures.ahead c.if-find_next.true)
 
 pub loop-index-smaller : goal.loop-index-smaller
 loop-index-smaller g c =

@@ -2,6 +2,7 @@ use Rattle.std.proofs.Common.{None, OnErr, subst, ◌≡◌}
 use Rattle.bucket_slots.specs.BucketView.{BucketView, first_place}
 use Rattle.bucket_slots.specs.Clearing.{slots_for_insertion}
 use Rattle.bucket_slots.specs.Slots.{is_free}
+use Rattle.bucket_slots.proofs.RoomCallerLemmas.{refused_full, refused_unchanged}
 use Rattle.bucket_table.proofs.LockedSteps.{bucket_is, inserted}
 use Rattle.bucket_table.proofs.hash_table.locked_bucket.LockedBucket.insert.Goals as goal
 
@@ -9,7 +10,7 @@ pub invariant_of-table : goal.invariant_of-table
 invariant_of-table g c =
     let o = c.args.self.now in
     (inserted g.K.PartialEq.eq g.H.KeyHash.hash_of g.met.K.Eq.laws g.row.TYPE _ o.table.now o.is_old o.index c.bucket_of_mut.result.now _ c.table.view_is c.table.invariant o.locked c.bucket_of_mut.ensures.bucket (g.G.Generation.keeps c.args.generation.now) c.args.pair c.args.hash c.insert.result
-    c.requires.own_hash c.requires.home c.requires.key_absent c.insert.ensures.slots c.insert.ensures.unchanged).sound.one_map
+    c.requires.own_hash c.requires.home c.requires.key_absent c.insert.ensures.slots (refused_unchanged c.insert.result _ _ _ c.insert.ensures.refused)).sound.one_map
 
 pub invariant_of-self : goal.invariant_of-self
 invariant_of-self g c =
@@ -17,29 +18,29 @@ invariant_of-self g c =
     record {
       locked =
           (inserted g.K.PartialEq.eq g.H.KeyHash.hash_of g.met.K.Eq.laws g.row.TYPE _ o.table.now o.is_old o.index c.bucket_of_mut.result.now _ c.table.view_is c.table.invariant o.locked c.bucket_of_mut.ensures.bucket (g.G.Generation.keeps c.args.generation.now) c.args.pair c.args.hash c.insert.result
-          c.requires.own_hash c.requires.home c.requires.key_absent c.insert.ensures.slots c.insert.ensures.unchanged).sound.locked;
+          c.requires.own_hash c.requires.home c.requires.key_absent c.insert.ensures.slots (refused_unchanged c.insert.result _ _ _ c.insert.ensures.refused)).sound.locked;
     }
 
 pub returns-clause-map : goal.returns-clause-map
 returns-clause-map g c =
     let o = c.args.self.now in
     (inserted g.K.PartialEq.eq g.H.KeyHash.hash_of g.met.K.Eq.laws g.row.TYPE _ o.table.now o.is_old o.index c.bucket_of_mut.result.now _ c.table.view_is c.table.invariant o.locked c.bucket_of_mut.ensures.bucket (g.G.Generation.keeps c.args.generation.now) c.args.pair c.args.hash c.insert.result
-    c.requires.own_hash c.requires.home c.requires.key_absent c.insert.ensures.slots c.insert.ensures.unchanged).pairs
+    c.requires.own_hash c.requires.home c.requires.key_absent c.insert.ensures.slots (refused_unchanged c.insert.result _ _ _ c.insert.ensures.refused)).pairs
 
 pub returns-clause-table : goal.returns-clause-table
 returns-clause-table g c =
     let o = c.args.self.now in
     (inserted g.K.PartialEq.eq g.H.KeyHash.hash_of g.met.K.Eq.laws g.row.TYPE _ o.table.now o.is_old o.index c.bucket_of_mut.result.now _ c.table.view_is c.table.invariant o.locked c.bucket_of_mut.ensures.bucket (g.G.Generation.keeps c.args.generation.now) c.args.pair c.args.hash c.insert.result
-    c.requires.own_hash c.requires.home c.requires.key_absent c.insert.ensures.slots c.insert.ensures.unchanged).table
+    c.requires.own_hash c.requires.home c.requires.key_absent c.insert.ensures.slots (refused_unchanged c.insert.result _ _ _ c.insert.ensures.refused)).table
 
 pub returns-clause-unchanged : goal.returns-clause-unchanged
 returns-clause-unchanged g c =
     let o = c.args.self.now in
     (inserted g.K.PartialEq.eq g.H.KeyHash.hash_of g.met.K.Eq.laws g.row.TYPE _ o.table.now o.is_old o.index c.bucket_of_mut.result.now _ c.table.view_is c.table.invariant o.locked c.bucket_of_mut.ensures.bucket (g.G.Generation.keeps c.args.generation.now) c.args.pair c.args.hash c.insert.result
-    c.requires.own_hash c.requires.home c.requires.key_absent c.insert.ensures.slots c.insert.ensures.unchanged).unchanged
+    c.requires.own_hash c.requires.home c.requires.key_absent c.insert.ensures.slots (refused_unchanged c.insert.result _ _ _ c.insert.ensures.refused)).unchanged
 
 pub returns-clause-no_free_slot : goal.returns-clause-no_free_slot
 returns-clause-no_free_slot g c =
     let o = c.args.self.now in
     subst (λ (b : BucketView g.row.K.Denot g.row.V.Denot). OnErr c.insert.result (first_place is_free (slots_for_insertion g.row.TYPE (g.G.Generation.keeps c.args.generation.now) b) ≡ None))
-    (bucket_is _ o.table.now o.is_old o.index c.bucket_of_mut.result.now c.table.view_is c.bucket_of_mut.ensures.bucket) c.insert.ensures.no_free_slot
+    (bucket_is _ o.table.now o.is_old o.index c.bucket_of_mut.result.now c.table.view_is c.bucket_of_mut.ensures.bucket) (refused_full c.insert.result _ _ _ c.insert.ensures.refused)
