@@ -9,3 +9,9 @@ pub record IsRefused {K V H : Type 0} (kind : ℕ) (old after : TableView K V H)
   pub map : KeepsPairs (state_of kind old) (state_of kind after)
   pub bag : KeepsBag old.arrays.rehash after.arrays.rehash
   pub alone : old.arrays.rehash ≡ None → (old.arrays.current ≡ None) × (after ≡ old)
+
+-- the map and the bag of tickets stay, and without an old array all stays
+pub record IsMissing {K V H : Type 0} (kind : ℕ) (old after : TableView K V H) : Type 0 where
+  pub map : KeepsPairs (state_of kind old) (state_of kind after)
+  pub bag : KeepsBag old.arrays.rehash after.arrays.rehash
+  pub alone : old.arrays.rehash ≡ None → after ≡ old

@@ -1,15 +1,16 @@
 //! A table in the middle of a rehash.
 //!
 //! Model: `TableView`. Invariant: `IsOneMap`.
-ghost use Rattle.std.specs.Prelude.{◌≡◌, ◌≢◌, true, ◌<◌, [], false, None, Some, IfOk, IsSome, IfSome, IfNone, OnOk, OnErr, IsOk, length};
+ghost use Rattle.std.specs.Prelude.{◌≡◌, ◌↔◌, ◌<◌, [], false, None, Ok, Err, Some, IfOk, IsTrue, IsSome, IfSome, IfNone, OnOk, OnErr, IsOk, length};
 ghost use Rattle.std.specs.Borrow.{Bor, RestsIfErr, RestsIfNone, sem};
 ghost use Rattle.std.specs.List.Sorted.{IsPermutation};
 ghost use Rattle.bucket_slots.specs.Homes.{IsHome};
-ghost use Rattle.bucket_table.specs.ArraysView.{RehashView, pairs_of};
+ghost use Rattle.bucket_slots.specs.Sizing.{IsLength};
+ghost use Rattle.bucket_table.specs.ArraysView.{IsOneMap, RehashView, pairs_of};
 ghost use Rattle.bucket_table.specs.Counting.{counted_to};
 ghost use Rattle.bucket_table.specs.Finding.{FindsAlone, GrowsFirst};
 ghost use Rattle.bucket_table.specs.Free.{HasNoFreeHome, IsFreeHome};
-ghost use Rattle.bucket_table.specs.Refusing.{IsRefused};
+ghost use Rattle.bucket_table.specs.Refusing.{IsMissing, IsRefused};
 ghost use Rattle.bucket_table.specs.TableRow.{table_row};
 ghost use Rattle.bucket_table.specs.Locking.{IsLocked};
 ghost use Rattle.bucket_table.specs.LookingUp.{IsAbsent, IsThere};
@@ -36,6 +37,15 @@ use bucket_slots::bucket::AllocError;
 use bucket_slots::lru::LruList;
 pub use locked_bucket::LockedBucket;
 use std::marker::Model;
+
+/// What a writer that makes no array doesn't get.
+#[derive(Clone, Copy, Debug, PartialEq, Eq, Drop)]
+pub enum Missing {
+    /// There is no array.
+    Array,
+    /// Want of memory.
+    Memory,
+}
 
 /// A map from keys to values, in one array or two.
 #[derive(Drop)]
@@ -73,6 +83,22 @@ impl<K: Eq, V, H: KeyHash<K>, L: LruList, const TYPE: u8> HashTable<K, V, H, L, 
         ensures { result ≡ H.hash_of self.now.hasher key.now }
     {
         self.hasher.hash_one(key)
+    }
+
+    /// No work: a proof learns what a table keeps.
+    pub fn sound(&self)
+        ensures one_map { IsOneMap K.eq (H.hash_of self.now.hasher) self.now.arrays }
+        ensures long { 0 < length (buckets_of self.now.arrays.current)
+            → IsLength (length (buckets_of self.now.arrays.current)) }
+    {
+        let _len = self.arrays.len();
+    }
+
+    /// Tests whether an old array stands and has a bucket with the index.
+    pub fn has_old_bucket(&self, index: usize) -> bool
+        ensures { IsTrue result ↔ IsOldIndex self.now.arrays index }
+    {
+        index < self.arrays.old_len()
     }
 
     /// Hands out the next unit of the old array, and returns its ticket.
@@ -138,8 +164,11 @@ impl<K: Eq + Drop, V: Drop, H: KeyHash<K>, L: LruList + Drop, const TYPE: u8> Ha
             → WorksUnit was self.new.arrays.rehash }
         ensures alone { self.old.arrays.rehash ≡ None → self.new ≡ self.old }
         ensures succeeds { self.old.arrays.rehash ≡ None → IsOk result }
+        ensures empty { result ≡ Ok false → pairs_of self.new.arrays ≡ [] }
     {
-        self.arrays.prepare(&self.hasher, hash)
+        let is_ready = self.arrays.prepare(&self.hasher, hash);
+        self.arrays.sound();
+        is_ready
     }
 
     /// Returns what a function answers on the pair whose key is equal; `None` where the map has
@@ -221,6 +250,31 @@ impl<K: Eq + Drop, V: Drop, H: KeyHash<K>, L: LruList + Drop, const TYPE: u8> Ha
             Ok(true) => Ok(Some(self.lock_home(hash))),
             Ok(false) => Ok(None),
             Err(refused) => Err(refused),
+        }
+    }
+
+    /// Prepares the home of a hash, and locks it.
+    ///
+    /// # Errors
+    ///
+    /// There is no array, and so no pair; or want of memory: a source isn't killed.
+    pub fn locked_or_missing(&mut self, hash: u64) -> Result<LockedBucket<'_, K, V, H, L, TYPE>, Missing>
+        ensures* rests { sem 𝓛 (RestsIfErr
+            (table_row K.row V.row H.row L.row TYPE.row K.PartialEq H.KeyHash
+            (record { KEEPS = L.KEEPS; listed = L.listed; IsTail = L.IsTail }) L.Default)
+            self.entry (λ locked. locked.table.ghost_name) result (IsMissing TYPE self.old)) }
+        ensures same_table { IfOk result (λ locked. locked.table.ghost_name ≡ self.entry.ghost_name) }
+        ensures map { IfOk result (λ locked. KeepsPairs (state_of TYPE self.old) (state_of TYPE locked.table.now)) }
+        ensures bag { IfOk result (λ locked. KeepsBag self.old.arrays.rehash locked.table.now.arrays.rehash) }
+        ensures home { IfOk result (λ locked.
+            IsHome (length (buckets_on locked.table.now.arrays locked.is_old)) hash locked.index) }
+        ensures empty { result ≡ Err Missing.Array → pairs_of self.old.arrays ≡ [] }
+        ensures alone { self.old.arrays.rehash ≡ None → IfOk result (λ locked. locked.table.now ≡ self.old) }
+    {
+        match self.prepare(hash) {
+            Ok(true) => Ok(self.lock_home(hash)),
+            Ok(false) => Err(Missing::Array),
+            Err(_) => Err(Missing::Memory),
         }
     }
 
@@ -330,22 +384,6 @@ impl<K: Eq + Drop, V: Drop, H: KeyHash<K>, L: LruList + Drop, const TYPE: u8> Ha
         self.arrays.reserve_capacity(additional)
     }
 
-    /// Returns whether the map has a pair. Does to the table what `num_entries` does.
-    pub fn has_entry(&mut self) -> bool
-        ensures some { result ≡ true → pairs_of self.new.arrays ≢ [] }
-        ensures none { result ≡ false → pairs_of self.new.arrays ≡ [] }
-        ensures map { KeepsPairs (state_of TYPE self.old) (state_of TYPE self.new) }
-        ensures bag { KeepsBag self.old.arrays.rehash self.new.arrays.rehash }
-        ensures unit { (was : RehashView K V)
-            → (self.old.arrays.rehash ≡ Some was)
-            → IsUnitReady was
-            → IsEasyUnit was.tickets.position self.old.arrays was
-            → WorksUnit was self.new.arrays.rehash }
-        ensures alone { self.old.arrays.rehash ≡ None → (pairs_of self.old.arrays ≡ [] → ⊥) → self.new ≡ self.old }
-    {
-        self.num_entries() != 0
-    }
-
     /// Works a unit, and returns how many pairs the map has, saturating. Where it has none and the
     /// minimum is 0 the table may be dropped.
     pub fn num_entries(&mut self) -> usize
@@ -360,5 +398,21 @@ impl<K: Eq + Drop, V: Drop, H: KeyHash<K>, L: LruList + Drop, const TYPE: u8> Ha
         ensures alone { self.old.arrays.rehash ≡ None → (pairs_of self.old.arrays ≡ [] → ⊥) → self.new ≡ self.old }
     {
         self.arrays.num_entries(&self.hasher)
+    }
+
+    /// Works a unit, and tests whether the map has a pair. Where it has none and the minimum is 0 the
+    /// table may be dropped.
+    pub fn has_entry(&mut self) -> bool
+        ensures has { IsTrue result ↔ (0 < length (pairs_of self.new.arrays)) }
+        ensures map { KeepsPairs (state_of TYPE self.old) (state_of TYPE self.new) }
+        ensures bag { KeepsBag self.old.arrays.rehash self.new.arrays.rehash }
+        ensures unit { (was : RehashView K V)
+            → (self.old.arrays.rehash ≡ Some was)
+            → IsUnitReady was
+            → IsEasyUnit was.tickets.position self.old.arrays was
+            → WorksUnit was self.new.arrays.rehash }
+        ensures alone { self.old.arrays.rehash ≡ None → (pairs_of self.old.arrays ≡ [] → ⊥) → self.new ≡ self.old }
+    {
+        self.num_entries() > 0
     }
 }

@@ -99,14 +99,6 @@ impl<K: Eq + Drop, V: Drop, H: KeyHash<K>, L: LruList + Drop, const TYPE: u8> Ha
         Ok(count)
     }
 
-    /// No work: a proof learns what every table keeps.
-    pub(crate) fn sound(&self)
-        ensures one_map { IsOneMap K.eq (H.hash_of self.now.hasher) self.now.arrays }
-        ensures long { 0 < length (buckets_of self.now.arrays.current) → IsLength (length (buckets_of self.now.arrays.current)) }
-    {
-        let _len = self.arrays.len();
-    }
-
     /// Moves a pointer to the first live pair past a current bucket, and returns that pair's
     /// current bucket.
     fn pass(

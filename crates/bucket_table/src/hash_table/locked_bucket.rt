@@ -68,6 +68,18 @@ impl<'a, K: Eq, V, H: KeyHash<K>, L: LruList, const TYPE: u8> LockedBucket<'a, K
             .get_entry_ptr(key, hash)
     }
 
+    /// Returns the pair in a live slot.
+    pub fn entry(&self, at: &EntryPtr<K, V, TYPE>) -> (&K, &V)
+        requires live_slot { IsTrue (is_live (slot_in (bucket_of self.now.table.now self.now.is_old self.now.index) at.now)) }
+        ensures { live_pair (slot_in (bucket_of self.now.table.now self.now.is_old self.now.index) at.now)
+            ≡ Some (result.0.now, result.1.now) }
+    {
+        let table = &*self.table;
+        table.arrays.room_of(self.is_old);
+        let bucket = table.arrays.bucket_of(self.is_old, self.index);
+        (at.key(bucket), at.val(bucket))
+    }
+
     /// Lends the pair in a live slot, its value for writing.
     pub fn entry_mut(&mut self, at: &EntryPtr<K, V, TYPE>) -> (&K, &mut V)
         requires live_slot { IsTrue (is_live (slot_in (bucket_of self.old.table.now self.old.is_old self.old.index) at.now)) }

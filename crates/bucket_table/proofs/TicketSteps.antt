@@ -1,0 +1,89 @@
+-- The tickets of a table are those of the machine that knows no pairs.
+use Rattle.std.proofs.Common.{ℕ, ◌<◌, ◌≡◌, Bool, true, false, Option, Some, None, Result, Ok, Err, List, length, option_map, set, refl, sym, ap, subst, ◌∙◌}
+use Rattle.std.proofs.lemmas.List.{length-map, map-set}
+use Rattle.std.proofs.lemmas.Option.{same_Some}
+use Rattle.bucket_slots.specs.BucketView.{BucketView}
+use Rattle.bucket_table.specs.ArraysView.{ArraysView, RehashView, TableView, killed_flags}
+use Rattle.bucket_table.specs.Rehashing.{EndsRehash, IsOldIndex, RelocatesAt, StartsRehash}
+use Rattle.bucket_table.specs.Sides.{rehash_with, with_bucket}
+use Rattle.bucket_table.specs.TicketCalls.{EndsTicket, HasOldBucket, KeepsTickets, KillsBucket, StartsTicket, rehash_state, tickets_of, times_handed}
+use Rattle.bucket_table.specs.Units.{KeepsBag, times_in}
+use Rattle.bucket_table.specs.declared.tickets.TicketError.{TicketError}
+
+module _ {K V : Type 0} where
+  times_same : (unit : ℕ) (o : Option (RehashView K V)) → times_handed unit (option_map (λ (r : RehashView K V). rehash_state r) o) ≡ times_in unit o
+  times_same unit None = refl
+  times_same unit (Some rehash) = refl
+
+  -- a call that keeps the bag of open units
+  pub tickets_kept : (old new : ArraysView K V) → KeepsBag old.rehash new.rehash → KeepsTickets (tickets_of old) (tickets_of new)
+  tickets_kept old new bag = record { times = λ unit. times_same unit new.rehash ∙ bag unit ∙ sym (times_same unit old.rehash) }
+
+  pub bag_through : (a b c : Option (RehashView K V)) → KeepsBag a b → KeepsBag b c → KeepsBag a c
+  bag_through a b c first second = λ unit. second unit ∙ first unit
+
+  bag_with_rehash : (o : Option (RehashView K V)) (index : ℕ) (bucket : BucketView K V) → KeepsBag o (rehash_with o index bucket)
+  bag_with_rehash None index bucket = λ unit. refl
+  bag_with_rehash (Some rehash) index bucket = λ unit. refl
+
+  -- another bucket, on either side
+  pub bag_with : {H : Type 0} (table : TableView K V H) (is_old : Bool) (index : ℕ) (bucket : BucketView K V)
+      → KeepsBag table.arrays.rehash (with_bucket table is_old index bucket).arrays.rehash
+  bag_with table true index bucket = bag_with_rehash table.arrays.rehash index bucket
+  bag_with table false index bucket = λ unit. refl
+
+  -- a ticket is handed out
+  pub starts_as : (a b : Option (RehashView K V)) (answer : Option ℕ) → StartsRehash a answer b
+      → StartsTicket (option_map (λ (r : RehashView K V). rehash_state r) a) answer (option_map (λ (r : RehashView K V). rehash_state r) b)
+  starts_as None b answer h = (h.0, ap (λ (o : Option (RehashView K V)). option_map (λ (r : RehashView K V). rehash_state r) o) h.1)
+  starts_as (Some before) None answer h = absurd h
+  starts_as (Some before) (Some after) answer h = (h.0, ap (λ (bs : List (BucketView K V)). killed_flags bs) h.1)
+
+  -- a ticket ends
+  pub ends_as : (a b : Option (RehashView K V)) (ticket : ℕ) (success : Bool) (answer : Result Bool TicketError) → EndsRehash a ticket success answer b
+      → EndsTicket (option_map (λ (r : RehashView K V). rehash_state r) a) ticket success answer (option_map (λ (r : RehashView K V). rehash_state r) b)
+  ends_as None b ticket success answer h = (h.0, ap (λ (o : Option (RehashView K V)). option_map (λ (r : RehashView K V). rehash_state r) o) h.1)
+  ends_as (Some before) b ticket success (Err error) h = (h.0, ap (λ (o : Option (RehashView K V)). option_map (λ (r : RehashView K V). rehash_state r) o) h.1)
+  ends_as (Some before) None ticket success (Ok false) h = absurd h
+  ends_as (Some before) (Some after) ticket success (Ok false) h = (h.0, ap (λ (bs : List (BucketView K V)). killed_flags bs) h.1)
+  ends_as (Some before) None ticket success (Ok true) h = h
+  ends_as (Some before) (Some after) ticket success (Ok true) h = absurd h
+
+  -- an old bucket stands for the machine where it stands in the table
+  pub has_as : (arrays : ArraysView K V) (index : ℕ) → IsOldIndex arrays index → HasOldBucket (tickets_of arrays) index
+  has_as arrays index (rehash, is, below) =
+      let here : index < length (killed_flags rehash.buckets) = subst (λ n. index < n) (sym (length-map rehash.buckets (λ (b : BucketView K V). b.killed))) below in
+      subst (λ (o : Option (RehashView K V)). HasOldBucket (option_map (λ (r : RehashView K V). rehash_state r) o) index) (sym is) here
+
+  has_from : (arrays : ArraysView K V) (index : ℕ) (o : Option (RehashView K V)) → arrays.rehash ≡ o
+      → HasOldBucket (option_map (λ (r : RehashView K V). rehash_state r) o) index → IsOldIndex arrays index
+  has_from arrays index None is h = absurd h
+  has_from arrays index (Some rehash) is h = (rehash, is, subst (λ n. index < n) (length-map rehash.buckets (λ (b : BucketView K V). b.killed)) h)
+
+  pub has_not : (arrays : ArraysView K V) (index : ℕ) → (IsOldIndex arrays index → ⊥) → HasOldBucket (tickets_of arrays) index → ⊥
+  has_not arrays index none = λ h. none (has_from arrays index arrays.rehash refl h)
+
+  -- an old bucket is killed
+  pub kills_as : (index : ℕ) (old new : ArraysView K V) → IsOldIndex old index → RelocatesAt index old new → KillsBucket (tickets_of old) index (tickets_of new)
+  kills_as index old new (rehash, is, below) moved =
+      let was : RehashView K V = moved.was in
+      let same : rehash ≡ was = same_Some rehash was (sym is ∙ moved.rehash_was) in
+      let less : index < length was.buckets = subst (λ (r : RehashView K V). index < length r.buckets) same below in
+      let here : index < length (killed_flags was.buckets) = subst (λ n. index < n) (sym (length-map was.buckets (λ (b : BucketView K V). b.killed))) less in
+      let flags : killed_flags (set was.buckets index moved.bucket) ≡ set (killed_flags was.buckets) index true =
+          map-set (λ (b : BucketView K V). b.killed) was.buckets index moved.bucket ∙ ap (λ (x : Bool). set (killed_flags was.buckets) index x) moved.is_killed in
+      let after : tickets_of new ≡ Some (record { tickets = was.tickets; killed = set (killed_flags was.buckets) index true }) =
+          ap (λ (o : Option (RehashView K V)). option_map (λ (r : RehashView K V). rehash_state r) o) moved.rehash_is
+          ∙ ap (λ (ks : List Bool). Some (record { tickets = was.tickets; killed = ks })) flags in
+      subst (λ (o : Option (RehashView K V)). KillsBucket (option_map (λ (r : RehashView K V). rehash_state r) o) index (tickets_of new)) (sym moved.rehash_was) (here, after)
+
+  pub tickets_same : (old new : ArraysView K V) → new.rehash ≡ old.rehash → tickets_of new ≡ tickets_of old
+  tickets_same old new same = ap (λ (o : Option (RehashView K V)). option_map (λ (r : RehashView K V). rehash_state r) o) same
+
+module _ {K V H : Type 0} where
+  -- a bucket of the table has changed
+  pub bag_set : (t s : TableView K V H) (is_old : Bool) (index : ℕ) (bucket : BucketView K V) → s ≡ with_bucket t is_old index bucket → KeepsBag t.arrays.rehash s.arrays.rehash
+  bag_set t s is_old index bucket is = subst (λ (z : TableView K V H). KeepsBag t.arrays.rehash z.arrays.rehash) (sym is) (bag_with t is_old index bucket)
+
+  pub bag_same : (t s : TableView K V H) → s ≡ t → KeepsBag t.arrays.rehash s.arrays.rehash
+  bag_same t s is = λ unit. ap (λ (z : TableView K V H). times_in unit z.arrays.rehash) is

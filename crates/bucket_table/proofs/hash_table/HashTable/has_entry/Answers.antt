@@ -1,0 +1,6 @@
+use Rattle.std.proofs.Common.{arith}
+use Rattle.std.proofs.lemmas.Grind.{common_steps}
+use Rattle.bucket_table.proofs.hash_table.HashTable.has_entry.Goals as goal
+
+pub returns-clause-has : goal.returns-clause-has
+returns-clause-has g c = grind (arith, common_steps)

@@ -1,0 +1,5 @@
+use Rattle.bucket_table.proofs.TicketLaws.{gone}
+use Rattle.bucket_table.proofs.script.gone_stays_gone.Goals as goal
+
+pub returns : goal.returns
+returns g c = λ calls replies last all ran. gone calls replies last all ran
