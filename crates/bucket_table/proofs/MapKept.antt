@@ -1,6 +1,7 @@
 -- The map of two arrays, where the pairs of a bucket move on.
-use Rattle.std.proofs.Common.{ℕ, ◌≡◌, ap, ◌∙◌, subst, Bool, Result, Ok, Err, OnOk, OnErr, List, ◌++◌, map}
+use Rattle.std.proofs.Common.{ℕ, ◌≡◌, ap, ◌∙◌, subst, Bool, None, Result, Ok, Err, OnOk, OnErr, List, ◌++◌, map, arith}
 use Rattle.std.specs.Cmp.{IsEquivalence}
+use Rattle.std.specs.List.{IsDistinct}
 use Rattle.std.specs.List.Sorted.{IsPermutation}
 use Rattle.std.proofs.lemmas.List.Sorted.{IsPermutation-map, IsPermutation-refl}
 use Rattle.std.proofs.lemmas.Map.Keys.{IsDistinct-IsPermutation}
@@ -68,4 +69,23 @@ module _ {K V : Type 0} where
   one_map_found eq laws hash old new one kept placed = record {
     distinct = IsDistinct-IsPermutation eq laws.symm _ _ (IsPermutation-map (λ (p : K × V). p.0) _ _ (pairs_kept (entries_of old) (entries_of new) kept.pairs)) one.distinct;
     placed = placed;
+  }
+
+module _ {K V : Type 0} where
+  -- without an array no pair stands anywhere
+  pub nothing_kept : (eq : K → K → Bool) (hash : K → ℕ) (minimum maximum : ℕ)
+      → IsOneMap {V = V} eq hash (record { minimum = minimum; maximum = maximum; current = None; rehash = None })
+  unfolding IsDistinct
+  nothing_kept eq hash minimum maximum = record {
+    distinct = tt;
+    placed = record {
+      homes = record {
+        current_home = λ i below. absurd (omega arith);
+        linked_home = λ i below. absurd (omega arith);
+        alive = λ j below. absurd (omega arith);
+        killed_empty = λ i below. absurd (omega arith);
+        empty_targets = λ longer i j below. absurd (omega arith);
+      };
+      rehashed = tt;
+    };
   }

@@ -1,10 +1,11 @@
 //! The arrays of a table: a current one, and an old one while a rehash is on.
-ghost use Rattle.std.specs.Prelude.{◌≡◌, ◌^◌, ◌≤◌, ◌<◌, ℕ, None, IfSome, IsSome, length};
+ghost use Rattle.std.specs.Prelude.{◌≡◌, ◌^◌, ◌≤◌, ◌<◌, ◌↔◌, ℕ, None, IfSome, IsSome, IsTrue, length, option_map};
 ghost use Rattle.bucket_slots.specs.Homes.{IsHome};
 ghost use Rattle.bucket_slots.specs.Sizing.{IsLength, IsPowerIn};
 ghost use Rattle.bucket_table.specs.ArraysView.{AreArrays, old_buckets};
 ghost use Rattle.bucket_table.specs.Relocation.{buckets_of};
 ghost use Rattle.bucket_table.specs.Sides.{buckets_on};
+ghost use Rattle.bucket_table.specs.State.{word_of};
 
 mod counting;
 mod cursor;
@@ -75,6 +76,37 @@ impl<K, V, L: LruList, const TYPE: u8> Arrays<K, V, L, TYPE> {
             maximum,
             current: None,
             rehash: None,
+        }
+    }
+
+    /// Returns the least capacity, in slots.
+    pub(crate) fn minimum(&self) -> usize
+        ensures { result ≡ self.now.minimum }
+    {
+        self.minimum
+    }
+
+    /// Returns the greatest capacity, in slots.
+    pub(crate) fn maximum(&self) -> usize
+        ensures { result ≡ self.now.maximum }
+    {
+        self.maximum
+    }
+
+    /// Tests whether an old array stands.
+    pub(crate) fn has_old(&self) -> bool
+        ensures { IsTrue result ↔ IsSome self.now.rehash }
+    {
+        self.rehash.is_some()
+    }
+
+    /// Returns the rehash word; `None` where no old array stands.
+    pub(crate) fn word(&self) -> Option<usize>
+        ensures { result ≡ option_map (λ rehash. word_of rehash.tickets) self.now.rehash }
+    {
+        match &self.rehash {
+            Some(rehash) => Some(rehash.tickets.word()),
+            None => None,
         }
     }
 

@@ -1,7 +1,8 @@
 //! A table in the middle of a rehash.
 //!
 //! Model: `TableView`. Invariant: `IsOneMap`.
-ghost use Rattle.std.specs.Prelude.{◌≡◌, ◌↔◌, ◌<◌, [], false, None, Ok, Err, Some, IfOk, IsTrue, IsSome, IfSome, IfNone, OnOk, OnErr, IsOk, length};
+ghost use Rattle.std.specs.Prelude.{◌≡◌, ◌↔◌, ◌<◌, ◌≤◌, ◌*◌, option_map, [], false, None, Ok, Err, Some, IfOk, IsTrue, IsSome, IfSome, IfNone, OnOk, OnErr, IsOk, length};
+ghost use Rattle.std.specs.Int.{IsPowerOfTwo};
 ghost use Rattle.std.specs.Borrow.{Bor, RestsIfErr, RestsIfNone, sem};
 ghost use Rattle.std.specs.List.Sorted.{IsPermutation};
 ghost use Rattle.bucket_slots.specs.Homes.{IsHome};
@@ -11,6 +12,7 @@ ghost use Rattle.bucket_table.specs.Counting.{counted_to};
 ghost use Rattle.bucket_table.specs.Finding.{FindsAlone, GrowsFirst};
 ghost use Rattle.bucket_table.specs.Free.{HasNoFreeHome, IsFreeHome};
 ghost use Rattle.bucket_table.specs.Refusing.{IsMissing, IsRefused};
+ghost use Rattle.bucket_table.specs.State.{word_of};
 ghost use Rattle.bucket_table.specs.TableRow.{table_row};
 ghost use Rattle.bucket_table.specs.Locking.{IsLocked};
 ghost use Rattle.bucket_table.specs.LookingUp.{IsAbsent, IsThere};
@@ -33,9 +35,10 @@ mod walks;
 use crate::arrays::Arrays;
 use crate::key_hash::KeyHash;
 use crate::tickets::TicketError;
-use bucket_slots::bucket::AllocError;
+use bucket_slots::bucket::{AllocError, BUCKET_LEN};
 use bucket_slots::lru::LruList;
 pub use locked_bucket::LockedBucket;
+use std::alloc::Global;
 use std::marker::Model;
 
 /// What a writer that makes no array doesn't get.
@@ -65,6 +68,89 @@ impl<K: Eq, V, H: KeyHash<K>, L: LruList, const TYPE: u8> Model for HashTable<K,
 }
 
 impl<K: Eq, V, H: KeyHash<K>, L: LruList, const TYPE: u8> HashTable<K, V, H, L, TYPE> {
+    /// Returns a table with no array, and so no pair.
+    ///
+    /// `minimum` and `maximum` are numbers of slots. The allocator serves all that the table
+    /// will hold. Takes no memory. O(1). Own.
+    pub fn new(alloc: Global, hasher: H, minimum: usize, maximum: usize) -> Self
+        requires power { IsPowerOfTwo maximum }
+        requires large { 64 ≤ maximum }
+        requires bounded { minimum ≤ maximum }
+        ensures hasher { result.hasher ≡ hasher }
+        ensures arrays { result.arrays
+            ≡ record { minimum = minimum; maximum = maximum; current = None; rehash = None } }
+    {
+        HashTable {
+            hasher,
+            arrays: Arrays::new(alloc, minimum, maximum),
+        }
+    }
+
+    /// Returns the hasher.
+    ///
+    /// O(1). scc: `HashTable::hasher`.
+    pub fn hasher(&self) -> &H
+        ensures { result.now ≡ self.now.hasher }
+    {
+        &self.hasher
+    }
+
+    /// Returns the hash of a key.
+    ///
+    /// O(1). scc: `HashTable::hash`.
+    pub fn hash(&self, key: &K) -> u64
+        ensures { result ≡ H.hash_of self.now.hasher key.now }
+    {
+        self.hasher.hash_one(key)
+    }
+
+    /// Returns the least number of slots that a shrink leaves.
+    ///
+    /// O(1). scc: `HashTable::minimum_capacity`.
+    pub fn minimum_capacity(&self) -> usize
+        ensures { result ≡ self.now.arrays.minimum }
+    {
+        self.arrays.minimum()
+    }
+
+    /// Returns the greatest number of slots that a growth makes.
+    ///
+    /// O(1). scc: `HashTable::maximum_capacity`.
+    pub fn maximum_capacity(&self) -> usize
+        ensures { result ≡ self.now.arrays.maximum }
+    {
+        self.arrays.maximum()
+    }
+
+    /// Returns the number of slots of the current array's buckets, chains left out; 0 where there
+    /// is no array.
+    ///
+    /// O(1). scc: `HashTable::num_slots`.
+    pub fn num_slots(&self) -> usize
+        ensures { result ≡ 32 * length (buckets_of self.now.arrays.current) }
+    {
+        self.arrays.len() * BUCKET_LEN
+    }
+
+    /// Tests whether an old array stands.
+    ///
+    /// O(1). scc: `BucketArray::has_linked_array`.
+    pub fn has_linked_array(&self) -> bool
+        ensures { IsTrue result ↔ IsSome self.now.arrays.rehash }
+    {
+        self.arrays.has_old()
+    }
+
+    /// Returns the rehash word: 2048 times the next unit to hand out, and the number of open
+    /// tickets; `None` where no old array stands.
+    ///
+    /// O(1). scc: `BucketArray::rehashing_metadata`.
+    pub fn rehashing_metadata(&self) -> Option<usize>
+        ensures { result ≡ option_map (λ rehash. word_of rehash.tickets) self.now.arrays.rehash }
+    {
+        self.arrays.word()
+    }
+
     /// Returns the pair whose key is equal; `None` where the map has none.
     pub fn peek_entry(&self, key: &K) -> Option<(&K, &V)>
         ensures found { IfSome result
@@ -76,13 +162,6 @@ impl<K: Eq, V, H: KeyHash<K>, L: LruList, const TYPE: u8> HashTable<K, V, H, L, 
             Some((own, value)) => Some((own, value)),
             None => self.arrays.peek_old(key, hash),
         }
-    }
-
-    /// Returns the hash of a key.
-    pub fn hash(&self, key: &K) -> u64
-        ensures { result ≡ H.hash_of self.now.hasher key.now }
-    {
-        self.hasher.hash_one(key)
     }
 
     /// No work: a proof learns what a table keeps.
