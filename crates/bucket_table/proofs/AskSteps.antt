@@ -13,12 +13,6 @@ none_of None e = refl
 none_of (Some a) e = absurd (false≢true (sym e))
 
 module _ {K V : Type 0} (arrays : ArraysView K V) (index : ℕ) where
-  pub grows_not_beside : is_some arrays.rehash ≡ true → AsksGrowth arrays index → ⊥
-  grows_not_beside stands (buckets, is, alone, near) =
-      false≢true (sym (ap (λ (o : Option (RehashView K V)). is_some o) alone) ∙ stands)
-
-  pub grows_not_without : arrays.current ≡ None → AsksGrowth arrays index → ⊥
-  grows_not_without none (buckets, is, alone, near) = none-some buckets (sym none ∙ is)
 
   pub grows : (array : List (BucketView K V)) (P : Type 0) → arrays.current ≡ Some array → is_some arrays.rehash ≡ false
       → (P ↔ IsCrowded (live_counts array) index) → P ↔ AsksGrowth arrays index
@@ -28,18 +22,6 @@ module _ {K V : Type 0} (arrays : ArraysView K V) (index : ℕ) where
         let same : buckets ≡ array = same_Some _ _ (sym is ∙ current) in
         means.1 (subst (λ (b : List (BucketView K V)). IsCrowded (live_counts b) index) same near),
   )
-
-  pub shrinks_not_beside : is_some arrays.rehash ≡ true → AsksShrinking arrays index → ⊥
-  shrinks_not_beside stands (buckets, is, alone, more, near) =
-      false≢true (sym (ap (λ (o : Option (RehashView K V)). is_some o) alone) ∙ stands)
-
-  pub shrinks_not_without : arrays.current ≡ None → AsksShrinking arrays index → ⊥
-  shrinks_not_without none (buckets, is, alone, more, near) = none-some buckets (sym none ∙ is)
-
-  pub shrinks_not_small : (array : List (BucketView K V)) → arrays.current ≡ Some array → (arrays.minimum < slots_of (live_counts array) → ⊥) → AsksShrinking arrays index → ⊥
-  shrinks_not_small array current small (buckets, is, alone, more, near) =
-      let same : buckets ≡ array = same_Some _ _ (sym is ∙ current) in
-      small (subst (λ (b : List (BucketView K V)). arrays.minimum < slots_of (live_counts b)) same more)
 
   pub shrinks : (array : List (BucketView K V)) (P : Type 0) → arrays.current ≡ Some array → is_some arrays.rehash ≡ false
       → arrays.minimum < slots_of (live_counts array) → (P ↔ IsDeserted (live_counts array) index) → P ↔ AsksShrinking arrays index

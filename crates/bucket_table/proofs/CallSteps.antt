@@ -77,6 +77,3 @@ module _ {K V : Type 0} where
       let none : new.current ≡ None = subst (λ (x : Result Bool E). Prepares new hash x) is ready in
       ap (λ (es : List ((K × V) × ℕ)). map (λ (e : (K × V) × ℕ). e.0) es) (gone new.current new.rehash none beside)
 
-  -- a count that isn't 0 counts some pair
-  pub counts_some : (new : ArraysView K V) (n : ℕ) → n ≡ counted_to (pairs_of new) → (n ≡ 0 → ⊥) ↔ (0 < length (pairs_of new))
-  counts_some new n counted = omega arith

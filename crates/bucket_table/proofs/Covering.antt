@@ -99,10 +99,6 @@ some_open (x ∷ xs) some = (x, has_head x xs)
 not_over : (state : TicketState) → (IsOver state → ⊥) → IsGoingOn state
 not_over state going = ⊎_elim (λ (left : 64 * state.position < state.len). inl left) (λ (handed : state.len ≤ 64 * state.position). inr (some_open state.open_units (λ e. going (e, handed)))) (cases_lt (64 * state.position) state.len)
 
-failed_is_left : (position unit len : ℕ) (success : Bool) → success ≡ false → 64 * unit < len → 64 * position_after success position unit < len
-failed_is_left position unit len true is below = absurd (false≢true (sym is))
-failed_is_left position unit len false is below = omega arith
-
 pub going_on_end : (killed : List Bool) (before after : TicketState) (ticket : ℕ) (success : Bool) (Done : Type 0) → Ends before ticket success Done (Ok false) after → IsCovered killed before → IsGoingOn after
 going_on_end killed before after ticket true Done (unit, is, done, h, goes) covered = not_over after (λ over. false≢true (goes.1 (refl, over)))
 going_on_end killed before after ticket false Done (unit, is, done, h, goes) covered =

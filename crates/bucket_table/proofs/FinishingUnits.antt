@@ -17,20 +17,7 @@ use Rattle.bucket_table.specs.declared.tickets.TicketError.TheVariants.{NotOpen,
 use Rattle.bucket_table.proofs.Each.{nothing}
 use Rattle.bucket_table.proofs.UnitWork.{Handed, tickets_len}
 
-contains_none : (xs : List ℕ) (u : ℕ) → xs ≡ [] → Contains xs u → ⊥
-contains_none xs u none there = let here = subst (λ (ys : List ℕ). Contains ys u) none there in let below = here.1 in absurd (omega arith)
-
 module _ {K V : Type 0} where
-  -- without open tickets a unit is left while the old array stands
-  pub never_idle : (first after : Option (RehashView K V)) → IfSome first IsRehash → IsUnopened first → StartsRehash first None after → (first ≡ None) × (after ≡ None)
-  never_idle None after kept none starts = (refl, starts.1)
-  never_idle (Some r) None kept none starts = absurd starts
-  never_idle (Some r) (Some after) kept none starts = absurd (⊎_elim
-      (λ (all : r.tickets.len ≤ 64 * r.tickets.position).
-      ⊎_elim (λ (less : 64 * r.tickets.position < r.tickets.len). let no : ⊥ = omega arith in no)
-      (λ (open_one : (unit : ℕ) × Contains r.tickets.open_units unit). let no : ⊥ = contains_none r.tickets.open_units open_one.0 none open_one.1 in no) kept.going_on)
-      (λ (full : length r.tickets.open_units ≡ 2047). let long = ap (λ (us : List ℕ). length us) none in let no : ⊥ = omega arith in no)
-      starts.0.0)
 
   -- what a unit's end leaves
   pub record IsFinished (was : RehashView K V) (success : Bool) (last : Option (RehashView K V)) : Type 0 where
@@ -100,9 +87,6 @@ module _ {K V : Type 0} where
 
   pub finishes : (first last : Option (RehashView K V)) (was : RehashView K V) → first ≡ Some was → units_left last + 1 ≡ units_left (Some was) → FinishesOne first true last
   finishes first last was is fewer = subst (λ (o : Option (RehashView K V)). FinishesOne o true last) (sym is) (refl, fewer)
-
-  pub finishes_none : (first last : Option (RehashView K V)) → first ≡ None → last ≡ None → FinishesOne first false last
-  finishes_none first last is none = subst (λ (o : Option (RehashView K V)). FinishesOne o false last) (sym is) (refl, none)
 
   -- units worked so far, and those that are left
   pub one_more : (first last : Option (RehashView K V)) (more : Bool) → FinishesOne first more last → more ≡ true → units_left last + 1 ≡ units_left first

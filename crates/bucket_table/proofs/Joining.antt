@@ -163,13 +163,3 @@ module _ {K V : Type 0} where
       subst (λ (a : ArraysView K V). OnErr r (IsUnmoved a (record { minimum = minimum; maximum = maximum; current = Some d; rehash = Some (record { buckets = m; tickets = tickets }) }))) view
       (refused_at r minimum maximum index c l d m tickets kept same)
 
-  -- arrays one of whose current buckets is any other
-  pub lent_arrays : (minimum maximum index : ℕ) (current : Option (List (BucketView K V))) (rehash : Option (RehashView K V)) (c : List (BucketView K V)) (w : BucketView K V)
-      → current ≡ Some c → AreArrays (record { minimum = minimum; maximum = maximum; current = current; rehash = rehash })
-      → AreArrays (record { minimum = minimum; maximum = maximum; current = Some (set c index w); rehash = rehash })
-  lent_arrays minimum maximum index current rehash c w is was = record {
-    maximum_power = was.maximum_power;
-    bounded = was.bounded;
-    within = subst (λ (n : ℕ). 32 * n ≤ maximum) (sym (length-set c index w)) (subst (λ (o : Option (List (BucketView K V))). IfSome o (λ buckets. 32 * length buckets ≤ maximum)) is was.within);
-    beside = λ h. refl;
-  }

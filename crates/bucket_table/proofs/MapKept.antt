@@ -14,11 +14,6 @@ use Rattle.bucket_table.specs.Rehashing.{IsUnmoved, KeepsArrays, RelocatesAt}
 use Rattle.bucket_table.proofs.Relocating.{entries_among-kept}
 
 module _ {K V : Type 0} where
-  -- done or refused, the pairs are the same up to order
-  pub entries_kept : {A E : Type 0} (r : Result A E) (index : ℕ) (c l d m : List (BucketView K V)) → OnOk r (IsRelocated index c l d m)
-      → OnErr r (KeepsEntries c d) → OnErr r (m ≡ l) → IsPermutation (entries_among c ++ entries_among l) (entries_among d ++ entries_among m)
-  entries_kept (Ok x) index c l d m moved kept same = moved.entries
-  entries_kept (Err e) index c l d m moved kept same = rw (same, entries_among-kept c d kept) (IsPermutation-refl (entries_among c ++ entries_among l))
 
   pub pairs_kept : (xs ys : List ((K × V) × ℕ)) → IsPermutation xs ys
       → IsPermutation (map (λ (e : (K × V) × ℕ). e.0) xs) (map (λ (e : (K × V) × ℕ). e.0) ys)
@@ -41,8 +36,6 @@ module _ {K V : Type 0} where
   kept_of (Err e) index old new done refused = refused.kept
 
 module _ {K V H : Type 0} where
-  pub map_seen : (t s : TableView K V H) (new : ArraysView K V) → t ≡ s → KeepsArrays t.arrays new → IsPermutation (pairs_of s.arrays) (pairs_of new)
-  map_seen t s new is kept = subst (λ (z : TableView K V H). IsPermutation (pairs_of z.arrays) (pairs_of new)) is (map_kept t.arrays new kept)
 
   -- what a call that keeps the pairs and the capacities leaves of the map
   pub state_seen : (kind : ℕ) (t s : TableView K V H) (new : ArraysView K V) → t ≡ s → KeepsMap t.arrays new → KeepsPairs (state_of kind s) (state_of kind (record { hasher = t.hasher; arrays = new }))

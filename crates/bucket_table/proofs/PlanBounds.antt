@@ -29,10 +29,6 @@ module _ {K V : Type 0} (buckets : List (BucketView K V)) where
       ∙ ap (λ (n : ℕ). estimate (live_counts buckets) ((length buckets - n) / 2) n) full_is
       ∙ ap (λ (n : ℕ). estimate (live_counts buckets) ((n - full_sample n) / 2) (full_sample n)) (sym (length-live_counts buckets))
 
-  pub last_is : (len large last : ℕ) → len ≡ length buckets → last ≡ estimate (live_counts buckets) (len - large) large
-      → last ≡ last_estimate (live_counts buckets) large
-  last_is len large last len_is is = is ∙ ap (λ (n : ℕ). estimate (live_counts buckets) (n - large) large) (len_is ∙ sym (length-live_counts buckets))
-
   pub large_is : (large : ℕ) → IsLargeSample (length buckets) large → IsLargeSample (length (live_counts buckets)) large
   large_is large is = subst (λ (n : ℕ). IsLargeSample n large) (sym (length-live_counts buckets)) is
 

@@ -20,12 +20,6 @@ module _ {K V : Type 0} where
   pub bag_same : (a : Option (RehashView K V)) → KeepsBag a a
   bag_same a = λ unit. refl
 
-  bag_some : (was is : RehashView K V) → is.tickets ≡ was.tickets → KeepsBag (Some was) (Some is)
-  bag_some was is same = λ unit. ap (λ (t : TicketState). times_open unit t) same
-
-  pub bag_worked : (start end : ℕ) (success : Bool) (old new : ArraysView K V) → WorksRange start end success old new → KeepsBag old.rehash new.rehash
-  bag_worked start end success old new (was, is, some, killed, still) = rw (some.rehash_was, some.rehash_is) (bag_some was is some.same_tickets)
-
   pub kept_worked : (start end : ℕ) (success : Bool) (old new : ArraysView K V) → WorksRange start end success old new → KeepsArrays old new
   kept_worked start end success old new (was, is, some, killed, still) = some.kept
 
@@ -35,23 +29,6 @@ module _ {K V : Type 0} where
   len_kept None (Some b) same = absurd (none-some (length b) same)
   len_kept (Some a) None same = absurd (none-some (length a) (sym same))
   len_kept (Some a) (Some b) same = same_Some (length a) (length b) same
-
-  -- where there is a bucket of an old array, one stands
-  range_of : (rehash : Option (RehashView K V)) (arrays : ArraysView K V) (end : ℕ) → arrays.rehash ≡ rehash → 0 < length (old_buckets rehash) → end ≤ length (old_buckets rehash) → IsOldRange arrays end
-  range_of None arrays end is some within = absurd (omega arith)
-  range_of (Some r) arrays end is some within = (r, is, within)
-
-  pub old_range : (arrays : ArraysView K V) (end from : ℕ) → from ≡ length (old_buckets arrays.rehash) → (from ≡ 0 → ⊥) → end ≤ from → IsOldRange arrays end
-  old_range arrays end from is some within =
-      let many : 0 < length (old_buckets arrays.rehash) = omega arith in
-      range_of arrays.rehash arrays end refl many (omega arith)
-
-  -- without an old bucket, no source is left
-  pub ready_alone : (arrays : ArraysView K V) (hash from : ℕ) → 0 < length (buckets_of arrays.current) → from ≡ length (old_buckets arrays.rehash) → from ≡ 0 → IsReady arrays hash
-  ready_alone arrays hash from stands is none = record {
-    stands = stands;
-    killed = λ index home i below meets. absurd (omega arith);
-  }
 
   pub dead_in : (new : ArraysView K V) (is : RehashView K V) (i : ℕ) → new.rehash ≡ Some is → (bucket_at is.buckets i).killed ≡ true → (bucket_at (old_buckets new.rehash) i).killed ≡ true
   dead_in new is i same dead = rw same dead
@@ -81,13 +58,6 @@ module _ {K V : Type 0} where
   stands_kept old new kept some =
       let len = len_kept new.current old.current kept.current_len in
       omega arith
-
-  pub rehash_same : (a : Option (RehashView K V)) → KeepsRehash a a
-  rehash_same None = refl
-  rehash_same (Some was) = (refl, refl, λ i dead. dead)
-
-  pub rehash_worked : (start end : ℕ) (success : Bool) (old new : ArraysView K V) → WorksRange start end success old new → KeepsRehash old.rehash new.rehash
-  rehash_worked start end success old new (was, is, some, killed, still) = rw (some.rehash_was, some.rehash_is) (some.same_tickets, some.same_len, still)
 
   -- a unit that was worked stays so
   pub unit_still : (was : RehashView K V) (mid last : Option (RehashView K V)) → WorksUnit was mid → KeepsRehash mid last → WorksUnit was last

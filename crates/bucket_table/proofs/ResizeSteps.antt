@@ -22,12 +22,6 @@ use Rattle.bucket_table.proofs.Plans.{len_fits, plan_code}
 use Rattle.bucket_table.proofs.Resizing.{length-killed_flags, no_entries}
 use Rattle.bucket_table.proofs.Samples.{get_or-live_counts, length-live_counts}
 
-pub tickets_are : (tickets : TicketState) (len : ℕ) → tickets.position ≡ 0 → tickets.open_units ≡ [] → tickets.len ≡ len → tickets ≡ first_tickets len
-tickets_are tickets len position none same =
-    ap (λ (p : ℕ). record { position = p; open_units = tickets.open_units; len = tickets.len }) position
-    ∙ ap (λ (u : List ℕ). record { position = 0; open_units = u; len = tickets.len }) none
-    ∙ ap first_tickets same
-
 not_kept : ◌≡◌ {A = Plan} GiveUp Keep → ⊥
 not_kept e = let f = ap plan_code e in absurd (omega arith)
 

@@ -21,16 +21,6 @@ abbrev pub hashes_left : ℕ → Option ℕ → ℕ
 hashes_left len None = 0
 hashes_left len (Some index) = 2 ^ 64 + 1 - bound_of len (index + 1)
 
--- each step leaves fewer hashes ahead
-pub sweep_nears : {K V : Type 0} (len index : ℕ) (place found : Option ℕ) (new : ArraysView K V) → IsLength len → index < len → place ≡ Some index
-    → ReachesAt (bound_of len (index + 1)) found new → hashes_left (length (buckets_of new.current)) found < hashes_left len place
-sweep_nears len index place found new is_length within is past =
-    subst (λ (p : Option ℕ). hashes_left (length (buckets_of new.current)) found < hashes_left len p) (sym is) (go found past)
-  where
-    go : (to : Option ℕ) → ReachesAt (bound_of len (index + 1)) to new → hashes_left (length (buckets_of new.current)) to < hashes_left len (Some index)
-    go None h = omega (arith, bound_fits len index is_length within)
-    go (Some to) h = omega (arith, bound_fits len index is_length within, h)
-
 module _ {A E K V : Type 0} (IsTest : (K × V → Bool) → Type 0) (hash : K → ℕ) where
   -- a refusal leaves the map swept below a bound
   pub sweep_refused : (r : Result A E) (old now next : List (K × V)) (high count : ℕ) → IsSweeping IsTest hash old now high high count → IsPermutation now next

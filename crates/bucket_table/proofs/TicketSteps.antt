@@ -32,37 +32,6 @@ module _ {K V : Type 0} where
   bag_with table true index bucket = bag_with_rehash table.arrays.rehash index bucket
   bag_with table false index bucket = λ unit. refl
 
-  -- a ticket is handed out
-  pub starts_as : (a b : Option (RehashView K V)) (answer : Option ℕ) → StartsRehash a answer b
-      → StartsTicket (option_map (λ (r : RehashView K V). rehash_state r) a) answer (option_map (λ (r : RehashView K V). rehash_state r) b)
-  starts_as None b answer h = (h.0, ap (λ (o : Option (RehashView K V)). option_map (λ (r : RehashView K V). rehash_state r) o) h.1)
-  starts_as (Some before) None answer h = absurd h
-  starts_as (Some before) (Some after) answer h = (h.0, ap (λ (bs : List (BucketView K V)). killed_flags bs) h.1)
-
-  -- a ticket ends
-  pub ends_as : (a b : Option (RehashView K V)) (ticket : ℕ) (success : Bool) (answer : Result Bool TicketError) → EndsRehash a ticket success answer b
-      → EndsTicket (option_map (λ (r : RehashView K V). rehash_state r) a) ticket success answer (option_map (λ (r : RehashView K V). rehash_state r) b)
-  ends_as None b ticket success answer h = (h.0, ap (λ (o : Option (RehashView K V)). option_map (λ (r : RehashView K V). rehash_state r) o) h.1)
-  ends_as (Some before) b ticket success (Err error) h = (h.0, ap (λ (o : Option (RehashView K V)). option_map (λ (r : RehashView K V). rehash_state r) o) h.1)
-  ends_as (Some before) None ticket success (Ok false) h = absurd h
-  ends_as (Some before) (Some after) ticket success (Ok false) h = (h.0, ap (λ (bs : List (BucketView K V)). killed_flags bs) h.1)
-  ends_as (Some before) None ticket success (Ok true) h = h
-  ends_as (Some before) (Some after) ticket success (Ok true) h = absurd h
-
-  -- an old bucket stands for the machine where it stands in the table
-  pub has_as : (arrays : ArraysView K V) (index : ℕ) → IsOldIndex arrays index → HasOldBucket (tickets_of arrays) index
-  has_as arrays index (rehash, is, below) =
-      let here : index < length (killed_flags rehash.buckets) = subst (λ n. index < n) (sym (length-map rehash.buckets (λ (b : BucketView K V). b.killed))) below in
-      subst (λ (o : Option (RehashView K V)). HasOldBucket (option_map (λ (r : RehashView K V). rehash_state r) o) index) (sym is) here
-
-  has_from : (arrays : ArraysView K V) (index : ℕ) (o : Option (RehashView K V)) → arrays.rehash ≡ o
-      → HasOldBucket (option_map (λ (r : RehashView K V). rehash_state r) o) index → IsOldIndex arrays index
-  has_from arrays index None is h = absurd h
-  has_from arrays index (Some rehash) is h = (rehash, is, subst (λ n. index < n) (length-map rehash.buckets (λ (b : BucketView K V). b.killed)) h)
-
-  pub has_not : (arrays : ArraysView K V) (index : ℕ) → (IsOldIndex arrays index → ⊥) → HasOldBucket (tickets_of arrays) index → ⊥
-  has_not arrays index none = λ h. none (has_from arrays index arrays.rehash refl h)
-
   -- an old bucket is killed
   pub kills_as : (index : ℕ) (old new : ArraysView K V) → IsOldIndex old index → RelocatesAt index old new → KillsBucket (tickets_of old) index (tickets_of new)
   kills_as index old new (rehash, is, below) moved =
@@ -76,9 +45,6 @@ module _ {K V : Type 0} where
           ap (λ (o : Option (RehashView K V)). option_map (λ (r : RehashView K V). rehash_state r) o) moved.rehash_is
           ∙ ap (λ (ks : List Bool). Some (record { tickets = was.tickets; killed = ks })) flags in
       subst (λ (o : Option (RehashView K V)). KillsBucket (option_map (λ (r : RehashView K V). rehash_state r) o) index (tickets_of new)) (sym moved.rehash_was) (here, after)
-
-  pub tickets_same : (old new : ArraysView K V) → new.rehash ≡ old.rehash → tickets_of new ≡ tickets_of old
-  tickets_same old new same = ap (λ (o : Option (RehashView K V)). option_map (λ (r : RehashView K V). rehash_state r) o) same
 
 module _ {K V H : Type 0} where
   -- a bucket of the table has changed

@@ -12,10 +12,6 @@ use Rattle.bucket_table.specs.Rehashing.{IsEasyMove, IsOldIndex, IsOldRange, Rel
 use Rattle.bucket_table.specs.Units.{IsEasyRange, IsEasyUnit, RelocatesTo, WorksRange, WorksSome}
 use Rattle.bucket_table.proofs.Resizing.{get_or-killed_flags}
 
-some_of : {A B : Type 0} (f : A → B) (o : Option A) (b : B) → option_map f o ≡ Some b → (a : A) × (o ≡ Some a) × (f a ≡ b)
-some_of f None b e = absurd (none-some b e)
-some_of f (Some a) b e = (a, refl, same_Some (f a) b e)
-
 module _ {K V : Type 0} where
   -- nothing was done
   pub kept_none : (arrays : ArraysView K V) → KeepsArrays arrays arrays
@@ -156,26 +152,6 @@ module _ {K V : Type 0} where
     no_shorter = easy.no_shorter;
     few = λ i low high. easy.few i (omega arith) (omega arith);
   }
-
-  -- the next bucket of an easy range is easy to move
-  pub easy_next : (start index end : ℕ) (old between : ArraysView K V) (was : RehashView K V) → RelocatesTo start index old between
-      → old.rehash ≡ Some was → IsEasyRange start end old was → start ≤ index → index < end → IsEasyMove index between
-  easy_next start index end old between was (first, is, done) rehash_was easy low high =
-      let same : first ≡ was = same_Some _ _ (sym done.some.rehash_was ∙ rehash_was) in
-      let current = some_of (λ (buckets : List (BucketView K V)). length buckets) between.current (length easy.buckets)
-      (done.some.kept.current_len ∙ ap (λ (c : Option (List (BucketView K V))). option_map (λ (buckets : List (BucketView K V)). length buckets) c) easy.current_is) in
-      let len : length is.buckets ≡ length was.buckets = done.some.same_len ∙ ap (λ (r : RehashView K V). length r.buckets) same in
-      let here : bucket_at is.buckets index ≡ bucket_at was.buckets index = done.rest index (omega arith) ∙ ap (λ (r : RehashView K V). bucket_at r.buckets index) same in
-      let current_long : length current.0 ≡ length easy.buckets = current.2 in
-      let no_shorter = easy.no_shorter in
-      record {
-        was = is;
-        buckets = current.0;
-        rehash_is = done.some.rehash_is;
-        current_is = current.1;
-        no_shorter = omega arith;
-        few = subst (λ (b : BucketView K V). length (pairs_in b) ≤ 32) (sym here) (easy.few index low high);
-      }
 
   -- the next old bucket is there
   pub old_inside : (start index end : ℕ) (old between : ArraysView K V) → RelocatesTo start index old between

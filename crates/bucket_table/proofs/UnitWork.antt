@@ -39,24 +39,6 @@ module _ {K V : Type 0} where
       let long : length started.buckets ≡ length was.buckets = ap (λ (buckets : List (BucketView K V)). length buckets) starts.1 in
       record { was = was; started = started; first_is = refl; middle_is = refl; hands_out = h; same_buckets = starts.1; within = omega arith }
 
-  -- where a unit is left and there is room for its ticket, one is handed out
-  pub not_handed : (first after : Option (RehashView K V)) (was : RehashView K V) → IfSome first IsRehash → StartsRehash first None after → first ≡ Some was → IsUnitReady was → ⊥
-  not_handed None after was kept starts is ready = none-some was is
-  not_handed (Some r) None was kept starts is ready = starts
-  not_handed (Some r) (Some after) was kept starts is ready =
-      let same : r ≡ was = same_Some r was is in
-      let len = tickets_len r kept in
-      let left : 64 * r.tickets.position < length r.buckets = subst (λ (v : RehashView K V). 64 * v.tickets.position < length v.buckets) (sym same) ready.is_left in
-      let room : length r.tickets.open_units < 2047 = subst (λ (v : RehashView K V). length v.tickets.open_units < 2047) (sym same) ready.has_room in
-      ⊎_elim (λ (all : r.tickets.len ≤ 64 * r.tickets.position). omega arith) (λ (full : length r.tickets.open_units ≡ 2047). omega arith) starts.0.0
-
-  -- nothing was handed out
-  pub bag_kept : (first after : Option (RehashView K V)) → StartsRehash first None after → KeepsBag first after
-  bag_kept None None starts = λ unit. refl
-  bag_kept None (Some after) starts = absurd (none-some after (sym starts.1))
-  bag_kept (Some was) None starts = absurd starts
-  bag_kept (Some was) (Some after) starts = λ unit. ap (λ (t : TicketState). times_open unit t) starts.0.1
-
   -- the bag after a whole unit, and the unit where all went well
   pub unit_bag : (first middle worked last : Option (RehashView K V)) (old_worked new_worked : ArraysView K V) (ticket : ℕ) (success : Bool) (answer : Result Bool TicketError)
       → Handed first middle ticket → old_worked.rehash ≡ middle → WorksSome (ticket / 2048) success old_worked new_worked → new_worked.rehash ≡ worked

@@ -116,11 +116,6 @@ module _ {S K V : Type 0} (step : S → BucketView K V → Bool → Bool → Buc
   killed_wait table ready from index killed kept still = λ j low high.
       sources_still table ready j still (len_kept ready.current table.current kept.current_len) (killed j low high)
 
-  -- a bucket is prepared, as far as memory allows
-  pub stands_ready : (first now : S) (old table ready : ArraysView K V) (from index : ℕ) (flag more : Bool) → WalkStands first now old from index flag more table
-      → KeepsArrays table ready → KeepsBag table.rehash ready.rehash → KeepsKilled table.rehash ready.rehash → AreKilledFor ready from index
-  stands_ready first now old table ready from index flag more w kept bag still = killed_wait table ready from index w.killed kept still
-
   -- and is visited
   pub stands_next : (eq : K → K → Bool) → IsEquivalence eq → (first now next : S) (old table ready new : ArraysView K V) (from index : ℕ) (flag last more : Bool)
       → WalkStands first now old from index flag true table → KeepsArrays table ready → KeepsBag table.rehash ready.rehash → KeepsKilled table.rehash ready.rehash

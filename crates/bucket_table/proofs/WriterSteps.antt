@@ -127,38 +127,6 @@ module _ {K V : Type 0} where
     | inr first ↦ subst (λ (a : ArraysView K V). KeepsMap old a) (sym first.2) (kept_as old (record old { current = Some first.0 }) (first_entries old first.0 first.1 first.3) refl refl)
   ]
 
-  pub rehash_made : (old new : ArraysView K V) → MakesArray old new → new.rehash ≡ old.rehash
-  rehash_made old new h = elim (made old new h) [
-    | inl same ↦ ap (λ (a : ArraysView K V). a.rehash) same.0
-    | inr first ↦ ap (λ (a : ArraysView K V). a.rehash) first.2
-  ]
-
-  not_none : (o : Option (List (BucketView K V))) → IsSome o → o ≡ None → ⊥
-  not_none None stands e = absurd cc
-  not_none (Some buckets) stands e = none-some buckets (sym e)
-
-  pub ready_made : (hash len : ℕ) (old new : ArraysView K V) → MakesArray old new → old.rehash ≡ None → (len ≡ 0 → new.current ≡ None) → len ≡ length (buckets_of new.current) → IsReady new hash
-  ready_made hash len old new h alone none long =
-      let some : len ≡ 0 → ⊥ = λ nothing. elim (made old new h) [
-        | inl same ↦ not_none old.current same.1 (ap (λ (a : ArraysView K V). a.current) (sym same.0) ∙ none nothing)
-        | inr first ↦ none-some first.0 (sym (none nothing) ∙ ap (λ (a : ArraysView K V). a.current) first.2)
-      ] in
-      let gone : length (old_buckets new.rehash) ≡ 0 = ap (λ (o : Option (RehashView K V)). length (old_buckets o)) (rehash_made old new h ∙ alone) in
-      record {
-        stands = omega arith;
-        killed = λ index home i below. absurd (omega arith);
-      }
-
-  -- beside an old array a current one stands
-  pub ready_beside : (E : Type 0) (hash : ℕ) (b : Bool) (old new : ArraysView K V) → IsSome old.current → KeepsArrays old new → Prepares {E = E} new hash (Ok b) → IsReady new hash
-  ready_beside E hash true old new stands kept ready = ready
-  ready_beside E hash false old new stands kept none =
-      absurd (lost old.current stands (sym kept.current_len ∙ ap (λ (o : Option (List (BucketView K V))). option_map (λ (bs : List (BucketView K V)). length bs) o) none))
-    where
-      lost : (o : Option (List (BucketView K V))) → IsSome o → option_map (λ (bs : List (BucketView K V)). length bs) o ≡ None → ⊥
-      lost None stands e = absurd cc
-      lost (Some bs) stands e = none-some (length bs) (sym e)
-
   pub kept_prepared : (old new : ArraysView K V) → KeepsArrays old new → KeepsMap old new
   kept_prepared old new kept = record { pairs = kept.pairs; minimum = kept.minimum; maximum = kept.maximum }
 
