@@ -56,5 +56,6 @@ loop-left-preserved g c =
 pub returns-clause-place : goal.returns-clause-place
 returns-clause-place g c =
     let want = is_wanted (g.P.KeyProbe.wants c.args.probe.now) c.args.byte in
-    let left : IsLeft (has_byte c.args.byte) (λ slot. want slot ≡ false) free c.args.self.now c.loop-left.left = c.loop-left.invariant.left in
+    let left : IsLeft (has_byte c.args.byte) (λ slot. want slot ≡ false) free c.args.self.now c.loop-left.left =
+    c.loop-left.invariant.left in
     sym (position-none_left (has_byte c.args.byte) want free c.args.self.now (rw c.loop-left-test.false at left))
