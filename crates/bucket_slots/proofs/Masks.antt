@@ -34,7 +34,7 @@ mask_is : {A : Type 0} (test : A → Bool) (xs : List A) (bits : ℕ) → IsMask
 mask_is test xs bits mask = same_from_bits bits (mask_l (map test xs)) (λ i. mask i ∙ sym (bit_mask_l (map test xs) i))
 
 -- as many bits are set as elements pass
-ones-mask : {A : Type 0} (test : A → Bool) (xs : List A) (bits : ℕ) → IsMaskOf test xs bits → ones bits ≡ count_by test xs
+pub ones-mask : {A : Type 0} (test : A → Bool) (xs : List A) (bits : ℕ) → IsMaskOf test xs bits → ones bits ≡ count_by test xs
 ones-mask test xs bits mask = ap ones (mask_is test xs bits mask) ∙ ones-mask_l test xs
 
 -- an element that passes is none past the end

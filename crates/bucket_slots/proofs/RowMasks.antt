@@ -1,5 +1,5 @@
 -- What the bitmaps of a row say of its slots.
-use Rattle.std.proofs.Common.{ℕ, ◌-◌, ◌<◌, ◌≡◌, ◌==◌, ◌^◌, true, false, not, ◌&&◌, cond, min, if◌then◌else◌, Bool, List, Option, Some, None, is_some, option_map, length, map, get_or, set, refl, sym, ap, ◌∙◌, arith, bit_and}
+use Rattle.std.proofs.Common.{ℕ, ◌-◌, ◌<◌, ◌≡◌, ◌==◌, ◌^◌, true, false, not, ◌&&◌, cond, min, if◌then◌else◌, Bool, List, Option, Some, is_some, length, map, get_or, set, refl, sym, ap, ◌∙◌, arith, bit_and}
 use Rattle.std.specs.Int.{bit_at}
 use Rattle.std.proofs.lemmas.Grind.{common_steps}
 use Rattle.std.proofs.lemmas.List.{get_or-map, get_or-set_other, get_or-set_same, get_or_default, map-set, set-get_or}
@@ -7,10 +7,10 @@ use Rattle.std.proofs.lemmas.List.Folds.{map_fixed}
 use Rattle.std.proofs.lemmas.Nat.Bits.{bit_at-zero, bit_at_and}
 use Rattle.bucket_slots.specs.Clearing.{slot_without_expired}
 use Rattle.bucket_slots.specs.Layout.Bitmaps.{IsLowest, SetsBit}
-use Rattle.bucket_slots.specs.Layout.Blocks.{IsRow, has_byte, row_slots, slot_of}
+use Rattle.bucket_slots.specs.Layout.Blocks.{IsRow, row_slots, slot_of}
 use Rattle.bucket_slots.specs.Layout.Expiring.{IsExpiring}
 use Rattle.bucket_slots.specs.Masks.{IsMaskOf}
-use Rattle.bucket_slots.specs.Searching.{is_wanted}
+use Rattle.bucket_slots.specs.Searching.{has_byte, is_wanted}
 use Rattle.bucket_slots.specs.Slots.{Slot, free, is_free, is_live, is_marked, live, marked, pair_of, slot_at}
 use Rattle.bucket_slots.proofs.Masks.{IsLeft-first, IsLeft-next, IsMaskOf-alike, IsMaskOf-and_not, IsMaskOf-from, bit-mask, within}
 use Rattle.bucket_slots.proofs.RowSlots.{length-row_slots, slot_held}
@@ -72,17 +72,19 @@ module _ {K V : Type 0} where
               (2 ^ 32 - 1 - marks) i,
         ))
 
-  -- a candidate is wanted where its key passes, and it has a key
-  pub wanted_by_key : (test : K → Bool) (byte : ℕ) (slot : Slot K V) (key : K) → has_byte byte slot ≡ true
-      → Some key ≡ option_map (λ pair. pair.0) (pair_of slot) → test key ≡ is_wanted test byte slot
-  wanted_by_key test byte free key matches found = cc
-  wanted_by_key test byte (live pair own) key matches found = let same : key ≡ pair.0 = cc in rw (matches, same) refl
-  wanted_by_key test byte (marked pair own) key matches found = cc
+  -- a candidate is live
+  pub candidate_live : (byte : ℕ) (slot : Slot K V) → has_byte byte slot ≡ true → is_live slot ≡ true
+  candidate_live byte free matches = cc
+  candidate_live byte (live pair own) matches = refl
+  candidate_live byte (marked pair own) matches = cc
 
-  pub has_a_key : (byte : ℕ) (slot : Slot K V) → has_byte byte slot ≡ true → None ≡ option_map (λ pair. pair.0) (pair_of slot) → ⊥
-  has_a_key byte free matches none = cc
-  has_a_key byte (live pair own) matches none = cc
-  has_a_key byte (marked pair own) matches none = cc
+  -- and wanted as what is said of its key
+  pub candidate_wanted : (wants now : K → Bool) (byte : ℕ) (slot : Slot K V) (key : K) (value : V) (said : Bool) → has_byte byte slot ≡ true
+      → pair_of slot ≡ Some (key, value) → now ≡ wants → said ≡ now key → is_wanted wants byte slot ≡ said
+  candidate_wanted wants now byte free key value said matches read same answer = cc
+  candidate_wanted wants now byte (live pair own) key value said matches read same answer =
+      let here : pair ≡ (key, value) = cc in rw (matches, here, ← same) (sym answer)
+  candidate_wanted wants now byte (marked pair own) key value said matches read same answer = cc
 
   -- a slot that is no candidate isn't wanted
   pub unwanted : (test : K → Bool) (byte : ℕ) (slot : Slot K V) → has_byte byte slot ≡ false → is_wanted test byte slot ≡ false

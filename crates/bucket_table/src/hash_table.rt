@@ -3,8 +3,7 @@
 //! Model: `TableView`. Invariant: `IsOneMap`.
 ghost use Rattle.std.specs.Prelude.{◌≡◌, ◌↔◌, ◌<◌, ◌≤◌, ◌*◌, option_map, [], false, None, Ok, Err, Some, IfOk, IsTrue, IsSome, IfSome, IfNone, OnOk, OnErr, IsOk, length};
 ghost use Rattle.std.specs.Int.{IsPowerOfTwo};
-ghost use Rattle.std.specs.Borrow.{Bor, RestsIfErr, RestsIfNone, sem};
-ghost use Rattle.std.specs.List.Sorted.{IsPermutation};
+ghost use Rattle.std.specs.Borrow.{RestsIfErr, RestsIfNone, sem};
 ghost use Rattle.bucket_slots.specs.Homes.{IsHome};
 ghost use Rattle.bucket_slots.specs.Sizing.{IsLength};
 ghost use Rattle.bucket_table.specs.ArraysView.{IsOneMap, RehashView, pairs_of};
@@ -15,7 +14,6 @@ ghost use Rattle.bucket_table.specs.Refusing.{IsMissing, IsRefused};
 ghost use Rattle.bucket_table.specs.State.{word_of};
 ghost use Rattle.bucket_table.specs.TableRow.{table_row};
 ghost use Rattle.bucket_table.specs.Locking.{IsLocked};
-ghost use Rattle.bucket_table.specs.LookingUp.{IsAbsent, IsThere};
 ghost use Rattle.bucket_table.specs.Optional.{IfHeld};
 ghost use Rattle.bucket_table.specs.Preparing.{IsReady, Prepares};
 ghost use Rattle.bucket_table.specs.Rehashing.{EndsRehash, IsEasyMove, IsOldIndex, IsUnmoved, KeepsArrays, RelocatesAt, StartsRehash};
@@ -29,6 +27,7 @@ pub(crate) mod capacity;
 mod cursor;
 mod finishing;
 mod locked_bucket;
+mod lookup;
 pub(crate) mod relocate;
 mod walks;
 
@@ -38,6 +37,7 @@ use crate::tickets::TicketError;
 use bucket_slots::bucket::{AllocError, BUCKET_LEN};
 use bucket_slots::lru::LruList;
 pub use locked_bucket::LockedBucket;
+pub use lookup::peek_arrays;
 use std::alloc::Global;
 use std::marker::Model;
 
@@ -151,19 +151,6 @@ impl<K: Eq, V, H: KeyHash<K>, L: LruList, const TYPE: u8> HashTable<K, V, H, L, 
         self.arrays.word()
     }
 
-    /// Returns the pair whose key is equal; `None` where the map has none.
-    pub fn peek_entry(&self, key: &K) -> Option<(&K, &V)>
-        ensures found { IfSome result
-            (λ pair. IsThere K.eq key.now (pairs_of self.now.arrays) (pair.0.now, pair.1.now)) }
-        ensures absent { IfNone result (IsAbsent K.eq key.now (pairs_of self.now.arrays)) }
-    {
-        let hash = self.hasher.hash_one(key);
-        match self.arrays.peek_current(key, hash) {
-            Some((own, value)) => Some((own, value)),
-            None => self.arrays.peek_old(key, hash),
-        }
-    }
-
     /// No work: a proof learns what a table keeps.
     pub fn sound(&self)
         ensures one_map { IsOneMap K.eq (H.hash_of self.now.hasher) self.now.arrays }
@@ -248,31 +235,6 @@ impl<K: Eq + Drop, V: Drop, H: KeyHash<K>, L: LruList + Drop, const TYPE: u8> Ha
         let is_ready = self.arrays.prepare(&self.hasher, hash);
         self.arrays.sound();
         is_ready
-    }
-
-    /// Returns what a function answers on the pair whose key is equal; `None` where the map has
-    /// none.
-    pub fn reader_sync<R, F: FnOnce(&K, &V) -> R>(&mut self, key: &K, reader: F) -> Option<R>
-        requires callable { (own : Bor K) (value : Bor V) → F.pre reader own value }
-        ensures found { IfSome result (λ answer. (own : Bor K) × (value : Bor V)
-            × IsThere K.eq key.now (pairs_of self.new.arrays) (own.now, value.now)
-            × F.post reader own value answer) }
-        ensures absent { IfNone result (IsAbsent K.eq key.now (pairs_of self.new.arrays)) }
-        ensures map { KeepsPairs (state_of TYPE self.old) (state_of TYPE self.new) }
-        ensures bag { KeepsBag self.old.arrays.rehash self.new.arrays.rehash }
-        ensures unit { (was : RehashView K V)
-            → (self.old.arrays.rehash ≡ Some was)
-            → IsUnitReady was
-            → IsEasyUnit was.tickets.position self.old.arrays was
-            → WorksUnit was self.new.arrays.rehash }
-        ensures alone { self.old.arrays.rehash ≡ None → self.new ≡ self.old }
-    {
-        let hash = self.hasher.hash_one(key);
-        let _ = self.prepare(hash);
-        match self.peek_entry(key) {
-            Some((own, value)) => Some(reader(own, value)),
-            None => None,
-        }
     }
 
     /// Locks a bucket of the old or of the current array.

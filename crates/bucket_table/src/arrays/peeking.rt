@@ -1,49 +1,41 @@
-//! Look-ups that change nothing.
-ghost use Rattle.std.specs.Prelude.{IfSome, IfNone};
+//! Look-ups by a probe that change nothing.
+ghost use Rattle.std.specs.Prelude.{◌≡◌, ◌+◌, ◌≤◌};
+ghost use Rattle.bucket_slots.specs.Places.{pair_lent};
 ghost use Rattle.bucket_table.specs.ArraysView.{old_buckets};
-ghost use Rattle.bucket_table.specs.LookingUp.{IsMissed, IsThere, pairs_in_all};
+ghost use Rattle.bucket_table.specs.LookingUp.{lent_buckets, looked_up_len, pair_looked_up};
 ghost use Rattle.bucket_table.specs.Relocation.{buckets_of};
 
 use super::Arrays;
+use crate::hash_table::peek_arrays;
+use bucket_slots::bucket::KeyProbe;
 use bucket_slots::bucket_array::BucketArray;
 use bucket_slots::lru::LruList;
 
-impl<K: Eq, V, L: LruList, const TYPE: u8> Arrays<K, V, L, TYPE> {
-    /// Returns the pair of the current array whose key is equal.
-    pub(crate) fn peek_current(&self, key: &K, hash: u64) -> Option<(&K, &V)>
-        ensures found { IfSome result (λ pair.
-            IsThere K.eq key.now (pairs_in_all (buckets_of self.now.current)) (pair.0.now, pair.1.now)) }
-        ensures absent { IfNone result (IsMissed K.eq key.now hash (buckets_of self.now.current)) }
+impl<K, V, L: LruList, const TYPE: u8> Arrays<K, V, L, TYPE> {
+    /// Returns the first wanted pair of the old home of a hash, else of its current home. It asks
+    /// at most once for each live slot there with the hash's low byte.
+    #[inline(always)]
+    pub(crate) fn peek_by<P: KeyProbe<K>>(&self, hash: u64, probe: &mut P) -> Option<(&K, &V)>
+        ensures first { pair_lent result
+            ≡ pair_looked_up (P.wants probe.old) hash
+            (old_buckets self.now.rehash) (buckets_of self.now.current) }
+        ensures few { P.asked probe.new ≤ P.asked probe.old
+            + looked_up_len hash (old_buckets self.now.rehash) (buckets_of self.now.current) }
+        ensures fixed { P.wants probe.new ≡ P.wants probe.old }
     {
         match &self.current {
-            Some(array) => peek_in(array, key, hash),
+            Some(current) => peek_arrays(self.old_array(), current, hash, probe),
             None => None,
         }
     }
 
-    /// Returns the pair of the old array whose key is equal.
-    pub(crate) fn peek_old(&self, key: &K, hash: u64) -> Option<(&K, &V)>
-        ensures found { IfSome result (λ pair.
-            IsThere K.eq key.now (pairs_in_all (old_buckets self.now.rehash)) (pair.0.now, pair.1.now)) }
-        ensures absent { IfNone result (IsMissed K.eq key.now hash (old_buckets self.now.rehash)) }
+    /// Returns the old array.
+    fn old_array(&self) -> Option<&BucketArray<K, V, L, TYPE>>
+        ensures { lent_buckets result ≡ old_buckets self.now.rehash }
     {
         match &self.rehash {
-            Some(rehash) => peek_in(&rehash.array, key, hash),
+            Some(rehash) => Some(&rehash.array),
             None => None,
         }
     }
-}
-
-/// Returns the pair of an array whose key is equal, from the home of its hash.
-fn peek_in<'a, K: Eq, V, L: LruList, const TYPE: u8>(
-    array: &'a BucketArray<K, V, L, TYPE>,
-    key: &K,
-    hash: u64,
-) -> Option<(&'a K, &'a V)>
-    ensures found { IfSome result (λ pair.
-        IsThere K.eq key.now (pairs_in_all array.now) (pair.0.now, pair.1.now)) }
-    ensures absent { IfNone result (IsMissed K.eq key.now hash array.now) }
-{
-    array.room();
-    array.bucket(array.bucket_index(hash)).peek_entry(key, hash)
 }

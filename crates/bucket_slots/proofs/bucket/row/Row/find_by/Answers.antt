@@ -1,0 +1,61 @@
+use Rattle.std.proofs.Common.{arith, rules, refl, sym, ◌≡◌, ◌∙◌, false}
+use Rattle.bucket_slots.specs.Layout.Masks.{IsLeft}
+use Rattle.bucket_slots.specs.Searching.{has_byte, is_wanted}
+use Rattle.bucket_slots.specs.Slots.{free}
+use Rattle.bucket_slots.proofs.Bitmaps.{ones-cleared}
+use Rattle.bucket_slots.proofs.FirstPlaces.{live_occupied}
+use Rattle.bucket_slots.proofs.Masks.{IsLeft-first, IsLeft-next, ones-mask, position-left, position-none_left}
+use Rattle.bucket_slots.proofs.RowMasks.{candidate_live, candidate_wanted, unwanted}
+use Rattle.bucket_slots.proofs.bucket.row.Row.find_by.Goals as goal
+
+pub loop-left-init : goal.loop-left-init
+loop-left-init g c =
+    let want = is_wanted (g.P.KeyProbe.wants c.args.probe.now) c.args.byte in
+    record {
+      left = IsLeft-first (has_byte c.args.byte) (λ slot. want slot ≡ false) free c.args.self.now _ refl (unwanted _ c.args.byte)
+          c.candidates-left.ensures;
+      few = omega (arith, ones-mask (has_byte c.args.byte) c.args.self.now _ c.candidates-left.ensures);
+      fixed = refl;
+    }
+
+pub pair-requires : goal.pair-requires
+pair-requires g c =
+    (search rules, (live_occupied _ (candidate_live c.args.byte _ (c.loop-left.invariant.left.waiting _ c.lowest_bit-pos.ensures.set))).0)
+
+pub returns-then-same-clause-place : goal.returns-then-same-clause-place
+returns-then-same-clause-place g c =
+    let want = is_wanted (g.P.KeyProbe.wants c.args.probe.now) c.args.byte in
+    let left = c.loop-left.invariant.left in
+    let here = left.waiting _ c.lowest_bit-pos.ensures.set in
+    let said = candidate_wanted _ _ c.args.byte _ _ _ _ here c.pair.ensures c.loop-left.invariant.fixed c.same.ensures.answer in
+    sym (position-left (has_byte c.args.byte) want free c.args.self.now _ _ refl left c.lowest_bit-pos.ensures (said ∙ c.if-same.true))
+
+pub returns-then-same-clause-pair : goal.returns-then-same-clause-pair
+returns-then-same-clause-pair g c =
+    (live_occupied _ (candidate_live c.args.byte _ (c.loop-left.invariant.left.waiting _ c.lowest_bit-pos.ensures.set))).1 ∙ c.pair.ensures
+
+pub returns-then-same-clause-few : goal.returns-then-same-clause-few
+returns-then-same-clause-few g c =
+    let fewer = ones-cleared _ _ _ c.without_bit-left.ensures.bits c.lowest_bit-pos.ensures.set in
+    omega (arith, c.same.ensures.counted, c.loop-left.invariant.few)
+
+pub loop-left-preserved : goal.loop-left-preserved
+loop-left-preserved g c =
+    let want = is_wanted (g.P.KeyProbe.wants c.args.probe.now) c.args.byte in
+    let left = c.loop-left.invariant.left in
+    let here = left.waiting _ c.lowest_bit-pos.ensures.set in
+    let said = candidate_wanted _ _ c.args.byte _ _ _ _ here c.pair.ensures c.loop-left.invariant.fixed c.same.ensures.answer in
+    let fewer = ones-cleared _ _ _ c.without_bit-left.ensures.bits c.lowest_bit-pos.ensures.set in
+    record {
+      left = IsLeft-next (has_byte c.args.byte) (λ slot. want slot ≡ false) free c.args.self.now c.args.self.now _ _ _ left
+          c.without_bit-left.ensures.bits (λ i other. refl) (said ∙ c.if-same.false);
+      few = omega (arith, c.same.ensures.counted, c.loop-left.invariant.few);
+      fixed = c.same.ensures.fixed ∙ c.loop-left.invariant.fixed;
+    }
+
+pub returns-clause-place : goal.returns-clause-place
+returns-clause-place g c =
+    let want = is_wanted (g.P.KeyProbe.wants c.args.probe.now) c.args.byte in
+    let left : IsLeft (has_byte c.args.byte) (λ slot. want slot ≡ false) free c.args.self.now c.loop-left.left =
+    c.loop-left.invariant.left in
+    sym (position-none_left (has_byte c.args.byte) want free c.args.self.now (rw c.loop-left-test.false at left))

@@ -1,0 +1,17 @@
+use Rattle.std.proofs.Common.{◌≡◌, ◌+◌, ◌≤◌, false}
+use Rattle.std.specs.List.{count_by}
+use lib.Count.{ones}
+use Rattle.bucket_slots.specs.Layout.Masks.{IsLeft}
+use Rattle.bucket_slots.specs.Searching.{has_byte, is_wanted}
+use Rattle.bucket_slots.specs.Slots.{free}
+use Rattle.bucket_slots.proofs.bucket.row.Row.find_by.Given as goal
+
+abbrev pub invariant-loop-left : goal.invariant-loop-left
+invariant-loop-left g l = record {
+  left : IsLeft (has_byte l.byte) (λ slot. is_wanted (g.P.KeyProbe.wants l.fn.probe) l.byte slot ≡ false) free l.self l.left;
+  few : g.P.KeyProbe.asked l.probe + ones l.left ≤ g.P.KeyProbe.asked l.fn.probe + count_by (has_byte l.byte) l.self;
+  fixed : g.P.KeyProbe.wants l.probe ≡ g.P.KeyProbe.wants l.fn.probe;
+}
+
+abbrev pub decreases-loop-left : goal.decreases-loop-left
+decreases-loop-left g l = l.left

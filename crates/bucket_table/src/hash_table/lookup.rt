@@ -1,0 +1,139 @@
+//! Look-ups: by key, and by a probe in code that knows no equality of keys.
+ghost use Rattle.std.specs.Prelude.{◌≡◌, ◌%◌, ◌+◌, ◌≤◌, true, None, Some, IfSome, IfNone};
+ghost use Rattle.std.specs.Borrow.{Bor};
+ghost use Rattle.bucket_slots.specs.Places.{pair_lent};
+ghost use Rattle.bucket_slots.specs.Searching.{matching_len, pair_wanted};
+ghost use Rattle.bucket_table.specs.ArraysView.{RehashView, old_buckets, pairs_of};
+ghost use Rattle.bucket_table.specs.LookingUp.{
+  AreUnwanted,
+  IsAbsent,
+  IsThere,
+  IsWantedOf,
+  home_bucket,
+  lent_buckets,
+  looked_up_len,
+  pair_looked_up,
+};
+ghost use Rattle.bucket_table.specs.MapState.{KeepsPairs, state_of};
+ghost use Rattle.bucket_table.specs.Relocation.{buckets_of};
+ghost use Rattle.bucket_table.specs.Units.{IsEasyUnit, IsUnitReady, KeepsBag, WorksUnit};
+
+use crate::hash_table::HashTable;
+use crate::key_hash::KeyHash;
+use bucket_slots::bucket::{EqProbe, KeyProbe};
+use bucket_slots::bucket_array::BucketArray;
+use bucket_slots::lru::LruList;
+
+impl<K: Eq, V, H: KeyHash<K>, L: LruList, const TYPE: u8> HashTable<K, V, H, L, TYPE> {
+    /// Returns the pair whose key is equal; `None` where the map has none.
+    ///
+    /// Moves nothing, and takes no memory. O(blocks in two chains). scc: `HashTable::peek_entry`.
+    #[inline(always)]
+    pub fn peek_entry(&self, key: &K) -> Option<(&K, &V)>
+        ensures found { IfSome result
+            (λ pair. IsThere K.eq key.now (pairs_of self.now.arrays) (pair.0.now, pair.1.now)) }
+        ensures absent { IfNone result (IsAbsent K.eq key.now (pairs_of self.now.arrays)) }
+    {
+        self.peek_entry_by(self.hasher.hash_one(key), &mut EqProbe::new(key))
+    }
+
+    /// Returns a pair whose key the probe wants; `None` where the map has none. The probe wants
+    /// keys of this hash alone.
+    ///
+    /// Asks at most once for each live slot of the hash's two homes with its low byte. Moves
+    /// nothing, and takes no memory. O(blocks in two chains). Own.
+    #[inline(always)]
+    pub fn peek_entry_by<P: KeyProbe<K>>(&self, hash: u64, probe: &mut P) -> Option<(&K, &V)>
+        requires own_hash { (key : K)
+            → P.wants probe.old key ≡ true
+            → H.hash_of self.now.hasher key ≡ hash }
+        ensures found { IfSome result (λ pair.
+            IsWantedOf (P.wants probe.old) (pairs_of self.now.arrays) (pair.0.now, pair.1.now)) }
+        ensures absent { IfNone result (AreUnwanted (P.wants probe.old) (pairs_of self.now.arrays)) }
+        ensures few { P.asked probe.new ≤ P.asked probe.old
+            + looked_up_len hash
+            (old_buckets self.now.arrays.rehash) (buckets_of self.now.arrays.current) }
+        ensures fixed { P.wants probe.new ≡ P.wants probe.old }
+    {
+        self.arrays.peek_by(hash, probe)
+    }
+}
+
+impl<K: Eq + Drop, V: Drop, H: KeyHash<K>, L: LruList + Drop, const TYPE: u8> HashTable<
+    K,
+    V,
+    H,
+    L,
+    TYPE,
+> {
+    /// Returns what a function answers on the pair whose key is equal; `None` where the map has
+    /// none.
+    pub fn reader_sync<R, F: FnOnce(&K, &V) -> R>(&mut self, key: &K, reader: F) -> Option<R>
+        requires callable { (own : Bor K) (value : Bor V) → F.pre reader own value }
+        ensures found { IfSome result (λ answer. (own : Bor K) × (value : Bor V)
+            × IsThere K.eq key.now (pairs_of self.new.arrays) (own.now, value.now)
+            × F.post reader own value answer) }
+        ensures absent { IfNone result (IsAbsent K.eq key.now (pairs_of self.new.arrays)) }
+        ensures map { KeepsPairs (state_of TYPE self.old) (state_of TYPE self.new) }
+        ensures bag { KeepsBag self.old.arrays.rehash self.new.arrays.rehash }
+        ensures unit { (was : RehashView K V)
+            → (self.old.arrays.rehash ≡ Some was)
+            → IsUnitReady was
+            → IsEasyUnit was.tickets.position self.old.arrays was
+            → WorksUnit was self.new.arrays.rehash }
+        ensures alone { self.old.arrays.rehash ≡ None → self.new ≡ self.old }
+    {
+        let hash = self.hasher.hash_one(key);
+        let _ = self.prepare(hash);
+        match self.peek_entry(key) {
+            Some((own, value)) => Some(reader(own, value)),
+            None => None,
+        }
+    }
+}
+
+/// Returns the first wanted pair of the home of a hash in the old array, else of its home in the
+/// current one; `None` where neither has one.
+///
+/// Asks at most once for each live slot of the two homes with the hash's low byte. Takes no memory.
+/// O(blocks in two chains). Own.
+#[inline(always)]
+pub fn peek_arrays<'a, K, V, L: LruList, const TYPE: u8, P: KeyProbe<K>>(
+    old: Option<&'a BucketArray<K, V, L, TYPE>>,
+    current: &'a BucketArray<K, V, L, TYPE>,
+    hash: u64,
+    probe: &mut P,
+) -> Option<(&'a K, &'a V)>
+    ensures first { pair_lent result
+        ≡ pair_looked_up (P.wants probe.old) hash (lent_buckets old.entry) current.now }
+    ensures few { P.asked probe.new ≤ P.asked probe.old
+        + looked_up_len hash (lent_buckets old.entry) current.now }
+    ensures fixed { P.wants probe.new ≡ P.wants probe.old }
+{
+    let Some(array) = old else {
+        return peek_home(current, hash, probe);
+    };
+    match peek_home(array, hash, probe) {
+        Some((key, value)) => Some((key, value)),
+        None => peek_home(current, hash, probe),
+    }
+}
+
+/// Returns the first wanted pair of the home of a hash.
+#[inline(always)]
+fn peek_home<'a, K, V, L: LruList, const TYPE: u8, P: KeyProbe<K>>(
+    array: &'a BucketArray<K, V, L, TYPE>,
+    hash: u64,
+    probe: &mut P,
+) -> Option<(&'a K, &'a V)>
+    ensures pair { pair_lent result
+        ≡ pair_wanted (P.wants probe.old) (hash % 256) (home_bucket hash array.now) }
+    ensures few { P.asked probe.new ≤ P.asked probe.old
+        + matching_len (hash % 256) (home_bucket hash array.now) }
+    ensures fixed { P.wants probe.new ≡ P.wants probe.old }
+{
+    array.room();
+    array
+        .bucket(array.bucket_index(hash))
+        .peek_entry_by(hash, probe)
+}
