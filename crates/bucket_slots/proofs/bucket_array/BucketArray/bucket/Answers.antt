@@ -1,11 +1,7 @@
 use Rattle.std.proofs.Common.{arith, ◌<◌, ap, get_or, length, ◌∙◌}
-use Rattle.std.proofs.lemmas.Grind.{common_steps}
 use Rattle.std.proofs.lemmas.List.{get_or_read}
 use Rattle.bucket_slots.specs.BucketView.{empty_bucket}
 use Rattle.bucket_slots.proofs.bucket_array.BucketArray.bucket.Goals as goal
-
-pub index-requires : goal.index-requires
-index-requires g c = grind (arith, common_steps)
 
 pub returns : goal.returns
 returns g c =

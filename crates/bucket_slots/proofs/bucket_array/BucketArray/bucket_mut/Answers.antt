@@ -1,14 +1,7 @@
 use Rattle.std.proofs.Common.{arith, ◌<◌, refl, ap, get_or, set, length, ◌∙◌}
-use Rattle.std.proofs.lemmas.Grind.{common_steps}
 use Rattle.std.proofs.lemmas.List.{get_or_read}
 use Rattle.bucket_slots.specs.BucketView.{empty_bucket}
 use Rattle.bucket_slots.proofs.bucket_array.BucketArray.bucket_mut.Goals as goal
-
-pub index_mut-requires : goal.index_mut-requires
-index_mut-requires g c = grind (arith, common_steps)
-
-pub invariant_of-self-lent : goal.invariant_of-self-lent
-invariant_of-self-lent g c = grind (arith, common_steps)
 
 pub returns : goal.returns
 returns g c =
