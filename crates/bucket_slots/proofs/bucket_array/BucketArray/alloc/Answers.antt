@@ -1,21 +1,11 @@
 use Rattle.std.proofs.Common.{◌≡◌, ◌<◌, ◌-◌, ◌^◌, ℕ, ◌∷◌, ◌++◌, [], ap, sym, subst, ◌∙◌, arith, length, replicate}
 use Rattle.std.proofs.lemmas.List.{length-replicate, replicate_more}
-use Rattle.std.proofs.lemmas.Grind.{common_steps}
 use Rattle.bucket_slots.specs.BucketView.{empty_bucket}
 use Rattle.bucket_slots.specs.Sampling.{IsLargeSample}
 use Rattle.bucket_slots.specs.Sizing.{IsLengthFor}
 use Rattle.bucket_slots.proofs.PowersOfTwo.{exponent_lt, log_is}
 use Rattle.bucket_slots.proofs.Sampled.{large_fits}
 use Rattle.bucket_slots.proofs.bucket_array.BucketArray.alloc.Goals as goal
-
-pub new-requires : goal.new-requires
-new-requires g c = grind (arith, common_steps)
-
-pub array_drop-requires : goal.array_drop-requires
-array_drop-requires g c = grind (arith, common_steps)
-
-pub unreachable-requires : goal.unreachable-requires
-unreachable-requires g c = grind (arith, common_steps)
 
 pub loop-i-preserved : goal.loop-i-preserved
 loop-i-preserved g c =

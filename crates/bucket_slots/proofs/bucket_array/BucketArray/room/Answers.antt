@@ -1,6 +1,5 @@
 use Rattle.std.proofs.Common.{arith, ◌<◌, ◌*◌, ◌^◌, ℕ, length}
 use Rattle.std.proofs.Math.Nat.{mul-le-mul_right}
-use Rattle.std.proofs.lemmas.Grind.{common_steps}
 use Rattle.bucket_slots.proofs.bucket_array.BucketArray.room.Goals as goal
 
 one_below : (n size : ℕ) → 0 < n → n * size < 2 ^ 63 → size < 2 ^ 63
@@ -10,6 +9,3 @@ pub returns-clause-fits : goal.returns-clause-fits
 returns-clause-fits g c =
     let some : 0 < length c.as_slice.result.now = rw c.as_slice.ensures.value (omega (arith, c.self.invariant.several)) in
     one_below _ _ some c.as_slice.type_inv.1
-
-pub returns-clause-length : goal.returns-clause-length
-returns-clause-length g c = grind (arith, common_steps)
