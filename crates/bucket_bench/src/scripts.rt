@@ -17,7 +17,7 @@ pub(crate) type Cache = HashTable<u64, u64, ScriptHash, DoublyLinkedList, CACHE>
 
 /// Does the calls, and returns what each cost. A reply of absence is an error, so that no time is
 /// that of a call that did nothing.
-pub(crate) fn script_cost<L: LruList, const TYPE: u8>(
+pub(crate) fn script_cost<L: LruList + Drop, const TYPE: u8>(
     clock: &impl Clock,
     alloc: Global,
     table: &mut HashTable<u64, u64, ScriptHash, L, TYPE>,

@@ -36,6 +36,10 @@ use crate::key_hash::KeyHash;
 use crate::tickets::TicketError;
 use bucket_slots::bucket::{AllocError, BUCKET_LEN};
 use bucket_slots::lru::LruList;
+pub use capacity::{
+    from_index_to_range, num_entries_from_hint, ranges_part_the_indices,
+    table_capacity_from_num_entries,
+};
 pub use locked_bucket::LockedBucket;
 pub use lookup::peek_arrays;
 use std::alloc::Global;

@@ -117,6 +117,9 @@ impl Course {
             Call::Touch(_) | Call::Evict(_) => Reply::WrongKind,
             Call::Count => Reply::Number(self.map.len()),
             Call::Has => Reply::Truth(!self.map.is_empty()),
+
+            // The course makes no such call.
+            Call::Reserve(_) | Call::Start | Call::Work(_) | Call::End(..) => Reply::Refused,
         })
     }
 

@@ -47,7 +47,7 @@ pub(crate) fn new_table<L: LruList, const TYPE: u8>(
 }
 
 /// Runs the calls as one script, and compares each reply with the one beside its call.
-pub(crate) fn check_replies<L: LruList, G: Generation, const TYPE: u8>(
+pub(crate) fn check_replies<L: LruList + Drop, G: Generation, const TYPE: u8>(
     rt: &impl Abort,
     alloc: Global,
     table: &mut Table<L, TYPE>,
@@ -68,7 +68,7 @@ pub(crate) fn check_replies<L: LruList, G: Generation, const TYPE: u8>(
 }
 
 // Puts the keys of a story, runs its scripts, and looks for the values that it wants then.
-fn play<L: LruList, const TYPE: u8>(
+fn play<L: LruList + Drop, const TYPE: u8>(
     rt: &impl Abort,
     alloc: Global,
     table: &mut Table<L, TYPE>,
