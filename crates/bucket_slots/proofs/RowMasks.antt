@@ -86,6 +86,12 @@ module _ {K V : Type 0} where
       let here : pair ≡ (key, value) = cc in rw (matches, here, ← same) (sym answer)
   candidate_wanted wants now byte (marked pair own) key value said matches read same answer = cc
 
+  -- a slot that is no candidate isn't wanted
+  pub unwanted : (test : K → Bool) (byte : ℕ) (slot : Slot K V) → has_byte byte slot ≡ false → is_wanted test byte slot ≡ false
+  unwanted test byte free other = refl
+  unwanted test byte (live pair own) other = rw other refl
+  unwanted test byte (marked pair own) other = refl
+
 module _ {K V : Type 0} (keeps : ℕ → Bool) where
   -- a slot that is freed where it is expired isn't expired then, nor is one without a mark
   freed_once : (slot : Slot K V) → slot_without_expired keeps (slot_without_expired keeps slot) ≡ slot_without_expired keeps slot
