@@ -1,10 +1,9 @@
 //! Evictions from one bucket of a cache: from own slots alone, in the order of the touches.
 use crate::checks::check_same;
 use crate::steps::Step::*;
-use crate::steps::{Step, Story, stories};
+use crate::steps::{Story, stories};
 use bucket_slots::bucket::CACHE;
 use bucket_slots::lru::DoublyLinkedList;
-use std::alloc::Global;
 use std::process::Abort;
 use std::test::Fail;
 
@@ -23,7 +22,8 @@ const EVICTIONS: &[Story] = stories! {
 #[test]
 fn buckets_of_a_cache_go_through_the_stories(rt: HostRuntime) -> Result<(), Fail> {
     for story in EVICTIONS {
-        Stage::new(rt.alloc()).tell(&rt, story)?;
+        let mut stage = Stage::new(rt.alloc());
+        stage.tell(&rt, story)?;
     }
     Ok(())
 }
@@ -32,16 +32,18 @@ fn buckets_of_a_cache_go_through_the_stories(rt: HostRuntime) -> Result<(), Fail
 #[test]
 fn untouched_pairs_are_evicted_at_slot_zero(rt: HostRuntime) -> Result<(), Fail> {
     let mut stage = Stage::new(rt.alloc());
-    stage.play(&rt, "each key its own value", &[Values(1, 0)])?;
+    stage.change(&rt, ("each key its own value", 0), Values(1, 0));
     let mut in_slot_zero = 0;
     for key in 0..64u64 {
+        let row = ("one more untouched pair", key as usize);
         let (goes, left, slot) = if key < 32 {
             (None, key as usize, key as usize)
         } else {
             (Some(in_slot_zero), 31, 0)
         };
-        let steps = [Evict(goes), Len(left), Put(key, (0, slot))];
-        stage.play(&rt, "one more untouched pair", &steps)?;
+        stage.change(&rt, row, Evict(goes));
+        stage.change(&rt, row, Len(left));
+        stage.step(&rt, row, Put(key, (0, slot)))?;
         if key >= 32 {
             in_slot_zero = key;
         }
@@ -73,59 +75,81 @@ fn a_bucket_that_is_empty_again_evicts_as_a_new_one(rt: HostRuntime) -> Result<(
 }
 
 // Every number of pairs up to twice the own slots: each is touched as it comes, and once the own
-// slots are full, so is the pair of one slot again.
+// slots are full, so is the pair of one slot again. Beside a plain list of the keys, the newest
+// first.
 #[test]
 fn touched_pairs_are_evicted_in_the_order_of_their_touches(rt: HostRuntime) -> Result<(), Fail> {
     for pairs in 0..64 {
-        check_touched(&rt, rt.alloc(), pairs)?;
+        let mut stage = Stage::new(rt.alloc());
+        let mut plain = Vec::new(rt.alloc());
+        touch_all(&rt, &mut stage, &mut plain, pairs)?;
     }
     Ok(())
 }
 
-// Beside a plain list of the keys, the newest first.
-fn check_touched(rt: &impl Abort, alloc: Global, pairs: u64) -> Result<(), Fail> {
-    let mut stage = Stage::new(alloc);
-    let mut plain = Vec::new(alloc);
-    stage.play(rt, "each key its own value", &[Values(1, 0)])?;
+fn touch_all(
+    rt: &impl Abort,
+    stage: &mut Stage,
+    plain: &mut Vec<u64>,
+    pairs: u64,
+) -> Result<(), Fail> {
+    stage.change(rt, ("each key its own value", 0), Values(1, 0));
     for key in 0..pairs {
+        let row = ("one more touched pair", key as usize);
         let oldest = if key < 32 { None } else { plain.pop() };
-        stage.play(
-            rt,
-            "one more touched pair",
-            &[Evict(oldest), Use(key, key.wrapping_add(1))],
-        )?;
+        stage.change(rt, row, Evict(oldest));
+        stage.step(rt, row, Use(key, key.wrapping_add(1)))?;
         plain.insert(0, key)?;
         if key >= 32 {
             let Some(again) = stage.key_in((pairs % 32) as usize) else {
                 return Err("a free own slot".into());
             };
-            stage.play(rt, "one more touch", &[Touch(again, true)])?;
+            stage.change(rt, row, Touch(again, true));
             plain.retain(|other| *other != again);
             plain.insert(0, again)?;
         }
     }
     if pairs < 32 {
-        return stage.play(rt, "a free own slot", &[Evict(None)]);
+        stage.change(rt, ("a free own slot", 0), Evict(None));
+        return Ok(());
     }
     check_same(rt, plain.len(), 32, pairs);
-    check_evictions(rt, &mut stage, &plain)
+    for oldest in plain.iter().rev() {
+        replace(rt, stage, *oldest)?;
+    }
+    check_slot_zero(rt, stage);
+    Ok(())
 }
 
-// Every number of touched pairs, from which the first ones are removed in turn.
+// Evicts a key from a bucket whose own slots are full. An untouched pair takes its place.
+fn replace(rt: &impl Abort, stage: &mut Stage, oldest: u64) -> Result<(), Fail> {
+    let row = ("the oldest goes", oldest as usize);
+    let comes = oldest.wrapping_add(1000);
+    stage.change(rt, row, Evict(Some(oldest)));
+    stage.step(rt, row, Fill(comes, comes.wrapping_add(1)))
+}
+
+// Evicts the key in slot 0 from full own slots, since no pair is listed any more.
+fn check_slot_zero(rt: &impl Abort, stage: &mut Stage) {
+    let in_slot_zero = stage.key_in(0);
+    check_same(rt, in_slot_zero.is_some(), true, "slot 0");
+    stage.change(rt, ("nothing is listed", 0), Evict(in_slot_zero));
+}
+
+// Every number of touched pairs, from which the first ones are removed in turn: the bucket is
+// filled with untouched pairs, and evicts what was touched and is still there, in turn.
 #[test]
 fn a_removed_pair_leaves_the_others_in_their_order(rt: HostRuntime) -> Result<(), Fail> {
     for touched in 0..33u64 {
         for gone in 0..touched + 1 {
-            check_rest(&rt, rt.alloc(), touched, gone)?;
+            let mut stage = Stage::new(rt.alloc());
+            check_rest(&rt, &mut stage, touched, gone)?;
         }
     }
     Ok(())
 }
 
-// Removes the keys below `gone`, fills the bucket with untouched pairs, and evicts what was
-// touched and is still there: the keys from `gone` on, in turn.
-fn check_rest(rt: &impl Abort, alloc: Global, touched: u64, gone: u64) -> Result<(), Fail> {
-    let mut stage = Stage::new(alloc);
+fn check_rest(rt: &impl Abort, stage: &mut Stage, touched: u64, gone: u64) -> Result<(), Fail> {
     let end = gone.wrapping_add(132).wrapping_sub(touched);
     let steps = [
         Values(1, 0),
@@ -135,22 +159,9 @@ fn check_rest(rt: &impl Abort, alloc: Global, touched: u64, gone: u64) -> Result
         Len(32),
     ];
     stage.play(rt, "touched pairs go", &steps)?;
-    let mut newest_first = Vec::new(alloc);
-    for key in gone..touched {
-        newest_first.insert(0, key)?;
+    for oldest in gone..touched {
+        replace(rt, stage, oldest)?;
     }
-    check_evictions(rt, &mut stage, &newest_first)
-}
-
-// Evicts from a bucket whose own slots are full: the keys from the last on, and then, since no
-// pair is listed any more, that of slot 0. An untouched pair takes each place.
-fn check_evictions(rt: &impl Abort, stage: &mut Stage, newest_first: &[u64]) -> Result<(), Fail> {
-    for key in newest_first.iter().rev() {
-        let comes = key.wrapping_add(1000);
-        let steps = [Evict(Some(*key)), Fill(comes, comes.wrapping_add(1))];
-        stage.play(rt, "the oldest goes", &steps)?;
-    }
-    let in_slot_zero = stage.key_in(0);
-    check_same(rt, in_slot_zero.is_some(), true, "slot 0");
-    stage.play(rt, "nothing is listed", &[Evict(in_slot_zero)])
+    check_slot_zero(rt, stage);
+    Ok(())
 }

@@ -8,7 +8,7 @@ use std::string::String;
 use std::test::Fail;
 
 /// A call on a row, with its answer.
-#[derive(Clone, Copy, Debug, PartialEq)]
+#[derive(Clone, Copy)]
 enum Act {
     /// What stands at a place, in the row or past its end.
     See(usize, Option<(u64, u64)>),
@@ -58,46 +58,61 @@ fn a_row_keeps_lends_and_gives_back(rt: HostRuntime) {
 // Makes the calls one after another, and compares each answer.
 fn play<const LEN: usize>(rt: &impl Abort, block: &mut DataBlock<u64, u64, LEN>, acts: &[Act]) {
     for (row, act) in acts.iter().enumerate() {
-        let found = answered(block, *act);
-        check_same(rt, found, *act, (LEN, row));
+        check_act(rt, block, row, *act);
     }
 }
 
-// Makes a call, and returns it with the answer that was found.
-fn answered<const LEN: usize>(block: &mut DataBlock<u64, u64, LEN>, act: Act) -> Act {
+// Makes a call, and compares its answer.
+fn check_act<const LEN: usize>(
+    rt: &impl Abort,
+    block: &mut DataBlock<u64, u64, LEN>,
+    row: usize,
+    act: Act,
+) {
     match act {
-        See(pos, _) => match (block.key(pos), block.val(pos)) {
-            (Some(key), Some(value)) => See(pos, Some((*key, *value))),
-            (None, None) => See(pos, None),
-            _ => LetGo(pos, false),
-        },
-        Fill(pos, pair, _) => {
+        See(pos, pair) => {
+            let wanted = match pair {
+                Some((key, value)) => (Some(key), Some(value)),
+                None => (None, None),
+            };
+            let found = (block.key(pos).copied(), block.val(pos).copied());
+            check_same(rt, found, wanted, (LEN, row, "see"));
+        }
+        Fill(pos, pair, wanted) => {
             let fills = pos < LEN && block.key(pos).is_none();
             if fills {
                 block.write(pos, pair.0, pair.1);
             }
-            Fill(pos, pair, fills)
+            check_same(rt, fills, wanted, (LEN, row, "fill"));
         }
-        SetValue(pos, value, _) => {
+        SetValue(pos, value, wanted) => {
             let earlier = match block.val_mut(pos) {
                 Some(lent) => Some(mem::replace(lent, value)),
                 None => None,
             };
-            SetValue(pos, value, earlier)
+            check_same(rt, earlier, wanted, (LEN, row, "set value"));
         }
-        SetPair(pos, value, _) => {
+        SetPair(pos, value, wanted) => {
             let earlier = match block.pair_mut(pos) {
                 Some((key, lent)) => Some((*key, mem::replace(lent, value))),
                 None => None,
             };
-            SetPair(pos, value, earlier)
+            check_same(rt, earlier, wanted, (LEN, row, "set pair"));
         }
-        Take(pos, _) if block.key(pos).is_none() => Take(pos, None),
-        Take(pos, _) => Take(pos, Some(block.read(pos))),
-        LetGo(pos, _) if block.key(pos).is_none() => LetGo(pos, false),
-        LetGo(pos, _) => {
-            block.drop_in_place(pos);
-            LetGo(pos, true)
+        Take(pos, wanted) => {
+            let taken = if block.key(pos).is_none() {
+                None
+            } else {
+                Some(block.read(pos))
+            };
+            check_same(rt, taken, wanted, (LEN, row, "take"));
+        }
+        LetGo(pos, wanted) => {
+            let there = block.key(pos).is_some();
+            if there {
+                block.drop_in_place(pos);
+            }
+            check_same(rt, there, wanted, (LEN, row, "let go"));
         }
     }
 }

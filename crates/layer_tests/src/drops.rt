@@ -2,29 +2,16 @@
 //! clearing lets it go, or with its bucket or its array.
 use crate::by_key::{kill_empty, mark_key, move_key, remove_at};
 use crate::checks::check_same;
-use crate::steps::{Answers, Kept};
+use crate::steps::{Answers, Kept, stories};
+use Act::*;
 use bucket_slots::bucket::{Bucket, INDEX, MAP};
 use bucket_slots::bucket_array::BucketArray;
-use std::alloc::Global;
 use std::process::Abort;
 use std::rc::Rc;
 use std::test::Fail;
 
 /// A bucket of values that are counted.
 type Counted<const TYPE: u8> = Bucket<u64, Rc<i32>, (), TYPE>;
-
-// Keys from 0 on, each with a clone of the value.
-fn filled<const TYPE: u8>(
-    alloc: Global,
-    counted: &Rc<i32>,
-    keys: u64,
-) -> Result<Counted<TYPE>, Fail> {
-    let mut bucket = Counted::<TYPE>::new(alloc);
-    for key in 0..keys {
-        insert_clone(&mut bucket, key, counted, Kept::All)?;
-    }
-    Ok(bucket)
-}
 
 // Inserts a clone of the value under hash 0.
 fn insert_clone<const TYPE: u8>(
@@ -43,25 +30,153 @@ fn check_count(rt: &impl Abort, counted: &Rc<i32>, count: usize) {
     check_same(rt, Rc::strong_count(counted), count, "clones");
 }
 
-// Marks the pairs of these keys, which are there.
-fn mark_keys(rt: &impl Abort, bucket: &mut Counted<INDEX>, keys: &[u64]) {
-    for key in keys {
-        check_same(rt, mark_key(bucket, *key, 0, &()), true, *key);
+/// What becomes of a bucket, and what is so then.
+#[derive(Clone, Copy)]
+enum Act {
+    /// A key comes, with a clone and by a test of the marks.
+    Put(u64, Kept),
+    /// The pairs of these keys go.
+    Take(&'static [u64]),
+    /// The pairs of these keys are marked.
+    Mark(&'static [u64]),
+    /// The pairs of keys are marked one after another, and the bucket isn't killed before.
+    MarkUp(u64, u64),
+    /// A clearing by a test of the marks.
+    Clear(Kept),
+    /// The bucket has no live pair and is killed, then finds nothing, and is killed no second time.
+    Kill,
+    /// The value and its clones are this many.
+    Count(usize),
+    /// So many pairs are live.
+    Len(usize),
+    /// An own slot has a value, live or marked.
+    Own(usize),
+}
+
+/// A name, how many keys from 0 on the bucket has at the start, and what happens then.
+type Story = (&'static str, u64, &'static [Act]);
+
+const OF_MAPS: &[Story] = stories! {
+    "each value is dropped once with its bucket", 41:
+        Count(42), Take(&[4, 39, 40]), Count(39);
+};
+
+const OF_INDEXES: &[Story] = stories! {
+    // Two in own slots go and two in the chain.
+    "a clearing drops what it lets go", 37:
+        Count(38), Mark(&[0, 31, 32, 36]), Count(38), Clear(Kept::All), Count(38),
+        Clear(Kept::None), Count(34), Clear(Kept::None), Count(34);
+    // One pair comes and none goes; then one comes and four go, those in the chain among them.
+    "an insertion that clears drops what it lets go", 37:
+        Mark(&[3, 4, 33, 36]), Put(40, Kept::All), Count(39), Put(41, Kept::None), Count(36),
+        Len(35);
+    "marked pairs go with their bucket", 41:
+        Mark(&[0, 7, 32, 39, 40]), Count(42), Len(36);
+    // A bucket with live pairs stays. One of marked pairs alone is killed.
+    "a killed bucket of an index keeps its marked pairs", 41:
+        MarkUp(0, 41), Kill, Count(42), Own(31);
+};
+
+#[test]
+fn each_value_is_dropped_once(rt: HostRuntime) -> Result<(), Fail> {
+    let counted = Rc::new(rt.alloc(), 0)?;
+    for story in OF_MAPS {
+        let mut bucket = Counted::<MAP>::new(rt.alloc());
+        play(&rt, &mut bucket, &counted, story)?;
+        drop(bucket);
+        check_count(&rt, &counted, 1);
+    }
+    for story in OF_INDEXES {
+        let mut bucket = Counted::<INDEX>::new(rt.alloc());
+        play(&rt, &mut bucket, &counted, story)?;
+        drop(bucket);
+        check_count(&rt, &counted, 1);
+    }
+    Ok(())
+}
+
+// Plays a story, after its keys have come.
+fn play<const TYPE: u8>(
+    rt: &impl Abort,
+    bucket: &mut Counted<TYPE>,
+    counted: &Rc<i32>,
+    (story, keys, acts): &Story,
+) -> Result<(), Fail> {
+    for key in 0..*keys {
+        insert_clone(bucket, key, counted, Kept::All)?;
+    }
+    for (row, act) in acts.iter().enumerate() {
+        match *act {
+            Put(key, kept) => insert_clone(bucket, key, counted, kept)?,
+            Count(count) => {
+                check_same(
+                    rt,
+                    Rc::strong_count(counted),
+                    count,
+                    ((*story, row), "count"),
+                );
+            }
+            _ => change(rt, bucket, (story, row), *act),
+        }
+    }
+    Ok(())
+}
+
+// Does what asks for no memory, and compares what is so.
+fn change<const TYPE: u8>(
+    rt: &impl Abort,
+    bucket: &mut Counted<TYPE>,
+    row: (&str, usize),
+    act: Act,
+) {
+    match act {
+        Take(keys) => {
+            for key in keys {
+                check_same(rt, take(bucket, *key), true, (row, "take", *key));
+            }
+        }
+        Mark(keys) => {
+            for key in keys {
+                check_same(rt, mark(bucket, *key), true, (row, "mark", *key));
+            }
+        }
+        MarkUp(from, to) => {
+            for key in from..to {
+                let done = (kill_empty(bucket), mark(bucket, key));
+                check_same(rt, done, (false, true), (row, "mark up", key));
+            }
+        }
+        Clear(kept) => {
+            let clears = clear(bucket, kept);
+            check_same(rt, clears, true, (row, "clear"));
+        }
+        Kill => check_kill(rt, bucket),
+        Len(len) => check_same(rt, bucket.len(), len, (row, "len")),
+        Own(slot) => {
+            let there = bucket.data_block().val(slot).is_some();
+            check_same(rt, there, true, (row, "own"));
+        }
+        _ => check_same(rt, true, false, (row, "no act")),
     }
 }
 
-#[test]
-fn each_value_is_dropped_once_with_its_bucket(rt: HostRuntime) -> Result<(), Fail> {
-    let counted = Rc::new(rt.alloc(), 0)?;
-    let mut bucket = filled::<MAP>(rt.alloc(), &counted, 41)?;
-    check_count(&rt, &counted, 42);
-    for key in [4, 39, 40] {
-        check_same(&rt, remove_at(&mut bucket, key, 0).is_some(), true, key);
+// Takes the pair of a key out of a bucket of another kind than an index, and drops it.
+fn take<const TYPE: u8>(bucket: &mut Counted<TYPE>, key: u64) -> bool {
+    TYPE != INDEX && remove_at(bucket, key, 0).is_some()
+}
+
+// Marks the pair of a key in a bucket of an index.
+fn mark<const TYPE: u8>(bucket: &mut Counted<TYPE>, key: u64) -> bool {
+    TYPE == INDEX && mark_key(bucket, key, 0, &())
+}
+
+// Clears a bucket of an index.
+fn clear<const TYPE: u8>(bucket: &mut Counted<TYPE>, kept: Kept) -> bool {
+    if TYPE != INDEX {
+        return false;
     }
-    check_count(&rt, &counted, 39);
-    drop(bucket);
-    check_count(&rt, &counted, 1);
-    Ok(())
+    bucket.clear_unreachable_entries(&Answers::new(0, kept));
+    true
 }
 
 #[test]
@@ -124,70 +239,6 @@ fn pairs_still_held_are_dropped_with_the_array(rt: HostRuntime) -> Result<(), Fa
     }
     check_count(&rt, &counted, 41);
     drop(array);
-    check_count(&rt, &counted, 1);
-    Ok(())
-}
-
-#[test]
-fn a_clearing_drops_what_it_lets_go(rt: HostRuntime) -> Result<(), Fail> {
-    let counted = Rc::new(rt.alloc(), 0)?;
-    let mut bucket = filled::<INDEX>(rt.alloc(), &counted, 37)?;
-    check_count(&rt, &counted, 38);
-    mark_keys(&rt, &mut bucket, &[0, 31, 32, 36]);
-    check_count(&rt, &counted, 38);
-    // Two in own slots go and two in the chain.
-    for (kept, shares) in [(Kept::All, 38), (Kept::None, 34), (Kept::None, 34)] {
-        bucket.clear_unreachable_entries(&Answers::new(0, kept));
-        check_count(&rt, &counted, shares);
-    }
-    drop(bucket);
-    check_count(&rt, &counted, 1);
-    Ok(())
-}
-
-#[test]
-fn an_insertion_that_clears_drops_what_it_lets_go(rt: HostRuntime) -> Result<(), Fail> {
-    let counted = Rc::new(rt.alloc(), 0)?;
-    let mut bucket = filled::<INDEX>(rt.alloc(), &counted, 37)?;
-    // Two in own slots and two in the chain.
-    mark_keys(&rt, &mut bucket, &[3, 4, 33, 36]);
-    // One pair comes and none goes.
-    insert_clone(&mut bucket, 40, &counted, Kept::All)?;
-    check_count(&rt, &counted, 39);
-    // One comes and the four go, those in the chain among them.
-    insert_clone(&mut bucket, 41, &counted, Kept::None)?;
-    check_count(&rt, &counted, 36);
-    check_same(&rt, bucket.len(), 35, "pairs");
-    drop(bucket);
-    check_count(&rt, &counted, 1);
-    Ok(())
-}
-
-#[test]
-fn marked_pairs_go_with_their_bucket(rt: HostRuntime) -> Result<(), Fail> {
-    let counted = Rc::new(rt.alloc(), 0)?;
-    let mut bucket = filled::<INDEX>(rt.alloc(), &counted, 41)?;
-    mark_keys(&rt, &mut bucket, &[0, 7, 32, 39, 40]);
-    check_count(&rt, &counted, 42);
-    check_same(&rt, bucket.len(), 36, "pairs");
-    drop(bucket);
-    check_count(&rt, &counted, 1);
-    Ok(())
-}
-
-#[test]
-fn a_killed_index_bucket_keeps_its_marked_pairs(rt: HostRuntime) -> Result<(), Fail> {
-    let counted = Rc::new(rt.alloc(), 0)?;
-    let mut bucket = filled::<INDEX>(rt.alloc(), &counted, 41)?;
-    // A bucket with live pairs stays. One of marked pairs alone is killed, and no second time.
-    for key in 0..41 {
-        check_same(&rt, kill_empty(&mut bucket), false, key);
-        mark_keys(&rt, &mut bucket, &[key]);
-    }
-    check_kill(&rt, &mut bucket);
-    check_count(&rt, &counted, 42);
-    check_same(&rt, bucket.data_block().val(31).is_some(), true, 31);
-    drop(bucket);
     check_count(&rt, &counted, 1);
     Ok(())
 }

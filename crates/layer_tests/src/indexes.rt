@@ -3,7 +3,6 @@
 use crate::steps::Step::*;
 use crate::steps::{Kept, Step, Story, steps, stories};
 use bucket_slots::bucket::INDEX;
-use std::alloc::Global;
 use std::process::Abort;
 use std::test::Fail;
 
@@ -124,7 +123,7 @@ const CLEARINGS: &[Story] = stories! {
 const SEARCHES: &[Story] = stories! {
     // 263 has the low byte 7, and so has the mark.
     "a key that comes again is found behind its mark", 0:
-        Under(263, 0), Fill(0, 3), Now(7, Kept::All), Marks(&[0]), Find(0, None), Values(0, 99),
+        Under(7, 0), Fill(0, 3), Under(263, 0), Now(7, Kept::All), Marks(&[0]), Find(0, None), Values(0, 99),
         Put(0, (0, 3)), Holds(0, 1), Len(3), Own(3, Some(0)), Values(10, 0), Own(0, Some(0));
     "a bucket of marks alone finds and walks nothing", 37:
         MarkUp(0, 37, 0), Len(0), Lacks(0, 37), Next(None, (0, 32));
@@ -133,7 +132,7 @@ const SEARCHES: &[Story] = stories! {
 // On a bucket whose hashes have the low byte 7. The chain is [40], [36 to 39], [32 to 35], and the
 // only pair of its head is marked.
 const SEVEN_MARKED: &[Step] = steps! {
-    Marks(&[0, 5, 31, 32, 35, 38, 40]), Len(34), Lacks(0, 1), Holds(1, 5), Lacks(5, 6),
+    Fill(0, 41), Marks(&[0, 5, 31, 32, 35, 38, 40]), Len(34), Lacks(0, 1), Holds(1, 5), Lacks(5, 6),
     Holds(6, 31), Lacks(31, 33), Holds(33, 35), Lacks(35, 36), Holds(36, 38), Lacks(38, 39),
     Holds(39, 40), Lacks(40, 41), WalkUp(1, 5), WalkUp(6, 31), Walk(&[36, 37, 39, 33, 34]),
     Next(None, (0, 32)), Next(Some(1), (0, 1))
@@ -143,7 +142,8 @@ const SEVEN_MARKED: &[Step] = steps! {
 fn buckets_of_an_index_go_through_the_stories(rt: HostRuntime) -> Result<(), Fail> {
     for stories in [INSERTIONS, RESERVATIONS, CLEARINGS, SEARCHES] {
         for story in stories {
-            Stage::new(rt.alloc()).tell(&rt, story)?;
+            let mut stage = Stage::new(rt.alloc());
+            stage.tell(&rt, story)?;
         }
     }
     Ok(())
@@ -154,24 +154,21 @@ fn marked_pairs_are_found_and_walked_no_more(rt: HostRuntime) -> Result<(), Fail
     // Epochs that are equal to the hashes' byte and that are not.
     for epoch in [7, 0, 6, 255] {
         let mut stage = Stage::new(rt.alloc());
-        let start = [Under(263, 0), Fill(0, 41), Now(epoch, Kept::All)];
-        stage.play(&rt, "keys under one byte", &start)?;
+        stage.change(&rt, ("keys under one byte", 0), Under(263, 0));
+        stage.change(&rt, ("an epoch", epoch as usize), Now(epoch, Kept::All));
         stage.play(&rt, "seven are marked", SEVEN_MARKED)?;
     }
     Ok(())
 }
 
-// A bucket of this many keys, key i marked with the epoch i after the first.
-fn marked_from(rt: &impl Abort, alloc: Global, first: u8, keys: u64) -> Result<Stage, Fail> {
-    let mut stage = Stage::new(alloc);
-    let steps = [
-        Fill(0, keys),
-        Now(first, Kept::All),
-        MarkUp(0, keys, 1),
-        Len(0),
-    ];
-    stage.play(rt, "each key has an epoch of its own", &steps)?;
-    Ok(stage)
+// Keys come, key i marked with the epoch i after the first.
+fn mark_from(rt: &impl Abort, stage: &mut Stage, first: u8, keys: u64) -> Result<(), Fail> {
+    let row = ("each key has an epoch of its own", first as usize);
+    stage.step(rt, row, Fill(0, keys))?;
+    stage.change(rt, row, Now(first, Kept::All));
+    stage.change(rt, row, MarkUp(0, keys, 1));
+    stage.change(rt, row, Len(0));
+    Ok(())
 }
 
 // A divisor and a rest, and the sum of 2^i over each i below 32 that leaves the rest. The divisors
@@ -189,55 +186,61 @@ const BY_REST: [(u8, u8, u32); 6] = [
 fn the_marks_of_a_rest_stay(rt: HostRuntime) -> Result<(), Fail> {
     for (divisor, rest, occupancy) in &BY_REST {
         for eighth in 0..8 {
-            let mut stage = marked_from(&rt, rt.alloc(), 32 * eighth, 32)?;
-            let steps = [
-                Now(0, Kept::Rest(*divisor, *rest)),
-                Clear(*occupancy),
-                Len(0),
-            ];
-            stage.play(&rt, "marks of a rest", &steps)?;
+            let mut stage = Stage::new(rt.alloc());
+            mark_from(&rt, &mut stage, 32 * eighth, 32)?;
+            let row = ("marks of a rest", *divisor as usize);
+            stage.change(&rt, row, Now(0, Kept::Rest(*divisor, *rest)));
+            stage.change(&rt, row, Clear(*occupancy));
+            stage.change(&rt, row, Len(0));
         }
     }
     Ok(())
 }
 
-// What is left has the bits of the slots that are kept, and these slots have their keys.
 #[test]
 fn each_mark_is_asked_for_on_its_own(rt: HostRuntime) -> Result<(), Fail> {
     for eighth in 0..8 {
-        let mut left = 0;
-        let mut slots = Vec::new(rt.alloc());
-        for slot in 0..32u8 {
-            let stays = Kept::Square.keeps(32 * eighth + slot);
-            left |= u32::from(stays) << u32::from(slot);
-            let key = if stays { Some(u64::from(slot)) } else { None };
-            slots.push(Own(slot as usize, key))?;
-        }
-        let mut stage = marked_from(&rt, rt.alloc(), 32 * eighth, 32)?;
-        stage.play(
-            &rt,
-            "marks by no rule of the bits",
-            &[Now(0, Kept::Square), Clear(left)],
-        )?;
-        stage.play(&rt, "what is left", &slots)?;
+        let mut stage = Stage::new(rt.alloc());
+        mark_from(&rt, &mut stage, 32 * eighth, 32)?;
+        check_squares(&rt, &mut stage, 32 * eighth);
     }
     Ok(())
+}
+
+// What is left has the bits of the slots that are kept, and these slots have their keys.
+fn check_squares(rt: &impl Abort, stage: &mut Stage, first: u8) {
+    let mut left = 0;
+    for slot in 0..32u8 {
+        let stays = Kept::Square.keeps(first.wrapping_add(slot));
+        left |= u32::from(stays) << u32::from(slot);
+    }
+    let row = ("marks by no rule of the bits", first as usize);
+    stage.change(rt, row, Now(0, Kept::Square));
+    stage.change(rt, row, Clear(left));
+    for slot in 0..32u8 {
+        let stays = Kept::Square.keeps(first.wrapping_add(slot));
+        let key = if stays { Some(u64::from(slot)) } else { None };
+        stage.change(rt, row, Own(slot as usize, key));
+    }
 }
 
 // Every slot is occupied then, by the pair that came and by 31 marked ones.
 #[test]
 fn an_insertion_goes_to_the_one_slot_whose_mark_goes(rt: HostRuntime) -> Result<(), Fail> {
     for gone in 0..=255u8 {
-        let mut stage = marked_from(&rt, rt.alloc(), gone / 32 * 32, 32)?;
-        let place = (0, gone as usize % 32);
-        let steps = [
-            Now(0, Kept::But(gone)),
-            Put(40, place),
-            Len(1),
-            Clear(ALL_OWN),
-        ];
-        stage.play(&rt, "one mark goes", &steps)?;
+        let mut stage = Stage::new(rt.alloc());
+        check_gone(&rt, &mut stage, gone)?;
     }
+    Ok(())
+}
+
+fn check_gone(rt: &impl Abort, stage: &mut Stage, gone: u8) -> Result<(), Fail> {
+    mark_from(rt, stage, gone / 32 * 32, 32)?;
+    let row = ("one mark goes", gone as usize);
+    stage.change(rt, row, Now(0, Kept::But(gone)));
+    stage.step(rt, row, Put(40, (0, gone as usize % 32)))?;
+    stage.change(rt, row, Len(1));
+    stage.change(rt, row, Clear(ALL_OWN));
     Ok(())
 }
 
@@ -257,7 +260,8 @@ const ODD_EPOCHS: &[Step] = steps! {
 #[test]
 fn marks_in_the_chain_go_as_those_in_own_slots_do(rt: HostRuntime) -> Result<(), Fail> {
     for quarter in 0..4 {
-        let mut stage = marked_from(&rt, rt.alloc(), 64 * quarter, 64)?;
+        let mut stage = Stage::new(rt.alloc());
+        mark_from(&rt, &mut stage, 64 * quarter, 64)?;
         stage.play(&rt, "the slots of odd epochs are free", ODD_EPOCHS)?;
     }
     Ok(())

@@ -3,7 +3,6 @@
 use crate::steps::Step::*;
 use crate::steps::{Step, Story, stories};
 use bucket_slots::bucket::MAP;
-use std::alloc::Global;
 use std::process::Abort;
 use std::test::Fail;
 
@@ -98,32 +97,34 @@ const MOVES: &[Story] = stories! {
         Under(5, 0), Holds(1, 2), Under(6, 0), Lacks(1, 2), Under(5, 0), Move(1, None);
 };
 
-#[test]
-fn buckets_of_a_map_go_through_the_stories(rt: HostRuntime) -> Result<(), Fail> {
-    for stories in [PLACES, WALKS, MOVES] {
-        for story in stories {
-            Stage::new(rt.alloc()).tell(&rt, story)?;
-        }
-    }
-    Ok(())
+// In the first and the last own slot, and in each block of the chain.
+macro_rules! written {
+    ($($key:literal),+) => {
+        &[$((
+            "a written value is the only one that changes",
+            41,
+            &[
+                Write($key, 7, Some($key * 10)),
+                Write(41, 7, None),
+                Len(41),
+                Holds(0, $key),
+                Holds($key + 1, 41),
+                Values(0, 7),
+                Holds($key, $key + 1),
+            ],
+        )),+]
+    };
 }
 
+const WRITTEN: &[Story] = written!(0, 3, 31, 32, 35, 36, 39, 40);
+
 #[test]
-fn a_written_value_is_the_only_one_that_changes(rt: HostRuntime) -> Result<(), Fail> {
-    // In the first and the last own slot, and in each block of the chain.
-    for key in [0, 3, 31, 32, 35, 36, 39, 40u64] {
-        let steps = [
-            Fill(0, 41),
-            Write(key, 7, Some(key * 10)),
-            Write(41, 7, None),
-            Len(41),
-            Holds(0, key),
-            Holds(key + 1, 41),
-            Values(0, 7),
-            Holds(key, key + 1),
-        ];
-        let mut stage = Stage::new(rt.alloc());
-        stage.play(&rt, "one value is written", &steps)?;
+fn buckets_of_a_map_go_through_the_stories(rt: HostRuntime) -> Result<(), Fail> {
+    for stories in [PLACES, WALKS, MOVES, WRITTEN] {
+        for story in stories {
+            let mut stage = Stage::new(rt.alloc());
+            stage.tell(&rt, story)?;
+        }
     }
     Ok(())
 }
@@ -164,6 +165,17 @@ impl Plan {
         behind.wrapping_mul(4).wrapping_add(32 + slot % 4)
     }
 
+    // The digits of a slot's row are the blocks, the block, the pattern, others or not, the slot.
+    fn row(&self, slot: u64) -> (&str, usize) {
+        let blocks = self.blocks.wrapping_mul(10).wrapping_add(self.block);
+        let pattern = blocks.wrapping_mul(100).wrapping_add(self.pattern);
+        let others = pattern
+            .wrapping_mul(10)
+            .wrapping_add(u64::from(self.others));
+        let row = others.wrapping_mul(100).wrapping_add(slot);
+        ("a walk that removes", row as usize)
+    }
+
     // What is done with a key: a walk visits or removes it, a walk over what is left visits it or
     // passes it by, and a search finds it or not.
     fn step_with(&self, key: u64, round: u8) -> Step {
@@ -190,7 +202,8 @@ fn a_walk_that_removes_visits_each_pair_once(rt: HostRuntime) -> Result<(), Fail
                     pattern: number % 16,
                     others: number >= 16,
                 };
-                check_plan(&rt, rt.alloc(), plan)?;
+                let mut stage = Stage::new(rt.alloc());
+                check_plan(&rt, &mut stage, plan)?;
             }
         }
     }
@@ -198,20 +211,19 @@ fn a_walk_that_removes_visits_each_pair_once(rt: HostRuntime) -> Result<(), Fail
 }
 
 // Walks and removes; then walks over what is left; then looks for each key.
-fn check_plan(rt: &impl Abort, alloc: Global, plan: Plan) -> Result<(), Fail> {
+fn check_plan(rt: &impl Abort, stage: &mut Stage, plan: Plan) -> Result<(), Fail> {
     let keys = plan.blocks.wrapping_mul(4).wrapping_add(32);
-    let mut stage = Stage::new(alloc);
-    stage.play(rt, "a bucket of full blocks", &[Fill(0, keys)])?;
+    stage.step(rt, ("a bucket of full blocks", 0), Fill(0, keys))?;
     for round in 0..3 {
         let mut left: usize = 0;
         for slot in 0..keys {
             let key = plan.key_in(slot);
-            stage.play(rt, "a walk that removes", &[plan.step_with(key, round)])?;
+            stage.change(rt, plan.row(slot), plan.step_with(key, round));
             left = left.wrapping_add(usize::from(!plan.takes(key)));
         }
-        stage.play(rt, "what is left", &[Len(left)])?;
+        stage.change(rt, plan.row(keys), Len(left));
         if round < 2 {
-            stage.play(rt, "the walk's end", &[Next(None, (0, 32))])?;
+            stage.change(rt, plan.row(keys), Next(None, (0, 32)));
         }
     }
     Ok(())

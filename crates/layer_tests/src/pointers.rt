@@ -53,6 +53,12 @@ fn buckets_in_a_vector_fill_apart(rt: HostRuntime) -> Result<(), Fail> {
     }
     assert_eq!(rt; buckets.len(), 3);
     check_key_3(&rt, &buckets[1], Some((&3, &30)), (true, 0, 3));
+    check_same(
+        &rt,
+        buckets[1].data_block().val(3).copied(),
+        Some(30),
+        "own",
+    );
     check_key_3(&rt, &buckets[0], None, (false, 0, 32));
     Ok(())
 }

@@ -25,7 +25,7 @@ impl<L: LruList> Model for Recent<L> {
 }
 
 /// A call on a list of slots below 32, with its answer.
-#[derive(Clone, Copy, Debug, PartialEq)]
+#[derive(Clone, Copy)]
 enum Act {
     /// This slot goes, and the tail is that then; or none goes.
     Evict(Option<(u8, u32)>),
@@ -43,36 +43,35 @@ impl<L: LruList> Recent<L> {
         }
     }
 
-    // Makes a call, and returns it with the answer that was found.
-    fn act(&mut self, rt: &impl Abort, act: Act) -> Act {
-        match act {
-            Evict(_) => {
-                let evicted = self.list.evict(self.tail);
-                if let Some((_, tail)) = evicted {
-                    self.tail = tail;
-                }
-                Evict(evicted)
-            }
-            Remove(slot, _) => {
-                assert!(rt; slot < 32);
-                let tail = self.list.remove(self.tail, slot);
-                self.tail = tail.unwrap_or(self.tail);
-                Remove(slot, tail)
-            }
-            Promote(slot, _) => {
-                assert!(rt; slot < 32);
-                let tail = self.list.promote(self.tail, slot);
-                self.tail = tail.unwrap_or(self.tail);
-                Promote(slot, tail)
-            }
-        }
-    }
-
     // Makes the calls one after another, and compares each answer.
     fn play(&mut self, rt: &impl Abort, story: &str, acts: &[Act]) {
         for (row, act) in acts.iter().enumerate() {
-            let found = self.act(rt, *act);
-            check_same(rt, found, *act, (story, row));
+            self.act(rt, (story, row), *act);
+        }
+    }
+
+    // Makes a call, and compares its answer.
+    fn act(&mut self, rt: &impl Abort, row: (&str, usize), act: Act) {
+        match act {
+            Evict(wanted) => {
+                let found = self.list.evict(self.tail);
+                if let Some((_, tail)) = found {
+                    self.tail = tail;
+                }
+                check_same(rt, found, wanted, (row, "evict", 0));
+            }
+            Remove(slot, wanted) => {
+                assert!(rt; slot < 32);
+                let found = self.list.remove(self.tail, slot);
+                self.tail = found.unwrap_or(self.tail);
+                check_same(rt, found, wanted, (row, "remove", slot));
+            }
+            Promote(slot, wanted) => {
+                assert!(rt; slot < 32);
+                let found = self.list.promote(self.tail, slot);
+                self.tail = found.unwrap_or(self.tail);
+                check_same(rt, found, wanted, (row, "promote", slot));
+            }
         }
     }
 }
@@ -144,30 +143,31 @@ fn agrees_with_a_plain_list_of_slots(rt: HostRuntime) -> Result<(), Fail> {
     let mut recent = Recent::<DoublyLinkedList>::new();
     let mut plain = Vec::new(rt.alloc());
     let mut random = 1u32;
-    for step in 0..10_000 {
+    for step in 0..10_000usize {
         random = random.wrapping_mul(1_664_525).wrapping_add(1_013_904_223);
         let slots = if step < 5_000 { 4 } else { 32 };
         let slot = ((random >> 16) % slots) as u8;
         let act = match random >> 29 {
-            0 | 1 => plain_eviction(&mut plain),
+            0 | 1 => Evict(plain_eviction(&mut plain)),
             2 => Remove(slot, plain_removal(&mut plain, slot)),
             _ => Promote(slot, plain_touch(&mut plain, slot)?),
         };
-        recent.play(&rt, "beside a plain list", &[act]);
+        recent.act(&rt, ("beside a plain list", step), act);
     }
     Ok(())
 }
 
 // The newest slot + 1, of a plain list with the newest slot first.
 fn plain_tail(plain: &[u8]) -> u32 {
-    plain.first().map_or(0, |newest| u32::from(*newest) + 1)
+    match plain.first() {
+        Some(newest) => u32::from(*newest) + 1,
+        None => 0,
+    }
 }
 
-fn plain_eviction(plain: &mut Vec<u8>) -> Act {
-    match plain.pop() {
-        Some(slot) => Evict(Some((slot, plain_tail(plain)))),
-        None => Evict(None),
-    }
+fn plain_eviction(plain: &mut Vec<u8>) -> Option<(u8, u32)> {
+    let slot = plain.pop()?;
+    Some((slot, plain_tail(plain)))
 }
 
 fn plain_removal(plain: &mut Vec<u8>, slot: u8) -> Option<u32> {
@@ -184,7 +184,7 @@ fn plain_touch(plain: &mut Vec<u8>, slot: u8) -> Result<Option<u32>, Fail> {
     if plain.first() == Some(&slot) {
         return Ok(None);
     }
-    plain.retain(|other| *other != slot);
+    plain_removal(plain, slot);
     plain.insert(0, slot)?;
     Ok(Some(plain_tail(plain)))
 }

@@ -87,8 +87,11 @@ fn play<L: LruList + Drop, const TYPE: u8>(
         check_replies(rt, alloc, table, &generation, story.name, rows)?;
     }
     for (key, value) in story.after {
-        let found = table.peek_entry(key).map(|(_, value)| *value);
-        check_same(rt, found, *value, (story.name, *key));
+        let wanted = match value {
+            Some(value) => Some((key, value)),
+            None => None,
+        };
+        check_same(rt, table.peek_entry(key), wanted, (story.name, *key));
     }
     Ok(())
 }

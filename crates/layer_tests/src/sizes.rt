@@ -25,7 +25,7 @@ const M: usize = 1 << 63;
 const MAX: usize = usize::MAX;
 
 /// A call, with its answer last.
-#[derive(Clone, Copy, Debug, PartialEq)]
+#[derive(Clone, Copy)]
 enum Size {
     /// The slots and the length of an array for a capacity; none where that is refused.
     Extent(usize, Option<(usize, usize)>),
@@ -96,76 +96,88 @@ const SIZES: &[Size] = steps! {
 #[test]
 fn sizes_are_those_of_the_rules(rt: HostRuntime) -> Result<(), AllocError> {
     for (row, size) in SIZES.iter().enumerate() {
-        check_same(&rt, answered(&rt, rt.alloc(), *size)?, *size, row);
+        check_size(&rt, rt.alloc(), row, *size)?;
     }
     Ok(())
 }
 
-// Makes a call, and returns it with the answer that was found.
-fn answered(rt: &impl Abort, alloc: Global, size: Size) -> Result<Size, AllocError> {
-    Ok(match size {
-        Extent(capacity, _) => match Array::alloc(alloc, capacity) {
-            Ok(array) => Extent(capacity, Some((array.num_slots(), array.len()))),
-            Err(AllocError) => Extent(capacity, None),
-        },
-        ArraySamples(capacity, _) => {
+// Makes a call, and compares its answer.
+fn check_size(rt: &impl Abort, alloc: Global, row: usize, size: Size) -> Result<(), AllocError> {
+    match size {
+        Extent(capacity, extent) => {
+            let found = match Array::alloc(alloc, capacity) {
+                Ok(array) => Some((array.num_slots(), array.len())),
+                Err(AllocError) => None,
+            };
+            check_same(rt, found, extent, (row, "extent", capacity));
+        }
+        ArraySamples(capacity, samples) => {
             let array = Array::alloc(alloc, capacity)?;
             let large = array.large_sample_size();
-            let samples = (array.small_sample_size(), large, array.full_sample_size());
-            ArraySamples(capacity, samples)
+            let found = (array.small_sample_size(), large, array.full_sample_size());
+            check_same(rt, found, samples, (row, "array's samples", capacity));
         }
-        Home(capacity, hash, _) => {
+        Home(capacity, hash, index) => {
             let array = Array::alloc(alloc, capacity)?;
-            Home(capacity, hash, array.bucket_index(hash))
+            check_same(rt, array.bucket_index(hash), index, (row, "home", hash));
         }
-        Starts(capacity, hash, _) => {
+        Starts(capacity, hash, starts) => {
             let array = Array::alloc(alloc, capacity)?;
-            Starts(capacity, hash, array.initiate_sampling(hash))
+            check_same(
+                rt,
+                array.initiate_sampling(hash),
+                starts,
+                (row, "starts", hash),
+            );
         }
-        Range(from, to, index, _) => {
-            let len = power_of_two(rt, from);
-            let other_len = power_of_two(rt, to);
-            assert!(rt; index < len);
-            Range(from, to, index, from_index_to_range(len, other_len, index))
-        }
-        _ => reckoned(rt, size),
-    })
+        _ => check_reckoned(rt, row, size),
+    }
+    Ok(())
 }
 
-// Makes a call that takes no memory.
-fn reckoned(rt: &impl Abort, size: Size) -> Size {
+// Makes a call that takes no memory, and compares its answer.
+fn check_reckoned(rt: &impl Abort, row: usize, size: Size) {
     match size {
-        Samples(len, _) => {
+        Samples(len, samples) => {
             assert!(rt; len >= 2 && len <= 1 << 58);
             let power = power_up_to(rt, len, 1 << 58);
             let large = large_sample_size_of(power);
-            Samples(
-                len,
-                (
-                    small_sample_size_of(power),
-                    large,
-                    full_sample_size_of(power),
-                ),
-            )
+            let found = (
+                small_sample_size_of(power),
+                large,
+                full_sample_size_of(power),
+            );
+            check_same(rt, found, samples, (row, "samples", len));
         }
-        Full(capacity, entries, _) => {
-            Full(capacity, entries, Array::need_enlarge(capacity, entries))
+        Full(capacity, entries, full) => {
+            let found = Array::need_enlarge(capacity, entries);
+            check_same(rt, found, full, (row, "full", capacity));
         }
-        Empty(capacity, entries, _) => {
-            Empty(capacity, entries, Array::need_shrink(capacity, entries))
+        Empty(capacity, entries, empty) => {
+            let found = Array::need_shrink(capacity, entries);
+            check_same(rt, found, empty, (row, "empty", capacity));
         }
-        Best(capacity, entries, least, most, _) => {
-            Best(
-                capacity,
-                entries,
-                least,
-                most,
-                best_capacity(rt, capacity, entries, least, most),
-            )
+        Best(capacity, entries, least, most, best) => {
+            let found = best_capacity(rt, capacity, entries, least, most);
+            check_same(rt, found, best, (row, "best", capacity));
         }
-        For(entries, _) => For(entries, table_capacity_from_num_entries(entries)),
-        Hint(low, high, _) => Hint(low, high, num_entries_from_hint((low, high))),
-        _ => Least(Array::minimum_capacity()),
+        For(entries, capacity) => {
+            let found = table_capacity_from_num_entries(entries);
+            check_same(rt, found, capacity, (row, "for", entries));
+        }
+        Hint(low, high, entries) => {
+            let found = num_entries_from_hint((low, high));
+            check_same(rt, found, entries, (row, "hint", low));
+        }
+        Range(from, to, index, range) => {
+            let len = power_of_two(rt, from);
+            let other_len = power_of_two(rt, to);
+            assert!(rt; index < len);
+            let found = from_index_to_range(len, other_len, index);
+            check_same(rt, found, range, (row, "range", index));
+        }
+        Least(least) => check_same(rt, Array::minimum_capacity(), least, (row, "least", 0usize)),
+        _ => check_same(rt, true, false, (row, "no call", 0usize)),
     }
 }
 

@@ -1,6 +1,8 @@
-//! The stage of a story: a bucket of any kind, with any recency list, and what steps do there.
+//! The stage of a story: a bucket of any kind, with any recency list, and what steps do there. A
+//! step that finds another answer than its own tells its story, its row, the call, both answers.
 use crate::by_key::{kill_empty, mark_key, move_key, remove_at, touch_key, write_key};
 use crate::checks::check_same;
+use crate::steps::Step::*;
 use crate::steps::{Answers, Kept, Spot, Step, Story};
 use bucket_slots::bucket::{Bucket, CACHE, EntryPtr, INDEX};
 use bucket_slots::lru::LruList;
@@ -42,7 +44,7 @@ impl<L: LruList, const TYPE: u8> Stage<L, TYPE> {
         rt: &impl Abort,
         (story, keys, steps): &Story,
     ) -> Result<(), Fail> {
-        self.play(rt, story, &[Step::Fill(0, *keys)])?;
+        self.step(rt, (story, 0), Fill(0, *keys))?;
         self.play(rt, story, steps)
     }
 
@@ -54,8 +56,7 @@ impl<L: LruList, const TYPE: u8> Stage<L, TYPE> {
         steps: &[Step],
     ) -> Result<(), Fail> {
         for (row, step) in steps.iter().enumerate() {
-            let found = self.step(*step)?;
-            check_same(rt, found, *step, (story, row));
+            self.step(rt, (story, row), *step)?;
         }
         Ok(())
     }
@@ -65,48 +66,25 @@ impl<L: LruList, const TYPE: u8> Stage<L, TYPE> {
         self.bucket.data_block().key(slot).copied()
     }
 
-    /// How many live pairs there are.
-    pub(crate) fn len(&self) -> usize {
-        self.bucket.len()
-    }
-
-    // Takes a step, and returns it with the answer that was found.
-    fn step(&mut self, step: Step) -> Result<Step, Fail> {
-        Ok(match step {
-            Step::Fill(from, to) => Step::Fill(from, self.fill(from, to, false)?),
-            Step::Use(from, to) => Step::Use(from, self.fill(from, to, true)?),
-            Step::Put(key, _) => Step::Put(key, self.put(key)?),
-            Step::Move(key, _) => self.bring(key)?,
-            Step::Reserve(slots) => {
-                self.bucket.reserve_slots(slots)?;
-                step
+    /// Takes the step of a row, and compares what it finds.
+    pub(crate) fn step(
+        &mut self,
+        rt: &impl Abort,
+        row: (&str, usize),
+        step: Step,
+    ) -> Result<(), Fail> {
+        match step {
+            Fill(from, to) => self.fill(rt, row, from, to, false)?,
+            Use(from, to) => self.fill(rt, row, from, to, true)?,
+            Put(key, spot) => check_same(rt, self.put(key)?, spot, (row, "put", key)),
+            Move(key, spot) => {
+                let found = self.bring(rt, row, key)?;
+                check_same(rt, found, spot, (row, "move", key));
             }
-            Step::Under(first, mask) => {
-                self.hash = (first, mask);
-                step
-            }
-            Step::Values(times, plus) => {
-                self.values = (times, plus);
-                step
-            }
-            Step::Now(epoch, kept) => {
-                self.now = Answers::new(epoch, kept);
-                step
-            }
-            Step::Swap => {
-                mem::swap(&mut self.bucket, &mut self.other);
-                step
-            }
-            Step::Next(..) | Step::Walk(..) | Step::WalkUp(..) => self.walked(step),
-            Step::Find(..) | Step::Holds(..) | Step::Lacks(..) | Step::InOwn(..) => {
-                self.sought(step)
-            }
-            Step::Own(..) | Step::Free(..) | Step::Left(..) => self.stood(step),
-            Step::Len(_) => Step::Len(self.bucket.len()),
-            Step::Lens(..) => Step::Lens(self.bucket.len(), self.other.len()),
-            Step::Killed(_) => Step::Killed(self.bucket.is_killed()),
-            _ => self.changed(step),
-        })
+            Reserve(slots) => self.bucket.reserve_slots(slots)?,
+            _ => self.change(rt, row, step),
+        }
+        Ok(())
     }
 
     fn hash_of(&self, key: u64) -> u64 {
@@ -124,93 +102,113 @@ impl<L: LruList, const TYPE: u8> Stage<L, TYPE> {
         Ok((at.block(), at.pos()))
     }
 
-    // Inserts keys, and touches them where that is asked. Returns the first that goes wrong.
-    fn fill(&mut self, from: u64, to: u64, touches: bool) -> Result<u64, Fail> {
+    // Inserts keys, and touches them where that is asked.
+    fn fill(
+        &mut self,
+        rt: &impl Abort,
+        row: (&str, usize),
+        from: u64,
+        to: u64,
+        touches: bool,
+    ) -> Result<(), Fail> {
         for key in from..to {
-            let len = self.bucket.len();
+            let len = self.bucket.len().wrapping_add(1);
             let (_, pos) = self.put(key)?;
-            if pos >= 32 || self.bucket.len().wrapping_sub(len) != 1 {
-                return Ok(key);
-            }
-            if touches && !self.touch(key) {
-                return Ok(key);
-            }
+            let touched = !touches || self.touch(key);
+            let found = (pos < 32, self.bucket.len(), touched);
+            check_same(rt, found, (true, len, true), (row, "fill", key));
         }
-        Ok(to)
+        Ok(())
     }
 
-    fn bring(&mut self, key: u64) -> Result<Step, Fail> {
+    fn bring(
+        &mut self,
+        rt: &impl Abort,
+        row: (&str, usize),
+        key: u64,
+    ) -> Result<Option<Spot>, Fail> {
         let hash = self.hash_of(key);
         let Some((to, from)) = move_key(&mut self.bucket, &mut self.other, key, hash)? else {
-            return Ok(Step::Move(key, None));
+            return Ok(None);
         };
         self.left = from;
-        if self.other.search_entry(&key, hash).is_some() {
-            return Ok(Step::Odd(None));
-        }
-        Ok(Step::Move(key, Some(to)))
+        let left = self.other.search_entry(&key, hash).is_some();
+        check_same(rt, left, false, (row, "left behind", key));
+        Ok(Some(to))
     }
 
-    // Takes a step that asks for no memory.
-    fn changed(&mut self, step: Step) -> Step {
+    /// Takes a step that asks for no memory, and compares what it finds.
+    pub(crate) fn change(&mut self, rt: &impl Abort, row: (&str, usize), step: Step) {
         match step {
-            Step::Take(key, _) => self.take(key),
-            Step::Drain(from, to) => Step::Drain(from, self.drain(from, to)),
-            Step::TakeNext(_) => self.take_next(),
-            Step::Write(key, value, _) => Step::Write(key, value, self.write(key, value)),
-            Step::Touch(key, _) => Step::Touch(key, self.touch(key)),
-            Step::Evict(_) => self.evict(),
-            Step::Marks(keys) => self.mark_keys(keys),
-            Step::MarkUp(from, to, by) => Step::MarkUp(from, self.mark_up(from, to, by), by),
-            Step::Clear(_) | Step::KeepAll(_) => self.clear(step),
-            _ => Step::Kill(kill_empty(&mut self.bucket)),
+            Under(first, mask) => self.hash = (first, mask),
+            Values(times, plus) => self.values = (times, plus),
+            Now(epoch, kept) => self.now = Answers::new(epoch, kept),
+            Swap => mem::swap(&mut self.bucket, &mut self.other),
+            Take(key, spot) => check_same(rt, self.take(rt, row, key), spot, (row, "take", key)),
+            Drain(from, to) => self.drain(rt, row, from, to),
+            TakeNext(key) => {
+                let pair = Some((key, self.value_of(key)));
+                check_same(rt, self.take_next(), pair, (row, "take next", key));
+            }
+            Write(key, value, earlier) => {
+                check_same(rt, self.write(key, value), earlier, (row, "write", key));
+            }
+            Touch(key, there) => check_same(rt, self.touch(key), there, (row, "touch", key)),
+            Evict(key) => {
+                let pair = match key {
+                    Some(key) => Some((key, self.value_of(key))),
+                    None => None,
+                };
+                check_same(rt, self.evict(), Some(pair), (row, "evict"));
+            }
+            Marks(keys) => self.mark_keys(rt, row, keys),
+            MarkUp(from, to, by) => self.mark_up(rt, row, from, to, by),
+            Clear(left) => check_same(rt, self.clear(false), Some(left), (row, "clear")),
+            KeepAll(left) => check_same(rt, self.clear(true), Some(left), (row, "keep all")),
+            Kill(kills) => check_same(rt, kill_empty(&mut self.bucket), kills, (row, "kill")),
+            Next(key, spot) => self.walk(rt, row, key, spot),
+            Walk(keys) => self.walk_keys(rt, row, keys),
+            WalkUp(from, to) => self.walk_up(rt, row, from, to),
+            _ => self.see(rt, row, step),
         }
     }
 
-    fn remove(&mut self, key: u64) -> Option<((u64, u64), EntryPtr<u64, u64, TYPE>)> {
+    // Takes out the pair of a key, and returns the pointer as the removal leaves it.
+    fn remove(
+        &mut self,
+        rt: &impl Abort,
+        row: (&str, usize),
+        key: u64,
+    ) -> Option<EntryPtr<u64, u64, TYPE>> {
         if TYPE == INDEX {
             return None;
         }
         let hash = self.hash_of(key);
-        remove_at(&mut self.bucket, key, hash)
+        let (pair, at) = remove_at(&mut self.bucket, key, hash)?;
+        check_same(rt, pair, (key, self.value_of(key)), (row, "remove", key));
+        Some(at)
     }
 
-    fn take(&mut self, key: u64) -> Step {
-        let Some((pair, at)) = self.remove(key) else {
-            return Step::Take(key, None);
-        };
-        let spot = (at.block(), at.pos());
-        self.at = at;
-        if pair != (key, self.value_of(key)) {
-            return Step::Odd(Some(pair));
-        }
-        Step::Take(key, Some(spot))
+    fn take(&mut self, rt: &impl Abort, row: (&str, usize), key: u64) -> Option<Spot> {
+        self.at = self.remove(rt, row, key)?;
+        Some((self.at.block(), self.at.pos()))
     }
 
-    fn drain(&mut self, from: u64, to: u64) -> u64 {
+    fn drain(&mut self, rt: &impl Abort, row: (&str, usize), from: u64, to: u64) {
         for key in from..to {
-            let len = self.bucket.len();
-            match self.remove(key) {
-                Some((pair, _)) if pair == (key, self.value_of(key)) => {}
-                _ => return key,
-            }
-            let one_fewer = len.wrapping_sub(self.bucket.len()) == 1;
-            if !one_fewer || self.find(key) != Step::Find(key, None) {
-                return key;
-            }
+            let len = self.bucket.len().wrapping_sub(1);
+            let goes = self.remove(rt, row, key).is_some();
+            let stays = self.find(rt, row, key).is_some();
+            let found = (goes, self.bucket.len(), stays);
+            check_same(rt, found, (true, len, false), (row, "drain", key));
         }
-        to
     }
 
-    fn take_next(&mut self) -> Step {
+    fn take_next(&mut self) -> Option<(u64, u64)> {
         if TYPE == INDEX || !self.at.find_next(&self.bucket) {
-            return Step::Odd(None);
+            return None;
         }
-        let (key, value) = self.bucket.remove(&mut self.at);
-        if value != self.value_of(key) {
-            return Step::Odd(Some((key, value)));
-        }
-        Step::TakeNext(key)
+        Some(self.bucket.remove(&mut self.at))
     }
 
     fn write(&mut self, key: u64, value: u64) -> Option<u64> {
@@ -226,15 +224,12 @@ impl<L: LruList, const TYPE: u8> Stage<L, TYPE> {
         touch_key(&mut self.bucket, key, hash)
     }
 
-    fn evict(&mut self) -> Step {
+    // The pair that an eviction takes out of a cache, if any.
+    fn evict(&mut self) -> Option<Option<(u64, u64)>> {
         if TYPE != CACHE {
-            return Step::Odd(None);
+            return None;
         }
-        match self.bucket.evict_lru_head() {
-            Some((key, value)) if value == self.value_of(key) => Step::Evict(Some(key)),
-            Some(pair) => Step::Odd(Some(pair)),
-            None => Step::Evict(None),
-        }
+        Some(self.bucket.evict_lru_head())
     }
 
     fn mark(&mut self, key: u64) -> bool {
@@ -245,61 +240,30 @@ impl<L: LruList, const TYPE: u8> Stage<L, TYPE> {
         mark_key(&mut self.bucket, key, hash, &self.now)
     }
 
-    fn mark_keys(&mut self, keys: &'static [u64]) -> Step {
+    fn mark_keys(&mut self, rt: &impl Abort, row: (&str, usize), keys: &[u64]) {
         for key in keys {
-            if !self.mark(*key) || self.mark(*key) {
-                return Step::MarkUp(*key, *key, 0);
-            }
+            let marked = (self.mark(*key), self.mark(*key));
+            check_same(rt, marked, (true, false), (row, "mark", *key));
         }
-        Step::Marks(keys)
     }
 
-    fn mark_up(&mut self, from: u64, to: u64, by: u8) -> u64 {
+    fn mark_up(&mut self, rt: &impl Abort, row: (&str, usize), from: u64, to: u64, by: u8) {
         for key in from..to {
-            if !self.mark(key) {
-                return key;
-            }
+            check_same(rt, self.mark(key), true, (row, "mark", key));
             self.now.epoch = self.now.epoch.wrapping_add(by);
         }
-        to
     }
 
-    fn clear(&mut self, step: Step) -> Step {
+    // What a clearing of an index answers, by the test of now or by that which keeps all.
+    fn clear(&mut self, keeps_all: bool) -> Option<u32> {
         if TYPE != INDEX {
-            return Step::Odd(None);
+            return None;
         }
-        match step {
-            Step::Clear(_) => Step::Clear(self.bucket.clear_unreachable_entries(&self.now)),
-            _ => Step::KeepAll(self.bucket.clear_unreachable_entries(&())),
-        }
-    }
-
-    // Takes a step of a walk, or several.
-    fn walked(&mut self, step: Step) -> Step {
-        match step {
-            Step::Walk(keys) => {
-                for key in keys {
-                    let next = self.next();
-                    if next != Some(*key) {
-                        return Step::Next(next, self.spot());
-                    }
-                }
-                step
-            }
-            Step::WalkUp(from, to) => {
-                for key in from..to {
-                    let next = self.next();
-                    if next != Some(key) {
-                        return Step::Next(next, self.spot());
-                    }
-                }
-                step
-            }
-            _ => {
-                let next = self.next();
-                Step::Next(next, self.spot())
-            }
-        }
+        Some(if keeps_all {
+            self.bucket.clear_unreachable_entries(&())
+        } else {
+            self.bucket.clear_unreachable_entries(&self.now)
+        })
     }
 
     fn next(&mut self) -> Option<u64> {
@@ -309,80 +273,112 @@ impl<L: LruList, const TYPE: u8> Stage<L, TYPE> {
         Some(*self.at.key(&self.bucket))
     }
 
-    fn spot(&self) -> Spot {
-        (self.at.block(), self.at.pos())
+    fn walk(&mut self, rt: &impl Abort, row: (&str, usize), key: Option<u64>, spot: Spot) {
+        let found = (
+            self.next(),
+            self.at.is_valid(),
+            self.at.block(),
+            self.at.pos(),
+        );
+        check_same(
+            rt,
+            found,
+            (key, key.is_some(), spot.0, spot.1),
+            (row, "next"),
+        );
     }
 
-    // What a search finds.
-    fn sought(&self, step: Step) -> Step {
-        match step {
-            Step::Holds(from, to) => Step::Holds(from, self.sought_until(from, to, step)),
-            Step::Lacks(from, to) => Step::Lacks(from, self.sought_until(from, to, step)),
-            Step::InOwn(from, to) => Step::InOwn(from, self.sought_until(from, to, step)),
-            Step::Find(key, _) => self.find(key),
-            _ => step,
+    fn walk_keys(&mut self, rt: &impl Abort, row: (&str, usize), keys: &[u64]) {
+        for key in keys {
+            check_same(rt, self.next(), Some(*key), (row, "walk", *key));
         }
     }
 
-    // The first key that is found otherwise than the step wants.
-    fn sought_until(&self, from: u64, to: u64, step: Step) -> u64 {
+    fn walk_up(&mut self, rt: &impl Abort, row: (&str, usize), from: u64, to: u64) {
         for key in from..to {
-            let fits = match (step, self.find(key)) {
-                (Step::Holds(..), Step::Find(_, place)) => place.is_some(),
-                (Step::Lacks(..), Step::Find(_, place)) => place.is_none(),
-                (Step::InOwn(..), Step::Find(_, place)) => place == Some((0, key as usize)),
-                _ => false,
-            };
-            if !fits {
-                return key;
-            }
+            check_same(rt, self.next(), Some(key), (row, "walk", key));
         }
-        to
     }
 
-    fn find(&self, key: u64) -> Step {
+    // Takes a step that only looks.
+    fn see(&self, rt: &impl Abort, row: (&str, usize), step: Step) {
+        match step {
+            Find(key, spot) => check_same(rt, self.find(rt, row, key), spot, (row, "find", key)),
+            Holds(from, to) => self.seek(rt, row, from, to, true),
+            Lacks(from, to) => self.seek(rt, row, from, to, false),
+            InOwn(from, to) => {
+                for key in from..to {
+                    let own = Some((0, key as usize));
+                    check_same(rt, self.find(rt, row, key), own, (row, "find", key));
+                }
+            }
+            Own(slot, key) => self.own(rt, row, slot, key),
+            Free(from, to) => {
+                for slot in from..to {
+                    self.own(rt, row, slot, None);
+                }
+            }
+            Left(spot) => check_same(rt, self.left, spot, (row, "left")),
+            Len(len) => check_same(rt, self.bucket.len(), len, (row, "len")),
+            Lens(len, other) => {
+                check_same(
+                    rt,
+                    (self.bucket.len(), self.other.len()),
+                    (len, other),
+                    (row, "lens"),
+                );
+            }
+            Killed(killed) => check_same(rt, self.bucket.is_killed(), killed, (row, "killed")),
+            _ => check_same(rt, true, false, (row, "no step")),
+        }
+    }
+
+    fn seek(&self, rt: &impl Abort, row: (&str, usize), from: u64, to: u64, there: bool) {
+        for key in from..to {
+            check_same(
+                rt,
+                self.find(rt, row, key).is_some(),
+                there,
+                (row, "find", key),
+            );
+        }
+    }
+
+    // Where the pointer to a key stands, if the searches find it with its value.
+    fn find(&self, rt: &impl Abort, row: (&str, usize), key: u64) -> Option<Spot> {
         let hash = self.hash_of(key);
         let value = self.value_of(key);
         let at = self.bucket.get_entry_ptr(&key, hash);
-        let spot = (at.block(), at.pos());
-        let found = at.is_valid();
-        let wanted = if found { Some((&key, &value)) } else { None };
-        if self.bucket.search_entry(&key, hash) != wanted
-            || self.bucket.peek_entry(&key, hash) != wanted
-        {
-            return Step::Odd(None);
+        let (block, pos) = (at.block(), at.pos());
+        let wanted = if at.is_valid() {
+            Some((&key, &value))
+        } else {
+            None
+        };
+        let found = (
+            self.bucket.search_entry(&key, hash),
+            self.bucket.peek_entry(&key, hash),
+        );
+        check_same(rt, found, (wanted, wanted), (row, "search and peek", key));
+        if !at.is_valid() {
+            check_same(rt, (block, pos), (0, 32), (row, "no place", key));
+            return None;
         }
-        match spot {
-            (0, 32) if !found => Step::Find(key, None),
-            (0, pos) if self.bucket.data_block().val(pos) != Some(&value) => Step::Odd(None),
-            _ => Step::Find(key, Some(spot)),
+        if block == 0 {
+            let own = self.bucket.data_block().val(pos);
+            check_same(rt, own, Some(&value), (row, "value in the own slot", key));
         }
+        Some((block, pos))
     }
 
-    // What stands where.
-    fn stood(&self, step: Step) -> Step {
-        match step {
-            Step::Own(slot, _) => self.own(slot),
-            Step::Free(from, to) => {
-                for slot in from..to {
-                    if self.own(slot) != Step::Own(slot, None) {
-                        return Step::Free(from, slot);
-                    }
-                }
-                step
-            }
-            _ => Step::Left(self.left),
-        }
-    }
-
-    fn own(&self, slot: usize) -> Step {
+    // An own slot has this key, with its value, or none.
+    fn own(&self, rt: &impl Abort, row: (&str, usize), slot: usize, key: Option<u64>) {
         let block = self.bucket.data_block();
-        match (block.key(slot), block.val(slot)) {
-            (None, None) => Step::Own(slot, None),
-            (Some(key), Some(value)) if *value == self.value_of(*key) => {
-                Step::Own(slot, Some(*key))
-            }
-            _ => Step::Odd(None),
-        }
+        let value = match key {
+            Some(key) => Some(self.value_of(key)),
+            None => None,
+        };
+        let found = (block.key(slot).copied(), block.val(slot).copied());
+        check_same(rt, found, (key, value), (row, "own slot", slot));
     }
 }

@@ -23,7 +23,7 @@ pub(crate) use steps;
 pub(crate) use stories;
 
 /// Which marks are kept.
-#[derive(Clone, Copy, Debug, PartialEq)]
+#[derive(Clone, Copy)]
 pub(crate) enum Kept {
     /// Every mark.
     All,
@@ -52,7 +52,7 @@ impl Kept {
 
 /// A setting for the steps that follow, or a call with the answer that is wanted. Of two keys the
 /// second is the first that is not meant.
-#[derive(Clone, Copy, Debug, PartialEq)]
+#[derive(Clone, Copy)]
 pub(crate) enum Step {
     /// A key's hash from here on: a number, plus the bits of the key under a mask. At first 0.
     Under(u64, u64),
@@ -122,9 +122,6 @@ pub(crate) enum Step {
     Lens(usize, usize),
     /// Whether the bucket is killed.
     Killed(bool),
-
-    /// What no step wants: another pair, or answers that don't agree.
-    Odd(Option<(u64, u64)>),
 }
 
 /// One epoch, and an answer for each mark.
