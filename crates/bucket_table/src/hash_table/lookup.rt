@@ -49,7 +49,8 @@ impl<K: Eq, V, H: KeyHash<K>, L: LruList, const TYPE: u8> HashTable<K, V, H, L, 
             → H.hash_of self.now.hasher key ≡ hash }
         ensures found { IfSome result (λ pair.
             IsWantedOf (P.wants probe.old) (pairs_of self.now.arrays) (pair.0.now, pair.1.now)) }
-        ensures absent { IfNone result (AreUnwanted (P.wants probe.old) (pairs_of self.now.arrays)) }
+        ensures absent { IfNone result
+            (AreUnwanted (P.wants probe.old) (pairs_of self.now.arrays)) }
         ensures few { P.asked probe.new ≤ P.asked probe.old
             + looked_up_len hash
             (old_buckets self.now.arrays.rehash) (buckets_of self.now.arrays.current) }
