@@ -123,8 +123,9 @@ const CLEARINGS: &[Story] = stories! {
 const SEARCHES: &[Story] = stories! {
     // 263 has the low byte 7, and so has the mark.
     "a key that comes again is found behind its mark", 0:
-        Under(7, 0), Fill(0, 3), Under(263, 0), Now(7, Kept::All), Marks(&[0]), Find(0, None), Values(0, 99),
-        Put(0, (0, 3)), Holds(0, 1), Len(3), Own(3, Some(0)), Values(10, 0), Own(0, Some(0));
+        Under(7, 0), Fill(0, 3), Under(263, 0), Now(7, Kept::All), Marks(&[0]), Find(0, None),
+        Values(0, 99), Put(0, (0, 3)), Holds(0, 1), Len(3), Own(3, Some(0)), Values(10, 0),
+        Own(0, Some(0));
     "a bucket of marks alone finds and walks nothing", 37:
         MarkUp(0, 37, 0), Len(0), Lacks(0, 37), Next(None, (0, 32));
 };
