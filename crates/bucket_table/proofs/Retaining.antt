@@ -4,6 +4,7 @@ use Rattle.std.specs.List.{AllByRecursion}
 use Rattle.std.specs.List.Sorted.{IsPermutation}
 use Rattle.std.specs.Option.{option_map}
 use Rattle.std.proofs.lemmas.Bool.{not-false, not_from_false, not_from_true}
+use Rattle.std.proofs.lemmas.List.{length-append, length-map}
 use Rattle.std.proofs.lemmas.List.Sorted.{IsPermutation-refl, IsPermutation-trans, IsPermutation-append_right, IsPermutation-map, IsPermutation-middle, length_permutation}
 use Rattle.bucket_slots.specs.BucketView.{BucketView, Place, entries_in, null_place, pairs_in, slot_in, with_slot_at}
 use Rattle.bucket_slots.specs.Marking.{slot_marked, slots_marked}
@@ -112,3 +113,20 @@ module _ {K V : Type 0} (IsTest : (K × V → Bool) → Type 0) where
         let none = none_pass (refuses test) (pairs_in now) (nothing _ (r.ahead test means ∙ ap (refused_len test) e)) in
         each_implies (λ p. refuses test p ≡ false) (λ p. test p ≡ true) (λ p h. not-false (test p) h) (pairs_in now) none;
   }
+
+module _ {K V : Type 0} (IsTest : (K × V → Bool) → Type 0) where
+  -- a test that refuses all leaves none, and counts all
+  pub retains_none : (old new : BucketView K V) (count : ℕ) → IsTest (λ pair. false) → Retains IsTest old new count
+      → (pairs_in new ≡ []) × (count ≡ min (length (pairs_in old)) (2 ^ 64 - 1))
+  retains_none old new count means r =
+      let first : (K × V) × ℕ → K × V = λ e. e.0 in
+      let none : pairs_in new ≡ [] = no_elements (pairs_in new) (r.kept (λ pair. false) means) in
+      let parts = length_permutation _ _ (pairs_moved r.gone old new r.parts) in
+      let both = length-append (map first r.gone) (pairs_in new) in
+      let gone = length-map r.gone first in
+      let left = ap length none in
+      (none, let told = r.counted in omega (arith, told, parts, both, gone, left))
+    where
+      no_elements : (ps : List (K × V)) → AllByRecursion (λ pair. false ≡ true) ps → ps ≡ []
+      no_elements [] h = refl
+      no_elements (p ∷ ps) h = let no : false ≡ true = h.0 in absurd cc

@@ -5,9 +5,9 @@ use Rattle.bucket_table.specs.Covered.{RehashState}
 use Rattle.bucket_table.specs.Runs.{Run}
 use Rattle.bucket_table.specs.TicketCalls.{IsTicketCall, TicketStep}
 use Rattle.bucket_table.specs.declared.script.call.Call.{Call}
-use Rattle.bucket_table.specs.declared.script.call.Call.TheVariants.{Put, Write, Read, Peek, Remove, Touch, Evict, Count, Has, Reserve, Start, Work, End}
+use Rattle.bucket_table.specs.declared.script.call.Call.TheVariants.{Put, Write, Read, Peek, Remove, Touch, Evict, Count, Has, Reserve, Start, Work, End, Walk, Clear}
 use Rattle.bucket_table.specs.declared.script.reply.Reply.{Reply}
-use Rattle.bucket_table.specs.declared.script.reply.Reply.TheVariants.{Done, Present, Absent, Value, Old, Pair, Nothing, Number, Truth, Ticket, NoTicket, NoWork, Ended, Fault, Refused, WrongKind}
+use Rattle.bucket_table.specs.declared.script.reply.Reply.TheVariants.{Done, Present, Absent, Value, Old, Pair, Nothing, Number, Truth, Ticket, NoTicket, NoWork, Ended, Fault, Refused, WrongKind, Walked, Cleared}
 
 module _ {K V : Type 0} where
   none_after : (call : Call K V) (reply : Reply K V) (after : Option RehashState) → IsTicketCall call → TicketStep None call reply after → after ≡ None
@@ -27,6 +27,8 @@ module _ {K V : Type 0} where
   none_after Start (Fault e) after of h = absurd h
   none_after Start Refused after of h = absurd h
   none_after Start WrongKind after of h = absurd h
+  none_after Start (Walked b p) after of h = absurd h
+  none_after Start (Cleared n) after of h = absurd h
   none_after (Work i) Done after of h = absurd h
   none_after (Work i) Present after of h = absurd h
   none_after (Work i) Absent after of h = absurd h
@@ -43,6 +45,8 @@ module _ {K V : Type 0} where
   none_after (Work i) (Fault e) after of h = absurd h
   none_after (Work i) Refused after of h = absurd h.0
   none_after (Work i) WrongKind after of h = absurd h
+  none_after (Work i) (Walked b p) after of h = absurd h
+  none_after (Work i) (Cleared n) after of h = absurd h
   none_after (End w s) Done after of h = absurd h
   none_after (End w s) Present after of h = absurd h
   none_after (End w s) Absent after of h = absurd h
@@ -59,6 +63,8 @@ module _ {K V : Type 0} where
   none_after (End w s) (Fault e) after of h = h.1
   none_after (End w s) Refused after of h = absurd h
   none_after (End w s) WrongKind after of h = absurd h
+  none_after (End w s) (Walked b p) after of h = absurd h
+  none_after (End w s) (Cleared n) after of h = absurd h
   none_after (Peek k) reply after of h = h
   none_after (Put k0 v0) reply after of h = absurd of
   none_after (Write k0 v0) reply after of h = absurd of
@@ -69,6 +75,8 @@ module _ {K V : Type 0} where
   none_after Count reply after of h = absurd of
   none_after Has reply after of h = absurd of
   none_after (Reserve n0) reply after of h = absurd of
+  none_after Walk reply after of h = absurd of
+  none_after Clear reply after of h = absurd of
 
   pub gone : (calls : List (Call K V)) (replies : List (Reply K V)) (last : Option RehashState)
       → All (λ (call : Call K V). IsTicketCall call) calls

@@ -40,10 +40,10 @@ module _ {K V : Type 0} where
       let less : index < length was.buckets = subst (λ (r : RehashView K V). index < length r.buckets) same below in
       let here : index < length (killed_flags was.buckets) = subst (λ n. index < n) (sym (length-map was.buckets (λ (b : BucketView K V). b.killed))) less in
       let flags : killed_flags (set was.buckets index moved.bucket) ≡ set (killed_flags was.buckets) index true =
-          map-set (λ (b : BucketView K V). b.killed) was.buckets index moved.bucket ∙ ap (λ (x : Bool). set (killed_flags was.buckets) index x) moved.is_killed in
+      map-set (λ (b : BucketView K V). b.killed) was.buckets index moved.bucket ∙ ap (λ (x : Bool). set (killed_flags was.buckets) index x) moved.is_killed in
       let after : tickets_of new ≡ Some (record { tickets = was.tickets; killed = set (killed_flags was.buckets) index true }) =
-          ap (λ (o : Option (RehashView K V)). option_map (λ (r : RehashView K V). rehash_state r) o) moved.rehash_is
-          ∙ ap (λ (ks : List Bool). Some (record { tickets = was.tickets; killed = ks })) flags in
+      ap (λ (o : Option (RehashView K V)). option_map (λ (r : RehashView K V). rehash_state r) o) moved.rehash_is
+      ∙ ap (λ (ks : List Bool). Some (record { tickets = was.tickets; killed = ks })) flags in
       subst (λ (o : Option (RehashView K V)). KillsBucket (option_map (λ (r : RehashView K V). rehash_state r) o) index (tickets_of new)) (sym moved.rehash_was) (here, after)
 
 module _ {K V H : Type 0} where

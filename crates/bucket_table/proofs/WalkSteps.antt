@@ -19,13 +19,13 @@ use Rattle.bucket_table.proofs.Each.{each, each_append, each_implies, to_front}
 
 -- tests on hashes
 module _ (low high h : ℕ) where
-  is_in : low ≤ h → h < high → (nat_le low h && nat_lt h high) ≡ true
+  pub is_in : low ≤ h → h < high → (nat_le low h && nat_lt h high) ≡ true
   is_in a b = and_from (nat_le low h) (nat_lt h high) (le-leb low h a) (lt-ltb h high b)
 
   bounds : (nat_le low h && nat_lt h high) ≡ true → (low ≤ h) × (h < high)
   bounds e = let p = and_parts (nat_le low h) (nat_lt h high) e in (leb-true low h p.0, ltb-true h high p.1)
 
-  is_out : ((low ≤ h) → (h < high) → ⊥) → (nat_le low h && nat_lt h high) ≡ false
+  pub is_out : ((low ≤ h) → (h < high) → ⊥) → (nat_le low h && nat_lt h high) ≡ false
   is_out never = false_from_ne_true (nat_le low h && nat_lt h high) (λ e. let b = bounds e in never b.0 b.1)
 
 module _ {S B : Type 0} (step : S → B → Bool → Bool → B → Bool → S → Type 0) where

@@ -160,7 +160,10 @@ impl<K: Eq, V, H: KeyHash<K>, L: LruList, const TYPE: u8> HashTable<K, V, H, L, 
         ensures one_map { IsOneMap K.eq (H.hash_of self.now.hasher) self.now.arrays }
         ensures long { 0 < length (buckets_of self.now.arrays.current)
             → IsLength (length (buckets_of self.now.arrays.current)) }
+        ensures empty { length (buckets_of self.now.arrays.current) ≡ 0
+            → pairs_of self.now.arrays ≡ [] }
     {
+        self.arrays.sound();
         let _len = self.arrays.len();
     }
 
@@ -303,7 +306,10 @@ impl<K: Eq + Drop, V: Drop, H: KeyHash<K>, L: LruList + Drop, const TYPE: u8> Ha
     /// # Errors
     ///
     /// There is no array, and so no pair; or want of memory: a source isn't killed.
-    pub fn locked_or_missing(&mut self, hash: u64) -> Result<LockedBucket<'_, K, V, H, L, TYPE>, Missing>
+    pub fn locked_or_missing(
+        &mut self,
+        hash: u64,
+    ) -> Result<LockedBucket<'_, K, V, H, L, TYPE>, Missing>
         ensures* rests { sem 𝓛 (RestsIfErr
             (table_row K.row V.row H.row L.row TYPE.row K.PartialEq H.KeyHash
             (record { KEEPS = L.KEEPS; listed = L.listed; IsTail = L.IsTail }) L.Default)

@@ -1,10 +1,12 @@
 //! Cursors over the arrays.
-ghost use Rattle.std.specs.Prelude.{◌≡◌, ◌≢◌, Bool, ◌<◌, ◌≤◌, ◌+◌, [], true, false, length, IfOk, IfSome, OnOk};
+ghost use Rattle.std.specs.Prelude.{◌≡◌, ◌≢◌, Bool, ◌<◌, ◌≤◌, ◌+◌, [], true, false, length, IfOk};
+ghost use Rattle.std.specs.Prelude.{IfSome, OnOk};
 ghost use Rattle.bucket_slots.specs.BucketView.{BucketView};
 ghost use Rattle.bucket_slots.specs.Sizing.{IsLength};
 ghost use Rattle.bucket_slots.specs.Walking.{pairs_ahead};
 ghost use Rattle.bucket_table.specs.ArraysView.{ArePlaced, AreSourcesKilled};
-ghost use Rattle.bucket_table.specs.Cursors.{Departs, GoesOnFrom, Leaves, LeavesTo, ReachesPast, Stays, bound_of};
+ghost use Rattle.bucket_table.specs.Cursors.{Departs, GoesOnFrom, Leaves, LeavesTo, ReachesPast};
+ghost use Rattle.bucket_table.specs.Cursors.{Stays, bound_of};
 ghost use Rattle.bucket_table.specs.Finding.{KeepsMap};
 ghost use Rattle.bucket_table.specs.Rehashing.{KeepsArrays};
 ghost use Rattle.bucket_table.specs.Relocation.{buckets_of};
@@ -69,7 +71,8 @@ impl<K: Eq + Drop, V: Drop, L: LruList + Drop, const TYPE: u8> Arrays<K, V, L, T
         ensures placed { ArePlaced (H.hash_of hasher.now) self.new }
         ensures kept { KeepsArrays self.old self.new }
         ensures bag { KeepsBag self.old.rehash self.new.rehash }
-        ensures found { GoesOnFrom (H.hash_of hasher.now) (bound_of (length (buckets_of self.old.current)) start) result self.new at.new }
+        ensures found { GoesOnFrom (H.hash_of hasher.now)
+            (bound_of (length (buckets_of self.old.current)) start) result self.new at.new }
         ensures order { IfOk result (λ found. IfSome found (λ index. start ≤ index)) }
     {
         *at = EntryPtr::null();
@@ -107,7 +110,8 @@ impl<K: Eq + Drop, V: Drop, L: LruList + Drop, const TYPE: u8> Arrays<K, V, L, T
         ensures placed { ArePlaced (H.hash_of hasher.now) self.new }
         ensures kept { KeepsArrays self.old self.new }
         ensures bag { KeepsBag self.old.rehash self.new.rehash }
-        ensures found { GoesOnFrom (H.hash_of hasher.now) (bound_of len (index + 1)) result self.new at.new }
+        ensures found { GoesOnFrom (H.hash_of hasher.now) (bound_of len (index + 1)) result self.new
+            at.new }
         ensures reaches { ReachesPast (bound_of len (index + 1)) result self.new }
     {
         *at = EntryPtr::null();
@@ -140,7 +144,8 @@ impl<K: Eq + Drop, V: Drop, L: LruList + Drop, const TYPE: u8> Arrays<K, V, L, T
         ensures placed { ArePlaced (H.hash_of hasher.now) self.new }
         ensures kept { KeepsMap self.old self.new }
         ensures bag { KeepsBag self.old.rehash self.new.rehash }
-        ensures leaves { Leaves (H.hash_of hasher.now) (bound_of (length (buckets_on self.old is_old)) (index + 1)) result self.new at.new }
+        ensures leaves { Leaves (H.hash_of hasher.now) (bound_of
+            (length (buckets_on self.old is_old)) (index + 1)) result self.new at.new }
         ensures departs { Departs is_old index self.old self.new }
     {
         let len = self.len_on(is_old);
@@ -169,8 +174,10 @@ impl<K: Eq + Drop, V: Drop, L: LruList + Drop, const TYPE: u8> Arrays<K, V, L, T
         ensures stays { pairs_ahead (bucket_on self.old is_old index) at.old ≢ []
             → Stays is_old index self.old at.old result self.new at.new }
         ensures leaves { pairs_ahead (bucket_on self.old is_old index) at.old ≡ []
-            → LeavesTo (H.hash_of hasher.now) (bound_of (length (buckets_on self.old is_old)) (index + 1)) result self.new at.new }
-        ensures departs { pairs_ahead (bucket_on self.old is_old index) at.old ≡ [] → Departs is_old index self.old self.new }
+            → LeavesTo (H.hash_of hasher.now) (bound_of (length (buckets_on self.old is_old))
+            (index + 1)) result self.new at.new }
+        ensures departs { pairs_ahead (bucket_on self.old is_old index) at.old ≡ []
+            → Departs is_old index self.old self.new }
     {
         self.room_of(is_old);
         if at.find_next(self.bucket_of(is_old, index)) {
@@ -194,7 +201,8 @@ impl<K: Eq + Drop, V: Drop, L: LruList + Drop, const TYPE: u8> Arrays<K, V, L, T
         requires may { F.may_visit visitor.old }
         ensures again { F.may_visit visitor.new }
         ensures visited { (left : BucketView K V)
-            × F.visits visitor.old (bucket_on self.old false index) flag.old result left flag.new visitor.new
+            × F.visits visitor.old (bucket_on self.old false index) flag.old result left flag.new
+            visitor.new
             × (self.new ≡ arrays_with self.old false index left) }
     {
         self.room_of(false);
@@ -212,7 +220,8 @@ impl<K: Eq + Drop, V: Drop, L: LruList + Drop, const TYPE: u8> Arrays<K, V, L, T
         requires within { index < length (buckets_of self.old.current) }
         requires callable { F.IsAlwaysCallable keep.now }
         ensures retained { (left : BucketView K V)
-            × Retains (AnswersBy (λ key value answer. F.post keep.now key value answer)) (bucket_on self.old false index) left result
+            × Retains (AnswersBy (λ key value answer. F.post keep.now key value answer))
+            (bucket_on self.old false index) left result
             × (self.new ≡ arrays_with self.old false index left) }
     {
         self.room_of(false);

@@ -1,10 +1,12 @@
 //! Cursors over a table, and what they sweep.
-ghost use Rattle.std.specs.Prelude.{◌≡◌, ◌≢◌, ◌<◌, ◌+◌, [], ℕ, Bool, Some, false, length, IfOk, OnErr};
+ghost use Rattle.std.specs.Prelude.{◌≡◌, ◌≢◌, ◌<◌, ◌+◌, [], ℕ, Bool, Some, false, length, IfOk};
+ghost use Rattle.std.specs.Prelude.{OnErr};
 ghost use Rattle.bucket_slots.specs.BucketView.{BucketView, null_place};
 ghost use Rattle.bucket_slots.specs.Sizing.{IsLength};
 ghost use Rattle.bucket_slots.specs.Walking.{MovesToNext, pairs_ahead};
 ghost use Rattle.bucket_table.specs.ArraysView.{IsOneMap, pairs_of};
-ghost use Rattle.bucket_table.specs.Cursors.{Departs, GoesOnFrom, HasNoneFrom, IsFirstFrom, Leaves, LeavesTo, ReachesAt, Stays, bound_of};
+ghost use Rattle.bucket_table.specs.Cursors.{Departs, GoesOnFrom, HasNoneFrom, IsFirstFrom, Leaves};
+ghost use Rattle.bucket_table.specs.Cursors.{LeavesTo, ReachesAt, Stays, bound_of};
 ghost use Rattle.bucket_table.specs.Locking.{IsLocked};
 ghost use Rattle.bucket_table.specs.MapState.{KeepsPairs, state_of};
 ghost use Rattle.bucket_table.specs.Optional.{IfHeld, IfNotHeld, IfNothing, IsHeld};
@@ -57,7 +59,9 @@ impl<K: Eq + Drop, V: Drop, H: KeyHash<K>, L: LruList + Drop, const TYPE: u8> Ha
         ensures stays { pairs_ahead (bucket_on self.old.arrays is_old index) at.old ≢ []
             → Stays is_old index self.old.arrays at.old result self.new.arrays at.new }
         ensures leaves { pairs_ahead (bucket_on self.old.arrays is_old index) at.old ≡ []
-            → LeavesTo (H.hash_of self.old.hasher) (bound_of (length (buckets_on self.old.arrays is_old)) (index + 1)) result self.new.arrays at.new }
+            → LeavesTo (H.hash_of self.old.hasher) (bound_of
+            (length (buckets_on self.old.arrays is_old)) (index + 1)) result self.new.arrays
+            at.new }
         ensures departs { pairs_ahead (bucket_on self.old.arrays is_old index) at.old ≡ []
             → Departs is_old index self.old.arrays self.new.arrays }
     {
@@ -85,7 +89,8 @@ impl<K: Eq + Drop, V: Drop, H: KeyHash<K>, L: LruList + Drop, const TYPE: u8> Ha
             → IsSwept test (pairs_of self.old.arrays) (pairs_of self.new.arrays) count) }
         ensures refused { OnErr result ((bound : ℕ) × ((test : K × V → Bool)
             → AnswersBy (λ key value answer. F.post keep.now key value answer) test
-            → IsSweptBelow (H.hash_of self.old.hasher) bound test (pairs_of self.old.arrays) (pairs_of self.new.arrays))) }
+            → IsSweptBelow (H.hash_of self.old.hasher) bound test (pairs_of self.old.arrays)
+            (pairs_of self.new.arrays))) }
     {
         let mut count: usize = 0;
         let mut at = EntryPtr::null();
@@ -109,7 +114,9 @@ impl<K: Eq + Drop, V: Drop, H: KeyHash<K>, L: LruList + Drop, const TYPE: u8> Ha
         requires within { index < length (buckets_of self.old.arrays.current) }
         ensures map { KeepsPairs (state_of TYPE self.old) (state_of TYPE self.new) }
         ensures bag { KeepsBag self.old.arrays.rehash self.new.arrays.rehash }
-        ensures leaves { Leaves (H.hash_of self.old.hasher) (bound_of (length (buckets_of self.old.arrays.current)) (index + 1)) result self.new.arrays at.new }
+        ensures leaves { Leaves (H.hash_of self.old.hasher)
+            (bound_of (length (buckets_of self.old.arrays.current)) (index + 1)) result
+            self.new.arrays at.new }
     {
         self.arrays.pass(&self.hasher, false, index, at)
     }
@@ -125,7 +132,8 @@ impl<K: Eq + Drop, V: Drop, H: KeyHash<K>, L: LruList + Drop, const TYPE: u8> Ha
         requires callable { F.IsAlwaysCallable keep.now }
         ensures hasher { self.new.hasher ≡ self.old.hasher }
         ensures retained { (left : BucketView K V)
-            × Retains (AnswersBy (λ key value answer. F.post keep.now key value answer)) (bucket_on self.old.arrays false index) left result
+            × Retains (AnswersBy (λ key value answer. F.post keep.now key value answer))
+            (bucket_on self.old.arrays false index) left result
             × (self.new.arrays ≡ arrays_with self.old.arrays false index left) }
     {
         self.arrays.retain_at(index, keep, generation)
@@ -141,9 +149,12 @@ impl<K: Eq + Drop, V: Drop, H: KeyHash<K>, L: LruList + Drop, const TYPE: u8> Ha
         &mut self,
         at: &mut EntryPtr<K, V, TYPE>,
     ) -> Result<Option<LockedBucket<'_, K, V, H, L, TYPE>>, AllocError>
-        ensures same_table { IfHeld result (λ locked. locked.table.ghost_name ≡ self.entry.ghost_name) }
-        ensures map { IfHeld result (λ locked. KeepsPairs (state_of TYPE self.old) (state_of TYPE locked.table.now)) }
-        ensures bag { IfHeld result (λ locked. KeepsBag self.old.arrays.rehash locked.table.now.arrays.rehash) }
+        ensures same_table { IfHeld result (λ locked. locked.table.ghost_name
+            ≡ self.entry.ghost_name) }
+        ensures map { IfHeld result (λ locked. KeepsPairs (state_of TYPE self.old)
+            (state_of TYPE locked.table.now)) }
+        ensures bag { IfHeld result (λ locked. KeepsBag self.old.arrays.rehash
+            locked.table.now.arrays.rehash) }
         ensures side { IfHeld result (λ locked. locked.is_old ≡ false) }
         ensures found { IfHeld result (λ locked.
             IsFirstFrom (H.hash_of self.old.hasher) locked.table.now.arrays 0 locked.index at.new) }
@@ -173,22 +184,32 @@ impl<'a, K: Eq + Drop, V: Drop, H: KeyHash<K>, L: LruList + Drop, const TYPE: u8
     ///
     /// Want of memory: the pointer is null.
     pub fn next_sync(self, at: &mut EntryPtr<K, V, TYPE>) -> Result<Option<Self>, AllocError>
-        ensures same_table { IfHeld result (λ locked. locked.table.ghost_name ≡ self.entry.table.ghost_name) }
-        ensures map { IfHeld result (λ locked. KeepsPairs (state_of TYPE self.entry.table.now) (state_of TYPE locked.table.now)) }
-        ensures bag { IfHeld result (λ locked. KeepsBag self.entry.table.now.arrays.rehash locked.table.now.arrays.rehash) }
-        ensures stays { pairs_ahead (bucket_on self.entry.table.now.arrays self.entry.is_old self.entry.index) at.old ≢ []
+        ensures same_table { IfHeld result (λ locked. locked.table.ghost_name
+            ≡ self.entry.table.ghost_name) }
+        ensures map { IfHeld result (λ locked. KeepsPairs (state_of TYPE self.entry.table.now)
+            (state_of TYPE locked.table.now)) }
+        ensures bag { IfHeld result (λ locked. KeepsBag self.entry.table.now.arrays.rehash
+            locked.table.now.arrays.rehash) }
+        ensures stays { pairs_ahead (bucket_on self.entry.table.now.arrays self.entry.is_old
+            self.entry.index) at.old ≢ []
             → IfHeld result (λ locked. (locked.table.now.arrays ≡ self.entry.table.now.arrays)
             × (locked.is_old ≡ self.entry.is_old) × (locked.index ≡ self.entry.index)
-            × MovesToNext (bucket_on self.entry.table.now.arrays self.entry.is_old self.entry.index) at.old at.new) }
-        ensures leaves { pairs_ahead (bucket_on self.entry.table.now.arrays self.entry.is_old self.entry.index) at.old ≡ []
+            × MovesToNext (bucket_on self.entry.table.now.arrays self.entry.is_old self.entry.index)
+            at.old at.new) }
+        ensures leaves { pairs_ahead (bucket_on self.entry.table.now.arrays self.entry.is_old
+            self.entry.index) at.old ≡ []
             → IfHeld result (λ locked. (locked.is_old ≡ false)
             × IsFirstFrom (H.hash_of self.entry.table.now.hasher) locked.table.now.arrays
             (bound_of (length (buckets_on self.entry.table.now.arrays self.entry.is_old)) (self.entry.index + 1)) locked.index at.new
-            × ReachesAt (bound_of (length (buckets_on self.entry.table.now.arrays self.entry.is_old)) (self.entry.index + 1))
+            × ReachesAt (bound_of (length (buckets_on self.entry.table.now.arrays
+            self.entry.is_old)) (self.entry.index + 1))
             (Some locked.index) locked.table.now.arrays) }
-        ensures departs { pairs_ahead (bucket_on self.entry.table.now.arrays self.entry.is_old self.entry.index) at.old ≡ []
-            → IfHeld result (λ locked. Departs self.entry.is_old self.entry.index self.entry.table.now.arrays locked.table.now.arrays) }
-        ensures held { pairs_ahead (bucket_on self.entry.table.now.arrays self.entry.is_old self.entry.index) at.old ≢ [] → IsHeld result }
+        ensures departs { pairs_ahead (bucket_on self.entry.table.now.arrays self.entry.is_old
+            self.entry.index) at.old ≡ []
+            → IfHeld result (λ locked. Departs self.entry.is_old self.entry.index
+            self.entry.table.now.arrays locked.table.now.arrays) }
+        ensures held { pairs_ahead (bucket_on self.entry.table.now.arrays self.entry.is_old
+            self.entry.index) at.old ≢ [] → IsHeld result }
         ensures none { IfNothing result (HasNoneFrom (H.hash_of self.entry.table.now.hasher)
             (bound_of (length (buckets_on self.entry.table.now.arrays self.entry.is_old)) (self.entry.index + 1)) (pairs_of self.entry.table.now.arrays)) }
         ensures null { IfNotHeld result (at.new ≡ null_place) }

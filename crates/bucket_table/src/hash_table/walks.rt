@@ -1,6 +1,7 @@
 //! Walks over a table's current buckets.
 ghost use Rattle.std.specs.Prelude.{◌≡◌, ◌≢◌, ◌<◌, ◌≤◌, ◌+◌, ◌⊎◌, ℕ, false, length, OnOk};
 ghost use Rattle.std.specs.Int.{IsPowerOfTwo};
+ghost use Rattle.bucket_slots.specs.ArrayRoom.{BucketFits};
 ghost use Rattle.bucket_slots.specs.BucketView.{BucketView};
 ghost use Rattle.bucket_slots.specs.Sizing.{IsLength};
 ghost use Rattle.bucket_table.specs.ArraysView.{AreSourcesKilled};
@@ -46,7 +47,8 @@ impl<K: Eq + Drop, V: Drop, H: KeyHash<K>, L: LruList + Drop, const TYPE: u8> Ha
         requires may { F.may_visit visitor.old }
         requires owes { KeepsBuckets F.visits }
         ensures again { F.may_visit visitor.new }
-        ensures walked { WalksBy F.visits (H.hash_of self.old.hasher) expected_len start visitor.old self.old.arrays result visitor.new self.new.arrays }
+        ensures walked { WalksBy F.visits (H.hash_of self.old.hasher) expected_len start visitor.old
+            self.old.arrays result visitor.new self.new.arrays }
         ensures hasher { self.new.hasher ≡ self.old.hasher }
         ensures bag { KeepsBag self.old.arrays.rehash self.new.arrays.rehash }
         ensures minimum { self.new.arrays.minimum ≡ self.old.arrays.minimum }
@@ -82,7 +84,8 @@ impl<K: Eq + Drop, V: Drop, H: KeyHash<K>, L: LruList + Drop, const TYPE: u8> Ha
     ) -> Result<(), AllocError>
         requires may { F.may_read reader.old }
         ensures again { F.may_read reader.new }
-        ensures walked { WalksBy (reading F.reads) (H.hash_of self.old.hasher) 0 0 reader.old self.old.arrays result reader.new self.new.arrays }
+        ensures walked { WalksBy (reading F.reads) (H.hash_of self.old.hasher) 0 0 reader.old
+            self.old.arrays result reader.new self.new.arrays }
         ensures hasher { self.new.hasher ≡ self.old.hasher }
         ensures kept { KeepsArrays self.old.arrays self.new.arrays }
         ensures bag { KeepsBag self.old.arrays.rehash self.new.arrays.rehash }
@@ -99,6 +102,18 @@ impl<K: Eq + Drop, V: Drop, H: KeyHash<K>, L: LruList + Drop, const TYPE: u8> Ha
             index += 1;
         }
         Ok(())
+    }
+
+    /// No work: a proof of generic code learns that a bucket fits in memory, before it has the
+    /// buckets lent.
+    ///
+    /// O(1). Own.
+    pub fn room(&self)
+        requires array_stands { 0 < length (buckets_of self.now.arrays.current) }
+        ensures { BucketFits K.row V.row L.row TYPE.row
+            (record { KEEPS = L.KEEPS; listed = L.listed; IsTail = L.IsTail }) L.Default }
+    {
+        self.arrays.room_of(false);
     }
 
     /// Works a unit, and moves the sources of a current bucket.
@@ -130,7 +145,8 @@ impl<K: Eq + Drop, V: Drop, H: KeyHash<K>, L: LruList + Drop, const TYPE: u8> Ha
         ensures again { F.may_visit visitor.new }
         ensures hasher { self.new.hasher ≡ self.old.hasher }
         ensures visited { (left : BucketView K V)
-            × F.visits visitor.old (bucket_on self.old.arrays false index) flag.old result left flag.new visitor.new
+            × F.visits visitor.old (bucket_on self.old.arrays false index) flag.old result left
+            flag.new visitor.new
             × (self.new.arrays ≡ arrays_with self.old.arrays false index left) }
     {
         self.arrays.visit_at(index, visitor, flag)
@@ -141,7 +157,8 @@ impl<K: Eq + Drop, V: Drop, H: KeyHash<K>, L: LruList + Drop, const TYPE: u8> Ha
         ensures hasher { self.new.hasher ≡ self.old.hasher }
         ensures kept { KeepsMap self.old.arrays self.new.arrays }
         ensures bag { KeepsBag self.old.arrays.rehash self.new.arrays.rehash }
-        ensures resized { ResizesIf (AsksShrinking self.old.arrays 0) self.old.arrays self.new.arrays }
+        ensures resized { ResizesIf (AsksShrinking self.old.arrays 0) self.old.arrays
+            self.new.arrays }
     {
         self.arrays.try_shrink(0);
     }

@@ -1,0 +1,113 @@
+//! The calls of a script that go through all buckets.
+ghost use Rattle.bucket_table.specs.Calls.{Step};
+ghost use Rattle.bucket_table.specs.MapState.{state_of};
+ghost use Rattle.bucket_table.specs.TicketCalls.{TicketStep, tickets_of};
+
+use super::call::Call;
+use super::reply::Reply;
+use crate::hash_table::HashTable;
+use crate::key_hash::KeyHash;
+use crate::retain::retain_in;
+use crate::visit::{Read, Visit};
+use bucket_slots::bucket::{Bucket, Generation};
+use bucket_slots::lru::LruList;
+
+/// Counts the buckets that it is lent, and their pairs.
+#[derive(Drop)]
+struct Tally {
+    buckets: usize,
+    pairs: usize,
+}
+
+impl<K, V, L: LruList, const TYPE: u8> Read<Bucket<K, V, L, TYPE>> for Tally {
+    ghost use Rattle.bucket_table.specs.Tallying.{Tallies};
+
+    ghost may_read = { λ _. Unit {0} };
+
+    ghost reads = { λ tally lent more after.
+        Tallies tally.buckets tally.pairs lent more after.buckets after.pairs };
+
+    fn read(&mut self, bucket: &Bucket<K, V, L, TYPE>) -> bool {
+        self.buckets = self.buckets.saturating_add(1);
+        self.pairs = self.pairs.saturating_add(bucket.len());
+        true
+    }
+}
+
+/// Takes all pairs out of the buckets that it is lent, or marks them in an index, and counts them.
+#[derive(Drop)]
+struct Emptier<'a, G> {
+    generation: &'a G,
+    count: usize,
+}
+
+impl<'a, K: Drop, V: Drop, L: LruList, G: Generation, const TYPE: u8> Visit<Bucket<K, V, L, TYPE>>
+    for Emptier<'a, G> {
+    ghost use Rattle.bucket_table.specs.Tallying.{Empties};
+
+    ghost may_visit = { λ _. Unit {0} };
+
+    ghost visits = { λ emptier lent flag more left last after.
+        Empties emptier.count lent flag more left last after.count };
+
+    fn visit(&mut self, bucket: &mut Bucket<K, V, L, TYPE>, flag: &mut bool) -> bool {
+        let keep = |_key: &K, _value: &V| false;
+        let taken = retain_in(bucket, &keep, self.generation);
+        self.count = self.count.saturating_add(taken);
+        *flag |= taken > 0;
+        true
+    }
+}
+
+/// Goes through all buckets, and counts them and their pairs.
+pub(super) fn walk<K: Eq + Copy, V: Copy, H: KeyHash<K>, L: LruList + Drop, const TYPE: u8>(
+    table: &mut HashTable<K, V, H, L, TYPE>,
+) -> Reply<K, V>
+    ensures step { Step K.eq H.hash_of (state_of TYPE table.old) Call.Walk result
+        (state_of TYPE table.new) }
+    ensures tickets { TicketStep (tickets_of table.old.arrays) Call.Walk result
+        (tickets_of table.new.arrays) }
+{
+    table.sound();
+    if table.num_slots() == 0 {
+        return Reply::Walked(0, 0);
+    }
+    table.room();
+    let mut tally = Tally {
+        buckets: 0,
+        pairs: 0,
+    };
+    match table.for_each_reader_sync(&mut tally) {
+        Ok(()) => Reply::Walked(tally.buckets, tally.pairs),
+        Err(_) => Reply::Refused,
+    }
+}
+
+/// Takes all pairs out, or marks them in an index.
+pub(super) fn clear<
+    K: Eq + Copy,
+    V: Copy,
+    H: KeyHash<K>,
+    L: LruList + Drop,
+    G: Generation,
+    const TYPE: u8,
+>(table: &mut HashTable<K, V, H, L, TYPE>, generation: &G) -> Reply<K, V>
+    ensures step { Step K.eq H.hash_of (state_of TYPE table.old) Call.Clear result
+        (state_of TYPE table.new) }
+    ensures tickets { TicketStep (tickets_of table.old.arrays) Call.Clear result
+        (tickets_of table.new.arrays) }
+{
+    table.sound();
+    if table.num_slots() == 0 {
+        return Reply::Cleared(0);
+    }
+    table.room();
+    let mut emptier = Emptier {
+        generation,
+        count: 0,
+    };
+    match table.for_each_writer_sync(0, 0, &mut emptier) {
+        Ok(()) => Reply::Cleared(emptier.count),
+        Err(_) => Reply::Refused,
+    }
+}
