@@ -1,10 +1,8 @@
 -- The answers of lines, one after another, and those that a run of calls gives.
-use Rattle.std.proofs.Common.{◌≡◌, ℕ, ◌≤◌, inl, inr, List, [], ◌∷◌, ◌++◌, Option, Some, length, nat_eq, refl, ap, ◌∙◌, subst, append_assoc}
-use Rattle.bucket_table.specs.Calls.{Step}
-use Rattle.bucket_table.specs.Hashes.{script_hash}
+use Rattle.std.proofs.Common.{◌≡◌, ℕ, ◌≤◌, inl, inr, List, [], ◌∷◌, ◌++◌, Option, Some, length, refl, ap, ◌∙◌, subst, append_assoc}
 use Rattle.bucket_table.specs.declared.script.call.Call.{Call}
 use Rattle.bucket_table.specs.declared.script.reply.Reply.{Reply}
-use Rattle.bhtable.specs.Answers.{AreAnswers, IsAnswer, ScriptMap}
+use Rattle.bhtable.specs.Answers.{AreAnswers, IsAnswer, ScriptStep, ScriptTable}
 use Rattle.bhtable.specs.Requests.{Asks}
 use Rattle.bhtable.specs.Layout.Sessions.{AskForCalls, ScriptRun}
 use Rattle.bhtable.specs.Layout.Replies.{lines_of_replies}
@@ -12,11 +10,11 @@ use Rattle.bhtable.specs.Texts.{line_of, text_of}
 use Rattle.bhtable.specs.Words.{parts_of}
 use Rattle.bhtable.specs.declared.request.Request.TheVariants.{Call as Calls}
 
-pub answers_append : (first second : List (List ℕ)) (old between new : Option ScriptMap) (text more : List ℕ)
+pub answers_append : (first second : List (List ℕ)) (old between new : Option ScriptTable) (text more : List ℕ)
     → AreAnswers old first text between → AreAnswers between second more new
     → AreAnswers old (first ++ second) (text ++ more) new
 answers_append [] second old between new text more answers later =
-    rw answers.0 (subst (λ (table : Option ScriptMap). AreAnswers table second more new) answers.1 later)
+    rw answers.0 (subst (λ (table : Option ScriptTable). AreAnswers table second more new) answers.1 later)
 answers_append (line ∷ first) second old between new text more (short, answers) later = (
   short,
   (
@@ -59,12 +57,12 @@ asked_one_more (first ∷ lines) calls line call (fits, asked) short asks = (
   ],
 )
 
-answered_call : (line : List ℕ) (call : Call ℕ ℕ) (reply : Reply ℕ ℕ) (before after : ScriptMap) → Asks (parts_of line) (Calls call)
-    → Step nat_eq script_hash before call reply after → IsAnswer (Some before) line (line_of (text_of reply)) (Some after)
+answered_call : (line : List ℕ) (call : Call ℕ ℕ) (reply : Reply ℕ ℕ) (before after : ScriptTable) → Asks (parts_of line) (Calls call)
+    → ScriptStep before call reply after → IsAnswer (Some before) line (line_of (text_of reply)) (Some after)
 answered_call line call reply before after asks step = inr (Calls call, reply, asks, step, refl)
 
 -- without calls the lines have no words, and no answer
-pub answered_nothing : (lines : List (List ℕ)) (table : Option ScriptMap) → AskForCalls lines []
+pub answered_nothing : (lines : List (List ℕ)) (table : Option ScriptTable) → AskForCalls lines []
     → AreAnswers table lines [] table
 answered_nothing [] table asked = (refl, refl)
 answered_nothing (line ∷ lines) table (short, asked) = elim asked [
@@ -73,15 +71,15 @@ answered_nothing (line ∷ lines) table (short, asked) = elim asked [
 ]
 
 -- the first of the lines are answered by this text
-pub record AreSomeAnswered (old : Option ScriptMap) (lines : List (List ℕ)) (text : List ℕ) : Type 0 where
+pub record AreSomeAnswered (old : Option ScriptTable) (lines : List (List ℕ)) (text : List ℕ) : Type 0 where
   pub first : List (List ℕ)
   pub others : List (List ℕ)
-  pub table : Option ScriptMap
+  pub table : Option ScriptTable
   pub in_order : lines ≡ first ++ others
   pub answers : AreAnswers old first text table
 
 -- the first replies of a run answer the first lines
-pub answered_some : (lines : List (List ℕ)) (calls : List (Call ℕ ℕ)) (replies left : List (Reply ℕ ℕ)) (before after : ScriptMap)
+pub answered_some : (lines : List (List ℕ)) (calls : List (Call ℕ ℕ)) (replies left : List (Reply ℕ ℕ)) (before after : ScriptTable)
     → AskForCalls lines calls → ScriptRun before calls (replies ++ left) after
     → AreSomeAnswered (Some before) lines (lines_of_replies replies)
 answered_some lines calls [] left before after asked ran =
@@ -124,7 +122,7 @@ answered_some (line ∷ lines) calls (reply ∷ replies) left before after (shor
 ]
 
 -- all replies of a run answer all lines
-pub answered_all : (lines : List (List ℕ)) (calls : List (Call ℕ ℕ)) (replies : List (Reply ℕ ℕ)) (before after : ScriptMap)
+pub answered_all : (lines : List (List ℕ)) (calls : List (Call ℕ ℕ)) (replies : List (Reply ℕ ℕ)) (before after : ScriptTable)
     → AskForCalls lines calls → ScriptRun before calls replies after
     → AreAnswers (Some before) lines (lines_of_replies replies) (Some after)
 answered_all [] [] [] before after asked ran = (refl, ap Some ran)

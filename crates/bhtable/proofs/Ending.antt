@@ -1,8 +1,8 @@
 -- How a script ends: what is answered, and what is left in the output.
 use Rattle.std.proofs.Common.{◌≡◌, ℕ, ◌+◌, ◌↔◌, inl, inr, List, [], ◌∷◌, ◌++◌, Option, IsSome, Result, Ok, Err, MatchResult, length, refl, sym, ap, ◌∙◌, append_assoc, append-nil}
 use Rattle.std.specs.Result.{result_and}
-use Rattle.bhtable.specs.Answers.{IsUnreadable, ScriptMap}
-use Rattle.bhtable.specs.Layout.Sessions.{HasEnded, HasReplied, HasStopped, HasTaken, HasTakenSome, map_at_hand}
+use Rattle.bhtable.specs.Answers.{IsUnreadable, ScriptTable}
+use Rattle.bhtable.specs.Layout.Sessions.{HasEnded, HasReplied, HasStopped, HasTaken, HasTakenSome, table_at_hand}
 use Rattle.bhtable.specs.Layout.Stops.{IsLack}
 use Rattle.bhtable.specs.declared.session.Session.{Session}
 use Rattle.bhtable.specs.declared.stop.Stop.{Stop}
@@ -14,7 +14,7 @@ use Rattle.bhtable.proofs.Unreadable.{still_unreadable}
 pub record HasRepliedSome (start output : Option (List ℕ)) (waiting : List ℕ) (lines : List (List ℕ)) : Type 0 where
   pub first : List (List ℕ)
   pub others : List (List ℕ)
-  pub table : Option ScriptMap
+  pub table : Option ScriptTable
   pub in_order : lines ≡ first ++ others
   pub replied : HasReplied start output waiting first table
 
@@ -23,7 +23,7 @@ pub record HasRepliedBad (start output : Option (List ℕ)) (waiting : List ℕ)
   pub first : List (List ℕ)
   pub line : List ℕ
   pub others : List (List ℕ)
-  pub table : Option ScriptMap
+  pub table : Option ScriptTable
   pub in_order : lines ≡ first ++ line ∷ others
   pub numbered : number ≡ length first + 1
   pub replied : HasReplied start output waiting first table
@@ -32,7 +32,7 @@ pub record HasRepliedBad (start output : Option (List ℕ)) (waiting : List ℕ)
 -- what is answered of all lines of an input, once no call waits
 abbrev pub IsReplied : Result (Unit {0}) Stop → Option (List ℕ) → Option (List ℕ) → List ℕ → List (List ℕ) → Type 0
 IsReplied (Ok done) start output waiting lines =
-    (table : Option ScriptMap) × HasReplied start output waiting lines table
+    (table : Option ScriptTable) × HasReplied start output waiting lines table
 IsReplied (Err (BadLine number)) start output waiting lines = HasRepliedBad start output waiting lines number
 IsReplied (Err NoMemory) start output waiting lines = HasRepliedSome start output waiting lines
 IsReplied (Err InputFailed) start output waiting lines = HasRepliedSome start output waiting lines
@@ -42,7 +42,7 @@ IsReplied (Err OutputFailed) start output waiting lines = Unit {0}
 pub record IsAnswered (result : Result (Unit {0}) Stop) (output output2 : Option (List ℕ)) (session session2 : Session) : Type 0 where
   pub answered : (start : Option (List ℕ)) (lines : List (List ℕ)) → HasTaken start output session lines
       → (session2.calls.items ≡ []) × MatchResult result
-      (λ _. HasReplied start output2 session2.replies lines (map_at_hand session2.table))
+      (λ _. HasReplied start output2 session2.replies lines (table_at_hand session2.table))
       (λ stop. HasStopped stop start output2 session2 lines)
   pub none : session.calls.items ≡ [] → (result ≡ Ok tt) × (session2 ≡ session) × (output2 ≡ output)
   pub table : IsSome session2.table ↔ IsSome session.table
@@ -60,7 +60,7 @@ some_of start output session lines first others parts none some =
       | inl taken ↦ record {
         first = some.first;
         others = some.others ++ others;
-        table = map_at_hand session.table;
+        table = table_at_hand session.table;
         in_order = in_order;
         replied = replied_all start output session some.first taken none;
       }
@@ -93,7 +93,7 @@ some_answered (Ok done) stop start output output2 session session2 lines step so
   | inl taken ↦ record {
     first = some.first;
     others = some.others;
-    table = map_at_hand session2.table;
+    table = table_at_hand session2.table;
     in_order = some.in_order;
     replied = (step.answered start some.first taken).1;
   }
@@ -120,7 +120,7 @@ pub ended_answered : (result ended : Result (Unit {0}) Stop) (start output outpu
     → IsAnswered result output output2 session session2 → HasEnded ended start output session lines
     → IsReplied (result_and result ended) start output2 session2.replies lines
 ended_answered (Ok done) (Ok all) start output output2 session session2 lines step taken =
-    (map_at_hand session2.table, (step.answered start lines taken).1)
+    (table_at_hand session2.table, (step.answered start lines taken).1)
 ended_answered (Err stop) (Ok all) start output output2 session session2 lines step taken =
     let left = step.answered start lines taken in
     stopped stop start output2 session2 lines lines [] (sym (append-nil lines)) step.stop left.0 left.1
@@ -128,7 +128,7 @@ ended_answered (Ok done) (Err (BadLine number)) start output output2 session ses
   first = bad.first;
   line = bad.line;
   others = bad.others;
-  table = map_at_hand session2.table;
+  table = table_at_hand session2.table;
   in_order = bad.in_order;
   numbered = bad.numbered;
   replied = (step.answered start bad.first bad.taken).1;

@@ -15,6 +15,7 @@ mod Serving
 mod Splitting
 mod Taking
 mod Turning
+mod TwoRuns
 mod Unreadable
 mod Verbs
 mod WindowLemmas

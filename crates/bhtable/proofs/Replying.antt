@@ -3,11 +3,9 @@ use Rattle.std.proofs.Common.{◌≡◌, ℕ, ◌≤◌, true, List, [], ◌∷�
 use Rattle.std.proofs.KnownBytes.{Appends-kept, Appends-nil, Appends-trans, append_known-grown}
 use Rattle.std.specs.Io.{StartsWith}
 use Rattle.std.specs.Io.KnownBytes.{Appends, Keeps, append_known}
-use Rattle.bucket_table.specs.declared.script.reply.Reply.TheVariants.{Done}
-use Rattle.bhtable.specs.Answers.{AreAnswers, IsAnswer, ScriptMap}
+use Rattle.bhtable.specs.Answers.{AreAnswers, IsAnswer, ScriptTable}
 use Rattle.bhtable.specs.Outputs.{HasAnswered}
 use Rattle.bhtable.specs.Layout.Sessions.{HasReplied}
-use Rattle.bhtable.specs.Texts.{line_of, text_of}
 use Rattle.bhtable.proofs.Answering.{answers_append}
 
 -- a text that could not grow is cut back
@@ -22,7 +20,7 @@ cut_back output output2 old between grown cut len (Err error) kept failed starts
 
 -- more lines, whose answers are appended
 pub replied_more : (start output output2 : Option (List ℕ)) (waiting waiting2 text : List ℕ) (lines more : List (List ℕ))
-    (table table2 : Option ScriptMap)
+    (table table2 : Option ScriptTable)
     → HasReplied start output waiting lines table → AreAnswers table more text table2
     → Appends (append_known output waiting) (append_known output2 waiting2) text
     → HasReplied start output2 waiting2 (lines ++ more) table2
@@ -33,22 +31,21 @@ replied_more start output output2 waiting waiting2 text lines more table table2 
 }
 
 -- the same lines, where nothing is appended
-pub replied_same : (start output output2 : Option (List ℕ)) (waiting waiting2 : List ℕ) (lines : List (List ℕ)) (table : Option ScriptMap)
+pub replied_same : (start output output2 : Option (List ℕ)) (waiting waiting2 : List ℕ) (lines : List (List ℕ)) (table : Option ScriptTable)
     → HasReplied start output waiting lines table → Appends (append_known output waiting) (append_known output2 waiting2) []
     → HasReplied start output2 waiting2 lines table
 replied_same start output output2 waiting waiting2 lines table replied kept =
     subst (λ (ls : List (List ℕ)). HasReplied start output2 waiting2 ls table) (append-nil lines)
     (replied_more start output output2 waiting waiting2 [] lines [] table table replied (refl, refl) kept)
 
--- one line more, which is told that it is done
-pub replied_done : (start output output2 : Option (List ℕ)) (waiting waiting2 : List ℕ) (lines : List (List ℕ)) (line : List ℕ)
-    (table after : Option ScriptMap) → HasReplied start output waiting lines table → length line ≤ 4096
-    → IsAnswer table line (line_of (text_of Done)) after
-    → Appends (append_known output waiting) (append_known output2 waiting2) (line_of (text_of Done))
+-- one line more
+pub replied_one : (start output output2 : Option (List ℕ)) (waiting waiting2 : List ℕ) (lines : List (List ℕ)) (line : List ℕ)
+    (text : List ℕ) (table after : Option ScriptTable) → HasReplied start output waiting lines table → length line ≤ 4096
+    → IsAnswer table line text after → Appends (append_known output waiting) (append_known output2 waiting2) text
     → HasReplied start output2 waiting2 (lines ++ line ∷ []) after
-replied_done start output output2 waiting waiting2 lines line table after replied short answer grown =
-    let answers : AreAnswers table (line ∷ []) (line_of (text_of Done)) after =
-    (short, (line_of (text_of Done), [], after, answer, (refl, refl), sym (append-nil _))) in
+replied_one start output output2 waiting waiting2 lines line text table after replied short answer grown =
+    let answers : AreAnswers table (line ∷ []) text after =
+    (short, (text, [], after, answer, (refl, refl), sym (append-nil _))) in
     replied_more start output output2 waiting waiting2 _ lines (line ∷ []) table _ replied answers grown
 
 -- all that waits is written out
@@ -69,7 +66,7 @@ pub written_out : (start output output2 output3 : Option (List ℕ)) (waiting wa
 written_out start output output2 output3 waiting waiting2 text last replied grown written =
     Appends-kept start _ output3 (text ++ last) (Appends-trans start _ _ text last replied grown) (flushed output2 output3 waiting2 written)
 
-pub answered_out : (start output output2 : Option (List ℕ)) (waiting : List ℕ) (lines : List (List ℕ)) (table : Option ScriptMap)
+pub answered_out : (start output output2 : Option (List ℕ)) (waiting : List ℕ) (lines : List (List ℕ)) (table : Option ScriptTable)
     → HasReplied start output waiting lines table → Appends output output2 waiting → HasAnswered lines start output2 []
 answered_out start output output2 waiting lines table replied written = record {
   text = replied.text;
@@ -79,7 +76,7 @@ answered_out start output output2 waiting lines table replied written = record {
       (Appends-nil (append_known output waiting)) written;
 }
 
-pub replied_out : (start output output2 : Option (List ℕ)) (waiting waiting2 : List ℕ) (lines : List (List ℕ)) (table : Option ScriptMap)
+pub replied_out : (start output output2 : Option (List ℕ)) (waiting waiting2 : List ℕ) (lines : List (List ℕ)) (table : Option ScriptTable)
     → HasReplied start output waiting lines table → Appends output output2 waiting → waiting2 ≡ []
     → HasReplied start output2 waiting2 lines table
 replied_out start output output2 waiting waiting2 lines table replied written empty =

@@ -3,7 +3,7 @@ use Rattle.std.proofs.Common.{◌≡◌, ℕ, ◌+◌, ◌<◌, ◌⊎◌, inl, 
 use Rattle.std.specs.Io.KnownBytes.{Consumes, IsAtEnd}
 use Rattle.bhtable.specs.InputLines.{lines_of}
 use Rattle.bhtable.specs.Layout.Found.{IsFoundIn}
-use Rattle.bhtable.specs.Layout.Sessions.{HasEnded, HasFoundBad, HasStopped, HasTaken, HasTakenSome, IsBadAt, map_at_hand}
+use Rattle.bhtable.specs.Layout.Sessions.{HasEnded, HasFoundBad, HasStopped, HasTaken, HasTakenSome, IsBadAt, table_at_hand}
 use Rattle.bhtable.specs.Layout.Stops.{IsInput, IsLack}
 use Rattle.bhtable.specs.declared.line.Found.TheVariants.{Line as FoundLine, TooLong, End}
 use Rattle.bhtable.specs.declared.line.Line.{Line}
@@ -115,7 +115,7 @@ module _ (input left : Option (List ℕ)) (is_ended : Bool) (unread : List ℕ) 
   pub ends_at_line : (output2 : Option (List ℕ)) (session2 : Session) (line : Line) (stop : Stop)
       → IsFoundIn is_ended unread (FoundLine line)
       → (stop ≡ BadLine (number + 1)) ⊎ IsLack stop
-      → HasStopped stop start output2 session2 come.before × IsBadAt stop (map_at_hand session2.table) (take line.len unread)
+      → HasStopped stop start output2 session2 come.before × IsBadAt stop (table_at_hand session2.table) (take line.len unread)
       → EndsSo input start output2 session2 (Err stop)
   ends_at_line output2 session2 line stop found (inr lack) left2 = ends_between output2 session2 stop lack left2.0
   ends_at_line output2 session2 line stop found (inl bad) left2 =

@@ -4,10 +4,10 @@ use Rattle.std.proofs.KnownBytes.{Appends-nil}
 use Rattle.std.specs.Io.KnownBytes.{Appends, append_known}
 use Rattle.bucket_table.specs.declared.script.call.Call.{Call}
 use Rattle.bucket_table.specs.declared.script.reply.Reply.{Reply}
-use Rattle.bhtable.specs.Answers.{ScriptMap}
+use Rattle.bhtable.specs.Answers.{ScriptTable}
 use Rattle.bhtable.specs.Layout.Replies.{ArePushed, lines_of_replies}
 use Rattle.bhtable.specs.Requests.{Asks}
-use Rattle.bhtable.specs.Layout.Sessions.{AskForCalls, HasReplied, HasStopped, HasTaken, HasTakenSome, ScriptRun, map_at_hand}
+use Rattle.bhtable.specs.Layout.Sessions.{AskForCalls, HasReplied, HasStopped, HasTaken, HasTakenSome, ScriptRun, table_at_hand}
 use Rattle.bhtable.specs.Words.{parts_of}
 use Rattle.bhtable.specs.declared.request.Request.TheVariants.{Call as Calls}
 use Rattle.bhtable.specs.declared.session.Session.{Session}
@@ -46,10 +46,10 @@ taken_call start output session session2 lines line call taken short asks pushed
 -- where no call waits, all lines that were taken are answered
 pub replied_all : (start output : Option (List ℕ)) (session : Session) (lines : List (List ℕ)) → HasTaken start output session lines
     → session.calls.items ≡ []
-    → HasReplied start output session.replies lines (map_at_hand session.table)
+    → HasReplied start output session.replies lines (table_at_hand session.table)
 replied_all start output session lines taken none =
     let blank : AskForCalls taken.waiting [] = rw none at taken.calls in
-    let table = map_at_hand session.table in
+    let table = table_at_hand session.table in
     rw taken.in_order (replied_more start output output _ _ [] taken.answered taken.waiting table table taken.replied
     (answered_nothing taken.waiting table blank) (Appends-nil (append_known output session.replies)))
 
@@ -59,7 +59,7 @@ no_items [] len same empty = refl
 no_items (item ∷ items) len same empty = absurd (omega (arith, same, eqb-true len 0 (sym empty)))
 
 pub taken_all : (start output : Option (List ℕ)) (session : Session) (lines : List (List ℕ))
-    → HasReplied start output session.replies lines (map_at_hand session.table) → session.calls.items ≡ []
+    → HasReplied start output session.replies lines (table_at_hand session.table) → session.calls.items ≡ []
     → HasTaken start output session lines
 taken_all start output session lines replied none = record {
   answered = lines;
@@ -71,8 +71,8 @@ taken_all start output session lines replied none = record {
 }
 
 -- the first of the replies were appended
-some_pushed : (start output output2 : Option (List ℕ)) (session session2 : Session) (lines : List (List ℕ)) (before after : ScriptMap)
-    (replies others : List (Reply ℕ ℕ)) → HasTaken start output session lines → map_at_hand session.table ≡ Some before
+some_pushed : (start output output2 : Option (List ℕ)) (session session2 : Session) (lines : List (List ℕ)) (before after : ScriptTable)
+    (replies others : List (Reply ℕ ℕ)) → HasTaken start output session lines → table_at_hand session.table ≡ Some before
     → ScriptRun before session.calls.items (replies ++ others) after
     → Appends (append_known output session.replies) (append_known output2 session2.replies) (lines_of_replies replies)
     → session2.calls.items ≡ [] → HasTakenSome start output2 session2 lines
@@ -94,8 +94,8 @@ some_pushed start output output2 session session2 lines before after replies oth
       );
     }
 
-all_pushed : (start output output2 : Option (List ℕ)) (session session2 : Session) (lines : List (List ℕ)) (before after : ScriptMap)
-    (replies : List (Reply ℕ ℕ)) → HasTaken start output session lines → map_at_hand session.table ≡ Some before
+all_pushed : (start output output2 : Option (List ℕ)) (session session2 : Session) (lines : List (List ℕ)) (before after : ScriptTable)
+    (replies : List (Reply ℕ ℕ)) → HasTaken start output session lines → table_at_hand session.table ≡ Some before
     → ScriptRun before session.calls.items replies after
     → Appends (append_known output session.replies) (append_known output2 session2.replies) (lines_of_replies replies)
     → HasReplied start output2 session2.replies lines (Some after)
@@ -105,14 +105,14 @@ all_pushed start output output2 session session2 lines before after replies take
     (answered_all taken.waiting session.calls.items replies before after taken.calls ran) grown)
 
 -- the calls that waited are done, and their replies were appended as far as that went
-pub pushed : (start output output2 : Option (List ℕ)) (session session2 : Session) (lines : List (List ℕ)) (before after : ScriptMap)
+pub pushed : (start output output2 : Option (List ℕ)) (session session2 : Session) (lines : List (List ℕ)) (before after : ScriptTable)
     (replies : List (Reply ℕ ℕ)) (result : Result (Unit {0}) Stop) → HasTaken start output session lines
-    → map_at_hand session.table ≡ Some before → map_at_hand session2.table ≡ Some after
+    → table_at_hand session.table ≡ Some before → table_at_hand session2.table ≡ Some after
     → ScriptRun before session.calls.items replies after
     → ArePushed result (append_known output session.replies) (append_known output2 session2.replies) replies
     → session2.calls.items ≡ []
     → MatchResult result
-    (λ _. HasReplied start output2 session2.replies lines (map_at_hand session2.table))
+    (λ _. HasReplied start output2 session2.replies lines (table_at_hand session2.table))
     (λ stop. HasStopped stop start output2 session2 lines)
 pushed start output output2 session session2 lines before after replies (Ok done) taken there there2 ran (first, others, parts, all) none =
     let whole : replies ≡ first = parts ∙ ap (λ (rs : List (Reply ℕ ℕ)). first ++ rs) all.0 ∙ append-nil first in

@@ -2,23 +2,24 @@
 use Rattle.std.proofs.Common.{◌≡◌, ℕ, ◌≤◌, inr, List, [], ◌∷◌, ◌++◌, Option, None, Some, IsSome, Result, Ok, Err, OnOk, IfErr, MatchResult, length, refl, sym, subst, ◌∙◌, append-nil}
 use Rattle.std.specs.Io.KnownBytes.{Appends, append_known}
 use Rattle.bucket_table.specs.declared.script.generation.FixedGeneration.{FixedGeneration}
+use Rattle.bucket_table.specs.declared.script.reply.Reply.{Reply}
 use Rattle.bucket_table.specs.declared.script.reply.Reply.TheVariants.{Done}
-use Rattle.bhtable.specs.Answers.{Answers, IsAnswer, ScriptMap}
+use Rattle.bhtable.specs.Answers.{Answers, IsAnswer, ScriptTable, told}
 use Rattle.bhtable.specs.Outputs.{HasAnswered}
 use Rattle.bhtable.specs.Layout.Replies.{IsPushed}
-use Rattle.bhtable.specs.Layout.Sessions.{HasReplied, HasStopped, HasTaken, IsBadAt, map_at_hand}
+use Rattle.bhtable.specs.Layout.Sessions.{HasReplied, HasStopped, HasTaken, IsBadAt, table_at_hand, table_of}
 use Rattle.bhtable.specs.Layout.Stops.{IsLack}
-use Rattle.bhtable.specs.Texts.{line_of, text_of}
-use Rattle.bhtable.specs.declared.request.Request.TheVariants.{Epoch}
+use Rattle.bhtable.specs.declared.request.Question.{Question}
+use Rattle.bhtable.specs.declared.request.Request.TheVariants.{Epoch, Question as Questions}
 use Rattle.bhtable.specs.declared.session.Session.{Session}
 use Rattle.bhtable.specs.declared.session.Table.{Table}
 use Rattle.bhtable.specs.declared.stop.Stop.{Stop}
 use Rattle.bhtable.specs.declared.stop.Stop.TheVariants.{BadLine, NoMemory, InputFailed, OutputFailed}
-use Rattle.bhtable.proofs.Replying.{answered_out, replied_done, replied_out, replied_same}
+use Rattle.bhtable.proofs.Replying.{answered_out, replied_one, replied_out, replied_same}
 use Rattle.bhtable.proofs.Taking.{taken_all}
 
 -- a want of memory or a writer that fails isn't a line that can't be read
-pub at_line : (result : Result (Unit {0}) Stop) (P : Unit {0} → Type 0) (Q : Stop → Type 0) (table : Option ScriptMap) (line : List ℕ)
+pub at_line : (result : Result (Unit {0}) Stop) (P : Unit {0} → Type 0) (Q : Stop → Type 0) (table : Option ScriptTable) (line : List ℕ)
     → MatchResult result P Q → MatchResult result (λ _. Unit {0}) IsLack
     → MatchResult result P (λ stop. Q stop × IsBadAt stop table line)
 at_line (Ok done) P Q table line left lack = left
@@ -27,56 +28,61 @@ at_line (Err NoMemory) P Q table line left lack = (left, tt)
 at_line (Err InputFailed) P Q table line left lack = absurd lack
 at_line (Err OutputFailed) P Q table line left lack = (left, tt)
 
--- a line that is told that it is done, once no call waits
-pub taken_done : (start output output2 : Option (List ℕ)) (session session2 : Session) (lines : List (List ℕ)) (line : List ℕ)
-    (after : Option ScriptMap) (result : Result (Unit {0}) Stop)
-    → HasReplied start output session.replies lines (map_at_hand session.table)
-    → session.calls.items ≡ [] → length line ≤ 4096 → IsAnswer (map_at_hand session.table) line (line_of (text_of Done)) after
-    → IsPushed result (append_known output session.replies) (append_known output2 session2.replies) (line_of (text_of Done))
-    → map_at_hand session2.table ≡ after → session2.calls.items ≡ session.calls.items
+-- a line that is answered at once, where no call waits
+pub taken_one : (start output output2 : Option (List ℕ)) (session session2 : Session) (lines : List (List ℕ)) (line : List ℕ)
+    (text : List ℕ) (after : Option ScriptTable) (result : Result (Unit {0}) Stop)
+    → HasReplied start output session.replies lines (table_at_hand session.table)
+    → session.calls.items ≡ [] → length line ≤ 4096 → IsAnswer (table_at_hand session.table) line text after
+    → IsPushed result (append_known output session.replies) (append_known output2 session2.replies) text
+    → table_at_hand session2.table ≡ after → session2.calls.items ≡ session.calls.items
     → MatchResult result (λ _. HasTaken start output2 session2 (lines ++ line ∷ [])) (λ stop. HasStopped stop start output2 session2 lines)
-taken_done start output output2 session session2 lines line after (Ok done) replied none short answer grown table calls =
+taken_one start output output2 session session2 lines line text after (Ok done) replied none short answer grown table calls =
     taken_all start output2 session2 (lines ++ line ∷ [])
-    (rw table (replied_done start output output2 session.replies session2.replies lines line (map_at_hand session.table) after replied short
+    (rw table (replied_one start output output2 session.replies session2.replies lines line text (table_at_hand session.table) after replied short
     answer grown))
     (calls ∙ none)
-taken_done start output output2 session session2 lines line after (Err (BadLine number)) replied none short answer never table calls =
+taken_one start output output2 session session2 lines line text after (Err (BadLine number)) replied none short answer never table calls =
     absurd never
-taken_done start output output2 session session2 lines line after (Err NoMemory) replied none short answer kept table calls = record {
+taken_one start output output2 session session2 lines line text after (Err NoMemory) replied none short answer kept table calls = record {
   first = lines;
   others = [];
   in_order = sym (append-nil lines);
   kept = inr (
     calls ∙ none,
     (
-      map_at_hand session.table,
-      replied_same start output output2 session.replies session2.replies lines (map_at_hand session.table) replied kept,
+      table_at_hand session.table,
+      replied_same start output output2 session.replies session2.replies lines (table_at_hand session.table) replied kept,
     ),
   );
 }
-taken_done start output output2 session session2 lines line after (Err InputFailed) replied none short answer never table calls =
+taken_one start output output2 session session2 lines line text after (Err InputFailed) replied none short answer never table calls =
     absurd never
-taken_done start output output2 session session2 lines line after (Err OutputFailed) replied none short answer unknown table calls =
+taken_one start output output2 session session2 lines line text after (Err OutputFailed) replied none short answer unknown table calls =
     calls ∙ none
 
 -- where there is a table, an epoch leaves it as it is
 pub epoch_answered : (table : Option Table) (generation : FixedGeneration) → IsSome table
-    → Answers (map_at_hand table) (Epoch generation) Done (map_at_hand table)
+    → Answers (table_at_hand table) (Epoch generation) Done (table_at_hand table)
 epoch_answered None generation there = absurd (cc)
 epoch_answered (Some table) generation there = refl
 
+-- where there is a table, it tells of itself, and stays
+pub told_of : (table : Option Table) (at : Table) (question : Question) (reply : Reply ℕ ℕ) → table ≡ Some at
+    → reply ≡ told (table_of at) question → Answers (table_at_hand table) (Questions question) reply (table_at_hand table)
+told_of table at question reply there told_is = rw there (told_is, refl)
+
 -- the text that waited is in the output
 pub wrote : (start output output2 : Option (List ℕ)) (session session2 : Session) (lines : List (List ℕ)) (result : Result (Unit {0}) Stop)
-    → HasReplied start output session.replies lines (map_at_hand session.table) → session.calls.items ≡ []
+    → HasReplied start output session.replies lines (table_at_hand session.table) → session.calls.items ≡ []
     → session2.calls.items ≡ session.calls.items → session2.table ≡ session.table
     → OnOk result (session2.replies ≡ []) → OnOk result (Appends output output2 session.replies)
     → IfErr result (λ stop. stop ≡ OutputFailed)
     → MatchResult result (λ _. HasAnswered lines start output2 [] × HasTaken start output2 session2 lines)
     (λ stop. HasStopped stop start output2 session2 lines)
 wrote start output output2 session session2 lines (Ok done) replied none calls table empty written failed = (
-  answered_out start output output2 session.replies lines (map_at_hand session.table) replied written,
+  answered_out start output output2 session.replies lines (table_at_hand session.table) replied written,
   taken_all start output2 session2 lines
-      (rw table (replied_out start output output2 session.replies session2.replies lines (map_at_hand session.table) replied written empty))
+      (rw table (replied_out start output output2 session.replies session2.replies lines (table_at_hand session.table) replied written empty))
       (calls ∙ none),
 )
 wrote start output output2 session session2 lines (Err stop) replied none calls table empty written failed =

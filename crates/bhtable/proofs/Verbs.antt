@@ -1,15 +1,15 @@
 -- A line's verb tells of its form, and so how many parts stand behind it.
 use Rattle.std.proofs.Common.{◌≡◌, ℕ, List, [], ◌∷◌, length, map, Option, Some, None, MatchOption, refl, sym, ap, ◌∙◌, subst, arith, append-nil, length-append, rules}
-use Rattle.std.proofs.lemmas.List.{length-map}
 use Rattle.bhtable.specs.Layout.Forms.{AsksNothing, Begins, form_word}
 use Rattle.bhtable.specs.Layout.Meanings.{meaning}
 use Rattle.bhtable.specs.Numbers.{is_number}
 use Rattle.bhtable.specs.Requests.{Asks, call_line, request_line}
-use Rattle.bhtable.specs.Words.{Part, number, part_of, text}
+use Rattle.bhtable.specs.Words.{Part, part_of, text}
 use Rattle.bhtable.specs.declared.request.Form.{Form}
-use Rattle.bhtable.specs.declared.request.Form.TheVariants.{Table, Epoch, Call as Calls}
+use Rattle.bhtable.specs.declared.request.Form.TheVariants.{Table, Epoch, Question as Questions, Call as Calls}
+use Rattle.bhtable.specs.declared.request.Question.TheVariants.{Slots, Word}
 use Rattle.bhtable.specs.declared.request.Request.{Request}
-use Rattle.bhtable.specs.declared.request.Request.TheVariants.{New as RequestNew, Call as RequestCall, Epoch as RequestEpoch}
+use Rattle.bhtable.specs.declared.request.Request.TheVariants.{New as RequestNew, Call as RequestCall, Question as RequestQuestion, Epoch as RequestEpoch}
 use Rattle.bhtable.specs.declared.request.TheConstants.{FORMS}
 use Rattle.bucket_table.specs.declared.script.call.Call.TheVariants.{Put}
 use Rattle.bhtable.proofs.Naming.{AreNamed, named_by_meaning}
@@ -26,6 +26,7 @@ forms_named = search rules
 abbrev IsOfForm : Form → Request → Type 0
 IsOfForm Table (RequestNew table) = Unit {0}
 IsOfForm Epoch (RequestEpoch generation) = Unit {0}
+IsOfForm (Questions asked) (RequestQuestion question) = Unit {0}
 IsOfForm (Calls model) (RequestCall call) = length (call_line call).1 ≡ length (call_line model).1
 IsOfForm form request = ⊥
 
@@ -37,6 +38,8 @@ IsFormAt verb request = MatchOption (meaning forms verb) ⊥ (λ form. IsOfForm 
 form_of : (request : Request) → IsFormAt (request_line request).0 request
 form_of (RequestNew table) = tt
 form_of (RequestEpoch generation) = tt
+form_of (RequestQuestion Slots) = tt
+form_of (RequestQuestion Word) = tt
 form_of (RequestCall (Put key value)) = refl
 form_of (RequestCall call) = refl
 
@@ -45,6 +48,8 @@ verb_is_word : (request : Request) → part_of (request_line request).0 ≡ text
 unfolding part_of is_number
 verb_is_word (RequestNew table) = refl
 verb_is_word (RequestEpoch generation) = refl
+verb_is_word (RequestQuestion Slots) = refl
+verb_is_word (RequestQuestion Word) = refl
 verb_is_word (RequestCall (Put key value)) = refl
 verb_is_word (RequestCall call) = refl
 
@@ -52,19 +57,16 @@ verb_is_word (RequestCall call) = refl
 part_len : Form → ℕ
 part_len Table = 4
 part_len Epoch = 2
+part_len (Questions asked) = 0
 part_len (Calls model) = length (call_line model).1
 
 length-form : (form : Form) (request : Request) → IsOfForm form request → length (request_line request).1 ≡ part_len form
 unfolding part_len
 length-form Table (RequestNew table) of_form = refl
-length-form Table (RequestCall call) of_form = absurd of_form
-length-form Table (RequestEpoch generation) of_form = absurd of_form
-length-form Epoch (RequestNew table) of_form = absurd of_form
-length-form Epoch (RequestCall call) of_form = absurd of_form
 length-form Epoch (RequestEpoch generation) of_form = refl
-length-form (Calls model) (RequestNew table) of_form = absurd of_form
-length-form (Calls model) (RequestCall call) of_form = length-map (call_line call).1 number ∙ of_form
-length-form (Calls model) (RequestEpoch generation) of_form = absurd of_form
+length-form (Questions asked) (RequestQuestion question) of_form = refl
+length-form (Calls model) (RequestCall call) of_form = of_form
+length-form form request of_form = absurd of_form
 
 same_length_at : (found : Option Form) (request request2 : Request) → MatchOption found ⊥ (λ form. IsOfForm form request)
     → MatchOption found ⊥ (λ form. IsOfForm form request2) → length (request_line request).1 ≡ length (request_line request2).1

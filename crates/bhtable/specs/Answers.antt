@@ -1,24 +1,32 @@
 -- What the lines of a script are answered.
-use Rattle.std.specs.Prelude.{ℕ, ◌≡◌, ◌⊎◌, ◌<◌, ◌≤◌, List, [], ◌∷◌, ◌++◌, Option, None, Some, length, nat_eq}
+use Rattle.std.specs.Prelude.{ℕ, ◌*◌, ◌≡◌, ◌⊎◌, ◌<◌, ◌≤◌, List, [], ◌∷◌, ◌++◌, Option, None, Some, length, nat_eq}
 use Rattle.bucket_slots.specs.declared.bucket.TheConstants.{CACHE, INDEX, MAP}
 use Rattle.bucket_table.specs.Calls.{Step}
+use Rattle.bucket_table.specs.Covered.{RehashState}
 use Rattle.bucket_table.specs.Hashes.{script_hash}
 use Rattle.bucket_table.specs.MapState.{MapState}
+use Rattle.bucket_table.specs.State.{word_of}
+use Rattle.bucket_table.specs.TicketCalls.{TicketStep}
+use Rattle.bucket_table.specs.declared.script.call.Call.{Call}
 use Rattle.bucket_table.specs.declared.script.hashes.ScriptHash.{ScriptHash}
 use Rattle.bucket_table.specs.declared.script.reply.Reply.{Reply}
-use Rattle.bucket_table.specs.declared.script.reply.Reply.TheVariants.{Done}
+use Rattle.bucket_table.specs.declared.script.reply.Reply.TheVariants.{Done, NoWork, Number}
 use Rattle.bhtable.specs.Requests.{Asks}
 use Rattle.bhtable.specs.Texts.{line_of, text_of}
 use Rattle.bhtable.specs.Words.{parts_of}
 use Rattle.bhtable.specs.declared.request.Kind.{Kind}
 use Rattle.bhtable.specs.declared.request.Kind.TheVariants.{Map, Index, Cache}
 use Rattle.bhtable.specs.declared.request.NewTable.{NewTable}
+use Rattle.bhtable.specs.declared.request.Question.{Question}
+use Rattle.bhtable.specs.declared.request.Question.TheVariants.{Slots, Word}
 use Rattle.bhtable.specs.declared.request.Request.{Request}
-use Rattle.bhtable.specs.declared.request.Request.TheVariants.{New, Call as Calls, Epoch}
+use Rattle.bhtable.specs.declared.request.Request.TheVariants.{New, Call as Calls, Question as Questions, Epoch}
 
--- the map of a script, of numbers under numbers
-abbrev pub ScriptMap : Type 0
-ScriptMap = MapState ℕ ℕ ScriptHash
+-- what a script is answered from: the map, the tickets of the old array where one stands, and the number of buckets of the current one
+pub record ScriptTable : Type 0 where
+  pub map : MapState ℕ ℕ ScriptHash
+  pub tickets : Option RehashState
+  pub len : ℕ
 
 -- the letter of a kind
 abbrev pub kind_letter : Kind → ℕ
@@ -26,32 +34,52 @@ kind_letter Map = MAP
 kind_letter Index = INDEX
 kind_letter Cache = CACHE
 
--- a fresh table has no pairs
-abbrev pub fresh_map : NewTable → ScriptMap
+-- a fresh map has no pairs
+abbrev pub fresh_map : NewTable → MapState ℕ ℕ ScriptHash
 fresh_map new =
     record { kind = kind_letter new.kind; hasher = new.hash; minimum = new.limits.minimum; maximum = new.limits.maximum; pairs = [] }
 
--- from the table `old` the request may have this reply, and `new` is the table after it, which an epoch leaves as it is
-abbrev pub Answers : Option ScriptMap → Request → Reply ℕ ℕ → Option ScriptMap → Type 0
-Answers old (New fresh) Done new = new ≡ Some (fresh_map fresh)
-Answers (Some before) (Calls call) reply (Some after) = Step nat_eq script_hash before call reply after
-Answers (Some map) (Epoch generation) Done new = new ≡ Some map
+-- a fresh table has no pairs and no array
+abbrev pub fresh_table : NewTable → ScriptTable
+fresh_table new = record { map = fresh_map new; tickets = None; len = 0 }
+
+-- a call is answered by the map and by the tickets
+abbrev pub ScriptStep : ScriptTable → Call ℕ ℕ → Reply ℕ ℕ → ScriptTable → Type 0
+ScriptStep old call reply new =
+    Step nat_eq script_hash old.map call reply new.map × TicketStep old.tickets call reply new.tickets
+
+-- the rehash word, and none where no old array stands
+abbrev pub word_reply : Option RehashState → Reply ℕ ℕ
+word_reply None = NoWork
+word_reply (Some state) = Number (word_of state.tickets)
+
+-- what a table tells of itself: 32 slots for each bucket of its current array, and the rehash word
+abbrev pub told : ScriptTable → Question → Reply ℕ ℕ
+told table Slots = Number (32 * table.len)
+told table Word = word_reply table.tickets
+
+-- from the table `old` the request may have this reply, and `new` is the table after it, which a question and an epoch leave as it is
+abbrev pub Answers : Option ScriptTable → Request → Reply ℕ ℕ → Option ScriptTable → Type 0
+Answers old (New fresh) Done new = new ≡ Some (fresh_table fresh)
+Answers (Some before) (Calls call) reply (Some after) = ScriptStep before call reply after
+Answers (Some table) (Questions question) reply new = (reply ≡ told table question) × (new ≡ Some table)
+Answers (Some table) (Epoch generation) Done new = new ≡ Some table
 Answers old request reply new = ⊥
 
 -- from the table `old` the line may be answered by this text, and `new` is the table after it; a line without words is passed over
-abbrev pub IsAnswer : Option ScriptMap → List ℕ → List ℕ → Option ScriptMap → Type 0
+abbrev pub IsAnswer : Option ScriptTable → List ℕ → List ℕ → Option ScriptTable → Type 0
 IsAnswer old line text new =
     ((parts_of line ≡ []) × (text ≡ []) × (new ≡ old)) ⊎ ((request : Request) × (reply : Reply ℕ ℕ)
     × Asks (parts_of line) request × Answers old request reply new × (text ≡ line_of (text_of reply)))
 
 -- the lines, none too long, may be answered by this text, one after another
-abbrev pub AreAnswers : Option ScriptMap → List (List ℕ) → List ℕ → Option ScriptMap → Type 0
+abbrev pub AreAnswers : Option ScriptTable → List (List ℕ) → List ℕ → Option ScriptTable → Type 0
 AreAnswers old [] text new = (text ≡ []) × (new ≡ old)
 AreAnswers old (line ∷ lines) text new =
-    (length line ≤ 4096) × ((first : List ℕ) × (rest : List ℕ) × (between : Option ScriptMap)
+    (length line ≤ 4096) × ((first : List ℕ) × (rest : List ℕ) × (between : Option ScriptTable)
     × IsAnswer old line first between × AreAnswers between lines rest new × (text ≡ first ++ rest))
 
--- the line is too long, or has words that ask for nothing but perhaps a call or an epoch before the first table
-abbrev pub IsUnreadable : Option ScriptMap → List ℕ → Type 0
+-- the line is too long, or has words that ask for nothing but perhaps a call, a question or an epoch before the first table
+abbrev pub IsUnreadable : Option ScriptTable → List ℕ → Type 0
 IsUnreadable table line = (4096 < length line) ⊎ ((parts_of line ≡ [] → ⊥)
     × ((request : Request) → Asks (parts_of line) request → (table ≡ None) × ((new : NewTable) → request ≡ New new → ⊥)))

@@ -1,14 +1,14 @@
 -- What a script leaves in its output.
 use Rattle.std.specs.Prelude.{ℕ, ◌≡◌, ◌⊎◌, ◌+◌, List, [], ◌∷◌, ◌++◌, Option, None, IfSome, codes, length}
 use Rattle.std.specs.Io.KnownBytes.{Appends}
-use Rattle.bhtable.specs.Answers.{AreAnswers, IsUnreadable, ScriptMap}
+use Rattle.bhtable.specs.Answers.{AreAnswers, IsUnreadable, ScriptTable}
 use Rattle.bhtable.specs.InputLines.{lines_of}
 use Rattle.bhtable.specs.Texts.{bad_line, line_of}
 
 -- the output grew by the answers of all these lines, and then by `last`
 pub record HasAnswered (lines : List (List ℕ)) (old new : Option (List ℕ)) (last : List ℕ) : Type 0 where
   pub text : List ℕ
-  pub table : Option ScriptMap
+  pub table : Option ScriptTable
   pub answers : AreAnswers None lines text table
   pub written : Appends old new (text ++ last)
 

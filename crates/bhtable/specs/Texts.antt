@@ -2,7 +2,8 @@
 use Rattle.std.specs.Prelude.{ℕ, List, [], ◌∷◌, ◌++◌, codes, if◌then◌else◌}
 use Rattle.std.specs.Fmt.{decimal}
 use Rattle.bucket_table.specs.declared.script.reply.Reply.{Reply}
-use Rattle.bucket_table.specs.declared.script.reply.Reply.TheVariants.{Done, Present, Absent, Value, Old, Pair, Nothing, Number, Truth, Refused, WrongKind}
+use Rattle.bucket_table.specs.declared.script.reply.Reply.TheVariants.{Done, Present, Absent, Value, Old, Pair, Nothing, Number, Truth, Ticket, NoTicket, NoWork, Ended, Fault, Refused, WrongKind}
+use Rattle.bucket_table.specs.declared.tickets.TicketError.TheVariants.{NotOpen, NotDone}
 
 -- a reply in words
 abbrev pub text_of : Reply ℕ ℕ → List ℕ
@@ -15,6 +16,12 @@ text_of (Pair key value) = codes "pair " ++ decimal key ++ codes " " ++ decimal 
 text_of Nothing = codes "nothing"
 text_of (Number number) = decimal number
 text_of (Truth truth) = if truth then codes "true" else codes "false"
+text_of (Ticket ticket) = codes "ticket " ++ decimal ticket
+text_of NoTicket = codes "none"
+text_of NoWork = codes "none"
+text_of (Ended gone) = if gone then codes "gone" else codes "stays"
+text_of (Fault NotOpen) = codes "refused 1"
+text_of (Fault NotDone) = codes "refused 2"
 text_of Refused = codes "refused 3"
 text_of WrongKind = codes "wrong kind"
 

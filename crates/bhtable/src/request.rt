@@ -2,9 +2,9 @@
 //!
 //! Words are compared as bytes. Whatever isn't UTF-8 stands in a word that no line has, so it needs
 //! no test of its own.
-ghost use Rattle.std.specs.Prelude.{◌≡◌, ◌≤◌, ◌↔◌, ℕ, List, [], ◌∷◌, IfNone, IfOk, IfSome, IsSome, MatchOption, OnErr, length, take};
+ghost use Rattle.std.specs.Prelude.{◌≡◌, ◌↔◌, ℕ, List, [], ◌∷◌, IfNone, IfOk, IfSome, IsSome, MatchOption, OnErr};
 ghost use Rattle.bhtable.specs.Layout.Forms.{AsksNothing, Begins, IsMeant, form_word};
-ghost use Rattle.bhtable.specs.Requests.{AreLimits, Asks, call_line, hash_word, kind_word, mark_word, request_line};
+ghost use Rattle.bhtable.specs.Requests.{AreLimits, Asks, call_line, end_word, hash_word, kind_word, mark_word, request_line};
 ghost use Rattle.bhtable.specs.Words.{Part, part_of, parts_of};
 ghost use Rattle.bhtable.specs.declared.request.NewTable.{NewTable};
 ghost use Rattle.bhtable.specs.declared.request.Request.{Request};
@@ -26,8 +26,19 @@ pub(crate) enum Request {
     New(NewTable),
     /// A call on the table at hand.
     Call(Call<u64, u64>),
+    /// What the table at hand is to tell of itself.
+    Question(Question),
     /// What removed pairs of an index are marked with from here on, and whether marks are kept.
     Epoch(FixedGeneration),
+}
+
+/// What a table tells of itself.
+#[derive(Clone, Copy)]
+pub(crate) enum Question {
+    /// How many slots its current array has.
+    Slots,
+    /// The rehash word of its old array.
+    Word,
 }
 
 /// A table to be made.
@@ -60,14 +71,18 @@ enum Form {
     Table,
     // A byte, and whether marks are kept.
     Epoch,
-    // The numbers of a call like this one.
+    // Nothing.
+    Question(Question),
+    // The operands of a call like this one.
     Call(Call<u64, u64>),
 }
 
 // Each verb, and its form: of a call, with zeros where a line has its numbers.
-const FORMS: [(&[u8], Form); 11] = [
+const FORMS: [(&[u8], Form); 17] = [
     (b"new", Form::Table),
     (b"epoch", Form::Epoch),
+    (b"slots", Form::Question(Question::Slots)),
+    (b"word", Form::Question(Question::Word)),
     (b"put", Form::Call(Call::Put(0, 0))),
     (b"write", Form::Call(Call::Write(0, 0))),
     (b"read", Form::Call(Call::Read(0))),
@@ -77,6 +92,10 @@ const FORMS: [(&[u8], Form); 11] = [
     (b"evict", Form::Call(Call::Evict(0))),
     (b"count", Form::Call(Call::Count)),
     (b"has", Form::Call(Call::Has)),
+    (b"reserve", Form::Call(Call::Reserve(0))),
+    (b"start", Form::Call(Call::Start)),
+    (b"work", Form::Call(Call::Work(0))),
+    (b"end", Form::Call(Call::End(0, false))),
 ];
 
 const KINDS: [(&[u8], Kind); 3] = [
@@ -93,6 +112,9 @@ const HASHES: [(&[u8], ScriptHash); 3] = [
 
 // Whether marks are kept.
 const MARKS: [(&[u8], bool); 2] = [(b"keep", true), (b"drop", false)];
+
+// Whether a ticket ends with success.
+const ENDS: [(&[u8], bool); 2] = [(b"done", true), (b"fail", false)];
 
 /// Reads what a line asks for: nothing, where it has no words.
 pub(crate) fn request_in(line: &[u8]) -> Result<Option<Request>, Unreadable>
@@ -135,51 +157,31 @@ fn request_of(form: Form, words: &mut Words<'_>) -> Option<Request>
     match form {
         Form::Table => Some(Request::New(new_table(words)?)),
         Form::Epoch => Some(Request::Epoch(generation_in(words)?)),
+        Form::Question(question) => Some(Request::Question(question)),
         Form::Call(model) => Some(Request::Call(call_in(model, words)?)),
     }
 }
 
-// A call like the model, with the numbers of a line.
+// A call like the model, with the operands of a line.
 fn call_in(model: Call<u64, u64>, words: &mut Words<'_>) -> Option<Call<u64, u64>>
     ensures asked { IfSome result (λ call. ((call_line call).0 ≡ (call_line model).0)
         × Begins words.old (Request.Call call) words.new) }
     ensures refused { IfNone result ((call : Call ℕ ℕ) (rest : List Part)
         → (call_line call).0 ≡ (call_line model).0 → Begins words.old (Request.Call call) rest → ⊥) }
 {
-    match operand_len(model) {
-        0 => Some(call_of(model, 0, 0)),
-        1 => Some(call_of(model, words.number()?, 0)),
-        _ => Some(call_of(model, words.number()?, words.number()?)),
-    }
-}
-
-// How many numbers stand behind a call's verb.
-fn operand_len(call: Call<u64, u64>) -> usize
-    ensures len { result ≡ length (call_line call).1 }
-    ensures few { result ≤ 2 }
-{
-    match call {
-        Call::Count | Call::Has => 0,
-        Call::Put(..) | Call::Write(..) => 2,
-        _ => 1,
-    }
-}
-
-// A call like the model, with as many of these numbers as it has.
-fn call_of(model: Call<u64, u64>, first: u64, second: u64) -> Call<u64, u64>
-    ensures { call_line result
-        ≡ ((call_line model).0, take (length (call_line model).1) (first ∷ second ∷ [])) }
-{
-    match model {
-        Call::Put(..) => Call::Put(first, second),
-        Call::Write(..) => Call::Write(first, second),
-        Call::Read(_) => Call::Read(first),
-        Call::Peek(_) => Call::Peek(first),
-        Call::Remove(_) => Call::Remove(first),
-        Call::Touch(_) => Call::Touch(first),
-        Call::Evict(_) => Call::Evict(first),
-        Call::Count | Call::Has => model,
-    }
+    Some(match model {
+        Call::Put(..) => Call::Put(words.number()?, words.number()?),
+        Call::Write(..) => Call::Write(words.number()?, words.number()?),
+        Call::Read(_) => Call::Read(words.number()?),
+        Call::Peek(_) => Call::Peek(words.number()?),
+        Call::Remove(_) => Call::Remove(words.number()?),
+        Call::Touch(_) => Call::Touch(words.number()?),
+        Call::Evict(_) => Call::Evict(words.number()?),
+        Call::Count | Call::Has | Call::Start => model,
+        Call::Reserve(_) => Call::Reserve(words.number()? as usize),
+        Call::Work(_) => Call::Work(words.number()? as usize),
+        Call::End(..) => Call::End(words.number()? as usize, success_of(words.next_word()?)?),
+    })
 }
 
 fn new_table(words: &mut Words<'_>) -> Option<NewTable>
@@ -226,6 +228,12 @@ fn keep_of(word: &[u8]) -> Option<bool>
     ensures { IsMeant mark_word (part_of word.now) result }
 {
     meaning_of(&MARKS, word)
+}
+
+fn success_of(word: &[u8]) -> Option<bool>
+    ensures { IsMeant end_word (part_of word.now) result }
+{
+    meaning_of(&ENDS, word)
 }
 
 // The greatest is a power of two from 64 to 2^63, and the least at most that.

@@ -1,21 +1,25 @@
 //! A script as it runs: the table at hand, the calls gathered for it, and the replies.
 //!
 //! Calls are gathered and given to the table together, since it makes room for all their replies at
-//! once. They are answered before a `new` and an `epoch`, before the output is written, and where
-//! 1,024 wait.
-ghost use Rattle.std.specs.Prelude.{◌≡◌, ◌⊎◌, ◌≤◌, ◌↔◌, ℕ, List, [], ◌∷◌, ◌++◌, Option, IfErr, IfOk, IsSome, MatchResult, OnErr, OnOk, length, true};
-ghost use Rattle.bhtable.specs.Answers.{fresh_map};
+//! once. They are answered before a `new`, an `epoch` and a question, before the output is written,
+//! and where 1,024 wait.
+ghost use Rattle.std.specs.Prelude.{◌≡◌, ◌⊎◌, ◌≤◌, ◌↔◌, ℕ, List, [], ◌∷◌, ◌++◌, Option, IfErr, IfOk, IsSome, MatchResult, OnErr, OnOk, length, nat_eq, true};
+ghost use Rattle.bhtable.specs.Answers.{fresh_table, told};
 ghost use Rattle.bhtable.specs.Layout.Stops.{IsLack, IsOutputUpTo};
 ghost use Rattle.bhtable.specs.Outputs.{HasAnswered};
 ghost use Rattle.bhtable.specs.Requests.{AreLimits, Asks};
-ghost use Rattle.bhtable.specs.Layout.Sessions.{HasEnded, HasReplied, HasStopped, HasTaken, IsBadAt, ScriptRun, map_at_hand, map_of};
+ghost use Rattle.bhtable.specs.Layout.Sessions.{HasEnded, HasReplied, HasStopped, HasTaken, IsBadAt, seen, table_at_hand, table_of};
 ghost use Rattle.bhtable.specs.Words.{parts_of};
+ghost use Rattle.bucket_table.specs.Calls.{Step};
+ghost use Rattle.bucket_table.specs.Hashes.{script_hash};
+ghost use Rattle.bucket_table.specs.Runs.{Run};
+ghost use Rattle.bucket_table.specs.TicketCalls.{TicketStep};
 
 use crate::replies::Replies;
-use crate::request::{Kind, NewTable, Request, request_in};
+use crate::request::{Kind, NewTable, Question, Request, request_in};
 use crate::stop::Stop;
 use bucket_slots::bucket::{AllocError, CACHE, INDEX, MAP};
-use bucket_slots::lru::DoublyLinkedList;
+use bucket_slots::lru::{DoublyLinkedList, LruList};
 use bucket_table::hash_table::HashTable;
 use bucket_table::script::{Call, FixedGeneration, Reply, ScriptHash, run};
 use std::alloc::Global;
@@ -78,7 +82,7 @@ impl Session {
             → MatchResult result
             (λ _. HasTaken start (W.contents output.new) self.new (lines ++ line.now ∷ []))
             (λ stop. HasStopped stop start (W.contents output.new) self.new lines
-            × IsBadAt stop (map_at_hand self.new.table) line.now) }
+            × IsBadAt stop (table_at_hand self.new.table) line.now) }
         ensures stop { IfErr result (λ stop. (stop ≡ Stop.BadLine number) ⊎ IsLack stop) }
         ensures passed_over { parts_of line.now ≡ [] → (result ≡ Ok tt) × (self.new ≡ self.old) }
     {
@@ -86,6 +90,9 @@ impl Session {
             Ok(None) => Ok(()),
             Ok(Some(Request::New(new))) => self.start(new, output),
             Ok(Some(Request::Call(call))) if self.table.is_some() => self.gather(call, output),
+            Ok(Some(Request::Question(question))) if self.table.is_some() => {
+                self.tell(question, output)
+            }
             Ok(Some(Request::Epoch(generation))) if self.table.is_some() => {
                 self.set_epoch(generation, output)
             }
@@ -167,6 +174,24 @@ impl Session {
         self.replies.push(&Reply::Done, output)
     }
 
+    // Has the table tell of itself.
+    fn tell<W: Write>(&mut self, question: Question, output: &mut W) -> Result<(), Stop>
+        requires { IsSome self.old.table }
+        ensures taken { (start : Option (List ℕ)) (lines : List (List ℕ)) (line : List ℕ)
+            → HasTaken start (W.contents output.old) self.old lines
+            → length line ≤ 4096 → Asks (parts_of line) (Request.Question question)
+            → MatchResult result
+            (λ _. HasTaken start (W.contents output.new) self.new (lines ++ line ∷ []))
+            (λ stop. HasStopped stop start (W.contents output.new) self.new lines) }
+        ensures stop { IfErr result IsLack }
+    {
+        self.answer(output)?;
+        match &self.table {
+            Some(table) => self.replies.push(&table.tell(question), output),
+            None => unreachable!(),
+        }
+    }
+
     fn gather<W: Write>(&mut self, call: Call<u64, u64>, output: &mut W) -> Result<(), Stop>
         requires { IsSome self.old.table }
         ensures taken { (start : Option (List ℕ)) (lines : List (List ℕ)) (line : List ℕ)
@@ -192,7 +217,7 @@ impl Session {
             → HasTaken start (W.contents output.old) self.old lines
             → (self.new.calls.items ≡ []) × MatchResult result
             (λ _. HasReplied start (W.contents output.new) self.new.replies lines
-            (map_at_hand self.new.table))
+            (table_at_hand self.new.table))
             (λ stop. HasStopped stop start (W.contents output.new) self.new lines) }
         ensures none { self.old.calls.items ≡ [] → (result ≡ Ok tt) × (self.new ≡ self.old)
             × (W.contents output.new ≡ W.contents output.old) }
@@ -216,7 +241,7 @@ impl Session {
 impl Table {
     fn new(alloc: Global, new: NewTable) -> Self
         requires { AreLimits new.limits.minimum new.limits.maximum }
-        ensures { map_of result ≡ fresh_map new }
+        ensures { table_of result ≡ fresh_table new }
     {
         let (minimum, maximum) = (new.limits.minimum, new.limits.maximum);
         match new.kind {
@@ -232,8 +257,10 @@ impl Table {
         calls: Vec<Call<u64, u64>>,
         generation: &FixedGeneration,
     ) -> Result<Vec<Reply<u64, u64>>, AllocError>
-        ensures run { IfOk result (λ replies.
-            ScriptRun (map_of self.old) calls.items replies.items (map_of self.new)) }
+        ensures run { IfOk result (λ replies. Run (Step nat_eq script_hash)
+            (table_of self.old).map calls.items replies.items (table_of self.new).map) }
+        ensures tickets { IfOk result (λ replies. Run TicketStep
+            (table_of self.old).tickets calls.items replies.items (table_of self.new).tickets) }
         ensures no_call { OnErr result (self.new ≡ self.old) }
     {
         match self {
@@ -241,5 +268,31 @@ impl Table {
             Table::Index(table) => run(alloc, table, calls, generation),
             Table::Cache(table) => run(alloc, table, calls, generation),
         }
+    }
+
+    fn tell(&self, question: Question) -> Reply<u64, u64>
+        ensures { result ≡ told (table_of self.now) question }
+    {
+        match self {
+            Table::Map(table) => told_by(table, question),
+            Table::Index(table) => told_by(table, question),
+            Table::Cache(table) => told_by(table, question),
+        }
+    }
+}
+
+// What a table tells of itself.
+fn told_by<L: LruList, const TYPE: u8>(
+    table: &HashTable<u64, u64, ScriptHash, L, TYPE>,
+    question: Question,
+) -> Reply<u64, u64>
+    ensures { result ≡ told (seen TYPE table.now) question }
+{
+    match question {
+        Question::Slots => Reply::Number(table.num_slots()),
+        Question::Word => match table.rehashing_metadata() {
+            Some(word) => Reply::Number(word),
+            None => Reply::NoWork,
+        },
     }
 }

@@ -10,8 +10,10 @@ mod bad_lines;
 mod caches;
 mod devices;
 mod forms;
+mod growth;
 mod indexes;
 mod maps;
+mod tickets;
 
 // A script, and what it is to be answered.
 #[derive(Drop)]
@@ -72,6 +74,15 @@ fn push_lines(dialogue: &mut Dialogue, lines: &[(&str, &str)]) -> Result<(), Fai
         dialogue.push("\n", "\n")?;
     }
     Ok(())
+}
+
+// A table whose 64 slots have just become 128: the last pair went to a bucket of the old array.
+fn push_doubled(dialogue: &mut Dialogue) -> Result<(), Fail> {
+    dialogue.push_puts("new map spread 0 9223372036854775808\n", 31)?;
+    for key in 128..159 {
+        dialogue.push_put(key, key)?;
+    }
+    dialogue.push_put(31, 31)
 }
 
 // Two values are equal. The row helps to find the place.

@@ -5,6 +5,7 @@ ghost use Rattle.std.specs.Io.{StartsWith};
 ghost use Rattle.bhtable.specs.Texts.{bad_line, line_of, text_of};
 
 use bucket_table::script::Reply;
+use bucket_table::tickets::TicketError;
 use std::alloc::AllocError;
 
 /// Appends a reply's line.
@@ -23,6 +24,12 @@ pub(crate) fn append_reply(text: &mut Vec<u8>, reply: &Reply<u64, u64>) -> Resul
         Reply::Number(number) => append_number(text, number as u64),
         Reply::Truth(true) => text.extend_from_slice(b"true"),
         Reply::Truth(false) => text.extend_from_slice(b"false"),
+        Reply::Ticket(ticket) => append_numbered(text, b"ticket ", ticket as u64),
+        Reply::NoTicket | Reply::NoWork => text.extend_from_slice(b"none"),
+        Reply::Ended(true) => text.extend_from_slice(b"gone"),
+        Reply::Ended(false) => text.extend_from_slice(b"stays"),
+        Reply::Fault(TicketError::NotOpen) => text.extend_from_slice(b"refused 1"),
+        Reply::Fault(TicketError::NotDone) => text.extend_from_slice(b"refused 2"),
         Reply::Refused => text.extend_from_slice(b"refused 3"),
         Reply::WrongKind => text.extend_from_slice(b"wrong kind"),
     }?;

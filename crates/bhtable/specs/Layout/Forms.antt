@@ -1,15 +1,16 @@
 -- How a line is read: its verb tells of which form it is, and then come the parts behind the verb.
 use Rattle.std.specs.Prelude.{ℕ, ◌≡◌, List, ◌++◌, Option, MatchOption, codes}
-use Rattle.bhtable.specs.Requests.{Asks, IsInRange, call_line, request_line}
+use Rattle.bhtable.specs.Requests.{Asks, IsInRange, call_line, question_word, request_line}
 use Rattle.bhtable.specs.Words.{Part, text}
 use Rattle.bhtable.specs.declared.request.Form.{Form}
-use Rattle.bhtable.specs.declared.request.Form.TheVariants.{Table, Epoch, Call as Calls}
+use Rattle.bhtable.specs.declared.request.Form.TheVariants.{Table, Epoch, Question as Questions, Call as Calls}
 use Rattle.bhtable.specs.declared.request.Request.{Request}
 
 -- the verb of a form
 abbrev pub form_word : Form → List ℕ
 form_word Table = codes "new"
 form_word Epoch = codes "epoch"
+form_word (Questions question) = question_word question
 form_word (Calls model) = (call_line model).0
 
 -- the parts begin with what stands behind the verb of a request, and `rest` comes then

@@ -1,14 +1,16 @@
 -- What a session holds of the lines that it took.
-use Rattle.std.specs.Prelude.{ℕ, ◌≡◌, ◌⊎◌, ◌+◌, ◌≤◌, List, [], ◌∷◌, ◌++◌, Option, None, Some, Result, Ok, Err, length, nat_eq}
+use Rattle.std.specs.Prelude.{ℕ, ◌≡◌, ◌⊎◌, ◌+◌, ◌≤◌, List, [], ◌∷◌, ◌++◌, Option, None, Some, Result, Ok, Err, length}
 use Rattle.std.specs.Io.KnownBytes.{Appends, append_known}
 use Rattle.bucket_slots.specs.declared.bucket.TheConstants.{CACHE, INDEX, MAP}
-use Rattle.bucket_table.specs.Calls.{Step}
-use Rattle.bucket_table.specs.Hashes.{script_hash}
-use Rattle.bucket_table.specs.OneMap.{state_of}
+use Rattle.bucket_table.specs.ArraysView.{TableView}
+use Rattle.bucket_table.specs.MapState.{state_of}
+use Rattle.bucket_table.specs.Relocation.{buckets_of}
 use Rattle.bucket_table.specs.Runs.{Run}
+use Rattle.bucket_table.specs.TicketCalls.{tickets_of}
 use Rattle.bucket_table.specs.declared.script.call.Call.{Call}
+use Rattle.bucket_table.specs.declared.script.hashes.ScriptHash.{ScriptHash}
 use Rattle.bucket_table.specs.declared.script.reply.Reply.{Reply}
-use Rattle.bhtable.specs.Answers.{AreAnswers, IsUnreadable, ScriptMap}
+use Rattle.bhtable.specs.Answers.{AreAnswers, IsUnreadable, ScriptStep, ScriptTable}
 use Rattle.bhtable.specs.Requests.{Asks}
 use Rattle.bhtable.specs.Words.{parts_of}
 use Rattle.bhtable.specs.declared.request.Request.TheVariants.{Call as Calls}
@@ -18,20 +20,24 @@ use Rattle.bhtable.specs.declared.session.Table.TheVariants.{Map, Index, Cache}
 use Rattle.bhtable.specs.declared.stop.Stop.{Stop}
 use Rattle.bhtable.specs.declared.stop.Stop.TheVariants.{BadLine, NoMemory, InputFailed, OutputFailed}
 
--- a run of calls on a script's map
-abbrev pub ScriptRun : ScriptMap → List (Call ℕ ℕ) → List (Reply ℕ ℕ) → ScriptMap → Type 0
-ScriptRun = Run (Step nat_eq script_hash)
+-- a run of calls on a script's table
+abbrev pub ScriptRun : ScriptTable → List (Call ℕ ℕ) → List (Reply ℕ ℕ) → ScriptTable → Type 0
+ScriptRun = Run ScriptStep
 
--- the map that a table is
-abbrev pub map_of : Table → ScriptMap
-map_of (Map table) = state_of MAP table
-map_of (Index table) = state_of INDEX table
-map_of (Cache table) = state_of CACHE table
+-- what a script is answered from
+abbrev pub seen : ℕ → TableView ℕ ℕ ScriptHash → ScriptTable
+seen kind table =
+    record { map = state_of kind table; tickets = tickets_of table.arrays; len = length (buckets_of table.arrays.current) }
 
--- the map at hand, where there is a table
-abbrev pub map_at_hand : Option Table → Option ScriptMap
-map_at_hand None = None
-map_at_hand (Some table) = Some (map_of table)
+abbrev pub table_of : Table → ScriptTable
+table_of (Map table) = seen MAP table
+table_of (Index table) = seen INDEX table
+table_of (Cache table) = seen CACHE table
+
+-- the table at hand, where there is one
+abbrev pub table_at_hand : Option Table → Option ScriptTable
+table_at_hand None = None
+table_at_hand (Some table) = Some (table_of table)
 
 -- the lines that have words ask for these calls, and none is too long
 abbrev pub AskForCalls : List (List ℕ) → List (Call ℕ ℕ) → Type 0
@@ -43,7 +49,7 @@ AskForCalls (line ∷ lines) calls =
 
 -- from the output `start` on, these lines are answered, in the output and in the text that waits for it
 pub record HasReplied (start output : Option (List ℕ)) (waiting : List ℕ) (lines : List (List ℕ))
-    (table : Option ScriptMap) : Type 0 where
+    (table : Option ScriptTable) : Type 0 where
   pub text : List ℕ
   pub answers : AreAnswers None lines text table
   pub written : Appends start (append_known output waiting) text
@@ -53,7 +59,7 @@ pub record HasTaken (start output : Option (List ℕ)) (session : Session) (line
   pub answered : List (List ℕ)
   pub waiting : List (List ℕ)
   pub in_order : lines ≡ answered ++ waiting
-  pub replied : HasReplied start output session.replies answered (map_at_hand session.table)
+  pub replied : HasReplied start output session.replies answered (table_at_hand session.table)
   pub calls : AskForCalls waiting session.calls.items
   pub needed : session.table ≡ None → session.calls.items ≡ []
 
@@ -64,7 +70,7 @@ pub record HasTakenSome (start output : Option (List ℕ)) (session : Session) (
   pub in_order : lines ≡ first ++ others
   pub kept : HasTaken start output session first
       ⊎ ((session.calls.items ≡ [])
-      × ((table : Option ScriptMap) × HasReplied start output session.replies first table))
+      × ((table : Option ScriptTable) × HasReplied start output session.replies first table))
 
 -- the lines before one that can't be read are taken, and this is its number
 pub record HasFoundBad (start output : Option (List ℕ)) (session : Session) (lines : List (List ℕ)) (number : ℕ)
@@ -75,7 +81,7 @@ pub record HasFoundBad (start output : Option (List ℕ)) (session : Session) (l
   pub in_order : lines ≡ first ++ line ∷ others
   pub numbered : number ≡ length first + 1
   pub taken : HasTaken start output session first
-  pub unreadable : IsUnreadable (map_at_hand session.table) line
+  pub unreadable : IsUnreadable (table_at_hand session.table) line
 
 -- what is left of the lines that were taken after a stop; a writer that fails leaves nothing known
 abbrev pub HasStopped : Stop → Option (List ℕ) → Option (List ℕ) → Session → List (List ℕ) → Type 0
@@ -85,7 +91,7 @@ HasStopped InputFailed start output session lines = ⊥
 HasStopped OutputFailed start output session lines = session.calls.items ≡ []
 
 -- a stop at a bad line comes at a line that can't be read
-abbrev pub IsBadAt : Stop → Option ScriptMap → List ℕ → Type 0
+abbrev pub IsBadAt : Stop → Option ScriptTable → List ℕ → Type 0
 IsBadAt (BadLine number) table line = IsUnreadable table line
 IsBadAt NoMemory table line = Unit {0}
 IsBadAt InputFailed table line = Unit {0}

@@ -2,10 +2,13 @@
 use super::{check_text, check_texts};
 use std::test::Fail;
 
-// Calls before the first table.
-const BEFORE_A_TABLE: [(&str, &str); 4] = [
+// Calls and questions before the first table.
+const BEFORE_A_TABLE: [(&str, &str); 7] = [
     ("peek 1", "bad line 1\n"),
     ("count", "bad line 1\n"),
+    ("start", "bad line 1\n"),
+    ("slots", "bad line 1\n"),
+    ("word", "bad line 1\n"),
     ("put 1 2\nnew map id 0 64", "bad line 1\n"),
     ("\n \n\r\nremove 1", "bad line 4\n"),
 ];
@@ -64,12 +67,41 @@ const CALLS: [(&str, &str); 18] = [
     ("new map id 0 64\ncount 1", "ok\nbad line 2\n"),
     ("new map id 0 64\nhas 1", "ok\nbad line 2\n"),
     ("new map id 0 64\nCount", "ok\nbad line 2\n"),
-    ("new map id 0 64\nslots", "ok\nbad line 2\n"),
+    ("new map id 0 64\nwalk", "ok\nbad line 2\n"),
 ];
 
 #[test]
 fn refuses_a_call_with_too_few_words_or_too_many(rt: HostRuntime) -> Result<(), Fail> {
     check_texts(&rt, rt.alloc(), &CALLS, 2)
+}
+
+// Reservations, work, tickets and questions with too few words or too many, or with other words.
+const OPERANDS: [(&str, &str); 17] = [
+    ("new map id 0 64\nreserve", "ok\nbad line 2\n"),
+    ("new map id 0 64\nreserve 1 2", "ok\nbad line 2\n"),
+    ("new map id 0 64\nreserve none", "ok\nbad line 2\n"),
+    ("new map id 0 64\nstart 1", "ok\nbad line 2\n"),
+    ("new map id 0 64\nwork", "ok\nbad line 2\n"),
+    ("new map id 0 64\nwork 1 2", "ok\nbad line 2\n"),
+    ("new map id 0 64\nwork -1", "ok\nbad line 2\n"),
+    ("new map id 0 64\nend", "ok\nbad line 2\n"),
+    ("new map id 0 64\nend 0", "ok\nbad line 2\n"),
+    ("new map id 0 64\nend done", "ok\nbad line 2\n"),
+    ("new map id 0 64\nend done 0", "ok\nbad line 2\n"),
+    ("new map id 0 64\nend 0 keep", "ok\nbad line 2\n"),
+    ("new map id 0 64\nend 0 Done", "ok\nbad line 2\n"),
+    ("new map id 0 64\nend 0 done fail", "ok\nbad line 2\n"),
+    (
+        "new map id 0 64\nend 18446744073709551616 done",
+        "ok\nbad line 2\n",
+    ),
+    ("new map id 0 64\nslots 1", "ok\nbad line 2\n"),
+    ("new map id 0 64\nword 1", "ok\nbad line 2\n"),
+];
+
+#[test]
+fn refuses_operands_that_do_not_fit_the_verb(rt: HostRuntime) -> Result<(), Fail> {
+    check_texts(&rt, rt.alloc(), &OPERANDS, 2)
 }
 
 // Epochs that can't be, and calls that are misspelt.

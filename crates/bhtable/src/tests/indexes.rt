@@ -44,7 +44,13 @@ const SCRIPTS: [(u8, (&str, &str)); 5] = [
 #[test]
 fn an_index_answers_as_a_map_while_marks_come_and_go(rt: HostRuntime) -> Result<(), Fail> {
     for (keys, lines) in &SCRIPTS {
-        check_after_puts(&rt, rt.alloc(), "new index zero 0 64\n", *keys, *lines)?;
+        check_after_puts(
+            &rt,
+            rt.alloc(),
+            "new index zero 0 9223372036854775808\n",
+            *keys,
+            *lines,
+        )?;
     }
     Ok(())
 }

@@ -63,7 +63,7 @@ fn push_removal(dialogue: &mut Dialogue, key: u8, value: u8) -> Result<(), Fail>
     Ok(())
 }
 
-const A_VALUE_WRITTEN_TWICE: [(&str, &str); 7] = [
+const A_VALUE_WRITTEN_TWICE: [(&str, &str); 8] = [
     ("new map id 0 9223372036854775808", "ok"),
     ("put 1 0", "ok"),
     ("put 1 1", "present"),
@@ -71,6 +71,7 @@ const A_VALUE_WRITTEN_TWICE: [(&str, &str); 7] = [
     ("write 1 3", "old 1"),
     ("read 1", "value 3"),
     ("remove 1", "pair 1 3"),
+    ("slots", "0"),
 ];
 
 #[test]
@@ -78,7 +79,7 @@ fn answers_a_write_with_the_earlier_value(rt: HostRuntime) -> Result<(), Fail> {
     check_lines(&rt, rt.alloc(), &A_VALUE_WRITTEN_TWICE)
 }
 
-const NO_PAIRS: [(&str, &str); 9] = [
+const NO_PAIRS: [(&str, &str); 15] = [
     ("new map id 0 64", "ok"),
     ("read 1", "absent"),
     ("peek 1", "absent"),
@@ -88,6 +89,12 @@ const NO_PAIRS: [(&str, &str); 9] = [
     ("touch 1", "wrong kind"),
     ("count", "0"),
     ("has", "false"),
+    ("start", "none"),
+    ("work 0", "none"),
+    ("end 0 done", "refused 1"),
+    ("end 0 fail", "refused 1"),
+    ("word", "none"),
+    ("slots", "0"),
 ];
 
 #[test]

@@ -1,7 +1,8 @@
 use Rattle.std.proofs.Common.{◌≡◌, [], Some, refl}
-use Rattle.bhtable.specs.Layout.Sessions.{map_of}
+use Rattle.bhtable.specs.Layout.Sessions.{table_of}
 use Rattle.bhtable.specs.declared.session.Session.{Session}
 use Rattle.bhtable.proofs.Taking.{no_items, pushed, replied_all}
+use Rattle.bhtable.proofs.TwoRuns.{one_run}
 use Rattle.bhtable.proofs.session.Session.answer.Goals as goal
 
 pub returns-in_default-clause-answered : goal.returns-in_default-clause-answered
@@ -25,8 +26,11 @@ returns-clause-answered g c start lines taken =
       calls = c.replace-calls.new.dest;
       replies = c.push_all.new.self;
     } in
-    let ran = rw (c.replace-calls.ensures.value, ← c.as_slice.ensures.value) at c.in-Ok.ensures.run in (
+    let calls = c.args.self.now.calls in
+    let maps = rw (c.replace-calls.ensures.value, ← c.as_slice.ensures.value) at c.in-Ok.ensures.run in
+    let tickets = rw (c.replace-calls.ensures.value, ← c.as_slice.ensures.value) at c.in-Ok.ensures.tickets in
+    let ran = one_run calls.items _ (table_of c.in-Some.table) (table_of c.run.new.self) _ calls.ok.0 c.if-is_empty.ensures maps tickets in (
       none,
-      pushed start _ _ c.args.self.now session lines (map_of c.in-Some.table) (map_of c.run.new.self) c.as_slice.result.now
+      pushed start _ _ c.args.self.now session lines (table_of c.in-Some.table) (table_of c.run.new.self) c.as_slice.result.now
           c.push_all.result taken (rw c.in-Some.is refl) refl ran c.push_all.ensures none,
     )

@@ -2,7 +2,7 @@ use Rattle.std.proofs.Common.{Some, inr, true, refl, ap}
 use Rattle.bucket_table.specs.declared.script.reply.Reply.TheVariants.{Done}
 use Rattle.bhtable.specs.declared.request.Request.TheVariants.{New}
 use Rattle.bhtable.specs.declared.session.Session.{Session}
-use Rattle.bhtable.proofs.Turning.{taken_done}
+use Rattle.bhtable.proofs.Turning.{taken_one}
 use Rattle.bhtable.proofs.session.Session.start.Goals as goal
 
 pub returns-clause-taken : goal.returns-clause-taken
@@ -16,5 +16,5 @@ returns-clause-taken g c start lines line taken short asks =
       replies = c.push.new.self;
     } in
     let answer = inr (New c.args.new, Done, asks, refl, refl) in
-    taken_done start _ _ c.answer.new.self session lines line _ c.push.result answered.1 answered.0 short answer c.push.ensures
+    taken_one start _ _ c.answer.new.self session lines line _ _ c.push.result answered.1 answered.0 short answer c.push.ensures
     (ap Some c.new.ensures) refl

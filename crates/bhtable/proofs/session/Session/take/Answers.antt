@@ -21,3 +21,8 @@ returns-in-Ok-Some-Epoch-clause-taken g c start lines taken =
     let asks = rw (c.in-Ok-Some-Epoch.field-0-is, c.in-Ok-Some-Epoch.field-0-0-is) at c.in-Ok-Some-Epoch.ensures.asked in
     at_line c.set_epoch.result _ _ _ _ (c.set_epoch.ensures.taken start lines c.args.line.now taken c.requires asks)
     c.set_epoch.ensures.stop
+
+pub returns-in-Ok-Some-Question-clause-taken : goal.returns-in-Ok-Some-Question-clause-taken
+returns-in-Ok-Some-Question-clause-taken g c start lines taken =
+    let asks = rw (c.in-Ok-Some-Question.field-0-is, c.in-Ok-Some-Question.field-0-0-is) at c.in-Ok-Some-Question.ensures.asked in
+    at_line c.tell.result _ _ _ _ (c.tell.ensures.taken start lines c.args.line.now taken c.requires asks) c.tell.ensures.stop
