@@ -9,7 +9,7 @@ use Rattle.bhtable.specs.declared.request.Question.TheVariants.{Slots, Word}
 use Rattle.bhtable.specs.declared.request.Request.{Request}
 use Rattle.bhtable.specs.declared.request.Request.TheVariants.{New, Call as Calls, Question as Questions, Epoch}
 use Rattle.bucket_table.specs.declared.script.call.Call.{Call}
-use Rattle.bucket_table.specs.declared.script.call.Call.TheVariants.{Put, Write, Read, Peek, Remove, Touch, Evict, Count, Has, Reserve, Start, Work, End}
+use Rattle.bucket_table.specs.declared.script.call.Call.TheVariants.{Put, Write, Read, Peek, Remove, Touch, Evict, Count, Has, Reserve, Start, Work, End, Walk, Clear}
 use Rattle.bucket_table.specs.declared.script.hashes.ScriptHash.{ScriptHash}
 use Rattle.bucket_table.specs.declared.script.hashes.ScriptHash.TheVariants.{Zero, Id, Spread}
 
@@ -50,6 +50,8 @@ call_line (Reserve additional) = (codes "reserve", number additional ∷ [])
 call_line Start = (codes "start", [])
 call_line (Work index) = (codes "work", number index ∷ [])
 call_line (End ticket success) = (codes "end", number ticket ∷ text (end_word success) ∷ [])
+call_line Walk = (codes "walk", [])
+call_line Clear = (codes "clear", [])
 
 -- a request's verb, and what stands behind it: for a table its kind, its hash and two limits, for an epoch its number and a mark's word
 abbrev pub request_line : Request → List ℕ × List Part

@@ -2,7 +2,7 @@
 use Rattle.std.specs.Prelude.{ℕ, List, [], ◌∷◌, ◌++◌, codes, if◌then◌else◌}
 use Rattle.std.specs.Fmt.{decimal}
 use Rattle.bucket_table.specs.declared.script.reply.Reply.{Reply}
-use Rattle.bucket_table.specs.declared.script.reply.Reply.TheVariants.{Done, Present, Absent, Value, Old, Pair, Nothing, Number, Truth, Ticket, NoTicket, NoWork, Ended, Fault, Refused, WrongKind}
+use Rattle.bucket_table.specs.declared.script.reply.Reply.TheVariants.{Done, Present, Absent, Value, Old, Pair, Nothing, Number, Truth, Ticket, NoTicket, NoWork, Ended, Fault, Refused, WrongKind, Walked, Cleared}
 use Rattle.bucket_table.specs.declared.tickets.TicketError.TheVariants.{NotOpen, NotDone}
 
 -- a reply in words
@@ -24,6 +24,8 @@ text_of (Fault NotOpen) = codes "refused 1"
 text_of (Fault NotDone) = codes "refused 2"
 text_of Refused = codes "refused 3"
 text_of WrongKind = codes "wrong kind"
+text_of (Walked buckets pairs) = codes "walked " ++ decimal buckets ++ codes " " ++ decimal pairs
+text_of (Cleared count) = codes "cleared " ++ decimal count
 
 -- a text, and what ends its line
 abbrev pub line_of : List ℕ → List ℕ

@@ -78,7 +78,7 @@ enum Form {
 }
 
 // Each verb, and its form: of a call, with zeros where a line has its numbers.
-const FORMS: [(&[u8], Form); 17] = [
+const FORMS: [(&[u8], Form); 19] = [
     (b"new", Form::Table),
     (b"epoch", Form::Epoch),
     (b"slots", Form::Question(Question::Slots)),
@@ -96,6 +96,8 @@ const FORMS: [(&[u8], Form); 17] = [
     (b"start", Form::Call(Call::Start)),
     (b"work", Form::Call(Call::Work(0))),
     (b"end", Form::Call(Call::End(0, false))),
+    (b"walk", Form::Call(Call::Walk)),
+    (b"clear", Form::Call(Call::Clear)),
 ];
 
 const KINDS: [(&[u8], Kind); 3] = [
@@ -177,7 +179,7 @@ fn call_in(model: Call<u64, u64>, words: &mut Words<'_>) -> Option<Call<u64, u64
         Call::Remove(_) => Call::Remove(words.number()?),
         Call::Touch(_) => Call::Touch(words.number()?),
         Call::Evict(_) => Call::Evict(words.number()?),
-        Call::Count | Call::Has | Call::Start => model,
+        Call::Count | Call::Has | Call::Start | Call::Walk | Call::Clear => model,
         Call::Reserve(_) => Call::Reserve(words.number()? as usize),
         Call::Work(_) => Call::Work(words.number()? as usize),
         Call::End(..) => Call::End(words.number()? as usize, success_of(words.next_word()?)?),

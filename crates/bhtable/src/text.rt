@@ -19,7 +19,7 @@ pub(crate) fn append_reply(text: &mut Vec<u8>, reply: &Reply<u64, u64>) -> Resul
         Reply::Absent => text.extend_from_slice(b"absent"),
         Reply::Value(value) => append_numbered(text, b"value ", value),
         Reply::Old(value) => append_numbered(text, b"old ", value),
-        Reply::Pair(key, value) => append_pair(text, key, value),
+        Reply::Pair(key, value) => append_pair(text, b"pair ", key, value),
         Reply::Nothing => text.extend_from_slice(b"nothing"),
         Reply::Number(number) => append_number(text, number as u64),
         Reply::Truth(true) => text.extend_from_slice(b"true"),
@@ -32,6 +32,10 @@ pub(crate) fn append_reply(text: &mut Vec<u8>, reply: &Reply<u64, u64>) -> Resul
         Reply::Fault(TicketError::NotDone) => text.extend_from_slice(b"refused 2"),
         Reply::Refused => text.extend_from_slice(b"refused 3"),
         Reply::WrongKind => text.extend_from_slice(b"wrong kind"),
+        Reply::Walked(buckets, pairs) => {
+            append_pair(text, b"walked ", buckets as u64, pairs as u64)
+        }
+        Reply::Cleared(count) => append_numbered(text, b"cleared ", count as u64),
     }?;
     text.push(b'\n')?;
     Ok(())
@@ -47,13 +51,14 @@ pub(crate) fn append_bad_line(text: &mut Vec<u8>, number: u64) -> Result<(), All
     Ok(())
 }
 
-fn append_pair(text: &mut Vec<u8>, key: u64, value: u64) -> Result<(), AllocError>
+// Appends a word, with the blank behind it, and two numbers.
+fn append_pair(text: &mut Vec<u8>, word: &[u8], first: u64, second: u64) -> Result<(), AllocError>
     ensures appended { OnOk result (text.new.items
-        ≡ text.old.items ++ (codes "pair " ++ decimal key ++ codes " " ++ decimal value)) }
+        ≡ text.old.items ++ (word.now ++ decimal first ++ codes " " ++ decimal second)) }
     ensures kept { OnErr result (StartsWith text.new.items text.old.items) }
 {
-    append_numbered(text, b"pair ", key)?;
-    append_numbered(text, b" ", value)
+    append_numbered(text, word, first)?;
+    append_numbered(text, b" ", second)
 }
 
 // Appends a word, with the blank behind it, and a number.

@@ -67,7 +67,7 @@ const CALLS: [(&str, &str); 18] = [
     ("new map id 0 64\ncount 1", "ok\nbad line 2\n"),
     ("new map id 0 64\nhas 1", "ok\nbad line 2\n"),
     ("new map id 0 64\nCount", "ok\nbad line 2\n"),
-    ("new map id 0 64\nwalk", "ok\nbad line 2\n"),
+    ("new map id 0 64\nwalk 1", "ok\nbad line 2\n"),
 ];
 
 #[test]

@@ -81,6 +81,21 @@ fn one_read_ends_a_growth(rt: HostRuntime) -> Result<(), Fail> {
     dialogue.check(&rt, rt.alloc())
 }
 
+const A_WALK_AND_A_CLEARING: [(&str, &str); 4] = [
+    ("walk", "walked 4 63"),
+    ("clear", "cleared 63"),
+    ("slots", "0"),
+    ("walk", "walked 0 0"),
+];
+
+#[test]
+fn walks_and_clears_a_table_that_grows(rt: HostRuntime) -> Result<(), Fail> {
+    let mut dialogue = Dialogue::new(rt.alloc());
+    push_doubled(&mut dialogue)?;
+    push_lines(&mut dialogue, &A_WALK_AND_A_CLEARING)?;
+    dialogue.check(&rt, rt.alloc())
+}
+
 #[test]
 fn gives_its_array_up_with_the_last_pair(rt: HostRuntime) -> Result<(), Fail> {
     let mut dialogue = Dialogue::new(rt.alloc());

@@ -79,7 +79,7 @@ fn answers_a_write_with_the_earlier_value(rt: HostRuntime) -> Result<(), Fail> {
     check_lines(&rt, rt.alloc(), &A_VALUE_WRITTEN_TWICE)
 }
 
-const NO_PAIRS: [(&str, &str); 15] = [
+const NO_PAIRS: [(&str, &str); 17] = [
     ("new map id 0 64", "ok"),
     ("read 1", "absent"),
     ("peek 1", "absent"),
@@ -93,6 +93,8 @@ const NO_PAIRS: [(&str, &str); 15] = [
     ("work 0", "none"),
     ("end 0 done", "refused 1"),
     ("end 0 fail", "refused 1"),
+    ("walk", "walked 0 0"),
+    ("clear", "cleared 0"),
     ("word", "none"),
     ("slots", "0"),
 ];
