@@ -13,12 +13,13 @@ log=$(mktemp) || exit 1
 trap 'rm -f "$log"' EXIT
 
 as_before=0
+otherwise=0
 for ((request = 1; request <= most; request++)); do
     outcome=$(rt try --fail-alloc "$request" 2>"$log")
     status=$?
     asked=$(sed -n 's/^allocations: \([0-9][0-9]*\)$/\1/p' "$log")
     case "$outcome, status $status" in
-        "done, status 0" | "as before, status 10" | "no script, status 11") ;;
+        "done, status 0" | "as before, status 10" | "no script, status 11" | "otherwise, status 13") ;;
         *) asked= ;;
     esac
     if [ -z "$asked" ]; then
@@ -34,6 +35,7 @@ for ((request = 1; request <= most; request++)); do
         exit 1
     fi
     [ "$outcome" = "as before" ] && as_before=$((as_before + 1))
+    [ "$outcome" = "otherwise" ] && otherwise=$((otherwise + 1))
     echo "request $request refused: $outcome"
 done
 
@@ -41,8 +43,8 @@ if ((asked >= request)) || [ "$outcome" != done ]; then
     echo "no run was done" >&2
     exit 1
 fi
-if ((as_before == 0)); then
-    echo "no refusal reached a script" >&2
+if ((as_before == 0 || otherwise == 0)); then
+    echo "no refusal reached a script, or none a resize" >&2
     exit 1
 fi
 echo "none refused: $outcome"

@@ -1,1 +1,2 @@
+mod NoTickets
 mod OneOfMany

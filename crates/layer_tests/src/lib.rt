@@ -10,13 +10,19 @@ mod beside_map;
 #[cfg(test)]
 mod by_key;
 #[cfg(test)]
+mod by_lock;
+#[cfg(test)]
 mod caches;
 #[cfg(test)]
 mod checks;
 #[cfg(test)]
+mod courses;
+#[cfg(test)]
 mod data_blocks;
 #[cfg(test)]
 mod drops;
+#[cfg(test)]
+mod growth;
 #[cfg(test)]
 mod indexes;
 #[cfg(test)]
@@ -36,3 +42,9 @@ mod sizes;
 mod stage;
 #[cfg(test)]
 mod steps;
+#[cfg(test)]
+mod tables;
+#[cfg(test)]
+mod tickets;
+#[cfg(test)]
+mod walks;

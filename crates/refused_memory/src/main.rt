@@ -1,4 +1,5 @@
-//! Scripts on tables, calls on buckets and new arrays, for runs in which a request for memory is refused.
+//! Scripts on tables that stay small and that grow, calls on buckets and new arrays, for runs in which
+//! a request for memory is refused.
 //!
 //! The program judges its own outcome, and prints it in one line. A right outcome with a request
 //! refused has a status of its own, so that of two runs with status 0 both printed `done`, unless
@@ -6,12 +7,15 @@
 #![tactic(auto)]
 
 mod arrays;
+mod beside;
 mod buckets;
+mod growing;
 mod index_bucket;
 mod outcome;
 
 use crate::arrays::arrays;
 use crate::buckets::two_buckets;
+use crate::growing::growing_scripts;
 use crate::index_bucket::index_bucket;
 use crate::outcome::Outcome;
 use bucket_slots::bucket::{AllocError, MAP};
@@ -22,7 +26,8 @@ use std::process::ExitCode;
 
 type Table = HashTable<u64, u64, ScriptHash, (), MAP>;
 
-type Row = (Call<u64, u64>, Reply<u64, u64>);
+/// A call and its reply.
+pub(crate) type Row = (Call<u64, u64>, Reply<u64, u64>);
 
 // A key, and the value under it, where there is one.
 type Holding = (u64, Option<u64>);
@@ -76,7 +81,11 @@ fn all_parts(alloc: Global) -> Outcome {
         outcome => return outcome,
     }
     match arrays(alloc) {
-        Outcome::Done => overflowing_script(alloc),
+        Outcome::Done => {}
+        outcome => return outcome,
+    }
+    match overflowing_script(alloc) {
+        Outcome::Done => growing_scripts(alloc),
         outcome => outcome,
     }
 }
@@ -113,7 +122,7 @@ fn script(
 }
 
 /// The calls of the rows.
-fn calls_of(alloc: Global, rows: &[Row]) -> Result<Vec<Call<u64, u64>>, AllocError> {
+pub(crate) fn calls_of(alloc: Global, rows: &[Row]) -> Result<Vec<Call<u64, u64>>, AllocError> {
     let Ok(mut calls) = Vec::with_capacity(alloc, rows.len()) else {
         return Err(AllocError);
     };

@@ -7,6 +7,8 @@ pub(crate) enum Outcome {
     Done,
     /// A call was refused, and all pairs are as they were.
     AsBefore,
+    /// Every pair and every reply of the map is the expected one, though an array or a ticket isn't.
+    Otherwise,
     /// The program had no memory for the list of calls, and all pairs are as they were.
     NoScript,
     /// A reply or a pair isn't the expected one.
@@ -19,6 +21,7 @@ impl Outcome {
         match self {
             Outcome::Done => "done",
             Outcome::AsBefore => "as before",
+            Outcome::Otherwise => "otherwise",
             Outcome::NoScript => "no script",
             Outcome::Wrong => "wrong",
         }
@@ -30,6 +33,7 @@ impl Outcome {
             Outcome::Done | Outcome::Wrong => 0,
             Outcome::AsBefore => 10,
             Outcome::NoScript => 11,
+            Outcome::Otherwise => 13,
         }
     }
 }

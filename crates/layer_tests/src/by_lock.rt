@@ -1,0 +1,77 @@
+//! Calls on a table of numbers that lock a bucket, and what they answer of it.
+use crate::scripts::Table;
+use crate::steps::Spot;
+use bucket_slots::bucket::MAP;
+
+/// A map of numbers.
+pub(crate) type Map = Table<(), MAP>;
+
+/// Puts a new key as its own value in the bucket that a writer is given. Returns that bucket's
+/// index, and where the pair stands in it.
+pub(crate) fn put_at(table: &mut Map, key: u64) -> Option<(usize, Spot)> {
+    let hash = table.hash(&key);
+    let mut locked = match table.writer_sync(hash) {
+        Ok(locked) => locked,
+        Err(_) => return None,
+    };
+    let at = locked.search(&key, hash);
+    if at.is_valid() {
+        return None;
+    }
+    let index = locked.bucket_index();
+    match locked.insert(hash, (key, key), &()) {
+        Ok(at) => Some((index, (at.block(), at.pos()))),
+        Err(_) => None,
+    }
+}
+
+/// Takes a key out of its bucket alone, and returns where the pointer is then.
+pub(crate) fn take_at(table: &mut Map, key: u64) -> Option<Spot> {
+    let hash = table.hash(&key);
+    let mut locked = match table.writer_sync(hash) {
+        Ok(locked) => locked,
+        Err(_) => return None,
+    };
+    let mut at = locked.search(&key, hash);
+    if !at.is_valid() {
+        return None;
+    }
+    let _ = locked.remove_entry(&mut at);
+    Some((at.block(), at.pos()))
+}
+
+/// Returns where the pair of a key stands.
+pub(crate) fn place_of(table: &mut Map, key: u64) -> Option<Spot> {
+    let hash = table.hash(&key);
+    let locked = match table.writer_sync(hash) {
+        Ok(locked) => locked,
+        Err(_) => return None,
+    };
+    let at = locked.search(&key, hash);
+    Some((at.block(), at.pos()))
+}
+
+/// Returns the index of the bucket that a writer of a hash is given.
+pub(crate) fn index_of(table: &mut Map, hash: u64) -> Option<usize> {
+    match table.writer_sync(hash) {
+        Ok(locked) => Some(locked.bucket_index()),
+        Err(_) => None,
+    }
+}
+
+/// The same by the other name of that call.
+pub(crate) fn reserved_index_of(table: &mut Map, hash: u64) -> Option<usize> {
+    match table.try_reserve_bucket(hash) {
+        Ok(locked) => Some(locked.bucket_index()),
+        Err(_) => None,
+    }
+}
+
+/// Returns the index of a key's bucket and how many pairs are in it, where no old array stands.
+pub(crate) fn home_of(table: &mut Map, key: u64) -> Option<(usize, usize)> {
+    let hash = table.hash(&key);
+    match table.try_optional_writer::<false>(hash) {
+        Some(locked) => Some((locked.bucket_index(), locked.bucket().len())),
+        None => None,
+    }
+}
