@@ -82,3 +82,16 @@ module _ {K V : Type 0} where
       rehashed = tt;
     };
   }
+
+module _ {K V H : Type 0} (kind : ℕ) (t s : TableView K V H) (hasher : s.hasher ≡ t.hasher) where
+  -- what stays where the capacities do
+  pub others_than_pairs : s.arrays.minimum ≡ t.arrays.minimum → s.arrays.maximum ≡ t.arrays.maximum
+      → state_of kind s ≡ record (state_of kind t) { pairs = pairs_of s.arrays }
+  others_than_pairs minimum maximum =
+      ap (λ (h : H). record { kind = kind; hasher = h; minimum = s.arrays.minimum; maximum = s.arrays.maximum; pairs = pairs_of s.arrays }) hasher
+      ∙ ap (λ (n : ℕ). record { kind = kind; hasher = t.hasher; minimum = n; maximum = s.arrays.maximum; pairs = pairs_of s.arrays }) minimum
+      ∙ ap (λ (n : ℕ). record { kind = kind; hasher = t.hasher; minimum = t.arrays.minimum; maximum = n; pairs = pairs_of s.arrays }) maximum
+
+  -- a table keeps its map
+  pub state_kept : KeepsArrays t.arrays s.arrays → KeepsPairs (state_of kind t) (state_of kind s)
+  state_kept kept = record { pairs = map_kept t.arrays s.arrays kept; others = others_than_pairs kept.minimum kept.maximum }

@@ -108,6 +108,7 @@ module _ {S K V : Type 0} (step : S → BucketView K V → Bool → Bool → Buc
   pub record WalkStands (first now : S) (old : ArraysView K V) (from index : ℕ) (flag more : Bool) (table : ArraysView K V) : Type 0 where
     pub walks : WalksOn step hash first now old from index flag more table
     pub killed : AreKilledFor table from index
+    pub within : from < index → index ≤ length (buckets_of old.current)
     pub bag : KeepsBag old.rehash table.rehash
     pub minimum : table.minimum ≡ old.minimum
     pub maximum : table.maximum ≡ old.maximum
@@ -135,6 +136,11 @@ module _ {S K V : Type 0} (step : S → BucketView K V → Bool → Bool → Buc
               let here : index ≡ j = omega (arith, high, more_or) in
               subst (λ (k : ℕ). AreSourcesKilled done k) here (subst (λ (n : ℕ). (i : ℕ) → i < length (old_buckets ready.rehash) → Meets (length (old_buckets ready.rehash)) i n index → (bucket_at (old_buckets ready.rehash) i).killed ≡ true) (sym len) (locked.killed refl))
         ];
+        within = λ some.
+            let first = w.walks.part.len in
+            let second = len_kept ready.current table.current kept.current_len in
+            let below = locked.within in
+            omega (arith, first, second, below);
         bag = bag_both old.rehash table.rehash ready.rehash w.bag bag;
         minimum = kept.minimum ∙ w.minimum;
         maximum = kept.maximum ∙ w.maximum;
@@ -146,6 +152,7 @@ module _ {S K V : Type 0} (step : S → BucketView K V → Bool → Bool → Buc
   stands_first first old from = record {
     walks = begins step hash first old from;
     killed = λ j low high. absurd (omega (arith, low, high));
+    within = λ some. absurd (omega (arith, some));
     bag = bag_same old.rehash;
     minimum = refl;
     maximum = refl;
@@ -165,6 +172,7 @@ module _ {S K V : Type 0} (step : S → BucketView K V → Bool → Bool → Buc
         calls = w.walks.calls;
         walk = part.walk;
         sources = subst (λ (n : ℕ). AreKilledFor ready from n) w.walks.reached (killed_wait table ready from index w.killed kept still);
+        within = λ some. let reached = w.walks.reached in let fits = w.within (omega (arith, reached, some)) in omega (arith, reached, fits);
         whole = tt;
         ends = refl;
       }
@@ -182,6 +190,7 @@ module _ {S K V : Type 0} (step : S → BucketView K V → Bool → Bool → Buc
     calls = w.walks.calls;
     walk = w.walks.part.walk;
     sources = subst (λ (n : ℕ). AreKilledFor table from n) w.walks.reached w.killed;
+    within = λ some. let reached = w.walks.reached in let fits = w.within (omega (arith, reached, some)) in omega (arith, reached, fits);
     whole = elim (cases_Bool more) [
       | inl going ↦ let reached = w.walks.reached in let len = w.walks.part.len in inl (omega (arith, reached, len, over going))
       | inr stopped ↦ inr (w.walks.stopped stopped)

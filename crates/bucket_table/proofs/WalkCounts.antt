@@ -4,23 +4,22 @@ use Rattle.std.specs.List.Sorted.{IsPermutation}
 use Rattle.std.proofs.lemmas.Bool.{true≢false, cases_lt, false_from_ne_true, lt-ltb, ltb-true}
 use Rattle.std.proofs.lemmas.List.{append-nil}
 use Rattle.std.proofs.lemmas.List.Elements.{filter_agree}
-use Rattle.std.proofs.lemmas.List.Sorted.{IsPermutation-refl, IsPermutation-trans, length_permutation}
+use Rattle.std.proofs.lemmas.List.Sorted.{IsPermutation-refl, length_permutation}
 use Rattle.bucket_slots.specs.BucketView.{BucketView, pairs_in}
 use Rattle.bucket_slots.specs.Sizing.{IsLength}
 use Rattle.bucket_table.specs.ArraysView.{ArraysView, TableView, pairs_of}
 use Rattle.bucket_table.specs.Clearing.{ClearsAll, ClearsBelow}
 use Rattle.bucket_table.specs.Counting.{counted_to}
 use Rattle.bucket_table.specs.Cursors.{bound_of}
-use Rattle.bucket_table.specs.MapState.{KeepsPairs, state_of}
+use Rattle.bucket_table.specs.MapState.{state_of}
 use Rattle.bucket_table.specs.Relocation.{buckets_of}
-use Rattle.bucket_table.specs.Rehashing.{KeepsArrays}
 use Rattle.bucket_table.specs.Retains.{Retains}
 use Rattle.bucket_table.specs.Tallying.{Empties, Tallies, sum_to}
 use Rattle.bucket_table.specs.Visits.{AreCalls, HasStopped, Visited, reading}
-use Rattle.bucket_table.specs.Walks.{EndsWell, IsKeptBy, IsWalk, IsWhole, KeepsBuckets, WalksBy, has_home_in, keys_in, pairs_left}
+use Rattle.bucket_table.specs.Walks.{EndsWell, IsWalk, IsWhole, KeepsBuckets, WalksBy, has_home_in, keys_in, pairs_left}
 use Rattle.bucket_table.proofs.Each.{nothing}
 use Rattle.bucket_table.proofs.LentPairs.{all_from, counted_from, is_from, lent_len, none_past, outside_is_from}
-use Rattle.bucket_table.proofs.MapKept.{map_kept, pairs_kept}
+use Rattle.bucket_table.proofs.MapKept.{others_than_pairs, pairs_kept}
 use Rattle.bucket_table.proofs.Resizing.{no_entries}
 use Rattle.bucket_table.proofs.Retaining.{retains_none}
 
@@ -198,25 +197,15 @@ module _ {S K V : Type 0} (count : S → ℕ) where
   emptied_below hash old e first now new w = left_from emptying (λ s t lent left flag more last call. call.none_left) hash old e first now new w
 
 module _ {K V H : Type 0} (kind : ℕ) (t s : TableView K V H) (hasher : s.hasher ≡ t.hasher) where
-  others_than_pairs : s.arrays.minimum ≡ t.arrays.minimum → s.arrays.maximum ≡ t.arrays.maximum
-      → state_of kind s ≡ record (state_of kind t) { pairs = pairs_of s.arrays }
-  others_than_pairs minimum maximum =
-      ap (λ (h : H). record { kind = kind; hasher = h; minimum = s.arrays.minimum; maximum = s.arrays.maximum; pairs = pairs_of s.arrays }) hasher
-      ∙ ap (λ (n : ℕ). record { kind = kind; hasher = t.hasher; minimum = n; maximum = s.arrays.maximum; pairs = pairs_of s.arrays }) minimum
-      ∙ ap (λ (n : ℕ). record { kind = kind; hasher = t.hasher; minimum = t.arrays.minimum; maximum = n; pairs = pairs_of s.arrays }) maximum
-
-  -- the map of a table whose pairs stayed, went, or went in part
-  pub state_kept : KeepsArrays t.arrays s.arrays → KeepsPairs (state_of kind t) (state_of kind s)
-  state_kept kept = record { pairs = map_kept t.arrays s.arrays kept; others = others_than_pairs kept.minimum kept.maximum }
-
+  -- the map of a table whose pairs went, or went in part
   pub clears_all : (count : ℕ) → s.arrays.minimum ≡ t.arrays.minimum → s.arrays.maximum ≡ t.arrays.maximum
       → (pairs_of s.arrays ≡ []) × (count ≡ counted_to (pairs_of t.arrays)) → ClearsAll (state_of kind t) count (state_of kind s)
   clears_all count minimum maximum (none, counted) = record {
     counted = counted;
-    none = others_than_pairs minimum maximum ∙ ap (λ (ps : List (K × V)). record (state_of kind t) { pairs = ps }) none;
+    none = others_than_pairs kind t s hasher minimum maximum ∙ ap (λ (ps : List (K × V)). record (state_of kind t) { pairs = ps }) none;
   }
 
   pub clears_below : (hash : H → K → ℕ) → s.arrays.minimum ≡ t.arrays.minimum → s.arrays.maximum ≡ t.arrays.maximum
       → ((bound : ℕ) × IsPermutation (filter (λ pair. nat_le bound (hash t.hasher pair.0)) (pairs_of t.arrays)) (pairs_of s.arrays))
       → ClearsBelow hash (state_of kind t) (state_of kind s)
-  clears_below hash minimum maximum (bound, left) = record { bound = bound; pairs = left; others = others_than_pairs minimum maximum }
+  clears_below hash minimum maximum (bound, left) = record { bound = bound; pairs = left; others = others_than_pairs kind t s hasher minimum maximum }

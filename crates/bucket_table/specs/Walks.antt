@@ -89,5 +89,6 @@ pub record WalksBy {S A E K V : Type 0} (step : S → BucketView K V → Bool �
   pub calls : AreCalls step first false visits now flag
   pub walk : IsWalk hash old from visits ended
   pub sources : AreKilledFor ended from (from + length visits)
+  pub within : 0 < length visits → from + length visits ≤ length (buckets_of old.current)
   pub whole : OnOk result (IsWhole old from visits)
   pub ends : EndsWalk flag result ended new

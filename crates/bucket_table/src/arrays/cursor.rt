@@ -1,10 +1,11 @@
 //! Cursors over the arrays.
 ghost use Rattle.std.specs.Prelude.{◌≡◌, ◌≢◌, Bool, ◌<◌, ◌≤◌, ◌+◌, [], true, false, length, IfOk};
+ghost use Rattle.std.specs.Prelude.{Some};
 ghost use Rattle.std.specs.Prelude.{IfSome, OnOk};
 ghost use Rattle.bucket_slots.specs.BucketView.{BucketView};
 ghost use Rattle.bucket_slots.specs.Sizing.{IsLength};
 ghost use Rattle.bucket_slots.specs.Walking.{pairs_ahead};
-ghost use Rattle.bucket_table.specs.ArraysView.{ArePlaced, AreSourcesKilled};
+ghost use Rattle.bucket_table.specs.ArraysView.{ArePlaced, AreSourcesKilled, RehashView};
 ghost use Rattle.bucket_table.specs.Cursors.{Departs, GoesOnFrom, Leaves, LeavesTo, ReachesPast};
 ghost use Rattle.bucket_table.specs.Cursors.{Stays, bound_of};
 ghost use Rattle.bucket_table.specs.Finding.{KeepsMap};
@@ -12,7 +13,8 @@ ghost use Rattle.bucket_table.specs.Rehashing.{KeepsArrays};
 ghost use Rattle.bucket_table.specs.Relocation.{buckets_of};
 ghost use Rattle.bucket_table.specs.Retains.{AnswersBy, Retains};
 ghost use Rattle.bucket_table.specs.Sides.{arrays_with, bucket_on, buckets_on};
-ghost use Rattle.bucket_table.specs.Units.{KeepsBag, KeepsKilled};
+ghost use Rattle.bucket_table.specs.Units.{IsEasyUnit, IsUnitReady, KeepsBag, KeepsKilled};
+ghost use Rattle.bucket_table.specs.Units.{WorksUnit};
 
 use super::Arrays;
 use crate::hash_table::capacity::from_index_to_range;
@@ -40,6 +42,11 @@ impl<K: Eq + Drop, V: Drop, L: LruList + Drop, const TYPE: u8> Arrays<K, V, L, T
         ensures bag { KeepsBag self.old.rehash self.new.rehash }
         ensures still { KeepsKilled self.old.rehash self.new.rehash }
         ensures ready { OnOk result (AreSourcesKilled self.new index) }
+        ensures unit { (was : RehashView K V)
+            → (self.old.rehash ≡ Some was)
+            → IsUnitReady was
+            → IsEasyUnit was.tickets.position self.old was
+            → WorksUnit was self.new.rehash }
     {
         self.work_unit(hasher);
         let to = self.len();

@@ -27,11 +27,14 @@ impl<K: Eq + Drop, V: Drop, H: KeyHash<K>, L: LruList + Drop, const TYPE: u8> Ha
     L,
     TYPE,
 > {
-    /// Moves a pointer to the first live pair, and returns that pair's current bucket.
+    /// Moves a pointer to the first live pair, and returns that pair's current bucket; `None`, and
+    /// a null pointer, where the map is empty.
     ///
     /// # Errors
     ///
     /// Want of memory: the pointer is null.
+    ///
+    /// O(buckets passed, and pairs that move). Own.
     pub fn first(&mut self, at: &mut EntryPtr<K, V, TYPE>) -> Result<Option<usize>, AllocError>
         ensures map { KeepsPairs (state_of TYPE self.old) (state_of TYPE self.new) }
         ensures bag { KeepsBag self.old.arrays.rehash self.new.arrays.rehash }
@@ -41,12 +44,18 @@ impl<K: Eq + Drop, V: Drop, H: KeyHash<K>, L: LruList + Drop, const TYPE: u8> Ha
         self.arrays.first_from(&self.hasher, 0, at)
     }
 
-    /// Moves a pointer from where it is in a bucket to the next live pair. Returns whether that
-    /// pair's bucket is one of the old array, and its index.
+    /// Moves a pointer from where it is in a bucket to the next live pair, and returns whether that
+    /// pair's bucket is one of the old array, and its index; `None`, and a null pointer, where no
+    /// live pair has a hash past the bucket's.
+    ///
+    /// A bucket that is left without a live pair may be followed by a resize. A pair may be met
+    /// again.
     ///
     /// # Errors
     ///
     /// Want of memory: the pointer is null.
+    ///
+    /// O(buckets passed, and pairs that move). Own.
     pub fn advance(
         &mut self,
         is_old: bool,
@@ -68,12 +77,15 @@ impl<K: Eq + Drop, V: Drop, H: KeyHash<K>, L: LruList + Drop, const TYPE: u8> Ha
         self.arrays.advance(&self.hasher, is_old, index, at)
     }
 
-    /// Takes out each pair that `keep` refuses, or marks it in an index. Returns how many.
+    /// Takes out each pair that `keep` refuses, or marks it in an index. Returns how many,
+    /// saturating.
     ///
     /// # Errors
     ///
     /// Want of memory: the pairs with hashes below some bound are swept, and the others are as they
     /// were.
+    ///
+    /// O(pairs, and buckets of the arrays that it passes). Own.
     pub fn sweep<F: Fn(&K, &V) -> bool, G: Generation>(
         &mut self,
         keep: &F,
@@ -139,12 +151,14 @@ impl<K: Eq + Drop, V: Drop, H: KeyHash<K>, L: LruList + Drop, const TYPE: u8> Ha
         self.arrays.retain_at(index, keep, generation)
     }
 
-    /// Moves a pointer to the first live pair, and locks that pair's bucket. Returns `None` where
-    /// the map is empty.
+    /// Moves a pointer to the first live pair, and locks that pair's bucket. Returns `None`, and
+    /// leaves a null pointer, where the map is empty.
     ///
     /// # Errors
     ///
     /// Want of memory: the pointer is null.
+    ///
+    /// O(buckets passed, and pairs that move). Own.
     pub fn first_sync(
         &mut self,
         at: &mut EntryPtr<K, V, TYPE>,
@@ -178,11 +192,17 @@ impl<'a, K: Eq + Drop, V: Drop, H: KeyHash<K>, L: LruList + Drop, const TYPE: u8
     TYPE,
 > {
     /// Moves a pointer from where it is in the bucket to the next live pair, and locks that pair's
-    /// bucket. Returns `None` where there is none.
+    /// bucket. Returns `None`, and leaves a null pointer, where no live pair has a hash past the
+    /// bucket's.
+    ///
+    /// A bucket that is left without a live pair may be followed by a resize. A pair may be met
+    /// again.
     ///
     /// # Errors
     ///
-    /// Want of memory: the pointer is null.
+    /// Want of memory: the pointer is null, and no bucket is locked.
+    ///
+    /// O(buckets passed, and pairs that move). scc: `LockedBucket::next_sync`.
     pub fn next_sync(self, at: &mut EntryPtr<K, V, TYPE>) -> Result<Option<Self>, AllocError>
         ensures same_table { IfHeld result (λ locked. locked.table.ghost_name
             ≡ self.entry.table.ghost_name) }
@@ -200,7 +220,8 @@ impl<'a, K: Eq + Drop, V: Drop, H: KeyHash<K>, L: LruList + Drop, const TYPE: u8
             self.entry.index) at.old ≡ []
             → IfHeld result (λ locked. (locked.is_old ≡ false)
             × IsFirstFrom (H.hash_of self.entry.table.now.hasher) locked.table.now.arrays
-            (bound_of (length (buckets_on self.entry.table.now.arrays self.entry.is_old)) (self.entry.index + 1)) locked.index at.new
+            (bound_of (length (buckets_on self.entry.table.now.arrays self.entry.is_old))
+            (self.entry.index + 1)) locked.index at.new
             × ReachesAt (bound_of (length (buckets_on self.entry.table.now.arrays
             self.entry.is_old)) (self.entry.index + 1))
             (Some locked.index) locked.table.now.arrays) }
@@ -211,7 +232,8 @@ impl<'a, K: Eq + Drop, V: Drop, H: KeyHash<K>, L: LruList + Drop, const TYPE: u8
         ensures held { pairs_ahead (bucket_on self.entry.table.now.arrays self.entry.is_old
             self.entry.index) at.old ≢ [] → IsHeld result }
         ensures none { IfNothing result (HasNoneFrom (H.hash_of self.entry.table.now.hasher)
-            (bound_of (length (buckets_on self.entry.table.now.arrays self.entry.is_old)) (self.entry.index + 1)) (pairs_of self.entry.table.now.arrays)) }
+            (bound_of (length (buckets_on self.entry.table.now.arrays self.entry.is_old))
+            (self.entry.index + 1)) (pairs_of self.entry.table.now.arrays)) }
         ensures null { IfNotHeld result (at.new ≡ null_place) }
     {
         let LockedBucket {

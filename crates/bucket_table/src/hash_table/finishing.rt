@@ -16,11 +16,14 @@ impl<K: Eq + Drop, V: Drop, H: KeyHash<K>, L: LruList + Drop, const TYPE: u8> Ha
     L,
     TYPE,
 > {
-    /// Works the units of the old array, one after another, until it is gone. Returns how many.
+    /// Works the units of the old array, one after another, until it is gone. Returns how many; 0
+    /// where no old array stands.
     ///
     /// # Errors
     ///
-    /// Want of memory: no ticket is open.
+    /// Want of memory: the old array stands, its pairs are in both arrays, and no ticket is open.
+    ///
+    /// O(old buckets from the position on, and their pairs). Own.
     pub fn finish_rehash(&mut self) -> Result<usize, AllocError>
         requires none_open { IsUnopened self.old.arrays.rehash }
         ensures gone { IfOk result (λ count. self.new.arrays.rehash ≡ None) }

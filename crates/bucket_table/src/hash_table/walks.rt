@@ -1,17 +1,19 @@
 //! Walks over a table's current buckets.
-ghost use Rattle.std.specs.Prelude.{◌≡◌, ◌≢◌, ◌<◌, ◌≤◌, ◌+◌, ◌⊎◌, ℕ, false, length, OnOk};
+ghost use Rattle.std.specs.Prelude.{◌≡◌, ◌≢◌, ◌<◌, ◌≤◌, ◌+◌, ◌⊎◌, ℕ, false, length, OnOk, Some};
 ghost use Rattle.std.specs.Int.{IsPowerOfTwo};
 ghost use Rattle.bucket_slots.specs.ArrayRoom.{BucketFits};
 ghost use Rattle.bucket_slots.specs.BucketView.{BucketView};
 ghost use Rattle.bucket_slots.specs.Sizing.{IsLength};
-ghost use Rattle.bucket_table.specs.ArraysView.{AreSourcesKilled};
+ghost use Rattle.bucket_table.specs.ArraysView.{AreSourcesKilled, RehashView};
 ghost use Rattle.bucket_table.specs.Asking.{AsksShrinking, ResizesIf};
 ghost use Rattle.bucket_table.specs.Finding.{KeepsMap};
 ghost use Rattle.bucket_table.specs.Locking.{IsLocked};
+ghost use Rattle.bucket_table.specs.MapState.{KeepsPairs, state_of};
 ghost use Rattle.bucket_table.specs.Rehashing.{KeepsArrays};
 ghost use Rattle.bucket_table.specs.Relocation.{buckets_of};
 ghost use Rattle.bucket_table.specs.Sides.{arrays_with, bucket_on};
-ghost use Rattle.bucket_table.specs.Units.{KeepsBag, KeepsKilled};
+ghost use Rattle.bucket_table.specs.Units.{IsEasyUnit, IsUnitReady, KeepsBag, KeepsKilled};
+ghost use Rattle.bucket_table.specs.Units.{WorksUnit};
 ghost use Rattle.bucket_table.specs.Visits.{reading};
 ghost use Rattle.bucket_table.specs.Walks.{BeginsAt, KeepsBuckets, WalksBy};
 
@@ -29,14 +31,20 @@ impl<K: Eq + Drop, V: Drop, H: KeyHash<K>, L: LruList + Drop, const TYPE: u8> Ha
     L,
     TYPE,
 > {
-    /// Lends the current buckets from `start` on, one after the other, until the visitor answers
-    /// false. Where the current array hasn't the length that `start` was meant for, the walk begins
-    /// where the hashes of that bucket do. Where the visitor has set its flag, the walk ends with a
-    /// resize.
+    /// Lends the current buckets from `start` on for writing, one after the other, until the
+    /// visitor answers false.
+    ///
+    /// Where the current array hasn't the length that `start` was meant for, the walk begins where
+    /// the hashes of that bucket do. Before each visit a unit of the old array is worked, and the
+    /// bucket's old pairs come. Where the visitor has set its flag, the walk ends with a resize if
+    /// the first buckets have few pairs.
     ///
     /// # Errors
     ///
-    /// Want of memory: the walk ends there.
+    /// Want of memory: the walk ends there, the earlier visits stand, and nothing is resized.
+    ///
+    /// O(buckets from `start` on, and pairs that move), and the visitor's calls. scc:
+    /// `HashTable::for_each_writer_sync`.
     pub fn for_each_writer_sync<F: Visit<Bucket<K, V, L, TYPE>>>(
         &mut self,
         start: usize,
@@ -75,9 +83,14 @@ impl<K: Eq + Drop, V: Drop, H: KeyHash<K>, L: LruList + Drop, const TYPE: u8> Ha
 
     /// Lends the current buckets for reading, one after the other, until the reader answers false.
     ///
+    /// Before each visit a unit of the old array is worked, and the bucket's old pairs come.
+    ///
     /// # Errors
     ///
-    /// Want of memory: the walk ends there.
+    /// Want of memory: the walk ends there, and the earlier visits stand.
+    ///
+    /// O(buckets, and pairs that move), and the reader's calls. scc:
+    /// `HashTable::for_each_reader_sync`.
     pub fn for_each_reader_sync<F: Read<Bucket<K, V, L, TYPE>>>(
         &mut self,
         reader: &mut F,
@@ -86,6 +99,7 @@ impl<K: Eq + Drop, V: Drop, H: KeyHash<K>, L: LruList + Drop, const TYPE: u8> Ha
         ensures again { F.may_read reader.new }
         ensures walked { WalksBy (reading F.reads) (H.hash_of self.old.hasher) 0 0 reader.old
             self.old.arrays result reader.new self.new.arrays }
+        ensures map { KeepsPairs (state_of TYPE self.old) (state_of TYPE self.new) }
         ensures hasher { self.new.hasher ≡ self.old.hasher }
         ensures kept { KeepsArrays self.old.arrays self.new.arrays }
         ensures bag { KeepsBag self.old.arrays.rehash self.new.arrays.rehash }
@@ -128,6 +142,11 @@ impl<K: Eq + Drop, V: Drop, H: KeyHash<K>, L: LruList + Drop, const TYPE: u8> Ha
         ensures bag { KeepsBag self.old.arrays.rehash self.new.arrays.rehash }
         ensures still { KeepsKilled self.old.arrays.rehash self.new.arrays.rehash }
         ensures ready { OnOk result (AreSourcesKilled self.new.arrays index) }
+        ensures unit { (was : RehashView K V)
+            → (self.old.arrays.rehash ≡ Some was)
+            → IsUnitReady was
+            → IsEasyUnit was.tickets.position self.old.arrays was
+            → WorksUnit was self.new.arrays.rehash }
     {
         self.arrays.prepare_at(&self.hasher, index)
     }

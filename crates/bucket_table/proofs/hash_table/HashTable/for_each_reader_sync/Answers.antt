@@ -5,6 +5,7 @@ use Rattle.bucket_table.proofs.ReadSteps.{bucket_seen, keeps_read, read_at, with
 use Rattle.bucket_table.proofs.UnitSteps.{kept_both, kept_none}
 use Rattle.bucket_table.proofs.Visiting.{WalkStands, locked_seen, over_seen, stands_first, stands_next, walk_ended, walk_refused}
 use Rattle.bucket_table.proofs.WalkBegins.{begins_as_given}
+use Rattle.bucket_table.proofs.MapKept.{state_kept}
 use Rattle.bucket_table.proofs.hash_table.HashTable.for_each_reader_sync.Goals as goal
 
 pub loop-more-init : goal.loop-more-init
@@ -46,3 +47,14 @@ pub returns-after-loop-more-clause-walked : goal.returns-after-loop-more-clause-
 returns-after-loop-more-clause-walked g c =
     walk_ended (reading g.F.Read.reads) (g.H.KeyHash.hash_of c.args.self.now.hasher) _ 0 0 c.args.reader.now c.loop-more.reader c.args.self.now.arrays c.loop-more.self.arrays c.loop-more.self.arrays 0 c.loop-more.index false c.loop-more.more (begins_as_given _ 0 0 refl)
     c.loop-more.invariant.2 (λ going. absurd (search rules)) refl
+
+pub returns-in_default-clause-map : goal.returns-in_default-clause-map
+returns-in_default-clause-map g c =
+    state_kept g.row.TYPE c.args.self.now c.prepare_at.new.self (c.prepare_at.ensures.hasher ∙ c.loop-more.invariant.1)
+    (kept_both c.args.self.now.arrays c.loop-more.self.arrays c.prepare_at.new.self.arrays c.loop-more.invariant.3 c.prepare_at.ensures.kept)
+
+pub returns-else-index-len-clause-map : goal.returns-else-index-len-clause-map
+returns-else-index-len-clause-map g c = state_kept g.row.TYPE c.args.self.now c.loop-more.self c.loop-more.invariant.1 c.loop-more.invariant.3
+
+pub returns-after-loop-more-clause-map : goal.returns-after-loop-more-clause-map
+returns-after-loop-more-clause-map g c = state_kept g.row.TYPE c.args.self.now c.loop-more.self c.loop-more.invariant.1 c.loop-more.invariant.3

@@ -3,7 +3,7 @@ use Rattle.bucket_table.specs.ArraysView.{pairs_of}
 use Rattle.bucket_table.specs.MapState.{state_of}
 use Rattle.bucket_table.proofs.CallSteps.{kept}
 use Rattle.bucket_table.proofs.TicketSteps.{tickets_kept}
-use Rattle.bucket_table.proofs.WalkCounts.{none_counted, state_kept, tallied}
+use Rattle.bucket_table.proofs.WalkCounts.{none_counted, tallied}
 use Rattle.bucket_table.proofs.script.walks.walk.Goals as goal
 
 pub for_each_reader_sync-requires-room-F-Read : goal.for_each_reader_sync-requires-room-F-Read
@@ -24,14 +24,14 @@ pub returns-in-Ok-clause-step : goal.returns-in-Ok-clause-step
 returns-in-Ok-clause-step g c = (
   tallied (λ t. t.buckets) (λ t. t.pairs) (g.H.KeyHash.hash_of c.args.table.now.hasher) c.args.table.now.arrays c.sound.ensures.empty c.sound.ensures.long (g.met.H.KeyHash.fits c.args.table.now.hasher)
       _ _ c.for_each_reader_sync.new.reader c.for_each_reader_sync.new.self.arrays refl c.in-Ok.ensures.walked,
-  state_kept g.row.TYPE c.args.table.now c.for_each_reader_sync.new.self c.for_each_reader_sync.ensures.hasher c.for_each_reader_sync.ensures.kept,
+  c.for_each_reader_sync.ensures.map,
 )
 
 pub returns-in-Ok-clause-tickets : goal.returns-in-Ok-clause-tickets
 returns-in-Ok-clause-tickets g c = tickets_kept c.args.table.now.arrays c.for_each_reader_sync.new.self.arrays c.for_each_reader_sync.ensures.bag
 
 pub returns-in-Err-clause-step : goal.returns-in-Err-clause-step
-returns-in-Err-clause-step g c = state_kept g.row.TYPE c.args.table.now c.for_each_reader_sync.new.self c.for_each_reader_sync.ensures.hasher c.for_each_reader_sync.ensures.kept
+returns-in-Err-clause-step g c = c.for_each_reader_sync.ensures.map
 
 pub returns-in-Err-clause-tickets : goal.returns-in-Err-clause-tickets
 returns-in-Err-clause-tickets g c = tickets_kept c.args.table.now.arrays c.for_each_reader_sync.new.self.arrays c.for_each_reader_sync.ensures.bag
