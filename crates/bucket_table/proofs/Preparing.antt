@@ -59,6 +59,12 @@ module _ {K V : Type 0} where
       let len = len_kept new.current old.current kept.current_len in
       omega arith
 
+  -- a range that was worked keeps the tickets and what is killed
+  pub rehash_worked : (start end : ℕ) (success : Bool) (old new : ArraysView K V) → WorksRange start end success old new
+      → KeepsRehash old.rehash new.rehash
+  rehash_worked start end success old new (was, is, some, killed, still) =
+      rw (some.rehash_was, some.rehash_is) (some.same_tickets, some.same_len, still)
+
   -- a unit that was worked stays so
   pub unit_still : (was : RehashView K V) (mid last : Option (RehashView K V)) → WorksUnit was mid → KeepsRehash mid last → WorksUnit was last
   unit_still was None last done kept = rw kept tt
