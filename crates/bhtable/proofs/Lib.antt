@@ -14,6 +14,7 @@ mod Replying
 mod Serving
 mod Splitting
 mod Taking
+mod Telling
 mod Turning
 mod TwoRuns
 mod Unreadable

@@ -4,7 +4,7 @@ use Rattle.std.specs.Io.KnownBytes.{Appends, append_known}
 use Rattle.bucket_table.specs.declared.script.generation.FixedGeneration.{FixedGeneration}
 use Rattle.bucket_table.specs.declared.script.reply.Reply.{Reply}
 use Rattle.bucket_table.specs.declared.script.reply.Reply.TheVariants.{Done}
-use Rattle.bhtable.specs.Answers.{Answers, IsAnswer, ScriptTable, told}
+use Rattle.bhtable.specs.Answers.{Answers, IsAnswer, ScriptTable, Tells}
 use Rattle.bhtable.specs.Outputs.{HasAnswered}
 use Rattle.bhtable.specs.Layout.Replies.{IsPushed}
 use Rattle.bhtable.specs.Layout.Sessions.{HasReplied, HasStopped, HasTaken, IsBadAt, table_at_hand, table_of}
@@ -38,8 +38,8 @@ pub taken_one : (start output output2 : Option (List ℕ)) (session session2 : S
     → MatchResult result (λ _. HasTaken start output2 session2 (lines ++ line ∷ [])) (λ stop. HasStopped stop start output2 session2 lines)
 taken_one start output output2 session session2 lines line text after (Ok done) replied none short answer grown table calls =
     taken_all start output2 session2 (lines ++ line ∷ [])
-    (rw table (replied_one start output output2 session.replies session2.replies lines line text (table_at_hand session.table) after replied short
-    answer grown))
+    (rw table (replied_one start output output2 session.replies session2.replies lines line text (table_at_hand session.table) after replied
+    short answer grown))
     (calls ∙ none)
 taken_one start output output2 session session2 lines line text after (Err (BadLine number)) replied none short answer never table calls =
     absurd never
@@ -68,8 +68,8 @@ epoch_answered (Some table) generation there = refl
 
 -- where there is a table, it tells of itself, and stays
 pub told_of : (table : Option Table) (at : Table) (question : Question) (reply : Reply ℕ ℕ) → table ≡ Some at
-    → reply ≡ told (table_of at) question → Answers (table_at_hand table) (Questions question) reply (table_at_hand table)
-told_of table at question reply there told_is = rw there (told_is, refl)
+    → Tells (table_of at) question reply → Answers (table_at_hand table) (Questions question) reply (table_at_hand table)
+told_of table at question reply there tells = rw there (tells, refl)
 
 -- the text that waited is in the output
 pub wrote : (start output output2 : Option (List ℕ)) (session session2 : Session) (lines : List (List ℕ)) (result : Result (Unit {0}) Stop)
@@ -82,7 +82,8 @@ pub wrote : (start output output2 : Option (List ℕ)) (session session2 : Sessi
 wrote start output output2 session session2 lines (Ok done) replied none calls table empty written failed = (
   answered_out start output output2 session.replies lines (table_at_hand session.table) replied written,
   taken_all start output2 session2 lines
-      (rw table (replied_out start output output2 session.replies session2.replies lines (table_at_hand session.table) replied written empty))
+      (rw table (replied_out start output output2 session.replies session2.replies lines (table_at_hand session.table) replied written
+      empty))
       (calls ∙ none),
 )
 wrote start output output2 session session2 lines (Err stop) replied none calls table empty written failed =

@@ -1,12 +1,14 @@
 -- What the lines of a script are answered.
 use Rattle.std.specs.Prelude.{ℕ, ◌*◌, ◌≡◌, ◌⊎◌, ◌<◌, ◌≤◌, List, [], ◌∷◌, ◌++◌, Option, None, Some, length, nat_eq}
 use Rattle.bucket_slots.specs.declared.bucket.TheConstants.{CACHE, INDEX, MAP}
+use Rattle.bucket_table.specs.ArraysView.{ArraysView, IsOneMap}
 use Rattle.bucket_table.specs.Calls.{Step}
 use Rattle.bucket_table.specs.Covered.{RehashState}
 use Rattle.bucket_table.specs.Hashes.{script_hash}
-use Rattle.bucket_table.specs.MapState.{MapState}
+use Rattle.bucket_table.specs.MapState.{MapState, state_of}
+use Rattle.bucket_table.specs.Relocation.{buckets_of}
 use Rattle.bucket_table.specs.State.{word_of}
-use Rattle.bucket_table.specs.TicketCalls.{TicketStep}
+use Rattle.bucket_table.specs.TicketCalls.{TicketStep, tickets_of}
 use Rattle.bucket_table.specs.declared.script.call.Call.{Call}
 use Rattle.bucket_table.specs.declared.script.hashes.ScriptHash.{ScriptHash}
 use Rattle.bucket_table.specs.declared.script.reply.Reply.{Reply}
@@ -53,16 +55,27 @@ abbrev pub word_reply : Option RehashState → Reply ℕ ℕ
 word_reply None = NoWork
 word_reply (Some state) = Number (word_of state.tickets)
 
--- what a table tells of itself: 32 slots for each bucket of its current array, and the rehash word
-abbrev pub told : ScriptTable → Question → Reply ℕ ℕ
-told table Slots = Number (32 * table.len)
-told table Word = word_reply table.tickets
+-- what arrays tell: 32 slots for each bucket of the current one, and the rehash word of the old one
+abbrev pub told : ArraysView ℕ ℕ → Question → Reply ℕ ℕ
+told arrays Slots = Number (32 * length (buckets_of arrays.current))
+told arrays Word = word_reply (tickets_of arrays)
+
+-- the arrays are one map, and it is that of the table, as are their tickets and the length of the current one
+pub record AreArraysOf (table : ScriptTable) (arrays : ArraysView ℕ ℕ) : Type 0 where
+  pub one_map : IsOneMap nat_eq (script_hash table.map.hasher) arrays
+  pub map : table.map ≡ state_of table.map.kind (record { hasher = table.map.hasher; arrays = arrays })
+  pub tickets : table.tickets ≡ tickets_of arrays
+  pub len : table.len ≡ length (buckets_of arrays.current)
+
+-- the table tells of its arrays
+abbrev pub Tells : ScriptTable → Question → Reply ℕ ℕ → Type 0
+Tells table question reply = (arrays : ArraysView ℕ ℕ) × AreArraysOf table arrays × (reply ≡ told arrays question)
 
 -- from the table `old` the request may have this reply, and `new` is the table after it, which a question and an epoch leave as it is
 abbrev pub Answers : Option ScriptTable → Request → Reply ℕ ℕ → Option ScriptTable → Type 0
 Answers old (New fresh) Done new = new ≡ Some (fresh_table fresh)
 Answers (Some before) (Calls call) reply (Some after) = ScriptStep before call reply after
-Answers (Some table) (Questions question) reply new = (reply ≡ told table question) × (new ≡ Some table)
+Answers (Some table) (Questions question) reply new = Tells table question reply × (new ≡ Some table)
 Answers (Some table) (Epoch generation) Done new = new ≡ Some table
 Answers old request reply new = ⊥
 

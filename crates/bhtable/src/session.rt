@@ -4,12 +4,13 @@
 //! once. They are answered before a `new`, an `epoch` and a question, before the output is written,
 //! and where 1,024 wait.
 ghost use Rattle.std.specs.Prelude.{◌≡◌, ◌⊎◌, ◌≤◌, ◌↔◌, ℕ, List, [], ◌∷◌, ◌++◌, Option, IfErr, IfOk, IsSome, MatchResult, OnErr, OnOk, length, nat_eq, true};
-ghost use Rattle.bhtable.specs.Answers.{fresh_table, told};
+ghost use Rattle.bhtable.specs.Answers.{Tells, fresh_table, told};
 ghost use Rattle.bhtable.specs.Layout.Stops.{IsLack, IsOutputUpTo};
 ghost use Rattle.bhtable.specs.Outputs.{HasAnswered};
 ghost use Rattle.bhtable.specs.Requests.{AreLimits, Asks};
-ghost use Rattle.bhtable.specs.Layout.Sessions.{HasEnded, HasReplied, HasStopped, HasTaken, IsBadAt, seen, table_at_hand, table_of};
+ghost use Rattle.bhtable.specs.Layout.Sessions.{HasEnded, HasReplied, HasStopped, HasTaken, IsBadAt, table_at_hand, table_of};
 ghost use Rattle.bhtable.specs.Words.{parts_of};
+ghost use Rattle.bucket_table.specs.ArraysView.{IsOneMap};
 ghost use Rattle.bucket_table.specs.Calls.{Step};
 ghost use Rattle.bucket_table.specs.Hashes.{script_hash};
 ghost use Rattle.bucket_table.specs.Runs.{Run};
@@ -270,8 +271,9 @@ impl Table {
         }
     }
 
+    #[tactic(auto, using(crate::proofs::Telling::tells))]
     fn tell(&self, question: Question) -> Reply<u64, u64>
-        ensures { result ≡ told (table_of self.now) question }
+        ensures { Tells (table_of self.now) question result }
     {
         match self {
             Table::Map(table) => told_by(table, question),
@@ -286,8 +288,10 @@ fn told_by<L: LruList, const TYPE: u8>(
     table: &HashTable<u64, u64, ScriptHash, L, TYPE>,
     question: Question,
 ) -> Reply<u64, u64>
-    ensures { result ≡ told (seen TYPE table.now) question }
+    ensures told { result ≡ told table.now.arrays question }
+    ensures one_map { IsOneMap nat_eq (script_hash table.now.hasher) table.now.arrays }
 {
+    table.sound();
     match question {
         Question::Slots => Reply::Number(table.num_slots()),
         Question::Word => match table.rehashing_metadata() {

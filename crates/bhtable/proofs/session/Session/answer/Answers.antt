@@ -29,8 +29,10 @@ returns-clause-answered g c start lines taken =
     let calls = c.args.self.now.calls in
     let maps = rw (c.replace-calls.ensures.value, ← c.as_slice.ensures.value) at c.in-Ok.ensures.run in
     let tickets = rw (c.replace-calls.ensures.value, ← c.as_slice.ensures.value) at c.in-Ok.ensures.tickets in
-    let ran = one_run calls.items _ (table_of c.in-Some.table) (table_of c.run.new.self) _ calls.ok.0 c.if-is_empty.ensures maps tickets in (
+    let before = table_of c.in-Some.table in
+    let after = table_of c.run.new.self in
+    let ran = one_run calls.items _ before after _ calls.ok.0 c.if-is_empty.ensures maps tickets in (
       none,
-      pushed start _ _ c.args.self.now session lines (table_of c.in-Some.table) (table_of c.run.new.self) c.as_slice.result.now
-          c.push_all.result taken (rw c.in-Some.is refl) refl ran c.push_all.ensures none,
+      pushed start _ _ c.args.self.now session lines before after c.as_slice.result.now c.push_all.result taken
+          (rw c.in-Some.is refl) refl ran c.push_all.ensures none,
     )
