@@ -20,7 +20,7 @@ use Rattle.bucket_table.specs.Relocation.{buckets_of, entries_among}
 use Rattle.bucket_table.specs.Rehashing.{KeepsArrays}
 use Rattle.bucket_table.specs.Resizes.{IsPlanOf, MakesArray, MakesFrom, Resizes}
 use Rattle.bucket_table.specs.Sides.{buckets_on}
-use Rattle.bucket_table.specs.Units.{KeepsBag, times_in}
+use Rattle.bucket_table.specs.Units.{KeepsBag, WorksOneUnit, times_in}
 use Rattle.bucket_table.specs.declared.arrays.plan.Plan.{Plan}
 use Rattle.bucket_table.specs.declared.arrays.plan.Plan.TheVariants.{Keep, GiveUp, Resize}
 use Rattle.bucket_table.proofs.Quietly.{quietly}
@@ -136,6 +136,21 @@ module _ {K V : Type 0} where
   not_none : (o : Option (List (BucketView K V))) → IsSome o → o ≡ None → ⊥
   not_none None stands e = absurd cc
   not_none (Some buckets) stands e = none-some buckets (sym e)
+
+  -- without an old array no unit is worked
+  pub without_unit : (old : ArraysView K V) (after : Option (RehashView K V)) → old.rehash ≡ None → WorksOneUnit old after
+  without_unit old after none = λ was is ready easy. absurd (none-some was (sym none ∙ is))
+
+  none_beside : (rehash : Option (RehashView K V)) (current : Option (List (BucketView K V))) → current ≡ None → (IsSome rehash → IsSome current) → rehash ≡ None
+  none_beside None current none beside = refl
+  none_beside (Some rehash) current none beside = absurd (not_none current (beside refl) none)
+
+  -- a first array, where a current array stands beside each old one
+  pub placed_beside : (hash : K → ℕ) (old new : ArraysView K V) → MakesArray old new → (IsSome old.rehash → IsSome old.current) → ArePlaced hash old → ArePlaced hash new
+  placed_beside hash old new h beside law = elim (made old new h) [
+    | inl same ↦ subst (λ (a : ArraysView K V). ArePlaced hash a) (sym same.0) law
+    | inr first ↦ placed_made hash old new h (none_beside old.rehash old.current first.3 beside) law
+  ]
 
   pub ready_made : (hash len : ℕ) (old new : ArraysView K V) → MakesArray old new → old.rehash ≡ None → (len ≡ 0 → new.current ≡ None) → len ≡ length (buckets_of new.current) → IsReady new hash
   ready_made hash len old new h alone none long =

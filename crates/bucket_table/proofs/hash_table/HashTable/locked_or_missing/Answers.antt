@@ -8,4 +8,4 @@ returns-in-Ok-false g c =
     let e = c.prepare.ensures in
     let none = none_before (state_of g.row.TYPE c.args.self.now) (state_of g.row.TYPE c.prepare.new.self) e.map (search (rules, e.empty)) in
     ((refl, λ x. tt, record { map = e.map; bag = e.bag; alone = e.alone }),
-      record { rests = tt; same_table = tt; map = tt; bag = tt; home = tt; empty = λ same. none; alone = λ same. tt })
+      record { rests = tt; same_table = tt; map = tt; bag = tt; home = tt; side = tt; unit = tt; answer = search (rules, e.answer); empty = λ same. none; alone = λ same. tt })
