@@ -210,6 +210,11 @@ module _ {K V : Type 0} where
   bag_with a true i b (Some r) is = λ unit. rw is refl
 
 module _ {K V H : Type 0} where
+  -- another bucket stands in the table, and the tickets stay
+  pub bag_changed : (t s : TableView K V H) (side : Bool) (i : ℕ) (c : BucketView K V) → t ≡ s → KeepsBag s.arrays.rehash (arrays_with t.arrays side i c).rehash
+  bag_changed t s side i c is = λ unit.
+      bag_with t.arrays side i c t.arrays.rehash refl unit ∙ ap (λ (z : TableView K V H). times_in unit z.arrays.rehash) is
+
   -- a shrinking that is asked for, as the table is known
   pub asked_seen : (t s : TableView K V H) (i : ℕ) (new : ArraysView K V) → t ≡ s → ResizesIf (AsksShrinking t.arrays i) t.arrays new → ResizesIf (AsksShrinking s.arrays i) s.arrays new
   asked_seen t s i new is h = subst (λ (z : TableView K V H). ResizesIf (AsksShrinking z.arrays i) z.arrays new) is h

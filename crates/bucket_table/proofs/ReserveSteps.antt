@@ -1,11 +1,13 @@
--- A raised minimum.
-use Rattle.std.proofs.Common.{ℕ, ◌+◌, ◌≡◌, Bool, sym, ap, subst, ◌∙◌}
+-- A raised minimum, a resize and a first array keep the map.
+use Rattle.std.proofs.Common.{ℕ, ◌+◌, ◌≡◌, Bool, IsSome, Result, sym, ap, subst, ◌∙◌}
 use Rattle.std.specs.Cmp.{IsEquivalence}
 use Rattle.bucket_table.specs.ArraysView.{ArePlaced, ArraysView, IsOneMap, TableView, entries_of, pairs_of}
 use Rattle.bucket_table.specs.Finding.{KeepsMap}
-use Rattle.bucket_table.specs.MapState.{RaisesMinimum, state_of}
-use Rattle.bucket_table.specs.Resizes.{Reserves, with_minimum}
-use Rattle.bucket_table.proofs.MapKept.{one_map_found, pairs_kept}
+use Rattle.bucket_table.specs.MapState.{KeepsPairs, RaisesMinimum, state_of}
+use Rattle.bucket_table.specs.Resizes.{MakesArray, Reserves, ResizesByPlan, with_minimum}
+use Rattle.bucket_table.specs.Units.{KeepsBag}
+use Rattle.bucket_table.proofs.MapKept.{one_map_found, pairs_kept, state_seen}
+use Rattle.bucket_table.proofs.WriterSteps.{kept_made, placed_beside, resize_keeps}
 
 module _ {K V : Type 0} where
   -- the law says nothing of the minimum
@@ -19,7 +21,21 @@ module _ {K V : Type 0} where
   one_map_raised eq laws hash old new least one kept placed =
       one_map_found eq laws hash (with_minimum old least) new (record { distinct = one.distinct; placed = record { homes = one.placed.homes; rehashed = one.placed.rehashed } }) kept placed
 
+module _ {K V : Type 0} where
+  -- a first array keeps the map
+  pub one_map_made : (eq : K → K → Bool) → IsEquivalence eq → (hash : K → ℕ) (old new : ArraysView K V) → IsOneMap eq hash old → (IsSome old.rehash → IsSome old.current) → MakesArray old new
+      → IsOneMap eq hash new
+  one_map_made eq laws hash old new one beside made =
+      one_map_found eq laws hash old new one (kept_made old new made) (placed_beside hash old new made beside one.placed)
+
 module _ {K V H : Type 0} where
+  -- what a resize leaves of the map and of the bag
+  pub resized_seen : {E : Type 0} (kind : ℕ) (t s : TableView K V H) (new : ArraysView K V) (answer : Result Bool E) → t ≡ s → entries_of new ≡ entries_of t.arrays → ResizesByPlan t.arrays answer new
+      → KeepsPairs (state_of kind s) (state_of kind (record { hasher = t.hasher; arrays = new })) × KeepsBag s.arrays.rehash new.rehash
+  resized_seen kind t s new answer is same done =
+      let keeps = resize_keeps t.arrays new answer same done in
+      (state_seen kind t s new is keeps.0, subst (λ (z : TableView K V H). KeepsBag z.arrays.rehash new.rehash) is keeps.1)
+
   pub raised_seen : (kind additional answer : ℕ) (t s : TableView K V H) (new : ArraysView K V) → t ≡ s → Reserves additional t.arrays answer new
       → KeepsMap (with_minimum t.arrays (t.arrays.minimum + answer)) new → RaisesMinimum additional (state_of kind s) answer (state_of kind (record { hasher = t.hasher; arrays = new }))
   raised_seen kind additional answer t s new is reserves kept =

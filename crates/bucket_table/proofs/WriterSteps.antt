@@ -20,7 +20,7 @@ use Rattle.bucket_table.specs.Relocation.{buckets_of, entries_among}
 use Rattle.bucket_table.specs.Rehashing.{KeepsArrays}
 use Rattle.bucket_table.specs.Resizes.{IsPlanOf, MakesArray, MakesFrom, Resizes}
 use Rattle.bucket_table.specs.Sides.{buckets_on}
-use Rattle.bucket_table.specs.Units.{KeepsBag, times_in}
+use Rattle.bucket_table.specs.Units.{KeepsBag, WorksOneUnit, times_in}
 use Rattle.bucket_table.specs.declared.arrays.plan.Plan.{Plan}
 use Rattle.bucket_table.specs.declared.arrays.plan.Plan.TheVariants.{Keep, GiveUp, Resize}
 use Rattle.bucket_table.proofs.Quietly.{quietly}
@@ -126,6 +126,53 @@ module _ {K V : Type 0} where
     | inl same ↦ subst (λ (a : ArraysView K V). KeepsMap old a) (sym same.0) (kept_as old old refl refl refl)
     | inr first ↦ subst (λ (a : ArraysView K V). KeepsMap old a) (sym first.2) (kept_as old (record old { current = Some first.0 }) (first_entries old first.0 first.1 first.3) refl refl)
   ]
+
+  pub rehash_made : (old new : ArraysView K V) → MakesArray old new → new.rehash ≡ old.rehash
+  rehash_made old new h = elim (made old new h) [
+    | inl same ↦ ap (λ (a : ArraysView K V). a.rehash) same.0
+    | inr first ↦ ap (λ (a : ArraysView K V). a.rehash) first.2
+  ]
+
+  not_none : (o : Option (List (BucketView K V))) → IsSome o → o ≡ None → ⊥
+  not_none None stands e = absurd cc
+  not_none (Some buckets) stands e = none-some buckets (sym e)
+
+  -- without an old array no unit is worked
+  pub without_unit : (old : ArraysView K V) (after : Option (RehashView K V)) → old.rehash ≡ None → WorksOneUnit old after
+  without_unit old after none = λ was is ready easy. absurd (none-some was (sym none ∙ is))
+
+  none_beside : (rehash : Option (RehashView K V)) (current : Option (List (BucketView K V))) → current ≡ None → (IsSome rehash → IsSome current) → rehash ≡ None
+  none_beside None current none beside = refl
+  none_beside (Some rehash) current none beside = absurd (not_none current (beside refl) none)
+
+  -- a first array, where a current array stands beside each old one
+  pub placed_beside : (hash : K → ℕ) (old new : ArraysView K V) → MakesArray old new → (IsSome old.rehash → IsSome old.current) → ArePlaced hash old → ArePlaced hash new
+  placed_beside hash old new h beside law = elim (made old new h) [
+    | inl same ↦ subst (λ (a : ArraysView K V). ArePlaced hash a) (sym same.0) law
+    | inr first ↦ placed_made hash old new h (none_beside old.rehash old.current first.3 beside) law
+  ]
+
+  pub ready_made : (hash len : ℕ) (old new : ArraysView K V) → MakesArray old new → old.rehash ≡ None → (len ≡ 0 → new.current ≡ None) → len ≡ length (buckets_of new.current) → IsReady new hash
+  ready_made hash len old new h alone none long =
+      let some : len ≡ 0 → ⊥ = λ nothing. elim (made old new h) [
+        | inl same ↦ not_none old.current same.1 (ap (λ (a : ArraysView K V). a.current) (sym same.0) ∙ none nothing)
+        | inr first ↦ none-some first.0 (sym (none nothing) ∙ ap (λ (a : ArraysView K V). a.current) first.2)
+      ] in
+      let gone : length (old_buckets new.rehash) ≡ 0 = ap (λ (o : Option (RehashView K V)). length (old_buckets o)) (rehash_made old new h ∙ alone) in
+      record {
+        stands = omega arith;
+        killed = λ index home i below. absurd (omega arith);
+      }
+
+  -- beside an old array a current one stands
+  pub ready_beside : (E : Type 0) (hash : ℕ) (b : Bool) (old new : ArraysView K V) → IsSome old.current → KeepsArrays old new → Prepares {E = E} new hash (Ok b) → IsReady new hash
+  ready_beside E hash true old new stands kept ready = ready
+  ready_beside E hash false old new stands kept none =
+      absurd (lost old.current stands (sym kept.current_len ∙ ap (λ (o : Option (List (BucketView K V))). option_map (λ (bs : List (BucketView K V)). length bs) o) none))
+    where
+      lost : (o : Option (List (BucketView K V))) → IsSome o → option_map (λ (bs : List (BucketView K V)). length bs) o ≡ None → ⊥
+      lost None stands e = absurd cc
+      lost (Some bs) stands e = none-some (length bs) (sym e)
 
   pub kept_prepared : (old new : ArraysView K V) → KeepsArrays old new → KeepsMap old new
   kept_prepared old new kept = record { pairs = kept.pairs; minimum = kept.minimum; maximum = kept.maximum }

@@ -1,5 +1,5 @@
 -- A current bucket whose old pairs have come.
-use Rattle.std.specs.Prelude.{ℕ, ◌≡◌, ◌<◌, Bool, true, false, None, Result, Ok, Err, length}
+use Rattle.std.specs.Prelude.{ℕ, ◌≡◌, ◌<◌, Bool, true, false, None, IsSome, Result, Ok, Err, length}
 use Rattle.bucket_slots.specs.Homes.{IsHome}
 use Rattle.bucket_table.specs.ArraysView.{AreSourcesKilled, ArraysView}
 use Rattle.bucket_table.specs.Relocation.{buckets_of}
@@ -14,3 +14,9 @@ abbrev pub Prepares : {K V E : Type 0} → ArraysView K V → ℕ → Result Boo
 Prepares arrays hash (Ok true) = IsReady arrays hash
 Prepares arrays hash (Ok false) = arrays.current ≡ None
 Prepares arrays hash (Err refused) = 0 < length (buckets_of arrays.current)
+
+-- it answers whether a current array stands, and is refused only beside an old one
+abbrev pub AnswersFor : {K V E : Type 0} → Result Bool E → ArraysView K V → Type 0
+AnswersFor (Ok true) arrays = IsSome arrays.current
+AnswersFor (Ok false) arrays = arrays.current ≡ None
+AnswersFor (Err refused) arrays = IsSome arrays.rehash

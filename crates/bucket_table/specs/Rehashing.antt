@@ -3,7 +3,7 @@ use Rattle.std.specs.Prelude.{ℕ, ◌/◌, ◌<◌, ◌≤◌, ◌≡◌, Bool,
 use Rattle.std.specs.List.Sorted.{IsPermutation}
 use Rattle.bucket_slots.specs.ArrayView.{bucket_at}
 use Rattle.bucket_slots.specs.BucketView.{BucketView, pairs_in}
-use Rattle.bucket_table.specs.ArraysView.{ArraysView, RehashView, entries_of, killed_flags, old_buckets}
+use Rattle.bucket_table.specs.ArraysView.{ArraysView, RehashView, TableView, entries_of, killed_flags, old_buckets}
 use Rattle.bucket_table.specs.Relocation.{IsRelocated, KeepsEntries, buckets_of}
 use Rattle.bucket_table.specs.Covered.{AreAllKilled, IsUnitKilled}
 use Rattle.bucket_table.specs.State.{TicketState}
@@ -16,6 +16,10 @@ abbrev pub StartsRehash : {K V : Type 0} → Option (RehashView K V) → Option 
 StartsRehash None answer after = (answer ≡ None) × (after ≡ None)
 StartsRehash (Some before) answer None = ⊥
 StartsRehash (Some before) answer (Some after) = Starts before.tickets answer after.tickets × (after.buckets ≡ before.buckets)
+
+-- nothing but the old array and its tickets may change
+abbrev pub ChangesRehash : {K V H : Type 0} → TableView K V H → TableView K V H → Type 0
+ChangesRehash old new = new ≡ record old { arrays = record old.arrays { rehash = new.arrays.rehash } }
 
 -- a ticket ends as its unit's buckets are killed
 abbrev pub EndsBy : {K V : Type 0} → RehashView K V → ℕ → Bool → Result Bool TicketError → TicketState → Type 0

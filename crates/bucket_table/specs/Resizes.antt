@@ -41,6 +41,11 @@ Resizes (Resize capacity) old (Ok moved) new = (moved ≡ true) × IsResized cap
 Resizes (Resize capacity) old (Err refused) new = new ≡ old
 Resizes plan old (Err refused) new = ⊥
 
+-- the answer and the arrays that the plan of now allows: false exactly where it keeps the array, refused only
+-- where it asks for a capacity
+abbrev pub ResizesByPlan : {K V E : Type 0} → ArraysView K V → Result Bool E → ArraysView K V → Type 0
+ResizesByPlan old answer new = (plan : Plan) × IsPlanOf old plan × Resizes plan old answer new
+
 -- a resize that says nothing of want of memory: the arrays follow the plan, or stay
 abbrev pub MayResize : {K V : Type 0} → Plan → ArraysView K V → ArraysView K V → Type 0
 MayResize Keep old new = new ≡ old

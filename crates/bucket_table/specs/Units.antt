@@ -41,6 +41,12 @@ WorksUnit was None = Unit {0}
 WorksUnit was (Some is) =
     (is.tickets.position ≡ was.tickets.position + 1) × IsUnitKilled (killed_flags is.buckets) was.tickets.position
 
+-- one unit: where an old array stood with a unit left, room for its ticket, and no bucket of it hard to move,
+-- that unit is worked
+abbrev pub WorksOneUnit : {K V : Type 0} → ArraysView K V → Option (RehashView K V) → Type 0
+WorksOneUnit {K} {V} old after =
+    (was : RehashView K V) → old.rehash ≡ Some was → IsUnitReady was → IsEasyUnit was.tickets.position old was → WorksUnit was after
+
 -- how often a unit is open
 abbrev pub times_open : ℕ → TicketState → ℕ
 times_open unit tickets = count_by (λ other. other == unit) tickets.open_units

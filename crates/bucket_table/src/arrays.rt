@@ -150,6 +150,45 @@ impl<K, V, L: LruList, const TYPE: u8> Arrays<K, V, L, TYPE> {
         if is_old { self.old_len() } else { self.len() }
     }
 
+    /// Returns the current array.
+    pub(crate) fn array(&self) -> Option<&BucketArray<K, V, L, TYPE>>
+        ensures { option_map (λ array. array.now) result ≡ self.now.current }
+    {
+        match &self.current {
+            Some(array) => Some(array),
+            None => None,
+        }
+    }
+
+    /// Returns the old array.
+    pub(crate) fn linked_array(&self) -> Option<&BucketArray<K, V, L, TYPE>>
+        ensures { option_map (λ array. array.now) result
+            ≡ option_map (λ rehash. rehash.buckets) self.now.rehash }
+    {
+        match &self.rehash {
+            Some(rehash) => Some(&rehash.array),
+            None => None,
+        }
+    }
+
+    /// Returns the array of one side.
+    pub(crate) fn array_of(&self, is_old: bool) -> &BucketArray<K, V, L, TYPE>
+        requires { 0 < length (buckets_on self.now is_old) }
+        ensures { result.now ≡ buckets_on self.now is_old }
+    {
+        if is_old {
+            match &self.rehash {
+                Some(rehash) => &rehash.array,
+                None => unreachable!(),
+            }
+        } else {
+            match &self.current {
+                Some(array) => array,
+                None => unreachable!(),
+            }
+        }
+    }
+
     /// Returns the index of a hash's home in the current array.
     pub(crate) fn home(&self, hash: u64) -> usize
         requires { 0 < length (buckets_of self.now.current) }

@@ -1,7 +1,8 @@
 //! How many pairs the arrays have.
 ghost use Rattle.std.specs.Prelude.{◌≡◌, ◌^◌, ◌-◌, ℕ, [], None, Some, length, min};
 ghost use Rattle.bucket_table.specs.ArraysView.{ArePlaced, RehashView, entries_of, old_buckets};
-ghost use Rattle.bucket_table.specs.Counting.{counted_to};
+ghost use Rattle.bucket_table.specs.Asking.{ResizesIf};
+ghost use Rattle.bucket_table.specs.Counting.{CountsAndResizes, counted_to};
 ghost use Rattle.bucket_table.specs.Finding.{KeepsMap};
 ghost use Rattle.bucket_table.specs.Relocation.{buckets_of, entries_among};
 ghost use Rattle.bucket_table.specs.Units.{IsEasyUnit, IsUnitReady, KeepsBag, WorksUnit};
@@ -25,6 +26,7 @@ impl<K: Eq + Drop, V: Drop, L: LruList + Drop, const TYPE: u8> Arrays<K, V, L, T
             → IsUnitReady was
             → IsEasyUnit was.tickets.position self.old was
             → WorksUnit was self.new.rehash }
+        ensures arrays { CountsAndResizes self.old self.new }
         ensures alone { self.old.rehash ≡ None → (entries_of self.old ≡ [] → ⊥) → self.new ≡ self.old }
     {
         self.work_unit(hasher);
@@ -41,6 +43,7 @@ impl<K: Eq + Drop, V: Drop, L: LruList + Drop, const TYPE: u8> Arrays<K, V, L, T
         requires empty { entries_of self.old ≡ [] }
         ensures kept { KeepsMap self.old self.new }
         ensures rehash { self.new.rehash ≡ self.old.rehash }
+        ensures resized { ResizesIf ((entries_of self.old ≡ []) × (self.old.minimum ≡ 0)) self.old self.new }
         ensures placed { (hash : K → ℕ) → ArePlaced hash self.old → ArePlaced hash self.new }
     {
         if self.minimum != 0 {

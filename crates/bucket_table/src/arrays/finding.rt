@@ -3,15 +3,16 @@ ghost use Rattle.std.specs.Prelude.{◌≡◌, ◌<◌, ◌≤◌, ◌↔◌, Bo
 ghost use Rattle.bucket_slots.specs.Homes.{IsHome};
 ghost use Rattle.bucket_table.specs.ArraysView.{ArePlaced, entries_of};
 ghost use Rattle.bucket_table.specs.Asking.{ResizesIf};
-ghost use Rattle.bucket_table.specs.Finding.{FindsAlone, KeepsMap};
+ghost use Rattle.bucket_table.specs.Finding.{FindsAlone, FindsReady, KeepsMap};
 ghost use Rattle.bucket_table.specs.Free.{HasNoFreeHome, IsFreeHome};
 ghost use Rattle.bucket_table.specs.Growing.{Grows, WriterAsksGrowth};
 ghost use Rattle.bucket_table.specs.Locking.{IsLocked};
 ghost use Rattle.bucket_table.specs.Preparing.{IsReady};
+ghost use Rattle.bucket_table.specs.Rehashing.{KeepsArrays};
 ghost use Rattle.bucket_table.specs.Relocation.{buckets_of};
 ghost use Rattle.bucket_table.specs.Resizes.{MakesArray};
 ghost use Rattle.bucket_table.specs.Sides.{buckets_on};
-ghost use Rattle.bucket_table.specs.Units.{KeepsBag};
+ghost use Rattle.bucket_table.specs.Units.{KeepsBag, WorksOneUnit};
 
 use super::Arrays;
 use crate::key_hash::KeyHash;
@@ -36,6 +37,7 @@ impl<K: Eq + Drop, V: Drop, L: LruList + Drop, const TYPE: u8> Arrays<K, V, L, T
         ensures bag { KeepsBag self.old.rehash self.new.rehash }
         ensures locked { IfOk result (λ found. IsLocked self.new found.0 found.1) }
         ensures home { IfOk result (λ found. IsHome (length (buckets_on self.new found.0)) hash found.1) }
+        ensures finds { IfOk result (λ found. FindsReady TYPE hash self.old found.0 found.1 self.new) }
         ensures alone { self.old.rehash ≡ None → FindsAlone TYPE hash self.old result self.new }
     {
         let Ok(()) = self.make_ready(hasher, hash) else {
@@ -54,6 +56,8 @@ impl<K: Eq + Drop, V: Drop, L: LruList + Drop, const TYPE: u8> Arrays<K, V, L, T
         ensures kept { KeepsMap self.old self.new }
         ensures bag { KeepsBag self.old.rehash self.new.rehash }
         ensures ready { OnOk result (IsReady self.new hash) }
+        ensures unit { WorksOneUnit self.old self.new.rehash }
+        ensures beside { IsSome self.old.rehash → OnOk result (KeepsArrays self.old self.new) }
         ensures made { self.old.rehash ≡ None → OnOk result (MakesArray self.old self.new) }
         ensures refused { self.old.rehash ≡ None → OnErr result ((self.old.current ≡ None) × (self.new ≡ self.old)) }
     {

@@ -2,7 +2,7 @@
 ghost use Rattle.std.specs.Prelude.{◌≡◌, ◌<◌, true, None, Some, IsOk, length};
 ghost use Rattle.bucket_slots.specs.Homes.{IsHome};
 ghost use Rattle.bucket_table.specs.ArraysView.{ArePlaced, RehashView};
-ghost use Rattle.bucket_table.specs.Preparing.{IsReady, Prepares};
+ghost use Rattle.bucket_table.specs.Preparing.{AnswersFor, IsReady, Prepares};
 ghost use Rattle.bucket_table.specs.Rehashing.{KeepsArrays};
 ghost use Rattle.bucket_table.specs.Relocation.{buckets_of};
 ghost use Rattle.bucket_table.specs.Units.{IsEasyUnit, IsUnitReady, KeepsBag, KeepsRehash, WorksUnit};
@@ -36,6 +36,7 @@ impl<K: Eq + Drop, V: Drop, L: LruList + Drop, const TYPE: u8> Arrays<K, V, L, T
             → IsEasyUnit was.tickets.position self.old was
             → WorksUnit was self.new.rehash }
         ensures alone { self.old.rehash ≡ None → self.new ≡ self.old }
+        ensures answer { AnswersFor result self.old }
         ensures succeeds { self.old.rehash ≡ None → IsOk result }
     {
         self.work_unit(hasher);

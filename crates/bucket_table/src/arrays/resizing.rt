@@ -3,7 +3,7 @@ ghost use Rattle.std.specs.Prelude.{◌≡◌, ◌≤◌, ◌+◌, ℕ, None, So
 ghost use Rattle.bucket_table.specs.ArraysView.{ArePlaced, entries_of};
 ghost use Rattle.bucket_table.specs.Finding.{KeepsMap};
 ghost use Rattle.bucket_table.specs.ResizePlan.{IsCapacityWithin};
-ghost use Rattle.bucket_table.specs.Resizes.{IsPlanOf, IsResized, MakesArray, Reserves, Resizes, with_minimum};
+ghost use Rattle.bucket_table.specs.Resizes.{IsPlanOf, IsResized, MakesArray, Reserves, ResizesByPlan, with_minimum};
 ghost use Rattle.bucket_table.specs.Units.{KeepsBag};
 
 use super::plan::{Plan, plan_of};
@@ -36,7 +36,7 @@ impl<K: Drop, V: Drop, L: LruList + Drop, const TYPE: u8> Arrays<K, V, L, TYPE> 
     ///
     /// Want of memory: all is as it was.
     pub(crate) fn try_resize(&mut self) -> Result<bool, AllocError>
-        ensures plan { (plan : Plan) × IsPlanOf self.old plan × Resizes plan self.old result self.new }
+        ensures plan { ResizesByPlan self.old result self.new }
         ensures same_entries { entries_of self.new ≡ entries_of self.old }
         ensures placed { (hash : K → ℕ) → ArePlaced hash self.old → ArePlaced hash self.new }
     {

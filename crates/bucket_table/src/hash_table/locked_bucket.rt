@@ -1,7 +1,12 @@
-//! A bucket of a table that is borrowed for writing.
-ghost use Rattle.std.specs.Prelude.{◌≡◌, ◌≢◌, ◌%◌, ◌<◌, ◌↔◌, Bool, Some, None, Contains, IsNone, IsTrue, IfOk, OnOk, OnErr, IfErr, IfSome, IfNone, OnSome, length};
-ghost use Rattle.std.specs.Borrow.{RestsIfErr, sem};
-ghost use Rattle.bucket_table.specs.TableRow.{table_row};
+//! A bucket of a table, and the table, which it borrows for writing.
+//!
+//! Model: `LockedBucket`, the table, a side (`is_old`) and an index; `bucket_of` is its bucket.
+//! Invariant (`IsLocked`, the ghost field): a current bucket has all its sources killed; an old one
+//! isn't killed, and then every current bucket is free throughout.
+//!
+//! Ports `LockedBucket` of scc's `src/hash_table.rs`.
+ghost use Rattle.std.specs.Prelude.{◌≡◌, ◌≢◌, ◌%◌, ◌↔◌, Some, None, Contains, IsNone, IsTrue, OnOk, OnErr, IfErr, IfSome, IfNone, OnSome, length};
+ghost use Rattle.std.specs.Borrow.{sem};
 ghost use Rattle.bucket_slots.specs.BucketView.{first_place, slot_in};
 ghost use Rattle.bucket_slots.specs.Clearing.{slots_after_insertion, slots_for_insertion};
 ghost use Rattle.bucket_slots.specs.Evicting.{slots_evicted, slots_touched};
@@ -11,7 +16,6 @@ ghost use Rattle.bucket_slots.specs.Removing.{slots_without};
 ghost use Rattle.bucket_slots.specs.Slots.{free, is_free, is_live, live_pair};
 ghost use Rattle.bucket_slots.specs.Walking.{pairs_ahead};
 ghost use Rattle.bucket_table.specs.ArraysView.{pairs_of};
-ghost use Rattle.bucket_table.specs.Asking.{AsksShrinking, RemovesAndShrinks, ResizesIf};
 ghost use Rattle.bucket_table.specs.Units.{KeepsBag};
 ghost use Rattle.bucket_table.specs.Locking.{IsLocked};
 ghost use Rattle.bucket_table.specs.LookingUp.{IsAbsent, IsThere};
@@ -20,7 +24,8 @@ ghost use Rattle.bucket_table.specs.Sides.{bucket_of, buckets_on, with_bucket};
 
 use crate::hash_table::HashTable;
 use crate::key_hash::KeyHash;
-use bucket_slots::bucket::{AllocError, Bucket, CACHE, EntryPtr, Generation, INDEX};
+use bucket_slots::bucket::{Bucket, CACHE, EntryPtr, Generation, INDEX};
+use bucket_slots::bucket_array::BucketArray;
 use bucket_slots::lru::LruList;
 
 /// A bucket of a table's current or old array, and the table, which it borrows.
@@ -36,13 +41,27 @@ impl<'a, K: Eq, V, H: KeyHash<K>, L: LruList, const TYPE: u8> LockedBucket<'a, K
     ghost use Rattle.bucket_table.specs.LockedLoans.{LendsLocked, table_with_value};
 
     /// Returns the index of the bucket in its array.
+    ///
+    /// O(1). scc: `LockedBucket::bucket_index`.
     pub fn bucket_index(&self) -> usize
         ensures { result ≡ self.now.index }
     {
         self.index
     }
 
+    /// Returns the array that the bucket is of.
+    ///
+    /// O(1). scc: `LockedBucket::bucket_array`.
+    pub fn array(&self) -> &BucketArray<K, V, L, TYPE>
+        ensures { result.now ≡ buckets_on self.now.table.now.arrays self.now.is_old }
+    {
+        let table = &*self.table;
+        table.arrays.array_of(self.is_old)
+    }
+
     /// Returns the bucket.
+    ///
+    /// O(1). scc: `LockedBucket::writer`.
     pub fn bucket(&self) -> &Bucket<K, V, L, TYPE>
         ensures { result.now ≡ bucket_of self.now.table.now self.now.is_old self.now.index }
     {
@@ -50,15 +69,21 @@ impl<'a, K: Eq, V, H: KeyHash<K>, L: LruList, const TYPE: u8> LockedBucket<'a, K
         table.arrays.bucket_of(self.is_old, self.index)
     }
 
-    /// Returns a pointer to the pair whose key is equal, or the null pointer where the map has
-    /// none.
+    /// Returns a pointer to the pair whose key is equal; the null pointer exactly where the table
+    /// has none.
+    ///
+    /// O(slots of the bucket). scc: `LockedBucket::search`.
     pub fn search(&self, key: &K, hash: u64) -> EntryPtr<K, V, TYPE>
         requires own_hash { hash ≡ H.hash_of self.now.table.now.hasher key.now }
-        requires home { IsHome (length (buckets_on self.now.table.now.arrays self.now.is_old)) hash self.now.index }
+        requires home { IsHome
+            (length (buckets_on self.now.table.now.arrays self.now.is_old)) hash self.now.index }
         ensures found { result.pos ≢ 32 → (pair : K × V)
-            × (live_pair (slot_in (bucket_of self.now.table.now self.now.is_old self.now.index) result) ≡ Some pair)
+            × (live_pair
+            (slot_in (bucket_of self.now.table.now self.now.is_old self.now.index) result)
+            ≡ Some pair)
             × IsThere K.eq key.now (pairs_of self.now.table.now.arrays) pair }
-        ensures absent { result.pos ≡ 32 → IsAbsent K.eq key.now (pairs_of self.now.table.now.arrays) }
+        ensures absent { result.pos ≡ 32 → IsAbsent K.eq key.now
+            (pairs_of self.now.table.now.arrays) }
     {
         let table = &*self.table;
         table.arrays.room_of(self.is_old);
@@ -69,9 +94,13 @@ impl<'a, K: Eq, V, H: KeyHash<K>, L: LruList, const TYPE: u8> LockedBucket<'a, K
     }
 
     /// Returns the pair in a live slot.
+    ///
+    /// O(blocks of the chain). scc: `LockedBucket::entry`.
     pub fn entry(&self, at: &EntryPtr<K, V, TYPE>) -> (&K, &V)
-        requires live_slot { IsTrue (is_live (slot_in (bucket_of self.now.table.now self.now.is_old self.now.index) at.now)) }
-        ensures { live_pair (slot_in (bucket_of self.now.table.now self.now.is_old self.now.index) at.now)
+        requires live_slot { IsTrue (is_live
+            (slot_in (bucket_of self.now.table.now self.now.is_old self.now.index) at.now)) }
+        ensures { live_pair
+            (slot_in (bucket_of self.now.table.now self.now.is_old self.now.index) at.now)
             ≡ Some (result.0.now, result.1.now) }
     {
         let table = &*self.table;
@@ -80,17 +109,24 @@ impl<'a, K: Eq, V, H: KeyHash<K>, L: LruList, const TYPE: u8> LockedBucket<'a, K
         (at.key(bucket), at.val(bucket))
     }
 
-    /// Lends the pair in a live slot, its value for writing.
+    /// Lends the pair in a live slot, its value for writing: what is written stands in the table.
+    ///
+    /// O(blocks of the chain). scc: `LockedBucket::entry_mut`.
     pub fn entry_mut(&mut self, at: &EntryPtr<K, V, TYPE>) -> (&K, &mut V)
-        requires live_slot { IsTrue (is_live (slot_in (bucket_of self.old.table.now self.old.is_old self.old.index) at.now)) }
+        requires live_slot { IsTrue (is_live
+            (slot_in (bucket_of self.old.table.now self.old.is_old self.old.index) at.now)) }
         ensures* writes_back { sem 𝓛
             (LendsLocked K.row V.row H.row L.row TYPE K.PartialEq H.KeyHash
             (record { KEEPS = L.KEEPS; listed = L.listed; IsTail = L.IsTail }) L.Default
             self.entry at.now result) }
-        ensures pair { live_pair (slot_in (bucket_of self.old.table.now self.old.is_old self.old.index) at.now)
+        ensures pair { live_pair
+            (slot_in (bucket_of self.old.table.now self.old.is_old self.old.index) at.now)
             ≡ Some (result.0.now, result.1.now) }
         ensures map { (value : V) → ChangesValue (state_of TYPE self.old.table.now)
-            (result.0.now, result.1.now) value (state_of TYPE (table_with_value self.old at.now value)) }
+            (result.0.now, result.1.now) value (state_of TYPE
+            (table_with_value self.old at.now value)) }
+        ensures bag { (value : V) → KeepsBag self.old.table.now.arrays.rehash
+            (table_with_value self.old at.now value).arrays.rehash }
     {
         let is_old = self.is_old;
         let index = self.index;
@@ -100,16 +136,23 @@ impl<'a, K: Eq, V, H: KeyHash<K>, L: LruList, const TYPE: u8> LockedBucket<'a, K
         bucket.entry_mut(at)
     }
 
-    /// Makes a live slot the one touched last.
+    /// Makes a live own slot the one touched last; a slot of the chain isn't listed.
+    ///
+    /// Takes no memory. O(1). scc: `Bucket::update_lru_tail`.
     pub fn update_lru_tail(&mut self, at: &EntryPtr<K, V, TYPE>)
         requires cache { TYPE ≡ CACHE }
-        requires live_slot { IsTrue (is_live (slot_in (bucket_of self.old.table.now self.old.is_old self.old.index) at.now)) }
+        requires live_slot { IsTrue (is_live
+            (slot_in (bucket_of self.old.table.now self.old.is_old self.old.index) at.now)) }
         ensures same_table { self.new.table.ghost_name ≡ self.old.table.ghost_name }
         ensures same_side { self.new.is_old ≡ self.old.is_old }
         ensures same_index { self.new.index ≡ self.old.index }
-        ensures map { KeepsPairs (state_of TYPE self.old.table.now) (state_of TYPE self.new.table.now) }
-        ensures table { self.new.table.now ≡ with_bucket self.old.table.now self.old.is_old self.old.index
-            (slots_touched L.KEEPS (bucket_of self.old.table.now self.old.is_old self.old.index) at.now) }
+        ensures map { KeepsPairs (state_of TYPE self.old.table.now)
+            (state_of TYPE self.new.table.now) }
+        ensures bag { KeepsBag self.old.table.now.arrays.rehash self.new.table.now.arrays.rehash }
+        ensures table { self.new.table.now
+            ≡ with_bucket self.old.table.now self.old.is_old self.old.index
+            (slots_touched L.KEEPS
+            (bucket_of self.old.table.now self.old.is_old self.old.index) at.now) }
     {
         let is_old = self.is_old;
         let index = self.index;
@@ -121,17 +164,24 @@ impl<'a, K: Eq, V, H: KeyHash<K>, L: LruList, const TYPE: u8> LockedBucket<'a, K
             .update_lru_tail(at);
     }
 
-    /// Takes out the pair touched longest ago, where all own slots are occupied, and returns it.
+    /// Takes out the pair touched longest ago, or where none is listed the one in slot 0, and
+    /// returns it. `None` exactly where an own slot is free.
+    ///
+    /// Takes no memory. O(1). scc: `Bucket::evict_lru_head`.
     pub fn evict_lru_head(&mut self) -> Option<(K, V)>
         requires cache { TYPE ≡ CACHE }
         ensures same_table { self.new.table.ghost_name ≡ self.old.table.ghost_name }
         ensures same_side { self.new.is_old ≡ self.old.is_old }
         ensures same_index { self.new.index ≡ self.old.index }
         ensures map { IfSome result
-            (λ pair. TakesPair (state_of TYPE self.old.table.now) pair (state_of TYPE self.new.table.now)) }
-        ensures table { OnSome result (self.new.table.now ≡ with_bucket self.old.table.now self.old.is_old self.old.index
+            (λ pair. TakesPair (state_of TYPE self.old.table.now) pair
+            (state_of TYPE self.new.table.now)) }
+        ensures bag { KeepsBag self.old.table.now.arrays.rehash self.new.table.now.arrays.rehash }
+        ensures table { OnSome result (self.new.table.now
+            ≡ with_bucket self.old.table.now self.old.is_old self.old.index
             (slots_evicted (bucket_of self.old.table.now self.old.is_old self.old.index))) }
-        ensures none { IsNone result ↔ Contains (bucket_of self.old.table.now self.old.is_old self.old.index).own free }
+        ensures none { IsNone result ↔ Contains
+            (bucket_of self.old.table.now self.old.is_old self.old.index).own free }
         ensures unchanged { IfNone result (self.new.table.now ≡ self.old.table.now) }
     {
         let is_old = self.is_old;
@@ -141,19 +191,28 @@ impl<'a, K: Eq, V, H: KeyHash<K>, L: LruList, const TYPE: u8> LockedBucket<'a, K
         table.arrays.bucket_of_mut(is_old, index).evict_lru_head()
     }
 
-    /// Marks the pair in a live slot of an index as removed.
+    /// Marks the pair in a live slot of an index as removed; the table isn't shrunk.
+    ///
+    /// Takes no memory. O(blocks of the chain). scc: `Bucket::mark_removed`.
     pub fn mark_entry<G: Generation>(&mut self, at: &mut EntryPtr<K, V, TYPE>, generation: &G)
         requires index { TYPE ≡ INDEX }
-        requires live_slot { IsTrue (is_live (slot_in (bucket_of self.old.table.now self.old.is_old self.old.index) at.old)) }
+        requires live_slot { IsTrue (is_live
+            (slot_in (bucket_of self.old.table.now self.old.is_old self.old.index) at.old)) }
         ensures same_table { self.new.table.ghost_name ≡ self.old.table.ghost_name }
         ensures same_side { self.new.is_old ≡ self.old.is_old }
         ensures same_index { self.new.index ≡ self.old.index }
         ensures map { (pair : K × V)
-            × (live_pair (slot_in (bucket_of self.old.table.now self.old.is_old self.old.index) at.old) ≡ Some pair)
+            × (live_pair
+            (slot_in (bucket_of self.old.table.now self.old.is_old self.old.index) at.old)
+            ≡ Some pair)
             × TakesPair (state_of TYPE self.old.table.now) pair (state_of TYPE self.new.table.now) }
-        ensures table { self.new.table.now ≡ with_bucket self.old.table.now self.old.is_old self.old.index
-            (slots_marked (bucket_of self.old.table.now self.old.is_old self.old.index) at.old (G.epoch_of generation.now)) }
-        ensures pairs_ahead { pairs_ahead (bucket_of self.new.table.now self.new.is_old self.new.index) at.new
+        ensures bag { KeepsBag self.old.table.now.arrays.rehash self.new.table.now.arrays.rehash }
+        ensures table { self.new.table.now
+            ≡ with_bucket self.old.table.now self.old.is_old self.old.index
+            (slots_marked (bucket_of self.old.table.now self.old.is_old self.old.index) at.old
+            (G.epoch_of generation.now)) }
+        ensures pairs_ahead { pairs_ahead
+            (bucket_of self.new.table.now self.new.is_old self.new.index) at.new
             ≡ pairs_ahead (bucket_of self.old.table.now self.old.is_old self.old.index) at.old }
     {
         let is_old = self.is_old;
@@ -175,11 +234,13 @@ impl<'a, K: Eq + Drop, V: Drop, H: KeyHash<K>, L: LruList, const TYPE: u8> Locke
     L,
     TYPE,
 > {
-    /// Inserts a pair whose key the map hasn't.
+    /// Inserts a pair whose key the table hasn't, and returns where it stands.
     ///
     /// # Errors
     ///
     /// Want of memory: the pair comes back and the table is as it was. A free slot rules it out.
+    ///
+    /// O(slots of the bucket). scc: `LockedBucket::insert`.
     pub fn insert<G: Generation>(
         &mut self,
         hash: u64,
@@ -187,13 +248,17 @@ impl<'a, K: Eq + Drop, V: Drop, H: KeyHash<K>, L: LruList, const TYPE: u8> Locke
         generation: &G,
     ) -> Result<EntryPtr<K, V, TYPE>, (K, V)>
         requires own_hash { hash ≡ H.hash_of self.old.table.now.hasher pair.0 }
-        requires home { IsHome (length (buckets_on self.old.table.now.arrays self.old.is_old)) hash self.old.index }
+        requires home { IsHome
+            (length (buckets_on self.old.table.now.arrays self.old.is_old)) hash self.old.index }
         requires key_absent { IsAbsent K.eq pair.0 (pairs_of self.old.table.now.arrays) }
         ensures same_table { self.new.table.ghost_name ≡ self.old.table.ghost_name }
         ensures same_side { self.new.is_old ≡ self.old.is_old }
         ensures same_index { self.new.index ≡ self.old.index }
-        ensures map { OnOk result (AddsPair (state_of TYPE self.old.table.now) pair (state_of TYPE self.new.table.now)) }
-        ensures table { OnOk result (self.new.table.now ≡ with_bucket self.old.table.now self.old.is_old self.old.index
+        ensures map { OnOk result (AddsPair (state_of TYPE self.old.table.now) pair
+            (state_of TYPE self.new.table.now)) }
+        ensures bag { KeepsBag self.old.table.now.arrays.rehash self.new.table.now.arrays.rehash }
+        ensures table { OnOk result (self.new.table.now
+            ≡ with_bucket self.old.table.now self.old.is_old self.old.index
             (slots_after_insertion TYPE (G.keeps generation.now)
             (bucket_of self.old.table.now self.old.is_old self.old.index) pair (hash % 256))) }
         ensures pair_returned { IfErr result (λ back. back ≡ pair) }
@@ -212,18 +277,27 @@ impl<'a, K: Eq + Drop, V: Drop, H: KeyHash<K>, L: LruList, const TYPE: u8> Locke
             .insert(hash, pair, generation)
     }
 
-    /// Takes the pair out of a live slot and returns it.
+    /// Takes the pair out of a live slot and returns it; the table isn't shrunk.
+    ///
+    /// Takes no memory. O(blocks of the chain). scc: `Bucket::remove`.
     pub fn remove_entry(&mut self, at: &mut EntryPtr<K, V, TYPE>) -> (K, V)
         requires not_index { TYPE ≢ INDEX }
-        requires live_slot { IsTrue (is_live (slot_in (bucket_of self.old.table.now self.old.is_old self.old.index) at.old)) }
+        requires live_slot { IsTrue (is_live
+            (slot_in (bucket_of self.old.table.now self.old.is_old self.old.index) at.old)) }
         ensures same_table { self.new.table.ghost_name ≡ self.old.table.ghost_name }
         ensures same_side { self.new.is_old ≡ self.old.is_old }
         ensures same_index { self.new.index ≡ self.old.index }
-        ensures pair { live_pair (slot_in (bucket_of self.old.table.now self.old.is_old self.old.index) at.old) ≡ Some result }
-        ensures map { TakesPair (state_of TYPE self.old.table.now) result (state_of TYPE self.new.table.now) }
-        ensures table { self.new.table.now ≡ with_bucket self.old.table.now self.old.is_old self.old.index
+        ensures pair { live_pair
+            (slot_in (bucket_of self.old.table.now self.old.is_old self.old.index) at.old)
+            ≡ Some result }
+        ensures map { TakesPair (state_of TYPE self.old.table.now) result
+            (state_of TYPE self.new.table.now) }
+        ensures bag { KeepsBag self.old.table.now.arrays.rehash self.new.table.now.arrays.rehash }
+        ensures table { self.new.table.now
+            ≡ with_bucket self.old.table.now self.old.is_old self.old.index
             (slots_without (bucket_of self.old.table.now self.old.is_old self.old.index) at.old) }
-        ensures pairs_ahead { pairs_ahead (bucket_of self.new.table.now self.new.is_old self.new.index) at.new
+        ensures pairs_ahead { pairs_ahead
+            (bucket_of self.new.table.now self.new.is_old self.new.index) at.new
             ≡ pairs_ahead (bucket_of self.old.table.now self.old.is_old self.old.index) at.old }
     {
         let is_old = self.is_old;
@@ -231,92 +305,5 @@ impl<'a, K: Eq + Drop, V: Drop, H: KeyHash<K>, L: LruList, const TYPE: u8> Locke
         let table = &mut *self.table;
         table.arrays.room_of(is_old);
         table.arrays.bucket_of_mut(is_old, index).remove(at)
-    }
-}
-
-impl<'a, K: Eq + Drop, V: Drop, H: KeyHash<K>, L: LruList + Drop, const TYPE: u8> LockedBucket<
-    'a,
-    K,
-    V,
-    H,
-    L,
-    TYPE,
-> {
-    /// Shrinks the table where few slots near the bucket are live, and gives the table back.
-    ///
-    /// Want of memory leaves all as it was.
-    pub fn try_shrink(self) -> &'a mut HashTable<K, V, H, L, TYPE>
-        ensures same_table { result.ghost_name ≡ self.entry.table.ghost_name }
-        ensures map { KeepsPairs (state_of TYPE self.entry.table.now) (state_of TYPE result.now) }
-        ensures bag { KeepsBag self.entry.table.now.arrays.rehash result.now.arrays.rehash }
-        ensures asked { ResizesIf (AsksShrinking self.entry.table.now.arrays self.entry.index)
-            self.entry.table.now.arrays result.now.arrays }
-    {
-        let LockedBucket {
-            table,
-            is_old: _,
-            index,
-        } = self;
-        table.arrays.try_shrink(index);
-        table
-    }
-
-    /// Takes the pair out of a live slot, and where no live pair is left in the bucket shrinks the
-    /// table where few slots near it are live. Returns the pair, and gives the table back.
-    pub fn remove(
-        self,
-        at: &mut EntryPtr<K, V, TYPE>,
-    ) -> ((K, V), &'a mut HashTable<K, V, H, L, TYPE>)
-        requires not_index { TYPE ≢ INDEX }
-        requires live_slot { IsTrue (is_live (slot_in (bucket_of self.table.now self.is_old self.index) at.old)) }
-        ensures same_table { result.1.ghost_name ≡ self.entry.table.ghost_name }
-        ensures pair { live_pair (slot_in (bucket_of self.entry.table.now self.entry.is_old self.entry.index) at.old) ≡ Some result.0 }
-        ensures map { TakesPair (state_of TYPE self.entry.table.now) result.0 (state_of TYPE result.1.now) }
-        ensures bag { KeepsBag self.entry.table.now.arrays.rehash result.1.now.arrays.rehash }
-        ensures arrays { RemovesAndShrinks self.entry.table.now.arrays self.entry.is_old self.entry.index
-            (slots_without (bucket_of self.entry.table.now self.entry.is_old self.entry.index) at.old)
-            result.1.now.arrays }
-    {
-        let LockedBucket {
-            table,
-            is_old,
-            index,
-        } = self;
-        table.arrays.room_of(is_old);
-        let pair = table.arrays.bucket_of_mut(is_old, index).remove(at);
-        table.arrays.shrink_emptied(is_old, index);
-        (pair, table)
-    }
-
-    /// Marks the pair in a live slot of an index as removed, and where no live pair is left in the
-    /// bucket shrinks the table where few slots near it are live. Gives the table back.
-    pub fn mark_removed<G: Generation>(
-        self,
-        at: &mut EntryPtr<K, V, TYPE>,
-        generation: &G,
-    ) -> &'a mut HashTable<K, V, H, L, TYPE>
-        requires index { TYPE ≡ INDEX }
-        requires live_slot { IsTrue (is_live (slot_in (bucket_of self.table.now self.is_old self.index) at.old)) }
-        ensures same_table { result.ghost_name ≡ self.entry.table.ghost_name }
-        ensures map { (pair : K × V)
-            × (live_pair (slot_in (bucket_of self.entry.table.now self.entry.is_old self.entry.index) at.old) ≡ Some pair)
-            × TakesPair (state_of TYPE self.entry.table.now) pair (state_of TYPE result.now) }
-        ensures bag { KeepsBag self.entry.table.now.arrays.rehash result.now.arrays.rehash }
-        ensures arrays { RemovesAndShrinks self.entry.table.now.arrays self.entry.is_old self.entry.index
-            (slots_marked (bucket_of self.entry.table.now self.entry.is_old self.entry.index) at.old (G.epoch_of generation.now))
-            result.now.arrays }
-    {
-        let LockedBucket {
-            table,
-            is_old,
-            index,
-        } = self;
-        table.arrays.room_of(is_old);
-        table
-            .arrays
-            .bucket_of_mut(is_old, index)
-            .mark_removed(at, generation);
-        table.arrays.shrink_emptied(is_old, index);
-        table
     }
 }

@@ -1,5 +1,6 @@
 use Rattle.std.proofs.Common.{sym, ap, ◌∙◌}
 use Rattle.bucket_table.proofs.CountSteps.{dropped}
+use Rattle.bucket_table.proofs.Quietly.{quietly}
 use Rattle.bucket_table.proofs.WriterSteps.{resize_keeps}
 use Rattle.bucket_table.proofs.arrays.Arrays.drop_if_empty.Goals as goal
 
@@ -9,5 +10,9 @@ returns g c =
     record {
       kept = keeps.0;
       rehash = dropped c.args.self.now c.try_resize.new.self c.try_resize.result c.try_resize.ensures.plan c.requires.empty (sym (ap (λ a. a.minimum) c.self.view_is) ∙ c.if-self-ne0.false);
+      resized = record {
+        asked = λ h. let (plan, is, done) = c.try_resize.ensures.plan in (plan, is, quietly plan _ _ c.try_resize.result done);
+        not_asked = λ refused. absurd (refused (c.requires.empty, sym (ap (λ a. a.minimum) c.self.view_is) ∙ c.if-self-ne0.false));
+      };
       placed = c.try_resize.ensures.placed;
     }

@@ -2,7 +2,7 @@ use Rattle.std.proofs.Common.{subst, ◌↔◌}
 use Rattle.std.specs.Prelude.{Contains, IsNone}
 use Rattle.bucket_slots.specs.BucketView.{BucketView}
 use Rattle.bucket_slots.specs.Slots.{free}
-use Rattle.bucket_table.proofs.LockedSteps.{bucket_is, evicted}
+use Rattle.bucket_table.proofs.LockedSteps.{bag_changed, bucket_is, evicted}
 use Rattle.bucket_table.proofs.hash_table.locked_bucket.LockedBucket.evict_lru_head.Goals as goal
 
 pub invariant_of-table : goal.invariant_of-table
@@ -34,3 +34,8 @@ pub returns-clause-none : goal.returns-clause-none
 returns-clause-none g c =
     let o = c.args.self.now in
     subst (λ (b : BucketView g.row.K.Denot g.row.V.Denot). IsNone c.evict_lru_head.result ↔ Contains b.own free) (bucket_is _ o.table.now o.is_old o.index c.bucket_of_mut.result.now c.table.view_is c.bucket_of_mut.ensures.bucket) c.evict_lru_head.ensures.none
+
+pub returns-clause-bag : goal.returns-clause-bag
+returns-clause-bag g c =
+    let o = c.args.self.now in
+    bag_changed _ o.table.now o.is_old o.index c.evict_lru_head.new.self c.table.view_is

@@ -3,7 +3,7 @@ use Rattle.bucket_slots.specs.BucketView.{BucketView, first_place}
 use Rattle.bucket_slots.specs.Clearing.{slots_for_insertion}
 use Rattle.bucket_slots.specs.Slots.{is_free}
 use Rattle.bucket_slots.proofs.RoomCallerLemmas.{refused_full, refused_unchanged}
-use Rattle.bucket_table.proofs.LockedSteps.{bucket_is, inserted}
+use Rattle.bucket_table.proofs.LockedSteps.{bag_changed, bucket_is, inserted}
 use Rattle.bucket_table.proofs.hash_table.locked_bucket.LockedBucket.insert.Goals as goal
 
 pub invariant_of-table : goal.invariant_of-table
@@ -44,3 +44,8 @@ returns-clause-no_free_slot g c =
     let o = c.args.self.now in
     subst (λ (b : BucketView g.row.K.Denot g.row.V.Denot). OnErr c.insert.result (first_place is_free (slots_for_insertion g.row.TYPE (g.G.Generation.keeps c.args.generation.now) b) ≡ None))
     (bucket_is _ o.table.now o.is_old o.index c.bucket_of_mut.result.now c.table.view_is c.bucket_of_mut.ensures.bucket) (refused_full c.insert.result _ _ _ c.insert.ensures.refused)
+
+pub returns-clause-bag : goal.returns-clause-bag
+returns-clause-bag g c =
+    let o = c.args.self.now in
+    bag_changed _ o.table.now o.is_old o.index c.insert.new.self c.table.view_is

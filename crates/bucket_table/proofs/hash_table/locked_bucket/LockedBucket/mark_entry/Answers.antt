@@ -2,7 +2,7 @@ use Rattle.std.proofs.Common.{Some, ap, subst, ◌≡◌, ◌∙◌}
 use Rattle.bucket_slots.specs.BucketView.{BucketView, slot_in}
 use Rattle.bucket_slots.specs.Marking.{slots_marked}
 use Rattle.bucket_slots.specs.Slots.{is_live, live_pair}
-use Rattle.bucket_table.proofs.LockedSteps.{ahead_is, bucket_is, marked, pair_there, table_is}
+use Rattle.bucket_table.proofs.LockedSteps.{ahead_is, bag_changed, bucket_is, marked, pair_there, table_is}
 use Rattle.bucket_table.proofs.hash_table.locked_bucket.LockedBucket.mark_entry.Goals as goal
 
 pub invariant_of-table : goal.invariant_of-table
@@ -38,3 +38,8 @@ pub returns-clause-pairs_ahead : goal.returns-clause-pairs_ahead
 returns-clause-pairs_ahead g c =
     let o = c.args.self.now in
     ahead_is g.K.PartialEq.eq g.H.KeyHash.hash_of g.met.K.Eq.laws g.row.TYPE _ o.table.now o.is_old o.index c.bucket_of_mut.result.now c.mark_removed.new.self c.table.view_is c.table.invariant o.locked c.bucket_of_mut.ensures.bucket c.mark_removed.new.at c.args.at.now c.mark_removed.ensures.pairs_ahead
+
+pub returns-clause-bag : goal.returns-clause-bag
+returns-clause-bag g c =
+    let o = c.args.self.now in
+    bag_changed _ o.table.now o.is_old o.index c.mark_removed.new.self c.table.view_is

@@ -1,0 +1,59 @@
+//! How many pairs a table has.
+//!
+//! Model: `TableView`; the count is the length of the map that it is.
+//! Invariant: the table's, `IsOneMap`; a count keeps the pairs and the open tickets.
+//!
+//! Ports `num_entries` and `has_entry` of scc's `src/hash_table.rs`.
+ghost use Rattle.std.specs.Prelude.{◌≡◌, ◌↔◌, ◌<◌, [], None, IsTrue, length};
+ghost use Rattle.bucket_table.specs.ArraysView.{pairs_of};
+ghost use Rattle.bucket_table.specs.Counting.{CountsAndResizes, counted_to};
+ghost use Rattle.bucket_table.specs.MapState.{KeepsPairs, state_of};
+ghost use Rattle.bucket_table.specs.Units.{KeepsBag, WorksOneUnit};
+
+use crate::hash_table::HashTable;
+use crate::key_hash::KeyHash;
+use bucket_slots::lru::LruList;
+
+impl<K: Eq + Drop, V: Drop, H: KeyHash<K>, L: LruList + Drop, const TYPE: u8> HashTable<
+    K,
+    V,
+    H,
+    L,
+    TYPE,
+> {
+    /// Returns how many pairs the map has, at most 2^64 - 1.
+    ///
+    /// Beside an old array it works one unit first. Where no pair is found and the minimum is 0 it
+    /// resizes as `try_resize` does, so that a mere count may give the array up. May take memory,
+    /// and is never refused.
+    ///
+    /// O(buckets, and slots of a unit). scc: `HashTable::num_entries`.
+    pub fn num_entries(&mut self) -> usize
+        ensures count { result ≡ counted_to (pairs_of self.new.arrays) }
+        ensures map { KeepsPairs (state_of TYPE self.old) (state_of TYPE self.new) }
+        ensures bag { KeepsBag self.old.arrays.rehash self.new.arrays.rehash }
+        ensures unit { WorksOneUnit self.old.arrays self.new.arrays.rehash }
+        ensures arrays { CountsAndResizes self.old.arrays self.new.arrays }
+        ensures alone { self.old.arrays.rehash ≡ None → (pairs_of self.old.arrays ≡ [] → ⊥)
+            → self.new ≡ self.old }
+    {
+        self.arrays.num_entries(&self.hasher)
+    }
+
+    /// Tests whether the map has a pair.
+    ///
+    /// It works and resizes as `num_entries` does. May take memory, and is never refused.
+    ///
+    /// O(buckets, and slots of a unit). scc: `HashTable::has_entry`.
+    pub fn has_entry(&mut self) -> bool
+        ensures has { IsTrue result ↔ (0 < length (pairs_of self.new.arrays)) }
+        ensures map { KeepsPairs (state_of TYPE self.old) (state_of TYPE self.new) }
+        ensures bag { KeepsBag self.old.arrays.rehash self.new.arrays.rehash }
+        ensures unit { WorksOneUnit self.old.arrays self.new.arrays.rehash }
+        ensures arrays { CountsAndResizes self.old.arrays self.new.arrays }
+        ensures alone { self.old.arrays.rehash ≡ None → (pairs_of self.old.arrays ≡ [] → ⊥)
+            → self.new ≡ self.old }
+    {
+        self.num_entries() > 0
+    }
+}

@@ -1,0 +1,86 @@
+//! The array of a table made, replaced and given up.
+//!
+//! Model: `TableView`, whose `arrays` are the current one and, while a rehash is on, the old one. A
+//! resize goes by its plan (`IsPlan`), which is decided from how many live slots each bucket has.
+//! Invariant: the table's, `IsOneMap`; each call here keeps the pairs and the open tickets.
+//!
+//! Ports `get_or_create_array`, `reserve_capacity` and `try_resize` of scc's `src/hash_table.rs`.
+ghost use Rattle.std.specs.Borrow.{sem};
+ghost use Rattle.bucket_table.specs.MapState.{KeepsPairs, RaisesMinimum, state_of};
+ghost use Rattle.bucket_table.specs.Resizes.{Reserves, ResizesByPlan};
+ghost use Rattle.bucket_table.specs.Units.{KeepsBag};
+
+use crate::hash_table::HashTable;
+use crate::key_hash::KeyHash;
+use bucket_slots::bucket::AllocError;
+use bucket_slots::bucket_array::BucketArray;
+use bucket_slots::lru::LruList;
+
+impl<K: Eq + Drop, V: Drop, H: KeyHash<K>, L: LruList + Drop, const TYPE: u8> HashTable<
+    K,
+    V,
+    H,
+    L,
+    TYPE,
+> {
+    ghost use Rattle.bucket_table.specs.ArrayAccess.{EndsAs, GetsArray};
+
+    /// Returns the current array; where there is none, makes an empty one for the minimum first.
+    ///
+    /// # Errors
+    ///
+    /// Want of memory for a first array: there is still none, and the table is as it was. A current
+    /// array rules it out.
+    ///
+    /// O(slots of the array that is made). scc: `HashTable::get_or_create_array`.
+    pub fn get_or_create_array(&mut self) -> Result<&BucketArray<K, V, L, TYPE>, AllocError>
+        ensures* array { sem 𝓛
+            (EndsAs K.row V.row H.row L.row TYPE.row K.PartialEq H.KeyHash
+            (record { KEEPS = L.KEEPS; listed = L.listed; IsTail = L.IsTail }) L.Default
+            self.entry (λ new. GetsArray self.old result new)) }
+    {
+        self.arrays.sound();
+        let Ok(()) = self.arrays.make_array() else {
+            return Err(AllocError);
+        };
+        match self.arrays.array() {
+            Some(array) => Ok(array),
+            None => unreachable!(),
+        }
+    }
+
+    /// Resizes the table, or gives its array up, as the plan of now says. Returns whether it did:
+    /// false without a current array, and while an old one stands.
+    ///
+    /// After a resize the current array is the old one, unchanged, and an empty array of the plan's
+    /// capacity is the current one.
+    ///
+    /// # Errors
+    ///
+    /// Want of memory for the array that the plan asks for: the table is as it was.
+    ///
+    /// O(buckets of the current array and of the one that is made). scc: `HashTable::try_resize`.
+    pub fn try_resize(&mut self) -> Result<bool, AllocError>
+        ensures plan { ResizesByPlan self.old.arrays result self.new.arrays }
+        ensures map { KeepsPairs (state_of TYPE self.old) (state_of TYPE self.new) }
+        ensures bag { KeepsBag self.old.arrays.rehash self.new.arrays.rehash }
+    {
+        self.arrays.try_resize()
+    }
+
+    /// Raises the minimum by a number of slots, and resizes as `try_resize` does. Returns by how
+    /// much it was raised: by nothing, and with no resize, where it would pass the maximum.
+    ///
+    /// The answer says that the minimum was raised, not that slots were made. May take memory, and
+    /// is never refused: want of it leaves the arrays.
+    ///
+    /// O(buckets of the current array and of the one that is made). scc:
+    /// `HashTable::reserve_capacity`.
+    pub fn reserve_capacity(&mut self, additional: usize) -> usize
+        ensures arrays { Reserves additional self.old.arrays result self.new.arrays }
+        ensures map { RaisesMinimum additional (state_of TYPE self.old) result (state_of TYPE self.new) }
+        ensures bag { KeepsBag self.old.arrays.rehash self.new.arrays.rehash }
+    {
+        self.arrays.reserve_capacity(additional)
+    }
+}

@@ -1,0 +1,125 @@
+//! Calls that take a locked bucket by value: they may shrink the table, and give it back.
+//!
+//! Model: `LockedBucket`, and the table that comes back.
+//! Invariant: the table's, `IsOneMap`; that the bucket is the table's ends with a resize.
+//!
+//! Ports `LockedBucket::remove`, `mark_removed` and `try_shrink` of scc's `src/hash_table.rs`.
+ghost use Rattle.std.specs.Prelude.{◌≡◌, ◌≢◌, Some, IsTrue};
+ghost use Rattle.bucket_slots.specs.BucketView.{slot_in};
+ghost use Rattle.bucket_slots.specs.Marking.{slots_marked};
+ghost use Rattle.bucket_slots.specs.Removing.{slots_without};
+ghost use Rattle.bucket_slots.specs.Slots.{is_live, live_pair};
+ghost use Rattle.bucket_table.specs.Asking.{AsksShrinking, RemovesAndShrinks, ResizesIf};
+ghost use Rattle.bucket_table.specs.Units.{KeepsBag};
+ghost use Rattle.bucket_table.specs.MapState.{KeepsPairs, TakesPair, state_of};
+ghost use Rattle.bucket_table.specs.Sides.{bucket_of};
+
+use crate::hash_table::{HashTable, LockedBucket};
+use crate::key_hash::KeyHash;
+use bucket_slots::bucket::{EntryPtr, Generation, INDEX};
+use bucket_slots::lru::LruList;
+
+impl<'a, K: Eq + Drop, V: Drop, H: KeyHash<K>, L: LruList + Drop, const TYPE: u8> LockedBucket<
+    'a,
+    K,
+    V,
+    H,
+    L,
+    TYPE,
+> {
+    /// Shrinks the table where few slots near the bucket are live, and gives the table back: a
+    /// resize ends what makes the bucket the table's.
+    ///
+    /// May take memory, and is never refused: want of it leaves all as it was. O(buckets). scc:
+    /// `HashTable::try_shrink`.
+    pub fn try_shrink(self) -> &'a mut HashTable<K, V, H, L, TYPE>
+        ensures same_table { result.ghost_name ≡ self.entry.table.ghost_name }
+        ensures map { KeepsPairs (state_of TYPE self.entry.table.now) (state_of TYPE result.now) }
+        ensures bag { KeepsBag self.entry.table.now.arrays.rehash result.now.arrays.rehash }
+        ensures asked { ResizesIf (AsksShrinking self.entry.table.now.arrays self.entry.index)
+            self.entry.table.now.arrays result.now.arrays }
+    {
+        let LockedBucket {
+            table,
+            is_old: _,
+            index,
+        } = self;
+        table.arrays.try_shrink(index);
+        table
+    }
+
+    /// Takes the pair out of a live slot, and where no live pair is left in the bucket shrinks the
+    /// table where few slots near it are live. Returns the pair, and gives the table back.
+    ///
+    /// May take memory, and is never refused. O(buckets). scc: `LockedBucket::remove`.
+    pub fn remove(
+        self,
+        at: &mut EntryPtr<K, V, TYPE>,
+    ) -> ((K, V), &'a mut HashTable<K, V, H, L, TYPE>)
+        requires not_index { TYPE ≢ INDEX }
+        requires live_slot { IsTrue
+            (is_live (slot_in (bucket_of self.table.now self.is_old self.index) at.old)) }
+        ensures same_table { result.1.ghost_name ≡ self.entry.table.ghost_name }
+        ensures pair { live_pair
+            (slot_in (bucket_of self.entry.table.now self.entry.is_old self.entry.index) at.old)
+            ≡ Some result.0 }
+        ensures map { TakesPair (state_of TYPE self.entry.table.now) result.0
+            (state_of TYPE result.1.now) }
+        ensures bag { KeepsBag self.entry.table.now.arrays.rehash result.1.now.arrays.rehash }
+        ensures arrays { RemovesAndShrinks self.entry.table.now.arrays
+            self.entry.is_old self.entry.index
+            (slots_without
+            (bucket_of self.entry.table.now self.entry.is_old self.entry.index) at.old)
+            result.1.now.arrays }
+    {
+        let LockedBucket {
+            table,
+            is_old,
+            index,
+        } = self;
+        table.arrays.room_of(is_old);
+        let pair = table.arrays.bucket_of_mut(is_old, index).remove(at);
+        table.arrays.shrink_emptied(is_old, index);
+        (pair, table)
+    }
+
+    /// Marks the pair in a live slot of an index as removed, and where no live pair is left in the
+    /// bucket shrinks the table where few slots near it are live. Gives the table back.
+    ///
+    /// May take memory, and is never refused. O(buckets). scc: `LockedBucket::mark_removed`.
+    pub fn mark_removed<G: Generation>(
+        self,
+        at: &mut EntryPtr<K, V, TYPE>,
+        generation: &G,
+    ) -> &'a mut HashTable<K, V, H, L, TYPE>
+        requires index { TYPE ≡ INDEX }
+        requires live_slot { IsTrue
+            (is_live (slot_in (bucket_of self.table.now self.is_old self.index) at.old)) }
+        ensures same_table { result.ghost_name ≡ self.entry.table.ghost_name }
+        ensures map { (pair : K × V)
+            × (live_pair
+            (slot_in (bucket_of self.entry.table.now self.entry.is_old self.entry.index) at.old)
+            ≡ Some pair)
+            × TakesPair (state_of TYPE self.entry.table.now) pair (state_of TYPE result.now) }
+        ensures bag { KeepsBag self.entry.table.now.arrays.rehash result.now.arrays.rehash }
+        ensures arrays { RemovesAndShrinks self.entry.table.now.arrays
+            self.entry.is_old self.entry.index
+            (slots_marked
+            (bucket_of self.entry.table.now self.entry.is_old self.entry.index) at.old
+            (G.epoch_of generation.now))
+            result.now.arrays }
+    {
+        let LockedBucket {
+            table,
+            is_old,
+            index,
+        } = self;
+        table.arrays.room_of(is_old);
+        table
+            .arrays
+            .bucket_of_mut(is_old, index)
+            .mark_removed(at, generation);
+        table.arrays.shrink_emptied(is_old, index);
+        table
+    }
+}

@@ -1,0 +1,95 @@
+//! Tickets of a rehash: units of the old array handed out, worked and ended, call by call.
+//!
+//! Model: `TableView`; a ticket is an entry of the old array's bag of open units.
+//! Invariant: the table's, `IsOneMap`, whose `IsRehash` says that no unit is forgotten: each one
+//! below the position is killed or open.
+//!
+//! Ports `start_incremental_rehash`, `relocate_bucket` and `end_incremental_rehash` of scc's
+//! `src/hash_table.rs`.
+ghost use Rattle.std.specs.Prelude.{◌↔◌, ◌<◌, None, IsTrue, OnOk, OnErr, IsOk};
+ghost use Rattle.bucket_table.specs.Rehashing.{ChangesRehash, EndsRehash, IsEasyMove, IsOldIndex, IsUnmoved, KeepsArrays, RelocatesAt, StartsRehash};
+ghost use Rattle.bucket_table.specs.MapState.{KeepsPairs, state_of};
+
+use crate::hash_table::HashTable;
+use crate::key_hash::KeyHash;
+use crate::tickets::TicketError;
+use bucket_slots::bucket::AllocError;
+use bucket_slots::lru::LruList;
+
+impl<K: Eq, V, H: KeyHash<K>, L: LruList, const TYPE: u8> HashTable<K, V, H, L, TYPE> {
+    /// Tests whether an old array stands and has a bucket with the index.
+    ///
+    /// O(1). Own.
+    pub fn has_old_bucket(&self, index: usize) -> bool
+        ensures { IsTrue result ↔ IsOldIndex self.now.arrays index }
+    {
+        index < self.arrays.old_len()
+    }
+
+    /// Hands out the next unit of the old array, and returns its ticket: 2048 times the unit.
+    /// `None` where no old array stands, where each unit was handed out, and where 2047 tickets are
+    /// open.
+    ///
+    /// Takes no memory: the resize made room for the tickets. O(1). scc:
+    /// `start_incremental_rehash`.
+    pub fn start_incremental_rehash(&mut self) -> Option<usize>
+        ensures map { KeepsPairs (state_of TYPE self.old) (state_of TYPE self.new) }
+        ensures kept { KeepsArrays self.old.arrays self.new.arrays }
+        ensures rehash { StartsRehash self.old.arrays.rehash result self.new.arrays.rehash }
+        ensures others { ChangesRehash self.old self.new }
+    {
+        self.arrays.start_incremental_rehash()
+    }
+}
+
+impl<K: Eq + Drop, V: Drop, H: KeyHash<K>, L: LruList + Drop, const TYPE: u8> HashTable<
+    K,
+    V,
+    H,
+    L,
+    TYPE,
+> {
+    /// Moves the pairs of an old bucket to their homes in the current array, and kills it. A killed
+    /// bucket stays as it is.
+    ///
+    /// # Errors
+    ///
+    /// Want of memory: each bucket has the live pairs that it had, and the old one isn't killed. A
+    /// current array that isn't shorter rules it out, where the bucket has at most 32 live pairs.
+    ///
+    /// O(slots of the bucket and of its targets). scc: `HashTable::relocate_bucket_sync`.
+    pub fn relocate_bucket_sync(&mut self, index: usize) -> Result<(), AllocError>
+        requires within { IsOldIndex self.old.arrays index }
+        ensures map { KeepsPairs (state_of TYPE self.old) (state_of TYPE self.new) }
+        ensures done { OnOk result (RelocatesAt index self.old.arrays self.new.arrays) }
+        ensures refused { OnErr result (IsUnmoved self.old.arrays self.new.arrays) }
+        ensures succeeds { IsEasyMove index self.old.arrays → IsOk result }
+    {
+        self.arrays.relocate(&self.hasher, index)
+    }
+
+    /// Ends a ticket, and returns whether the old array went: where each of its buckets is killed,
+    /// no unit is left and no ticket open. A ticket that ends without success hands its unit out
+    /// again.
+    ///
+    /// # Errors
+    ///
+    /// No such ticket is open; or success is claimed while a bucket of its unit isn't killed. The
+    /// table is as it was.
+    ///
+    /// O(buckets of a unit, and open tickets). scc: `end_incremental_rehash`; see
+    /// `docs/DIFFERENCES.md`, which tickets are checked.
+    pub fn end_incremental_rehash(
+        &mut self,
+        ticket: usize,
+        success: bool,
+    ) -> Result<bool, TicketError>
+        ensures map { KeepsPairs (state_of TYPE self.old) (state_of TYPE self.new) }
+        ensures kept { KeepsArrays self.old.arrays self.new.arrays }
+        ensures rehash { EndsRehash self.old.arrays.rehash ticket success result
+            self.new.arrays.rehash }
+        ensures others { ChangesRehash self.old self.new }
+    {
+        self.arrays.end_incremental_rehash(ticket, success)
+    }
+}

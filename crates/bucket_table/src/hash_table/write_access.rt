@@ -1,0 +1,297 @@
+//! A bucket found for a writer, and locked: lent with its table.
+//!
+//! Model: `LockedBucket`, the table, a side and an index.
+//! Invariant (`IsLocked`): a current bucket has all its sources killed; an old one isn't killed,
+//! and is given only after a resize in the very call.
+//!
+//! Ports `writer_sync`, `try_reserve_bucket`, `optional_writer_sync` and `try_optional_writer` of
+//! scc's `src/hash_table.rs`.
+ghost use Rattle.std.specs.Prelude.{◌≡◌, [], false, None, Ok, Err, Some, IfOk, IsSome, IfSome, IfNone, IsOk, length};
+ghost use Rattle.std.specs.Borrow.{RestsIfErr, RestsIfNone, sem};
+ghost use Rattle.bucket_slots.specs.Homes.{IsHome};
+ghost use Rattle.bucket_table.specs.ArraysView.{pairs_of};
+ghost use Rattle.bucket_table.specs.Finding.{FindsAlone, GrowsFirst};
+ghost use Rattle.bucket_table.specs.Free.{HasNoFreeHome, IsFreeHome};
+ghost use Rattle.bucket_table.specs.Refusing.{IsGivenFor, IsMissing, IsRefused};
+ghost use Rattle.bucket_table.specs.TableRow.{table_row};
+ghost use Rattle.bucket_table.specs.Locking.{IsLocked};
+ghost use Rattle.bucket_table.specs.Optional.{IfHeld, IsHeldFor};
+ghost use Rattle.bucket_table.specs.Preparing.{AnswersFor, IsReady, Prepares};
+ghost use Rattle.bucket_table.specs.Rehashing.{KeepsArrays};
+ghost use Rattle.bucket_table.specs.Relocation.{buckets_of};
+ghost use Rattle.bucket_table.specs.MapState.{KeepsPairs, state_of};
+ghost use Rattle.bucket_table.specs.Sides.{buckets_on};
+ghost use Rattle.bucket_table.specs.Units.{KeepsBag, WorksOneUnit};
+
+use crate::hash_table::{HashTable, LockedBucket, Missing};
+use crate::key_hash::KeyHash;
+use bucket_slots::bucket::AllocError;
+use bucket_slots::lru::LruList;
+
+impl<K: Eq + Drop, V: Drop, H: KeyHash<K>, L: LruList + Drop, const TYPE: u8> HashTable<
+    K,
+    V,
+    H,
+    L,
+    TYPE,
+> {
+    /// Works one unit of the old array, and moves the sources of the home of a hash. Returns
+    /// whether there is a current array.
+    ///
+    /// # Errors
+    ///
+    /// Want of memory beside an old array: a source of the home isn't killed.
+    ///
+    /// O(slots of a unit, of the sources and of their targets). scc:
+    /// `HashTable::dedup_bucket_sync`, `incremental_rehash_sync`.
+    pub fn prepare(&mut self, hash: u64) -> Result<bool, AllocError>
+        ensures map { KeepsPairs (state_of TYPE self.old) (state_of TYPE self.new) }
+        ensures kept { KeepsArrays self.old.arrays self.new.arrays }
+        ensures bag { KeepsBag self.old.arrays.rehash self.new.arrays.rehash }
+        ensures ready { Prepares self.new.arrays hash result }
+        ensures unit { WorksOneUnit self.old.arrays self.new.arrays.rehash }
+        ensures alone { self.old.arrays.rehash ≡ None → self.new ≡ self.old }
+        ensures succeeds { self.old.arrays.rehash ≡ None → IsOk result }
+        ensures answer { AnswersFor result self.old.arrays }
+        ensures empty { result ≡ Ok false → pairs_of self.new.arrays ≡ [] }
+    {
+        let is_ready = self.arrays.prepare(&self.hasher, hash);
+        self.arrays.sound();
+        is_ready
+    }
+
+    /// Finds the bucket for a writer of a hash, and returns whether it is one of the old array, and
+    /// its index.
+    ///
+    /// Without an array it makes the first one; beside an old one it works a unit and moves the
+    /// sources of the hash's home. Then, where the home is nearly full and many slots near it are
+    /// live, it resizes: the bucket found is then one of the array that has just become old.
+    ///
+    /// # Errors
+    ///
+    /// Want of memory for a first array; or beside an old one, and then a source of the home isn't
+    /// killed.
+    ///
+    /// O(slots of a unit, of the sources and of their targets; buckets that a resize makes). Own.
+    pub fn find(&mut self, hash: u64) -> Result<(bool, usize), AllocError>
+        ensures map { KeepsPairs (state_of TYPE self.old) (state_of TYPE self.new) }
+        ensures bag { KeepsBag self.old.arrays.rehash self.new.arrays.rehash }
+        ensures locked { IfOk result (λ found. IsLocked self.new.arrays found.0 found.1) }
+        ensures home { IfOk result (λ found.
+            IsHome (length (buckets_on self.new.arrays found.0)) hash found.1) }
+        ensures alone { self.old.arrays.rehash ≡ None
+            → FindsAlone TYPE hash self.old.arrays result self.new.arrays }
+    {
+        self.arrays.find(&self.hasher, hash)
+    }
+
+    /// Locks a bucket of the old or of the current array.
+    ///
+    /// O(1). Own.
+    pub fn lock(&mut self, is_old: bool, index: usize) -> LockedBucket<'_, K, V, H, L, TYPE>
+        requires { IsLocked self.old.arrays is_old index }
+        ensures same_table { result.table.ghost_name ≡ self.entry.ghost_name }
+        ensures unchanged { result.table.now ≡ self.old }
+        ensures side { result.is_old ≡ is_old }
+        ensures index { result.index ≡ index }
+    {
+        LockedBucket {
+            table: self,
+            is_old,
+            index,
+        }
+    }
+
+    /// Locks the home of a hash in the current array, whose sources are killed.
+    ///
+    /// O(1). Own.
+    pub fn lock_home(&mut self, hash: u64) -> LockedBucket<'_, K, V, H, L, TYPE>
+        requires ready { IsReady self.old.arrays hash }
+        ensures same_table { result.table.ghost_name ≡ self.entry.ghost_name }
+        ensures unchanged { result.table.now ≡ self.old }
+        ensures side { result.is_old ≡ false }
+        ensures home { IsHome
+            (length (buckets_of result.table.now.arrays.current)) hash result.index }
+    {
+        let index = self.arrays.home(hash);
+        LockedBucket {
+            table: self,
+            is_old: false,
+            index,
+        }
+    }
+
+    /// Finds the bucket for a writer of a hash as `find` does, and locks it.
+    ///
+    /// # Errors
+    ///
+    /// Want of memory for a first array; or beside an old one, and then a source of the home isn't
+    /// killed. A current array without an old one rules it out.
+    ///
+    /// O(slots of a unit, of the sources and of their targets; buckets that a resize makes). scc:
+    /// `HashTable::writer_sync`.
+    pub fn writer_sync(
+        &mut self,
+        hash: u64,
+    ) -> Result<LockedBucket<'_, K, V, H, L, TYPE>, AllocError>
+        ensures* rests { sem 𝓛 (RestsIfErr
+            (table_row K.row V.row H.row L.row TYPE.row K.PartialEq H.KeyHash
+            (record { KEEPS = L.KEEPS; listed = L.listed; IsTail = L.IsTail }) L.Default)
+            self.entry (λ locked. locked.table.ghost_name) result (IsRefused TYPE self.old)) }
+        ensures same_table { IfOk result (λ locked. locked.table.ghost_name
+            ≡ self.entry.ghost_name) }
+        ensures map { IfOk result (λ locked. KeepsPairs (state_of TYPE self.old)
+            (state_of TYPE locked.table.now)) }
+        ensures bag { IfOk result (λ locked.
+            KeepsBag self.old.arrays.rehash locked.table.now.arrays.rehash) }
+        ensures home { IfOk result (λ locked.
+            IsHome (length (buckets_on locked.table.now.arrays locked.is_old)) hash locked.index) }
+        ensures alone { self.old.arrays.rehash ≡ None → IfOk result (λ locked.
+            GrowsFirst TYPE hash self.old.arrays locked.is_old locked.index locked.table.now.arrays) }
+        ensures succeeds { self.old.arrays.rehash ≡ None → IsSome self.old.arrays.current
+            → IsOk result }
+    {
+        match self.find(hash) {
+            Ok((is_old, index)) => Ok(self.lock(is_old, index)),
+            Err(refused) => Err(refused),
+        }
+    }
+
+    /// Locks the bucket that `writer_sync` locks: no other lock is held here.
+    ///
+    /// # Errors
+    ///
+    /// Those of `writer_sync`.
+    ///
+    /// O(slots of a unit, of the sources and of their targets; buckets that a resize makes). scc:
+    /// `HashTable::try_reserve_bucket`.
+    pub fn try_reserve_bucket(
+        &mut self,
+        hash: u64,
+    ) -> Result<LockedBucket<'_, K, V, H, L, TYPE>, AllocError>
+        ensures* rests { sem 𝓛 (RestsIfErr
+            (table_row K.row V.row H.row L.row TYPE.row K.PartialEq H.KeyHash
+            (record { KEEPS = L.KEEPS; listed = L.listed; IsTail = L.IsTail }) L.Default)
+            self.entry (λ locked. locked.table.ghost_name) result (IsRefused TYPE self.old)) }
+        ensures same_table { IfOk result (λ locked. locked.table.ghost_name
+            ≡ self.entry.ghost_name) }
+        ensures map { IfOk result (λ locked. KeepsPairs (state_of TYPE self.old)
+            (state_of TYPE locked.table.now)) }
+        ensures bag { IfOk result (λ locked.
+            KeepsBag self.old.arrays.rehash locked.table.now.arrays.rehash) }
+        ensures home { IfOk result (λ locked.
+            IsHome (length (buckets_on locked.table.now.arrays locked.is_old)) hash locked.index) }
+        ensures alone { self.old.arrays.rehash ≡ None → IfOk result (λ locked.
+            GrowsFirst TYPE hash self.old.arrays locked.is_old locked.index locked.table.now.arrays) }
+        ensures succeeds { self.old.arrays.rehash ≡ None → IsSome self.old.arrays.current
+            → IsOk result }
+    {
+        self.writer_sync(hash)
+    }
+
+    /// Works a unit, moves the sources of the home of a hash, and locks that home. Returns `None`
+    /// exactly where there is no array.
+    ///
+    /// What the table is after `None` and after a refusal stands at `prepare`, by which this works.
+    ///
+    /// # Errors
+    ///
+    /// Want of memory beside an old array: a source of the home isn't killed.
+    ///
+    /// O(slots of a unit, of the sources and of their targets). scc:
+    /// `HashTable::optional_writer_sync`.
+    pub fn optional_writer_sync(
+        &mut self,
+        hash: u64,
+    ) -> Result<Option<LockedBucket<'_, K, V, H, L, TYPE>>, AllocError>
+        ensures same_table { IfHeld result (λ locked. locked.table.ghost_name
+            ≡ self.entry.ghost_name) }
+        ensures kept { IfHeld result (λ locked.
+            KeepsArrays self.old.arrays locked.table.now.arrays) }
+        ensures map { IfHeld result (λ locked. KeepsPairs (state_of TYPE self.old)
+            (state_of TYPE locked.table.now)) }
+        ensures bag { IfHeld result (λ locked.
+            KeepsBag self.old.arrays.rehash locked.table.now.arrays.rehash) }
+        ensures side { IfHeld result (λ locked. locked.is_old ≡ false) }
+        ensures home { IfHeld result (λ locked.
+            IsHome (length (buckets_of locked.table.now.arrays.current)) hash locked.index) }
+        ensures unit { IfHeld result (λ locked.
+            WorksOneUnit self.old.arrays locked.table.now.arrays.rehash) }
+        ensures answer { IsHeldFor result self.old.arrays }
+        ensures alone { self.old.arrays.rehash ≡ None → IfHeld result (λ locked. locked.table.now
+            ≡ self.old) }
+        ensures succeeds { self.old.arrays.rehash ≡ None → IsOk result }
+    {
+        match self.prepare(hash) {
+            Ok(true) => Ok(Some(self.lock_home(hash))),
+            Ok(false) => Ok(None),
+            Err(refused) => Err(refused),
+        }
+    }
+
+    /// Works a unit, moves the sources of the home of a hash, and locks that home.
+    ///
+    /// # Errors
+    ///
+    /// There is no array, and so no pair; or want of memory beside an old array: a source of the
+    /// home isn't killed.
+    ///
+    /// O(slots of a unit, of the sources and of their targets). Own: `optional_writer_sync` with a
+    /// clause for each refusal.
+    pub fn locked_or_missing(
+        &mut self,
+        hash: u64,
+    ) -> Result<LockedBucket<'_, K, V, H, L, TYPE>, Missing>
+        ensures* rests { sem 𝓛 (RestsIfErr
+            (table_row K.row V.row H.row L.row TYPE.row K.PartialEq H.KeyHash
+            (record { KEEPS = L.KEEPS; listed = L.listed; IsTail = L.IsTail }) L.Default)
+            self.entry (λ locked. locked.table.ghost_name) result (IsMissing TYPE self.old)) }
+        ensures same_table { IfOk result (λ locked. locked.table.ghost_name
+            ≡ self.entry.ghost_name) }
+        ensures map { IfOk result (λ locked. KeepsPairs (state_of TYPE self.old)
+            (state_of TYPE locked.table.now)) }
+        ensures bag { IfOk result (λ locked.
+            KeepsBag self.old.arrays.rehash locked.table.now.arrays.rehash) }
+        ensures side { IfOk result (λ locked. locked.is_old ≡ false) }
+        ensures unit { IfOk result (λ locked.
+            WorksOneUnit self.old.arrays locked.table.now.arrays.rehash) }
+        ensures answer { IsGivenFor result self.old.arrays }
+        ensures home { IfOk result (λ locked.
+            IsHome (length (buckets_on locked.table.now.arrays locked.is_old)) hash locked.index) }
+        ensures empty { result ≡ Err Missing.Array → pairs_of self.old.arrays ≡ [] }
+        ensures alone { self.old.arrays.rehash ≡ None → IfOk result (λ locked. locked.table.now
+            ≡ self.old) }
+    {
+        match self.prepare(hash) {
+            Ok(true) => Ok(self.lock_home(hash)),
+            Ok(false) => Err(Missing::Array),
+            Err(_) => Err(Missing::Memory),
+        }
+    }
+
+    /// Locks the home of a hash with no work before. Returns `None` where there is no array, where
+    /// an old one stands, and where it is asked and the home has 32 live pairs or more.
+    ///
+    /// Takes no memory. O(1). scc: `HashTable::try_optional_writer`.
+    pub fn try_optional_writer<const CHECK_SIZE: bool>(
+        &mut self,
+        hash: u64,
+    ) -> Option<LockedBucket<'_, K, V, H, L, TYPE>>
+        ensures* rests { sem 𝓛 (RestsIfNone
+            (table_row K.row V.row H.row L.row TYPE.row K.PartialEq H.KeyHash
+            (record { KEEPS = L.KEEPS; listed = L.listed; IsTail = L.IsTail }) L.Default)
+            self.entry (λ locked. locked.table.ghost_name) result (λ after. after ≡ self.old)) }
+        ensures same_table { IfSome result (λ locked. locked.table.ghost_name
+            ≡ self.entry.ghost_name) }
+        ensures unchanged { IfSome result (λ locked. locked.table.now ≡ self.old) }
+        ensures side { IfSome result (λ locked. locked.is_old ≡ false) }
+        ensures free { IfSome result (λ locked.
+            IsFreeHome CHECK_SIZE self.old.arrays hash locked.index) }
+        ensures none { IfNone result (HasNoFreeHome CHECK_SIZE self.old.arrays hash) }
+    {
+        match self.arrays.free_home(hash, CHECK_SIZE) {
+            Some(index) => Some(self.lock(false, index)),
+            None => None,
+        }
+    }
+}
