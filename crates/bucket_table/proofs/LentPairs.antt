@@ -86,8 +86,10 @@ module _ {K V : Type 0} (hash : K → ℕ) (len : ℕ) where
   outside_is_from m p =
       let e : 0 + m ≡ m = omega arith in
       subst (λ (k : ℕ). not (has_home_in hash len 0 k p) ≡ is_from m p) (sym e) (elim (cases_lt (hash p.0) (bound_of len m)) [
-        | inl less ↦ not_from_true _ (is_in (bound_of len 0) (bound_of len m) (hash p.0) (omega arith) less) ∙ sym (lt-leb (bound_of len m) (hash p.0) less)
-        | inr more ↦ not_from_false _ (is_out (bound_of len 0) (bound_of len m) (hash p.0) (λ low high. omega (arith, more, high))) ∙ sym (le-leb (bound_of len m) (hash p.0) more)
+        | inl less ↦ not_from_true _ (is_in (bound_of len 0) (bound_of len m) (hash p.0) (omega arith) less)
+            ∙ sym (lt-leb (bound_of len m) (hash p.0) less)
+        | inr more ↦ not_from_false _ (is_out (bound_of len 0) (bound_of len m) (hash p.0) (λ low high. omega (arith, more, high)))
+            ∙ sym (le-leb (bound_of len m) (hash p.0) more)
       ])
 
   -- all hashes are from the first on
@@ -95,10 +97,12 @@ module _ {K V : Type 0} (hash : K → ℕ) (len : ℕ) where
   all_from ps = filter_all (is_from 0) ps (each (λ p. le-leb (bound_of len 0) (hash p.0) (omega arith)) ps)
 
   -- and none is past the last
-  pub none_past : (m : ℕ) (ps : List (K × V)) → (len ≡ 0 → ps ≡ []) → (0 < len → IsLength len) → ((k : K) → hash k < 2 ^ 64) → len ≤ m → filter (is_from m) ps ≡ []
+  pub none_past : (m : ℕ) (ps : List (K × V)) → (len ≡ 0 → ps ≡ []) → (0 < len → IsLength len) → ((k : K) → hash k < 2 ^ 64) → len ≤ m
+        → filter (is_from m) ps ≡ []
   none_past m ps empty long fits reached = elim (cases_lt 0 len) [
     | inl some ↦
-        let top : 2 ^ 64 ≤ bound_of len m = subst (λ (k : ℕ). k ≤ bound_of len m) (all_hashes len (long some)) (mul-le-mul_right (interval_width len) reached) in
+        let top : 2 ^ 64 ≤ bound_of len m = subst (λ (k : ℕ). k ≤ bound_of len m) (all_hashes len (long some))
+            (mul-le-mul_right (interval_width len) reached) in
         filter_none (is_from m) ps (each (λ p. lt-leb (bound_of len m) (hash p.0) (omega (arith, top, fits p.0))) ps)
     | inr none ↦
         let is : len ≡ 0 = omega (arith, none) in

@@ -27,11 +27,13 @@ module _ {K V : Type 0} where
   -- what the resize at the end leaves
   ended_pairs : (flag : Bool) (ended new : ArraysView K V) → EndsWell flag ended new → IsPermutation (pairs_of ended) (pairs_of new)
   ended_pairs true ended new ends = pairs_kept _ _ ends.1.pairs
-  ended_pairs false ended new ends = subst (λ (a : ArraysView K V). IsPermutation (pairs_of ended) (pairs_of a)) (sym ends) (IsPermutation-refl (pairs_of ended))
+  ended_pairs false ended new ends = subst (λ (a : ArraysView K V). IsPermutation (pairs_of ended) (pairs_of a)) (sym ends)
+      (IsPermutation-refl (pairs_of ended))
 
 module _ {S K V : Type 0} (step : S → BucketView K V → Bool → Bool → BucketView K V → Bool → S → Type 0) (count : S → ℕ)
     (goes : (s t : S) (lent left : BucketView K V) (flag more last : Bool) → step s lent flag more left last t → more ≡ true)
-    (adds : (s t : S) (lent left : BucketView K V) (flag more last : Bool) → step s lent flag more left last t → count t ≡ sum_to (count s) (length (pairs_in lent))) where
+    (adds : (s t : S) (lent left : BucketView K V) (flag more last : Bool) → step s lent flag more left last t
+        → count t ≡ sum_to (count s) (length (pairs_in lent))) where
   never_stops : (s t : S) (flag last : Bool) (vs : List (Visited (BucketView K V))) → AreCalls step s flag vs t last → HasStopped vs → ⊥
   never_stops s t flag last [] calls stopped = stopped
   never_stops s t flag last (v ∷ vs) calls (inl h) =
@@ -42,7 +44,8 @@ module _ {S K V : Type 0} (step : S → BucketView K V → Bool → Bool → Buc
       → count t ≡ min (count s + lent_len vs) (2 ^ 64 - 1)
   counts s t flag last [] small calls = let same = ap count calls.0 in omega (arith, same, small)
   counts s t flag last (v ∷ vs) small calls =
-      let first : count calls.0 ≡ min (count s + length (pairs_in v.lent)) (2 ^ 64 - 1) = adds s calls.0 v.lent v.left flag v.more calls.1 calls.2 in
+      let first : count calls.0 ≡ min (count s + length (pairs_in v.lent)) (2 ^ 64 - 1) =
+          adds s calls.0 v.lent v.left flag v.more calls.1 calls.2 in
       let rest = counts calls.0 t calls.1 last vs (omega (arith, first)) calls.4 in
       omega (arith, first, rest)
 
@@ -67,19 +70,23 @@ module _ {S K V : Type 0} (step : S → BucketView K V → Bool → Bool → Buc
         let lent = counted_from hash n 0 (pairs_of old) w.visits walk.lent in
         let all = ap length (all_from hash n (pairs_of old)) in
         let m_is : 0 + m ≡ m = omega arith in
-        let past = ap (λ (k : ℕ). length (filter (is_from hash n k) (pairs_of old))) m_is ∙ ap length (none_past hash n m (pairs_of old) empty long fits far) in
+        let past = ap (λ (k : ℕ). length (filter (is_from hash n k) (pairs_of old))) m_is
+            ∙ ap length (none_past hash n m (pairs_of old) empty long fits far) in
         omega (arith, told, fresh, lent, all, past)
 
 module _ {S K V : Type 0} (step : S → BucketView K V → Bool → Bool → BucketView K V → Bool → S → Type 0)
-    (empties : (s t : S) (lent left : BucketView K V) (flag more last : Bool) → step s lent flag more left last t → pairs_in left ≡ []) where
+    (empties : (s t : S) (lent left : BucketView K V) (flag more last : Bool) → step s lent flag more left last t
+        → pairs_in left ≡ []) where
   none_left : (s t : S) (flag last : Bool) (vs : List (Visited (BucketView K V))) → AreCalls step s flag vs t last → pairs_left vs ≡ []
   none_left s t flag last [] calls = refl
   none_left s t flag last (v ∷ vs) calls =
-      ap (λ (ps : List (K × V)). ps ++ pairs_left vs) (empties s calls.0 v.lent v.left flag v.more calls.1 calls.2) ∙ none_left calls.0 t calls.1 last vs calls.4
+      ap (λ (ps : List (K × V)). ps ++ pairs_left vs) (empties s calls.0 v.lent v.left flag v.more calls.1 calls.2)
+          ∙ none_left calls.0 t calls.1 last vs calls.4
 
   module _ (hash : K → ℕ) (old : ArraysView K V) where
     -- the pairs of buckets that weren't visited are left
-    beyond : (s t : S) (flag last : Bool) (vs : List (Visited (BucketView K V))) (ended : ArraysView K V) → AreCalls step s flag vs t last → IsWalk hash old 0 vs ended
+    beyond : (s t : S) (flag last : Bool) (vs : List (Visited (BucketView K V))) (ended : ArraysView K V) → AreCalls step s flag vs t last
+          → IsWalk hash old 0 vs ended
         → IsPermutation (filter (is_from hash (length (buckets_of old.current)) (length vs)) (pairs_of old)) (pairs_of ended)
     beyond s t flag last vs ended calls walk =
         let n : ℕ = length (buckets_of old.current) in
@@ -97,12 +104,14 @@ module _ {S K V : Type 0} (step : S → BucketView K V → Bool → Bool → Buc
         let walk : IsWalk hash old 0 w.visits w.ended = subst (λ (f : ℕ). IsWalk hash old f w.visits w.ended) at w.walk in
         let left = beyond first now false w.flag w.visits w.ended w.calls walk in (
           bound_of (length (buckets_of old.current)) (length w.visits),
-          subst (λ (a : ArraysView K V). IsPermutation (filter (is_from hash (length (buckets_of old.current)) (length w.visits)) (pairs_of old)) (pairs_of a)) (sym w.ends) left,
+          subst (λ (a : ArraysView K V). IsPermutation (filter (is_from hash (length (buckets_of old.current)) (length w.visits))
+              (pairs_of old)) (pairs_of a)) (sym w.ends) left,
         )
 
     pub all_gone : {A E : Type 0} (a : A) (first now : S) (new : ArraysView K V) → (length (buckets_of old.current) ≡ 0 → pairs_of old ≡ [])
         → (0 < length (buckets_of old.current) → IsLength (length (buckets_of old.current))) → ((k : K) → hash k < 2 ^ 64)
-        → ((vs : List (Visited (BucketView K V))) (flag : Bool) → AreCalls step first false vs now flag → IsWhole old 0 vs → length (buckets_of old.current) ≤ length vs)
+        → ((vs : List (Visited (BucketView K V))) (flag : Bool) → AreCalls step first false vs now flag → IsWhole old 0 vs
+            → length (buckets_of old.current) ≤ length vs)
         → WalksBy {E = E} step hash 0 0 first old (Ok a) now new → pairs_of new ≡ []
     all_gone a first now new empty long fits far w =
         let n : ℕ = length (buckets_of old.current) in
@@ -129,14 +138,16 @@ same_some a b is = elim (cases_lt 0 b) [
 module _ {K V : Type 0} where
   -- what a tally does with a bucket, and what an emptier does
   pub tallies_bucket : (lent : BucketView K V) (buckets pairs len buckets_then pairs_then : ℕ) → len ≡ length (pairs_in lent)
-      → buckets_then ≡ min (buckets + 1) (2 ^ 64 - 1) → pairs_then ≡ min (pairs + len) (2 ^ 64 - 1) → Tallies buckets pairs lent true buckets_then pairs_then
+      → buckets_then ≡ min (buckets + 1) (2 ^ 64 - 1) → pairs_then ≡ min (pairs + len) (2 ^ 64 - 1)
+          → Tallies buckets pairs lent true buckets_then pairs_then
   tallies_bucket lent buckets pairs len buckets_then pairs_then is first second = record {
     goes_on = refl;
     buckets_are = first;
     pairs_are = omega (arith, is, second);
   }
 
-  pub empties_bucket : (IsTest : (K × V → Bool) → Type 0) (lent left : BucketView K V) (count taken count_then : ℕ) (flag last : Bool) → IsTest (λ pair. false)
+  pub empties_bucket : (IsTest : (K × V → Bool) → Type 0) (lent left : BucketView K V) (count taken count_then : ℕ) (flag last : Bool)
+        → IsTest (λ pair. false)
       → Retains IsTest lent left taken → count_then ≡ min (count + taken) (2 ^ 64 - 1) → last ≡ (flag || nat_lt 0 taken)
       → Empties count lent flag true left last count_then
   empties_bucket IsTest lent left count taken count_then flag last means r is set =
@@ -152,14 +163,16 @@ module _ {K V : Type 0} where
 
 module _ {S K V : Type 0} (buckets pairs : S → ℕ) where
   abbrev pub tallying : S → BucketView K V → Bool → Bool → BucketView K V → Bool → S → Type 0
-  tallying = reading (λ (s : S) (lent : BucketView K V) (more : Bool) (t : S). Tallies (buckets s) (pairs s) lent more (buckets t) (pairs t))
+  tallying = reading (λ (s : S) (lent : BucketView K V) (more : Bool) (t : S). Tallies (buckets s) (pairs s) lent more (buckets t)
+      (pairs t))
 
   pub tallied : (hash : K → ℕ) (old : ArraysView K V) → (length (buckets_of old.current) ≡ 0 → pairs_of old ≡ [])
       → (0 < length (buckets_of old.current) → IsLength (length (buckets_of old.current))) → ((k : K) → hash k < 2 ^ 64)
       → {A E : Type 0} (a : A) (first now : S) (new : ArraysView K V) → pairs first ≡ 0
       → WalksBy {E = E} tallying hash 0 0 first old (Ok a) now new → pairs now ≡ counted_to (pairs_of old)
   tallied hash old empty long fits a first now new fresh w =
-      all_counted tallying pairs (λ s t lent left flag more last call. call.0.goes_on) (λ s t lent left flag more last call. call.0.pairs_are)
+      all_counted tallying pairs (λ s t lent left flag more last call. call.0.goes_on)
+          (λ s t lent left flag more last call. call.0.pairs_are)
       hash old empty long fits a first now new fresh w
 
 module _ {S K V : Type 0} (count : S → ℕ) where
@@ -171,7 +184,8 @@ module _ {S K V : Type 0} (count : S → ℕ) where
   keeps_emptied f g lent left flag more last alive call =
       let key : (K × V) × ℕ → K × ℕ = λ e. (e.0.0, e.1) in
       let none : keys_in left ≡ [] = ap (map key) (no_entries left call.none_left) in
-      let same : keys_in lent ++ keys_in left ≡ keys_in lent = ap (λ (ks : List (K × ℕ)). keys_in lent ++ ks) none ∙ append-nil (keys_in lent) in
+      let same : keys_in lent ++ keys_in left ≡ keys_in lent =
+          ap (λ (ks : List (K × ℕ)). keys_in lent ++ ks) none ∙ append-nil (keys_in lent) in
       record {
         gone = keys_in lent;
         keys = subst (λ (ks : List (K × ℕ)). IsPermutation (keys_in lent) ks) (sym same) (IsPermutation-refl (keys_in lent));
@@ -184,7 +198,8 @@ module _ {S K V : Type 0} (count : S → ℕ) where
       → WalksBy {E = E} emptying hash 0 0 first old (Ok a) now new → (pairs_of new ≡ []) × (count now ≡ counted_to (pairs_of old))
   emptied hash old empty long fits a first now new fresh w = (
     all_gone emptying (λ s t lent left flag more last call. call.none_left) hash old a first now new empty long fits
-        (λ vs flag calls whole. reached emptying count (λ s t lent left flag more last call. call.goes_on) (λ s t lent left flag more last call. call.count_is)
+        (λ vs flag calls whole. reached emptying count (λ s t lent left flag more last call. call.goes_on)
+            (λ s t lent left flag more last call. call.count_is)
         hash old empty long fits first now false flag vs calls whole)
         w,
     all_counted emptying count (λ s t lent left flag more last call. call.goes_on) (λ s t lent left flag more last call. call.count_is)
@@ -194,7 +209,8 @@ module _ {S K V : Type 0} (count : S → ℕ) where
   pub emptied_below : (hash : K → ℕ) (old : ArraysView K V) {A E : Type 0} (e : E) (first now : S) (new : ArraysView K V)
       → WalksBy {A = A} emptying hash 0 0 first old (Err e) now new
       → (bound : ℕ) × IsPermutation (filter (λ pair. nat_le bound (hash pair.0)) (pairs_of old)) (pairs_of new)
-  emptied_below hash old e first now new w = left_from emptying (λ s t lent left flag more last call. call.none_left) hash old e first now new w
+  emptied_below hash old e first now new w = left_from emptying (λ s t lent left flag more last call. call.none_left)
+      hash old e first now new w
 
 module _ {K V H : Type 0} (kind : ℕ) (t s : TableView K V H) (hasher : s.hasher ≡ t.hasher) where
   -- the map of a table whose pairs went, or went in part
@@ -208,4 +224,5 @@ module _ {K V H : Type 0} (kind : ℕ) (t s : TableView K V H) (hasher : s.hashe
   pub clears_below : (hash : H → K → ℕ) → s.arrays.minimum ≡ t.arrays.minimum → s.arrays.maximum ≡ t.arrays.maximum
       → ((bound : ℕ) × IsPermutation (filter (λ pair. nat_le bound (hash t.hasher pair.0)) (pairs_of t.arrays)) (pairs_of s.arrays))
       → ClearsBelow hash (state_of kind t) (state_of kind s)
-  clears_below hash minimum maximum (bound, left) = record { bound = bound; pairs = left; others = others_than_pairs kind t s hasher minimum maximum }
+  clears_below hash minimum maximum (bound, left) =
+      record { bound = bound; pairs = left; others = others_than_pairs kind t s hasher minimum maximum }

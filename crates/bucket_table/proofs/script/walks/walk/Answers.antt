@@ -22,16 +22,19 @@ returns-then-num_slots-eq0-clause-tickets g c = tickets_kept c.args.table.now.ar
 
 pub returns-in-Ok-clause-step : goal.returns-in-Ok-clause-step
 returns-in-Ok-clause-step g c = (
-  tallied (λ t. t.buckets) (λ t. t.pairs) (g.H.KeyHash.hash_of c.args.table.now.hasher) c.args.table.now.arrays c.sound.ensures.empty c.sound.ensures.long (g.met.H.KeyHash.fits c.args.table.now.hasher)
+  tallied (λ t. t.buckets) (λ t. t.pairs) (g.H.KeyHash.hash_of c.args.table.now.hasher)
+      c.args.table.now.arrays c.sound.ensures.empty c.sound.ensures.long (g.met.H.KeyHash.fits c.args.table.now.hasher)
       _ _ c.for_each_reader_sync.new.reader c.for_each_reader_sync.new.self.arrays refl c.in-Ok.ensures.walked,
   c.for_each_reader_sync.ensures.map,
 )
 
 pub returns-in-Ok-clause-tickets : goal.returns-in-Ok-clause-tickets
-returns-in-Ok-clause-tickets g c = tickets_kept c.args.table.now.arrays c.for_each_reader_sync.new.self.arrays c.for_each_reader_sync.ensures.bag
+returns-in-Ok-clause-tickets g c =
+    tickets_kept c.args.table.now.arrays c.for_each_reader_sync.new.self.arrays c.for_each_reader_sync.ensures.bag
 
 pub returns-in-Err-clause-step : goal.returns-in-Err-clause-step
 returns-in-Err-clause-step g c = c.for_each_reader_sync.ensures.map
 
 pub returns-in-Err-clause-tickets : goal.returns-in-Err-clause-tickets
-returns-in-Err-clause-tickets g c = tickets_kept c.args.table.now.arrays c.for_each_reader_sync.new.self.arrays c.for_each_reader_sync.ensures.bag
+returns-in-Err-clause-tickets g c =
+    tickets_kept c.args.table.now.arrays c.for_each_reader_sync.new.self.arrays c.for_each_reader_sync.ensures.bag
