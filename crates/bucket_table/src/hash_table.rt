@@ -6,11 +6,11 @@
 //! its byte, a killed bucket is empty, and no unit of the old array is forgotten.
 //!
 //! Ports scc's `src/hash_table.rs`. The table owns its arrays, and a lock is a borrow.
-ghost use Rattle.std.specs.Prelude.{◌≡◌, ◌↔◌, ◌<◌, ◌≤◌, ◌*◌, option_map, None, Some, IsTrue, IsSome, IfSome, IfNone, length};
+ghost use Rattle.std.specs.Prelude.{◌≡◌, ◌↔◌, ◌<◌, ◌≤◌, ◌*◌, option_map, [], None, Some, IsTrue, IsSome, IfSome, IfNone, length};
 ghost use Rattle.std.specs.Int.{IsPowerOfTwo};
 ghost use Rattle.bucket_slots.specs.Homes.{IsHome};
 ghost use Rattle.bucket_slots.specs.Sizing.{IsLength};
-ghost use Rattle.bucket_table.specs.ArraysView.{IsOneMap};
+ghost use Rattle.bucket_table.specs.ArraysView.{IsOneMap, pairs_of};
 ghost use Rattle.bucket_table.specs.State.{word_of};
 ghost use Rattle.bucket_table.specs.Relocation.{buckets_of};
 
@@ -32,6 +32,10 @@ use crate::key_hash::KeyHash;
 use bucket_slots::bucket::BUCKET_LEN;
 use bucket_slots::bucket_array::BucketArray;
 use bucket_slots::lru::LruList;
+pub use capacity::{
+    from_index_to_range, num_entries_from_hint, ranges_part_the_indices,
+    table_capacity_from_num_entries,
+};
 pub use locked_bucket::LockedBucket;
 pub use lookup::peek_arrays;
 use std::alloc::Global;
@@ -185,7 +189,10 @@ impl<K: Eq, V, H: KeyHash<K>, L: LruList, const TYPE: u8> HashTable<K, V, H, L, 
         ensures one_map { IsOneMap K.eq (H.hash_of self.now.hasher) self.now.arrays }
         ensures long { 0 < length (buckets_of self.now.arrays.current)
             → IsLength (length (buckets_of self.now.arrays.current)) }
+        ensures empty { length (buckets_of self.now.arrays.current) ≡ 0
+            → pairs_of self.now.arrays ≡ [] }
     {
+        self.arrays.sound();
         let _len = self.arrays.len();
     }
 }
