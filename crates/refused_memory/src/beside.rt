@@ -13,7 +13,9 @@ pub(crate) struct Beside {
 impl Beside {
     /// No key has a value.
     pub(crate) fn new() -> Self {
-        Beside { values: [None; 256] }
+        Beside {
+            values: [None; 256],
+        }
     }
 
     /// The value under a key.

@@ -50,10 +50,7 @@ const DOUBLES_AND_GOES: &[Part] = &[
         seen: (128, None),
     },
     Part {
-        acts: &[
-            Act::Takes(31, 32),
-            Act::Does(Call::Count, Reply::Number(0)),
-        ],
+        acts: &[Act::Takes(31, 32), Act::Does(Call::Count, Reply::Number(0))],
         seen: (0, None),
     },
 ];
@@ -195,7 +192,11 @@ fn perform<const TYPE: u8>(alloc: Global, table: &mut Table<TYPE>, parts: &[Part
             other => outcome = other,
         }
     }
-    if holds(table, &beside) { outcome } else { Outcome::Wrong }
+    if holds(table, &beside) {
+        outcome
+    } else {
+        Outcome::Wrong
+    }
 }
 
 /// Does a part of a script.
@@ -243,7 +244,10 @@ fn add_rows(rows: &mut Vec<Row>, act: Act) -> bool {
         }
         Act::Takes(from, to) => {
             for key in from..to {
-                if rows.push((Call::Remove(key), Reply::Pair(key, key))).is_err() {
+                if rows
+                    .push((Call::Remove(key), Reply::Pair(key, key)))
+                    .is_err()
+                {
                     return false;
                 }
             }

@@ -13,7 +13,6 @@ mod tables;
 use crate::costs::{Costs, elapsed_per, failed};
 use crate::maps::map_costs;
 use crate::tables::{Table, insert_all, longest_insertion, new_table, table_costs};
-
 use bucket_slots::bucket::{Bucket, MAP};
 use bucket_slots::bucket_array::BucketArray;
 use std::alloc::Global;
