@@ -1,5 +1,22 @@
 -- When a resize is looked into, by what the code reads.
-use Rattle.std.proofs.Common.{ℕ, ◌<◌, ◌≡◌, ◌↔◌, true, false, List, Option, Some, None, is_some, refl, sym, ap, subst, ◌∙◌}
+use Rattle.std.proofs.Common.{
+  ℕ,
+  ◌<◌,
+  ◌≡◌,
+  ◌↔◌,
+  true,
+  false,
+  List,
+  Option,
+  Some,
+  None,
+  is_some,
+  refl,
+  sym,
+  ap,
+  subst,
+  ◌∙◌,
+}
 use Rattle.std.proofs.lemmas.Bool.{false≢true}
 use Rattle.std.proofs.lemmas.Option.{none-some, same_Some}
 use Rattle.bucket_slots.specs.BucketView.{BucketView}
@@ -13,8 +30,8 @@ none_of None e = refl
 none_of (Some a) e = absurd (false≢true (sym e))
 
 module _ {K V : Type 0} (arrays : ArraysView K V) (index : ℕ) where
-
-  pub grows : (array : List (BucketView K V)) (P : Type 0) → arrays.current ≡ Some array → is_some arrays.rehash ≡ false
+  pub grows : (array : List (BucketView K V)) (P : Type 0) → arrays.current ≡ Some array
+      → is_some arrays.rehash ≡ false
       → (P ↔ IsCrowded (live_counts array) index) → P ↔ AsksGrowth arrays index
   grows array P current alone means = (
     λ h. (array, current, none_of arrays.rehash alone, means.0 h),
@@ -23,8 +40,10 @@ module _ {K V : Type 0} (arrays : ArraysView K V) (index : ℕ) where
         means.1 (subst (λ (b : List (BucketView K V)). IsCrowded (live_counts b) index) same near),
   )
 
-  pub shrinks : (array : List (BucketView K V)) (P : Type 0) → arrays.current ≡ Some array → is_some arrays.rehash ≡ false
-      → arrays.minimum < slots_of (live_counts array) → (P ↔ IsDeserted (live_counts array) index) → P ↔ AsksShrinking arrays index
+  pub shrinks : (array : List (BucketView K V)) (P : Type 0) → arrays.current ≡ Some array
+      → is_some arrays.rehash ≡ false
+      → arrays.minimum < slots_of (live_counts array) → (P ↔ IsDeserted (live_counts array) index)
+      → P ↔ AsksShrinking arrays index
   shrinks array P current alone more means = (
     λ h. (array, current, none_of arrays.rehash alone, more, means.0 h),
     λ (buckets, is, none, large, near).

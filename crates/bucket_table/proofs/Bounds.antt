@@ -1,5 +1,29 @@
 -- Bounds on hashes, and where the buckets of an array begin.
-use Rattle.std.proofs.Common.{ℕ, ◌+◌, ◌-◌, ◌*◌, ◌/◌, ◌^◌, ◌<◌, ◌≤◌, ◌≡◌, ◌↔◌, ◌&&◌, Bool, true, false, nat_le, nat_lt, sym, ap, subst, ◌∙◌, arith, inl, inr}
+use Rattle.std.proofs.Common.{
+  ℕ,
+  ◌+◌,
+  ◌-◌,
+  ◌*◌,
+  ◌/◌,
+  ◌^◌,
+  ◌<◌,
+  ◌≤◌,
+  ◌≡◌,
+  ◌↔◌,
+  ◌&&◌,
+  Bool,
+  true,
+  false,
+  nat_le,
+  nat_lt,
+  sym,
+  ap,
+  subst,
+  ◌∙◌,
+  arith,
+  inl,
+  inr,
+}
 use Rattle.std.proofs.Math.Nat.{add-mul, div-mul-le_self, lt-div-mul-add, mul-le-mul_right, mul_comm, one-mul}
 use Rattle.std.proofs.lemmas.Bool.{and_from, and_parts, cases_lt, false_from_ne_true, le-leb, leb-true, lt-ltb, ltb-true}
 use Rattle.bucket_slots.specs.Homes.{IsInInterval, IsInRange, Meets, interval_width}
@@ -12,7 +36,8 @@ abbrev pub is_inside : ℕ → ℕ → ℕ → Bool
 is_inside len index hash = nat_le (bound_of len index) hash && nat_lt hash (bound_of len (index + 1))
 
 module _ (len index hash : ℕ) where
-  pub is_in : bound_of len index ≤ hash → hash < bound_of len (index + 1) → is_inside len index hash ≡ true
+  pub is_in : bound_of len index ≤ hash → hash < bound_of len (index + 1)
+      → is_inside len index hash ≡ true
   is_in a b = and_from (nat_le (bound_of len index) hash) (nat_lt hash (bound_of len (index + 1))) (le-leb (bound_of len index) hash a) (lt-ltb hash (bound_of len (index + 1)) b)
 
   pub bounds : is_inside len index hash ≡ true → IsInInterval len index hash
@@ -33,7 +58,8 @@ all_hashes n l =
     let few : e ≤ 57 = exponent_le e 57 (subst (λ (m : ℕ). m ≤ 2 ^ 57) is l.at_most) in
     let width : interval_width (2 ^ e) ≡ 2 ^ (64 - e) = power_quotient e 64 (omega arith) in
     let whole : 2 ^ 64 ≡ 2 ^ (64 - e) * 2 ^ e = power_parts e 64 (omega arith) in
-    subst (λ (m : ℕ). m * interval_width m ≡ 2 ^ 64) (sym is) (ap (λ (w : ℕ). 2 ^ e * w) width ∙ mul_comm (2 ^ e) (2 ^ (64 - e)) ∙ sym whole)
+    subst (λ (m : ℕ). m * interval_width m ≡ 2 ^ 64) (sym is)
+    (ap (λ (w : ℕ). 2 ^ e * w) width ∙ mul_comm (2 ^ e) (2 ^ (64 - e)) ∙ sym whole)
 
 -- the last hash of a bucket is a hash
 pub bound_fits : (len index : ℕ) → IsLength len → index < len → bound_of len (index + 1) ≤ 2 ^ 64
@@ -56,7 +82,8 @@ wide n l =
 
 -- a walk that goes on in another array begins no later than where the hashes do that it hasn't seen
 pub begins_early : (from to index low high : ℕ) → 0 < interval_width from → 0 < interval_width to
-    → ((j : ℕ) → IsInRange low high j ↔ Meets from index to j) → bound_of to low ≤ bound_of from index
+    → ((j : ℕ) → IsInRange low high j ↔ Meets from index to j)
+    → bound_of to low ≤ bound_of from index
 begins_early from to index low high some wide_to range =
     let w : ℕ = interval_width from in
     let v : ℕ = interval_width to in
@@ -71,7 +98,9 @@ begins_early from to index low high some wide_to range =
     omega (arith, mul-le-mul_right v first, below)
 
 -- and its first bucket reaches past that hash
-pub begins_late : (from to index low high : ℕ) → low < high → ((j : ℕ) → IsInRange low high j ↔ Meets from index to j) → bound_of from index < bound_of to (low + 1)
+pub begins_late : (from to index low high : ℕ) → low < high
+    → ((j : ℕ) → IsInRange low high j ↔ Meets from index to j)
+    → bound_of from index < bound_of to (low + 1)
 begins_late from to index low high some range =
     let m : Meets from index to low = (range low).0 (omega arith, some) in
     omega (arith, m.1.0, m.2.1)
@@ -80,7 +109,8 @@ pub next_bound : (n index : ℕ) → IsLength n → bound_of n index < bound_of 
 next_bound n index l = omega (arith, next_multiple index (interval_width n), wide n l)
 
 -- a bucket found from there on reaches past it too
-pub still_past : (from index to other low at : ℕ) → bound_of from index < bound_of to (low + 1) → to ≡ other → low ≤ at → bound_of from index < bound_of other (at + 1)
+pub still_past : (from index to other low at : ℕ) → bound_of from index < bound_of to (low + 1)
+    → to ≡ other → low ≤ at → bound_of from index < bound_of other (at + 1)
 still_past from index to other low at past same order =
     let up : low + 1 ≤ at + 1 = omega (arith, order) in
     let more : bound_of to (low + 1) ≤ bound_of to (at + 1) = mul-le-mul_right (interval_width to) up in

@@ -1,5 +1,41 @@
 -- A cursor passes empty buckets.
-use Rattle.std.proofs.Common.{ℕ, zero, suc, ◌+◌, ◌*◌, ◌^◌, ◌<◌, ◌≤◌, ◌≡◌, ◌↔◌, ◌⊎◌, true, false, Option, Some, None, Result, Ok, Err, IfOk, IfSome, IsSome, List, [], ◌∷◌, ◌++◌, length, refl, sym, ap, subst, ◌∙◌, arith, inl, inr}
+use Rattle.std.proofs.Common.{
+  ℕ,
+  zero,
+  suc,
+  ◌+◌,
+  ◌*◌,
+  ◌^◌,
+  ◌<◌,
+  ◌≤◌,
+  ◌≡◌,
+  ◌↔◌,
+  ◌⊎◌,
+  true,
+  false,
+  Option,
+  Some,
+  None,
+  Result,
+  Ok,
+  Err,
+  IfOk,
+  IfSome,
+  IsSome,
+  List,
+  [],
+  ◌∷◌,
+  ◌++◌,
+  length,
+  refl,
+  sym,
+  ap,
+  subst,
+  ◌∙◌,
+  arith,
+  inl,
+  inr,
+}
 use Rattle.std.specs.List.{All, AllByRecursion}
 use Rattle.std.proofs.Math.Nat.{mul-le-mul_right}
 use Rattle.std.proofs.lemmas.Bool.{cases_Bool, cases_lt, false≢true, true≢false}
@@ -29,21 +65,28 @@ use Rattle.bucket_table.proofs.UnitSteps.{kept_both, kept_none}
 
 module _ {K V : Type 0} where
   -- where the range of a bucket's sources was moved, they are killed
-  pub sources_worked : (start end to from index : ℕ) (old new : ArraysView K V) → WorksRange start end true old new
+  pub sources_worked : (start end to from index : ℕ) (old new : ArraysView K V)
+      → WorksRange start end true old new
       → to ≡ length (buckets_of old.current) → from ≡ length (old_buckets old.rehash)
       → ((i : ℕ) → IsInRange start end i ↔ Meets to index from i) → AreSourcesKilled new index
   sources_worked start end to from index old new (was, is, some, killed, still) to_is from_is range =
-      let to_new : length (buckets_of new.current) ≡ to = len_kept new.current old.current some.kept.current_len ∙ sym to_is in
-      let was_is : length (old_buckets old.rehash) ≡ length was.buckets = ap (λ (o : Option (RehashView K V)). length (old_buckets o)) some.rehash_was in
-      let is_is : length (old_buckets new.rehash) ≡ length is.buckets = ap (λ (o : Option (RehashView K V)). length (old_buckets o)) some.rehash_is in
-      let from_new : length (old_buckets new.rehash) ≡ from = is_is ∙ some.same_len ∙ sym was_is ∙ sym from_is in
+      let to_new : length (buckets_of new.current) ≡ to = len_kept new.current old.current
+      some.kept.current_len ∙ sym to_is in
+      let was_is : length (old_buckets old.rehash) ≡ length was.buckets = ap
+      (λ (o : Option (RehashView K V)). length (old_buckets o)) some.rehash_was in
+      let is_is : length (old_buckets new.rehash) ≡ length is.buckets = ap
+      (λ (o : Option (RehashView K V)). length (old_buckets o)) some.rehash_is in
+      let from_new : length (old_buckets new.rehash) ≡ from = is_is ∙ some.same_len ∙ sym was_is ∙
+      sym from_is in
       λ i below meets.
-      let meets1 : Meets from i (length (buckets_of new.current)) index = subst (λ (n : ℕ). Meets n i (length (buckets_of new.current)) index) from_new meets in
+      let meets1 : Meets from i (length (buckets_of new.current)) index = subst
+      (λ (n : ℕ). Meets n i (length (buckets_of new.current)) index) from_new meets in
       let meets2 : Meets from i to index = subst (λ (n : ℕ). Meets from i n index) to_new meets1 in
       let inside = (range i).1 (meets2.0, meets2.2, meets2.1) in
       dead_in new is i some.rehash_is (killed refl i inside.0 inside.1)
 
-  each_in : (P : K × V → Type 0) (bs : List (BucketView K V)) (k : ℕ) → k < length bs → AllByRecursion P (pairs_in_all bs) → AllByRecursion P (pairs_in (bucket_at bs k))
+  each_in : (P : K × V → Type 0) (bs : List (BucketView K V)) (k : ℕ) → k < length bs
+      → AllByRecursion P (pairs_in_all bs) → AllByRecursion P (pairs_in (bucket_at bs k))
   each_in P [] k less h = absurd (omega (arith, less))
   each_in P (b ∷ bs) zero less h = each_front P (pairs_in b) (pairs_in_all bs) h
   each_in P (b ∷ bs) (suc k) less h = each_in P bs k (omega (arith, less)) (each_back P (pairs_in b) (pairs_in_all bs) h)
@@ -53,25 +96,34 @@ module _ {K V : Type 0} where
   no_rehash (Some r) never = absurd (never refl)
 
   -- without a current array there is no pair
-  pub no_map : (arrays : ArraysView K V) → AreArrays arrays → arrays.current ≡ None → pairs_of arrays ≡ []
+  pub no_map : (arrays : ArraysView K V) → AreArrays arrays → arrays.current ≡ None
+      → pairs_of arrays ≡ []
   no_map arrays law none =
-      let alone : arrays.rehash ≡ None = no_rehash arrays.rehash (λ some. false≢true (subst (λ (o : Option (List (BucketView K V))). IsSome o) none (law.beside some))) in
+      let alone : arrays.rehash ≡ None = no_rehash arrays.rehash
+      (λ some. false≢true (subst (λ (o : Option (List (BucketView K V))). IsSome o) none
+      (law.beside some))) in
       rw (pairs_are arrays, none, alone) refl
 
 module _ {K V : Type 0} (hash : K → ℕ) where
-  homes_in : (len i : ℕ) (b : BucketView K V) → All (IsEntryHome hash len i) (entries_in b) → AllByRecursion (λ (pair : K × V). IsInInterval len i (hash pair.0)) (pairs_in b)
+  homes_in : (len i : ℕ) (b : BucketView K V) → All (IsEntryHome hash len i) (entries_in b)
+      → AllByRecursion (λ (pair : K × V). IsInInterval len i (hash pair.0)) (pairs_in b)
   homes_in len i b h =
       let f : (K × V) × ℕ → K × V = λ e. e.0 in
       subst (AllByRecursion (λ (pair : K × V). IsInInterval len i (hash pair.0))) (map-entries_in b)
-      (each_map (λ (pair : K × V). IsInInterval len i (hash pair.0)) f (entries_in b) (each_implies _ (λ e. IsInInterval len i (hash e.0.0)) (λ e own. own.home.own) (entries_in b) (recursion_from_All (IsEntryHome hash len i) (entries_in b) h)))
+      (each_map (λ (pair : K × V). IsInInterval len i (hash pair.0)) f (entries_in b)
+      (each_implies _ (λ e. IsInInterval len i (hash e.0.0)) (λ e own. own.home.own)
+      (entries_in b) (recursion_from_All (IsEntryHome hash len i) (entries_in b) h)))
 
   module _ (arrays : ArraysView K V) (bound index : ℕ) (law : ArePlaced hash arrays) (within : index < length (buckets_of arrays.current))
       (passed : HasNoneBetween hash bound (bound_of (length (buckets_of arrays.current)) index) (pairs_of arrays)) where
-    parted : AllByRecursion (λ pair. bound ≤ hash pair.0 → hash pair.0 < bound_of (length (buckets_of arrays.current)) index → ⊥) (pairs_in_all (buckets_of arrays.current) ++ pairs_in_all (old_buckets arrays.rehash))
+    parted : AllByRecursion (λ pair. bound ≤ hash pair.0
+        → hash pair.0 < bound_of (length (buckets_of arrays.current)) index → ⊥)
+        (pairs_in_all (buckets_of arrays.current) ++ pairs_in_all (old_buckets arrays.rehash))
     parted = subst (HasNoneBetween hash bound (bound_of (length (buckets_of arrays.current)) index)) (pairs_are arrays) passed
 
     -- a cursor at a bucket has passed the current buckets below
-    pub none_below : (j : ℕ) → j < index → HasNoneFrom hash bound (pairs_in (bucket_on arrays false j))
+    pub none_below : (j : ℕ) → j < index → HasNoneFrom hash bound
+        (pairs_in (bucket_on arrays false j))
     none_below j below =
         let c = buckets_of arrays.current in
         let n : ℕ = length c in
@@ -79,14 +131,18 @@ module _ {K V : Type 0} (hash : K → ℕ) where
         let homes = homes_in n j (bucket_at c j) (law.homes.current_home j (omega (arith, below, within))) in
         let step : j + 1 ≤ index = omega (arith, below) in
         let up : bound_of n (j + 1) ≤ bound_of n index = mul-le-mul_right (interval_width n) step in
-        each_both _ _ (λ pair. hash pair.0 < bound) (λ pair none own. elim (cases_lt (hash pair.0) bound) [
+        each_both _ _ (λ pair. hash pair.0 < bound) (λ pair none own. elim
+        (cases_lt (hash pair.0) bound) [
           | inl less ↦ less
           | inr more ↦ absurd (none more (omega (arith, own.1, up)))
         ]) (pairs_in (bucket_at c j)) never homes
 
     -- and the old buckets with a target below
-    pub none_behind : AreSourcesKilled arrays index → 0 < interval_width (length (buckets_of arrays.current)) → (k target : ℕ) → k < length (old_buckets arrays.rehash) → target < index
-        → Meets (length (old_buckets arrays.rehash)) k (length (buckets_of arrays.current)) target → HasNoneFrom hash bound (pairs_in (bucket_at (old_buckets arrays.rehash) k))
+    pub none_behind : AreSourcesKilled arrays index → 0 < interval_width
+        (length (buckets_of arrays.current)) → (k target : ℕ)
+        → k < length (old_buckets arrays.rehash) → target < index
+        → Meets (length (old_buckets arrays.rehash)) k (length (buckets_of arrays.current)) target
+        → HasNoneFrom hash bound (pairs_in (bucket_at (old_buckets arrays.rehash) k))
     none_behind ready some k target inside below meets =
         let l = old_buckets arrays.rehash in
         let n : ℕ = length (buckets_of arrays.current) in
@@ -97,7 +153,8 @@ module _ {K V : Type 0} (hash : K → ℕ) where
           | inr alive ↦
               let never = each_in _ l k inside (each_back _ (pairs_in_all (buckets_of arrays.current)) (pairs_in_all l) parted) in
               let homes = homes_in (length l) k b (law.homes.linked_home k inside) in
-              each_both _ _ (λ pair. hash pair.0 < bound) (λ pair none own. elim (cases_lt (hash pair.0) bound) [
+              each_both _ _ (λ pair. hash pair.0 < bound)
+              (λ pair none own. elim (cases_lt (hash pair.0) bound) [
                 | inl less ↦ less
                 | inr more ↦ elim (cases_lt (hash pair.0) (bound_of n index)) [
                   | inl early ↦ absurd (none more early)
@@ -119,7 +176,8 @@ module _ {K V : Type 0} (hash : K → ℕ) where
     pub null : at ≡ null_place
     pub none : HasNoneBetween hash (bound_of (length (buckets_of old.current)) start) (bound_of (length (buckets_of old.current)) index) (pairs_of now)
 
-  pub sets_out : (old : ArraysView K V) (start : ℕ) (at : Place) → ArePlaced hash old → at ≡ null_place → HasPassed old start start old at
+  pub sets_out : (old : ArraysView K V) (start : ℕ) (at : Place) → ArePlaced hash old
+      → at ≡ null_place → HasPassed old start start old at
   sets_out old start at law null = record {
     placed = law;
     kept = kept_none old;
@@ -129,12 +187,16 @@ module _ {K V : Type 0} (hash : K → ℕ) where
     none = each_none (pairs_of old);
   }
     where
-      each_none : (ps : List (K × V)) → HasNoneBetween hash (bound_of (length (buckets_of old.current)) start) (bound_of (length (buckets_of old.current)) start) ps
+      each_none : (ps : List (K × V)) → HasNoneBetween hash
+          (bound_of (length (buckets_of old.current)) start)
+          (bound_of (length (buckets_of old.current)) start) ps
       each_none [] = tt
       each_none (p ∷ ps) = (λ low high. omega (arith, low, high), each_none ps)
 
-  pub waits : (old now next : ArraysView K V) (start index : ℕ) (at : Place) → HasPassed old start index now at
-      → ArePlaced hash next → KeepsArrays now next → KeepsBag now.rehash next.rehash → HasPassed old start index next at
+  pub waits : (old now next : ArraysView K V) (start index : ℕ) (at : Place)
+      → HasPassed old start index now at
+      → ArePlaced hash next → KeepsArrays now next → KeepsBag now.rehash next.rehash
+      → HasPassed old start index next at
   waits old now next start index at p law kept bag = record {
     placed = law;
     kept = kept_both old now next p.kept kept;
@@ -145,24 +207,31 @@ module _ {K V : Type 0} (hash : K → ℕ) where
   }
 
   -- the bucket at the index is empty, and nothing of it is in the old buckets
-  pub passes : (old now : ArraysView K V) (start index : ℕ) (at next : Place) → HasPassed old start index now at
-      → index < length (buckets_of now.current) → AreSourcesKilled now index → IsEnd (bucket_on now false index) at next
+  pub passes : (old now : ArraysView K V) (start index : ℕ) (at next : Place)
+      → HasPassed old start index now at
+      → index < length (buckets_of now.current) → AreSourcesKilled now index
+      → IsEnd (bucket_on now false index) at next
       → HasPassed old start (index + 1) now next
   passes old now start index at next p within ready end =
       let n : ℕ = length (buckets_of now.current) in
       let m : ℕ = length (buckets_of old.current) in
       let same : n ≡ m = len_kept now.current old.current p.kept.current_len in
-      let empty : pairs_in (bucket_on now false index) ≡ [] = subst (λ (q : Place). pairs_ahead (bucket_on now false index) q ≡ []) p.null end.ahead in
+      let empty : pairs_in (bucket_on now false index) ≡ [] = subst
+      (λ (q : Place). pairs_ahead (bucket_on now false index) q ≡ []) p.null end.ahead in
       let home = taken_there hash now index (splits hash now index p.placed within ready) in
-      let none = none_pass (λ (pair : K × V). is_inside n index (hash pair.0)) (pairs_of now) (nothing _ (omega (arith, length_permutation _ _ home, ap length empty))) in
-      let none' : AllByRecursion (λ (pair : K × V). is_inside m index (hash pair.0) ≡ false) (pairs_of now) = subst (λ (k : ℕ). AllByRecursion (λ (pair : K × V). is_inside k index (hash pair.0) ≡ false) (pairs_of now)) same none in
+      let none = none_pass (λ (pair : K × V). is_inside n index (hash pair.0)) (pairs_of now)
+      (nothing _ (omega (arith, length_permutation _ _ home, ap length empty))) in
+      let none' : AllByRecursion (λ (pair : K × V). is_inside m index (hash pair.0) ≡ false)
+      (pairs_of now) = subst (λ (k : ℕ). AllByRecursion
+      (λ (pair : K × V). is_inside k index (hash pair.0) ≡ false) (pairs_of now)) same none in
       record {
         placed = p.placed;
         kept = p.kept;
         bag = p.bag;
         order = omega (arith, p.order);
         null = end.null;
-        none = each_both _ _ (λ pair. bound_of m start ≤ hash pair.0 → hash pair.0 < bound_of m (index + 1) → ⊥)
+        none = each_both _ _ (λ pair. bound_of m start ≤ hash pair.0
+            → hash pair.0 < bound_of m (index + 1) → ⊥)
             (λ pair before out low high. elim (cases_lt (hash pair.0) (bound_of m index)) [
               | inl less ↦ before low less
               | inr more ↦ true≢false (sym (is_in m index (hash pair.0) more high) ∙ out)
@@ -170,37 +239,50 @@ module _ {K V : Type 0} (hash : K → ℕ) where
       }
 
   -- the cursor stops at the first live pair
-  pub stops : (old now : ArraysView K V) (start index : ℕ) (at next : Place) → HasPassed old start index now at
-      → index < length (buckets_of now.current) → IsLength (length (buckets_of now.current)) → AreSourcesKilled now index → MovesToNext (bucket_on now false index) at next
+  pub stops : (old now : ArraysView K V) (start index : ℕ) (at next : Place)
+      → HasPassed old start index now at
+      → index < length (buckets_of now.current) → IsLength (length (buckets_of now.current))
+      → AreSourcesKilled now index → MovesToNext (bucket_on now false index) at next
       → IsFirstFrom hash now (bound_of (length (buckets_of old.current)) start) index next
   stops old now start index at next p within long ready moves =
-      let same : length (buckets_of now.current) ≡ length (buckets_of old.current) = len_kept now.current old.current p.kept.current_len in
+      let same : length (buckets_of now.current) ≡ length (buckets_of old.current) = len_kept
+      now.current old.current p.kept.current_len in
       let bound : ℕ = bound_of (length (buckets_of old.current)) start in
-      let passed : HasNoneBetween hash bound (bound_of (length (buckets_of now.current)) index) (pairs_of now) = subst (λ (m : ℕ). HasNoneBetween hash bound (bound_of m index) (pairs_of now)) (sym same) p.none in
+      let passed : HasNoneBetween hash bound (bound_of (length (buckets_of now.current)) index)
+      (pairs_of now) = subst (λ (m : ℕ). HasNoneBetween hash bound (bound_of m index)
+      (pairs_of now)) (sym same) p.none in
       record {
         locked = locked_current now index within ready;
         pair = moves.pair;
         slot = moves.here;
-        first = subst (λ (q : Place). pairs_ahead (bucket_on now false index) q ≡ moves.pair ∷ pairs_ahead (bucket_on now false index) next) p.null moves.ahead;
+        first = subst (λ (q : Place). pairs_ahead (bucket_on now false index) q ≡ moves.pair ∷
+            pairs_ahead (bucket_on now false index) next) p.null moves.ahead;
         current = none_below now bound index p.placed within passed;
         old = none_behind now bound index p.placed within passed ready (wide _ long);
         passed = passed;
       }
 
   -- past the array's end there is nothing
-  pub ends : (old now : ArraysView K V) (start index : ℕ) (at : Place) → HasPassed old start index now at → ((k : K) → hash k < 2 ^ 64)
-      → AreArrays now → (length (buckets_of now.current) ≡ 0 → now.current ≡ None) → (0 < length (buckets_of now.current) → IsLength (length (buckets_of now.current)))
-      → length (buckets_of now.current) ≤ index → HasNoneFrom hash (bound_of (length (buckets_of old.current)) start) (pairs_of now)
+  pub ends : (old now : ArraysView K V) (start index : ℕ) (at : Place)
+      → HasPassed old start index now at → ((k : K) → hash k < 2 ^ 64)
+      → AreArrays now → (length (buckets_of now.current) ≡ 0 → now.current ≡ None)
+      → (0 < length (buckets_of now.current) → IsLength (length (buckets_of now.current)))
+      → length (buckets_of now.current) ≤ index → HasNoneFrom hash
+      (bound_of (length (buckets_of old.current)) start) (pairs_of now)
   ends old now start index at p fits law no_array long past = go (cases_lt 0 (length (buckets_of now.current)))
     where
-      go : (0 < length (buckets_of now.current)) ⊎ (length (buckets_of now.current) ≤ 0) → HasNoneFrom hash (bound_of (length (buckets_of old.current)) start) (pairs_of now)
+      go : (0 < length (buckets_of now.current)) ⊎ (length (buckets_of now.current) ≤ 0)
+          → HasNoneFrom hash (bound_of (length (buckets_of old.current)) start) (pairs_of now)
       go (inl some) =
           let n : ℕ = length (buckets_of now.current) in
           let m : ℕ = length (buckets_of old.current) in
           let same : n ≡ m = len_kept now.current old.current p.kept.current_len in
-          let top : 2 ^ 64 ≤ bound_of n index = subst (λ (k : ℕ). k ≤ bound_of n index) (all_hashes n (long some)) (mul-le-mul_right (interval_width n) past) in
-          let top' : 2 ^ 64 ≤ bound_of m index = subst (λ (k : ℕ). 2 ^ 64 ≤ bound_of k index) same top in
-          each_implies _ (λ pair. hash pair.0 < bound_of m start) (λ pair none. elim (cases_lt (hash pair.0) (bound_of m start)) [
+          let top : 2 ^ 64 ≤ bound_of n index = subst (λ (k : ℕ). k ≤ bound_of n index)
+          (all_hashes n (long some)) (mul-le-mul_right (interval_width n) past) in
+          let top' : 2 ^ 64 ≤ bound_of m index = subst (λ (k : ℕ). 2 ^ 64 ≤ bound_of k index) same
+          top in
+          each_implies _ (λ pair. hash pair.0 < bound_of m start)
+          (λ pair none. elim (cases_lt (hash pair.0) (bound_of m start)) [
             | inl less ↦ less
             | inr more ↦ absurd (none more (omega (arith, top', fits pair.0)))
           ]) (pairs_of now) p.none
@@ -208,54 +290,77 @@ module _ {K V : Type 0} (hash : K → ℕ) where
 
 module _ {K V : Type 0} (hash : K → ℕ) where
   -- a bucket that is there stays there
-  pub still_within : (before now : ArraysView K V) (len index : ℕ) → KeepsArrays before now → len ≡ length (buckets_of before.current) → index < len → index < length (buckets_of now.current)
+  pub still_within : (before now : ArraysView K V) (len index : ℕ) → KeepsArrays before now
+      → len ≡ length (buckets_of before.current) → index < len
+      → index < length (buckets_of now.current)
   still_within before now len index kept is within =
       let same = len_kept now.current before.current kept.current_len in
       omega (arith, within, is, same)
 
   -- a bucket was prepared, and its first pair is found
-  pub stops_at : (old before now : ArraysView K V) (start index len : ℕ) (at next : Place) (b : BucketView K V) → HasPassed hash old start index before at
-      → ArePlaced hash now → KeepsArrays before now → KeepsBag before.rehash now.rehash → len ≡ length (buckets_of before.current) → index < len → (0 < len → IsLength len)
-      → AreSourcesKilled now index → b ≡ bucket_on now false index → MovesToNext b at next → IsFirstFrom hash now (bound_of (length (buckets_of old.current)) start) index next
+  pub stops_at : (old before now : ArraysView K V) (start index len : ℕ) (at next : Place)
+      (b : BucketView K V) → HasPassed hash old start index before at
+      → ArePlaced hash now → KeepsArrays before now → KeepsBag before.rehash now.rehash
+      → len ≡ length (buckets_of before.current) → index < len → (0 < len → IsLength len)
+      → AreSourcesKilled now index → b ≡ bucket_on now false index → MovesToNext b at next
+      → IsFirstFrom hash now (bound_of (length (buckets_of old.current)) start) index next
   stops_at old before now start index len at next b p law kept bag is within long ready here moves =
-      let same : length (buckets_of now.current) ≡ length (buckets_of before.current) = len_kept now.current before.current kept.current_len in
+      let same : length (buckets_of now.current) ≡ length (buckets_of before.current) = len_kept
+      now.current before.current kept.current_len in
       stops hash old now start index at next (waits hash old before now start index at p law kept bag) (still_within before now len index kept is within)
-      (subst IsLength (is ∙ sym same) (long (omega (arith, within)))) ready (subst (λ (x : BucketView K V). MovesToNext x at next) here moves)
+      (subst IsLength (is ∙ sym same) (long (omega (arith, within)))) ready
+      (subst (λ (x : BucketView K V). MovesToNext x at next) here moves)
 
   -- or it has none
-  pub passes_at : (old before now : ArraysView K V) (start index len : ℕ) (at next : Place) (b : BucketView K V) → HasPassed hash old start index before at
-      → ArePlaced hash now → KeepsArrays before now → KeepsBag before.rehash now.rehash → len ≡ length (buckets_of before.current) → index < len
-      → AreSourcesKilled now index → b ≡ bucket_on now false index → IsEnd b at next → HasPassed hash old start (index + 1) now next
+  pub passes_at : (old before now : ArraysView K V) (start index len : ℕ) (at next : Place)
+      (b : BucketView K V) → HasPassed hash old start index before at
+      → ArePlaced hash now → KeepsArrays before now → KeepsBag before.rehash now.rehash
+      → len ≡ length (buckets_of before.current) → index < len
+      → AreSourcesKilled now index → b ≡ bucket_on now false index → IsEnd b at next
+      → HasPassed hash old start (index + 1) now next
   passes_at old before now start index len at next b p law kept bag is within ready here end =
-      passes hash old now start index at next (waits hash old before now start index at p law kept bag) (still_within before now len index kept is within) ready (subst (λ (x : BucketView K V). IsEnd x at next) here end)
+      passes hash old now start index at next (waits hash old before now start index at p law kept
+      bag) (still_within before now len index kept is within) ready
+      (subst (λ (x : BucketView K V). IsEnd x at next) here end)
 
 -- what is told from an earlier hash on is told from a later one on
 module _ {K V : Type 0} (hash : K → ℕ) where
-  pub from_later : (low lower : ℕ) → lower ≤ low → (ps : List (K × V)) → HasNoneFrom hash lower ps → HasNoneFrom hash low ps
-  from_later low lower less ps h = each_implies _ (λ pair. hash pair.0 < low) (λ pair below. omega (arith, less, below)) ps h
+  pub from_later : (low lower : ℕ) → lower ≤ low → (ps : List (K × V)) → HasNoneFrom hash lower ps
+      → HasNoneFrom hash low ps
+  from_later low lower less ps h = each_implies _ (λ pair. hash pair.0 < low)
+      (λ pair below. omega (arith, less, below)) ps h
 
-  pub none_past : (low : ℕ) → 2 ^ 64 ≤ low → ((k : K) → hash k < 2 ^ 64) → (ps : List (K × V)) → HasNoneFrom hash low ps
+  pub none_past : (low : ℕ) → 2 ^ 64 ≤ low → ((k : K) → hash k < 2 ^ 64) → (ps : List (K × V))
+      → HasNoneFrom hash low ps
   none_past low top fits [] = tt
   none_past low top fits (p ∷ ps) = (omega (arith, top, fits p.0), none_past low top fits ps)
 
-  first_later : (arrays : ArraysView K V) (low lower index : ℕ) (at : Place) → lower ≤ low → IsFirstFrom hash arrays lower index at → IsFirstFrom hash arrays low index at
+  first_later : (arrays : ArraysView K V) (low lower index : ℕ) (at : Place) → lower ≤ low
+      → IsFirstFrom hash arrays lower index at → IsFirstFrom hash arrays low index at
   first_later arrays low lower index at less f = record {
     locked = f.locked;
     pair = f.pair;
     slot = f.slot;
     first = f.first;
     current = λ j below. from_later low lower less _ (f.current j below);
-    old = λ k target inside below meets. from_later low lower less _ (f.old k target inside below meets);
-    passed = each_implies _ (λ pair. low ≤ hash pair.0 → hash pair.0 < bound_of (length (buckets_of arrays.current)) index → ⊥) (λ pair none a b. none (omega (arith, less, a)) b) (pairs_of arrays) f.passed;
+    old = λ k target inside below meets. from_later low lower less _
+        (f.old k target inside below meets);
+    passed = each_implies _ (λ pair. low ≤ hash pair.0 → hash pair.0 < bound_of
+        (length (buckets_of arrays.current)) index → ⊥) (λ pair none a b. none
+        (omega (arith, less, a)) b) (pairs_of arrays) f.passed;
   }
 
-  pub goes_later : {E : Type 0} (r : Result (Option ℕ) E) (arrays : ArraysView K V) (low lower : ℕ) (at : Place) → lower ≤ low → GoesOnFrom hash lower r arrays at → GoesOnFrom hash low r arrays at
+  pub goes_later : {E : Type 0} (r : Result (Option ℕ) E) (arrays : ArraysView K V) (low lower : ℕ)
+      (at : Place) → lower ≤ low → GoesOnFrom hash lower r arrays at
+      → GoesOnFrom hash low r arrays at
   goes_later (Ok (Some index)) arrays low lower at less h = first_later arrays low lower index at less h
   goes_later (Ok None) arrays low lower at less h = (from_later low lower less (pairs_of arrays) h.0, h.1)
   goes_later (Err e) arrays low lower at less h = h
 
 module _ {K V : Type 0} where
-  pub reaches_on : {E : Type 0} (r : Result (Option ℕ) E) (from index low : ℕ) (old new : ArraysView K V) → bound_of from index < bound_of (length (buckets_of old.current)) (low + 1) → KeepsArrays old new
+  pub reaches_on : {E : Type 0} (r : Result (Option ℕ) E) (from index low : ℕ)
+      (old new : ArraysView K V) → bound_of from index < bound_of
+      (length (buckets_of old.current)) (low + 1) → KeepsArrays old new
       → IfOk r (λ found. IfSome found (λ at. low ≤ at)) → ReachesPast (bound_of from index) r new
   reaches_on (Ok (Some at)) from index low old new past kept order = still_past from index (length (buckets_of old.current)) (length (buckets_of new.current)) low at past (sym (len_kept new.current old.current kept.current_len)) order
   reaches_on (Ok None) from index low old new past kept order = tt
@@ -263,11 +368,16 @@ module _ {K V : Type 0} where
 
 module _ {K V : Type 0} where
   -- a pointer that moves had something ahead
-  pub some_ahead : (b other : BucketView K V) (at next : Place) → b ≡ other → MovesToNext b at next → pairs_ahead other at ≡ [] → ⊥
-  some_ahead b other at next is m none = let no : pairs_ahead other at ≡ m.pair ∷ pairs_ahead b next = ap (λ (x : BucketView K V). pairs_ahead x at) (sym is) ∙ m.ahead in let e : [] ≡ m.pair ∷ pairs_ahead b next = sym none ∙ no in absurd cc
+  pub some_ahead : (b other : BucketView K V) (at next : Place) → b ≡ other → MovesToNext b at next
+      → pairs_ahead other at ≡ [] → ⊥
+  some_ahead b other at next is m none = let no : pairs_ahead other at ≡ m.pair ∷ pairs_ahead b next
+      = ap (λ (x : BucketView K V). pairs_ahead x at) (sym is) ∙ m.ahead in let e : [] ≡ m.pair ∷
+      pairs_ahead b next = sym none ∙ no in absurd cc
 
-  pub none_ahead : (b other : BucketView K V) (at next : Place) → b ≡ other → IsEnd b at next → pairs_ahead other at ≡ []
+  pub none_ahead : (b other : BucketView K V) (at next : Place) → b ≡ other → IsEnd b at next
+      → pairs_ahead other at ≡ []
   none_ahead b other at next is e = ap (λ (x : BucketView K V). pairs_ahead x at) (sym is) ∙ e.ahead
 
-  pub moves_in : (b other : BucketView K V) (at next : Place) → b ≡ other → MovesToNext b at next → MovesToNext other at next
+  pub moves_in : (b other : BucketView K V) (at next : Place) → b ≡ other → MovesToNext b at next
+      → MovesToNext other at next
   moves_in b other at next is m = subst (λ (x : BucketView K V). MovesToNext x at next) is m

@@ -1,7 +1,45 @@
 -- How many pairs a walk is lent, and which it isn't.
-use Rattle.std.proofs.Common.{ℕ, ◌+◌, ◌^◌, ◌<◌, ◌≤◌, ◌≡◌, Bool, true, false, not, ◌&&◌, List, [], ◌∷◌, length, filter, refl, sym, ap, subst, ◌∙◌, arith, inl, inr, nat_le}
+use Rattle.std.proofs.Common.{
+  ℕ,
+  ◌+◌,
+  ◌^◌,
+  ◌<◌,
+  ◌≤◌,
+  ◌≡◌,
+  Bool,
+  true,
+  false,
+  not,
+  ◌&&◌,
+  List,
+  [],
+  ◌∷◌,
+  length,
+  filter,
+  refl,
+  sym,
+  ap,
+  subst,
+  ◌∙◌,
+  arith,
+  inl,
+  inr,
+  nat_le,
+}
 use Rattle.std.proofs.Math.Nat.{mul-le-mul_right}
-use Rattle.std.proofs.lemmas.Bool.{true≢false, cases_Bool, cases_lt, and_from, and_left, and_right, leb-true, le-leb, lt-leb, not_from_false, not_from_true}
+use Rattle.std.proofs.lemmas.Bool.{
+  true≢false,
+  cases_Bool,
+  cases_lt,
+  and_from,
+  and_left,
+  and_right,
+  leb-true,
+  le-leb,
+  lt-leb,
+  not_from_false,
+  not_from_true,
+}
 use Rattle.std.proofs.lemmas.List.Elements.{filter_agree}
 use Rattle.std.proofs.lemmas.List.Filters.{length-filter_both}
 use Rattle.std.proofs.lemmas.List.Sorted.{length_permutation}
@@ -37,7 +75,8 @@ module _ {K V : Type 0} (hash : K → ℕ) (len : ℕ) where
     | inr early ↦ and_right (is_from i p) (is_from (i + 1) p) early ∙ sym early
   ]
 
-  from_here : (i : ℕ) (p : K × V) → (is_from i p && not (is_from (i + 1) p)) ≡ has_home_in hash len i (i + 1) p
+  from_here : (i : ℕ) (p : K × V) → (is_from i p && not (is_from (i + 1) p)) ≡ has_home_in hash len
+      i (i + 1) p
   from_here i p = elim (cases_lt (hash p.0) (bound_of len (i + 1))) [
     | inl less ↦
         let late : is_from (i + 1) p ≡ false = lt-leb (bound_of len (i + 1)) (hash p.0) less in
@@ -57,18 +96,23 @@ module _ {K V : Type 0} (hash : K → ℕ) (len : ℕ) where
   ]
 
   counted_here : (i : ℕ) (ps : List (K × V))
-      → length (filter (is_from (i + 1)) ps) + length (filter (has_home_in hash len i (i + 1)) ps) ≡ length (filter (is_from i) ps)
+      → length (filter (is_from (i + 1)) ps) + length (filter (has_home_in hash len i (i + 1)) ps)
+      ≡ length (filter (is_from i) ps)
   counted_here i ps =
       let late : K × V → Bool = is_from (i + 1) in
       let both = length-filter_both late (λ p. not (late p)) (λ p. refl) (filter (is_from i) ps) in
-      let first = ap length (filter_filter (is_from i) late ps ∙ filter_agree (λ p. is_from i p && late p) late (from_later i) ps) in
+      let first = ap length (filter_filter (is_from i) late ps ∙ filter_agree
+      (λ p. is_from i p && late p) late (from_later i) ps) in
       let second = ap length (filter_filter (is_from i) (λ p. not (late p)) ps
-      ∙ filter_agree (λ p. is_from i p && not (late p)) (has_home_in hash len i (i + 1)) (from_here i) ps) in
+      ∙ filter_agree (λ p. is_from i p && not (late p)) (has_home_in hash len i (i + 1))
+      (from_here i) ps) in
       omega (arith, both, first, second)
 
   -- what was lent, and what comes after it
-  pub counted_from : (i : ℕ) (ps : List (K × V)) (visits : List (Visited (BucketView K V))) → AreLent hash len ps i visits
-      → lent_len visits + length (filter (is_from (i + length visits)) ps) ≡ length (filter (is_from i) ps)
+  pub counted_from : (i : ℕ) (ps : List (K × V)) (visits : List (Visited (BucketView K V)))
+      → AreLent hash len ps i visits
+      → lent_len visits + length (filter (is_from (i + length visits)) ps) ≡ length
+      (filter (is_from i) ps)
   counted_from i ps [] lent =
       let e : i + 0 ≡ i = omega arith in
       let same = ap (λ (k : ℕ). length (filter (is_from k) ps)) e in
@@ -85,25 +129,31 @@ module _ {K V : Type 0} (hash : K → ℕ) (len : ℕ) where
   pub outside_is_from : (m : ℕ) (p : K × V) → not (has_home_in hash len 0 (0 + m) p) ≡ is_from m p
   outside_is_from m p =
       let e : 0 + m ≡ m = omega arith in
-      subst (λ (k : ℕ). not (has_home_in hash len 0 k p) ≡ is_from m p) (sym e) (elim (cases_lt (hash p.0) (bound_of len m)) [
+      subst (λ (k : ℕ). not (has_home_in hash len 0 k p) ≡ is_from m p) (sym e)
+      (elim (cases_lt (hash p.0) (bound_of len m)) [
         | inl less ↦ not_from_true _ (is_in (bound_of len 0) (bound_of len m) (hash p.0) (omega arith) less)
             ∙ sym (lt-leb (bound_of len m) (hash p.0) less)
-        | inr more ↦ not_from_false _ (is_out (bound_of len 0) (bound_of len m) (hash p.0) (λ low high. omega (arith, more, high)))
+        | inr more ↦ not_from_false _ (is_out (bound_of len 0) (bound_of len m) (hash p.0)
+            (λ low high. omega (arith, more, high)))
             ∙ sym (le-leb (bound_of len m) (hash p.0) more)
       ])
 
   -- all hashes are from the first on
   pub all_from : (ps : List (K × V)) → filter (is_from 0) ps ≡ ps
-  all_from ps = filter_all (is_from 0) ps (each (λ p. le-leb (bound_of len 0) (hash p.0) (omega arith)) ps)
+  all_from ps = filter_all (is_from 0) ps (each (λ p. le-leb (bound_of len 0) (hash p.0)
+      (omega arith)) ps)
 
   -- and none is past the last
-  pub none_past : (m : ℕ) (ps : List (K × V)) → (len ≡ 0 → ps ≡ []) → (0 < len → IsLength len) → ((k : K) → hash k < 2 ^ 64) → len ≤ m
-        → filter (is_from m) ps ≡ []
+  pub none_past : (m : ℕ) (ps : List (K × V)) → (len ≡ 0 → ps ≡ []) → (0 < len → IsLength len)
+      → ((k : K) → hash k < 2 ^ 64) → len ≤ m
+      → filter (is_from m) ps ≡ []
   none_past m ps empty long fits reached = elim (cases_lt 0 len) [
     | inl some ↦
-        let top : 2 ^ 64 ≤ bound_of len m = subst (λ (k : ℕ). k ≤ bound_of len m) (all_hashes len (long some))
-            (mul-le-mul_right (interval_width len) reached) in
-        filter_none (is_from m) ps (each (λ p. lt-leb (bound_of len m) (hash p.0) (omega (arith, top, fits p.0))) ps)
+        let top : 2 ^ 64 ≤ bound_of len m = subst (λ (k : ℕ). k ≤ bound_of len m)
+        (all_hashes len (long some))
+        (mul-le-mul_right (interval_width len) reached) in
+        filter_none (is_from m) ps (each (λ p. lt-leb (bound_of len m) (hash p.0)
+        (omega (arith, top, fits p.0))) ps)
     | inr none ↦
         let is : len ≡ 0 = omega (arith, none) in
         rw (empty is) refl

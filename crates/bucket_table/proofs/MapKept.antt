@@ -1,5 +1,22 @@
 -- The map of two arrays, where the pairs of a bucket move on.
-use Rattle.std.proofs.Common.{ℕ, ◌≡◌, ap, ◌∙◌, subst, Bool, None, Result, Ok, Err, OnOk, OnErr, List, ◌++◌, map, arith}
+use Rattle.std.proofs.Common.{
+  ℕ,
+  ◌≡◌,
+  ap,
+  ◌∙◌,
+  subst,
+  Bool,
+  None,
+  Result,
+  Ok,
+  Err,
+  OnOk,
+  OnErr,
+  List,
+  ◌++◌,
+  map,
+  arith,
+}
 use Rattle.std.specs.Cmp.{IsEquivalence}
 use Rattle.std.specs.List.{IsDistinct}
 use Rattle.std.specs.List.Sorted.{IsPermutation}
@@ -14,36 +31,56 @@ use Rattle.bucket_table.specs.Rehashing.{IsUnmoved, KeepsArrays, RelocatesAt}
 use Rattle.bucket_table.proofs.Relocating.{entries_among-kept}
 
 module _ {K V : Type 0} where
-
   pub pairs_kept : (xs ys : List ((K × V) × ℕ)) → IsPermutation xs ys
       → IsPermutation (map (λ (e : (K × V) × ℕ). e.0) xs) (map (λ (e : (K × V) × ℕ). e.0) ys)
   pairs_kept xs ys moved = IsPermutation-map (λ (e : (K × V) × ℕ). e.0) xs ys moved
 
   -- the arrays are one map still
-  pub one_map_kept : (eq : K → K → Bool) → IsEquivalence eq → (hash : K → ℕ) (old new : ArraysView K V) → IsOneMap eq hash old → KeepsArrays old new → ArePlaced hash new
+  pub one_map_kept : (eq : K → K → Bool) → IsEquivalence eq
+      → (hash : K → ℕ) (old new : ArraysView K V) → IsOneMap eq hash old → KeepsArrays old new
+      → ArePlaced hash new
       → IsOneMap eq hash new
   one_map_kept eq laws hash old new one kept placed = record {
-    distinct = IsDistinct-IsPermutation eq laws.symm _ _ (IsPermutation-map (λ (p : K × V). p.0) _ _ (pairs_kept (entries_of old) (entries_of new) kept.pairs)) one.distinct;
+    distinct = IsDistinct-IsPermutation eq laws.symm _ _
+        (IsPermutation-map (λ (p : K × V). p.0) _ _ (pairs_kept (entries_of old) (entries_of new)
+        kept.pairs)) one.distinct;
     placed = placed;
   }
 
-  pub map_kept : (old new : ArraysView K V) → KeepsArrays old new → IsPermutation (pairs_of old) (pairs_of new)
+  pub map_kept : (old new : ArraysView K V) → KeepsArrays old new
+      → IsPermutation (pairs_of old) (pairs_of new)
   map_kept old new kept = pairs_kept (entries_of old) (entries_of new) kept.pairs
 
   -- done or refused, a move keeps the map
-  pub kept_of : {A E : Type 0} (r : Result A E) (index : ℕ) (old new : ArraysView K V) → OnOk r (RelocatesAt index old new) → OnErr r (IsUnmoved old new) → KeepsArrays old new
+  pub kept_of : {A E : Type 0} (r : Result A E) (index : ℕ) (old new : ArraysView K V)
+      → OnOk r (RelocatesAt index old new) → OnErr r (IsUnmoved old new) → KeepsArrays old new
   kept_of (Ok x) index old new done refused = done.kept
   kept_of (Err e) index old new done refused = refused.kept
 
 module _ {K V H : Type 0} where
-
   -- what a call that keeps the pairs and the capacities leaves of the map
-  pub state_seen : (kind : ℕ) (t s : TableView K V H) (new : ArraysView K V) → t ≡ s → KeepsMap t.arrays new → KeepsPairs (state_of kind s) (state_of kind (record { hasher = t.hasher; arrays = new }))
+  pub state_seen : (kind : ℕ) (t s : TableView K V H) (new : ArraysView K V) → t ≡ s
+      → KeepsMap t.arrays new → KeepsPairs (state_of kind s)
+      (state_of kind (record { hasher = t.hasher; arrays = new }))
   state_seen kind t s new is kept =
-      subst (λ (z : TableView K V H). KeepsPairs (state_of kind z) (state_of kind (record { hasher = t.hasher; arrays = new }))) is (record {
+      subst (λ (z : TableView K V H). KeepsPairs (state_of kind z)
+      (state_of kind (record { hasher = t.hasher; arrays = new }))) is (record {
         pairs = pairs_kept (entries_of t.arrays) (entries_of new) kept.pairs;
-        others = ap (λ (n : ℕ). record { kind = kind; hasher = t.hasher; minimum = n; maximum = new.maximum; pairs = pairs_of new }) kept.minimum
-            ∙ ap (λ (n : ℕ). record { kind = kind; hasher = t.hasher; minimum = t.arrays.minimum; maximum = n; pairs = pairs_of new }) kept.maximum;
+        others = ap (λ (n : ℕ). record {
+          kind = kind;
+          hasher = t.hasher;
+          minimum = n;
+          maximum =
+              new.maximum;
+          pairs = pairs_of new;
+        }) kept.minimum
+            ∙ ap (λ (n : ℕ). record {
+              kind = kind;
+              hasher = t.hasher;
+              minimum = t.arrays.minimum;
+              maximum = n;
+              pairs = pairs_of new;
+            }) kept.maximum;
       })
 
 module _ {K V H : Type 0} where
@@ -58,16 +95,25 @@ module _ {K V H : Type 0} where
   maximum_kept a b keeps = ap (λ (m : MapState K V H). m.maximum) keeps.others
 
 module _ {K V : Type 0} where
-  pub one_map_found : (eq : K → K → Bool) → IsEquivalence eq → (hash : K → ℕ) (old new : ArraysView K V) → IsOneMap eq hash old → KeepsMap old new → ArePlaced hash new → IsOneMap eq hash new
+  pub one_map_found : (eq : K → K → Bool) → IsEquivalence eq
+      → (hash : K → ℕ) (old new : ArraysView K V) → IsOneMap eq hash old → KeepsMap old new
+      → ArePlaced hash new → IsOneMap eq hash new
   one_map_found eq laws hash old new one kept placed = record {
-    distinct = IsDistinct-IsPermutation eq laws.symm _ _ (IsPermutation-map (λ (p : K × V). p.0) _ _ (pairs_kept (entries_of old) (entries_of new) kept.pairs)) one.distinct;
+    distinct = IsDistinct-IsPermutation eq laws.symm _ _
+        (IsPermutation-map (λ (p : K × V). p.0) _ _ (pairs_kept (entries_of old) (entries_of new)
+        kept.pairs)) one.distinct;
     placed = placed;
   }
 
 module _ {K V : Type 0} where
   -- without an array no pair stands anywhere
   pub nothing_kept : (eq : K → K → Bool) (hash : K → ℕ) (minimum maximum : ℕ)
-      → IsOneMap {V = V} eq hash (record { minimum = minimum; maximum = maximum; current = None; rehash = None })
+      → IsOneMap {V = V} eq hash (record {
+        minimum = minimum;
+        maximum = maximum;
+        current = None;
+        rehash = None;
+      })
   unfolding IsDistinct
   nothing_kept eq hash minimum maximum = record {
     distinct = tt;
@@ -88,9 +134,30 @@ module _ {K V H : Type 0} (kind : ℕ) (t s : TableView K V H) (hasher : s.hashe
   pub others_than_pairs : s.arrays.minimum ≡ t.arrays.minimum → s.arrays.maximum ≡ t.arrays.maximum
       → state_of kind s ≡ record (state_of kind t) { pairs = pairs_of s.arrays }
   others_than_pairs minimum maximum =
-      ap (λ (h : H). record { kind = kind; hasher = h; minimum = s.arrays.minimum; maximum = s.arrays.maximum; pairs = pairs_of s.arrays }) hasher
-      ∙ ap (λ (n : ℕ). record { kind = kind; hasher = t.hasher; minimum = n; maximum = s.arrays.maximum; pairs = pairs_of s.arrays }) minimum
-      ∙ ap (λ (n : ℕ). record { kind = kind; hasher = t.hasher; minimum = t.arrays.minimum; maximum = n; pairs = pairs_of s.arrays }) maximum
+      ap (λ (h : H). record {
+        kind = kind;
+        hasher = h;
+        minimum = s.arrays.minimum;
+        maximum =
+            s.arrays.maximum;
+        pairs = pairs_of s.arrays;
+      }) hasher
+      ∙ ap (λ (n : ℕ). record {
+        kind = kind;
+        hasher = t.hasher;
+        minimum = n;
+        maximum =
+            s.arrays.maximum;
+        pairs = pairs_of s.arrays;
+      }) minimum
+      ∙ ap (λ (n : ℕ). record {
+        kind = kind;
+        hasher = t.hasher;
+        minimum = t.arrays.minimum;
+        maximum
+            = n;
+        pairs = pairs_of s.arrays;
+      }) maximum
 
   -- a table keeps its map
   pub state_kept : KeepsArrays t.arrays s.arrays → KeepsPairs (state_of kind t) (state_of kind s)

@@ -1,5 +1,32 @@
 -- The law of one map, and the map itself, where one bucket of one side changes.
-use Rattle.std.proofs.Common.{ℕ, ◌<◌, ◌≡◌, ◌%◌, Bool, true, false, Option, Some, None, List, [], ◌∷◌, ◌++◌, length, map, set, get_or, refl, sym, ap, subst, ◌∙◌, arith, append-nil, length-set}
+use Rattle.std.proofs.Common.{
+  ℕ,
+  ◌<◌,
+  ◌≡◌,
+  ◌%◌,
+  Bool,
+  true,
+  false,
+  Option,
+  Some,
+  None,
+  List,
+  [],
+  ◌∷◌,
+  ◌++◌,
+  length,
+  map,
+  set,
+  get_or,
+  refl,
+  sym,
+  ap,
+  subst,
+  ◌∙◌,
+  arith,
+  append-nil,
+  length-set,
+}
 use Rattle.std.specs.Cmp.{IsEquivalence}
 use Rattle.std.specs.List.{All, IsDistinct}
 use Rattle.std.specs.List.Sorted.{IsPermutation}
@@ -28,65 +55,88 @@ use Rattle.bucket_table.proofs.SideChanges.{Exchanges, buckets_on-arrays_with, h
 
 module _ {K V : Type 0} (eq : K → K → Bool) (laws : IsEquivalence eq) where
   -- distinct keys, and one more
-  pub distinct_added : (m n : List (K × V)) (p : K × V) → IsDistinct eq (map (λ (q : K × V). q.0) m) → IsAbsent eq p.0 m
+  pub distinct_added : (m n : List (K × V)) (p : K × V) → IsDistinct eq (map (λ (q : K × V). q.0) m)
+      → IsAbsent eq p.0 m
       → IsPermutation (p ∷ m) n → IsDistinct eq (map (λ (q : K × V). q.0) n)
   distinct_added m n p one none moved =
-      let other : All (λ (q : K × V). eq p.0 q.0 ≡ false) m = λ k d below. laws.symm p.0 (get_or m k d).0 ∙ none k d below in
-      IsDistinct-IsPermutation eq laws.symm _ _ (IsPermutation-map (λ (q : K × V). q.0) (p ∷ m) n moved)
-      (IsDistinct-cons eq p.0 (map (λ (q : K × V). q.0) m) (recursion_from_All (λ k. eq p.0 k ≡ false) (map (λ (q : K × V). q.0) m) (All-map (λ k. eq p.0 k ≡ false) (λ (q : K × V). q.0) m other)) one)
+      let other : All (λ (q : K × V). eq p.0 q.0 ≡ false) m = λ k d below. laws.symm p.0
+      (get_or m k d).0 ∙ none k d below in
+      IsDistinct-IsPermutation eq laws.symm _ _ (IsPermutation-map (λ (q : K × V). q.0) (p ∷ m) n
+      moved)
+      (IsDistinct-cons eq p.0 (map (λ (q : K × V). q.0) m)
+      (recursion_from_All (λ k. eq p.0 k ≡ false) (map (λ (q : K × V). q.0) m)
+      (All-map (λ k. eq p.0 k ≡ false) (λ (q : K × V). q.0) m other)) one)
 
   -- distinct keys, and one less
-  pub distinct_taken : (m n : List (K × V)) (p : K × V) → IsDistinct eq (map (λ (q : K × V). q.0) m) → IsPermutation m (p ∷ n)
+  pub distinct_taken : (m n : List (K × V)) (p : K × V) → IsDistinct eq (map (λ (q : K × V). q.0) m)
+      → IsPermutation m (p ∷ n)
       → IsDistinct eq (map (λ (q : K × V). q.0) n)
   distinct_taken m n p one moved =
-      IsDistinct-tail eq p.0 (map (λ (q : K × V). q.0) n) (IsDistinct-IsPermutation eq laws.symm _ _ (IsPermutation-map (λ (q : K × V). q.0) m (p ∷ n) moved) one)
+      IsDistinct-tail eq p.0 (map (λ (q : K × V). q.0) n)
+      (IsDistinct-IsPermutation eq laws.symm _ _ (IsPermutation-map (λ (q : K × V). q.0) m (p ∷ n)
+      moved) one)
 
   -- distinct keys, in another order
-  pub distinct_kept : (m n : List (K × V)) → IsDistinct eq (map (λ (q : K × V). q.0) m) → IsPermutation m n → IsDistinct eq (map (λ (q : K × V). q.0) n)
-  distinct_kept m n one moved = IsDistinct-IsPermutation eq laws.symm _ _ (IsPermutation-map (λ (q : K × V). q.0) m n moved) one
+  pub distinct_kept : (m n : List (K × V)) → IsDistinct eq (map (λ (q : K × V). q.0) m)
+      → IsPermutation m n → IsDistinct eq (map (λ (q : K × V). q.0) n)
+  distinct_kept m n one moved = IsDistinct-IsPermutation eq laws.symm _ _
+      (IsPermutation-map (λ (q : K × V). q.0) m n moved) one
 
 -- the changes of one bucket that a locked bucket makes
 module _ {K V : Type 0} (a : ArraysView K V) (side : Bool) (i : ℕ) (within : i < length (buckets_on a side)) where
   abbrev bucket : BucketView K V
   bucket = bucket_at (buckets_on a side) i
 
-  pub inserts : (kind : ℕ) (keeps : ℕ → Bool) (p : K × V) (byte : ℕ) → Exchanges a side i ((p, byte) ∷ []) [] (slots_after_insertion kind keeps bucket p byte)
+  pub inserts : (kind : ℕ) (keeps : ℕ → Bool) (p : K × V) (byte : ℕ)
+      → Exchanges a side i ((p, byte) ∷ []) [] (slots_after_insertion kind keeps bucket p byte)
   inserts kind keeps p byte = record {
     within = within;
     moved = entries_in-slots_after_insertion kind keeps bucket p byte;
     alive = killed-slots_after_insertion kind keeps bucket p byte;
   }
 
-  pub removes : (at : Place) (p : K × V) → live_pair (slot_in bucket at) ≡ Some p → (byte : ℕ) × Exchanges a side i [] ((p, byte) ∷ []) (slots_without bucket at)
+  pub removes : (at : Place) (p : K × V) → live_pair (slot_in bucket at) ≡ Some p → (byte : ℕ)
+      × Exchanges a side i [] ((p, byte) ∷ []) (slots_without bucket at)
   removes at p here =
       let out = entries_in-slots_without bucket at p here in
       (out.0, record { within = within; moved = out.1; alive = killed-slots_without bucket at })
 
-  pub marks : (at : Place) (epoch : ℕ) (p : K × V) → live_pair (slot_in bucket at) ≡ Some p → (byte : ℕ) × Exchanges a side i [] ((p, byte) ∷ []) (slots_marked bucket at epoch)
+  pub marks : (at : Place) (epoch : ℕ) (p : K × V) → live_pair (slot_in bucket at) ≡ Some p
+      → (byte : ℕ) × Exchanges a side i [] ((p, byte) ∷ []) (slots_marked bucket at epoch)
   marks at epoch p here =
       let out = entries_in-slots_marked bucket at epoch p here in
       (out.0, record { within = within; moved = out.1; alive = killed-slots_marked bucket at epoch })
 
-  pub evicts : (p : K × V) → live_pair (slot_at bucket.own (slot_to_evict bucket)) ≡ Some p → (byte : ℕ) × Exchanges a side i [] ((p, byte) ∷ []) (slots_evicted bucket)
+  pub evicts : (p : K × V) → live_pair (slot_at bucket.own (slot_to_evict bucket)) ≡ Some p
+      → (byte : ℕ) × Exchanges a side i [] ((p, byte) ∷ []) (slots_evicted bucket)
   evicts p here =
       let out = entries_in-slots_evicted bucket p here in
       (out.0, record { within = within; moved = out.1; alive = refl })
 
-  pub touches : (keeps : Bool) (at : Place) → Exchanges a side i [] [] (slots_touched keeps bucket at)
+  pub touches : (keeps : Bool) (at : Place) → Exchanges a side i [] []
+      (slots_touched keeps bucket at)
   touches keeps at = record { within = within; moved = IsPermutation-refl (entries_in bucket); alive = refl }
 
 module _ {K V : Type 0} where
-  set_again_current : (array : Option (List (BucketView K V))) (i : ℕ) (b c : BucketView K V) → array_with (array_with array i b) i c ≡ array_with array i c
+  set_again_current : (array : Option (List (BucketView K V))) (i : ℕ) (b c : BucketView K V)
+      → array_with (array_with array i b) i c ≡ array_with array i c
   set_again_current None i b c = refl
   set_again_current (Some bs) i b c = ap (λ (l : List (BucketView K V)). Some l) (set-set bs i b c)
 
-  set_again_old : (rehash : Option (RehashView K V)) (i : ℕ) (b c : BucketView K V) → rehash_with (rehash_with rehash i b) i c ≡ rehash_with rehash i c
+  set_again_old : (rehash : Option (RehashView K V)) (i : ℕ) (b c : BucketView K V)
+      → rehash_with (rehash_with rehash i b) i c ≡ rehash_with rehash i c
   set_again_old None i b c = refl
-  set_again_old (Some r) i b c = ap (λ (l : List (BucketView K V)). Some (record { buckets = l; tickets = r.tickets })) (set-set r.buckets i b c)
+  set_again_old (Some r) i b c = ap (λ (l : List (BucketView K V)). Some
+      (record { buckets = l; tickets = r.tickets })) (set-set r.buckets i b c)
 
-  set_again : (a : ArraysView K V) (side : Bool) (i : ℕ) (b c : BucketView K V) → arrays_with (arrays_with a side i b) side i c ≡ arrays_with a side i c
-  set_again a true i b c = ap (λ (o : Option (RehashView K V)). record { minimum = a.minimum; maximum = a.maximum; current = a.current; rehash = o }) (set_again_old a.rehash i b c)
-  set_again a false i b c = ap (λ (o : Option (List (BucketView K V))). record { minimum = a.minimum; maximum = a.maximum; current = o; rehash = a.rehash }) (set_again_current a.current i b c)
+  set_again : (a : ArraysView K V) (side : Bool) (i : ℕ) (b c : BucketView K V)
+      → arrays_with (arrays_with a side i b) side i c ≡ arrays_with a side i c
+  set_again a true i b c = ap (λ (o : Option (RehashView K V)). record
+      { minimum = a.minimum; maximum = a.maximum; current = a.current; rehash = o })
+      (set_again_old a.rehash i b c)
+  set_again a false i b c = ap (λ (o : Option (List (BucketView K V))). record
+      { minimum = a.minimum; maximum = a.maximum; current = o; rehash = a.rehash })
+      (set_again_current a.current i b c)
 
   -- the arrays without the pairs of a bucket
   abbrev without_bucket : ArraysView K V → Bool → ℕ → ArraysView K V
@@ -96,30 +146,42 @@ module _ {K V : Type 0} where
     pub before : IsPermutation (pairs_of a) (pairs_in (bucket_at (buckets_on a side) i) ++ pairs_of (without_bucket a side i))
     pub after : IsPermutation (pairs_in b ++ pairs_of (without_bucket a side i)) (pairs_of (arrays_with a side i b))
 
-  only_pairs : (b : BucketView K V) (rest : List (K × V)) → map (λ (e : (K × V) × ℕ). e.0) (entries_in b) ++ rest ≡ pairs_in b ++ rest
+  only_pairs : (b : BucketView K V) (rest : List (K × V))
+      → map (λ (e : (K × V) × ℕ). e.0) (entries_in b) ++ rest ≡ pairs_in b ++ rest
   only_pairs b rest = ap (λ (l : List (K × V)). l ++ rest) (map-entries_in b)
 
   -- the pairs of a bucket apart from the others, and those of another in its place
-  pub splits : (a : ArraysView K V) (side : Bool) (i : ℕ) (b : BucketView K V) → i < length (buckets_on a side) → Splits a side i b
+  pub splits : (a : ArraysView K V) (side : Bool) (i : ℕ) (b : BucketView K V)
+      → i < length (buckets_on a side) → Splits a side i b
   splits a side i b within =
       let old = bucket_at (buckets_on a side) i in
       let empty = without_bucket a side i in
-      let is : buckets_on empty side ≡ set (buckets_on a side) i empty_bucket = buckets_on-arrays_with a side i empty_bucket in
-      let there : bucket_at (buckets_on empty side) i ≡ empty_bucket = rw is (get_or-set_same (buckets_on a side) i empty_bucket empty_bucket within) in
+      let is : buckets_on empty side ≡ set (buckets_on a side) i empty_bucket =
+      buckets_on-arrays_with a side i empty_bucket in
+      let there : bucket_at (buckets_on empty side) i ≡ empty_bucket = rw is
+      (get_or-set_same (buckets_on a side) i empty_bucket empty_bucket within) in
       let long : i < length (buckets_on empty side) = rw (is, length-set) within in
-      let none : entries_in (bucket_at (buckets_on empty side) i) ≡ [] = ap (λ (c : BucketView K V). entries_in c) there in
+      let none : entries_in (bucket_at (buckets_on empty side) i) ≡ [] = ap
+      (λ (c : BucketView K V). entries_in c) there in
       let out : IsPermutation (entries_in old) (entries_in old ++ []) = subst (IsPermutation (entries_in old)) (sym (append-nil (entries_in old))) (IsPermutation-refl (entries_in old)) in
       let come : IsPermutation (entries_in b ++ entries_in (bucket_at (buckets_on empty side) i)) (entries_in b) = rw (none, append-nil) (IsPermutation-refl (entries_in b)) in
       record {
         before = subst (IsPermutation (pairs_of a)) (only_pairs old (pairs_of empty)) (pairs_exchanged a side i [] (entries_in old) empty_bucket within out);
-        after = subst (λ (z : ArraysView K V). IsPermutation (pairs_in b ++ pairs_of empty) (pairs_of z)) (set_again a side i empty_bucket b)
-            (subst (λ (l : List (K × V)). IsPermutation l (pairs_of (arrays_with empty side i b))) (only_pairs b (pairs_of empty)) (pairs_exchanged empty side i (entries_in b) [] b long come));
+        after = subst (λ (z : ArraysView K V). IsPermutation (pairs_in b ++ pairs_of empty)
+            (pairs_of z)) (set_again a side i empty_bucket b)
+            (subst (λ (l : List (K × V)). IsPermutation l (pairs_of (arrays_with empty side i b)))
+            (only_pairs b (pairs_of empty)) (pairs_exchanged empty side i (entries_in b) [] b long
+            come));
       }
 
-module _ {K V : Type 0} (eq : K → K → Bool) (laws : IsEquivalence eq) (hash : K → ℕ) (a : ArraysView K V) (side : Bool) (i : ℕ) (one : IsOneMap eq hash a) (locked : IsLocked a side i) where
+module _ {K V : Type 0} (eq : K → K → Bool) (laws : IsEquivalence eq) (hash : K → ℕ)
+    (a : ArraysView K V) (side : Bool) (i : ℕ) (one : IsOneMap eq hash a)
+    (locked : IsLocked a side i) where
   -- all of the law but that keys are distinct
-  one_map_after : (came out : List ((K × V) × ℕ)) (b : BucketView K V) → Exchanges a side i came out b → All (IsEntryHome hash (length (buckets_on a side)) i) came
-      → IsDistinct eq (map (λ (p : K × V). p.0) (pairs_of (arrays_with a side i b))) → IsOneMap eq hash (arrays_with a side i b)
+  one_map_after : (came out : List ((K × V) × ℕ)) (b : BucketView K V)
+      → Exchanges a side i came out b → All (IsEntryHome hash (length (buckets_on a side)) i) came
+      → IsDistinct eq (map (λ (p : K × V). p.0) (pairs_of (arrays_with a side i b)))
+      → IsOneMap eq hash (arrays_with a side i b)
   one_map_after came out b x own distinct = record {
     distinct = distinct;
     placed = placed_change hash a side i b one.placed locked (homes_moved hash (length (buckets_on a side)) i came out (bucket_at (buckets_on a side) i) b x.moved (homes_on hash a side i one.placed x.within) own) x.alive;
@@ -130,7 +192,8 @@ module _ {K V : Type 0} (eq : K → K → Bool) (laws : IsEquivalence eq) (hash 
     pub pairs : IsPermutation (p ∷ pairs_of a) (pairs_of (arrays_with a side i b))
 
   -- one entry more
-  pub added : (p : K × V) (byte : ℕ) (b : BucketView K V) → Exchanges a side i ((p, byte) ∷ []) [] b → IsAbsent eq p.0 (pairs_of a)
+  pub added : (p : K × V) (byte : ℕ) (b : BucketView K V) → Exchanges a side i ((p, byte) ∷ []) [] b
+      → IsAbsent eq p.0 (pairs_of a)
       → IsHome (length (buckets_on a side)) (hash p.0) i → byte ≡ hash p.0 % 256 → IsAdded p b
   added p byte b x none home own =
       let P : (K × V) × ℕ → Type 0 = IsEntryHome hash (length (buckets_on a side)) i in
@@ -146,7 +209,8 @@ module _ {K V : Type 0} (eq : K → K → Bool) (laws : IsEquivalence eq) (hash 
     pub pairs : IsPermutation (pairs_of a) (p ∷ pairs_of (arrays_with a side i b))
 
   -- one entry less
-  pub taken : (p : K × V) (byte : ℕ) (b : BucketView K V) → Exchanges a side i [] ((p, byte) ∷ []) b → IsTaken p b
+  pub taken : (p : K × V) (byte : ℕ) (b : BucketView K V) → Exchanges a side i [] ((p, byte) ∷ []) b
+      → IsTaken p b
   taken p byte b x =
       let pairs : IsPermutation (pairs_of a) (p ∷ pairs_of (arrays_with a side i b)) = pairs_exchanged a side i [] ((p, byte) ∷ []) b x.within x.moved in
       record {
@@ -175,7 +239,8 @@ module _ {K V : Type 0} (eq : K → K → Bool) (laws : IsEquivalence eq) (hash 
     pub before : IsPermutation (pairs_of a) (p ∷ rest)
     pub after : IsPermutation ((p.0, value) ∷ rest) (pairs_of (arrays_with a side i b))
 
-  pub written : (p : K × V) (value : V) (at : Place) → live_pair (slot_in (bucket_at (buckets_on a side) i) at) ≡ Some p
+  pub written : (p : K × V) (value : V) (at : Place) → live_pair
+      (slot_in (bucket_at (buckets_on a side) i) at) ≡ Some p
       → IsWritten p value (bucket_with_value (bucket_at (buckets_on a side) i) at value)
   written p value at here =
       let old = bucket_at (buckets_on a side) i in
@@ -198,7 +263,8 @@ module _ {K V : Type 0} (eq : K → K → Bool) (laws : IsEquivalence eq) (hash 
       IsPermutation-trans _ _ _ apart.before (IsPermutation-append_left others (pairs_in old) (p ∷ map pair r.rest) (rw (← map-entries_in old) (IsPermutation-map pair (entries_in old) (e ∷ r.rest) r.before_is))) in
       let after : IsPermutation ((p.0, value) ∷ rest) (pairs_of (arrays_with a side i new)) =
       IsPermutation-trans _ _ _ (IsPermutation-append_left others ((p.0, value) ∷ map pair r.rest) (pairs_in new) (rw (← map-entries_in new) (IsPermutation-map pair (f ∷ r.rest) (entries_in new) r.after_is))) apart.after in
-      let keys : IsDistinct eq (map (λ (q : K × V). q.0) ((p.0, value) ∷ rest)) = distinct_kept eq laws (pairs_of a) (p ∷ rest) one.distinct before in
+      let keys : IsDistinct eq (map (λ (q : K × V). q.0) ((p.0, value) ∷ rest)) = distinct_kept eq
+      laws (pairs_of a) (p ∷ rest) one.distinct before in
       record {
         one_map = one_map_after (f ∷ []) (e ∷ []) new x (All-cons P f [] own (All-nil P)) (distinct_kept eq laws ((p.0, value) ∷ rest) _ keys after);
         alive = x.alive;

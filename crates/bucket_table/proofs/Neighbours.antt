@@ -1,5 +1,23 @@
 -- Whether the buckets near an index are crowded or deserted, by sums that saturate.
-use Rattle.std.proofs.Common.{ℕ, ◌+◌, ◌*◌, ◌/◌, ◌-◌, ◌%◌, ◌^◌, ◌<◌, ◌≤◌, ◌≡◌, List, length, min, ⊎_elim, sym, subst, arith}
+use Rattle.std.proofs.Common.{
+  ℕ,
+  ◌+◌,
+  ◌*◌,
+  ◌/◌,
+  ◌-◌,
+  ◌%◌,
+  ◌^◌,
+  ◌<◌,
+  ◌≤◌,
+  ◌≡◌,
+  List,
+  length,
+  min,
+  ⊎_elim,
+  sym,
+  subst,
+  arith,
+}
 use Rattle.std.proofs.Math.Nat.{mod-lt}
 use Rattle.std.proofs.lemmas.Bool.{cases_lt}
 use Rattle.bucket_slots.specs.Sampling.{IsSmallSample}
@@ -17,7 +35,8 @@ small_is_one len m n (i, i_large, i_least) (j, j_large, j_least) =
     let same : i ≡ j = exponent_is_one i j (large_is_one len (2 ^ i) (2 ^ j) i_large j_large) in
     least_is_one (1 + j) m n (subst (λ (k : ℕ). IsLeastPowerOfTwo (1 + k) m) same i_least) j_least
 
-module _ (counts : List ℕ) (start size offset live : ℕ) (summed : live ≡ min (counted counts start (offset + 1)) (2 ^ 64 - 1)) (few : size ≤ 2 ^ 56) where
+module _ (counts : List ℕ) (start size offset live : ℕ) (summed : live ≡ min
+    (counted counts start (offset + 1)) (2 ^ 64 - 1)) (few : size ≤ 2 ^ 56) where
   -- one bucket more, and still not too full
   pub not_full_more : ((size * 32 / 16) * 13 < live → ⊥)
       → ((front : ℕ) → front ≤ offset → IsTooFull (32 * size) (counted counts start front) → ⊥)
@@ -42,40 +61,52 @@ module _ (counts : List ℕ) (start size offset live : ℕ) (summed : live ≡ m
       (cases_lt front (offset + 1))
 
 -- an empty sum is too small
-pub none_counted : (counts : List ℕ) (start size front : ℕ) → 0 < size → front ≤ 0 → IsTooEmpty (32 * size) (counted counts start front)
+pub none_counted : (counts : List ℕ) (start size front : ℕ) → 0 < size → front ≤ 0
+    → IsTooEmpty (32 * size) (counted counts start front)
 none_counted counts start size front some le =
     let none : 0 ≡ front = omega arith in
     subst (λ (n : ℕ). IsTooEmpty (32 * size) (counted counts start n)) none (omega arith)
 
 module _ (counts : List ℕ) (index size : ℕ) (small : IsSmallSample (length counts) size) where
-  pub crowded : (front live : ℕ) → front ≤ size → live ≡ min (counted counts (index % size) front) (2 ^ 64 - 1) → (size * 32 / 16) * 13 < live → IsCrowded counts index
+  pub crowded : (front live : ℕ) → front ≤ size → live ≡ min (counted counts (index % size) front)
+      (2 ^ 64 - 1) → (size * 32 / 16) * 13 < live → IsCrowded counts index
   crowded front live le summed full = (size, small, (front, le, omega arith))
 
-  pub not_crowded : ((front : ℕ) → front ≤ size → IsTooFull (32 * size) (counted counts (index % size) front) → ⊥) → IsCrowded counts index → ⊥
+  pub not_crowded : ((front : ℕ) → front ≤ size → IsTooFull (32 * size)
+      (counted counts (index % size) front) → ⊥) → IsCrowded counts index → ⊥
   not_crowded none (other, other_small, (front, le, full)) =
       let same : other ≡ size = small_is_one (length counts) other size other_small small in
-      none front (subst (λ (n : ℕ). front ≤ n) same le) (subst (λ (n : ℕ). IsTooFull (32 * n) (counted counts (index % n) front)) same full)
+      none front (subst (λ (n : ℕ). front ≤ n) same le) (subst
+      (λ (n : ℕ). IsTooFull (32 * n) (counted counts (index % n) front)) same full)
 
-  pub not_deserted : (front live : ℕ) → front ≤ size → live ≡ min (counted counts (index % size) front) (2 ^ 64 - 1) → (live < size * 32 / 8 → ⊥) → IsDeserted counts index → ⊥
+  pub not_deserted : (front live : ℕ) → front ≤ size → live ≡ min
+      (counted counts (index % size) front) (2 ^ 64 - 1) → (live < size * 32 / 8 → ⊥)
+      → IsDeserted counts index → ⊥
   not_deserted front live le summed none (other, other_small, all) =
       let same : size ≡ other = sym (small_is_one (length counts) other size other_small small) in
-      let empty = subst (λ (n : ℕ). IsTooEmpty (32 * n) (counted counts (index % n) front)) (sym same) (all front (subst (λ (n : ℕ). front ≤ n) same le)) in
+      let empty = subst (λ (n : ℕ). IsTooEmpty (32 * n) (counted counts (index % n) front))
+      (sym same) (all front (subst (λ (n : ℕ). front ≤ n) same le)) in
       none (omega arith)
 
 -- the small sample from a bucket's place in it is within the array
-pub neighbour_within : (len index size offset : ℕ) → 2 ≤ len → IsSmallSample len size → offset < size → index % size + offset < len
+pub neighbour_within : (len index size offset : ℕ) → 2 ≤ len → IsSmallSample len size
+    → offset < size → index % size + offset < len
 neighbour_within len index size offset several small below =
     let (some, half) = small_within len size several small in
     let rest : index % size < size = mod-lt index some in
     omega arith
 
 module _ {K V : Type 0} (buckets : List (BucketView K V)) where
-  pub small_counts : (size : ℕ) → IsSmallSample (length buckets) size → IsSmallSample (length (live_counts buckets)) size
-  small_counts size small = subst (λ (n : ℕ). IsSmallSample n size) (sym (length-live_counts buckets)) small
+  pub small_counts : (size : ℕ) → IsSmallSample (length buckets) size
+      → IsSmallSample (length (live_counts buckets)) size
+  small_counts size small = subst (λ (n : ℕ). IsSmallSample n size)
+      (sym (length-live_counts buckets)) small
 
   -- one bucket more of a sum that saturates
-  pub summed_more : (start offset live more after : ℕ) → start + offset < length buckets → live ≡ min (counted (live_counts buckets) start offset) (2 ^ 64 - 1)
-      → more ≡ live_len (bucket_at buckets (start + offset)) → after ≡ min (live + more) (2 ^ 64 - 1)
+  pub summed_more : (start offset live more after : ℕ) → start + offset < length buckets
+      → live ≡ min (counted (live_counts buckets) start offset) (2 ^ 64 - 1)
+      → more ≡ live_len (bucket_at buckets (start + offset))
+      → after ≡ min (live + more) (2 ^ 64 - 1)
       → after ≡ min (counted (live_counts buckets) start (offset + 1)) (2 ^ 64 - 1)
   summed_more start offset live more after within before here after_is =
       let long = length-live_counts buckets in

@@ -15,18 +15,31 @@ module _ {S K V : Type 0} (reads : S → BucketView K V → Bool → S → Type 
   -- a reader keeps all keys
   pub keeps_read : KeepsBuckets (reading reads)
   keeps_read f g lent left flag more last alive call =
-      subst (λ (b : BucketView K V). IsKeptBy lent b) (sym call.1) (record { gone = []; keys = IsPermutation-refl (keys_in lent); alive = alive })
+      subst (λ (b : BucketView K V). IsKeptBy lent b) (sym call.1)
+      (record { gone = []; keys = IsPermutation-refl (keys_in lent); alive = alive })
 
   -- it is lent a bucket, and the arrays stay
-  pub read_at : (arrays : ArraysView K V) (index : ℕ) (now next : S) (flag more : Bool) (seen : BucketView K V) → seen ≡ bucket_on arrays false index → reads now seen more next
+  pub read_at : (arrays : ArraysView K V) (index : ℕ) (now next : S) (flag more : Bool)
+      (seen : BucketView K V) → seen ≡ bucket_on arrays false index → reads now seen more next
       → IsLentAt S (reading reads) arrays index now flag more flag next arrays
-  read_at arrays index now next flag more seen is call =
-      (bucket_on arrays false index, (subst (λ (b : BucketView K V). reads now b more next) is call, refl, refl), sym (arrays_with-same arrays false index))
+  read_at arrays index now next flag more seen is call = (
+    bucket_on arrays false index,
+    (
+      subst (λ (b : BucketView K V). reads now b more next) is call,
+      refl,
+      refl,
+    ),
+    sym (arrays_with-same arrays false index),
+  )
 
 module _ {K V H : Type 0} where
   -- the table, seen as its parts
-  pub within_seen : (t s : TableView K V H) (index : ℕ) → t ≡ s → IsLocked s.arrays false index → index < length (buckets_of t.arrays.current)
-  within_seen t s index is locked = subst (λ (z : TableView K V H). index < length (buckets_of z.arrays.current)) (sym is) locked.within
+  pub within_seen : (t s : TableView K V H) (index : ℕ) → t ≡ s → IsLocked s.arrays false index
+      → index < length (buckets_of t.arrays.current)
+  within_seen t s index is locked = subst (λ (z : TableView K V H). index < length
+      (buckets_of z.arrays.current)) (sym is) locked.within
 
-  pub bucket_seen : (t s : TableView K V H) (index : ℕ) (b : BucketView K V) → t ≡ s → b ≡ bucket_on t.arrays false index → b ≡ bucket_on s.arrays false index
-  bucket_seen t s index b is same = subst (λ (z : TableView K V H). b ≡ bucket_on z.arrays false index) is same
+  pub bucket_seen : (t s : TableView K V H) (index : ℕ) (b : BucketView K V) → t ≡ s
+      → b ≡ bucket_on t.arrays false index → b ≡ bucket_on s.arrays false index
+  bucket_seen t s index b is same = subst (λ (z : TableView K V H). b ≡ bucket_on z.arrays false
+      index) is same

@@ -11,38 +11,67 @@ use Rattle.bucket_table.proofs.WriterSteps.{kept_made, placed_beside, resize_kee
 
 module _ {K V : Type 0} where
   -- the law says nothing of the minimum
-  pub placed_raised : (hash : K → ℕ) (t s : ArraysView K V) (least : ℕ) → t ≡ s → ArePlaced hash s → ArePlaced hash (with_minimum t least)
+  pub placed_raised : (hash : K → ℕ) (t s : ArraysView K V) (least : ℕ) → t ≡ s → ArePlaced hash s
+      → ArePlaced hash (with_minimum t least)
   placed_raised hash t s least is law =
       let here = subst (λ (a : ArraysView K V). ArePlaced hash a) (sym is) law in
       record { homes = here.homes; rehashed = here.rehashed }
 
-  pub one_map_raised : (eq : K → K → Bool) → IsEquivalence eq → (hash : K → ℕ) (old new : ArraysView K V) (least : ℕ) → IsOneMap eq hash old → KeepsMap (with_minimum old least) new → ArePlaced hash new
+  pub one_map_raised : (eq : K → K → Bool) → IsEquivalence eq
+      → (hash : K → ℕ) (old new : ArraysView K V) (least : ℕ) → IsOneMap eq hash old
+      → KeepsMap (with_minimum old least) new → ArePlaced hash new
       → IsOneMap eq hash new
   one_map_raised eq laws hash old new least one kept placed =
       one_map_found eq laws hash (with_minimum old least) new (record { distinct = one.distinct; placed = record { homes = one.placed.homes; rehashed = one.placed.rehashed } }) kept placed
 
 module _ {K V : Type 0} where
   -- a first array keeps the map
-  pub one_map_made : (eq : K → K → Bool) → IsEquivalence eq → (hash : K → ℕ) (old new : ArraysView K V) → IsOneMap eq hash old → (IsSome old.rehash → IsSome old.current) → MakesArray old new
+  pub one_map_made : (eq : K → K → Bool) → IsEquivalence eq
+      → (hash : K → ℕ) (old new : ArraysView K V) → IsOneMap eq hash old
+      → (IsSome old.rehash → IsSome old.current) → MakesArray old new
       → IsOneMap eq hash new
   one_map_made eq laws hash old new one beside made =
       one_map_found eq laws hash old new one (kept_made old new made) (placed_beside hash old new made beside one.placed)
 
 module _ {K V H : Type 0} where
   -- what a resize leaves of the map and of the bag
-  pub resized_seen : {E : Type 0} (kind : ℕ) (t s : TableView K V H) (new : ArraysView K V) (answer : Result Bool E) → t ≡ s → entries_of new ≡ entries_of t.arrays → ResizesByPlan t.arrays answer new
-      → KeepsPairs (state_of kind s) (state_of kind (record { hasher = t.hasher; arrays = new })) × KeepsBag s.arrays.rehash new.rehash
+  pub resized_seen : {E : Type 0} (kind : ℕ) (t s : TableView K V H) (new : ArraysView K V)
+      (answer : Result Bool E) → t ≡ s → entries_of new ≡ entries_of t.arrays
+      → ResizesByPlan t.arrays answer new
+      → KeepsPairs (state_of kind s) (state_of kind (record { hasher = t.hasher; arrays = new }))
+      × KeepsBag s.arrays.rehash new.rehash
   resized_seen kind t s new answer is same done =
-      let keeps = resize_keeps t.arrays new answer same done in
-      (state_seen kind t s new is keeps.0, subst (λ (z : TableView K V H). KeepsBag z.arrays.rehash new.rehash) is keeps.1)
+      let keeps = resize_keeps t.arrays new answer same done in (
+        state_seen kind t s new is keeps.0,
+        subst (λ (z : TableView K V H). KeepsBag z.arrays.rehash
+            new.rehash) is keeps.1,
+      )
 
-  pub raised_seen : (kind additional answer : ℕ) (t s : TableView K V H) (new : ArraysView K V) → t ≡ s → Reserves additional t.arrays answer new
-      → KeepsMap (with_minimum t.arrays (t.arrays.minimum + answer)) new → RaisesMinimum additional (state_of kind s) answer (state_of kind (record { hasher = t.hasher; arrays = new }))
+  pub raised_seen : (kind additional answer : ℕ) (t s : TableView K V H) (new : ArraysView K V)
+      → t ≡ s → Reserves additional t.arrays answer new
+      → KeepsMap (with_minimum t.arrays (t.arrays.minimum + answer)) new
+      → RaisesMinimum additional (state_of kind s) answer
+      (state_of kind (record { hasher = t.hasher; arrays = new }))
   raised_seen kind additional answer t s new is reserves kept =
-      subst (λ (z : TableView K V H). RaisesMinimum additional (state_of kind z) answer (state_of kind (record { hasher = t.hasher; arrays = new }))) is (record {
+      subst (λ (z : TableView K V H). RaisesMinimum additional (state_of kind z) answer
+      (state_of kind (record { hasher = t.hasher; arrays = new }))) is (record {
         too_much = λ much. (reserves.too_much much).0;
         raised = λ fits. (reserves.raised fits).0;
         pairs = pairs_kept (entries_of t.arrays) (entries_of new) kept.pairs;
-        others = ap (λ (n : ℕ). record { kind = kind; hasher = t.hasher; minimum = n; maximum = new.maximum; pairs = pairs_of new }) kept.minimum
-            ∙ ap (λ (n : ℕ). record { kind = kind; hasher = t.hasher; minimum = t.arrays.minimum + answer; maximum = n; pairs = pairs_of new }) kept.maximum;
+        others = ap (λ (n : ℕ). record {
+          kind = kind;
+          hasher = t.hasher;
+          minimum = n;
+          maximum =
+              new.maximum;
+          pairs = pairs_of new;
+        }) kept.minimum
+            ∙ ap (λ (n : ℕ). record {
+              kind = kind;
+              hasher = t.hasher;
+              minimum = t.arrays.minimum +
+                  answer;
+              maximum = n;
+              pairs = pairs_of new;
+            }) kept.maximum;
       })

@@ -1,5 +1,30 @@
 -- A bucket is gone through by a pointer, and what a test refuses is taken out.
-use Rattle.std.proofs.Common.{ℕ, ◌+◌, ◌-◌, ◌^◌, ◌≡◌, Bool, true, false, cond, not, Some, List, [], ◌∷◌, ◌++◌, length, filter, map, min, refl, sym, ap, ◌∙◌, arith}
+use Rattle.std.proofs.Common.{
+  ℕ,
+  ◌+◌,
+  ◌-◌,
+  ◌^◌,
+  ◌≡◌,
+  Bool,
+  true,
+  false,
+  cond,
+  not,
+  Some,
+  List,
+  [],
+  ◌∷◌,
+  ◌++◌,
+  length,
+  filter,
+  map,
+  min,
+  refl,
+  sym,
+  ap,
+  ◌∙◌,
+  arith,
+}
 use Rattle.std.specs.List.{AllByRecursion}
 use Rattle.std.specs.List.Sorted.{IsPermutation}
 use Rattle.std.specs.Option.{option_map}
@@ -16,11 +41,13 @@ use Rattle.bucket_table.proofs.Filters.{IsPermutation-filter}
 
 module _ {K V : Type 0} where
   -- the next slot is live, and one pair fewer is left once it is taken
-  pub next_live : (s : BucketView K V) (old new : Place) → MovesToNext s old new → is_live (slot_in s new) ≡ true
+  pub next_live : (s : BucketView K V) (old new : Place) → MovesToNext s old new
+      → is_live (slot_in s new) ≡ true
   next_live s old new m = live_from_pair (slot_in s new) m.pair m.here
 
   -- entries up to order are pairs up to order
-  pub pairs_moved : (xs : List ((K × V) × ℕ)) (s t : BucketView K V) → IsPermutation (entries_in s) (xs ++ entries_in t)
+  pub pairs_moved : (xs : List ((K × V) × ℕ)) (s t : BucketView K V)
+      → IsPermutation (entries_in s) (xs ++ entries_in t)
       → IsPermutation (pairs_in s) (map (λ (e : (K × V) × ℕ). e.0) xs ++ pairs_in t)
   pairs_moved xs s t moved =
       let f : (K × V) × ℕ → K × V = λ e. e.0 in
@@ -28,7 +55,8 @@ module _ {K V : Type 0} where
 
   -- the pair that a pointer reads is the one that a walk moved to
   pub same_pair : (now : BucketView K V) (at next : Place) (m : MovesToNext now at next) (k : K) (v : V)
-      → option_map (λ p. p.0) (pair_of (slot_in now next)) ≡ Some k → option_map (λ p. p.1) (pair_of (slot_in now next)) ≡ Some v → m.pair ≡ (k, v)
+      → option_map (λ p. p.0) (pair_of (slot_in now next)) ≡ Some k
+      → option_map (λ p. p.1) (pair_of (slot_in now next)) ≡ Some v → m.pair ≡ (k, v)
   same_pair now at next m k v first second =
       let read = read_apart (slot_in now next) k v (live_from_pair (slot_in now next) m.pair m.here) first second in
       let same : Some m.pair ≡ Some (k, v) = sym m.here ∙ read in
@@ -41,11 +69,15 @@ module _ {K V : Type 0} (test : K × V → Bool) where
   abbrev pub refused_len : List (K × V) → ℕ
   refused_len ps = length (filter refuses ps)
 
-  front_len : (p : K × V) (ps : List (K × V)) → test p ≡ true → refused_len (p ∷ ps) ≡ refused_len ps
-  front_len p ps e = ap (λ b. length (cond b (p ∷ filter refuses ps) (filter refuses ps))) (not_from_true (test p) e)
+  front_len : (p : K × V) (ps : List (K × V)) → test p ≡ true
+      → refused_len (p ∷ ps) ≡ refused_len ps
+  front_len p ps e = ap (λ b. length (cond b (p ∷ filter refuses ps) (filter refuses ps)))
+      (not_from_true (test p) e)
 
-  front_more : (p : K × V) (ps : List (K × V)) → test p ≡ false → refused_len (p ∷ ps) ≡ refused_len ps + 1
-  front_more p ps e = ap (λ b. length (cond b (p ∷ filter refuses ps) (filter refuses ps))) (not_from_false (test p) e) ∙ omega arith
+  front_more : (p : K × V) (ps : List (K × V)) → test p ≡ false
+      → refused_len (p ∷ ps) ≡ refused_len ps + 1
+  front_more p ps e = ap (λ b. length (cond b (p ∷ filter refuses ps) (filter refuses ps)))
+      (not_from_false (test p) e) ∙ omega arith
 
 module _ {K V : Type 0} (IsTest : (K × V → Bool) → Type 0) where
   -- all that a test refuses is ahead, and what is gone it refused
@@ -54,8 +86,10 @@ module _ {K V : Type 0} (IsTest : (K × V → Bool) → Type 0) where
     pub parts : IsPermutation (entries_in old) (gone ++ entries_in now)
     pub alive : now.killed ≡ old.killed
     pub counted : count ≡ min (length gone) (2 ^ 64 - 1)
-    pub refused : (test : K × V → Bool) → IsTest test → AllByRecursion (λ entry. test entry.0 ≡ false) gone
-    pub ahead : (test : K × V → Bool) → IsTest test → refused_len test (pairs_in now) ≡ refused_len test (pairs_ahead now at)
+    pub refused : (test : K × V → Bool) → IsTest test → AllByRecursion
+        (λ entry. test entry.0 ≡ false) gone
+    pub ahead : (test : K × V → Bool) → IsTest test → refused_len test (pairs_in now) ≡ refused_len
+        test (pairs_ahead now at)
 
   pub sets_out : (old : BucketView K V) (at : Place) → at ≡ null_place → IsRetaining old old at 0
   sets_out old at e = record {
@@ -67,7 +101,8 @@ module _ {K V : Type 0} (IsTest : (K × V → Bool) → Type 0) where
     ahead = λ test means. ap (λ p. refused_len test (pairs_ahead old p)) (sym e);
   }
 
-  pub passes : (old now : BucketView K V) (at next : Place) (count : ℕ) (m : MovesToNext now at next) → ((test : K × V → Bool) → IsTest test → test m.pair ≡ true)
+  pub passes : (old now : BucketView K V) (at next : Place) (count : ℕ)
+      (m : MovesToNext now at next) → ((test : K × V → Bool) → IsTest test → test m.pair ≡ true)
       → IsRetaining old now at count → IsRetaining old now next count
   passes old now at next count m keeps r = record {
     gone = r.gone;
@@ -75,12 +110,16 @@ module _ {K V : Type 0} (IsTest : (K × V → Bool) → Type 0) where
     alive = r.alive;
     counted = r.counted;
     refused = r.refused;
-    ahead = λ test means. r.ahead test means ∙ ap (refused_len test) m.ahead ∙ front_len test m.pair (pairs_ahead now next) (keeps test means);
+    ahead = λ test means. r.ahead test means ∙ ap (refused_len test) m.ahead ∙ front_len test m.pair
+        (pairs_ahead now next) (keeps test means);
   }
 
-  pub takes : (old now left : BucketView K V) (at next after : Place) (count more : ℕ) (m : MovesToNext now at next) → ((test : K × V → Bool) → IsTest test → test m.pair ≡ false)
-      → left.killed ≡ now.killed → ((byte : ℕ) × IsPermutation (entries_in now) ((m.pair, byte) ∷ entries_in left)) → pairs_ahead left after ≡ pairs_ahead now next
-      → more ≡ min (count + 1) (2 ^ 64 - 1) → IsRetaining old now at count → IsRetaining old left after more
+  pub takes : (old now left : BucketView K V) (at next after : Place) (count more : ℕ)
+      (m : MovesToNext now at next) → ((test : K × V → Bool) → IsTest test → test m.pair ≡ false)
+      → left.killed ≡ now.killed → ((byte : ℕ) × IsPermutation (entries_in now)
+      ((m.pair, byte) ∷ entries_in left)) → pairs_ahead left after ≡ pairs_ahead now next
+      → more ≡ min (count + 1) (2 ^ 64 - 1) → IsRetaining old now at count
+      → IsRetaining old left after more
   takes old now left at next after count more m refuses_it alive (byte, out) same is r =
       let out_pairs : IsPermutation (pairs_in now) (m.pair ∷ pairs_in left) = pairs_moved ((m.pair, byte) ∷ []) now left out in
       record {
@@ -100,7 +139,8 @@ module _ {K V : Type 0} (IsTest : (K × V → Bool) → Type 0) where
             omega (arith, so_far, here, one, ahead, two, three);
       }
 
-  pub retained : (old now : BucketView K V) (at : Place) (count : ℕ) → pairs_ahead now at ≡ [] → IsRetaining old now at count → Retains IsTest old now count
+  pub retained : (old now : BucketView K V) (at : Place) (count : ℕ) → pairs_ahead now at ≡ []
+      → IsRetaining old now at count → Retains IsTest old now count
   retained old now at count e r = record {
     gone = r.gone;
     parts = r.parts;
@@ -109,12 +149,14 @@ module _ {K V : Type 0} (IsTest : (K × V → Bool) → Type 0) where
     refused = r.refused;
     kept = λ test means.
         let none = none_pass (refuses test) (pairs_in now) (nothing _ (r.ahead test means ∙ ap (refused_len test) e)) in
-        each_implies (λ p. refuses test p ≡ false) (λ p. test p ≡ true) (λ p h. not-false (test p) h) (pairs_in now) none;
+        each_implies (λ p. refuses test p ≡ false) (λ p. test p ≡ true)
+        (λ p h. not-false (test p) h) (pairs_in now) none;
   }
 
 module _ {K V : Type 0} (IsTest : (K × V → Bool) → Type 0) where
   -- a test that refuses all leaves none, and counts all
-  pub retains_none : (old new : BucketView K V) (count : ℕ) → IsTest (λ pair. false) → Retains IsTest old new count
+  pub retains_none : (old new : BucketView K V) (count : ℕ) → IsTest (λ pair. false)
+      → Retains IsTest old new count
       → (pairs_in new ≡ []) × (count ≡ min (length (pairs_in old)) (2 ^ 64 - 1))
   retains_none old new count means r =
       let first : (K × V) × ℕ → K × V = λ e. e.0 in

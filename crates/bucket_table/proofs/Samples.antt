@@ -1,5 +1,23 @@
 -- Sums over samples of buckets, and that samples are within an array.
-use Rattle.std.proofs.Common.{ℕ, zero, suc, ◌+◌, ◌*◌, ◌^◌, ◌<◌, ◌≤◌, ◌≡◌, List, drop, get_or, length, refl, ap, ◌∙◌, arith}
+use Rattle.std.proofs.Common.{
+  ℕ,
+  zero,
+  suc,
+  ◌+◌,
+  ◌*◌,
+  ◌^◌,
+  ◌<◌,
+  ◌≤◌,
+  ◌≡◌,
+  List,
+  drop,
+  get_or,
+  length,
+  refl,
+  ap,
+  ◌∙◌,
+  arith,
+}
 use Rattle.std.proofs.Math.Nat.{pow-suc}
 use Rattle.std.proofs.lemmas.List.{get_or-drop, get_or-map, length-drop, length-map}
 use Rattle.std.proofs.lemmas.List.Sums.{sum_by_more}
@@ -13,17 +31,20 @@ use Rattle.bucket_table.specs.Sampling.{counted, live_counts, live_len}
 
 -- one bucket more of a sample
 pub counted_more : (counts : List ℕ) (start offset : ℕ) → start + offset < length counts
-    → counted counts start (offset + 1) ≡ counted counts start offset + get_or counts (start + offset) 0
+    → counted counts start (offset + 1) ≡ counted counts start offset + get_or counts
+    (start + offset) 0
 counted_more counts start offset within =
     let long = length-drop start counts in
     let more = sum_by_more (λ (x : ℕ). x) (drop start counts) offset 0 (omega arith) in
     more ∙ ap (λ (n : ℕ). counted counts start offset + n) (get_or-drop start counts offset 0)
 
-pub length-live_counts : {K V : Type 0} (buckets : List (BucketView K V)) → length (live_counts buckets) ≡ length buckets
+pub length-live_counts : {K V : Type 0} (buckets : List (BucketView K V))
+    → length (live_counts buckets) ≡ length buckets
 length-live_counts buckets = length-map buckets live_len
 
 -- the count of one bucket
-pub get_or-live_counts : {K V : Type 0} (buckets : List (BucketView K V)) (i d : ℕ) → i < length buckets
+pub get_or-live_counts : {K V : Type 0} (buckets : List (BucketView K V)) (i d : ℕ)
+    → i < length buckets
     → get_or (live_counts buckets) i d ≡ live_len (bucket_at buckets i)
 get_or-live_counts buckets i d within = get_or-map live_len buckets i empty_bucket d within
 
@@ -40,7 +61,8 @@ large_within len size (k, is, least) =
     let below = below_power k in
     (least_pos k size least, least.least len (k, is) (omega arith))
 
-small_half : (k j len size : ℕ) → 2 ≤ len → len ≡ 2 ^ k → IsLeastPowerOfTwo k (2 ^ j) → IsLeastPowerOfTwo (1 + j) size → 2 * size ≤ len
+small_half : (k j len size : ℕ) → 2 ≤ len → len ≡ 2 ^ k → IsLeastPowerOfTwo k (2 ^ j)
+    → IsLeastPowerOfTwo (1 + j) size → 2 * size ≤ len
 small_half zero j len size several is large small = absurd (omega arith)
 small_half (suc m) j len size several is large small =
     let below = below_power m in

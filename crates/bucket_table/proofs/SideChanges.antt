@@ -1,5 +1,34 @@
 -- The law of two arrays, and all their pairs, where one bucket of one of them changes.
-use Rattle.std.proofs.Common.{ℕ, ◌<◌, ◌≡◌, Bool, true, false, List, [], ◌∷◌, ◌++◌, Option, Some, None, IfSome, length, map, set, refl, sym, ap, subst, ◌∙◌, arith, inl, inr, length-set, get_or-set_other, get_or-set_same}
+use Rattle.std.proofs.Common.{
+  ℕ,
+  ◌<◌,
+  ◌≡◌,
+  Bool,
+  true,
+  false,
+  List,
+  [],
+  ◌∷◌,
+  ◌++◌,
+  Option,
+  Some,
+  None,
+  IfSome,
+  length,
+  map,
+  set,
+  refl,
+  sym,
+  ap,
+  subst,
+  ◌∙◌,
+  arith,
+  inl,
+  inr,
+  length-set,
+  get_or-set_other,
+  get_or-set_same,
+}
 use Rattle.std.specs.List.{All}
 use Rattle.std.specs.List.Sorted.{IsPermutation}
 use Rattle.std.proofs.lemmas.Bool.{cases_eq, false≢true}
@@ -26,25 +55,36 @@ All-behind P [] ys h = h
 All-behind P (x ∷ xs) ys h = All-behind P xs ys (All-tail P x (xs ++ ys) h)
 
 module _ {K V : Type 0} where
-  pub buckets_on-arrays_with : (a : ArraysView K V) (side : Bool) (i : ℕ) (b : BucketView K V) → buckets_on (arrays_with a side i b) side ≡ set (buckets_on a side) i b
+  pub buckets_on-arrays_with : (a : ArraysView K V) (side : Bool) (i : ℕ) (b : BucketView K V)
+      → buckets_on (arrays_with a side i b) side ≡ set (buckets_on a side) i b
   buckets_on-arrays_with a true i b = old_buckets-rehash_with a.rehash i b
   buckets_on-arrays_with a false i b = buckets_of-array_with a.current i b
 
   -- the same bucket once more
-  array_with-same : (array : Option (List (BucketView K V))) (i : ℕ) → array_with array i (bucket_at (buckets_of array) i) ≡ array
+  array_with-same : (array : Option (List (BucketView K V))) (i : ℕ)
+      → array_with array i (bucket_at (buckets_of array) i) ≡ array
   array_with-same None i = refl
-  array_with-same (Some bs) i = ap (λ (l : List (BucketView K V)). Some l) (set-get_or bs i empty_bucket)
+  array_with-same (Some bs) i = ap (λ (l : List (BucketView K V)). Some l)
+      (set-get_or bs i empty_bucket)
 
-  rehash_with-same : (rehash : Option (RehashView K V)) (i : ℕ) → rehash_with rehash i (bucket_at (old_buckets rehash) i) ≡ rehash
+  rehash_with-same : (rehash : Option (RehashView K V)) (i : ℕ)
+      → rehash_with rehash i (bucket_at (old_buckets rehash) i) ≡ rehash
   rehash_with-same None i = refl
-  rehash_with-same (Some r) i = ap (λ (l : List (BucketView K V)). Some (record { buckets = l; tickets = r.tickets })) (set-get_or r.buckets i empty_bucket)
+  rehash_with-same (Some r) i = ap (λ (l : List (BucketView K V)). Some
+      (record { buckets = l; tickets = r.tickets })) (set-get_or r.buckets i empty_bucket)
 
-  pub arrays_with-same : (a : ArraysView K V) (side : Bool) (i : ℕ) → arrays_with a side i (bucket_at (buckets_on a side) i) ≡ a
-  arrays_with-same a true i = ap (λ (o : Option (RehashView K V)). record { minimum = a.minimum; maximum = a.maximum; current = a.current; rehash = o }) (rehash_with-same a.rehash i)
-  arrays_with-same a false i = ap (λ (o : Option (List (BucketView K V))). record { minimum = a.minimum; maximum = a.maximum; current = o; rehash = a.rehash }) (array_with-same a.current i)
+  pub arrays_with-same : (a : ArraysView K V) (side : Bool) (i : ℕ)
+      → arrays_with a side i (bucket_at (buckets_on a side) i) ≡ a
+  arrays_with-same a true i = ap (λ (o : Option (RehashView K V)). record
+      { minimum = a.minimum; maximum = a.maximum; current = a.current; rehash = o })
+      (rehash_with-same a.rehash i)
+  arrays_with-same a false i = ap (λ (o : Option (List (BucketView K V))). record
+      { minimum = a.minimum; maximum = a.maximum; current = o; rehash = a.rehash })
+      (array_with-same a.current i)
 
   -- a current bucket whose sources are killed may be locked
-  pub locked_current : (a : ArraysView K V) (i : ℕ) → i < length (buckets_of a.current) → AreSourcesKilled a i → IsLocked a false i
+  pub locked_current : (a : ArraysView K V) (i : ℕ) → i < length (buckets_of a.current)
+      → AreSourcesKilled a i → IsLocked a false i
   locked_current a i within dead = record {
     within = within;
     killed = λ e. dead;
@@ -53,13 +93,16 @@ module _ {K V : Type 0} where
   }
 
   -- bucket i of one side is b now: the entries `out` went, and `came` came
-  pub record Exchanges (a : ArraysView K V) (side : Bool) (i : ℕ) (came out : List ((K × V) × ℕ)) (b : BucketView K V) : Type 0 where
+  pub record Exchanges (a : ArraysView K V) (side : Bool) (i : ℕ) (came out : List ((K × V) × ℕ))
+      (b : BucketView K V) : Type 0 where
     pub within : i < length (buckets_on a side)
     pub moved : IsPermutation (came ++ entries_in (bucket_at (buckets_on a side) i)) (out ++ entries_in b)
     pub alive : b.killed ≡ (bucket_at (buckets_on a side) i).killed
 
-  entries_exchanged : (a : ArraysView K V) (side : Bool) (i : ℕ) (came out : List ((K × V) × ℕ)) (b : BucketView K V) → i < length (buckets_on a side)
-      → IsPermutation (came ++ entries_in (bucket_at (buckets_on a side) i)) (out ++ entries_in b) → IsPermutation (came ++ entries_of a) (out ++ entries_of (arrays_with a side i b))
+  entries_exchanged : (a : ArraysView K V) (side : Bool) (i : ℕ) (came out : List ((K × V) × ℕ))
+      (b : BucketView K V) → i < length (buckets_on a side)
+      → IsPermutation (came ++ entries_in (bucket_at (buckets_on a side) i)) (out ++ entries_in b)
+      → IsPermutation (came ++ entries_of a) (out ++ entries_of (arrays_with a side i b))
   entries_exchanged a true i came out b within moved =
       let c = entries_among (buckets_of a.current) in
       let l = old_buckets a.rehash in
@@ -72,39 +115,53 @@ module _ {K V : Type 0} where
       (regrouped came out (entries_among c) (entries_among (set c i b)) (entries_among (old_buckets a.rehash)) (exchanged came out c i b within moved))
 
   -- another bucket exchanges pairs among all, where it does so among its own
-  pub pairs_exchanged : (a : ArraysView K V) (side : Bool) (i : ℕ) (came out : List ((K × V) × ℕ)) (b : BucketView K V) → i < length (buckets_on a side)
+  pub pairs_exchanged : (a : ArraysView K V) (side : Bool) (i : ℕ) (came out : List ((K × V) × ℕ))
+      (b : BucketView K V) → i < length (buckets_on a side)
       → IsPermutation (came ++ entries_in (bucket_at (buckets_on a side) i)) (out ++ entries_in b)
-      → IsPermutation (map (λ (e : (K × V) × ℕ). e.0) came ++ pairs_of a) (map (λ (e : (K × V) × ℕ). e.0) out ++ pairs_of (arrays_with a side i b))
+      → IsPermutation (map (λ (e : (K × V) × ℕ). e.0) came ++ pairs_of a)
+      (map (λ (e : (K × V) × ℕ). e.0) out ++ pairs_of (arrays_with a side i b))
   pairs_exchanged a side i came out b within moved =
       let pair : (K × V) × ℕ → K × V = λ e. e.0 in
       let after = arrays_with a side i b in
-      subst (λ l. IsPermutation l (map pair out ++ pairs_of after)) (map-append pair came (entries_of a))
+      subst (λ l. IsPermutation l (map pair out ++ pairs_of after))
+      (map-append pair came (entries_of a))
       (subst (IsPermutation (map pair (came ++ entries_of a))) (map-append pair out (entries_of after)) (IsPermutation-map pair _ _ (entries_exchanged a side i came out b within moved)))
 
   -- a bucket as killed as the one before leaves the flags as they were
-  flags_same : (bs : List (BucketView K V)) (i : ℕ) (b : BucketView K V) → i < length bs → b.killed ≡ (bucket_at bs i).killed → killed_flags (set bs i b) ≡ killed_flags bs
+  flags_same : (bs : List (BucketView K V)) (i : ℕ) (b : BucketView K V) → i < length bs
+      → b.killed ≡ (bucket_at bs i).killed → killed_flags (set bs i b) ≡ killed_flags bs
   flags_same bs i b within same =
       map-set (λ (c : BucketView K V). c.killed) bs i b
-      ∙ ap (λ (flag : Bool). set (killed_flags bs) i flag) (same ∙ sym (get_or-killed_flags bs i within))
+      ∙ ap (λ (flag : Bool). set (killed_flags bs) i flag)
+      (same ∙ sym (get_or-killed_flags bs i within))
       ∙ set-get_or (killed_flags bs) i false
 
-  rehashed_with : (rehash : Option (RehashView K V)) (i : ℕ) (b : BucketView K V) → i < length (old_buckets rehash) → b.killed ≡ (bucket_at (old_buckets rehash) i).killed
+  rehashed_with : (rehash : Option (RehashView K V)) (i : ℕ) (b : BucketView K V)
+      → i < length (old_buckets rehash) → b.killed ≡ (bucket_at (old_buckets rehash) i).killed
       → b.killed ≡ false → IfSome rehash IsRehash → IfSome (rehash_with rehash i b) IsRehash
   rehashed_with None i b within same alive kept = tt
   rehashed_with (Some r) i b within same alive kept = record {
-    covered = subst (λ (flags : List Bool). IsCovered flags r.tickets) (sym (flags_same r.buckets i b within same)) kept.covered;
+    covered = subst (λ (flags : List Bool). IsCovered flags r.tickets)
+        (sym (flags_same r.buckets i b within same)) kept.covered;
     going_on = kept.going_on;
-    emptied = All-set (λ (c : BucketView K V). c.killed ≡ true → pairs_in c ≡ []) r.buckets i b (λ dead. absurd (false≢true (sym alive ∙ dead))) kept.emptied;
+    emptied = All-set (λ (c : BucketView K V). c.killed ≡ true → pairs_in c ≡ []) r.buckets i b
+        (λ dead. absurd (false≢true (sym alive ∙ dead))) kept.emptied;
   }
 
   -- an old bucket that isn't killed may hold any pairs of its own
-  old_after_change : (hash : K → ℕ) (c l : List (BucketView K V)) (index : ℕ) (b : BucketView K V) → AreTwoArrays hash c l → index < length l
-      → All (IsEntryHome hash (length l) index) (entries_in b) → b.killed ≡ (bucket_at l index).killed → b.killed ≡ false → AreTwoArrays hash c (set l index b)
+  old_after_change : (hash : K → ℕ) (c l : List (BucketView K V)) (index : ℕ) (b : BucketView K V)
+      → AreTwoArrays hash c l → index < length l
+      → All (IsEntryHome hash (length l) index) (entries_in b)
+      → b.killed ≡ (bucket_at l index).killed → b.killed ≡ false
+      → AreTwoArrays hash c (set l index b)
   old_after_change hash c l index b law within homes same alive =
       let len : length (set l index b) ≡ length l = length-set l index b in
-      let here : bucket_at (set l index b) index ≡ b = get_or-set_same l index b empty_bucket within in
-      let other : (j : ℕ) → (j ≡ index → ⊥) → bucket_at (set l index b) j ≡ bucket_at l j = λ j apart. get_or-set_other l index j b empty_bucket apart in
-      let flag : (j : ℕ) → (bucket_at (set l index b) j).killed ≡ (bucket_at l j).killed = λ j. elim (cases_eq j index) [
+      let here : bucket_at (set l index b) index ≡ b = get_or-set_same l index b empty_bucket within
+      in
+      let other : (j : ℕ) → (j ≡ index → ⊥) → bucket_at (set l index b) j ≡ bucket_at l j = λ
+      j apart. get_or-set_other l index j b empty_bucket apart in
+      let flag : (j : ℕ) → (bucket_at (set l index b) j).killed ≡ (bucket_at l j).killed = λ j. elim
+      (cases_eq j index) [
         | inl at ↦ rw (at, here) same
         | inr apart ↦ ap (λ (d : BucketView K V). d.killed) (other j apart)
       ] in
@@ -117,23 +174,30 @@ module _ {K V : Type 0} where
         alive = law.alive;
         killed_empty = λ j below dead. elim (cases_eq j index) [
           | inl at ↦
-              let gone : b.killed ≡ true = sym (ap (λ (d : BucketView K V). d.killed) here) ∙ subst (λ (k : ℕ). (bucket_at (set l index b) k).killed ≡ true) at dead in
+              let gone : b.killed ≡ true = sym (ap (λ (d : BucketView K V). d.killed) here) ∙ subst
+              (λ (k : ℕ). (bucket_at (set l index b) k).killed ≡ true) at dead in
               absurd (false≢true (sym alive ∙ gone))
           | inr apart ↦ rw (other j apart) (law.killed_empty j (omega arith) (sym (flag j) ∙ dead))
         ];
         empty_targets = λ longer i j old_below below live meets.
-            law.empty_targets (omega arith) i j (omega arith) below (sym (flag i) ∙ live) (subst (λ (n : ℕ). Meets n i (length c) j) len meets);
+            law.empty_targets (omega arith) i j (omega arith) below (sym (flag i) ∙ live)
+            (subst (λ (n : ℕ). Meets n i (length c) j) len meets);
       }
 
   -- each pair of a bucket stands in its home
-  pub homes_on : (hash : K → ℕ) (a : ArraysView K V) (side : Bool) (i : ℕ) → ArePlaced hash a → i < length (buckets_on a side)
-      → All (IsEntryHome hash (length (buckets_on a side)) i) (entries_in (bucket_at (buckets_on a side) i))
+  pub homes_on : (hash : K → ℕ) (a : ArraysView K V) (side : Bool) (i : ℕ) → ArePlaced hash a
+      → i < length (buckets_on a side)
+      → All (IsEntryHome hash (length (buckets_on a side)) i)
+      (entries_in (bucket_at (buckets_on a side) i))
   homes_on hash a true i law within = law.homes.linked_home i within
   homes_on hash a false i law within = law.homes.current_home i within
 
   -- the law stays
-  pub placed_change : (hash : K → ℕ) (a : ArraysView K V) (side : Bool) (i : ℕ) (b : BucketView K V) → ArePlaced hash a → IsLocked a side i
-      → All (IsEntryHome hash (length (buckets_on a side)) i) (entries_in b) → b.killed ≡ (bucket_at (buckets_on a side) i).killed → ArePlaced hash (arrays_with a side i b)
+  pub placed_change : (hash : K → ℕ) (a : ArraysView K V) (side : Bool) (i : ℕ) (b : BucketView K V)
+      → ArePlaced hash a → IsLocked a side i
+      → All (IsEntryHome hash (length (buckets_on a side)) i) (entries_in b)
+      → b.killed ≡ (bucket_at (buckets_on a side) i).killed
+      → ArePlaced hash (arrays_with a side i b)
   placed_change hash a true i b law locked homes same = record {
     homes = rw (old_buckets-rehash_with a.rehash i b) (old_after_change hash (buckets_of a.current) (old_buckets a.rehash) i b law.homes locked.within homes same (same ∙ locked.alive refl));
     rehashed = rehashed_with a.rehash i b locked.within same (same ∙ locked.alive refl) law.rehashed;
@@ -144,8 +208,10 @@ module _ {K V : Type 0} where
   }
 
   -- what came in and what was there has its home there, so what is there has
-  pub homes_moved : (hash : K → ℕ) (len i : ℕ) (came out : List ((K × V) × ℕ)) (b c : BucketView K V) → IsPermutation (came ++ entries_in b) (out ++ entries_in c)
-      → All (IsEntryHome hash len i) (entries_in b) → All (IsEntryHome hash len i) came → All (IsEntryHome hash len i) (entries_in c)
+  pub homes_moved : (hash : K → ℕ) (len i : ℕ) (came out : List ((K × V) × ℕ))
+      (b c : BucketView K V) → IsPermutation (came ++ entries_in b) (out ++ entries_in c)
+      → All (IsEntryHome hash len i) (entries_in b) → All (IsEntryHome hash len i) came
+      → All (IsEntryHome hash len i) (entries_in c)
   homes_moved hash len i came out b c moved here own =
       let P : (K × V) × ℕ → Type 0 = IsEntryHome hash len i in
       All-behind P out (entries_in c) (All-permutation P (came ++ entries_in b) (out ++ entries_in c) moved (All-append P came (entries_in b) own here))

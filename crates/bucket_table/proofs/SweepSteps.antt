@@ -1,5 +1,30 @@
 -- A cursor sweeps a table.
-use Rattle.std.proofs.Common.{ℕ, ◌+◌, ◌-◌, ◌^◌, ◌<◌, ◌≡◌, Bool, false, Option, Some, None, Result, Ok, Err, OnErr, List, length, min, refl, sym, ap, subst, ◌∙◌, arith}
+use Rattle.std.proofs.Common.{
+  ℕ,
+  ◌+◌,
+  ◌-◌,
+  ◌^◌,
+  ◌<◌,
+  ◌≡◌,
+  Bool,
+  false,
+  Option,
+  Some,
+  None,
+  Result,
+  Ok,
+  Err,
+  OnErr,
+  List,
+  length,
+  min,
+  refl,
+  sym,
+  ap,
+  subst,
+  ◌∙◌,
+  arith,
+}
 use Rattle.std.specs.List.Sorted.{IsPermutation}
 use Rattle.bucket_slots.specs.BucketView.{BucketView, Place}
 use Rattle.bucket_slots.specs.Sizing.{IsLength}
@@ -23,22 +48,30 @@ hashes_left len (Some index) = 2 ^ 64 + 1 - bound_of len (index + 1)
 
 module _ {A E K V : Type 0} (IsTest : (K × V → Bool) → Type 0) (hash : K → ℕ) where
   -- a refusal leaves the map swept below a bound
-  pub sweep_refused : (r : Result A E) (old now next : List (K × V)) (high count : ℕ) → IsSweeping IsTest hash old now high high count → IsPermutation now next
-      → OnErr r ((bound : ℕ) × ((test : K × V → Bool) → IsTest test → IsSweptBelow hash bound test old next))
+  pub sweep_refused : (r : Result A E) (old now next : List (K × V)) (high count : ℕ)
+      → IsSweeping IsTest hash old now high high count → IsPermutation now next
+      → OnErr r ((bound : ℕ) × ((test : K × V → Bool) → IsTest test
+      → IsSweptBelow hash bound test old next))
   sweep_refused (Ok a) old now next high count s moved = tt
-  sweep_refused (Err e) old now next high count s moved = (high, λ test means. sweep_stops IsTest hash old now next high count s moved test means)
+  sweep_refused (Err e) old now next high count s moved =
+      (high, λ test means. sweep_stops IsTest hash old now next high count s moved test means)
 
 module _ {K V : Type 0} (IsTest : (K × V → Bool) → Type 0) (hash : K → ℕ) where
   -- where a sweep stands between two buckets
   abbrev pub SweepsOn : ArraysView K V → ArraysView K V → ℕ → Option ℕ → Type 0
-  SweepsOn old now count None = (test : K × V → Bool) → IsTest test → IsSwept test (pairs_of old) (pairs_of now) count
+  SweepsOn old now count None = (test : K × V → Bool) → IsTest test
+      → IsSwept test (pairs_of old) (pairs_of now) count
   SweepsOn old now count (Some index) =
       IsLocked now false index
-      × IsSweeping IsTest hash (pairs_of old) (pairs_of now) (bound_of (length (buckets_of now.current)) index) (bound_of (length (buckets_of now.current)) (index + 1)) count
+      × IsSweeping IsTest hash (pairs_of old) (pairs_of now)
+      (bound_of (length (buckets_of now.current)) index)
+      (bound_of (length (buckets_of now.current)) (index + 1)) count
 
   -- a sweep that has come to a bound goes on where a cursor does
   pub sweep_goes : (old now next : ArraysView K V) (count high : ℕ) (found : Option ℕ) (at : Place)
-      → IsSweeping IsTest hash (pairs_of old) (pairs_of now) high high count → IsPermutation (pairs_of now) (pairs_of next) → GoesOnAt hash high found next at → ReachesAt high found next → SweepsOn old next count found
+      → IsSweeping IsTest hash (pairs_of old) (pairs_of now) high high count
+      → IsPermutation (pairs_of now) (pairs_of next) → GoesOnAt hash high found next at
+      → ReachesAt high found next → SweepsOn old next count found
   sweep_goes old now next count high None at s kept goes past = sweep_ends IsTest hash (pairs_of old) (pairs_of now) (pairs_of next) high count s kept goes.0
   sweep_goes old now next count high (Some index) at s kept goes past = (
     goes.locked,
@@ -46,11 +79,14 @@ module _ {K V : Type 0} (IsTest : (K × V → Bool) → Type 0) (hash : K → �
   )
 
   -- nothing is swept yet
-  pub sweep_none : (old : ArraysView K V) → IsSweeping IsTest hash (pairs_of old) (pairs_of old) 0 0 0
+  pub sweep_none : (old : ArraysView K V) → IsSweeping IsTest hash (pairs_of old) (pairs_of old) 0 0
+      0
   sweep_none old = sweep_begins IsTest hash (pairs_of old) 0 0 (omega arith)
 
   -- it sets out at the first live pair
-  pub sweep_sets_out : (old next : ArraysView K V) (found : Option ℕ) (at : Place) → IsPermutation (pairs_of old) (pairs_of next) → GoesOnAt hash 0 found next at → SweepsOn old next 0 found
+  pub sweep_sets_out : (old next : ArraysView K V) (found : Option ℕ) (at : Place)
+      → IsPermutation (pairs_of old) (pairs_of next) → GoesOnAt hash 0 found next at
+      → SweepsOn old next 0 found
   sweep_sets_out old next None at kept goes = sweep_ends IsTest hash (pairs_of old) (pairs_of old) (pairs_of next) 0 0 (sweep_none old) kept goes.0
   sweep_sets_out old next (Some index) at kept goes = (
     goes.locked,
@@ -58,9 +94,13 @@ module _ {K V : Type 0} (IsTest : (K × V → Bool) → Type 0) (hash : K → �
   )
 
   -- it has swept the bucket
-  pub sweep_through : (old now visited : ArraysView K V) (count taken more index : ℕ) (place : Option ℕ) → ArePlaced hash now → place ≡ Some index → SweepsOn old now count place
-      → ((left : BucketView K V) × Retains IsTest (bucket_on now false index) left taken × (visited ≡ arrays_with now false index left)) → more ≡ min (count + taken) (2 ^ 64 - 1)
-      → IsSweeping IsTest hash (pairs_of old) (pairs_of visited) (bound_of (length (buckets_of now.current)) (index + 1)) (bound_of (length (buckets_of now.current)) (index + 1)) more
+  pub sweep_through : (old now visited : ArraysView K V) (count taken more index : ℕ)
+      (place : Option ℕ) → ArePlaced hash now → place ≡ Some index → SweepsOn old now count place
+      → ((left : BucketView K V) × Retains IsTest (bucket_on now false index) left taken
+      × (visited ≡ arrays_with now false index left)) → more ≡ min (count + taken) (2 ^ 64 - 1)
+      → IsSweeping IsTest hash (pairs_of old) (pairs_of visited)
+      (bound_of (length (buckets_of now.current)) (index + 1))
+      (bound_of (length (buckets_of now.current)) (index + 1)) more
   sweep_through old now visited count taken more index place law is s (left, retains, visited_is) counted =
       let here = subst (λ (p : Option ℕ). SweepsOn old now count p) is s in
       let split = splits hash now index law here.0.within (here.0.killed refl) in
@@ -69,35 +109,56 @@ module _ {K V : Type 0} (IsTest : (K × V → Bool) → Type 0) (hash : K → �
 
 module _ {K V : Type 0} where
   -- a bucket that was swept leaves the tickets
-  pub bag_swept : (IsTest : (K × V → Bool) → Type 0) (now visited : ArraysView K V) (index taken : ℕ)
-      → ((left : BucketView K V) × Retains IsTest (bucket_on now false index) left taken × (visited ≡ arrays_with now false index left)) → KeepsBag now.rehash visited.rehash
-  bag_swept IsTest now visited index taken (left, retains, visited_is) = λ unit. ap (λ (a : ArraysView K V). times_in unit a.rehash) visited_is
+  pub bag_swept : (IsTest : (K × V → Bool) → Type 0) (now visited : ArraysView K V)
+      (index taken : ℕ)
+      → ((left : BucketView K V) × Retains IsTest (bucket_on now false index) left taken
+      × (visited ≡ arrays_with now false index left)) → KeepsBag now.rehash visited.rehash
+  bag_swept IsTest now visited index taken (left, retains, visited_is) = λ unit. ap
+      (λ (a : ArraysView K V). times_in unit a.rehash) visited_is
 
   -- and as many current buckets
   pub same_len : (IsTest : (K × V → Bool) → Type 0) (now visited : ArraysView K V) (index taken : ℕ)
-      → ((left : BucketView K V) × Retains IsTest (bucket_on now false index) left taken × (visited ≡ arrays_with now false index left))
+      → ((left : BucketView K V) × Retains IsTest (bucket_on now false index) left taken
+      × (visited ≡ arrays_with now false index left))
       → length (buckets_of visited.current) ≡ length (buckets_of now.current)
   same_len IsTest now visited index taken (left, retains, visited_is) =
-      ap (λ (a : ArraysView K V). length (buckets_of a.current)) visited_is ∙ ap (λ (bs : List (BucketView K V)). length bs) (buckets_of-array_with now.current index left) ∙ length-set (buckets_of now.current) index left
+      ap (λ (a : ArraysView K V). length (buckets_of a.current)) visited_is ∙ ap
+      (λ (bs : List (BucketView K V)). length bs) (buckets_of-array_with now.current index left) ∙
+      length-set (buckets_of now.current) index left
 
 module _ {K V H : Type 0} where
   -- a table's sweep goes on where its cursor does
-  pub goes_seen_by : (IsTest : (K × V → Bool) → Type 0) (hash : H → K → ℕ) (old visited : TableView K V H) (next : ArraysView K V) (index count len : ℕ) (found : Option ℕ) (at : Place)
+  pub goes_seen_by : (IsTest : (K × V → Bool) → Type 0) (hash : H → K → ℕ)
+      (old visited : TableView K V H) (next : ArraysView K V) (index count len : ℕ)
+      (found : Option ℕ) (at : Place)
       → visited.hasher ≡ old.hasher → length (buckets_of visited.arrays.current) ≡ len
-      → IsSweeping IsTest (hash old.hasher) (pairs_of old.arrays) (pairs_of visited.arrays) (bound_of len (index + 1)) (bound_of len (index + 1)) count → IsPermutation (pairs_of visited.arrays) (pairs_of next)
-      → GoesOnAt (hash visited.hasher) (bound_of (length (buckets_of visited.arrays.current)) (index + 1)) found next at
-      → ReachesAt (bound_of (length (buckets_of visited.arrays.current)) (index + 1)) found next → SweepsOn IsTest (hash old.hasher) old.arrays next count found
+      → IsSweeping IsTest (hash old.hasher) (pairs_of old.arrays) (pairs_of visited.arrays)
+      (bound_of len (index + 1)) (bound_of len (index + 1)) count
+      → IsPermutation (pairs_of visited.arrays) (pairs_of next)
+      → GoesOnAt (hash visited.hasher) (bound_of (length (buckets_of visited.arrays.current))
+      (index + 1)) found next at
+      → ReachesAt (bound_of (length (buckets_of visited.arrays.current)) (index + 1)) found next
+      → SweepsOn IsTest (hash old.hasher) old.arrays next count found
   goes_seen_by IsTest hash old visited next index count len found at same long s kept goes past =
-      let goes' = subst (λ (h : H). GoesOnAt (hash h) (bound_of (length (buckets_of visited.arrays.current)) (index + 1)) found next at) same goes in
-      let s' = subst (λ (n : ℕ). IsSweeping IsTest (hash old.hasher) (pairs_of old.arrays) (pairs_of visited.arrays) (bound_of n (index + 1)) (bound_of n (index + 1)) count) (sym long) s in
+      let goes' = subst (λ (h : H). GoesOnAt (hash h) (bound_of
+      (length (buckets_of visited.arrays.current)) (index + 1)) found next at) same goes in
+      let s' = subst (λ (n : ℕ). IsSweeping IsTest (hash old.hasher) (pairs_of old.arrays)
+      (pairs_of visited.arrays) (bound_of n (index + 1)) (bound_of n (index + 1)) count)
+      (sym long) s in
       sweep_goes IsTest (hash old.hasher) old.arrays visited.arrays next count (bound_of (length (buckets_of visited.arrays.current)) (index + 1)) found at s' kept goes' past
 
 module _ {K V : Type 0} where
   -- what a bucket that was swept leaves of the capacities
-  pub minimum_swept : (IsTest : (K × V → Bool) → Type 0) (now visited : ArraysView K V) (index taken : ℕ)
-      → ((left : BucketView K V) × Retains IsTest (bucket_on now false index) left taken × (visited ≡ arrays_with now false index left)) → visited.minimum ≡ now.minimum
-  minimum_swept IsTest now visited index taken (left, retains, visited_is) = ap (λ (a : ArraysView K V). a.minimum) visited_is
+  pub minimum_swept : (IsTest : (K × V → Bool) → Type 0) (now visited : ArraysView K V)
+      (index taken : ℕ)
+      → ((left : BucketView K V) × Retains IsTest (bucket_on now false index) left taken
+      × (visited ≡ arrays_with now false index left)) → visited.minimum ≡ now.minimum
+  minimum_swept IsTest now visited index taken (left, retains, visited_is) = ap
+      (λ (a : ArraysView K V). a.minimum) visited_is
 
-  pub maximum_swept : (IsTest : (K × V → Bool) → Type 0) (now visited : ArraysView K V) (index taken : ℕ)
-      → ((left : BucketView K V) × Retains IsTest (bucket_on now false index) left taken × (visited ≡ arrays_with now false index left)) → visited.maximum ≡ now.maximum
-  maximum_swept IsTest now visited index taken (left, retains, visited_is) = ap (λ (a : ArraysView K V). a.maximum) visited_is
+  pub maximum_swept : (IsTest : (K × V → Bool) → Type 0) (now visited : ArraysView K V)
+      (index taken : ℕ)
+      → ((left : BucketView K V) × Retains IsTest (bucket_on now false index) left taken
+      × (visited ≡ arrays_with now false index left)) → visited.maximum ≡ now.maximum
+  maximum_swept IsTest now visited index taken (left, retains, visited_is) = ap
+      (λ (a : ArraysView K V). a.maximum) visited_is

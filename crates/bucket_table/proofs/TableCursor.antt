@@ -1,5 +1,31 @@
 -- Cursors, as the table sees them.
-use Rattle.std.proofs.Common.{ℕ, ◌+◌, ◌≤◌, ◌≡◌, ◌≢◌, Bool, false, Option, Some, None, Result, Ok, Err, List, [], ◌∷◌, ◌++◌, length, map, refl, sym, ap, subst, ◌∙◌, arith}
+use Rattle.std.proofs.Common.{
+  ℕ,
+  ◌+◌,
+  ◌≤◌,
+  ◌≡◌,
+  ◌≢◌,
+  Bool,
+  false,
+  Option,
+  Some,
+  None,
+  Result,
+  Ok,
+  Err,
+  List,
+  [],
+  ◌∷◌,
+  ◌++◌,
+  length,
+  map,
+  refl,
+  sym,
+  ap,
+  subst,
+  ◌∙◌,
+  arith,
+}
 use Rattle.std.specs.Cmp.{IsEquivalence}
 use Rattle.std.specs.List.{All, IsDistinct}
 use Rattle.std.specs.List.Sorted.{IsPermutation}
@@ -24,13 +50,15 @@ use Rattle.bucket_table.proofs.HomeSplit.{splits}
 use Rattle.bucket_table.proofs.SideChanges.{placed_change}
 use Rattle.bucket_table.proofs.MapKept.{pairs_kept}
 
-pub distinct_behind : {K : Type 0} (eq : K → K → Bool) (xs ys : List K) → IsDistinct eq (xs ++ ys) → IsDistinct eq ys
+pub distinct_behind : {K : Type 0} (eq : K → K → Bool) (xs ys : List K) → IsDistinct eq (xs ++ ys)
+    → IsDistinct eq ys
 distinct_behind eq [] ys h = h
 distinct_behind eq (x ∷ xs) ys h = distinct_behind eq xs ys (IsDistinct-tail eq x (xs ++ ys) h)
 
 module _ {K V : Type 0} where
   -- a bucket that keeps some of its pairs
-  module _ (eq : K → K → Bool) (laws : IsEquivalence eq) (hash : K → ℕ) (arrays : ArraysView K V) (index : ℕ) (left : BucketView K V) (gone : List ((K × V) × ℕ))
+  module _ (eq : K → K → Bool) (laws : IsEquivalence eq) (hash : K → ℕ) (arrays : ArraysView K V)
+      (index : ℕ) (left : BucketView K V) (gone : List ((K × V) × ℕ))
       (one : IsOneMap eq hash arrays) (locked : IsLocked arrays false index) (parts : IsPermutation (entries_in (bucket_on arrays false index)) (gone ++ entries_in left))
       (same : left.killed ≡ (bucket_on arrays false index).killed) where
     abbrev pub after : ArraysView K V
@@ -61,37 +89,60 @@ module _ {K V : Type 0} where
         }
 
 module _ {K V H : Type 0} where
-  pub goes_seen : {E : Type 0} (hash : H → K → ℕ) (t s : TableView K V H) (bound low : ℕ) (r : Result (Option ℕ) E) (new : ArraysView K V) (at : Place) → t ≡ s → bound ≤ low
+  pub goes_seen : {E : Type 0} (hash : H → K → ℕ) (t s : TableView K V H) (bound low : ℕ)
+      (r : Result (Option ℕ) E) (new : ArraysView K V) (at : Place) → t ≡ s → bound ≤ low
       → GoesOnFrom (hash t.hasher) bound r new at → GoesOnFrom (hash s.hasher) low r new at
   goes_seen hash t s bound low r new at is less h =
-      subst (λ (z : TableView K V H). GoesOnFrom (hash z.hasher) low r new at) is (goes_later (hash t.hasher) r new low bound at less h)
+      subst (λ (z : TableView K V H). GoesOnFrom (hash z.hasher) low r new at) is
+      (goes_later (hash t.hasher) r new low bound at less h)
 
-  pub leaves_seen : {E : Type 0} (hash : H → K → ℕ) (t s : TableView K V H) (side : Bool) (index : ℕ) (from to : Place) (r : Result (Option (Bool × ℕ)) E) (new : ArraysView K V) → t ≡ s
-      → (pairs_ahead (bucket_on t.arrays side index) from ≡ [] → LeavesTo (hash t.hasher) (bound_of (length (buckets_on t.arrays side)) (index + 1)) r new to)
-      → pairs_ahead (bucket_on s.arrays side index) from ≡ [] → LeavesTo (hash s.hasher) (bound_of (length (buckets_on s.arrays side)) (index + 1)) r new to
+  pub leaves_seen : {E : Type 0} (hash : H → K → ℕ) (t s : TableView K V H) (side : Bool)
+      (index : ℕ) (from to : Place) (r : Result (Option (Bool × ℕ)) E) (new : ArraysView K V)
+      → t ≡ s
+      → (pairs_ahead (bucket_on t.arrays side index) from ≡ []
+      → LeavesTo (hash t.hasher) (bound_of (length (buckets_on t.arrays side)) (index + 1)) r new
+      to)
+      → pairs_ahead (bucket_on s.arrays side index) from ≡ []
+      → LeavesTo (hash s.hasher) (bound_of (length (buckets_on s.arrays side)) (index + 1)) r new
+      to
   leaves_seen hash t s side index from to r new is h =
-      subst (λ (z : TableView K V H). pairs_ahead (bucket_on z.arrays side index) from ≡ [] → LeavesTo (hash z.hasher) (bound_of (length (buckets_on z.arrays side)) (index + 1)) r new to) is h
+      subst (λ (z : TableView K V H). pairs_ahead (bucket_on z.arrays side index) from ≡ []
+      → LeavesTo (hash z.hasher) (bound_of (length (buckets_on z.arrays side)) (index + 1)) r new
+      to) is h
 
-  pub departs_seen : (t s : TableView K V H) (side : Bool) (index : ℕ) (from : Place) (new : ArraysView K V) → t ≡ s
-      → (pairs_ahead (bucket_on t.arrays side index) from ≡ [] → Departs side index t.arrays new) → pairs_ahead (bucket_on s.arrays side index) from ≡ [] → Departs side index s.arrays new
+  pub departs_seen : (t s : TableView K V H) (side : Bool) (index : ℕ) (from : Place)
+      (new : ArraysView K V) → t ≡ s
+      → (pairs_ahead (bucket_on t.arrays side index) from ≡ [] → Departs side index t.arrays new)
+      → pairs_ahead (bucket_on s.arrays side index) from ≡ [] → Departs side index s.arrays new
   departs_seen t s side index from new is h =
-      subst (λ (z : TableView K V H). pairs_ahead (bucket_on z.arrays side index) from ≡ [] → Departs side index z.arrays new) is h
+      subst (λ (z : TableView K V H). pairs_ahead (bucket_on z.arrays side index) from ≡ []
+      → Departs side index z.arrays new) is h
 
   -- a bucket of the table was gone through
-  pub left_of : (eq : K → K → Bool) → IsEquivalence eq → (hash : H → K → ℕ) (t s : TableView K V H) (index count : ℕ) (IsTest : (K × V → Bool) → Type 0) (new : ArraysView K V) → t ≡ s
+  pub left_of : (eq : K → K → Bool) → IsEquivalence eq → (hash : H → K → ℕ) (t s : TableView K V H)
+      (index count : ℕ) (IsTest : (K × V → Bool) → Type 0) (new : ArraysView K V) → t ≡ s
       → IsOneMap eq (hash t.hasher) t.arrays → IsLocked s.arrays false index
-      → ((left : BucketView K V) × Retains IsTest (bucket_on t.arrays false index) left count × (new ≡ arrays_with t.arrays false index left))
+      → ((left : BucketView K V) × Retains IsTest (bucket_on t.arrays false index) left count
+      × (new ≡ arrays_with t.arrays false index left))
       → IsOneMap eq (hash t.hasher) new
   left_of eq laws hash t s index count IsTest new is one locked (left, retains, new_is) =
-      rw new_is (one_map_left eq laws (hash t.hasher) t.arrays index left retains.gone one (subst (λ (z : TableView K V H). IsLocked z.arrays false index) (sym is) locked) retains.parts retains.alive)
+      rw new_is (one_map_left eq laws (hash t.hasher) t.arrays index left retains.gone one
+      (subst (λ (z : TableView K V H). IsLocked z.arrays false index) (sym is) locked)
+      retains.parts retains.alive)
 
-  pub stays_seen : {E : Type 0} (t s : TableView K V H) (side : Bool) (index : ℕ) (from to : Place) (r : Result (Option (Bool × ℕ)) E) (new : ArraysView K V) → t ≡ s
-      → (pairs_ahead (bucket_on t.arrays side index) from ≢ [] → Stays side index t.arrays from r new to) → pairs_ahead (bucket_on s.arrays side index) from ≢ [] → Stays side index s.arrays from r new to
+  pub stays_seen : {E : Type 0} (t s : TableView K V H) (side : Bool) (index : ℕ) (from to : Place)
+      (r : Result (Option (Bool × ℕ)) E) (new : ArraysView K V) → t ≡ s
+      → (pairs_ahead (bucket_on t.arrays side index) from ≢ []
+      → Stays side index t.arrays from r new to) → pairs_ahead (bucket_on s.arrays side index)
+      from ≢ [] → Stays side index s.arrays from r new to
   stays_seen t s side index from to r new is h =
-      subst (λ (z : TableView K V H). pairs_ahead (bucket_on z.arrays side index) from ≢ [] → Stays side index z.arrays from r new to) is h
+      subst (λ (z : TableView K V H). pairs_ahead (bucket_on z.arrays side index) from ≢ []
+      → Stays side index z.arrays from r new to) is h
 
   -- where a cursor finds nothing at all, there was nothing
-  pub nothing_seen : {E : Type 0} (hash : H → K → ℕ) (t s : TableView K V H) (bound : ℕ) (r : Result (Option ℕ) E) (new : ArraysView K V) (at : Place) → t ≡ s → bound ≡ 0 → KeepsArrays t.arrays new
+  pub nothing_seen : {E : Type 0} (hash : H → K → ℕ) (t s : TableView K V H) (bound : ℕ)
+      (r : Result (Option ℕ) E) (new : ArraysView K V) (at : Place) → t ≡ s → bound ≡ 0
+      → KeepsArrays t.arrays new
       → GoesOnFrom (hash t.hasher) bound r new at → IfNothing r (pairs_of s.arrays ≡ [])
   nothing_seen hash t s bound (Ok (Some index)) new at is zero_bound kept h = tt
   nothing_seen hash t s bound (Err e) new at is zero_bound kept h = tt
@@ -99,11 +150,16 @@ module _ {K V H : Type 0} where
       let none = no_pair (hash t.hasher) bound (pairs_of new) zero_bound h.0 in
       let len = length_permutation _ _ (pairs_kept (entries_of t.arrays) (entries_of new) kept.pairs) in
       let no_len = ap (λ ps. length ps) none in
-      subst (λ (z : TableView K V H). pairs_of z.arrays ≡ []) is (nothing (pairs_of t.arrays) (omega (arith, len, no_len)))
+      subst (λ (z : TableView K V H). pairs_of z.arrays ≡ []) is
+      (nothing (pairs_of t.arrays) (omega (arith, len, no_len)))
     where
-      no_pair : (hash : K → ℕ) (bound : ℕ) (ps : List (K × V)) → bound ≡ 0 → HasNoneFrom hash bound ps → ps ≡ []
+      no_pair : (hash : K → ℕ) (bound : ℕ) (ps : List (K × V)) → bound ≡ 0
+          → HasNoneFrom hash bound ps → ps ≡ []
       no_pair hash bound [] e h = refl
       no_pair hash bound (p ∷ ps) e h = absurd (let less = h.0 in omega (arith, e, less))
 
-  pub resized_seen : (t s : TableView K V H) (index : ℕ) (new : ArraysView K V) → t ≡ s → ResizesIf (AsksShrinking t.arrays index) t.arrays new → ResizesIf (AsksShrinking s.arrays index) s.arrays new
-  resized_seen t s index new is h = subst (λ (z : TableView K V H). ResizesIf (AsksShrinking z.arrays index) z.arrays new) is h
+  pub resized_seen : (t s : TableView K V H) (index : ℕ) (new : ArraysView K V) → t ≡ s
+      → ResizesIf (AsksShrinking t.arrays index) t.arrays new
+      → ResizesIf (AsksShrinking s.arrays index) s.arrays new
+  resized_seen t s index new is h = subst (λ (z : TableView K V H). ResizesIf
+      (AsksShrinking z.arrays index) z.arrays new) is h

@@ -1,5 +1,22 @@
 -- A pair is taken out of a table, after its bucket was found.
-use Rattle.std.proofs.Common.{◌≡◌, Bool, true, false, Option, Some, None, Result, Ok, Err, List, ◌∷◌, sym, ap, subst, ◌∙◌}
+use Rattle.std.proofs.Common.{
+  ◌≡◌,
+  Bool,
+  true,
+  false,
+  Option,
+  Some,
+  None,
+  Result,
+  Ok,
+  Err,
+  List,
+  ◌∷◌,
+  sym,
+  ap,
+  subst,
+  ◌∙◌,
+}
 use Rattle.std.proofs.lemmas.List.Sorted.{All-permutation, IsPermutation-sym, IsPermutation-trans}
 use Rattle.std.proofs.lemmas.Option.{same_Some}
 use Rattle.bucket_slots.specs.Slots.{Slot, live_pair}
@@ -9,26 +26,48 @@ use Rattle.bucket_table.specs.MapState.{KeepsPairs, MapState, TakesPair}
 
 module _ {K V H : Type 0} where
   -- another order, and then one pair less
-  pub then_taken : (a b d : MapState K V H) (p : K × V) → KeepsPairs a b → TakesPair b p d → TakesPair a p d
+  pub then_taken : (a b d : MapState K V H) (p : K × V) → KeepsPairs a b → TakesPair b p d
+      → TakesPair a p d
   then_taken a b d p keeps takes = record {
     pairs = IsPermutation-trans a.pairs b.pairs (p ∷ d.pairs) keeps.pairs takes.pairs;
-    others = takes.others ∙ ap (λ (m : MapState K V H). record { kind = m.kind; hasher = m.hasher; minimum = m.minimum; maximum = m.maximum; pairs = d.pairs }) keeps.others;
+    others = takes.others ∙ ap (λ (m : MapState K V H). record {
+      kind = m.kind;
+      hasher = m.hasher;
+      minimum = m.minimum;
+      maximum = m.maximum;
+      pairs =
+          d.pairs;
+    }) keeps.others;
   }
 
 -- what is held keeps the map of before another call too
 module _ {A E K V H : Type 0} where
-  pub held_on : (r : Result (Option A) E) (a b : MapState K V H) (now : A → MapState K V H) → KeepsPairs a b → IfHeld r (λ held. KeepsPairs b (now held)) → IfHeld r (λ held. KeepsPairs a (now held))
+  pub held_on : (r : Result (Option A) E) (a b : MapState K V H) (now : A → MapState K V H)
+      → KeepsPairs a b → IfHeld r (λ held. KeepsPairs b (now held))
+      → IfHeld r (λ held. KeepsPairs a (now held))
   held_on (Ok (Some held)) a b now first second = record {
     pairs = IsPermutation-trans a.pairs b.pairs (now held).pairs first.pairs second.pairs;
-    others = second.others ∙ ap (λ (m : MapState K V H). record { kind = m.kind; hasher = m.hasher; minimum = m.minimum; maximum = m.maximum; pairs = (now held).pairs }) first.others;
+    others = second.others ∙ ap (λ (m : MapState K V H). record {
+      kind = m.kind;
+      hasher = m.hasher;
+      minimum = m.minimum;
+      maximum = m.maximum;
+      pairs =
+          (now held).pairs;
+    }) first.others;
   }
   held_on (Ok None) a b now first second = tt
   held_on (Err refused) a b now first second = tt
 
 -- the pair that a search found is the one that was taken
-pub same_taken : {K V : Type 0} (eq : K → K → Bool) (k : K) (pairs : List (K × V)) (slot : Slot K V) (p q : K × V) → live_pair slot ≡ Some p → IsThere eq k pairs p → live_pair slot ≡ Some q → eq q.0 k ≡ true
-same_taken {K} {V} eq k pairs slot p q found there taken = subst (λ (r : K × V). eq r.0 k ≡ true) (same_Some p q (sym found ∙ taken)) there.1
+pub same_taken : {K V : Type 0} (eq : K → K → Bool) (k : K) (pairs : List (K × V)) (slot : Slot K V)
+    (p q : K × V) → live_pair slot ≡ Some p → IsThere eq k pairs p → live_pair slot ≡ Some q
+    → eq q.0 k ≡ true
+same_taken {K} {V} eq k pairs slot p q found there taken = subst (λ (r : K × V). eq r.0 k ≡ true)
+    (same_Some p q (sym found ∙ taken)) there.1
 
 -- a key that is absent was absent in another order
-pub absent_before : {K V H : Type 0} (eq : K → K → Bool) (k : K) (a b : MapState K V H) → KeepsPairs a b → IsAbsent eq k b.pairs → IsAbsent eq k a.pairs
-absent_before {K} {V} eq k a b keeps none = All-permutation (λ (p : K × V). eq p.0 k ≡ false) b.pairs a.pairs (IsPermutation-sym a.pairs b.pairs keeps.pairs) none
+pub absent_before : {K V H : Type 0} (eq : K → K → Bool) (k : K) (a b : MapState K V H)
+    → KeepsPairs a b → IsAbsent eq k b.pairs → IsAbsent eq k a.pairs
+absent_before {K} {V} eq k a b keeps none = All-permutation (λ (p : K × V). eq p.0 k ≡ false)
+    b.pairs a.pairs (IsPermutation-sym a.pairs b.pairs keeps.pairs) none

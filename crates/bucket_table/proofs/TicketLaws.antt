@@ -10,7 +10,8 @@ use Rattle.bucket_table.specs.declared.script.reply.Reply.{Reply}
 use Rattle.bucket_table.specs.declared.script.reply.Reply.TheVariants.{Done, Present, Absent, Value, Old, Pair, Nothing, Number, Truth, Ticket, NoTicket, NoWork, Ended, Fault, Refused, WrongKind, Walked, Cleared}
 
 module _ {K V : Type 0} where
-  none_after : (call : Call K V) (reply : Reply K V) (after : Option RehashState) → IsTicketCall call → TicketStep None call reply after → after ≡ None
+  none_after : (call : Call K V) (reply : Reply K V) (after : Option RehashState)
+      → IsTicketCall call → TicketStep None call reply after → after ≡ None
   none_after Start Done after of h = absurd h
   none_after Start Present after of h = absurd h
   none_after Start Absent after of h = absurd h
@@ -80,11 +81,14 @@ module _ {K V : Type 0} where
 
   pub gone : (calls : List (Call K V)) (replies : List (Reply K V)) (last : Option RehashState)
       → All (λ (call : Call K V). IsTicketCall call) calls
-      → Run (λ (m : Option RehashState) (call : Call K V) (reply : Reply K V) (n : Option RehashState). TicketStep m call reply n) None calls replies last → last ≡ None
+      → Run (λ (m : Option RehashState) (call : Call K V) (reply : Reply K V)
+      (n : Option RehashState). TicketStep m call reply n) None calls replies last → last ≡ None
   gone [] [] last all ran = ran
   gone [] (r ∷ replies) last all ran = absurd ran
   gone (c ∷ calls) [] last all ran = absurd ran
   gone (c ∷ calls) (r ∷ replies) last all ran =
       let first : ran.0 ≡ None = none_after c r ran.0 (all 0 c (omega arith)) ran.1 in
       gone calls replies last (λ i d below. all (suc i) d (omega arith))
-      (subst (λ (o : Option RehashState). Run (λ (m : Option RehashState) (call : Call K V) (reply : Reply K V) (n : Option RehashState). TicketStep m call reply n) o calls replies last) first ran.2)
+      (subst (λ (o : Option RehashState). Run (λ (m : Option RehashState) (call : Call K V)
+      (reply : Reply K V) (n : Option RehashState). TicketStep m call reply n) o calls replies
+      last) first ran.2)

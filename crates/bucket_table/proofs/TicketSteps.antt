@@ -1,5 +1,27 @@
 -- The tickets of a table are those of the machine that knows no pairs.
-use Rattle.std.proofs.Common.{ℕ, ◌<◌, ◌≡◌, Bool, true, false, Option, Some, None, Result, Ok, Err, List, length, option_map, set, refl, sym, ap, subst, ◌∙◌}
+use Rattle.std.proofs.Common.{
+  ℕ,
+  ◌<◌,
+  ◌≡◌,
+  Bool,
+  true,
+  false,
+  Option,
+  Some,
+  None,
+  Result,
+  Ok,
+  Err,
+  List,
+  length,
+  option_map,
+  set,
+  refl,
+  sym,
+  ap,
+  subst,
+  ◌∙◌,
+}
 use Rattle.std.proofs.lemmas.List.{length-map, map-set}
 use Rattle.std.proofs.lemmas.Option.{same_Some}
 use Rattle.bucket_slots.specs.BucketView.{BucketView}
@@ -11,18 +33,24 @@ use Rattle.bucket_table.specs.Units.{KeepsBag, times_in}
 use Rattle.bucket_table.specs.declared.tickets.TicketError.{TicketError}
 
 module _ {K V : Type 0} where
-  times_same : (unit : ℕ) (o : Option (RehashView K V)) → times_handed unit (option_map (λ (r : RehashView K V). rehash_state r) o) ≡ times_in unit o
+  times_same : (unit : ℕ) (o : Option (RehashView K V)) → times_handed unit
+      (option_map (λ (r : RehashView K V). rehash_state r) o) ≡ times_in unit o
   times_same unit None = refl
   times_same unit (Some rehash) = refl
 
   -- a call that keeps the bag of open units
-  pub tickets_kept : (old new : ArraysView K V) → KeepsBag old.rehash new.rehash → KeepsTickets (tickets_of old) (tickets_of new)
-  tickets_kept old new bag = record { times = λ unit. times_same unit new.rehash ∙ bag unit ∙ sym (times_same unit old.rehash) }
+  pub tickets_kept : (old new : ArraysView K V) → KeepsBag old.rehash new.rehash
+      → KeepsTickets (tickets_of old) (tickets_of new)
+  tickets_kept old new bag = record {
+    times = λ unit. times_same unit new.rehash ∙ bag unit ∙ sym
+        (times_same unit old.rehash);
+  }
 
   pub bag_through : (a b c : Option (RehashView K V)) → KeepsBag a b → KeepsBag b c → KeepsBag a c
   bag_through a b c first second = λ unit. second unit ∙ first unit
 
-  bag_with_rehash : (o : Option (RehashView K V)) (index : ℕ) (bucket : BucketView K V) → KeepsBag o (rehash_with o index bucket)
+  bag_with_rehash : (o : Option (RehashView K V)) (index : ℕ) (bucket : BucketView K V)
+      → KeepsBag o (rehash_with o index bucket)
   bag_with_rehash None index bucket = λ unit. refl
   bag_with_rehash (Some rehash) index bucket = λ unit. refl
 
@@ -33,23 +61,37 @@ module _ {K V : Type 0} where
   bag_with table false index bucket = λ unit. refl
 
   -- an old bucket is killed
-  pub kills_as : (index : ℕ) (old new : ArraysView K V) → IsOldIndex old index → RelocatesAt index old new → KillsBucket (tickets_of old) index (tickets_of new)
+  pub kills_as : (index : ℕ) (old new : ArraysView K V) → IsOldIndex old index
+      → RelocatesAt index old new → KillsBucket (tickets_of old) index (tickets_of new)
   kills_as index old new (rehash, is, below) moved =
       let was : RehashView K V = moved.was in
       let same : rehash ≡ was = same_Some rehash was (sym is ∙ moved.rehash_was) in
-      let less : index < length was.buckets = subst (λ (r : RehashView K V). index < length r.buckets) same below in
-      let here : index < length (killed_flags was.buckets) = subst (λ n. index < n) (sym (length-map was.buckets (λ (b : BucketView K V). b.killed))) less in
-      let flags : killed_flags (set was.buckets index moved.bucket) ≡ set (killed_flags was.buckets) index true =
-      map-set (λ (b : BucketView K V). b.killed) was.buckets index moved.bucket ∙ ap (λ (x : Bool). set (killed_flags was.buckets) index x) moved.is_killed in
-      let after : tickets_of new ≡ Some (record { tickets = was.tickets; killed = set (killed_flags was.buckets) index true }) =
-      ap (λ (o : Option (RehashView K V)). option_map (λ (r : RehashView K V). rehash_state r) o) moved.rehash_is
+      let less : index < length was.buckets = subst (λ (r : RehashView K V). index < length
+      r.buckets) same below in
+      let here : index < length (killed_flags was.buckets) = subst (λ n. index < n)
+      (sym (length-map was.buckets (λ (b : BucketView K V). b.killed))) less in
+      let flags : killed_flags (set was.buckets index moved.bucket) ≡ set (killed_flags was.buckets)
+      index true =
+      map-set (λ (b : BucketView K V). b.killed) was.buckets index moved.bucket ∙ ap
+      (λ (x : Bool). set (killed_flags was.buckets) index x) moved.is_killed in
+      let after : tickets_of new ≡ Some (record {
+        tickets = was.tickets;
+        killed = set
+            (killed_flags was.buckets) index true;
+      }) =
+      ap (λ (o : Option (RehashView K V)). option_map (λ (r : RehashView K V). rehash_state r) o)
+      moved.rehash_is
       ∙ ap (λ (ks : List Bool). Some (record { tickets = was.tickets; killed = ks })) flags in
-      subst (λ (o : Option (RehashView K V)). KillsBucket (option_map (λ (r : RehashView K V). rehash_state r) o) index (tickets_of new)) (sym moved.rehash_was) (here, after)
+      subst (λ (o : Option (RehashView K V)). KillsBucket
+      (option_map (λ (r : RehashView K V). rehash_state r) o) index (tickets_of new))
+      (sym moved.rehash_was) (here, after)
 
 module _ {K V H : Type 0} where
   -- a bucket of the table has changed
-  pub bag_set : (t s : TableView K V H) (is_old : Bool) (index : ℕ) (bucket : BucketView K V) → s ≡ with_bucket t is_old index bucket → KeepsBag t.arrays.rehash s.arrays.rehash
-  bag_set t s is_old index bucket is = subst (λ (z : TableView K V H). KeepsBag t.arrays.rehash z.arrays.rehash) (sym is) (bag_with t is_old index bucket)
+  pub bag_set : (t s : TableView K V H) (is_old : Bool) (index : ℕ) (bucket : BucketView K V)
+      → s ≡ with_bucket t is_old index bucket → KeepsBag t.arrays.rehash s.arrays.rehash
+  bag_set t s is_old index bucket is = subst (λ (z : TableView K V H). KeepsBag t.arrays.rehash
+      z.arrays.rehash) (sym is) (bag_with t is_old index bucket)
 
   pub bag_same : (t s : TableView K V H) → s ≡ t → KeepsBag t.arrays.rehash s.arrays.rehash
   bag_same t s is = λ unit. ap (λ (z : TableView K V H). times_in unit z.arrays.rehash) is

@@ -1,5 +1,31 @@
 -- What starting, working and ending one ticket does to the bag and the position.
-use Rattle.std.proofs.Common.{ℕ, ◌/◌, ◌≡◌, ◌==◌, Bool, true, false, List, [], ◌∷◌, Option, Some, None, Result, Ok, Err, cond, refl, sym, ap, subst, ◌∙◌, arith, count_by, sum_by}
+use Rattle.std.proofs.Common.{
+  ℕ,
+  ◌/◌,
+  ◌≡◌,
+  ◌==◌,
+  Bool,
+  true,
+  false,
+  List,
+  [],
+  ◌∷◌,
+  Option,
+  Some,
+  None,
+  Result,
+  Ok,
+  Err,
+  cond,
+  refl,
+  sym,
+  ap,
+  subst,
+  ◌∙◌,
+  arith,
+  count_by,
+  sum_by,
+}
 use Rattle.std.proofs.lemmas.List.Elements.{Contains-get_or}
 use Rattle.std.proofs.lemmas.List.Sorted.{Contains-permutation, sum_by-IsPermutation}
 use Rattle.std.proofs.lemmas.List.Sums.{sum_by-cons}
@@ -16,7 +42,8 @@ use Rattle.bucket_table.specs.declared.tickets.TicketError.{TicketError}
 use Rattle.bucket_table.specs.declared.tickets.TicketError.TheVariants.{NotOpen, NotDone}
 
 -- one unit joins a bag and one leaves it
-bag_back : (unit other : ℕ) (was started is : List ℕ) → IsPermutation (other ∷ was) started → IsPermutation started (other ∷ is)
+bag_back : (unit other : ℕ) (was started is : List ℕ) → IsPermutation (other ∷ was) started
+    → IsPermutation started (other ∷ is)
     → count_by (λ (u : ℕ). u == unit) is ≡ count_by (λ (u : ℕ). u == unit) was
 bag_back unit other was started is joined left =
     let one : ℕ → ℕ = λ u. cond (u == unit) 1 0 in
@@ -30,7 +57,8 @@ bag_back unit other was started is joined left =
 module _ {K V : Type 0} where
   pub unit_ended : (was started is : RehashView K V) (after : Option (RehashView K V)) (ticket : ℕ) (success : Bool) (answer : Result Bool TicketError)
       → HandsOut was.tickets ticket started.tickets → is.tickets ≡ started.tickets
-      → (success ≡ true → IsUnitKilled (killed_flags is.buckets) (ticket / 2048)) → EndsRehash (Some is) ticket success answer after
+      → (success ≡ true → IsUnitKilled (killed_flags is.buckets) (ticket / 2048))
+      → EndsRehash (Some is) ticket success answer after
       → KeepsBag (Some was) after × (success ≡ true → WorksUnit was after)
   unit_ended was started is after ticket success (Err NotOpen) h same killed ends =
       let there : Contains is.tickets.open_units was.tickets.position =
@@ -48,8 +76,13 @@ module _ {K V : Type 0} where
       let over : last.open_units ≡ [] = (goes.0 refl).1.0 in
       let left : IsPermutation started.tickets.open_units (p ∷ last.open_units) =
       subst (λ (t : TicketState). IsPermutation t.open_units (p ∷ last.open_units)) same
-      (subst (λ (u : ℕ). IsPermutation is.tickets.open_units (u ∷ last.open_units)) unit_is closes.open_is) in
-      (λ other. sym (ap (λ (us : List ℕ). count_by (λ (u : ℕ). u == other) us) over) ∙ bag_back other p was.tickets.open_units started.tickets.open_units last.open_units h.open_is left, λ e. tt)
+      (subst (λ (u : ℕ). IsPermutation is.tickets.open_units (u ∷ last.open_units)) unit_is
+      closes.open_is) in (
+        λ other. sym (ap (λ (us : List ℕ). count_by (λ (u : ℕ). u == other) us) over) ∙ bag_back
+            other p was.tickets.open_units started.tickets.open_units last.open_units h.open_is left,
+        λ
+            e. tt,
+      )
   unit_ended was started is (Some last) ticket success (Ok true) h same killed ends = absurd ends
   unit_ended was started is None ticket success (Ok false) h same killed ends = absurd ends
   unit_ended was started is (Some last) ticket success (Ok false) h same killed ends =
@@ -59,14 +92,18 @@ module _ {K V : Type 0} where
       let unit_is : unit ≡ p = omega arith in
       let left : IsPermutation started.tickets.open_units (p ∷ last.tickets.open_units) =
       subst (λ (t : TicketState). IsPermutation t.open_units (p ∷ last.tickets.open_units)) same
-      (subst (λ (u : ℕ). IsPermutation is.tickets.open_units (u ∷ last.tickets.open_units)) unit_is closes.open_is) in
+      (subst (λ (u : ℕ). IsPermutation is.tickets.open_units (u ∷ last.tickets.open_units)) unit_is
+      closes.open_is) in
       let next = h.position_is in
       let from = ap (λ (t : TicketState). t.position) same in
       let at : ticket / 2048 ≡ p = omega arith in (
-        λ other. bag_back other p was.tickets.open_units started.tickets.open_units last.tickets.open_units h.open_is left,
+        λ other. bag_back other p was.tickets.open_units started.tickets.open_units
+            last.tickets.open_units h.open_is left,
         λ e. (
-          closes.position_is ∙ ap (λ (s : Bool). position_after s is.tickets.position unit) e ∙ from ∙ next,
+          closes.position_is ∙ ap (λ (s : Bool). position_after s is.tickets.position unit) e ∙ from
+              ∙ next,
           subst (λ (u : ℕ). IsUnitKilled (killed_flags last.buckets) u) at
-              (subst (λ (buckets : List (BucketView K V)). IsUnitKilled (killed_flags buckets) (ticket / 2048)) (sym ends.1) (killed e)),
+              (subst (λ (buckets : List (BucketView K V)). IsUnitKilled (killed_flags buckets)
+              (ticket / 2048)) (sym ends.1) (killed e)),
         ),
       )

@@ -1,5 +1,33 @@
 -- What a unit's steps do, one after another.
-use Rattle.std.proofs.Common.{ℕ, ◌+◌, ◌*◌, ◌<◌, ◌≤◌, ◌≡◌, ◌≢◌, Bool, true, false, List, Option, Some, None, set, length, option_map, ⊎_elim, refl, sym, ap, subst, ◌∙◌, arith, get_or-set_other, get_or-set_same, length-set}
+use Rattle.std.proofs.Common.{
+  ℕ,
+  ◌+◌,
+  ◌*◌,
+  ◌<◌,
+  ◌≤◌,
+  ◌≡◌,
+  ◌≢◌,
+  Bool,
+  true,
+  false,
+  List,
+  Option,
+  Some,
+  None,
+  set,
+  length,
+  option_map,
+  ⊎_elim,
+  refl,
+  sym,
+  ap,
+  subst,
+  ◌∙◌,
+  arith,
+  get_or-set_other,
+  get_or-set_same,
+  length-set,
+}
 use Rattle.std.proofs.lemmas.List.{length-map}
 use Rattle.std.proofs.lemmas.Bool.{cases_eq, false≢true}
 use Rattle.std.proofs.lemmas.List.Sorted.{IsPermutation-refl, IsPermutation-trans}
@@ -18,7 +46,8 @@ module _ {K V : Type 0} where
   kept_none arrays = record { pairs = IsPermutation-refl (entries_of arrays); minimum = refl; maximum = refl; current_len = refl }
 
   -- one after another
-  pub kept_both : (first between last : ArraysView K V) → KeepsArrays first between → KeepsArrays between last → KeepsArrays first last
+  pub kept_both : (first between last : ArraysView K V) → KeepsArrays first between
+      → KeepsArrays between last → KeepsArrays first last
   kept_both first between last a b = record {
     pairs = IsPermutation-trans (entries_of first) (entries_of between) (entries_of last) a.pairs b.pairs;
     minimum = b.minimum ∙ a.minimum;
@@ -27,16 +56,20 @@ module _ {K V : Type 0} where
   }
 
   -- only the rehash changed, and no pair
-  pub kept_rehash : (old new : ArraysView K V) → new ≡ record old { rehash = new.rehash } → entries_of new ≡ entries_of old → KeepsArrays old new
+  pub kept_rehash : (old new : ArraysView K V) → new ≡ record old { rehash = new.rehash }
+      → entries_of new ≡ entries_of old → KeepsArrays old new
   kept_rehash old new is same = record {
-    pairs = subst (λ (pairs : List ((K × V) × ℕ)). IsPermutation (entries_of old) pairs) (sym same) (IsPermutation-refl (entries_of old));
+    pairs = subst (λ (pairs : List ((K × V) × ℕ)). IsPermutation (entries_of old) pairs) (sym same)
+        (IsPermutation-refl (entries_of old));
     minimum = ap (λ (arrays : ArraysView K V). arrays.minimum) is;
     maximum = ap (λ (arrays : ArraysView K V). arrays.maximum) is;
-    current_len = ap (λ (arrays : ArraysView K V). option_map (λ (buckets : List (BucketView K V)). length buckets) arrays.current) is;
+    current_len = ap (λ (arrays : ArraysView K V). option_map
+        (λ (buckets : List (BucketView K V)). length buckets) arrays.current) is;
   }
 
   -- no bucket was relocated yet
-  pub range_none : (start : ℕ) (arrays : ArraysView K V) (was : RehashView K V) → arrays.rehash ≡ Some was → RelocatesTo start start arrays arrays
+  pub range_none : (start : ℕ) (arrays : ArraysView K V) (was : RehashView K V)
+      → arrays.rehash ≡ Some was → RelocatesTo start start arrays arrays
   range_none start arrays was is = (
     was,
     was,
@@ -48,32 +81,41 @@ module _ {K V : Type 0} where
     },
   )
 
-  at_set : (buckets : List (BucketView K V)) (index i : ℕ) (bucket : BucketView K V) → i ≢ index → bucket_at (set buckets index bucket) i ≡ bucket_at buckets i
+  at_set : (buckets : List (BucketView K V)) (index i : ℕ) (bucket : BucketView K V) → i ≢ index
+      → bucket_at (set buckets index bucket) i ≡ bucket_at buckets i
   at_set buckets index i bucket other = get_or-set_other buckets index i bucket empty_bucket other
 
-  killed_more : (start index : ℕ) (buckets : List (BucketView K V)) (bucket : BucketView K V) → bucket.killed ≡ true → index < length buckets
+  killed_more : (start index : ℕ) (buckets : List (BucketView K V)) (bucket : BucketView K V)
+      → bucket.killed ≡ true → index < length buckets
       → ((i : ℕ) → start ≤ i → i < index → (bucket_at buckets i).killed ≡ true)
       → (i : ℕ) → start ≤ i → i < index + 1 → (bucket_at (set buckets index bucket) i).killed ≡ true
   killed_more start index buckets bucket dead within before i low high = ⊎_elim
       (λ (here : i ≡ index).
       let placed : bucket_at (set buckets index bucket) i ≡ bucket =
-      subst (λ (j : ℕ). bucket_at (set buckets index bucket) j ≡ bucket) (sym here) (get_or-set_same buckets index bucket empty_bucket within) in
+      subst (λ (j : ℕ). bucket_at (set buckets index bucket) j ≡ bucket) (sym here)
+      (get_or-set_same buckets index bucket empty_bucket within) in
       ap (λ (b : BucketView K V). b.killed) placed ∙ dead)
-      (λ (other : i ≢ index). ap (λ (b : BucketView K V). b.killed) (at_set buckets index i bucket other) ∙ before i low (omega arith))
+      (λ (other : i ≢ index). ap (λ (b : BucketView K V). b.killed)
+      (at_set buckets index i bucket other) ∙ before i low (omega arith))
       (cases_eq i index)
 
-  killed_still : (index : ℕ) (buckets : List (BucketView K V)) (bucket : BucketView K V) → bucket.killed ≡ true → index < length buckets
-      → (i : ℕ) → (bucket_at buckets i).killed ≡ true → (bucket_at (set buckets index bucket) i).killed ≡ true
+  killed_still : (index : ℕ) (buckets : List (BucketView K V)) (bucket : BucketView K V)
+      → bucket.killed ≡ true → index < length buckets
+      → (i : ℕ) → (bucket_at buckets i).killed ≡ true → (bucket_at (set buckets index bucket)
+      i).killed ≡ true
   killed_still index buckets bucket dead within i before = ⊎_elim
       (λ (here : i ≡ index).
       let placed : bucket_at (set buckets index bucket) i ≡ bucket =
-      subst (λ (j : ℕ). bucket_at (set buckets index bucket) j ≡ bucket) (sym here) (get_or-set_same buckets index bucket empty_bucket within) in
+      subst (λ (j : ℕ). bucket_at (set buckets index bucket) j ≡ bucket) (sym here)
+      (get_or-set_same buckets index bucket empty_bucket within) in
       ap (λ (b : BucketView K V). b.killed) placed ∙ dead)
-      (λ (other : i ≢ index). ap (λ (b : BucketView K V). b.killed) (at_set buckets index i bucket other) ∙ before)
+      (λ (other : i ≢ index). ap (λ (b : BucketView K V). b.killed)
+      (at_set buckets index i bucket other) ∙ before)
       (cases_eq i index)
 
   -- one bucket more
-  pub range_more : (start index : ℕ) (old between new : ArraysView K V) → RelocatesTo start index old between → RelocatesAt index between new
+  pub range_more : (start index : ℕ) (old between new : ArraysView K V)
+      → RelocatesTo start index old between → RelocatesAt index between new
       → IsOldIndex between index → RelocatesTo start (index + 1) old new
   range_more start index old between new (was, is, done) moved (here, here_is, within) =
       let same : moved.was ≡ is = same_Some _ _ (sym moved.rehash_was ∙ done.some.rehash_is) in
@@ -84,19 +126,25 @@ module _ {K V : Type 0} where
         record {
           some = record {
             rehash_was = done.some.rehash_was;
-            rehash_is = moved.rehash_is ∙ ap (λ (r : RehashView K V). Some (record { buckets = set r.buckets index moved.bucket; tickets = r.tickets })) same;
+            rehash_is = moved.rehash_is ∙ ap (λ (r : RehashView K V). Some
+                (record { buckets = set r.buckets index moved.bucket; tickets = r.tickets })) same;
             same_tickets = done.some.same_tickets;
             same_len = length-set is.buckets index moved.bucket ∙ done.some.same_len;
             kept = kept_both old between new done.some.kept moved.kept;
           };
-          killed = killed_more start index is.buckets moved.bucket moved.is_killed (subst (λ (r : RehashView K V). index < length r.buckets) same_here within) done.killed;
-          rest = λ i low. at_set is.buckets index i moved.bucket (λ e. omega arith) ∙ done.rest i (omega arith);
-          still = λ i dead. killed_still index is.buckets moved.bucket moved.is_killed (subst (λ (r : RehashView K V). index < length r.buckets) same_here within) i (done.still i dead);
+          killed = killed_more start index is.buckets moved.bucket moved.is_killed
+              (subst (λ (r : RehashView K V). index < length r.buckets) same_here within) done.killed;
+          rest = λ i low. at_set is.buckets index i moved.bucket (λ e. omega arith) ∙ done.rest i
+              (omega arith);
+          still = λ i dead. killed_still index is.buckets moved.bucket moved.is_killed
+              (subst (λ (r : RehashView K V). index < length r.buckets) same_here within) i
+              (done.still i dead);
         },
       )
 
   -- a refusal ends the range
-  pub some_refused : (start index end : ℕ) (old between new : ArraysView K V) → RelocatesTo start index old between → IsUnmoved between new
+  pub some_refused : (start index end : ℕ) (old between new : ArraysView K V)
+      → RelocatesTo start index old between → IsUnmoved between new
       → WorksRange start end false old new
   some_refused start index end old between new (was, is, done) same = (
     was,
@@ -113,7 +161,8 @@ module _ {K V : Type 0} where
   )
 
   -- the whole range was relocated
-  pub some_worked : (start index end : ℕ) (old new : ArraysView K V) → RelocatesTo start index old new → end ≤ index
+  pub some_worked : (start index end : ℕ) (old new : ArraysView K V)
+      → RelocatesTo start index old new → end ≤ index
       → WorksRange start end true old new
   some_worked start index end old new (was, is, done) reaches = (
     was,
@@ -124,7 +173,8 @@ module _ {K V : Type 0} where
   )
 
   -- a unit is a range
-  pub unit_worked : (start end unit : ℕ) (success : Bool) (old new : ArraysView K V) → WorksRange start end success old new → start ≡ 64 * unit
+  pub unit_worked : (start end unit : ℕ) (success : Bool) (old new : ArraysView K V)
+      → WorksRange start end success old new → start ≡ 64 * unit
       → ((i : ℕ) → i < 64 * unit + 64 → i < length (old_buckets old.rehash) → i < end)
       → WorksSome unit success old new
   unit_worked start end unit success old new (was, is, some, killed, still) start_is reaches = (
@@ -134,17 +184,20 @@ module _ {K V : Type 0} where
     λ e i low high within.
         let long = length_flags is.buckets in
         let len = some.same_len in
-        let there : length (old_buckets old.rehash) ≡ length was.buckets = ap (λ (o : Option (RehashView K V)). length (old_buckets o)) some.rehash_was in
+        let there : length (old_buckets old.rehash) ≡ length was.buckets = ap
+        (λ (o : Option (RehashView K V)). length (old_buckets o)) some.rehash_was in
         let inside : i < length is.buckets = omega arith in
         get_or-killed_flags is.buckets i inside ∙ killed e i (omega arith) (reaches i high (omega arith)),
     still,
   )
     where
-      length_flags : (buckets : List (BucketView K V)) → length (killed_flags buckets) ≡ length buckets
+      length_flags : (buckets : List (BucketView K V)) → length (killed_flags buckets) ≡ length
+          buckets
       length_flags buckets = length-map buckets (λ (bucket : BucketView K V). bucket.killed)
 
   -- an easy unit is an easy range
-  pub unit_easy : (start end unit : ℕ) (arrays : ArraysView K V) (was : RehashView K V) → IsEasyUnit unit arrays was → start ≡ 64 * unit → end ≤ 64 * unit + 64
+  pub unit_easy : (start end unit : ℕ) (arrays : ArraysView K V) (was : RehashView K V)
+      → IsEasyUnit unit arrays was → start ≡ 64 * unit → end ≤ 64 * unit + 64
       → IsEasyRange start end arrays was
   unit_easy start end unit arrays was easy start_is end_is = record {
     buckets = easy.buckets;
@@ -154,10 +207,12 @@ module _ {K V : Type 0} where
   }
 
   -- the next old bucket is there
-  pub old_inside : (start index end : ℕ) (old between : ArraysView K V) → RelocatesTo start index old between
+  pub old_inside : (start index end : ℕ) (old between : ArraysView K V)
+      → RelocatesTo start index old between
       → IsOldRange old end → index < end → IsOldIndex between index
   old_inside start index end old between (was, is, done) (first, first_is, within) below =
       let same_first : first ≡ was = same_Some _ _ (sym first_is ∙ done.some.rehash_was) in
-      let long : length first.buckets ≡ length was.buckets = ap (λ (r : RehashView K V). length r.buckets) same_first in
+      let long : length first.buckets ≡ length was.buckets = ap
+      (λ (r : RehashView K V). length r.buckets) same_first in
       let same = done.some.same_len in
       (is, done.some.rehash_is, omega arith)

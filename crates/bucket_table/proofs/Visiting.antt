@@ -1,5 +1,32 @@
 -- A current bucket is lent, and comes back with some of its keys.
-use Rattle.std.proofs.Common.{ℕ, ◌+◌, ◌<◌, ◌≤◌, ◌≡◌, ◌%◌, Bool, true, false, Ok, Err, List, [], ◌∷◌, ◌++◌, length, map, refl, sym, ap, subst, ◌∙◌, arith, inl, inr, length-set}
+use Rattle.std.proofs.Common.{
+  ℕ,
+  ◌+◌,
+  ◌<◌,
+  ◌≤◌,
+  ◌≡◌,
+  ◌%◌,
+  Bool,
+  true,
+  false,
+  Ok,
+  Err,
+  List,
+  [],
+  ◌∷◌,
+  ◌++◌,
+  length,
+  map,
+  refl,
+  sym,
+  ap,
+  subst,
+  ◌∙◌,
+  arith,
+  inl,
+  inr,
+  length-set,
+}
 use Rattle.std.specs.Cmp.{IsEquivalence}
 use Rattle.std.specs.List.{All, AllByRecursion, IsDistinct}
 use Rattle.std.specs.List.Sorted.{IsPermutation}
@@ -36,11 +63,13 @@ module _ {K V : Type 0} where
   abbrev pub key_of : (K × V) × ℕ → K × ℕ
   key_of e = (e.0.0, e.1)
 
-  keys_are : (es : List ((K × V) × ℕ)) → map (λ (p : K × V). p.0) (map (λ (e : (K × V) × ℕ). e.0) es) ≡ map (λ (k : K × ℕ). k.0) (map key_of es)
+  keys_are : (es : List ((K × V) × ℕ)) → map (λ (p : K × V). p.0)
+      (map (λ (e : (K × V) × ℕ). e.0) es) ≡ map (λ (k : K × ℕ). k.0) (map key_of es)
   keys_are [] = refl
   keys_are (e ∷ es) = ap (λ ks. e.0.0 ∷ ks) (keys_are es)
 
-  module _ (eq : K → K → Bool) (laws : IsEquivalence eq) (hash : K → ℕ) (arrays : ArraysView K V) (index : ℕ) (left : BucketView K V)
+  module _ (eq : K → K → Bool) (laws : IsEquivalence eq) (hash : K → ℕ) (arrays : ArraysView K V)
+      (index : ℕ) (left : BucketView K V)
       (one : IsOneMap eq hash arrays) (locked : IsLocked arrays false index) (kept : IsKeptBy (bucket_on arrays false index) left) where
     abbrev pub after : ArraysView K V
     after = arrays_with arrays false index left
@@ -50,9 +79,13 @@ module _ {K V : Type 0} where
         let n : ℕ = length (buckets_of arrays.current) in
         let Own : K × ℕ → Type 0 = λ k. IsHome n (hash k.0) index × (k.1 ≡ hash k.0 % 256) in
         let lent = recursion_from_All (IsEntryHome hash n index) _ (one.placed.homes.current_home index locked.within) in
-        let of_keys = each_map Own key_of (entries_in (bucket_on arrays false index)) (each_implies (IsEntryHome hash n index) (λ e. Own (key_of e)) (λ e h. (h.home, h.own_byte)) _ lent) in
+        let of_keys = each_map Own key_of (entries_in (bucket_on arrays false index))
+        (each_implies (IsEntryHome hash n index) (λ e. Own (key_of e)) (λ e h. (h.home, h.own_byte))
+        _ lent) in
         let of_left = each_unmap Own key_of (entries_in left) (each_back Own kept.gone (keys_in left) (all_permuted Own _ _ kept.keys of_keys)) in
-        All-from_recursion (IsEntryHome hash n index) (entries_in left) (each_implies (λ e. Own (key_of e)) (IsEntryHome hash n index) (λ e h. record { home = h.0; own_byte = h.1 }) (entries_in left) of_left)
+        All-from_recursion (IsEntryHome hash n index) (entries_in left)
+        (each_implies (λ e. Own (key_of e)) (IsEntryHome hash n index)
+        (λ e h. record { home = h.0; own_byte = h.1 }) (entries_in left) of_left)
 
     keys_left : IsPermutation (map key_of (entries_of arrays)) (kept.gone ++ map key_of (entries_of after))
     keys_left =
@@ -62,7 +95,9 @@ module _ {K V : Type 0} where
         let second : IsPermutation (map key_of (entries_of arrays)) (kept.gone ++ (keys_in left ++ map key_of s.rest)) =
         subst (IsPermutation (map key_of (entries_of arrays))) (append_assoc kept.gone (keys_in left) (map key_of s.rest)) (IsPermutation-trans _ _ _ first (IsPermutation-append_left (map key_of s.rest) _ _ kept.keys)) in
         let last : IsPermutation (keys_in left ++ map key_of s.rest) (map key_of (entries_of after)) =
-        subst (λ ks. IsPermutation ks (map key_of (entries_of after))) (map_append key_of (entries_in left) s.rest) (IsPermutation-map key_of _ _ (IsPermutation-sym _ _ (s.after left))) in
+        subst (λ ks. IsPermutation ks (map key_of (entries_of after)))
+        (map_append key_of (entries_in left) s.rest) (IsPermutation-map key_of _ _
+        (IsPermutation-sym _ _ (s.after left))) in
         IsPermutation-trans _ _ _ second (IsPermutation-append_right kept.gone _ _ last)
 
     -- the map stays one
@@ -85,25 +120,40 @@ module _ {K V : Type 0} where
         let pair_of : (K × V) × ℕ → K × V = λ e. e.0 in
         record {
           lent_is = taken_there hash arrays index s;
-          left_homes = subst (AllByRecursion (λ pair. has_home_in hash n index (index + 1) pair ≡ true)) (map-entries_in left)
-              (each_map (λ pair. has_home_in hash n index (index + 1) pair ≡ true) pair_of (entries_in left)
-              (each_implies (IsEntryHome hash n index) (λ e. has_home_in hash n index (index + 1) e.0 ≡ true) (λ e h. is_in n index (hash e.0.0) h.home.own.0 h.home.own.1) (entries_in left) (recursion_from_All (IsEntryHome hash n index) _ homes)));
+          left_homes = subst (AllByRecursion (λ pair. has_home_in hash n index (index + 1) pair
+              ≡ true)) (map-entries_in left)
+              (each_map (λ pair. has_home_in hash n index (index + 1) pair ≡ true) pair_of
+              (entries_in left)
+              (each_implies (IsEntryHome hash n index) (λ e. has_home_in hash n index (index + 1)
+              e.0 ≡ true) (λ e h. is_in n index (hash e.0.0) h.home.own.0 h.home.own.1) (entries_in left)
+              (recursion_from_All (IsEntryHome hash n index) _ homes)));
           pairs = changed_there hash arrays index s left;
-          len = ap (λ (bs : List (BucketView K V)). length bs) (buckets_of-array_with arrays.current index left) ∙ length-set (buckets_of arrays.current) index left;
+          len = ap (λ (bs : List (BucketView K V)). length bs)
+              (buckets_of-array_with arrays.current index left) ∙ length-set (buckets_of arrays.current)
+              index left;
         }
 
 module _ {K V : Type 0} where
-  abbrev pub IsLentAt : (S : Type 0) → (S → BucketView K V → Bool → Bool → BucketView K V → Bool → S → Type 0) → ArraysView K V → ℕ → S → Bool → Bool → Bool → S → ArraysView K V → Type 0
-  IsLentAt S step arrays index now flag more last next new = (left : BucketView K V) × step now (bucket_on arrays false index) flag more left last next × (new ≡ arrays_with arrays false index left)
+  abbrev pub IsLentAt : (S : Type 0) → (S → BucketView K V → Bool → Bool → BucketView K V → Bool → S
+      → Type 0) → ArraysView K V → ℕ → S → Bool → Bool → Bool → S → ArraysView K V → Type 0
+  IsLentAt S step arrays index now flag more last next new = (left : BucketView K V)
+      × step now (bucket_on arrays false index) flag more left last next
+      × (new ≡ arrays_with arrays false index left)
 
-module _ {S K V H : Type 0} (step : S → BucketView K V → Bool → Bool → BucketView K V → Bool → S → Type 0) where
-  pub one_map_lent : (eq : K → K → Bool) → IsEquivalence eq → (hash : H → K → ℕ) (t s : TableView K V H) (index : ℕ) (now next : S) (flag more last : Bool) (new : ArraysView K V) → t ≡ s
-      → IsOneMap eq (hash t.hasher) t.arrays → IsLocked s.arrays false index → KeepsBuckets step → IsLentAt S step t.arrays index now flag more last next new → IsOneMap eq (hash t.hasher) new
+module _ {S K V H : Type 0} (step : S → BucketView K V → Bool → Bool → BucketView K V → Bool → S
+    → Type 0) where
+  pub one_map_lent : (eq : K → K → Bool) → IsEquivalence eq
+      → (hash : H → K → ℕ) (t s : TableView K V H) (index : ℕ) (now next : S)
+      (flag more last : Bool) (new : ArraysView K V) → t ≡ s
+      → IsOneMap eq (hash t.hasher) t.arrays → IsLocked s.arrays false index → KeepsBuckets step
+      → IsLentAt S step t.arrays index now flag more last next new
+      → IsOneMap eq (hash t.hasher) new
   one_map_lent eq laws hash t s index now next flag more last new is one locked owes (left, call, new_is) =
       let here = subst (λ (z : TableView K V H). IsLocked z.arrays false index) (sym is) locked in
       rw new_is (one_map_visited eq laws (hash t.hasher) t.arrays index left one here (owes now next (bucket_on t.arrays false index) left flag more last (one.placed.homes.alive index here.within) call))
 
-module _ {S K V : Type 0} (step : S → BucketView K V → Bool → Bool → BucketView K V → Bool → S → Type 0) (hash : K → ℕ) where
+module _ {S K V : Type 0} (step : S → BucketView K V → Bool → Bool → BucketView K V → Bool → S
+    → Type 0) (hash : K → ℕ) where
   -- where a walk over a table stands between two buckets
   pub record WalkStands (first now : S) (old : ArraysView K V) (from index : ℕ) (flag more : Bool) (table : ArraysView K V) : Type 0 where
     pub walks : WalksOn step hash first now old from index flag more table
@@ -113,14 +163,20 @@ module _ {S K V : Type 0} (step : S → BucketView K V → Bool → Bool → Buc
     pub minimum : table.minimum ≡ old.minimum
     pub maximum : table.maximum ≡ old.maximum
 
-  killed_wait : (table ready : ArraysView K V) (from index : ℕ) → AreKilledFor table from index → KeepsArrays table ready → KeepsKilled table.rehash ready.rehash → AreKilledFor ready from index
+  killed_wait : (table ready : ArraysView K V) (from index : ℕ) → AreKilledFor table from index
+      → KeepsArrays table ready → KeepsKilled table.rehash ready.rehash
+      → AreKilledFor ready from index
   killed_wait table ready from index killed kept still = λ j low high.
       sources_still table ready j still (len_kept ready.current table.current kept.current_len) (killed j low high)
 
   -- and is visited
-  pub stands_next : (eq : K → K → Bool) → IsEquivalence eq → (first now next : S) (old table ready new : ArraysView K V) (from index : ℕ) (flag last more : Bool)
-      → WalkStands first now old from index flag true table → KeepsArrays table ready → KeepsBag table.rehash ready.rehash → KeepsKilled table.rehash ready.rehash
-      → IsOneMap eq hash ready → IsLocked ready false index → KeepsBuckets step → IsLentAt S step ready index now flag more last next new
+  pub stands_next : (eq : K → K → Bool) → IsEquivalence eq
+      → (first now next : S) (old table ready new : ArraysView K V) (from index : ℕ)
+      (flag last more : Bool)
+      → WalkStands first now old from index flag true table → KeepsArrays table ready
+      → KeepsBag table.rehash ready.rehash → KeepsKilled table.rehash ready.rehash
+      → IsOneMap eq hash ready → IsLocked ready false index → KeepsBuckets step
+      → IsLentAt S step ready index now flag more last next new
       → WalkStands first next old from (index + 1) last more new
   stands_next eq laws first now next old table ready new from index flag last more w kept bag still one locked owes (left, call, new_is) =
       let keeps = owes now next (bucket_on ready false index) left flag more last (one.placed.homes.alive index locked.within) call in
@@ -131,10 +187,15 @@ module _ {S K V : Type 0} (step : S → BucketView K V → Bool → Bool → Buc
       let after : WalkStands first next old from (index + 1) last more done = record {
         walks = goes_on step hash first now next old table ready done from index flag last more (bucket_on ready false index) left w.walks (map_kept table ready kept) (len_kept ready.current table.current kept.current_len) call visit;
         killed = λ j low high. elim (cases_lt j index) [
-          | inl less ↦ subst (λ (n : ℕ). (i : ℕ) → i < length (old_buckets ready.rehash) → Meets (length (old_buckets ready.rehash)) i n j → (bucket_at (old_buckets ready.rehash) i).killed ≡ true) (sym len) (before j low less)
+          | inl less ↦ subst (λ (n : ℕ). (i : ℕ) → i < length (old_buckets ready.rehash)
+              → Meets (length (old_buckets ready.rehash)) i n j
+              → (bucket_at (old_buckets ready.rehash) i).killed ≡ true) (sym len) (before j low less)
           | inr more_or ↦
               let here : index ≡ j = omega (arith, high, more_or) in
-              subst (λ (k : ℕ). AreSourcesKilled done k) here (subst (λ (n : ℕ). (i : ℕ) → i < length (old_buckets ready.rehash) → Meets (length (old_buckets ready.rehash)) i n index → (bucket_at (old_buckets ready.rehash) i).killed ≡ true) (sym len) (locked.killed refl))
+              subst (λ (k : ℕ). AreSourcesKilled done k) here
+              (subst (λ (n : ℕ). (i : ℕ) → i < length (old_buckets ready.rehash)
+              → Meets (length (old_buckets ready.rehash)) i n index
+              → (bucket_at (old_buckets ready.rehash) i).killed ≡ true) (sym len) (locked.killed refl))
         ];
         within = λ some.
             let first = w.walks.part.len in
@@ -148,7 +209,8 @@ module _ {S K V : Type 0} (step : S → BucketView K V → Bool → Bool → Buc
       rw new_is after
 
   -- no bucket was lent yet
-  pub stands_first : (first : S) (old : ArraysView K V) (from : ℕ) → WalkStands first first old from from false true old
+  pub stands_first : (first : S) (old : ArraysView K V) (from : ℕ)
+      → WalkStands first first old from from false true old
   stands_first first old from = record {
     walks = begins step hash first old from;
     killed = λ j low high. absurd (omega (arith, low, high));
@@ -159,8 +221,12 @@ module _ {S K V : Type 0} (step : S → BucketView K V → Bool → Bool → Buc
   }
 
   -- a refusal ends the walk
-  pub walk_refused : {A E : Type 0} (e : E) (expected start : ℕ) (first now : S) (old table ready : ArraysView K V) (from index : ℕ) (flag more : Bool) → BeginsAt (length (buckets_of old.current)) expected start from
-      → WalkStands first now old from index flag more table → KeepsArrays table ready → KeepsKilled table.rehash ready.rehash → WalksBy {A = A} step hash expected start first old (Err e) now ready
+  pub walk_refused : {A E : Type 0} (e : E) (expected start : ℕ) (first now : S)
+      (old table ready : ArraysView K V) (from index : ℕ) (flag more : Bool)
+      → BeginsAt (length (buckets_of old.current)) expected start from
+      → WalkStands first now old from index flag more table → KeepsArrays table ready
+      → KeepsKilled table.rehash ready.rehash → WalksBy {A = A} step hash expected start first old
+      (Err e) now ready
   walk_refused e expected start first now old table ready from index flag more at w kept still =
       let part = walk_waits hash old table ready from w.walks.visits w.walks.part (map_kept table ready kept) (len_kept ready.current table.current kept.current_len) in
       record {
@@ -171,15 +237,20 @@ module _ {S K V : Type 0} (step : S → BucketView K V → Bool → Bool → Buc
         begins = at;
         calls = w.walks.calls;
         walk = part.walk;
-        sources = subst (λ (n : ℕ). AreKilledFor ready from n) w.walks.reached (killed_wait table ready from index w.killed kept still);
-        within = λ some. let reached = w.walks.reached in let fits = w.within (omega (arith, reached, some)) in omega (arith, reached, fits);
+        sources = subst (λ (n : ℕ). AreKilledFor ready from n) w.walks.reached
+            (killed_wait table ready from index w.killed kept still);
+        within = λ some. let reached = w.walks.reached in let fits = w.within
+            (omega (arith, reached, some)) in omega (arith, reached, fits);
         whole = tt;
         ends = refl;
       }
 
   -- and so does the array's end, or the visitor
-  pub walk_ended : {A E : Type 0} (a : A) (expected start : ℕ) (first now : S) (old table new : ArraysView K V) (from index : ℕ) (flag more : Bool) → BeginsAt (length (buckets_of old.current)) expected start from
-      → WalkStands first now old from index flag more table → (more ≡ true → length (buckets_of table.current) ≤ index) → EndsWell flag table new
+  pub walk_ended : {A E : Type 0} (a : A) (expected start : ℕ) (first now : S)
+      (old table new : ArraysView K V) (from index : ℕ) (flag more : Bool)
+      → BeginsAt (length (buckets_of old.current)) expected start from
+      → WalkStands first now old from index flag more table
+      → (more ≡ true → length (buckets_of table.current) ≤ index) → EndsWell flag table new
       → WalksBy {E = E} step hash expected start first old (Ok a) now new
   walk_ended a expected start first now old table new from index flag more at w over ends = record {
     from = from;
@@ -190,7 +261,8 @@ module _ {S K V : Type 0} (step : S → BucketView K V → Bool → Bool → Buc
     calls = w.walks.calls;
     walk = w.walks.part.walk;
     sources = subst (λ (n : ℕ). AreKilledFor table from n) w.walks.reached w.killed;
-    within = λ some. let reached = w.walks.reached in let fits = w.within (omega (arith, reached, some)) in omega (arith, reached, fits);
+    within = λ some. let reached = w.walks.reached in let fits = w.within
+        (omega (arith, reached, some)) in omega (arith, reached, fits);
     whole = elim (cases_Bool more) [
       | inl going ↦ let reached = w.walks.reached in let len = w.walks.part.len in inl (omega (arith, reached, len, over going))
       | inr stopped ↦ inr (w.walks.stopped stopped)
@@ -200,22 +272,35 @@ module _ {S K V : Type 0} (step : S → BucketView K V → Bool → Bool → Buc
 
 module _ {K V H : Type 0} where
   -- the table, seen as its parts
-  pub begins_seen : (t s : TableView K V H) (len expected start from : ℕ) → t ≡ s → len ≡ length (buckets_of t.arrays.current) → BeginsAt len expected start from → BeginsAt (length (buckets_of s.arrays.current)) expected start from
+  pub begins_seen : (t s : TableView K V H) (len expected start from : ℕ) → t ≡ s
+      → len ≡ length (buckets_of t.arrays.current) → BeginsAt len expected start from
+      → BeginsAt (length (buckets_of s.arrays.current)) expected start from
   begins_seen t s len expected start from is long b =
-      subst (λ (z : TableView K V H). BeginsAt (length (buckets_of z.arrays.current)) expected start from) is (subst (λ (n : ℕ). BeginsAt n expected start from) long b)
+      subst (λ (z : TableView K V H). BeginsAt (length (buckets_of z.arrays.current)) expected start
+      from) is (subst (λ (n : ℕ). BeginsAt n expected start from) long b)
 
-  pub over_seen : (t s : TableView K V H) (len index : ℕ) → t ≡ s → len ≡ length (buckets_of t.arrays.current) → len ≤ index → length (buckets_of s.arrays.current) ≤ index
-  over_seen t s len index is long past = subst (λ (z : TableView K V H). length (buckets_of z.arrays.current) ≤ index) is (subst (λ (n : ℕ). n ≤ index) long past)
+  pub over_seen : (t s : TableView K V H) (len index : ℕ) → t ≡ s
+      → len ≡ length (buckets_of t.arrays.current) → len ≤ index
+      → length (buckets_of s.arrays.current) ≤ index
+  over_seen t s len index is long past = subst (λ (z : TableView K V H). length
+      (buckets_of z.arrays.current) ≤ index) is (subst (λ (n : ℕ). n ≤ index) long past)
 
-  pub locked_seen : (t s : TableView K V H) (ready : ArraysView K V) (len index : ℕ) → t ≡ s → len ≡ length (buckets_of t.arrays.current) → index < len → KeepsArrays s.arrays ready → AreSourcesKilled ready index → IsLocked ready false index
+  pub locked_seen : (t s : TableView K V H) (ready : ArraysView K V) (len index : ℕ) → t ≡ s
+      → len ≡ length (buckets_of t.arrays.current) → index < len → KeepsArrays s.arrays ready
+      → AreSourcesKilled ready index → IsLocked ready false index
   locked_seen t s ready len index is long below kept dead =
-      let same : length (buckets_of ready.current) ≡ length (buckets_of s.arrays.current) = len_kept ready.current s.arrays.current kept.current_len in
-      let seen : len ≡ length (buckets_of s.arrays.current) = subst (λ (z : TableView K V H). len ≡ length (buckets_of z.arrays.current)) is long in
+      let same : length (buckets_of ready.current) ≡ length (buckets_of s.arrays.current) = len_kept
+      ready.current s.arrays.current kept.current_len in
+      let seen : len ≡ length (buckets_of s.arrays.current) = subst
+      (λ (z : TableView K V H). len ≡ length (buckets_of z.arrays.current)) is long in
       locked_current ready index (omega (arith, same, seen, below)) dead
 
 module _ {K V : Type 0} where
-  pub unshrunk : (flag : Bool) (arrays : ArraysView K V) → flag ≡ false → EndsWell flag arrays arrays
+  pub unshrunk : (flag : Bool) (arrays : ArraysView K V) → flag ≡ false
+      → EndsWell flag arrays arrays
   unshrunk flag arrays is = subst (λ (f : Bool). EndsWell f arrays arrays) (sym is) refl
 
-  pub shrunk_at_end : (flag : Bool) (ended new : ArraysView K V) → flag ≡ true → ResizesIf (AsksShrinking ended 0) ended new → KeepsMap ended new → EndsWell flag ended new
-  shrunk_at_end flag ended new is resized kept = subst (λ (f : Bool). EndsWell f ended new) (sym is) (resized, kept)
+  pub shrunk_at_end : (flag : Bool) (ended new : ArraysView K V) → flag ≡ true
+      → ResizesIf (AsksShrinking ended 0) ended new → KeepsMap ended new → EndsWell flag ended new
+  shrunk_at_end flag ended new is resized kept = subst (λ (f : Bool). EndsWell f ended new) (sym is)
+      (resized, kept)

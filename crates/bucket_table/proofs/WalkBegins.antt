@@ -31,10 +31,14 @@ begins_nowhere len expected start none = record {
   reaches = λ some long. absurd (omega (arith, none, long));
 }
 
-pub begins_in : (len expected start low high : ℕ) → (expected ≡ 0 → ⊥) → start < expected → expected < 2 ^ 64 → IsLength len → low < high
-    → ((j : ℕ) → IsInRange low high j ↔ Meets expected start len j) → BeginsAt len expected start low
+pub begins_in : (len expected start low high : ℕ) → (expected ≡ 0 → ⊥) → start < expected
+    → expected < 2 ^ 64 → IsLength len → low < high
+    → ((j : ℕ) → IsInRange low high j ↔ Meets expected start len j)
+    → BeginsAt len expected start low
 begins_in len expected start low high some within few is_length has range = record {
   as_given = λ none. absurd (some none);
-  early = λ is long. begins_early expected len start low high (wide_enough expected (omega (arith, within)) (omega (arith, few))) (wide len is_length) range;
+  early = λ is long. begins_early expected len start low high
+      (wide_enough expected (omega (arith, within)) (omega (arith, few))) (wide len is_length)
+      range;
   reaches = λ is long. begins_late expected len start low high has range;
 }

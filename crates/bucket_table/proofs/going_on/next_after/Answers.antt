@@ -3,4 +3,5 @@ use Rattle.bucket_table.proofs.TakeSteps.{held_on}
 use Rattle.bucket_table.proofs.going_on.next_after.Goals as goal
 
 pub returns-clause-map : goal.returns-clause-map
-returns-clause-map g c = held_on c.next_sync.result _ _ (λ locked. state_of g.row.TYPE locked.table.now) c.in-Ok.ensures.map c.next_sync.ensures.map
+returns-clause-map g c = held_on c.next_sync.result _ _ (λ locked. state_of g.row.TYPE
+    locked.table.now) c.in-Ok.ensures.map c.next_sync.ensures.map

@@ -30,7 +30,8 @@ loop-at-preserved-then-not-keep g c =
     let m = c.find_next.ensures.ahead c.loop-at-test.true in
     let is_not : c.keep.result ≡ false = search rules in
     takes _ c.args.bucket.now c.loop-at.bucket c.take_at.new.bucket c.loop-at.at c.find_next.new.self c.take_at.new.at c.loop-at.count _ m
-    (λ test means. ap test (same_pair c.loop-at.bucket c.loop-at.at c.find_next.new.self m _ _ c.key.ensures c.val.ensures) ∙ sym (means _ _ _ c.keep.ensures) ∙ is_not)
+    (λ test means. ap test (same_pair c.loop-at.bucket c.loop-at.at c.find_next.new.self m _ _
+    c.key.ensures c.val.ensures) ∙ sym (means _ _ _ c.keep.ensures) ∙ is_not)
     c.take_at.ensures.alive (c.take_at.ensures.taken m.pair m.here) c.take_at.ensures.pairs_ahead (search rules) c.loop-at.invariant
 
 pub loop-at-smaller : goal.loop-at-smaller
@@ -41,7 +42,8 @@ loop-at-preserved g c =
     let m = c.find_next.ensures.ahead c.loop-at-test.true in
     let is : c.keep.result ≡ true = search rules in
     passes _ c.args.bucket.now c.loop-at.bucket c.loop-at.at c.find_next.new.self c.loop-at.count m
-    (λ test means. ap test (same_pair c.loop-at.bucket c.loop-at.at c.find_next.new.self m _ _ c.key.ensures c.val.ensures) ∙ sym (means _ _ _ c.keep.ensures) ∙ is) c.loop-at.invariant
+    (λ test means. ap test (same_pair c.loop-at.bucket c.loop-at.at c.find_next.new.self m _ _
+    c.key.ensures c.val.ensures) ∙ sym (means _ _ _ c.keep.ensures) ∙ is) c.loop-at.invariant
 
 pub returns : goal.returns
 returns g c = retained _ c.args.bucket.now c.loop-at.bucket c.loop-at.at c.loop-at.count (c.find_next.ensures.end c.loop-at-test.false).ahead c.loop-at.invariant

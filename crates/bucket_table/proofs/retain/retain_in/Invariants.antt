@@ -5,7 +5,8 @@ use Rattle.bucket_table.proofs.Retaining.{IsRetaining}
 use Rattle.bucket_table.proofs.retain.retain_in.Given as goal
 
 abbrev pub invariant-loop-at : goal.invariant-loop-at
-invariant-loop-at g l = IsRetaining (AnswersBy (λ key value answer. goal.F-post g l.keep key value answer)) l.fn.bucket l.bucket l.at l.count
+invariant-loop-at g l = IsRetaining (AnswersBy (λ key value answer. goal.F-post g l.keep key value
+    answer)) l.fn.bucket l.bucket l.at l.count
 
 abbrev pub decreases-loop-at : goal.decreases-loop-at
 decreases-loop-at g l = length (pairs_ahead l.bucket l.at)

@@ -20,8 +20,12 @@ returns-in-Ok-true-clause-rehash g c =
     let now = ap (λ a. a.rehash) c.self.view_is in
     let buckets = ap (λ r. r.buckets) c.rehash.view_is in
     let tickets = ap (λ r. r.tickets) c.rehash.view_is in
-    let ends = subst (λ (b : Bool). Ends c.rehash.inside.tickets c.args.ticket c.args.success (IsTrue c.is_unit_killed-is_done.result) (Ok b) c.end.new.self) c.in-Ok-true.field-0-test c.in-Ok-true.ensures in
-    rw (← now) (goes c.self.inside.rehash c.take.new.self c.in-Some.rehash c.end.new.self c.args.ticket c.args.success stood c.take.ensures.after (subst (λ a. IfSome a.rehash IsRehash) (sym c.self.view_is) c.requires)
+    let ends = subst (λ (b : Bool). Ends c.rehash.inside.tickets c.args.ticket c.args.success
+    (IsTrue c.is_unit_killed-is_done.result) (Ok b) c.end.new.self) c.in-Ok-true.field-0-test
+    c.in-Ok-true.ensures in
+    rw (← now) (goes c.self.inside.rehash c.take.new.self c.in-Some.rehash c.end.new.self
+    c.args.ticket c.args.success stood c.take.ensures.after
+    (subst (λ a. IfSome a.rehash IsRehash) (sym c.self.view_is) c.requires)
     (ends_by c.in-Some.rehash c.rehash.inside.tickets c.end.new.self c.args.ticket c.args.success c.is_unit_killed-is_done.result (Ok true) tickets (rw (← buckets) c.is_unit_killed-is_done.ensures) ends))
 
 pub returns-in-Ok-true-clause-same_pairs : goal.returns-in-Ok-true-clause-same_pairs
@@ -29,8 +33,12 @@ returns-in-Ok-true-clause-same_pairs g c =
     let stood = sym c.take.ensures.value ∙ c.in-Some.is in
     let buckets = ap (λ r. r.buckets) c.rehash.view_is in
     let tickets = ap (λ r. r.tickets) c.rehash.view_is in
-    let ends = subst (λ (b : Bool). Ends c.rehash.inside.tickets c.args.ticket c.args.success (IsTrue c.is_unit_killed-is_done.result) (Ok b) c.end.new.self) c.in-Ok-true.field-0-test c.in-Ok-true.ensures in
-    goes_pairs c.self.inside.current c.self.inside.rehash c.take.new.self c.in-Some.rehash c.end.new.self c.args.ticket c.args.success stood c.take.ensures.after (subst (λ a. IfSome a.rehash IsRehash) (sym c.self.view_is) c.requires)
+    let ends = subst (λ (b : Bool). Ends c.rehash.inside.tickets c.args.ticket c.args.success
+    (IsTrue c.is_unit_killed-is_done.result) (Ok b) c.end.new.self) c.in-Ok-true.field-0-test
+    c.in-Ok-true.ensures in
+    goes_pairs c.self.inside.current c.self.inside.rehash c.take.new.self c.in-Some.rehash
+    c.end.new.self c.args.ticket c.args.success stood c.take.ensures.after
+    (subst (λ a. IfSome a.rehash IsRehash) (sym c.self.view_is) c.requires)
     (ends_by c.in-Some.rehash c.rehash.inside.tickets c.end.new.self c.args.ticket c.args.success c.is_unit_killed-is_done.result (Ok true) tickets (rw (← buckets) c.is_unit_killed-is_done.ensures) ends)
     ∙ ap (λ a. entries_of a) c.self.view_is
 
@@ -39,7 +47,9 @@ returns-in-Ok-false-clause-rehash g c =
     let stood = sym (ap (λ a. a.rehash) c.self.view_is) ∙ sym c.take.ensures.value ∙ c.in-Some.is in
     let buckets = ap (λ r. r.buckets) c.rehash.view_is in
     let tickets = ap (λ r. r.tickets) c.rehash.view_is in
-    let ends = subst (λ (b : Bool). Ends c.rehash.inside.tickets c.args.ticket c.args.success (IsTrue c.is_unit_killed-is_done.result) (Ok b) c.end.new.self) c.in-Ok-false.field-0-test c.in-Ok-false.ensures in
+    let ends = subst (λ (b : Bool). Ends c.rehash.inside.tickets c.args.ticket c.args.success
+    (IsTrue c.is_unit_killed-is_done.result) (Ok b) c.end.new.self) c.in-Ok-false.field-0-test
+    c.in-Ok-false.ensures in
     stays c.args.self.now.rehash c.in-Some.rehash _ c.end.new.self c.args.ticket c.args.success stood buckets
     (ends_by c.in-Some.rehash c.rehash.inside.tickets c.end.new.self c.args.ticket c.args.success c.is_unit_killed-is_done.result (Ok false) tickets (rw (← buckets) c.is_unit_killed-is_done.ensures) ends)
 

@@ -41,6 +41,9 @@ loop-index-preserved g c =
 pub returns-clause-found : goal.returns-clause-found
 returns-clause-found g c = (
   ends (g.H.KeyHash.hash_of c.args.hasher.now) c.args.self.now c.loop-index.self c.args.start c.loop-index.index c.loop-index.at c.loop-index.invariant (g.met.H.KeyHash.fits c.args.hasher.now) c.sound.ensures
-      (λ e. c.len.ensures.none (omega (arith, e, c.len.ensures.value))) (λ some. subst IsLength c.len.ensures.value (c.len.ensures.power (omega (arith, some, c.len.ensures.value)))) (omega (arith, c.loop-index-test.false, c.len.ensures.value)),
+      (λ e. c.len.ensures.none (omega (arith, e, c.len.ensures.value)))
+      (λ some. subst IsLength c.len.ensures.value (c.len.ensures.power
+      (omega (arith, some, c.len.ensures.value)))) (omega
+      (arith, c.loop-index-test.false, c.len.ensures.value)),
   c.loop-index.invariant.null,
 )

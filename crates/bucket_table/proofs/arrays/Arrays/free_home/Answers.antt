@@ -8,16 +8,27 @@ use Rattle.bucket_table.proofs.arrays.Arrays.free_home.Goals.{else-is_checked-vi
 pub returns-then-len-ge-BUCKET_LEN-clause-none : goal.returns-then-len-ge-BUCKET_LEN-clause-none
 returns-then-len-ge-BUCKET_LEN-clause-none g c =
     let long = c.len-then-is_checked.ensures ∙ ap (λ b. length (pairs_in b)) c.bucket_of.ensures in
-    inr (inr (c.if-is_checked.true, (c.home-index.result, c.home-index.ensures, subst (λ (n : ℕ). 32 ≤ n) long c.if-len-ge-BUCKET_LEN.true)))
+    inr (inr (
+      c.if-is_checked.true,
+      (
+        c.home-index.result,
+        c.home-index.ensures,
+        subst
+            (λ (n : ℕ). 32 ≤ n) long c.if-len-ge-BUCKET_LEN.true,
+      ),
+    ))
 
 pub returns-clause-free : goal.returns-clause-free
 returns-clause-free g c = record {
-  alone = none_of c.args.self.now.rehash (sym (ap (λ a. is_some a.rehash) c.self.view_is) ∙ sym c.is_some.ensures ∙ c.if-is_some.false);
+  alone = none_of c.args.self.now.rehash (sym (ap (λ a. is_some a.rehash) c.self.view_is) ∙ sym
+      c.is_some.ensures ∙ c.if-is_some.false);
   home = c.home-index.ensures;
   few = elim c.else-is_checked.branch [
     | else-is_checked-via-then-is_checked+else-len-ge-BUCKET_LEN w ↦ λ asked.
-        let long = w.len-then-is_checked.ensures ∙ ap (λ b. length (pairs_in b)) w.bucket_of.ensures in
+        let long = w.len-then-is_checked.ensures ∙ ap (λ b. length (pairs_in b)) w.bucket_of.ensures
+        in
         subst (λ (n : ℕ). n < 32) long w.if-len-ge-BUCKET_LEN.false
-    | else-is_checked-via-else-is_checked w ↦ λ asked. absurd (false≢true (sym w.if-is_checked.false ∙ asked))
+    | else-is_checked-via-else-is_checked w ↦ λ asked. absurd
+        (false≢true (sym w.if-is_checked.false ∙ asked))
   ];
 }

@@ -17,7 +17,11 @@ returns-in-Err g c =
 
 pub returns-then-not-writer_asks_growth : goal.returns-then-not-writer_asks_growth
 returns-then-not-writer_asks_growth g c = record {
-  asked = record { asked = λ asks. absurd (false≢true (sym c.if-not-writer_asks_growth.true ∙ c.writer_asks_growth.ensures.1 asks)); not_asked = λ refused. refl };
+  asked = record {
+    asked = λ asks. absurd (false≢true (sym c.if-not-writer_asks_growth.true ∙
+        c.writer_asks_growth.ensures.1 asks));
+    not_asked = λ refused. refl;
+  };
   grown = refl;
   same_entries = refl;
   placed = λ hash law. law;

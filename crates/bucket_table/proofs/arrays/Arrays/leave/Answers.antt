@@ -14,15 +14,19 @@ returns-then-now-eq0-clause-found g c = (
 
 pub returns-then-index-len-clause-found : goal.returns-then-index-len-clause-found
 returns-then-index-len-clause-found g c =
-    let top : 2 ^ 64 ≤ bound_of c.args.len (c.args.index + 1) = subst (λ (n : ℕ). 2 ^ 64 ≤ bound_of c.args.len n) (sym c.if-index-len.true) (omega (arith, all_hashes c.args.len c.requires.length)) in
+    let top : 2 ^ 64 ≤ bound_of c.args.len (c.args.index + 1) = subst
+    (λ (n : ℕ). 2 ^ 64 ≤ bound_of c.args.len n) (sym c.if-index-len.true)
+    (omega (arith, all_hashes c.args.len c.requires.length)) in
     (none_past (g.H.KeyHash.hash_of c.args.hasher.now) _ top (g.met.H.KeyHash.fits c.args.hasher.now) (pairs_of c.args.self.now), c.null.ensures)
 
 pub returns-clause-found : goal.returns-clause-found
 returns-clause-found g c =
-    let less = subst (λ (n : ℕ). bound_of n c.scaled.result ≤ bound_of c.args.len (c.args.index + 1)) c.len-now.ensures.value c.scaled.ensures.early in
+    let less = subst (λ (n : ℕ). bound_of n c.scaled.result ≤ bound_of c.args.len
+    (c.args.index + 1)) c.len-now.ensures.value c.scaled.ensures.early in
     goes_later (g.H.KeyHash.hash_of c.args.hasher.now) c.first_from.result c.first_from.new.self (bound_of c.args.len (c.args.index + 1)) (bound_of (length (buckets_of c.args.self.now.current)) c.scaled.result) c.first_from.new.at less c.first_from.ensures.found
 
 pub returns-clause-reaches : goal.returns-clause-reaches
 returns-clause-reaches g c =
-    let past = subst (λ (n : ℕ). bound_of c.args.len (c.args.index + 1) < bound_of n (c.scaled.result + 1)) c.len-now.ensures.value c.scaled.ensures.reaches in
+    let past = subst (λ (n : ℕ). bound_of c.args.len (c.args.index + 1) < bound_of n
+    (c.scaled.result + 1)) c.len-now.ensures.value c.scaled.ensures.reaches in
     reaches_on c.first_from.result c.args.len (c.args.index + 1) c.scaled.result c.args.self.now c.first_from.new.self past c.first_from.ensures.kept c.first_from.ensures.order

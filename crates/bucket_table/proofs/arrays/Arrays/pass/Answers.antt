@@ -11,7 +11,8 @@ returns-clause-bag g c = bag_both c.args.self.now.rehash c.shrink_emptied.new.se
 
 pub leave-requires : goal.leave-requires
 leave-requires g c =
-    let within : c.args.index < c.len_on-len.result = subst (λ (n : ℕ). c.args.index < n) (sym c.len_on-len.ensures.value) c.requires.within in
+    let within : c.args.index < c.len_on-len.result = subst (λ (n : ℕ). c.args.index < n)
+    (sym c.len_on-len.ensures.value) c.requires.within in
     (search rules, (search rules, (c.len_on-len.ensures.power (omega (arith, within)), (within, c.shrink_emptied.ensures.placed (g.H.KeyHash.hash_of c.args.hasher.now) c.requires.placed))))
 
 pub returns-clause-departs : goal.returns-clause-departs

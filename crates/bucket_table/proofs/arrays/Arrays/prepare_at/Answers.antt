@@ -13,7 +13,9 @@ returns-then-relocate_range-clause-kept g c =
 pub returns-then-relocate_range-clause-ready : goal.returns-then-relocate_range-clause-ready
 returns-then-relocate_range-clause-ready g c =
     sources_worked c.from_index_to_range-start.result.0 c.from_index_to_range-start.result.1 c.len-to.result c.old_len-from.result c.args.index c.work_unit.new.self c.relocate_range.new.self
-    (subst (λ (b : Bool). WorksRange c.from_index_to_range-start.result.0 c.from_index_to_range-start.result.1 b c.work_unit.new.self c.relocate_range.new.self) c.if-relocate_range.true c.relocate_range.ensures.worked)
+    (subst (λ (b : Bool). WorksRange c.from_index_to_range-start.result.0
+    c.from_index_to_range-start.result.1 b c.work_unit.new.self c.relocate_range.new.self)
+    c.if-relocate_range.true c.relocate_range.ensures.worked)
     c.len-to.ensures.value c.old_len-from.ensures.value c.from_index_to_range-start.ensures.range
 
 pub returns-else-relocate_range-clause-kept : goal.returns-else-relocate_range-clause-kept

@@ -3,4 +3,5 @@ use Rattle.bucket_table.specs.Units.{RelocatesTo}
 use Rattle.bucket_table.proofs.arrays.Arrays.relocate_range.Given as goal
 
 abbrev pub invariant-buckets : goal.invariant-buckets
-invariant-buckets g l = RelocatesTo l.start l.index l.initial.self l.self × ArePlaced (g.H.KeyHash.hash_of l.hasher) l.self
+invariant-buckets g l = RelocatesTo l.start l.index l.initial.self l.self
+    × ArePlaced (g.H.KeyHash.hash_of l.hasher) l.self

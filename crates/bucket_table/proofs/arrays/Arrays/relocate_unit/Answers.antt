@@ -6,13 +6,15 @@ use Rattle.bucket_table.proofs.arrays.Arrays.relocate_unit.Goals as goal
 pub overflow_mul-start : goal.overflow_mul-start
 overflow_mul-start g c =
     let (was, is, below) = c.requires.within in
-    let len : c.old_len-len.result ≡ length was.buckets = c.old_len-len.ensures.value ∙ ap (λ o. length (old_buckets o)) is in
+    let len : c.old_len-len.result ≡ length was.buckets = c.old_len-len.ensures.value ∙ ap
+    (λ o. length (old_buckets o)) is in
     omega (arith, c.old_len-len.ensures.few)
 
 pub overflow_add-start : goal.overflow_add-start
 overflow_add-start g c =
     let (was, is, below) = c.requires.within in
-    let len : c.old_len-len.result ≡ length was.buckets = c.old_len-len.ensures.value ∙ ap (λ o. length (old_buckets o)) is in
+    let len : c.old_len-len.result ≡ length was.buckets = c.old_len-len.ensures.value ∙ ap
+    (λ o. length (old_buckets o)) is in
     omega (arith, c.old_len-len.ensures.few)
 
 pub returns-clause-worked : goal.returns-clause-worked

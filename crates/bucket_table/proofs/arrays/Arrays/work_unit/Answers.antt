@@ -16,7 +16,8 @@ returns-clause-bag g c =
 pub returns-clause-unit : goal.returns-clause-unit
 returns-clause-unit g c = λ was is ready easy.
     let h = handed _ _ c.in-Some.ticket c.requires.placed.rehashed c.in-Some.ensures.rehash in
-    let easy_now = easy_handed c.args.self.now c.start_incremental_rehash.new.self c.in-Some.ticket was h (ap (λ a. a.current) c.in-Some.ensures.others) is easy in
+    let easy_now = easy_handed c.args.self.now c.start_incremental_rehash.new.self c.in-Some.ticket
+    was h (ap (λ a. a.current) c.in-Some.ensures.others) is easy in
     (unit_bag c.args.self.now.rehash c.start_incremental_rehash.new.self.rehash c.relocate_unit-success.new.self.rehash c.end_incremental_rehash.new.self.rehash
     c.start_incremental_rehash.new.self c.relocate_unit-success.new.self c.in-Some.ticket c.relocate_unit-success.result c.end_incremental_rehash.result
     h refl c.relocate_unit-success.ensures.worked refl c.end_incremental_rehash.ensures.rehash).1 was is (c.relocate_unit-success.ensures.succeeds h.started h.middle_is easy_now)

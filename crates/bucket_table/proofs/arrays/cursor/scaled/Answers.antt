@@ -12,4 +12,5 @@ returns-clause-reaches c = begins_late c.args.from c.args.to c.args.index _ _ c.
 
 pub returns-then-from-to-clause-reaches : goal.returns-then-from-to-clause-reaches
 returns-then-from-to-clause-reaches c =
-    subst (λ (n : ℕ). bound_of c.args.from c.args.index < bound_of n (c.args.index + 1)) c.if-from-to.true (next_bound c.args.from c.args.index c.requires.from_length)
+    subst (λ (n : ℕ). bound_of c.args.from c.args.index < bound_of n (c.args.index + 1))
+    c.if-from-to.true (next_bound c.args.from c.args.index c.requires.from_length)

@@ -27,8 +27,12 @@ returns-then-need_enlarge g c =
     let here = c.len.ensures ∙ ap live_len c.bucket.ensures in
     let summed = summed_more c.args.array.now (c.args.index % c.small_sample_size-size.result) c.loop-offset.offset c.loop-offset.live c.len.result c.saturating_add-live.result within c.loop-offset.invariant.summed here (omega (arith, c.saturating_add-live.ensures)) in
     let small = small_counts c.args.array.now c.small_sample_size-size.result c.small_sample_size-size.ensures in
-    let full = c.need_enlarge.ensures.0 c.if-need_enlarge.true in
-    (λ h. crowded (live_counts c.args.array.now) c.args.index c.small_sample_size-size.result small (c.loop-offset.offset + 1) c.saturating_add-live.result (omega (arith, c.loop-offset-test.true)) summed full, λ h. refl)
+    let full = c.need_enlarge.ensures.0 c.if-need_enlarge.true in (
+      λ h. crowded (live_counts c.args.array.now) c.args.index c.small_sample_size-size.result small
+          (c.loop-offset.offset + 1) c.saturating_add-live.result
+          (omega (arith, c.loop-offset-test.true)) summed full,
+      λ h. refl,
+    )
 
 pub loop-offset-preserved : goal.loop-offset-preserved
 loop-offset-preserved g c =
@@ -39,11 +43,19 @@ loop-offset-preserved g c =
     let few : c.small_sample_size-size.result ≤ 2 ^ 56 = omega (arith, small.1, c.len-len.ensures.length.at_most, c.len-len.ensures.value) in
     record {
       summed = summed;
-      not_full = not_full_more (live_counts c.args.array.now) (c.args.index % c.small_sample_size-size.result) c.small_sample_size-size.result c.loop-offset.offset c.saturating_add-live.result summed few (λ full. false≢true (sym c.if-need_enlarge.false ∙ c.need_enlarge.ensures.1 full)) c.loop-offset.invariant.not_full;
+      not_full = not_full_more (live_counts c.args.array.now)
+          (c.args.index % c.small_sample_size-size.result) c.small_sample_size-size.result
+          c.loop-offset.offset c.saturating_add-live.result summed few
+          (λ full. false≢true (sym c.if-need_enlarge.false ∙ c.need_enlarge.ensures.1 full))
+          c.loop-offset.invariant.not_full;
     }
 
 pub returns : goal.returns
 returns g c =
     let small = small_counts c.args.array.now c.small_sample_size-size.result c.small_sample_size-size.ensures in
-    let done : c.small_sample_size-size.result ≤ c.loop-offset.offset = omega (arith, c.loop-offset-test.false) in
-    (λ h. absurd (false≢true h), λ h. absurd (not_crowded (live_counts c.args.array.now) c.args.index c.small_sample_size-size.result small (λ front le. c.loop-offset.invariant.not_full front (omega arith)) h))
+    let done : c.small_sample_size-size.result ≤ c.loop-offset.offset = omega (arith, c.loop-offset-test.false) in (
+      λ h. absurd (false≢true h),
+      λ h. absurd (not_crowded (live_counts c.args.array.now)
+          c.args.index c.small_sample_size-size.result small
+          (λ front le. c.loop-offset.invariant.not_full front (omega arith)) h),
+    )

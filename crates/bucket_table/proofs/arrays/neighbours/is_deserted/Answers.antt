@@ -26,7 +26,9 @@ loop-offset-init g c =
     let small = small_within _ c.small_sample_size-size.result (omega (arith, c.len-len.ensures.length.at_least, c.len-len.ensures.value)) c.small_sample_size-size.ensures in
     record {
       summed = refl;
-      all_empty = λ front le. none_counted (live_counts c.args.array.now) (c.args.index % c.small_sample_size-size.result) c.small_sample_size-size.result front small.0 le;
+      all_empty = λ front le. none_counted (live_counts c.args.array.now)
+          (c.args.index % c.small_sample_size-size.result) c.small_sample_size-size.result front
+          small.0 le;
     }
 
 pub returns-then-not-need_shrink : goal.returns-then-not-need_shrink
@@ -34,8 +36,13 @@ returns-then-not-need_shrink g c =
     let within = neighbour_within _ c.args.index _ c.loop-offset.offset (omega (arith, c.len-len.ensures.length.at_least, c.len-len.ensures.value)) c.small_sample_size-size.ensures c.loop-offset-test.true in
     let here = c.len.ensures ∙ ap live_len c.bucket.ensures in
     let summed = summed_more c.args.array.now (c.args.index % c.small_sample_size-size.result) c.loop-offset.offset c.loop-offset.live c.len.result c.saturating_add-live.result within c.loop-offset.invariant.summed here (omega (arith, c.saturating_add-live.ensures)) in
-    let small = small_counts c.args.array.now c.small_sample_size-size.result c.small_sample_size-size.ensures in
-    (λ h. absurd (false≢true h), λ h. absurd (not_deserted (live_counts c.args.array.now) c.args.index c.small_sample_size-size.result small (c.loop-offset.offset + 1) c.saturating_add-live.result (omega (arith, c.loop-offset-test.true)) summed (λ empty. false≢true (sym c.if-not-need_shrink.true ∙ c.need_shrink.ensures.1 empty)) h))
+    let small = small_counts c.args.array.now c.small_sample_size-size.result c.small_sample_size-size.ensures in (
+      λ h. absurd (false≢true h),
+      λ h. absurd (not_deserted (live_counts c.args.array.now)
+          c.args.index c.small_sample_size-size.result small (c.loop-offset.offset + 1)
+          c.saturating_add-live.result (omega (arith, c.loop-offset-test.true)) summed
+          (λ empty. false≢true (sym c.if-not-need_shrink.true ∙ c.need_shrink.ensures.1 empty)) h),
+    )
 
 pub loop-offset-preserved : goal.loop-offset-preserved
 loop-offset-preserved g c =
@@ -53,5 +60,12 @@ loop-offset-preserved g c =
 pub returns : goal.returns
 returns g c =
     let small = small_counts c.args.array.now c.small_sample_size-size.result c.small_sample_size-size.ensures in
-    let done : c.small_sample_size-size.result ≤ c.loop-offset.offset = omega (arith, c.loop-offset-test.false) in
-    (λ h. (c.small_sample_size-size.result, small, λ front le. c.loop-offset.invariant.all_empty front (omega arith)), λ h. refl)
+    let done : c.small_sample_size-size.result ≤ c.loop-offset.offset = omega (arith, c.loop-offset-test.false) in (
+      λ h. (
+        c.small_sample_size-size.result,
+        small,
+        λ front le. c.loop-offset.invariant.all_empty
+            front (omega arith),
+      ),
+      λ h. refl,
+    )

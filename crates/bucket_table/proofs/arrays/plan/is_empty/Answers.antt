@@ -10,8 +10,11 @@ returns-then-len-ne0 g c =
     let long = length-live_counts buckets in
     let within : c.loop-index.index < length buckets = omega (arith, c.loop-index-test.true, c.len-index-end.ensures.value) in
     let inside : c.loop-index.index < length (live_counts buckets) = omega arith in
-    let here = c.len.ensures ∙ ap live_len c.bucket.ensures ∙ sym (get_or-live_counts buckets c.loop-index.index 0 within) in
-    (λ h. absurd (false≢true h), λ all. absurd (c.if-len-ne0.true (here ∙ all c.loop-index.index 0 inside)))
+    let here = c.len.ensures ∙ ap live_len c.bucket.ensures ∙ sym (get_or-live_counts buckets c.loop-index.index 0 within) in (
+      λ h. absurd (false≢true h),
+      λ all. absurd (c.if-len-ne0.true
+          (here ∙ all c.loop-index.index 0 inside)),
+    )
 
 pub loop-index-preserved : goal.loop-index-preserved
 loop-index-preserved g c =

@@ -9,7 +9,8 @@ use Rattle.bucket_table.proofs.arrays.plan.plan_by_middle.Goals as goal
 pub optimal_capacity-capacity-requires-clause-capacity : goal.optimal_capacity-capacity-requires-clause-capacity
 optimal_capacity-capacity-requires-clause-capacity g c =
     let len = c.len.ensures in
-    slots_in c.len.result _ _ len.length.power len.length.at_least (c.num_slots-slots.ensures ∙ ap (λ (n : ℕ). 32 * n) (sym len.value)) (omega arith)
+    slots_in c.len.result _ _ len.length.power len.length.at_least
+    (c.num_slots-slots.ensures ∙ ap (λ (n : ℕ). 32 * n) (sym len.value)) (omega arith)
 
 pub sample-first-requires : goal.sample-first-requires
 sample-first-requires g c =
@@ -19,7 +20,8 @@ sample-first-requires g c =
 pub optimal_capacity-asked-requires-clause-capacity : goal.optimal_capacity-asked-requires-clause-capacity
 optimal_capacity-asked-requires-clause-capacity g c =
     let len = c.len.ensures in
-    slots_in c.len.result _ _ len.length.power len.length.at_least (c.num_slots-slots.ensures ∙ ap (λ (n : ℕ). 32 * n) (sym len.value)) (omega arith)
+    slots_in c.len.result _ _ len.length.power len.length.at_least
+    (c.num_slots-slots.ensures ∙ ap (λ (n : ℕ). 32 * n) (sym len.value)) (omega arith)
 
 pub returns-then-capacity-asked-clause-plan : goal.returns-then-capacity-asked-clause-plan
 returns-then-capacity-asked-clause-plan g c =

@@ -22,8 +22,12 @@ returns-in_default-clause-kept g c = kept_both c.args.self.now.arrays c.loop-mor
 pub loop-more-preserved : goal.loop-more-preserved
 loop-more-preserved g c =
     let same = c.prepare_at.ensures.hasher ∙ c.loop-more.invariant.1 in
-    let one = subst (λ h. IsOneMap g.K.PartialEq.eq (g.H.KeyHash.hash_of h) c.prepare_at.new.self.arrays) same c.sound.ensures.one_map in
-    let w = subst (λ more. WalkStands (reading g.F.Read.reads) (g.H.KeyHash.hash_of c.args.self.now.hasher) c.args.reader.now c.loop-more.reader c.args.self.now.arrays 0 c.loop-more.index false more c.loop-more.self.arrays) c.loop-more-test.true c.loop-more.invariant.2 in
+    let one = subst (λ h. IsOneMap g.K.PartialEq.eq (g.H.KeyHash.hash_of h)
+    c.prepare_at.new.self.arrays) same c.sound.ensures.one_map in
+    let w = subst (λ more. WalkStands (reading g.F.Read.reads)
+    (g.H.KeyHash.hash_of c.args.self.now.hasher) c.args.reader.now c.loop-more.reader
+    c.args.self.now.arrays 0 c.loop-more.index false more c.loop-more.self.arrays)
+    c.loop-more-test.true c.loop-more.invariant.2 in
     let locked = locked_seen _ c.loop-more.self c.prepare_at.new.self.arrays c.len.result c.loop-more.index c.self.view_is c.len.ensures.value (search rules) c.prepare_at.ensures.kept c.in-Ok.ensures.ready in
     let seen = bucket_seen _ c.prepare_at.new.self c.loop-more.index _ c.self-in-loop-more.view_is c.bucket_of.ensures in (
       c.read-more.ensures.again,
@@ -41,7 +45,8 @@ bucket_of-requires g c =
 pub returns-else-index-len-clause-walked : goal.returns-else-index-len-clause-walked
 returns-else-index-len-clause-walked g c =
     walk_ended (reading g.F.Read.reads) (g.H.KeyHash.hash_of c.args.self.now.hasher) _ 0 0 c.args.reader.now c.loop-more.reader c.args.self.now.arrays c.loop-more.self.arrays c.loop-more.self.arrays 0 c.loop-more.index false c.loop-more.more (begins_as_given _ 0 0 refl)
-    c.loop-more.invariant.2 (λ going. over_seen _ c.loop-more.self c.len.result c.loop-more.index c.self.view_is c.len.ensures.value (search rules)) refl
+    c.loop-more.invariant.2 (λ going. over_seen _ c.loop-more.self c.len.result c.loop-more.index
+    c.self.view_is c.len.ensures.value (search rules)) refl
 
 pub returns-after-loop-more-clause-walked : goal.returns-after-loop-more-clause-walked
 returns-after-loop-more-clause-walked g c =

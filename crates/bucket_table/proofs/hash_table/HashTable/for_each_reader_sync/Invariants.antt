@@ -9,7 +9,8 @@ abbrev pub invariant-loop-more : goal.invariant-loop-more
 invariant-loop-more g l =
     g.F.Read.may_read l.reader
     × (l.self.hasher ≡ l.fn.self.hasher)
-    × WalkStands (reading g.F.Read.reads) (g.H.KeyHash.hash_of l.fn.self.hasher) l.fn.reader l.reader l.fn.self.arrays 0 l.index false l.more l.self.arrays
+    × WalkStands (reading g.F.Read.reads) (g.H.KeyHash.hash_of l.fn.self.hasher) l.fn.reader
+    l.reader l.fn.self.arrays 0 l.index false l.more l.self.arrays
     × KeepsArrays l.fn.self.arrays l.self.arrays
 
 abbrev pub decreases-loop-more : goal.decreases-loop-more

@@ -16,8 +16,12 @@ returns-in_default-clause-walked g c =
 pub loop-more-preserved : goal.loop-more-preserved
 loop-more-preserved g c =
     let same = c.prepare_at.ensures.hasher ∙ c.loop-more.invariant.1 in
-    let one = subst (λ h. IsOneMap g.K.PartialEq.eq (g.H.KeyHash.hash_of h) c.prepare_at.new.self.arrays) same c.sound.ensures.one_map in
-    let w = subst (λ more. WalkStands g.F.Visit.visits (g.H.KeyHash.hash_of c.args.self.now.hasher) c.args.visitor.now c.loop-more.visitor c.args.self.now.arrays c.first_index-index.result c.loop-more.index c.loop-more.flag more c.loop-more.self.arrays) c.loop-more-test.true c.loop-more.invariant.2 in
+    let one = subst (λ h. IsOneMap g.K.PartialEq.eq (g.H.KeyHash.hash_of h)
+    c.prepare_at.new.self.arrays) same c.sound.ensures.one_map in
+    let w = subst (λ more. WalkStands g.F.Visit.visits (g.H.KeyHash.hash_of c.args.self.now.hasher)
+    c.args.visitor.now c.loop-more.visitor c.args.self.now.arrays c.first_index-index.result
+    c.loop-more.index c.loop-more.flag more c.loop-more.self.arrays) c.loop-more-test.true
+    c.loop-more.invariant.2 in
     let locked = locked_seen _ c.loop-more.self c.prepare_at.new.self.arrays c.len.result c.loop-more.index c.self-in-loop-more.view_is c.len.ensures.value (search rules) c.prepare_at.ensures.kept c.in-Ok.ensures.ready in (
       c.visit_at-more.ensures.again,
       c.visit_at-more.ensures.hasher ∙ same,

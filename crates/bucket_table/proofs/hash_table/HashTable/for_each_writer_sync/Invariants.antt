@@ -7,7 +7,8 @@ abbrev pub invariant-loop-more : goal.invariant-loop-more
 invariant-loop-more g l =
     g.F.Visit.may_visit l.visitor
     × (l.self.hasher ≡ l.fn.self.hasher)
-    × WalkStands g.F.Visit.visits (g.H.KeyHash.hash_of l.fn.self.hasher) l.fn.visitor l.visitor l.fn.self.arrays l.initial.index l.index l.flag l.more l.self.arrays
+    × WalkStands g.F.Visit.visits (g.H.KeyHash.hash_of l.fn.self.hasher) l.fn.visitor l.visitor
+    l.fn.self.arrays l.initial.index l.index l.flag l.more l.self.arrays
 
 abbrev pub decreases-loop-more : goal.decreases-loop-more
 decreases-loop-more g l = length (buckets_of l.fn.self.arrays.current) - l.index

@@ -6,6 +6,18 @@ use Rattle.bucket_table.proofs.hash_table.HashTable.locked_or_missing.Goals as g
 pub returns-in-Ok-false : goal.returns-in-Ok-false
 returns-in-Ok-false g c =
     let e = c.prepare.ensures in
-    let none = none_before (state_of g.row.TYPE c.args.self.now) (state_of g.row.TYPE c.prepare.new.self) e.map (search (rules, e.empty)) in
-    ((refl, λ x. tt, record { map = e.map; bag = e.bag; alone = e.alone }),
-      record { rests = tt; same_table = tt; map = tt; bag = tt; home = tt; side = tt; unit = tt; answer = search (rules, e.answer); empty = λ same. none; alone = λ same. tt })
+    let none = none_before (state_of g.row.TYPE c.args.self.now) (state_of g.row.TYPE c.prepare.new.self) e.map (search (rules, e.empty)) in (
+      (refl, λ x. tt, record { map = e.map; bag = e.bag; alone = e.alone }),
+      record {
+        rests = tt;
+        same_table = tt;
+        map = tt;
+        bag = tt;
+        home = tt;
+        side = tt;
+        unit = tt;
+        answer = search (rules, e.answer);
+        empty = λ same. none;
+        alone = λ same. tt;
+      },
+    )

@@ -5,5 +5,6 @@ use Rattle.bucket_table.proofs.hash_table.HashTable.room.Goals as goal
 
 pub room_of-requires : goal.room_of-requires
 room_of-requires g c =
-    let stands = subst (λ (z : TableView g.row.K.Denot g.row.V.Denot g.row.H.Denot). 0 < length (buckets_of z.arrays.current)) (sym c.self.view_is) c.requires.array_stands in
+    let stands = subst (λ (z : TableView g.row.K.Denot g.row.V.Denot g.row.H.Denot). 0 < length
+    (buckets_of z.arrays.current)) (sym c.self.view_is) c.requires.array_stands in
     search (rules, stands)

@@ -20,13 +20,15 @@ loop-place-init g c = (
 
 pub returns-in_err-place-2-clause-refused : goal.returns-in_err-place-2-clause-refused
 returns-in_err-place-2-clause-refused g c =
-    let law = subst (λ h. ArePlaced (g.H.KeyHash.hash_of h) c.loop-place.self.arrays) c.loop-place.invariant.0 c.sound.ensures.one_map.placed in
+    let law = subst (λ h. ArePlaced (g.H.KeyHash.hash_of h) c.loop-place.self.arrays)
+    c.loop-place.invariant.0 c.sound.ensures.one_map.placed in
     let s = sweep_through _ (g.H.KeyHash.hash_of c.args.self.now.hasher) c.args.self.now.arrays c.loop-place.self.arrays c.retain_at-taken.new.self.arrays c.loop-place.count c.retain_at-taken.result c.saturating_add-count.result c.in-Some.index c.loop-place.place law c.in-Some.is c.loop-place.invariant.2 c.retain_at-taken.ensures.retained (search rules) in
     sweep_refused _ (g.H.KeyHash.hash_of c.args.self.now.hasher) _ (pairs_of c.args.self.now.arrays) (pairs_of c.retain_at-taken.new.self.arrays) (pairs_of c.pass.new.self.arrays) _ _ s c.pass.ensures.map.pairs
 
 pub loop-place-preserved : goal.loop-place-preserved
 loop-place-preserved g c =
-    let law = subst (λ h. ArePlaced (g.H.KeyHash.hash_of h) c.loop-place.self.arrays) c.loop-place.invariant.0 c.sound.ensures.one_map.placed in
+    let law = subst (λ h. ArePlaced (g.H.KeyHash.hash_of h) c.loop-place.self.arrays)
+    c.loop-place.invariant.0 c.sound.ensures.one_map.placed in
     let s = sweep_through _ (g.H.KeyHash.hash_of c.args.self.now.hasher) c.args.self.now.arrays c.loop-place.self.arrays c.retain_at-taken.new.self.arrays c.loop-place.count c.retain_at-taken.result c.saturating_add-count.result c.in-Some.index c.loop-place.place law c.in-Some.is c.loop-place.invariant.2 c.retain_at-taken.ensures.retained (search rules) in
     let same = c.retain_at-taken.ensures.hasher ∙ c.loop-place.invariant.0 in (
       hasher_kept _ _ c.pass.ensures.map ∙ same,

@@ -9,7 +9,8 @@ abbrev pub invariant-loop-place : goal.invariant-loop-place
 invariant-loop-place g l =
     (l.self.hasher ≡ l.fn.self.hasher)
     × KeepsBag l.fn.self.arrays.rehash l.self.arrays.rehash
-    × SweepsOn (AnswersBy (λ key value answer. goal.F-post g l.keep key value answer)) (g.H.KeyHash.hash_of l.fn.self.hasher) l.fn.self.arrays l.self.arrays l.count l.place
+    × SweepsOn (AnswersBy (λ key value answer. goal.F-post g l.keep key value answer))
+    (g.H.KeyHash.hash_of l.fn.self.hasher) l.fn.self.arrays l.self.arrays l.count l.place
     × (l.self.arrays.minimum ≡ l.fn.self.arrays.minimum)
     × (l.self.arrays.maximum ≡ l.fn.self.arrays.maximum)
 

@@ -5,7 +5,13 @@ use Rattle.bucket_table.proofs.WalkCounts.{clears_all, clears_below, emptied, em
 use Rattle.bucket_table.proofs.script.walks.clear.Goals as goal
 
 pub for_each_writer_sync-requires : goal.for_each_writer_sync-requires
-for_each_writer_sync-requires g c = (omega arith, ((λ some. absurd (some refl)), (tt, keeps_emptied (λ e. e.count))))
+for_each_writer_sync-requires g c = (
+  omega arith,
+  (
+    (λ some. absurd (some refl)),
+    (tt, keeps_emptied (λ e. e.count)),
+  ),
+)
 
 pub for_each_writer_sync-requires-room-F-Visit : goal.for_each_writer_sync-requires-room-F-Visit
 for_each_writer_sync-requires-room-F-Visit g c κs within = c.room.ensures
@@ -19,14 +25,15 @@ returns-then-num_slots-eq0-clause-step g c =
     clears_all g.row.TYPE c.args.table.now c.args.table.now refl 0 refl refl (none, none_counted (pairs_of c.args.table.now.arrays) none)
 
 pub returns-then-num_slots-eq0-clause-tickets : goal.returns-then-num_slots-eq0-clause-tickets
-returns-then-num_slots-eq0-clause-tickets g c = tickets_kept c.args.table.now.arrays c.args.table.now.arrays (λ unit. refl)
+returns-then-num_slots-eq0-clause-tickets g c = tickets_kept c.args.table.now.arrays
+    c.args.table.now.arrays (λ unit. refl)
 
 pub returns-in-Ok-clause-step : goal.returns-in-Ok-clause-step
 returns-in-Ok-clause-step g c =
     let w = c.for_each_writer_sync in
     clears_all g.row.TYPE c.args.table.now w.new.self w.ensures.hasher _ w.ensures.minimum w.ensures.maximum
     (emptied (λ e. e.count) (g.H.KeyHash.hash_of c.args.table.now.hasher)
-        c.args.table.now.arrays c.sound.ensures.empty c.sound.ensures.long (g.met.H.KeyHash.fits c.args.table.now.hasher)
+    c.args.table.now.arrays c.sound.ensures.empty c.sound.ensures.long (g.met.H.KeyHash.fits c.args.table.now.hasher)
     _ _ w.new.visitor w.new.self.arrays refl c.in-Ok.ensures.walked)
 
 pub returns-in-Ok-clause-tickets : goal.returns-in-Ok-clause-tickets
@@ -38,7 +45,7 @@ returns-in-Err-clause-step g c =
     let w = c.for_each_writer_sync in
     clears_below g.row.TYPE c.args.table.now w.new.self w.ensures.hasher g.H.KeyHash.hash_of w.ensures.minimum w.ensures.maximum
     (emptied_below (λ e. e.count) (g.H.KeyHash.hash_of c.args.table.now.hasher)
-        c.args.table.now.arrays _ _ w.new.visitor w.new.self.arrays c.in-Err.ensures.walked)
+    c.args.table.now.arrays _ _ w.new.visitor w.new.self.arrays c.in-Err.ensures.walked)
 
 pub returns-in-Err-clause-tickets : goal.returns-in-Err-clause-tickets
 returns-in-Err-clause-tickets g c =

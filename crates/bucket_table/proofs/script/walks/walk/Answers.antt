@@ -18,7 +18,8 @@ returns-then-num_slots-eq0-clause-step g c =
     (none_counted (pairs_of c.args.table.now.arrays) none, kept (state_of g.row.TYPE c.args.table.now))
 
 pub returns-then-num_slots-eq0-clause-tickets : goal.returns-then-num_slots-eq0-clause-tickets
-returns-then-num_slots-eq0-clause-tickets g c = tickets_kept c.args.table.now.arrays c.args.table.now.arrays (λ unit. refl)
+returns-then-num_slots-eq0-clause-tickets g c = tickets_kept c.args.table.now.arrays
+    c.args.table.now.arrays (λ unit. refl)
 
 pub returns-in-Ok-clause-step : goal.returns-in-Ok-clause-step
 returns-in-Ok-clause-step g c = (

@@ -33,7 +33,9 @@ returns-clause-unchanged g c =
 pub returns-clause-none : goal.returns-clause-none
 returns-clause-none g c =
     let o = c.args.self.now in
-    subst (λ (b : BucketView g.row.K.Denot g.row.V.Denot). IsNone c.evict_lru_head.result ↔ Contains b.own free) (bucket_is _ o.table.now o.is_old o.index c.bucket_of_mut.result.now c.table.view_is c.bucket_of_mut.ensures.bucket) c.evict_lru_head.ensures.none
+    subst (λ (b : BucketView g.row.K.Denot g.row.V.Denot). IsNone c.evict_lru_head.result ↔ Contains
+    b.own free) (bucket_is _ o.table.now o.is_old o.index c.bucket_of_mut.result.now
+    c.table.view_is c.bucket_of_mut.ensures.bucket) c.evict_lru_head.ensures.none
 
 pub returns-clause-bag : goal.returns-clause-bag
 returns-clause-bag g c =

@@ -42,7 +42,9 @@ returns-clause-unchanged g c =
 pub returns-clause-no_free_slot : goal.returns-clause-no_free_slot
 returns-clause-no_free_slot g c =
     let o = c.args.self.now in
-    subst (λ (b : BucketView g.row.K.Denot g.row.V.Denot). OnErr c.insert.result (first_place is_free (slots_for_insertion g.row.TYPE (g.G.Generation.keeps c.args.generation.now) b) ≡ None))
+    subst (λ (b : BucketView g.row.K.Denot g.row.V.Denot). OnErr c.insert.result
+    (first_place is_free (slots_for_insertion g.row.TYPE
+    (g.G.Generation.keeps c.args.generation.now) b) ≡ None))
     (bucket_is _ o.table.now o.is_old o.index c.bucket_of_mut.result.now c.table.view_is c.bucket_of_mut.ensures.bucket) (refused_full c.insert.result _ _ _ c.insert.ensures.refused)
 
 pub returns-clause-bag : goal.returns-clause-bag

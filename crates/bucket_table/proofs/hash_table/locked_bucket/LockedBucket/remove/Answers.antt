@@ -23,7 +23,10 @@ returns-clause-map g c =
 pub returns-clause-pair : goal.returns-clause-pair
 returns-clause-pair g c =
     let o = c.args.self in
-    subst (λ (b : BucketView g.row.K.Denot g.row.V.Denot). live_pair (slot_in b c.args.at.now) ≡ Some c.remove-pair.result) (bucket_is _ o.table.now o.is_old o.index c.bucket_of_mut.result.now c.table.view_is c.bucket_of_mut.ensures.bucket) c.remove-pair.ensures.pair
+    subst (λ (b : BucketView g.row.K.Denot g.row.V.Denot). live_pair (slot_in b c.args.at.now)
+    ≡ Some c.remove-pair.result) (bucket_is _ o.table.now o.is_old o.index
+    c.bucket_of_mut.result.now c.table.view_is c.bucket_of_mut.ensures.bucket)
+    c.remove-pair.ensures.pair
 
 pub returns-clause-bag : goal.returns-clause-bag
 returns-clause-bag g c =
@@ -33,7 +36,10 @@ returns-clause-bag g c =
 pub returns-clause-arrays : goal.returns-clause-arrays
 returns-clause-arrays g c =
     let o = c.args.self in
-    shrinks_seen _ o.table.now o.is_old o.index c.bucket_of_mut.result.now c.remove-pair.new.self c.shrink_emptied.new.self (λ b. slots_without b c.args.at.now) c.table.view_is o.locked.within c.bucket_of_mut.ensures.bucket c.remove-pair.ensures.slots c.shrink_emptied.ensures.asked
+    shrinks_seen _ o.table.now o.is_old o.index c.bucket_of_mut.result.now c.remove-pair.new.self
+    c.shrink_emptied.new.self (λ b. slots_without b c.args.at.now) c.table.view_is
+    o.locked.within c.bucket_of_mut.ensures.bucket c.remove-pair.ensures.slots
+    c.shrink_emptied.ensures.asked
 
 pub shrink_emptied-requires : goal.shrink_emptied-requires
 shrink_emptied-requires g c =

@@ -23,12 +23,16 @@ returns-clause-map g c =
 pub returns-clause-table : goal.returns-clause-table
 returns-clause-table g c =
     let o = c.args.self.now in
-    table_is _ o.table.now o.is_old o.index c.bucket_of_mut.result.now _ (λ b. slots_without b c.args.at.now) c.table.view_is c.bucket_of_mut.ensures.bucket c.remove.ensures.slots
+    table_is _ o.table.now o.is_old o.index c.bucket_of_mut.result.now _
+    (λ b. slots_without b c.args.at.now) c.table.view_is c.bucket_of_mut.ensures.bucket
+    c.remove.ensures.slots
 
 pub returns-clause-pair : goal.returns-clause-pair
 returns-clause-pair g c =
     let o = c.args.self.now in
-    subst (λ (b : BucketView g.row.K.Denot g.row.V.Denot). live_pair (slot_in b c.args.at.now) ≡ Some c.remove.result) (bucket_is _ o.table.now o.is_old o.index c.bucket_of_mut.result.now c.table.view_is c.bucket_of_mut.ensures.bucket) c.remove.ensures.pair
+    subst (λ (b : BucketView g.row.K.Denot g.row.V.Denot). live_pair (slot_in b c.args.at.now)
+    ≡ Some c.remove.result) (bucket_is _ o.table.now o.is_old o.index c.bucket_of_mut.result.now
+    c.table.view_is c.bucket_of_mut.ensures.bucket) c.remove.ensures.pair
 
 pub returns-clause-pairs_ahead : goal.returns-clause-pairs_ahead
 returns-clause-pairs_ahead g c =

@@ -20,7 +20,9 @@ returns-clause-map g c =
 pub returns-clause-table : goal.returns-clause-table
 returns-clause-table g c =
     let o = c.args.self.now in
-    table_is _ o.table.now o.is_old o.index c.bucket_of_mut.result.now _ (λ b. slots_touched g.L.LruList.KEEPS b c.args.at.now) c.table.view_is c.bucket_of_mut.ensures.bucket c.update_lru_tail.ensures
+    table_is _ o.table.now o.is_old o.index c.bucket_of_mut.result.now _
+    (λ b. slots_touched g.L.LruList.KEEPS b c.args.at.now) c.table.view_is
+    c.bucket_of_mut.ensures.bucket c.update_lru_tail.ensures
 
 pub returns-clause-bag : goal.returns-clause-bag
 returns-clause-bag g c =
