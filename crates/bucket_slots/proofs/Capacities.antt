@@ -17,7 +17,8 @@ least_doubling_is_one : (start entries maximum m n : ℕ) → IsLeastDoubling st
     → m ≡ n
 least_doubling_is_one start entries maximum m n a b =
     ⊎_elim (λ (less : m < n). absurd (below_least start entries maximum m n a b less))
-    (λ (le : n ≤ m). ⊎_elim (λ (more : n < m). absurd (below_least start entries maximum n m b a more)) (λ (ge : m ≤ n). omega arith) (cases_lt n m))
+    (λ (le : n ≤ m). ⊎_elim (λ (more : n < m). absurd (below_least start entries maximum n m b a more))
+    (λ (ge : m ≤ n). omega arith) (cases_lt n m))
     (cases_lt m n)
 
 grown_is_one : (capacity entries minimum maximum m n : ℕ) → IsGrownCapacity capacity entries minimum maximum m

@@ -1,9 +1,8 @@
 -- What the fields of a bucket keep where one of its slots changes.
-use Rattle.std.proofs.Common.{ℕ, ◌+◌, ◌-◌, ◌<◌, ◌≤◌, ◌≡◌, ◌≢◌, ◌==◌, inl, inr, true, false, not, IsTrue, List, [], length, get_or, set, refl, ap, ◌∙◌, arith, suc, zero}
-use Rattle.std.specs.List.{All}
+use Rattle.std.proofs.Common.{ℕ, ◌+◌, ◌-◌, ◌<◌, ◌≤◌, ◌≡◌, ◌≢◌, ◌==◌, inl, inr, true, false, not, IsTrue, List, [], length, get_or, set}
+use Rattle.std.proofs.Common.{refl, ap, ◌∙◌, arith, suc, zero, All, get_or-set_other, get_or-set_same, length-set}
 use Rattle.std.proofs.lemmas.Bool.{cases_eq}
 use Rattle.std.proofs.lemmas.Bool.Decides.{nat_tests}
-use Rattle.std.proofs.lemmas.List.{get_or-set_other, get_or-set_same, length-set}
 use Rattle.std.proofs.lemmas.List.Elements.{All-filter, filter_passes}
 use Rattle.bucket_slots.specs.declared.bucket.TheConstants.{CACHE, INDEX}
 use Rattle.bucket_slots.specs.BucketView.{BucketView, Place, all_slots, block_at, slot_in, with_slot, with_slot_at}
@@ -11,7 +10,7 @@ use Rattle.bucket_slots.specs.Layout.BucketFields.{IsBucket}
 use Rattle.bucket_slots.specs.Marking.{slot_marked}
 use Rattle.bucket_slots.specs.Moving.{slots_vacated_at}
 use Rattle.bucket_slots.specs.Recency.{order_without}
-use Rattle.bucket_slots.specs.Slots.{Slot, free, is_live, is_marked, live, marked, slot_at, slot_with_value}
+use Rattle.bucket_slots.specs.Slots.{Slot, free, is_live, is_marked, live, slot_at, slot_with_value}
 use Rattle.bucket_slots.proofs.Counting.{length-live_pairs, linked_row, sum_by-with_slot, tally}
 use Rattle.bucket_slots.proofs.FirstPlaces.{live_occupied}
 use Rattle.bucket_slots.proofs.Pointing.{inside_row}
@@ -120,8 +119,7 @@ module _ {K V : Type 0} where
 
   marked_is_dead : (x : Slot K V) (epoch : ℕ) → is_live (slot_marked epoch x) ≡ false
   marked_is_dead free epoch = refl
-  marked_is_dead (live pair byte) epoch = refl
-  marked_is_dead (marked pair byte) epoch = refl
+  marked_is_dead slot epoch = refl
 
   -- a live slot of an index is marked
   pub IsBucket-marked : (kind : ℕ) (s : BucketView K V) (len block pos epoch : ℕ) → kind ≡ INDEX → IsBucket kind s len
@@ -136,9 +134,8 @@ module _ {K V : Type 0} where
 
   live-value : (x : Slot K V) (value : V) → is_live x ≡ true
       → (is_live (slot_with_value x value) ≡ true) × (is_marked (slot_with_value x value) ≡ false)
-  live-value free value alive = cc
   live-value (live pair byte) value alive = (refl, refl)
-  live-value (marked pair byte) value alive = cc
+  live-value slot value alive = cc
 
   -- the value in a live slot changes
   pub IsBucket-value : (kind : ℕ) (s : BucketView K V) (len block pos : ℕ) (value : V) → IsBucket kind s len

@@ -24,7 +24,6 @@ pub mod NextPlaces
 pub mod BucketRemoving
 pub mod BucketMoving
 pub mod BucketRecency
-pub mod BucketValues
 pub mod AheadAfterRemoval
 pub mod FreeEnds
 pub mod BucketMarks

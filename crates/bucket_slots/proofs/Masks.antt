@@ -1,5 +1,6 @@
 -- Masks: what their bits say of a list's elements, and what they become where an element changes.
-use Rattle.std.proofs.Common.{ℕ, ◌+◌, ◌-◌, ◌<◌, ◌≤◌, ◌≡◌, ◌≢◌, ◌^◌, inl, inr, Bool, true, false, not, ◌&&◌, cond, min, eqb, List, [], ◌∷◌, Option, Some, None, is_some, length, map, get_or, set, refl, sym, ap, subst, ◌∙◌, arith, bit_and, w32}
+use Rattle.std.proofs.Common.{ℕ, ◌+◌, ◌-◌, ◌<◌, ◌≤◌, ◌≡◌, ◌≢◌, ◌^◌, inl, inr, Bool, true, false, not, ◌&&◌, cond, min, eqb, List, [], ◌∷◌}
+use Rattle.std.proofs.Common.{Option, Some, None, is_some, length, map, get_or, set, refl, sym, ap, subst, ◌∙◌, arith, bit_and, w32}
 use Rattle.std.specs.Int.{bit_at}
 use Rattle.std.specs.List.{count_by, list_all, list_any, position}
 use Rattle.std.specs.Simd.Lanes.{mask_l}
@@ -180,5 +181,4 @@ module _ {A : Type 0} where
     where
       both_bits : (this that : Bool) → min (cond this 1 0) (1 - cond that 1 0) ≡ cond (this && not that) 1 0
       both_bits true true = omega arith
-      both_bits true false = omega arith
-      both_bits false that = omega arith
+      both_bits this that = omega arith

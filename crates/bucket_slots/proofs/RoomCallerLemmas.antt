@@ -1,5 +1,6 @@
 -- What callers of a bucket cite of its free slots, of what is ahead of a pointer, and of killed buckets.
-use Rattle.std.proofs.Common.{ℕ, ◌+◌, ◌*◌, ◌<◌, ◌≡◌, ◌==◌, Bool, true, false, if◌then◌else◌, is_some, Option, Some, None, Result, Ok, Err, OnErr, [], ◌∷◌, ◌++◌, length, replicate, refl, ap, ◌∙◌, arith, suc, zero}
+use Rattle.std.proofs.Common.{ℕ, ◌+◌, ◌*◌, ◌<◌, ◌≡◌, ◌==◌, Bool, true, false, if◌then◌else◌, is_some, Option, Some, None, Result, Ok, Err}
+use Rattle.std.proofs.Common.{OnErr, [], ◌∷◌, ◌++◌, length, replicate, refl, ap, ◌∙◌, arith, suc, zero}
 use Rattle.std.proofs.lemmas.List.{nil_from_length}
 use Rattle.std.proofs.lemmas.List.Sums.{sum_by-append, sum_by-le}
 use Rattle.bucket_slots.specs.declared.bucket.TheConstants.{INDEX}

@@ -1,5 +1,6 @@
 -- What the bitmaps of a row say of its slots.
-use Rattle.std.proofs.Common.{ℕ, ◌-◌, ◌<◌, ◌≡◌, ◌==◌, ◌^◌, true, false, not, ◌&&◌, cond, min, if◌then◌else◌, Bool, List, Option, Some, is_some, length, map, get_or, set, refl, sym, ap, ◌∙◌, arith, bit_and}
+use Rattle.std.proofs.Common.{ℕ, ◌-◌, ◌<◌, ◌≡◌, ◌==◌, ◌^◌, true, false, not, ◌&&◌, cond, min, if◌then◌else◌, Bool, List, Option, Some}
+use Rattle.std.proofs.Common.{is_some, length, map, get_or, set, refl, sym, ap, ◌∙◌, arith, bit_and}
 use Rattle.std.specs.Int.{bit_at}
 use Rattle.std.proofs.lemmas.Grind.{common_steps}
 use Rattle.std.proofs.lemmas.List.{get_or-map, get_or-set_other, get_or-set_same, get_or_default, map-set, set-get_or}
@@ -22,16 +23,14 @@ twice false = refl
 module _ {K V : Type 0} where
   is_live_by : (slot : Slot K V) → (not (is_free slot) && not (is_marked slot)) ≡ is_live slot
   is_live_by free = refl
-  is_live_by (live pair byte) = refl
-  is_live_by (marked pair byte) = refl
+  is_live_by slot = refl
 
   candidate_bit : (slot : Slot K V) (byte own bit : ℕ) → slot_of (pair_of slot) own (cond (is_marked slot) 1 0) ≡ slot
       → (is_live slot ≡ true → bit ≡ cond (own == byte) 1 0) → min bit (cond (is_live slot) 1 0) ≡ cond (has_byte byte slot) 1 0
-  candidate_bit free byte own bit whole compared = omega arith
   candidate_bit (live pair stored) byte own bit whole compared =
       let same : own ≡ stored = cc in
       rw (compared refl, same) (grind (arith, common_steps))
-  candidate_bit (marked pair stored) byte own bit whole compared = omega arith
+  candidate_bit slot byte own bit whole compared = omega arith
 
   module _ (len : ℕ) (places : List (Option (K × V))) (bytes : List ℕ) (occupied marks : ℕ) (slots : List (Slot K V))
       (row : IsRow len places bytes occupied marks) (view : row_slots places bytes marks ≡ slots) where
@@ -105,17 +104,15 @@ module _ {K V : Type 0} (keeps : ℕ → Bool) where
       at_byte false e = refl
 
   unmarked_stays : (slot : Slot K V) → is_marked slot ≡ false → slot_without_expired keeps slot ≡ slot
-  unmarked_stays free unmarked = refl
-  unmarked_stays (live pair byte) unmarked = refl
   unmarked_stays (marked pair byte) unmarked = cc
+  unmarked_stays slot unmarked = refl
 
   -- a marked slot stays or is free, as the test says of its byte
   pub expired_is : (slot : Slot K V) (byte : ℕ) (kept : Bool) → is_marked slot ≡ true
       → slot_of (pair_of slot) byte (cond (is_marked slot) 1 0) ≡ slot
       → keeps byte ≡ kept → slot_without_expired keeps slot ≡ (if kept then slot else free)
-  expired_is free byte kept is whole e = cc
-  expired_is (live pair own) byte kept is whole e = cc
   expired_is (marked pair own) byte kept is whole e = let same : own ≡ byte = cc in rw (same, e) refl
+  expired_is slot byte kept is whole e = cc
 
   -- the marked slots are left at first
   pub IsExpiring-first : (slots : List (Slot K V)) (bits : ℕ) → IsMaskOf is_marked slots bits → IsExpiring keeps slots slots bits

@@ -1,12 +1,15 @@
 -- What the calls of a recency list answer and leave, by what `unlink` and `link` leave.
-use Rattle.std.proofs.Common.{ℕ, ◌+◌, ◌-◌, ◌<◌, ◌≡◌, ◌≢◌, ◌==◌, true, false, List, [], ◌∷◌, length, suc, Some, None, refl, sym, ap, ◌∙◌, arith}
-use Rattle.std.specs.Prelude.{slice_set}
+use Rattle.std.proofs.Common.{ℕ, ◌+◌, ◌-◌, ◌<◌, ◌≡◌, ◌≢◌, ◌==◌, true, false, List, [], ◌∷◌, length, suc, Some, None, refl, sym, ap, ◌∙◌}
+use Rattle.std.proofs.Common.{arith, slice_set}
 use Rattle.std.proofs.lemmas.Bool.{cond-true, eq-eqb, eqb-false, or_parts}
 use Rattle.bucket_slots.specs.Layout.RecencySteps.{LinksBefore, Unlinks, UnlinksBehind}
-use Rattle.bucket_slots.specs.Recency.{IsRecencyOrder, eviction_answer, is_listed, is_newest, order_after_touch, order_without, order_without_oldest, removal_answer, tail_of, touch_answer}
+use Rattle.bucket_slots.specs.Recency.{IsRecencyOrder, eviction_answer, is_listed, is_newest, order_after_touch, order_without}
+use Rattle.bucket_slots.specs.Recency.{order_without_oldest, removal_answer, tail_of, touch_answer}
 use Rattle.bucket_slots.specs.RecencyLinks.{IsOwnTail, Links, order_in, links_of}
 use Rattle.bucket_slots.proofs.Recency.Linking.{link_first}
-use Rattle.bucket_slots.proofs.Recency.Orders.{eqb-same, is_listed-order_without, is_newest-behind, last_from, last_is_listed, newest_isnt_last, newest_listed, newest_once, oldest_of-last, order_has_newest, order_is_empty, order_without-last, order_without-newest}
+use Rattle.bucket_slots.proofs.Recency.Orders.{eqb-same, is_listed-order_without, is_newest-behind, last_from, last_is_listed}
+use Rattle.bucket_slots.proofs.Recency.Orders.{newest_isnt_last, newest_listed, newest_once, oldest_of-last, order_has_newest}
+use Rattle.bucket_slots.proofs.Recency.Orders.{order_is_empty, order_without-last, order_without-newest}
 use Rattle.bucket_slots.proofs.Recency.Walks.{Stores, stores}
 
 -- under a tail that isn't 0 the newest slot is first
