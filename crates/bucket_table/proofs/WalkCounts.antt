@@ -1,7 +1,38 @@
 -- What a script's walk counts, and what its clearing leaves.
-use Rattle.std.proofs.Common.{ℕ, ◌+◌, ◌-◌, ◌^◌, ◌<◌, ◌≤◌, ◌≡◌, Bool, true, false, not, Ok, Err,
-        List, [], ◌∷◌, ◌++◌, length, filter, map, min, refl, sym, ap, subst, ◌∙◌, arith, inl, inr,
-        nat_le, nat_lt, ◌||◌}
+use Rattle.std.proofs.Common.{
+  ℕ,
+  ◌+◌,
+  ◌-◌,
+  ◌^◌,
+  ◌<◌,
+  ◌≤◌,
+  ◌≡◌,
+  Bool,
+  true,
+  false,
+  not,
+  Ok,
+  Err,
+  List,
+  [],
+  ◌∷◌,
+  ◌++◌,
+  length,
+  filter,
+  map,
+  min,
+  refl,
+  sym,
+  ap,
+  subst,
+  ◌∙◌,
+  arith,
+  inl,
+  inr,
+  nat_le,
+  nat_lt,
+  ◌||◌,
+}
 use Rattle.std.specs.List.Sorted.{IsPermutation}
 use Rattle.std.proofs.lemmas.Bool.{true≢false, cases_lt, false_from_ne_true, lt-ltb, ltb-true}
 use Rattle.std.proofs.lemmas.List.{append-nil}
@@ -28,40 +59,40 @@ use Rattle.bucket_table.proofs.Retaining.{retains_none}
 module _ {K V : Type 0} where
   -- what the resize at the end leaves
   ended_pairs : (flag : Bool) (ended new : ArraysView K V) → EndsWell flag ended new
-        → IsPermutation (pairs_of ended) (pairs_of new)
+      → IsPermutation (pairs_of ended) (pairs_of new)
   ended_pairs true ended new ends = pairs_kept _ _ ends.1.pairs
   ended_pairs false ended new ends = subst (λ (a : ArraysView K V). IsPermutation (pairs_of ended)
-        (pairs_of a)) (sym ends)
+      (pairs_of a)) (sym ends)
       (IsPermutation-refl (pairs_of ended))
 
 module _ {S K V : Type 0} (step : S → BucketView K V → Bool → Bool → BucketView K V → Bool → S
-        → Type 0) (count : S → ℕ)
+    → Type 0) (count : S → ℕ)
     (goes : (s t : S) (lent left : BucketView K V) (flag more last : Bool)
-        → step s lent flag more left last t → more ≡ true)
+    → step s lent flag more left last t → more ≡ true)
     (adds : (s t : S) (lent left : BucketView K V) (flag more last : Bool)
-        → step s lent flag more left last t
-        → count t ≡ sum_to (count s) (length (pairs_in lent))) where
+    → step s lent flag more left last t
+    → count t ≡ sum_to (count s) (length (pairs_in lent))) where
   never_stops : (s t : S) (flag last : Bool) (vs : List (Visited (BucketView K V)))
-        → AreCalls step s flag vs t last → HasStopped vs → ⊥
+      → AreCalls step s flag vs t last → HasStopped vs → ⊥
   never_stops s t flag last [] calls stopped = stopped
   never_stops s t flag last (v ∷ vs) calls (inl h) =
       true≢false (sym (goes s calls.0 v.lent v.left flag v.more calls.1 calls.2) ∙ h)
   never_stops s t flag last (v ∷ vs) calls (inr h) = never_stops calls.0 t calls.1 last vs calls.4 h
 
   counts : (s t : S) (flag last : Bool) (vs : List (Visited (BucketView K V)))
-        → count s ≤ 2 ^ 64 - 1 → AreCalls step s flag vs t last
+      → count s ≤ 2 ^ 64 - 1 → AreCalls step s flag vs t last
       → count t ≡ min (count s + lent_len vs) (2 ^ 64 - 1)
   counts s t flag last [] small calls = let same = ap count calls.0 in omega (arith, same, small)
   counts s t flag last (v ∷ vs) small calls =
       let first : count calls.0 ≡ min (count s + length (pairs_in v.lent)) (2 ^ 64 - 1) =
-          adds s calls.0 v.lent v.left flag v.more calls.1 calls.2 in
+      adds s calls.0 v.lent v.left flag v.more calls.1 calls.2 in
       let rest = counts calls.0 t calls.1 last vs (omega (arith, first)) calls.4 in
       omega (arith, first, rest)
 
   module _ (hash : K → ℕ) (old : ArraysView K V) (empty : length (buckets_of old.current) ≡ 0
-        → pairs_of old ≡ [])
+      → pairs_of old ≡ [])
       (long : 0 < length (buckets_of old.current) → IsLength (length (buckets_of old.current)))
-        (fits : (k : K) → hash k < 2 ^ 64) where
+      (fits : (k : K) → hash k < 2 ^ 64) where
     reached : (s t : S) (flag last : Bool) (vs : List (Visited (BucketView K V)))
         → AreCalls step s flag vs t last → IsWhole old 0 vs
         → length (buckets_of old.current) ≤ length vs
@@ -86,27 +117,27 @@ module _ {S K V : Type 0} (step : S → BucketView K V → Bool → Bool → Buc
         let all = ap length (all_from hash n (pairs_of old)) in
         let m_is : 0 + m ≡ m = omega arith in
         let past = ap (λ (k : ℕ). length (filter (is_from hash n k) (pairs_of old))) m_is
-            ∙ ap length (none_past hash n m (pairs_of old) empty long fits far) in
+        ∙ ap length (none_past hash n m (pairs_of old) empty long fits far) in
         omega (arith, told, fresh, lent, all, past)
 
 module _ {S K V : Type 0} (step : S → BucketView K V → Bool → Bool → BucketView K V → Bool → S
-        → Type 0)
+    → Type 0)
     (empties : (s t : S) (lent left : BucketView K V) (flag more last : Bool)
-        → step s lent flag more left last t
-        → pairs_in left ≡ []) where
+    → step s lent flag more left last t
+    → pairs_in left ≡ []) where
   none_left : (s t : S) (flag last : Bool) (vs : List (Visited (BucketView K V)))
-        → AreCalls step s flag vs t last → pairs_left vs ≡ []
+      → AreCalls step s flag vs t last → pairs_left vs ≡ []
   none_left s t flag last [] calls = refl
   none_left s t flag last (v ∷ vs) calls =
       ap (λ (ps : List (K × V)). ps ++ pairs_left vs) (empties s calls.0 v.lent v.left flag v.more
-        calls.1 calls.2)
-          ∙ none_left calls.0 t calls.1 last vs calls.4
+      calls.1 calls.2)
+      ∙ none_left calls.0 t calls.1 last vs calls.4
 
   module _ (hash : K → ℕ) (old : ArraysView K V) where
     -- the pairs of buckets that weren't visited are left
     beyond : (s t : S) (flag last : Bool) (vs : List (Visited (BucketView K V)))
         (ended : ArraysView K V) → AreCalls step s flag vs t last
-          → IsWalk hash old 0 vs ended
+        → IsWalk hash old 0 vs ended
         → IsPermutation (filter (is_from hash (length (buckets_of old.current)) (length vs))
         (pairs_of old)) (pairs_of ended)
     beyond s t flag last vs ended calls walk =
@@ -131,7 +162,7 @@ module _ {S K V : Type 0} (step : S → BucketView K V → Bool → Bool → Buc
         let left = beyond first now false w.flag w.visits w.ended w.calls walk in (
           bound_of (length (buckets_of old.current)) (length w.visits),
           subst (λ (a : ArraysView K V). IsPermutation (filter
-        (is_from hash (length (buckets_of old.current)) (length w.visits))
+              (is_from hash (length (buckets_of old.current)) (length w.visits))
               (pairs_of old)) (pairs_of a)) (sym w.ends) left,
         )
 
@@ -141,7 +172,7 @@ module _ {S K V : Type 0} (step : S → BucketView K V → Bool → Bool → Buc
         → ((k : K) → hash k < 2 ^ 64)
         → ((vs : List (Visited (BucketView K V))) (flag : Bool)
         → AreCalls step first false vs now flag → IsWhole old 0 vs
-            → length (buckets_of old.current) ≤ length vs)
+        → length (buckets_of old.current) ≤ length vs)
         → WalksBy {E = E} step hash 0 0 first old (Ok a) now new → pairs_of new ≡ []
     all_gone a first now new empty long fits far w =
         let n : ℕ = length (buckets_of old.current) in
@@ -159,7 +190,7 @@ none_counted {A} xs none = let e = ap (λ (ys : List A). length ys) none in omeg
 
 none_is : (n : ℕ) → n ≤ 0 → nat_lt 0 n ≡ false
 none_is n small = false_from_ne_true (nat_lt 0 n) (λ e. let less = ltb-true 0 n e in omega
-        (arith, less, small))
+    (arith, less, small))
 
 same_some : (a b : ℕ) → a ≡ min b (2 ^ 64 - 1) → nat_lt 0 a ≡ nat_lt 0 b
 same_some a b is = elim (cases_lt 0 b) [
@@ -170,9 +201,9 @@ same_some a b is = elim (cases_lt 0 b) [
 module _ {K V : Type 0} where
   -- what a tally does with a bucket, and what an emptier does
   pub tallies_bucket : (lent : BucketView K V) (buckets pairs len buckets_then pairs_then : ℕ)
-        → len ≡ length (pairs_in lent)
+      → len ≡ length (pairs_in lent)
       → buckets_then ≡ min (buckets + 1) (2 ^ 64 - 1) → pairs_then ≡ min (pairs + len) (2 ^ 64 - 1)
-          → Tallies buckets pairs lent true buckets_then pairs_then
+      → Tallies buckets pairs lent true buckets_then pairs_then
   tallies_bucket lent buckets pairs len buckets_then pairs_then is first second = record {
     goes_on = refl;
     buckets_are = first;
@@ -180,10 +211,10 @@ module _ {K V : Type 0} where
   }
 
   pub empties_bucket : (IsTest : (K × V → Bool) → Type 0) (lent left : BucketView K V)
-        (count taken count_then : ℕ) (flag last : Bool)
-        → IsTest (λ pair. false)
+      (count taken count_then : ℕ) (flag last : Bool)
+      → IsTest (λ pair. false)
       → Retains IsTest lent left taken → count_then ≡ min (count + taken) (2 ^ 64 - 1)
-        → last ≡ (flag || nat_lt 0 taken)
+      → last ≡ (flag || nat_lt 0 taken)
       → Empties count lent flag true left last count_then
   empties_bucket IsTest lent left count taken count_then flag last means r is set =
       let none = retains_none IsTest lent left taken means r in
@@ -194,25 +225,25 @@ module _ {K V : Type 0} where
         alive = r.alive;
         count_is = omega (arith, is, taken_is);
         flag_is = set ∙ ap (λ (b : Bool). flag || b) (same_some taken (length (pairs_in lent))
-        taken_is);
+            taken_is);
       }
 
 module _ {S K V : Type 0} (buckets pairs : S → ℕ) where
   abbrev pub tallying : S → BucketView K V → Bool → Bool → BucketView K V → Bool → S → Type 0
   tallying = reading (λ (s : S) (lent : BucketView K V) (more : Bool) (t : S). Tallies (buckets s)
-        (pairs s) lent more (buckets t)
+      (pairs s) lent more (buckets t)
       (pairs t))
 
   pub tallied : (hash : K → ℕ) (old : ArraysView K V) → (length (buckets_of old.current) ≡ 0
-        → pairs_of old ≡ [])
+      → pairs_of old ≡ [])
       → (0 < length (buckets_of old.current) → IsLength (length (buckets_of old.current)))
-        → ((k : K) → hash k < 2 ^ 64)
+      → ((k : K) → hash k < 2 ^ 64)
       → {A E : Type 0} (a : A) (first now : S) (new : ArraysView K V) → pairs first ≡ 0
       → WalksBy {E = E} tallying hash 0 0 first old (Ok a) now new
-        → pairs now ≡ counted_to (pairs_of old)
+      → pairs now ≡ counted_to (pairs_of old)
   tallied hash old empty long fits a first now new fresh w =
       all_counted tallying pairs (λ s t lent left flag more last call. call.0.goes_on)
-          (λ s t lent left flag more last call. call.0.pairs_are)
+      (λ s t lent left flag more last call. call.0.pairs_are)
       hash old empty long fits a first now new fresh w
 
 module _ {S K V : Type 0} (count : S → ℕ) where
@@ -225,27 +256,27 @@ module _ {S K V : Type 0} (count : S → ℕ) where
       let key : (K × V) × ℕ → K × ℕ = λ e. (e.0.0, e.1) in
       let none : keys_in left ≡ [] = ap (map key) (no_entries left call.none_left) in
       let same : keys_in lent ++ keys_in left ≡ keys_in lent =
-          ap (λ (ks : List (K × ℕ)). keys_in lent ++ ks) none ∙ append-nil (keys_in lent) in
+      ap (λ (ks : List (K × ℕ)). keys_in lent ++ ks) none ∙ append-nil (keys_in lent) in
       record {
         gone = keys_in lent;
         keys = subst (λ (ks : List (K × ℕ)). IsPermutation (keys_in lent) ks) (sym same)
-        (IsPermutation-refl (keys_in lent));
+            (IsPermutation-refl (keys_in lent));
         alive = call.alive ∙ alive;
       }
 
   pub emptied : (hash : K → ℕ) (old : ArraysView K V) → (length (buckets_of old.current) ≡ 0
-        → pairs_of old ≡ [])
+      → pairs_of old ≡ [])
       → (0 < length (buckets_of old.current) → IsLength (length (buckets_of old.current)))
-        → ((k : K) → hash k < 2 ^ 64)
+      → ((k : K) → hash k < 2 ^ 64)
       → {A E : Type 0} (a : A) (first now : S) (new : ArraysView K V) → count first ≡ 0
       → WalksBy {E = E} emptying hash 0 0 first old (Ok a) now new → (pairs_of new ≡ [])
-        × (count now ≡ counted_to (pairs_of old))
+      × (count now ≡ counted_to (pairs_of old))
   emptied hash old empty long fits a first now new fresh w = (
     all_gone emptying (λ s t lent left flag more last call. call.none_left) hash old a first now new
         empty long fits
         (λ vs flag calls whole. reached emptying count (λ s t lent left flag more last call.
         call.goes_on)
-            (λ s t lent left flag more last call. call.count_is)
+        (λ s t lent left flag more last call. call.count_is)
         hash old empty long fits first now false flag vs calls whole)
         w,
     all_counted emptying count (λ s t lent left flag more last call. call.goes_on)
@@ -254,20 +285,20 @@ module _ {S K V : Type 0} (count : S → ℕ) where
   )
 
   pub emptied_below : (hash : K → ℕ) (old : ArraysView K V) {A E : Type 0} (e : E) (first now : S)
-        (new : ArraysView K V)
+      (new : ArraysView K V)
       → WalksBy {A = A} emptying hash 0 0 first old (Err e) now new
       → (bound : ℕ) × IsPermutation (filter (λ pair. nat_le bound (hash pair.0)) (pairs_of old))
-        (pairs_of new)
+      (pairs_of new)
   emptied_below hash old e first now new w = left_from emptying
-        (λ s t lent left flag more last call. call.none_left)
+      (λ s t lent left flag more last call. call.none_left)
       hash old e first now new w
 
 module _ {K V H : Type 0} (kind : ℕ) (t s : TableView K V H) (hasher : s.hasher ≡ t.hasher) where
   -- the map of a table whose pairs went, or went in part
   pub clears_all : (count : ℕ) → s.arrays.minimum ≡ t.arrays.minimum
-        → s.arrays.maximum ≡ t.arrays.maximum
+      → s.arrays.maximum ≡ t.arrays.maximum
       → (pairs_of s.arrays ≡ []) × (count ≡ counted_to (pairs_of t.arrays))
-        → ClearsAll (state_of kind t) count (state_of kind s)
+      → ClearsAll (state_of kind t) count (state_of kind s)
   clears_all count minimum maximum (none, counted) = record {
     counted = counted;
     none = others_than_pairs kind t s hasher minimum maximum ∙ ap
@@ -275,9 +306,9 @@ module _ {K V H : Type 0} (kind : ℕ) (t s : TableView K V H) (hasher : s.hashe
   }
 
   pub clears_below : (hash : H → K → ℕ) → s.arrays.minimum ≡ t.arrays.minimum
-        → s.arrays.maximum ≡ t.arrays.maximum
+      → s.arrays.maximum ≡ t.arrays.maximum
       → ((bound : ℕ) × IsPermutation (filter (λ pair. nat_le bound (hash t.hasher pair.0))
-        (pairs_of t.arrays)) (pairs_of s.arrays))
+      (pairs_of t.arrays)) (pairs_of s.arrays))
       → ClearsBelow hash (state_of kind t) (state_of kind s)
   clears_below hash minimum maximum (bound, left) =
       record { bound = bound; pairs = left; others = others_than_pairs kind t s hasher minimum maximum }
