@@ -1,26 +1,9 @@
 -- When a resize is looked into, by what the code reads.
-use Rattle.std.proofs.Common.{
-  ℕ,
-  ◌<◌,
-  ◌≡◌,
-  ◌↔◌,
-  true,
-  false,
-  List,
-  Option,
-  Some,
-  None,
-  is_some,
-  refl,
-  sym,
-  ap,
-  subst,
-  ◌∙◌,
-}
+use Rattle.std.proofs.Common.{ℕ, ◌<◌, ◌≡◌, ◌↔◌, false, List, Option, Some, None, is_some, refl, sym, subst, ◌∙◌}
 use Rattle.std.proofs.lemmas.Bool.{false≢true}
-use Rattle.std.proofs.lemmas.Option.{none-some, same_Some}
+use Rattle.std.proofs.lemmas.Option.{same_Some}
 use Rattle.bucket_slots.specs.BucketView.{BucketView}
-use Rattle.bucket_table.specs.ArraysView.{ArraysView, RehashView}
+use Rattle.bucket_table.specs.ArraysView.{ArraysView}
 use Rattle.bucket_table.specs.Asking.{AsksGrowth, AsksShrinking}
 use Rattle.bucket_table.specs.ResizePlan.{slots_of}
 use Rattle.bucket_table.specs.Sampling.{IsCrowded, IsDeserted, live_counts}

@@ -1,34 +1,5 @@
 -- A unit of a rehash that no one else works at.
-use Rattle.std.proofs.Common.{
-  ℕ,
-  ◌+◌,
-  ◌*◌,
-  ◌/◌,
-  ◌<◌,
-  ◌≤◌,
-  ◌≡◌,
-  Bool,
-  true,
-  false,
-  List,
-  [],
-  ◌∷◌,
-  Option,
-  Some,
-  None,
-  Result,
-  Ok,
-  Err,
-  IfSome,
-  length,
-  ⊎_elim,
-  refl,
-  sym,
-  ap,
-  subst,
-  ◌∙◌,
-  arith,
-}
+use Rattle.std.proofs.Common.{ℕ, ◌+◌, ◌*◌, ◌/◌, ◌≤◌, ◌≡◌, Bool, true, false, List, [], ◌∷◌, Option, Some, None, Result, Ok, Err, IfSome, length, refl, sym, ap, subst, ◌∙◌, arith}
 use Rattle.std.proofs.lemmas.List.Elements.{Contains-get_or}
 use Rattle.std.proofs.lemmas.List.Sorted.{Contains-permutation, length_permutation}
 use Rattle.std.proofs.lemmas.Option.{same_Some}
@@ -37,7 +8,7 @@ use Rattle.bucket_slots.specs.BucketView.{BucketView}
 use Rattle.bucket_table.specs.ArraysView.{ArraysView, IsRehash, RehashView, killed_flags, old_buckets}
 use Rattle.bucket_table.specs.Covered.{IsUnitKilled}
 use Rattle.bucket_table.specs.Finishing.{FinishesOne, IsUnopened, units_left}
-use Rattle.bucket_table.specs.Rehashing.{EndsRehash, StartsRehash}
+use Rattle.bucket_table.specs.Rehashing.{EndsRehash}
 use Rattle.bucket_table.specs.State.{TicketState}
 use Rattle.bucket_table.specs.Steps.{HandsOut, position_after}
 use Rattle.bucket_table.specs.Units.{WorksSome}

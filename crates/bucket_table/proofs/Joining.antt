@@ -1,39 +1,5 @@
 -- A bucket's move, as the arrays see it.
-use Rattle.std.proofs.Common.{
-  ℕ,
-  suc,
-  ◌*◌,
-  ◌<◌,
-  ◌≤◌,
-  ◌≡◌,
-  ◌++◌,
-  Bool,
-  true,
-  List,
-  [],
-  ◌∷◌,
-  Option,
-  Some,
-  Result,
-  Ok,
-  Err,
-  OnOk,
-  OnErr,
-  IfSome,
-  set,
-  length,
-  inl,
-  inr,
-  refl,
-  sym,
-  ap,
-  subst,
-  ◌∙◌,
-  arith,
-  get_or-set_other,
-  get_or-set_same,
-  length-set,
-}
+use Rattle.std.proofs.Common.{ℕ, suc, ◌*◌, ◌<◌, ◌≤◌, ◌≡◌, ◌++◌, Bool, true, List, [], ◌∷◌, Option, Some, Result, Ok, Err, OnOk, OnErr, set, length, inl, inr, refl, sym, ap, subst, ◌∙◌, arith, get_or-set_other, get_or-set_same, length-set}
 use Rattle.std.proofs.lemmas.Bool.{cases_eq}
 use Rattle.std.proofs.lemmas.List.{map-set}
 use Rattle.std.proofs.lemmas.List.Elements.{All-cons, All-nil}

@@ -1,34 +1,14 @@
 -- The map of two arrays, where the pairs of a bucket move on.
-use Rattle.std.proofs.Common.{
-  ℕ,
-  ◌≡◌,
-  ap,
-  ◌∙◌,
-  subst,
-  Bool,
-  None,
-  Result,
-  Ok,
-  Err,
-  OnOk,
-  OnErr,
-  List,
-  ◌++◌,
-  map,
-  arith,
-}
+use Rattle.std.proofs.Common.{ℕ, ◌≡◌, ap, ◌∙◌, subst, Bool, None, Result, Ok, Err, OnOk, OnErr, List, map, arith}
 use Rattle.std.specs.Cmp.{IsEquivalence}
 use Rattle.std.specs.List.{IsDistinct}
 use Rattle.std.specs.List.Sorted.{IsPermutation}
-use Rattle.std.proofs.lemmas.List.Sorted.{IsPermutation-map, IsPermutation-refl}
+use Rattle.std.proofs.lemmas.List.Sorted.{IsPermutation-map}
 use Rattle.std.proofs.lemmas.Map.Keys.{IsDistinct-IsPermutation}
-use Rattle.bucket_slots.specs.BucketView.{BucketView}
-use Rattle.bucket_table.specs.Relocation.{IsRelocated, KeepsEntries, entries_among}
 use Rattle.bucket_table.specs.ArraysView.{ArePlaced, ArraysView, IsOneMap, TableView, entries_of, pairs_of}
 use Rattle.bucket_table.specs.Finding.{KeepsMap}
 use Rattle.bucket_table.specs.MapState.{KeepsPairs, MapState, state_of}
 use Rattle.bucket_table.specs.Rehashing.{IsUnmoved, KeepsArrays, RelocatesAt}
-use Rattle.bucket_table.proofs.Relocating.{entries_among-kept}
 
 module _ {K V : Type 0} where
   pub pairs_kept : (xs ys : List ((K × V) × ℕ)) → IsPermutation xs ys

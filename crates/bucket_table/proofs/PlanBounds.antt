@@ -22,7 +22,7 @@ use Rattle.std.specs.Int.{IsPowerOfTwo}
 use Rattle.bucket_slots.specs.BucketView.{BucketView}
 use Rattle.bucket_slots.specs.Sampling.{IsLargeSample, full_sample}
 use Rattle.bucket_slots.specs.Sizing.{IsOptimalCapacity, IsPowerIn}
-use Rattle.bucket_table.specs.ResizePlan.{IsPlanTo, last_estimate, middle_estimate, slots_of}
+use Rattle.bucket_table.specs.ResizePlan.{IsPlanTo, middle_estimate, slots_of}
 use Rattle.bucket_table.specs.Sampling.{estimate, live_counts}
 use Rattle.bucket_table.specs.declared.arrays.plan.Plan.TheVariants.{Keep, Resize}
 use Rattle.bucket_table.proofs.Samples.{length-live_counts}

@@ -1,35 +1,15 @@
 -- What moving the sources of a home leaves.
-use Rattle.std.proofs.Common.{
-  ℕ,
-  ◌<◌,
-  ◌≤◌,
-  ◌≡◌,
-  ◌↔◌,
-  Bool,
-  true,
-  List,
-  Option,
-  Some,
-  None,
-  option_map,
-  length,
-  refl,
-  sym,
-  ap,
-  subst,
-  ◌∙◌,
-  arith,
-}
+use Rattle.std.proofs.Common.{ℕ, ◌<◌, ◌≡◌, ◌↔◌, Bool, true, List, Option, Some, None, option_map, length, refl, sym, ap, subst, ◌∙◌, arith}
 use Rattle.std.proofs.lemmas.Option.{none-some, same_Some}
 use Rattle.bucket_slots.specs.ArrayView.{bucket_at}
 use Rattle.bucket_slots.specs.BucketView.{BucketView}
 use Rattle.bucket_slots.specs.Homes.{IsHome, IsInRange, Meets}
 use Rattle.bucket_table.specs.ArraysView.{ArraysView, RehashView, killed_flags, old_buckets}
 use Rattle.bucket_table.specs.Preparing.{IsReady}
-use Rattle.bucket_table.specs.Rehashing.{IsOldRange, KeepsArrays}
+use Rattle.bucket_table.specs.Rehashing.{KeepsArrays}
 use Rattle.bucket_table.specs.Relocation.{buckets_of}
 use Rattle.bucket_table.specs.State.{TicketState}
-use Rattle.bucket_table.specs.Units.{KeepsBag, KeepsRehash, WorksRange, WorksUnit, times_open}
+use Rattle.bucket_table.specs.Units.{KeepsBag, KeepsRehash, WorksRange, WorksUnit}
 use Rattle.bucket_table.proofs.Resizing.{get_or-killed_flags, length-killed_flags}
 
 module _ {K V : Type 0} where

@@ -48,9 +48,8 @@ use Rattle.bucket_table.specs.Growing.{Grows}
 use Rattle.bucket_table.specs.Locking.{IsLocked}
 use Rattle.bucket_table.specs.Relocation.{AreTwoArrays, IsEntryHome, IsVacant, buckets_of, entries_among}
 use Rattle.bucket_table.specs.ResizePlan.{IsPlan, IsPlanTo, last_estimate, slots_of}
-use Rattle.bucket_table.specs.Resizes.{IsArrayPlan, IsPlanOf, IsResized, Resizes, first_tickets, new_rehash}
+use Rattle.bucket_table.specs.Resizes.{IsArrayPlan, IsPlanOf, IsResized, Resizes, new_rehash}
 use Rattle.bucket_table.specs.Sampling.{live_counts}
-use Rattle.bucket_table.specs.State.{TicketState}
 use Rattle.bucket_table.specs.declared.arrays.plan.Plan.{Plan}
 use Rattle.bucket_table.specs.declared.arrays.plan.Plan.TheVariants.{Keep, GiveUp, Resize}
 use Rattle.bucket_table.proofs.PlanIsOne.{all_or_not}

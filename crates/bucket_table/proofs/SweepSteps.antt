@@ -1,33 +1,7 @@
 -- A cursor sweeps a table.
-use Rattle.std.proofs.Common.{
-  ℕ,
-  ◌+◌,
-  ◌-◌,
-  ◌^◌,
-  ◌<◌,
-  ◌≡◌,
-  Bool,
-  false,
-  Option,
-  Some,
-  None,
-  Result,
-  Ok,
-  Err,
-  OnErr,
-  List,
-  length,
-  min,
-  refl,
-  sym,
-  ap,
-  subst,
-  ◌∙◌,
-  arith,
-}
+use Rattle.std.proofs.Common.{ℕ, ◌+◌, ◌-◌, ◌^◌, ◌≡◌, Bool, false, Option, Some, None, Result, Ok, Err, OnErr, List, length, min, refl, sym, ap, subst, ◌∙◌, arith}
 use Rattle.std.specs.List.Sorted.{IsPermutation}
 use Rattle.bucket_slots.specs.BucketView.{BucketView, Place}
-use Rattle.bucket_slots.specs.Sizing.{IsLength}
 use Rattle.std.proofs.lemmas.List.{length-set}
 use Rattle.bucket_table.specs.ArraysView.{ArePlaced, ArraysView, TableView, pairs_of}
 use Rattle.bucket_table.specs.Cursors.{GoesOnAt, ReachesAt, bound_of}
@@ -36,7 +10,6 @@ use Rattle.bucket_table.specs.Relocation.{buckets_of}
 use Rattle.bucket_table.specs.Retains.{IsSwept, IsSweptBelow, Retains}
 use Rattle.bucket_table.specs.Sides.{arrays_with, bucket_on}
 use Rattle.bucket_table.specs.Units.{KeepsBag, times_in}
-use Rattle.bucket_table.proofs.Bounds.{bound_fits}
 use Rattle.bucket_table.specs.LockedLaws.{buckets_of-array_with}
 use Rattle.bucket_table.proofs.HomeSplit.{changed_there, splits, taken_there}
 use Rattle.bucket_table.proofs.Sweeping.{IsSweeping, sweep_begins, sweep_ends, sweep_moves, sweep_stops, sweep_visits}

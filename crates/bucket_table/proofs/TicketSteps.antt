@@ -1,36 +1,13 @@
 -- The tickets of a table are those of the machine that knows no pairs.
-use Rattle.std.proofs.Common.{
-  ℕ,
-  ◌<◌,
-  ◌≡◌,
-  Bool,
-  true,
-  false,
-  Option,
-  Some,
-  None,
-  Result,
-  Ok,
-  Err,
-  List,
-  length,
-  option_map,
-  set,
-  refl,
-  sym,
-  ap,
-  subst,
-  ◌∙◌,
-}
+use Rattle.std.proofs.Common.{ℕ, ◌<◌, ◌≡◌, Bool, true, false, Option, Some, None, List, length, option_map, set, refl, sym, ap, subst, ◌∙◌}
 use Rattle.std.proofs.lemmas.List.{length-map, map-set}
 use Rattle.std.proofs.lemmas.Option.{same_Some}
 use Rattle.bucket_slots.specs.BucketView.{BucketView}
 use Rattle.bucket_table.specs.ArraysView.{ArraysView, RehashView, TableView, killed_flags}
-use Rattle.bucket_table.specs.Rehashing.{EndsRehash, IsOldIndex, RelocatesAt, StartsRehash}
+use Rattle.bucket_table.specs.Rehashing.{IsOldIndex, RelocatesAt}
 use Rattle.bucket_table.specs.Sides.{rehash_with, with_bucket}
-use Rattle.bucket_table.specs.TicketCalls.{EndsTicket, HasOldBucket, KeepsTickets, KillsBucket, StartsTicket, rehash_state, tickets_of, times_handed}
+use Rattle.bucket_table.specs.TicketCalls.{KeepsTickets, KillsBucket, rehash_state, tickets_of, times_handed}
 use Rattle.bucket_table.specs.Units.{KeepsBag, times_in}
-use Rattle.bucket_table.specs.declared.tickets.TicketError.{TicketError}
 
 module _ {K V : Type 0} where
   times_same : (unit : ℕ) (o : Option (RehashView K V)) → times_handed unit

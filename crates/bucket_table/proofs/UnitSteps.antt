@@ -1,42 +1,14 @@
 -- What a unit's steps do, one after another.
-use Rattle.std.proofs.Common.{
-  ℕ,
-  ◌+◌,
-  ◌*◌,
-  ◌<◌,
-  ◌≤◌,
-  ◌≡◌,
-  ◌≢◌,
-  Bool,
-  true,
-  false,
-  List,
-  Option,
-  Some,
-  None,
-  set,
-  length,
-  option_map,
-  ⊎_elim,
-  refl,
-  sym,
-  ap,
-  subst,
-  ◌∙◌,
-  arith,
-  get_or-set_other,
-  get_or-set_same,
-  length-set,
-}
+use Rattle.std.proofs.Common.{ℕ, ◌+◌, ◌*◌, ◌<◌, ◌≤◌, ◌≡◌, ◌≢◌, Bool, true, false, List, Option, Some, set, length, option_map, ⊎_elim, refl, sym, ap, subst, ◌∙◌, arith, get_or-set_other, get_or-set_same, length-set}
 use Rattle.std.proofs.lemmas.List.{length-map}
 use Rattle.std.proofs.lemmas.Bool.{cases_eq, false≢true}
 use Rattle.std.proofs.lemmas.List.Sorted.{IsPermutation-refl, IsPermutation-trans}
-use Rattle.std.proofs.lemmas.Option.{none-some, same_Some}
+use Rattle.std.proofs.lemmas.Option.{same_Some}
 use Rattle.std.specs.List.Sorted.{IsPermutation}
 use Rattle.bucket_slots.specs.ArrayView.{bucket_at}
-use Rattle.bucket_slots.specs.BucketView.{BucketView, empty_bucket, pairs_in}
+use Rattle.bucket_slots.specs.BucketView.{BucketView, empty_bucket}
 use Rattle.bucket_table.specs.ArraysView.{ArraysView, RehashView, entries_of, killed_flags, old_buckets}
-use Rattle.bucket_table.specs.Rehashing.{IsEasyMove, IsOldIndex, IsOldRange, RelocatesAt, IsUnmoved, KeepsArrays}
+use Rattle.bucket_table.specs.Rehashing.{IsOldIndex, IsOldRange, RelocatesAt, IsUnmoved, KeepsArrays}
 use Rattle.bucket_table.specs.Units.{IsEasyRange, IsEasyUnit, RelocatesTo, WorksRange, WorksSome}
 use Rattle.bucket_table.proofs.Resizing.{get_or-killed_flags}
 

@@ -1,36 +1,12 @@
 -- A whole unit: a ticket is handed out, its buckets are relocated, and it is ended.
-use Rattle.std.proofs.Common.{
-  ℕ,
-  ◌*◌,
-  ◌/◌,
-  ◌<◌,
-  ◌≤◌,
-  ◌≡◌,
-  Bool,
-  true,
-  List,
-  Option,
-  Some,
-  None,
-  Result,
-  IfSome,
-  length,
-  ⊎_elim,
-  refl,
-  sym,
-  ap,
-  subst,
-  ◌∙◌,
-  arith,
-}
+use Rattle.std.proofs.Common.{ℕ, ◌*◌, ◌/◌, ◌<◌, ◌≤◌, ◌≡◌, Bool, true, List, Option, Some, None, Result, IfSome, length, refl, sym, ap, subst, ◌∙◌, arith}
 use Rattle.std.proofs.lemmas.Option.{none-some, same_Some}
 use Rattle.bucket_slots.specs.ArrayView.{bucket_at}
 use Rattle.bucket_slots.specs.BucketView.{BucketView, pairs_in}
 use Rattle.bucket_table.specs.ArraysView.{ArraysView, IsRehash, RehashView}
 use Rattle.bucket_table.specs.Rehashing.{EndsRehash, StartsRehash}
-use Rattle.bucket_table.specs.State.{TicketState}
 use Rattle.bucket_table.specs.Steps.{HandsOut}
-use Rattle.bucket_table.specs.Units.{IsEasyUnit, IsUnitReady, KeepsBag, WorksSome, WorksUnit, times_open}
+use Rattle.bucket_table.specs.Units.{IsEasyUnit, KeepsBag, WorksSome, WorksUnit}
 use Rattle.bucket_table.specs.declared.tickets.TicketError.{TicketError}
 use Rattle.bucket_table.proofs.Resizing.{length-killed_flags}
 use Rattle.bucket_table.proofs.UnitEnds.{unit_ended}

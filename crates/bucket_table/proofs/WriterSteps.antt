@@ -1,39 +1,5 @@
 -- When a writer looks into a growth, by what the code reads; and what finding its bucket leaves.
-use Rattle.std.proofs.Common.{
-  IsSome,
-  ◌∷◌,
-  ◌⊎◌,
-  option_map,
-  ℕ,
-  ◌*◌,
-  ◌<◌,
-  ◌≤◌,
-  ◌≡◌,
-  ◌↔◌,
-  ◌++◌,
-  Bool,
-  true,
-  false,
-  IsTrue,
-  List,
-  [],
-  Option,
-  Some,
-  None,
-  Result,
-  Ok,
-  Err,
-  MatchResult,
-  length,
-  inl,
-  inr,
-  refl,
-  sym,
-  ap,
-  subst,
-  ◌∙◌,
-  arith,
-}
+use Rattle.std.proofs.Common.{IsSome, ◌∷◌, ◌⊎◌, ℕ, ◌*◌, ◌<◌, ◌≤◌, ◌≡◌, ◌↔◌, ◌++◌, Bool, true, false, IsTrue, List, [], Option, Some, None, Result, Ok, Err, MatchResult, length, inl, inr, refl, sym, ap, subst, ◌∙◌, arith}
 use Rattle.std.proofs.lemmas.Bool.{false≢true}
 use Rattle.std.proofs.lemmas.List.Sorted.{IsPermutation-refl, IsPermutation-trans}
 use Rattle.std.proofs.lemmas.Option.{none-some}
@@ -49,7 +15,7 @@ use Rattle.bucket_table.specs.ArraysView.{ArePlaced}
 use Rattle.bucket_slots.specs.Homes.{IsHome}
 use Rattle.bucket_table.specs.Finding.{KeepsMap}
 use Rattle.bucket_table.specs.Locking.{IsLocked}
-use Rattle.bucket_table.specs.Preparing.{IsReady, Prepares}
+use Rattle.bucket_table.specs.Preparing.{IsReady}
 use Rattle.bucket_table.specs.Relocation.{buckets_of, entries_among}
 use Rattle.bucket_table.specs.Rehashing.{KeepsArrays}
 use Rattle.bucket_table.specs.Resizes.{IsPlanOf, MakesArray, MakesFrom, Resizes}

@@ -1,5 +1,5 @@
 -- What a table is where its current array is lent, made first where there was none.
-use Rattle.std.specs.Prelude.{◌≡◌, List, Option, Some, None, Result, Ok, Err}
+use Rattle.std.specs.Prelude.{◌≡◌, List, Some, None, Result, Ok, Err}
 use Rattle.std.specs.Borrow.{Bor, Fml, MutBor, RattleType}
 use denote.Follow.{follows_so}
 use mathlib.Core.Option.{none}
