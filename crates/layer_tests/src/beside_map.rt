@@ -119,7 +119,12 @@ impl Course {
             Call::Has => Reply::Truth(!self.map.is_empty()),
 
             // The course makes no such call.
-            Call::Reserve(_) | Call::Start | Call::Work(_) | Call::End(..) => Reply::Refused,
+            Call::Reserve(_)
+            | Call::Start
+            | Call::Work(_)
+            | Call::End(..)
+            | Call::Walk
+            | Call::Clear => Reply::Refused,
         })
     }
 

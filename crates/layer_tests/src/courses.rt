@@ -167,7 +167,11 @@ impl Course {
     }
 
     // Whether the reply is one on the tickets that are open, which change with it.
-    fn follow_ticket(&mut self, call: Call<u64, u64>, reply: Reply<u64, u64>) -> Result<bool, Fail> {
+    fn follow_ticket(
+        &mut self,
+        call: Call<u64, u64>,
+        reply: Reply<u64, u64>,
+    ) -> Result<bool, Fail> {
         Ok(match (call, reply) {
             (Call::Start, Reply::Ticket(ticket)) => {
                 self.open.push(ticket)?;
@@ -297,7 +301,12 @@ fn check_end<L: LruList + Drop, const TYPE: u8>(
     check_same(rt, course.map.len(), 0, "pairs are left");
     check_same(rt, table.rehashing_metadata(), None, "the last rehash");
     if !course.raises {
-        check_same(rt, course.most_slots >= SIX_DOUBLINGS, true, "six doublings");
+        check_same(
+            rt,
+            course.most_slots >= SIX_DOUBLINGS,
+            true,
+            "six doublings",
+        );
         check_same(rt, table.num_slots(), 0, "the way back");
     }
     Ok(())
