@@ -2,19 +2,19 @@
 use bucket_table::script::{Call, Reply};
 
 /// How many keys there are: those below.
-pub(crate) const KEYS: u64 = 256;
+pub(crate) const KEYS: u64 = 512;
 
 /// The value under each key.
 #[derive(Drop)]
 pub(crate) struct Beside {
-    values: [Option<u64>; 256],
+    values: [Option<u64>; 512],
 }
 
 impl Beside {
     /// No key has a value.
     pub(crate) fn new() -> Self {
         Beside {
-            values: [None; 256],
+            values: [None; 512],
         }
     }
 

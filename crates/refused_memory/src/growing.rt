@@ -1,5 +1,5 @@
-//! Scripts whose tables grow, hand out tickets and shrink, for runs in which a request for memory is
-//! refused. A map beside each takes the replies.
+//! Scripts on tables that stay small, and on tables that grow, hand out tickets and shrink, for runs
+//! in which a request for memory is refused. A map beside each takes the replies.
 use crate::beside::{Beside, KEYS};
 use crate::outcome::Outcome;
 use crate::{Row, calls_of};
@@ -28,6 +28,36 @@ enum Act {
     /// One call.
     Does(Call<u64, u64>, Reply<u64, u64>),
 }
+
+// Keys 2 and 258 have one low byte.
+const STAYS_SMALL: &[Part] = &[
+    Part {
+        acts: &[
+            Act::Does(Call::Put(1, 10), Reply::Done),
+            Act::Does(Call::Put(2, 20), Reply::Done),
+            Act::Does(Call::Put(258, 30), Reply::Done),
+            Act::Does(Call::Put(2, 21), Reply::Present),
+            Act::Does(Call::Peek(3), Reply::Absent),
+        ],
+        seen: (64, None),
+    },
+    Part {
+        acts: &[
+            Act::Does(Call::Remove(1), Reply::Pair(1, 10)),
+            Act::Does(Call::Remove(3), Reply::Absent),
+            Act::Does(Call::Put(3, 40), Reply::Done),
+            Act::Does(Call::Remove(2), Reply::Pair(2, 20)),
+            Act::Does(Call::Peek(258), Reply::Value(30)),
+        ],
+        seen: (64, None),
+    },
+];
+
+// One pair more than a bucket has slots of its own, under one hash: the last needs a block.
+const OVERFLOWS: &[Part] = &[Part {
+    acts: &[Act::Puts(0, 33), Act::Does(Call::Count, Reply::Number(33))],
+    seen: (64, None),
+}];
 
 // Under the hash that spreads low bytes the last put doubles the array, and the read ends its
 // rehash. The last removal gives the array up.
@@ -147,6 +177,14 @@ const SHRINKS_UNDER_A_TICKET: &[Part] = &[
 
 /// Does the scripts, each on a new table, where the one before was done.
 pub(crate) fn growing_scripts(alloc: Global) -> Outcome {
+    match small_script(alloc) {
+        Outcome::Done => {}
+        outcome => return outcome,
+    }
+    match overflowing_script(alloc) {
+        Outcome::Done => {}
+        outcome => return outcome,
+    }
     match doubling_script(alloc) {
         Outcome::Done => {}
         outcome => return outcome,
@@ -159,6 +197,16 @@ pub(crate) fn growing_scripts(alloc: Global) -> Outcome {
         Outcome::Done => index_script(alloc),
         outcome => outcome,
     }
+}
+
+fn small_script(alloc: Global) -> Outcome {
+    let mut table: Table<MAP> = HashTable::new(alloc, ScriptHash::Spread, 0, 64);
+    perform(alloc, &mut table, STAYS_SMALL)
+}
+
+fn overflowing_script(alloc: Global) -> Outcome {
+    let mut table: Table<MAP> = HashTable::new(alloc, ScriptHash::Zero, 0, 64);
+    perform(alloc, &mut table, OVERFLOWS)
 }
 
 fn doubling_script(alloc: Global) -> Outcome {
