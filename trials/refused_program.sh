@@ -13,21 +13,24 @@ most=100
 folder=$(mktemp -d) || exit 1
 trap 'rm -rf "$folder"' EXIT
 
-# Keys of one hash, more than a bucket has own slots: the chain gets a block, then another. The keys
-# that are read and removed stand in own slots, so they are there whichever block was refused.
+# Keys of one hash, more than a bucket has own slots: the first makes the array, later ones a block of
+# the chain, then another. The keys that are read and removed aren't the first and stand in own slots,
+# so they are there whichever request was refused.
 {
     echo "new map zero 0 64"
+    echo "put 500 600"
     for key in {0..36}; do echo "put $key $((key + 100))"; done
     echo "put 0 7"
-    echo "peek 31"
+    echo "peek 30"
     echo "remove 0"
     echo "read 0"
 } >"$folder/input"
 {
     echo ok
+    echo ok
     for key in {0..36}; do echo ok; done
     echo present
-    echo "value 131"
+    echo "value 130"
     echo "pair 0 100"
     echo absent
 } >"$folder/wanted"
