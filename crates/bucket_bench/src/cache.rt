@@ -34,12 +34,18 @@ pub(crate) fn bucket_costs(clock: &impl Clock, alloc: Global) -> io::Result<Cost
     let mut evictions = Vec::new(alloc);
     for call in 0..CALLS {
         evictions.push(Call::Evict(0))?;
-        evictions.push(Call::Put(call.wrapping_add(32), call))?;
+        evictions.push(Call::Put(fresh_key(call), call))?;
     }
     Ok(Costs {
         touch: script_cost(clock, alloc, &mut table, touches)?,
         evict: script_cost(clock, alloc, &mut table, evictions)?,
     })
+}
+
+// A key of its own for each call, 32 or more, in the home of the first 32: its low byte is below 128.
+fn fresh_key(call: u64) -> u64 {
+    let block = (call / 96).wrapping_mul(256);
+    block.wrapping_add(call % 96).wrapping_add(32)
 }
 
 /// What the same costs on a cache of the crate `lru`.
