@@ -31,9 +31,11 @@ pub mod CallerLemmas
 pub mod SearchCallerLemmas
 pub mod MarkCallerLemmas
 pub mod RoomCallerLemmas
+pub mod RecencyCallerLemmas
 pub mod PowersOfTwo
 pub mod Intervals
 pub mod Doublings
 pub mod Sampled
 pub mod Capacities
+pub mod ArrayParts
 pub mod ArrayCallerLemmas

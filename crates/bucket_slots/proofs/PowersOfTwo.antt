@@ -1,5 +1,5 @@
 -- Powers of two: their order, their quotients, and the least one.
-use Rattle.std.proofs.Common.{refl, ◌≡◌, ℕ, ◌+◌, ◌-◌, ◌*◌, ◌/◌, ◌^◌, ◌<◌, ◌≤◌, max, min, ⊎_elim, ap, subst, ◌∙◌, arith, pow_mono}
+use Rattle.std.proofs.Common.{refl, ◌≡◌, ℕ, ◌+◌, ◌-◌, ◌*◌, ◌/◌, ◌%◌, ◌^◌, ◌<◌, ◌≤◌, max, min, ⊎_elim, sym, ap, subst, ◌∙◌, arith, pow_mono}
 use Rattle.std.proofs.lemmas.Nat.{pow_pos, pow-add, pow_below, shl-shr}
 use Rattle.std.proofs.lemmas.Bool.{cases_lt}
 use Rattle.std.specs.Int.{IsPowerOfTwo}
@@ -100,3 +100,11 @@ len_in capacity power h =
       at_least = omega arith;
       at_most = omega arith;
     }
+
+-- a lower power of two divides a power of two
+pub power_divides : (i j : ℕ) → i ≤ j → 2 ^ j ≡ 2 ^ j / 2 ^ i * 2 ^ i
+power_divides i j le = power_parts i j le ∙ ap (λ (n : ℕ). n * 2 ^ i) (sym (power_quotient i j le))
+
+-- a shift of one stays in range
+pub shifted_one : (bits : ℕ) → bits < 64 → 1 * 2 ^ bits % 2 ^ 64 ≡ 2 ^ bits
+shifted_one bits few = let less = pow_below bits 64 few in omega arith

@@ -11,3 +11,5 @@ pub mod RecencySteps
 pub mod Room
 pub mod RowLoans
 pub mod ArrayFields
+pub mod ArrayParts
+pub mod PartLoans

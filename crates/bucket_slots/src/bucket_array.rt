@@ -2,10 +2,12 @@
 //!
 //! Model: the list of the buckets, in the order of the intervals of hashes that they are home to.
 //! Invariant (`IsArray`): the length is a power of two from 2 to 2^57, the stored offset shifts a
-//! hash to the index of its home, and the stored sample size is that of the length.
+//! hash to the index of its home, and the stored sample size is that of the length. The buckets
+//! stand in equally long parts, beside a spare empty one (`AreParts`).
 //!
-//! Ports scc's `src/hash_table/bucket_array.rs`. The buckets stand in a vector, where scc asks for
-//! raw memory, aligns it and writes buckets and data blocks into it.
+//! Ports scc's `src/hash_table/bucket_array.rs`. The buckets stand in vectors whose memory is asked
+//! for at once, and are made as they are lent for writing, where scc asks for raw memory that is
+//! zero, aligns it and writes data blocks into it.
 ghost use Rattle.std.specs.Prelude.{◌≡◌, ◌*◌, ◌^◌, ◌<◌, ◌≤◌, ◌↔◌, IfOk, IsTrue, length};
 ghost use Rattle.std.specs.Borrow.{sem};
 ghost use Rattle.bucket_slots.specs.ArrayView.{IsNewArray, bucket_at};
@@ -25,12 +27,14 @@ ghost use Rattle.bucket_slots.specs.Sizing.{
 };
 ghost use Rattle.bucket_slots.specs.Slots.{places_of};
 
+mod part;
 mod sizing;
 
 use crate::bucket::room::fits_in_memory;
 use crate::bucket::{AllocError, BUCKET_LEN, Bucket};
 use crate::data_block::DataBlock;
 use crate::lru::LruList;
+use part::{Part, bucket_in, spare_bucket};
 use sizing::MINIMUM_CAPACITY;
 pub use sizing::{MAXIMUM_SLOTS, full_sample_size_of, large_sample_size_of, small_sample_size_of};
 use std::alloc::Global;
@@ -41,19 +45,24 @@ use std::mem::ManuallyDrop;
 pub struct BucketArray<K, V, L: LruList, const TYPE: u8> {
     hash_offset: u32,
     sample_size: u8,
-    buckets: Vec<Bucket<K, V, L, TYPE>>,
+    part_bits: u32,
+    len: usize,
+    parts: Vec<Part<K, V, L, TYPE>>,
+    spare: Vec<Bucket<K, V, L, TYPE>>,
 }
 
 impl<K, V, L: LruList, const TYPE: u8> Model for BucketArray<K, V, L, TYPE> {
-    ghost use Rattle.std.specs.Prelude.{List, length};
-    ghost use Rattle.bucket_slots.specs.BucketView.{BucketView};
+    ghost use Rattle.std.specs.Prelude.{List};
+    ghost use Rattle.bucket_slots.specs.BucketView.{BucketView, flattened};
     ghost use Rattle.bucket_slots.specs.Layout.ArrayFields.{IsArray};
+    ghost use Rattle.bucket_slots.specs.Layout.ArrayParts.{AreParts};
 
     ghost Value = { List (BucketView K V) };
 
-    ghost view = { λ array. array.buckets.items };
+    ghost view = { λ array. flattened array.parts.items };
 
-    ghost invariant = { λ array. IsArray (length array.buckets.items) array.hash_offset array.sample_size };
+    ghost invariant = { λ array. IsArray array.len array.hash_offset array.sample_size
+        × AreParts array.parts.items array.spare.items array.len array.part_bits };
 }
 
 impl<K: Drop, V: Drop, L: LruList + Drop, const TYPE: u8> Drop for BucketArray<K, V, L, TYPE> {
@@ -61,12 +70,16 @@ impl<K: Drop, V: Drop, L: LruList + Drop, const TYPE: u8> Drop for BucketArray<K
         let BucketArray {
             hash_offset: _,
             sample_size: _,
-            buckets,
+            part_bits: _,
+            len: _,
+            parts,
+            spare,
         } = self;
+        drop(parts);
         if fits_in_memory::<Bucket<K, V, L, TYPE>>() {
-            drop(buckets);
+            drop(spare);
         } else {
-            let _kept = unsafe { ManuallyDrop::new_unchecked(buckets) };
+            let _kept = unsafe { ManuallyDrop::new_unchecked(spare) };
         }
     }
 }
@@ -79,9 +92,10 @@ impl<K: Drop, V: Drop, L: LruList + Drop, const TYPE: u8> BucketArray<K, V, L, T
     ///
     /// # Errors
     ///
-    /// Want of memory: nothing is kept. All memory is asked for at once, before a bucket is made.
+    /// Want of memory: nothing is kept. All memory is asked for here, a request for each part among
+    /// others, and its buckets are made later.
     ///
-    /// O(buckets). scc: `BucketArray::new`.
+    /// O(parts), which are 256 at most. scc: `BucketArray::new`.
     pub fn alloc(alloc: Global, capacity: usize) -> Result<Self, AllocError>
         ensures { IfOk result (IsNewArray capacity) }
     {
@@ -89,18 +103,16 @@ impl<K: Drop, V: Drop, L: LruList + Drop, const TYPE: u8> BucketArray<K, V, L, T
             return Err(AllocError);
         }
         let len = sizing::len_for(capacity);
-        let Ok(mut buckets) = Vec::with_capacity(alloc, len) else {
-            return Err(AllocError);
-        };
-        for _i in 0..len {
-            let Ok(()) = buckets.push(Bucket::new(alloc)) else {
-                unreachable!()
-            };
-        }
+        let (count, part_bits) = sizing::parts_for(len);
+        let parts = Part::alloc_all(alloc, count, 1 << part_bits)?;
+        let spare = spare_bucket(alloc)?;
         Ok(BucketArray {
             hash_offset: 64 - len.ilog2(),
             sample_size: large_sample_size_of(len) as u8,
-            buckets,
+            part_bits,
+            len,
+            parts,
+            spare,
         })
     }
 }
@@ -116,7 +128,7 @@ impl<K, V, L: LruList, const TYPE: u8> BucketArray<K, V, L, TYPE> {
         ensures value { result ≡ length self.now }
         ensures length { IsLength result }
     {
-        self.buckets.len()
+        self.len
     }
 
     /// Returns the number of own slots of all buckets.
@@ -125,7 +137,7 @@ impl<K, V, L: LruList, const TYPE: u8> BucketArray<K, V, L, TYPE> {
     pub fn num_slots(&self) -> usize
         ensures { result ≡ BUCKET_LEN * length self.now }
     {
-        self.buckets.len() * BUCKET_LEN
+        self.len * BUCKET_LEN
     }
 
     /// Returns the index of a hash's home: the hash's upper bits.
@@ -153,7 +165,7 @@ impl<K, V, L: LruList, const TYPE: u8> BucketArray<K, V, L, TYPE> {
     pub fn small_sample_size(&self) -> usize
         ensures { IsSmallSample (length self.now) result }
     {
-        small_sample_size_of(self.buckets.len())
+        small_sample_size_of(self.len)
     }
 
     /// Returns how many buckets an accurate estimate of the number of entries looks at.
@@ -172,7 +184,7 @@ impl<K, V, L: LruList, const TYPE: u8> BucketArray<K, V, L, TYPE> {
     pub fn full_sample_size(&self) -> usize
         ensures { result ≡ full_sample (length self.now) }
     {
-        full_sample_size_of(self.buckets.len())
+        full_sample_size_of(self.len)
     }
 
     /// Returns the bucket with an index.
@@ -182,12 +194,13 @@ impl<K, V, L: LruList, const TYPE: u8> BucketArray<K, V, L, TYPE> {
         requires { index < length self.now }
         ensures { result.now ≡ bucket_at self.now index }
     {
-        &self.buckets[index]
+        let (part, offset) = sizing::place_of(index, self.part_bits);
+        self.parts[part].bucket(offset, &self.spare[0])
     }
 
     /// Lends the bucket with an index for writing. No other bucket changes.
     ///
-    /// O(1). Own.
+    /// O(1), but O(buckets of its part) where the bucket is made. Takes no memory. Own.
     pub fn bucket_mut(&mut self, index: usize) -> &mut Bucket<K, V, L, TYPE>
         requires { index < length self.old }
         ensures* writes_back { sem 𝓛
@@ -196,7 +209,9 @@ impl<K, V, L: LruList, const TYPE: u8> BucketArray<K, V, L, TYPE> {
             self.entry index result) }
         ensures bucket { result.now ≡ bucket_at self.old index }
     {
-        &mut self.buckets[index]
+        self.room();
+        let (part, offset) = sizing::place_of(index, self.part_bits);
+        bucket_in(&mut self.parts, part, offset)
     }
 
     /// Returns the pairs of the own slots of the bucket with an index, marked ones among them.
@@ -207,7 +222,7 @@ impl<K, V, L: LruList, const TYPE: u8> BucketArray<K, V, L, TYPE> {
         ensures { result.now ≡ places_of (bucket_at self.now index).own }
     {
         self.room();
-        self.buckets[index].data_block()
+        self.bucket(index).data_block()
     }
 
     /// Returns the least number of slots of an array.
@@ -264,6 +279,6 @@ impl<K, V, L: LruList, const TYPE: u8> BucketArray<K, V, L, TYPE> {
             (record { KEEPS = L.KEEPS; listed = L.listed; IsTail = L.IsTail }) L.Default }
         ensures length { IsLength (length self.now) }
     {
-        let _ = self.buckets.as_slice();
+        let _ = self.spare.as_slice();
     }
 }

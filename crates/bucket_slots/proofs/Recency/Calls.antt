@@ -1,15 +1,16 @@
 -- What the calls of a recency list answer and leave, by what `unlink` and `link` leave.
 use Rattle.std.proofs.Common.{ℕ, ◌+◌, ◌-◌, ◌<◌, ◌≡◌, ◌≢◌, ◌==◌, true, false, List, [], ◌∷◌, length, suc, Some, None, refl, sym, ap, ◌∙◌}
-use Rattle.std.proofs.Common.{arith, slice_set}
+use Rattle.std.proofs.Common.{arith, slice_set, subst}
 use Rattle.std.proofs.lemmas.Bool.{cond-true, eq-eqb, eqb-false, or_parts}
 use Rattle.bucket_slots.specs.Layout.RecencySteps.{LinksBefore, Unlinks, UnlinksBehind}
-use Rattle.bucket_slots.specs.Recency.{IsRecencyOrder, eviction_answer, is_listed, is_newest, order_after_touch, order_without}
-use Rattle.bucket_slots.specs.Recency.{order_without_oldest, removal_answer, tail_of, touch_answer}
+use Rattle.bucket_slots.specs.Recency.{IsRecencyOrder, appending_answer, eviction_answer, is_listed, is_newest, order_after_touch}
+use Rattle.bucket_slots.specs.Recency.{order_with_oldest, order_without, order_without_oldest, removal_answer, tail_of, touch_answer}
 use Rattle.bucket_slots.specs.RecencyLinks.{IsOwnTail, Links, order_in, links_of}
 use Rattle.bucket_slots.proofs.Recency.Linking.{link_first}
 use Rattle.bucket_slots.proofs.Recency.Orders.{eqb-same, is_listed-order_without, is_newest-behind, last_from, last_is_listed}
 use Rattle.bucket_slots.proofs.Recency.Orders.{newest_isnt_last, newest_listed, newest_once, oldest_of-last, order_has_newest}
 use Rattle.bucket_slots.proofs.Recency.Orders.{order_is_empty, order_without-last, order_without-newest}
+use Rattle.bucket_slots.proofs.Recency.Turning.{turned}
 use Rattle.bucket_slots.proofs.Recency.Walks.{Stores, stores}
 
 -- under a tail that isn't 0 the newest slot is first
@@ -124,3 +125,26 @@ promotes_behind pairs between left tail slot own some apart unlinks links_before
     (is_newest-order_without order tail slot own.names_newest some behind)
     (is_listed-order_without order slot) in
     (rw behind refl, stores left (slot + 1) (order_after_touch order slot) linked refl)
+
+-- append
+
+pub appends_first : (pairs : List (ℕ × ℕ)) (tail slot : ℕ) → IsOwnTail pairs tail → tail ≡ 0 → slot < 32
+    → (Some (slot + 1) ≡ appending_answer (order_in pairs tail) slot)
+    × Stores (slice_set pairs slot (slot, slot)) (slot + 1) (order_with_oldest (order_in pairs tail) slot)
+appends_first pairs tail slot own is_zero in_range =
+    let is_empty = order_is_empty (order_in pairs tail) (sym is_zero ∙ own.names_newest) in
+    let links : Links pairs [] = rw (← is_empty) own.links in
+    rw is_empty (refl, stores (slice_set pairs slot (slot, slot)) (slot + 1) (slot ∷ []) (link_first pairs slot links in_range) refl)
+
+-- in a circle the place before the newest slot is the one behind the oldest
+pub appends_behind : (pairs left : List (ℕ × ℕ)) (tail slot : ℕ) → IsOwnTail pairs tail → tail ≢ 0
+    → is_listed (order_in pairs tail) slot ≡ false → LinksBefore pairs left (tail - 1) slot
+    → (None ≡ appending_answer (order_in pairs tail) slot) × Stores left tail (order_with_oldest (order_in pairs tail) slot)
+appends_behind pairs left tail slot own some absent links_before =
+    let parts = own_parts pairs tail own some in
+    let newest = tail - 1 in
+    let older = parts.0 in
+    let once = subst (λ order. is_listed order slot ≡ false) parts.1 absent in
+    let front = links_before (newest ∷ older) parts.2 (eq-eqb newest newest refl) once in
+    let linked = turned left (slot ∷ []) (newest ∷ older) front in
+    rw parts.1 (refl, stores left tail (order_with_oldest (newest ∷ older) slot) linked (omega arith))

@@ -3,7 +3,7 @@
 //!
 //! Ports the arithmetic of scc's `src/hash_table/bucket_array.rs`, and `HashTable`'s test whether
 //! and to what capacity it is resized.
-ghost use Rattle.std.specs.Prelude.{◌≡◌, ◌^◌, ◌≤◌, ◌↔◌, IsTrue};
+ghost use Rattle.std.specs.Prelude.{◌≡◌, ◌*◌, ◌/◌, ◌%◌, ◌^◌, ◌<◌, ◌≤◌, ◌↔◌, IsTrue};
 ghost use Rattle.bucket_slots.specs.Sampling.{IsLargeSample, IsSmallSample, full_sample};
 ghost use Rattle.bucket_slots.specs.Sizing.{
   IsGrownCapacity,
@@ -23,6 +23,12 @@ pub(crate) const MINIMUM_CAPACITY: usize = 2 * BUCKET_LEN;
 
 /// The greatest number of slots of an array. A greater capacity is cut to it.
 pub const MAXIMUM_SLOTS: usize = 1 << 62;
+
+/// The logarithm of the greatest number of parts of an array.
+const MOST_PARTS_BITS: u32 = 8;
+
+/// The logarithm of the least length of a part, where the array has as many buckets.
+const LEAST_PART_BITS: u32 = 6;
 
 /// The greatest number of buckets that a full estimate looks at.
 const FULL_SAMPLE: usize = 128;
@@ -64,6 +70,31 @@ pub(crate) fn len_for(capacity: usize) -> usize
 {
     let slots = least_power_of_two(capacity.min(MAXIMUM_SLOTS)).max(MINIMUM_CAPACITY);
     slots / BUCKET_LEN
+}
+
+/// Returns how many parts an array of this length has, and the logarithm of their length: 256 parts
+/// at most, of 64 buckets at least; a shorter array is one part.
+pub(crate) fn parts_for(len: usize) -> (usize, u32)
+    requires { IsLength len }
+    ensures whole { len ≡ result.0 * 2 ^ result.1 }
+    ensures bits { result.1 < 64 }
+{
+    let bits = len.ilog2();
+    let part_bits = bits
+        .saturating_sub(MOST_PARTS_BITS)
+        .max(LEAST_PART_BITS)
+        .min(bits);
+    (len >> part_bits, part_bits)
+}
+
+/// Returns in which part a bucket stands, and at which offset.
+#[inline(always)]
+pub(crate) fn place_of(index: usize, part_bits: u32) -> (usize, usize)
+    requires { part_bits < 64 }
+    ensures part { result.0 ≡ index / 2 ^ part_bits }
+    ensures offset { result.1 ≡ index % 2 ^ part_bits }
+{
+    (index >> part_bits, index & ((1 << part_bits) - 1))
 }
 
 /// Whether the slots are too full for a number of entries.

@@ -7,5 +7,5 @@ one_below n size some room = omega (arith, mul-le-mul_right size some)
 
 pub returns-clause-fits : goal.returns-clause-fits
 returns-clause-fits g c =
-    let some : 0 < length c.as_slice.result.now = rw c.as_slice.ensures.value (omega (arith, c.self.invariant.several)) in
+    let some : 0 < length c.as_slice.result.now = rw (c.as_slice.ensures.value, c.self.invariant.1.spare_is) (omega arith) in
     one_below _ _ some c.as_slice.type_inv.1

@@ -1,0 +1,176 @@
+-- Lists of equally long parts, and parts of which some buckets are made.
+use Rattle.std.proofs.Common.{ℕ, zero, suc, ◌+◌, ◌-◌, ◌*◌, ◌/◌, ◌%◌, ◌^◌, ◌<◌, ◌≡◌, List, [], ◌∷◌, ◌++◌, length, get_or, set, take, drop, replicate, inl, inr, refl, sym, ap, subst, ◌∙◌, arith}
+use Rattle.std.specs.List.{All}
+use Rattle.std.proofs.Math.Nat.{add-mul, one-mul, mul_comm, mod-lt, div-add-mod}
+use Rattle.std.proofs.lemmas.Nat.{pow_pos, div_below}
+use Rattle.std.proofs.lemmas.Bool.{cases_lt}
+use Rattle.std.proofs.lemmas.List.{append_assoc, get_or-append_right, get_or_append_left, get_or_past, length-append, length-replicate, length-set, length-take-le, length_push, replicate-append-replicate, set-append_left, set-append_right, set-get_or, set_split}
+use Rattle.std.proofs.lemmas.List.Concat.{flat_map-append}
+use Rattle.std.proofs.lemmas.List.Elements.{All-get_or, All-head, All-replicate, All-same, All-set, All-tail, All-take}
+use Rattle.bucket_slots.specs.ArrayView.{IsNewArray}
+use Rattle.bucket_slots.specs.BucketView.{BucketView, empty_bucket, flattened}
+use Rattle.bucket_slots.specs.Layout.ArrayParts.{AreParts, part_at, with_unmade}
+use Rattle.bucket_slots.specs.Sizing.{IsLengthFor}
+
+module _ {A : Type 0} where
+  pub flattened-replicate : (n m : ℕ) (x : A) → flattened (replicate n (replicate m x)) ≡ replicate (n * m) x
+  flattened-replicate zero m x = let none : 0 ≡ 0 * m = omega arith in ap (λ k. replicate k x) none
+  flattened-replicate (suc n) m x =
+      let more : m + n * m ≡ suc n * m = omega (arith, add-mul 1 n m, one-mul m) in
+      ap (λ l. replicate m x ++ l) (flattened-replicate n m x) ∙ replicate-append-replicate m (n * m) x ∙ ap (λ k. replicate k x) more
+
+  length-flattened : (rows : List (List A)) (m : ℕ) → All (λ row. length row ≡ m) rows → length (flattened rows) ≡ length rows * m
+  length-flattened [] m long = omega arith
+  length-flattened (row ∷ rows) m long =
+      let rest = length-flattened rows m (All-tail (λ r. length r ≡ m) row rows long) in
+      let here = All-head (λ r. length r ≡ m) row rows long in
+      omega (arith, length-append row (flattened rows), rest, here, add-mul 1 (length rows) m, one-mul m)
+
+  module _ (rows : List (List A)) (m p o : ℕ) (long : All (λ row. length row ≡ m) rows) (within : p < length rows) (inside : o < m) where
+    -- the elements of the rows in front of one and of those behind it
+    abbrev front : List A
+    front = flattened (take p rows)
+
+    abbrev back : List A
+    back = flattened (drop (suc p) rows)
+
+    length-front : length front ≡ p * m
+    length-front =
+        length-flattened (take p rows) m (All-take (λ r. length r ≡ m) p rows long) ∙ ap (λ n. n * m) (length-take-le p rows (omega arith))
+
+    flattened-set : (row : List A) → flattened (set rows p row) ≡ front ++ (row ++ back)
+    flattened-set row = ap flattened (set_split rows p row within) ∙ flat_map-append (λ r. r) (take p rows) (row ∷ drop (suc p) rows)
+
+    flattened_split : flattened rows ≡ front ++ (get_or rows p [] ++ back)
+    flattened_split = ap flattened (sym (set-get_or rows p [])) ∙ flattened-set (get_or rows p [])
+
+    length_row : length (get_or rows p []) ≡ m
+    length_row = All-get_or (λ r. length r ≡ m) rows p [] within long
+
+    offset_left : p * m + o - p * m ≡ o
+    offset_left = omega arith
+
+    pub get_or-flattened : (d : A) → get_or (flattened rows) (p * m + o) d ≡ get_or (get_or rows p []) o d
+    get_or-flattened d =
+        ap (λ l. get_or l (p * m + o) d) flattened_split
+        ∙ get_or-append_right front (get_or rows p [] ++ back) (p * m) (p * m + o) d length-front (omega arith)
+        ∙ ap (λ k. get_or (get_or rows p [] ++ back) k d) offset_left
+        ∙ get_or_append_left (get_or rows p []) back d o (omega (arith, length_row))
+
+    pub set-flattened : (x : A) → flattened (set rows p (set (get_or rows p []) o x)) ≡ set (flattened rows) (p * m + o) x
+    set-flattened x =
+        flattened-set (set (get_or rows p []) o x)
+        ∙ ap (λ l. front ++ l) (sym (set-append_left (get_or rows p []) back o x (omega (arith, length_row))))
+        ∙ ap (λ k. front ++ set (get_or rows p [] ++ back) k x) (sym offset_left)
+        ∙ sym (set-append_right front (get_or rows p [] ++ back) (p * m) (p * m + o) x length-front (omega arith))
+        ∙ ap (λ l. set l (p * m + o) x) (sym flattened_split)
+
+abbrev Buckets : Type 0 → Type 0 → Type 0
+Buckets K V = List (BucketView K V)
+
+module _ {K V : Type 0} where
+  get_or-empties : (n i : ℕ) → get_or (replicate n (empty_bucket {K = K} {V = V})) i empty_bucket ≡ empty_bucket
+  get_or-empties zero i = refl
+  get_or-empties (suc n) zero = refl
+  get_or-empties (suc n) (suc i) = get_or-empties n i
+
+  -- a bucket that isn't made reads as one past the end
+  pub get_or-part : (made : Buckets K V) (len i : ℕ) → get_or (with_unmade made len) i empty_bucket ≡ get_or made i empty_bucket
+  get_or-part made len i =
+      let rest = replicate (len - length made) (empty_bucket {K = K} {V = V}) in
+      elim (cases_lt i (length made)) [
+        | inl there ↦ get_or_append_left made rest empty_bucket i there
+        | inr past ↦
+            get_or-append_right made rest (length made) i empty_bucket refl past ∙ get_or-empties (len - length made) (i - length made)
+            ∙ sym (get_or_past made i empty_bucket past)
+      ]
+
+  -- one more bucket is made
+  pub made_one : (made : Buckets K V) (len : ℕ) → length made < len → with_unmade (made ++ empty_bucket ∷ []) len ≡ with_unmade made len
+  made_one made len less =
+      let left : ℕ = len - length made - 1 in
+      let count : len - length (made ++ empty_bucket ∷ []) ≡ left = omega (arith, length_push made (empty_bucket {K = K} {V = V})) in
+      let back : suc left ≡ len - length made = omega arith in
+      ap (λ n. (made ++ empty_bucket ∷ []) ++ replicate n empty_bucket) count
+      ∙ append_assoc made (empty_bucket ∷ []) (replicate left empty_bucket)
+      ∙ ap (λ n. made ++ replicate n empty_bucket) back
+
+  pub set-part : (made : Buckets K V) (len i : ℕ) (bucket : BucketView K V) → i < length made
+      → with_unmade (set made i bucket) len ≡ set (with_unmade made len) i bucket
+  set-part made len i bucket below =
+      ap (λ n. set made i bucket ++ replicate (len - n) empty_bucket) (length-set made i bucket)
+      ∙ sym (set-append_left made (replicate (len - length made) empty_bucket) i bucket below)
+
+  -- the parts with another bucket in one of them
+  abbrev parts_with : List (Buckets K V) → ℕ → ℕ → BucketView K V → List (Buckets K V)
+  parts_with parts part offset bucket = set parts part (set (part_at parts part) offset bucket)
+
+  -- the place of the bucket with an index: a read there is one of the array, and so is a write
+  pub record IsPlace (parts : List (Buckets K V)) (spare : Buckets K V) (len bits part offset index : ℕ) (buckets : Buckets K V) : Type 0 where
+    pub within : part < length parts
+    pub inside : offset < length (part_at parts part)
+    pub read : get_or (part_at parts part) offset empty_bucket ≡ get_or buckets index empty_bucket
+    pub written : (bucket : BucketView K V) → flattened (parts_with parts part offset bucket) ≡ set buckets index bucket
+    pub kept : (bucket : BucketView K V) → AreParts (parts_with parts part offset bucket) spare len bits
+
+  module _ (parts : List (Buckets K V)) (spare : Buckets K V) (len bits : ℕ) (kept : AreParts parts spare len bits) where
+    place_by_index : (index : ℕ) → index < length (flattened parts)
+        → IsPlace parts spare len bits (index / 2 ^ bits) (index % 2 ^ bits) index (flattened parts)
+    place_by_index index below =
+        let m = 2 ^ bits in
+        let p = index / m in
+        let o = index % m in
+        let some = pow_pos bits in
+        let inside : o < m = mod-lt index some in
+        let within : p < length parts = div_below index m (length parts) some (rw (← length-flattened parts m kept.long) below) in
+        let at : p * m + o ≡ index = ap (λ n. n + o) (mul_comm p m) ∙ div-add-mod index m in
+        let long : length (part_at parts p) ≡ m = All-get_or (λ part. length part ≡ m) parts p [] within kept.long in
+        let written : (bucket : BucketView K V) → flattened (parts_with parts p o bucket) ≡ set (flattened parts) index bucket =
+        λ bucket. set-flattened parts m p o kept.long within inside bucket ∙ ap (λ i. set (flattened parts) i bucket) at in
+        record {
+          within = within;
+          inside = rw long inside;
+          read = sym (get_or-flattened parts m p o kept.long within inside empty_bucket)
+              ∙ ap (λ i. get_or (flattened parts) i empty_bucket) at;
+          written = written;
+          kept = λ bucket.
+              let row = set (part_at parts p) o bucket in
+              record {
+                long = All-set (λ part. length part ≡ m) parts p row (length-set (part_at parts p) o bucket ∙ long) kept.long;
+                few_bits = kept.few_bits;
+                len_is = kept.len_is ∙ sym (ap length (written bucket) ∙ length-set (flattened parts) index bucket);
+                spare_is = kept.spare_is;
+              };
+        }
+
+    pub place_is : (part offset index : ℕ) (buckets : Buckets K V) → flattened parts ≡ buckets → index < length buckets
+        → part ≡ index / 2 ^ bits → offset ≡ index % 2 ^ bits → IsPlace parts spare len bits part offset index buckets
+    place_is part offset index buckets is below part_is offset_is = rw (part_is, offset_is, ← is) (place_by_index index (rw is below))
+
+  -- an array as it is made
+  module _ (parts : List (Buckets K V)) (count part_len bits len : ℕ) (long : part_len ≡ 2 ^ bits) (whole : len ≡ count * 2 ^ bits)
+      (is : parts ≡ replicate count (replicate part_len empty_bucket)) where
+    new_view : flattened parts ≡ replicate len empty_bucket
+    new_view =
+        ap flattened is ∙ flattened-replicate count part_len empty_bucket ∙ ap (λ m. replicate (count * m) empty_bucket) long
+        ∙ ap (λ n. replicate n empty_bucket) (sym whole)
+
+    new_len : length (flattened parts) ≡ len
+    new_len = ap length new_view ∙ length-replicate len empty_bucket
+
+    pub new_array : (capacity : ℕ) → IsLengthFor capacity len → IsNewArray capacity (flattened parts)
+    new_array capacity fits = record {
+      len = subst (λ n. IsLengthFor capacity n) (sym new_len) fits;
+      empty = new_view ∙ ap (λ n. replicate n empty_bucket) (sym new_len);
+    }
+
+    pub new_parts : (spare : Buckets K V) → bits < 64 → spare ≡ empty_bucket ∷ [] → AreParts parts spare len bits
+    new_parts spare few empty =
+        let part : Buckets K V = replicate part_len empty_bucket in
+        let all_long = All-replicate (λ row. length row ≡ 2 ^ bits) count part (length-replicate part_len empty_bucket ∙ long) in
+        record {
+          long = All-same (λ row. length row ≡ 2 ^ bits) parts (replicate count part) is all_long;
+          few_bits = few;
+          len_is = sym new_len;
+          spare_is = empty;
+        }

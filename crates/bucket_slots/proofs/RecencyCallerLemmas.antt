@@ -1,0 +1,171 @@
+-- What callers cite of a placement and of a vacated slot: the own slots, the pairs of the chain and the recency list after it.
+use Rattle.std.proofs.Common.{ℕ, ◌<◌, ◌≡◌, ◌==◌, Bool, true, false, if◌then◌else◌, is_some, IsTrue, List, [], ◌∷◌, length, map, get_or, take, refl, sym, ap, ◌∙◌}
+use Rattle.std.proofs.Common.{arith, suc, zero, All, Contains, IsPermutation}
+use Rattle.std.proofs.lemmas.Bool.{eqb-true, ne_eqb, or_from, false_from_ne_true, true≢false, false≢true}
+use Rattle.std.proofs.lemmas.List.{get_or-set_other, get_or-set_same}
+use Rattle.std.proofs.lemmas.List.Elements.{All-contains, All-head, All-tail, Contains-append_left, Contains-append_right}
+use Rattle.std.proofs.lemmas.List.Folds.{list_any_at}
+use Rattle.std.proofs.lemmas.List.Sorted.{Contains-permutation}
+use Rattle.std.proofs.lemmas.Map.Views.{Contains-from_any}
+use Rattle.bucket_slots.specs.BucketLaws.{IsBucketOf}
+use Rattle.bucket_slots.specs.BucketView.{BucketView, block_at, first_place, flattened, listed_pairs, rows_with, with_slot_at}
+use Rattle.bucket_slots.specs.Moving.{slots_vacated_at}
+use Rattle.bucket_slots.specs.Placing.{free_block, place_for_next, slots_with, with_place_made}
+use Rattle.bucket_slots.specs.Recency.{IsRecencyOrder, is_listed}
+use Rattle.bucket_slots.specs.Slots.{Slot, free, is_free, is_live, live, live_pair, live_pairs, slot_at}
+use Rattle.bucket_slots.proofs.BucketPlacing.{place_made}
+use Rattle.bucket_slots.proofs.CallerLemmas.{live_not_free}
+use Rattle.bucket_slots.proofs.ChangedSlots.{live_inside}
+use Rattle.bucket_slots.proofs.Entries.{rows-exchanged}
+use Rattle.bucket_slots.proofs.Recency.Orders.{eqb-same, listed_apart, listed_in_range, newest_once, older_order}
+
+map_alike : {A : Type 0} (f g : ℕ → A) (items : List ℕ) → All (λ item. f item ≡ g item) items → map f items ≡ map g items
+map_alike f g [] all = refl
+map_alike f g (item ∷ items) all =
+    let alike : ℕ → Type 0 = λ item. f item ≡ g item in
+    let rest = map_alike f g items (All-tail alike item items all) in
+    ap (λ first. first ∷ map f items) (All-head alike item items all) ∙ ap (λ those. g item ∷ those) rest
+
+-- the next slot of an order isn't among those before it
+pub next_is_new : (order : List ℕ) (k : ℕ) → IsRecencyOrder order → k < length order → is_listed (take k order) (get_or order k 0) ≡ false
+next_is_new [] k is_order below = absurd (omega arith)
+next_is_new (first ∷ order) zero is_order below = refl
+next_is_new (first ∷ order) (suc k) is_order below =
+    let next = get_or order k 0 in
+    let within : k < length order = omega arith in
+    let listed = list_any_at (λ slot. next == slot) order k 0 within (eqb-same next) in
+    let apart = listed_apart order next first listed (newest_once first order is_order) in
+    or_from (next == first) (is_listed (take k order) next) (ne_eqb next first apart)
+    (next_is_new order k (older_order first order is_order) within)
+
+module _ {K V : Type 0} where
+  -- with or without a new block at the chain's head
+  own-made : (s : BucketView K V) (found : Bool) → (if found then s else record s { chain = free_block ∷ s.chain }).own ≡ s.own
+  own-made s true = refl
+  own-made s false = refl
+
+  listed-made : (s : BucketView K V) (found : Bool) → (if found then s else record s { chain = free_block ∷ s.chain }).listed ≡ s.listed
+  listed-made s true = refl
+  listed-made s false = refl
+
+  chain-made : (s : BucketView K V) (found : Bool)
+      → live_pairs (flattened (if found then s else record s { chain = free_block ∷ s.chain }).chain) ≡ live_pairs (flattened s.chain)
+  chain-made s true = refl
+  chain-made s false = refl
+
+  -- another slot stands in the place of a free one
+
+  own_still : (s : BucketView K V) (block pos : ℕ) (x : Slot K V) (slot : ℕ) → slot_at (block_at s block) pos ≡ free
+      → is_free (slot_at s.own slot) ≡ false → slot_at (with_slot_at s block pos x).own slot ≡ slot_at s.own slot
+  own_still s zero pos x slot vacant occupied =
+      get_or-set_other s.own pos slot x free (λ same. true≢false (ap is_free (sym vacant) ∙ rw (← same) occupied))
+  own_still s (suc i) pos x slot vacant occupied = refl
+
+  own_here : (s : BucketView K V) (block pos : ℕ) (x : Slot K V) → block ≡ 0 → pos < length (block_at s block)
+      → slot_at (with_slot_at s block pos x).own pos ≡ x
+  own_here s zero pos x own within = get_or-set_same s.own pos x free within
+  own_here s (suc i) pos x own within = absurd (omega arith)
+
+  own_free : (s : BucketView K V) (block pos : ℕ) → block ≡ 0 → slot_at (block_at s block) pos ≡ free → slot_at s.own pos ≡ free
+  own_free s zero pos own vacant = vacant
+  own_free s (suc i) pos own vacant = absurd (omega arith)
+
+  listed_still : (s : BucketView K V) (block pos : ℕ) (x : Slot K V) → (with_slot_at s block pos x).listed ≡ s.listed
+  listed_still s zero pos x = refl
+  listed_still s (suc i) pos x = refl
+
+  chain_more : (s : BucketView K V) (i pos : ℕ) (p : K × V) (b : ℕ) → pos < length (get_or s.chain i [])
+      → slot_at (get_or s.chain i []) pos ≡ free
+      → IsPermutation (p ∷ live_pairs (flattened s.chain)) (live_pairs (flattened (rows_with s.chain i pos (live p b))))
+  chain_more s i pos p b short vacant = rw vacant at (rows-exchanged live_pair s.chain i pos (live p b) free short)
+
+  chain_still : (s : BucketView K V) (block pos : ℕ) (p q : K × V) (b : ℕ) → pos < length (block_at s block)
+      → slot_at (block_at s block) pos ≡ free → Contains (live_pairs (flattened s.chain)) q
+      → Contains (live_pairs (flattened (with_slot_at s block pos (live p b)).chain)) q
+  chain_still s zero pos p q b short vacant has = has
+  chain_still s (suc i) pos p q b short vacant has =
+      Contains-permutation _ _ q (chain_more s i pos p b short vacant)
+      (Contains-append_right (p ∷ []) (live_pairs (flattened s.chain)) q has)
+
+  chain_here : (s : BucketView K V) (block pos : ℕ) (p : K × V) (b : ℕ) → (block ≡ 0 → ⊥) → pos < length (block_at s block)
+      → slot_at (block_at s block) pos ≡ free → Contains (live_pairs (flattened (with_slot_at s block pos (live p b)).chain)) p
+  chain_here s zero pos p b other short vacant = absurd (other refl)
+  chain_here s (suc i) pos p b other short vacant =
+      Contains-permutation _ _ p (chain_more s i pos p b short vacant)
+      (Contains-append_left (p ∷ []) (live_pairs (flattened s.chain)) p (0, omega arith, refl))
+
+  -- a pair is placed
+
+  module _ (s : BucketView K V) (p : K × V) (b : ℕ) where
+    same_own : (with_place_made s).own ≡ s.own
+    same_own = own-made s (is_some (first_place is_free s))
+
+    -- every occupied own slot is as it was
+    pub own_kept : (slot : ℕ) → is_free (slot_at s.own slot) ≡ false → slot_at (slots_with s p b).own slot ≡ slot_at s.own slot
+    own_kept slot occupied =
+        let next = place_for_next s in
+        own_still (with_place_made s) next.block next.pos (live p b) slot (place_made s).slot (rw same_own occupied)
+        ∙ ap (λ own. slot_at own slot) same_own
+
+    -- the pair stands in the own slot that it was given
+    pub own_put : (place_for_next s).block ≡ 0 → slot_at (slots_with s p b).own (place_for_next s).pos ≡ live p b
+    own_put own =
+        let next = place_for_next s in own_here (with_place_made s) next.block next.pos (live p b) own (place_made s).within
+
+    -- which was free
+    pub was_free : (place_for_next s).block ≡ 0 → slot_at s.own (place_for_next s).pos ≡ free
+    was_free own =
+        let next = place_for_next s in
+        ap (λ slots. slot_at slots next.pos) (sym same_own)
+        ∙ own_free (with_place_made s) next.block next.pos own (place_made s).slot
+
+    pub listed-slots_with : (slots_with s p b).listed ≡ s.listed
+    listed-slots_with =
+        let next = place_for_next s in
+        listed_still (with_place_made s) next.block next.pos (live p b) ∙ listed-made s (is_some (first_place is_free s))
+
+    -- the pairs of the chain stay there
+    pub chain_kept : (q : K × V) → Contains (live_pairs (flattened s.chain)) q → Contains (live_pairs (flattened (slots_with s p b).chain)) q
+    chain_kept q has =
+        let next = place_for_next s in
+        chain_still (with_place_made s) next.block next.pos p q b (place_made s).within (place_made s).slot
+        (rw (chain-made s (is_some (first_place is_free s))) has)
+
+    -- the pair stands there where it wasn't given an own slot
+    pub chain_put : ((place_for_next s).block ≡ 0 → ⊥) → Contains (live_pairs (flattened (slots_with s p b).chain)) p
+    chain_put other =
+        let next = place_for_next s in
+        chain_here (with_place_made s) next.block next.pos p b other (place_made s).within (place_made s).slot
+
+    -- the listed slots are live, so they keep their pairs
+    pub listed_pairs-slots_with : (kind : ℕ) → IsBucketOf kind s → listed_pairs (slots_with s p b) ≡ listed_pairs s
+    listed_pairs-slots_with kind laws =
+        let after = slots_with s p b in
+        let alike : All (λ slot. slot_at after.own slot ≡ slot_at s.own slot) s.listed =
+        λ k d below. own_kept (get_or s.listed k d) (live_not_free _ (laws.listed_live k d below)) in
+        ap (λ order. live_pairs (map (slot_at after.own) order)) listed-slots_with
+        ∙ ap live_pairs (map_alike (slot_at after.own) (slot_at s.own) s.listed alike)
+
+  pub listed_below : (kind : ℕ) (s : BucketView K V) (slot : ℕ) → IsBucketOf kind s → is_listed s.listed slot ≡ true → slot < 32
+  listed_below kind s slot laws listed = listed_in_range s.listed slot laws.listed_once listed
+
+  -- a free slot isn't listed
+  pub free_unlisted : (kind : ℕ) (s : BucketView K V) (slot : ℕ) → IsBucketOf kind s → slot_at s.own slot ≡ free
+      → is_listed s.listed slot ≡ false
+  free_unlisted kind s slot laws vacant =
+      let lives : ℕ → Type 0 = λ at. IsTrue (is_live (slot_at s.own at)) in
+      false_from_ne_true (is_listed s.listed slot) (λ listed.
+      let alive : is_live (slot_at s.own slot) ≡ true =
+      All-contains lives s.listed slot laws.listed_live (Contains-from_any eqb-true slot s.listed listed) in
+      false≢true (ap is_live (sym vacant) ∙ alive))
+
+  -- a slot is vacated: another own slot is as it was, and that one is free
+  pub own-slots_vacated : (s : BucketView K V) (block pos slot : ℕ) → (block ≡ 0 → slot ≡ pos → ⊥)
+      → slot_at (slots_vacated_at s block pos).own slot ≡ slot_at s.own slot
+  own-slots_vacated s zero pos slot apart = get_or-set_other s.own pos slot free free (apart refl)
+  own-slots_vacated s (suc i) pos slot apart = refl
+
+  pub own_vacated : (s : BucketView K V) (block pos : ℕ) → block ≡ 0 → is_live (slot_at s.own pos) ≡ true
+      → slot_at (slots_vacated_at s block pos).own pos ≡ free
+  own_vacated s zero pos own alive = get_or-set_same s.own pos free free (live_inside s.own pos alive)
+  own_vacated s (suc i) pos own alive = absurd (omega arith)

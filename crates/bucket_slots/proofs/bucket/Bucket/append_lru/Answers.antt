@@ -1,0 +1,21 @@
+use Rattle.std.proofs.Common.{arith, sym, ◌∙◌, ◌≡◌}
+use Rattle.bucket_slots.proofs.BucketRecency.{IsBucket-appended, slots_appended-chain, slots_appended-own}
+use Rattle.bucket_slots.proofs.bucket.Bucket.append_lru.Goals as goal
+
+pub invariant_of-self : goal.invariant_of-self
+invariant_of-self g c =
+    let own : c.args.at.now.block ≡ 0 = omega arith in
+    let alive = rw (← c.self.view_is, own, ← c.pos.ensures) at c.requires.live_slot in (
+      c.make_oldest-self-inside.ensures.tail,
+      IsBucket-appended g.row.TYPE _ c.self.inside.len c.pos.result _ _ c.requires.cache
+          c.self.invariant.1 alive c.make_oldest-self-inside.ensures.order,
+    )
+
+pub returns-then-block-eq0 : goal.returns-then-block-eq0
+returns-then-block-eq0 g c =
+    slots_appended-own g.L.LruList.KEEPS _ _ c.args.at.now _ c.self.view_is (sym c.block.ensures ∙ c.if-block-eq0.true)
+    (rw c.pos.ensures at c.make_oldest-self-inside.ensures.order)
+
+pub returns-else-block-eq0 : goal.returns-else-block-eq0
+returns-else-block-eq0 g c =
+    slots_appended-chain g.L.LruList.KEEPS c.args.self.now c.args.at.now (λ own. c.if-block-eq0.false (c.block.ensures ∙ own))

@@ -1,0 +1,18 @@
+use Rattle.std.proofs.Common.{◌∙◌, [], ap, arith, get_or}
+use Rattle.std.proofs.lemmas.List.{get_or_read}
+use Rattle.bucket_slots.specs.BucketView.{empty_bucket}
+use Rattle.bucket_slots.proofs.ArrayParts.{place_is}
+use Rattle.bucket_slots.proofs.bucket_array.BucketArray.bucket.Goals as goal
+
+pub index-requires : goal.index-requires
+index-requires g c =
+    let at = c.place_of-part.ensures in
+    let place = place_is _ _ _ _ c.self.invariant.1 _ _ _ _ c.self.view_is c.requires at.part at.offset in
+    omega (arith, c.self.inside.parts.ok.0, place.within)
+
+pub returns : goal.returns
+returns g c =
+    let at = c.place_of-part.ensures in
+    let place = place_is _ _ _ _ c.self.invariant.1 _ _ _ _ c.self.view_is c.requires at.part at.offset in
+    let here = get_or_read c.self.inside.parts.items c.place_of-part.result.0 c.index.result.now place.within c.index.ensures [] in
+    c.bucket.ensures ∙ ap (λ part. get_or part c.place_of-part.result.1 empty_bucket) here ∙ place.read

@@ -1,0 +1,21 @@
+use Rattle.std.proofs.Common.{◌∙◌, arith, refl, rules}
+use Rattle.bucket_slots.proofs.ArrayParts.{place_is}
+use Rattle.bucket_slots.proofs.bucket_array.BucketArray.bucket_mut.Goals as goal
+
+pub bucket_in-requires : goal.bucket_in-requires
+bucket_in-requires g c =
+    let at = c.place_of-part.ensures in
+    let place = place_is _ _ _ _ c.self.invariant.1 _ _ _ _ c.self.view_is c.requires at.part at.offset in
+    (search rules, (search rules, (c.room.ensures.fits, (omega (arith, c.self.inside.parts.ok.0, place.within), place.inside))))
+
+pub invariant_of-self-lent : goal.invariant_of-self-lent
+invariant_of-self-lent g c w =
+    let at = c.place_of-part.ensures in
+    let place = place_is _ _ _ _ c.self.invariant.1 _ _ _ _ c.self.view_is c.requires at.part at.offset in
+    (c.self.invariant.0, place.kept w)
+
+pub returns : goal.returns
+returns g c =
+    let at = c.place_of-part.ensures in
+    let place = place_is _ _ _ _ c.self.invariant.1 _ _ _ _ c.self.view_is c.requires at.part at.offset in
+    ((refl, place.written), record { writes_back = tt; bucket = c.bucket_in.ensures.bucket ∙ place.read })

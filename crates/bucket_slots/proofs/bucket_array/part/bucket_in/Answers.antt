@@ -1,0 +1,9 @@
+use Rattle.std.proofs.Common.{arith, [], refl}
+use Rattle.std.proofs.lemmas.List.{get_or_read}
+use Rattle.bucket_slots.proofs.bucket_array.part.bucket_in.Goals as goal
+
+pub returns : goal.returns
+returns g c =
+    let here = get_or_read c.args.parts.now.items c.args.part c.index_mut-lent.result.now
+    (omega (arith, c.args.parts.now.ok.0, c.requires.within)) c.index_mut-lent.ensures.value [] in
+    ((refl, λ w. rw here refl), record { writes_back = tt; bucket = rw (← here) c.bucket_mut.ensures.bucket })

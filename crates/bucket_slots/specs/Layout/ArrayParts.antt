@@ -1,0 +1,20 @@
+-- How an array's parts hold its buckets.
+use Rattle.std.specs.Prelude.{ℕ, ◌-◌, ◌^◌, ◌<◌, ◌≡◌, List, [], ◌∷◌, ◌++◌, length, replicate, slice_index_or}
+use Rattle.std.specs.List.{All}
+use Rattle.bucket_slots.specs.BucketView.{BucketView, empty_bucket, flattened}
+
+-- the buckets of a part of this length, where some are made and those behind them are empty
+abbrev pub with_unmade : {K V : Type 0} → List (BucketView K V) → ℕ → List (BucketView K V)
+with_unmade made len = made ++ replicate (len - length made) empty_bucket
+
+-- the buckets of a part; none past the last part
+abbrev pub part_at : {K V : Type 0} → List (List (BucketView K V)) → ℕ → List (BucketView K V)
+part_at parts i = slice_index_or parts i []
+
+-- the parts have 2 ^ part_bits buckets each; the length of the array is stored, and there is a spare
+-- empty bucket
+pub record AreParts {K V : Type 0} (parts : List (List (BucketView K V))) (spare : List (BucketView K V)) (len part_bits : ℕ) : Type 0 where
+  pub long : All (λ part. length part ≡ 2 ^ part_bits) parts
+  pub few_bits : part_bits < 64
+  pub len_is : len ≡ length (flattened parts)
+  pub spare_is : spare ≡ empty_bucket ∷ []

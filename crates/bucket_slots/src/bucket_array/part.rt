@@ -1,0 +1,175 @@
+//! A part of an array: a run of buckets, made as they are first lent for writing.
+//!
+//! Model: the list of its buckets, as many as its vector has room for. Those behind the made ones
+//! are empty, and making them takes no memory.
+//!
+//! Own.
+ghost use Rattle.std.specs.Prelude.{◌≡◌, ◌<◌, ◌≤◌, ◌∷◌, [], IfOk, length, replicate, vec_capacity, vec_len};
+ghost use Rattle.std.specs.Borrow.{sem};
+ghost use Rattle.bucket_slots.specs.ArrayRoom.{BucketFits};
+ghost use Rattle.bucket_slots.specs.ArrayView.{bucket_at};
+ghost use Rattle.bucket_slots.specs.BucketView.{empty_bucket};
+ghost use Rattle.bucket_slots.specs.Layout.ArrayParts.{part_at, with_unmade};
+ghost use Rattle.bucket_slots.specs.Layout.PartLoans.{LendsBucketIn};
+
+use crate::bucket::room::fits_in_memory;
+use crate::bucket::{AllocError, Bucket};
+use crate::lru::LruList;
+use std::alloc::Global;
+use std::marker::Model;
+use std::mem::ManuallyDrop;
+
+/// A run of buckets, of which the first ones are made.
+pub(crate) struct Part<K, V, L: LruList, const TYPE: u8> {
+    made: Vec<Bucket<K, V, L, TYPE>>,
+}
+
+impl<K, V, L: LruList, const TYPE: u8> Model for Part<K, V, L, TYPE> {
+    ghost use Rattle.std.specs.Prelude.{List, vec_capacity};
+    ghost use Rattle.bucket_slots.specs.BucketView.{BucketView};
+    ghost use Rattle.bucket_slots.specs.Layout.ArrayParts.{with_unmade};
+
+    ghost Value = { List (BucketView K V) };
+
+    ghost view = { λ part. with_unmade part.made.items (vec_capacity part.made) };
+}
+
+impl<K: Drop, V: Drop, L: LruList + Drop, const TYPE: u8> Drop for Part<K, V, L, TYPE> {
+    fn drop(self) {
+        let Part { made } = self;
+        if fits_in_memory::<Bucket<K, V, L, TYPE>>() {
+            drop(made);
+        } else {
+            let _kept = unsafe { ManuallyDrop::new_unchecked(made) };
+        }
+    }
+}
+
+impl<K, V, L: LruList, const TYPE: u8> Part<K, V, L, TYPE> {
+    ghost use Rattle.bucket_slots.specs.Layout.PartLoans.{LendsBucketOf};
+
+    /// Returns a part of this length. None of its buckets is made.
+    ///
+    /// # Errors
+    ///
+    /// Want of memory: the memory of all its buckets is asked for here.
+    pub(crate) fn alloc(alloc: Global, len: usize) -> Result<Self, AllocError>
+        ensures { IfOk result (λ part. part ≡ replicate len empty_bucket) }
+    {
+        let Ok(made) = Vec::with_capacity(alloc, len) else {
+            return Err(AllocError);
+        };
+        Ok(Part { made })
+    }
+
+    /// Returns the bucket with an offset, and the spare one where it isn't made.
+    #[inline(always)]
+    pub(crate) fn bucket<'a>(
+        &'a self,
+        offset: usize,
+        spare: &'a Bucket<K, V, L, TYPE>,
+    ) -> &'a Bucket<K, V, L, TYPE>
+        requires { spare.now ≡ empty_bucket }
+        ensures { result.now ≡ bucket_at self.now offset }
+    {
+        if offset < self.made.len() {
+            &self.made[offset]
+        } else {
+            spare
+        }
+    }
+
+    /// Lends the bucket with an offset for writing. It is made if need be, with those before it.
+    #[inline(always)]
+    pub(crate) fn bucket_mut(&mut self, offset: usize) -> &mut Bucket<K, V, L, TYPE>
+        requires fits { BucketFits K.row V.row L.row TYPE.row
+            (record { KEEPS = L.KEEPS; listed = L.listed; IsTail = L.IsTail }) L.Default }
+        requires within { offset < length self.old }
+        ensures* writes_back { sem 𝓛
+            (LendsBucketOf K.row V.row L.row TYPE.row
+            (record { KEEPS = L.KEEPS; listed = L.listed; IsTail = L.IsTail }) L.Default
+            self.entry offset result) }
+        ensures bucket { result.now ≡ bucket_at self.old offset }
+    {
+        make_to(&mut self.made, offset + 1);
+        &mut self.made[offset]
+    }
+}
+
+impl<K: Drop, V: Drop, L: LruList + Drop, const TYPE: u8> Part<K, V, L, TYPE> {
+    /// Returns so many parts of this length.
+    ///
+    /// # Errors
+    ///
+    /// Want of memory: nothing is kept.
+    pub(crate) fn alloc_all(
+        alloc: Global,
+        count: usize,
+        len: usize,
+    ) -> Result<Vec<Part<K, V, L, TYPE>>, AllocError>
+        ensures { IfOk result
+            (λ parts. parts.items ≡ replicate count (replicate len empty_bucket)) }
+    {
+        let Ok(mut parts) = Vec::with_capacity(alloc, count) else {
+            return Err(AllocError);
+        };
+        for _i in 0..count {
+            let part = Part::alloc(alloc, len)?;
+            parts.push_reserved(part);
+        }
+        Ok(parts)
+    }
+}
+
+/// Returns one empty bucket, which stands for each one that isn't made.
+///
+/// # Errors
+///
+/// Want of memory.
+pub(crate) fn spare_bucket<K, V, L: LruList, const TYPE: u8>(
+    alloc: Global,
+) -> Result<Vec<Bucket<K, V, L, TYPE>>, AllocError>
+    ensures { IfOk result (λ spare. spare.items ≡ empty_bucket ∷ []) }
+{
+    let Ok(mut spare) = Vec::with_capacity(alloc, 1) else {
+        return Err(AllocError);
+    };
+    spare.push_reserved(Bucket::new(alloc));
+    Ok(spare)
+}
+
+/// Makes buckets until there are so many. What is read of the part stays.
+fn make_to<K, V, L: LruList, const TYPE: u8>(made: &mut Vec<Bucket<K, V, L, TYPE>>, len: usize)
+    requires fits { BucketFits K.row V.row L.row TYPE.row
+        (record { KEEPS = L.KEEPS; listed = L.listed; IsTail = L.IsTail }) L.Default }
+    requires room { len ≤ vec_capacity made.old }
+    ensures made { len ≤ vec_len made.new }
+    ensures same { with_unmade made.new.items (vec_capacity made.new)
+        ≡ with_unmade made.old.items (vec_capacity made.old) }
+{
+    let alloc = *made.allocator();
+    while made.len() < len {
+        made.push_reserved(Bucket::new(alloc));
+    }
+}
+
+/// Lends the bucket with an offset in one of the parts for writing.
+#[inline(always)]
+pub(crate) fn bucket_in<K, V, L: LruList, const TYPE: u8>(
+    parts: &mut Vec<Part<K, V, L, TYPE>>,
+    part: usize,
+    offset: usize,
+) -> &mut Bucket<K, V, L, TYPE>
+    requires fits { BucketFits K.row V.row L.row TYPE.row
+        (record { KEEPS = L.KEEPS; listed = L.listed; IsTail = L.IsTail }) L.Default }
+    requires within { part < vec_len parts.old }
+    requires offset { offset < length (part_at parts.old.items part) }
+    ensures* writes_back { sem 𝓛
+        (LendsBucketIn K.row V.row L.row TYPE.row
+        (record { KEEPS = L.KEEPS; listed = L.listed; IsTail = L.IsTail }) L.Default
+        parts.entry part offset result) }
+    ensures bucket { result.now ≡ bucket_at (part_at parts.old.items part) offset }
+{
+    let lent = &mut parts[part];
+    lent.bucket_mut(offset)
+}
