@@ -1,9 +1,7 @@
 -- A unit of a rehash that no one else works at.
-use Rattle.std.proofs.Common.{ℕ, ◌+◌, ◌*◌, ◌/◌, ◌≤◌, ◌≡◌, Bool, true, false, List, [], ◌∷◌, Option, Some, None, Result, Ok, Err, IfSome, length, refl, sym, ap, subst, ◌∙◌, arith}
-use Rattle.std.proofs.lemmas.List.Elements.{Contains-get_or}
-use Rattle.std.proofs.lemmas.List.Sorted.{Contains-permutation, length_permutation}
+use Rattle.std.proofs.Common.{ℕ, ◌+◌, ◌*◌, ◌/◌, ◌≤◌, ◌≡◌, Bool, true, false, List, [], Option, Some, None, Result, Ok, Err, IfSome, length, refl, sym, ap, subst, ◌∙◌, arith}
+use Rattle.std.proofs.lemmas.List.Sorted.{length_permutation}
 use Rattle.std.proofs.lemmas.Option.{same_Some}
-use Rattle.std.specs.List.{Contains}
 use Rattle.bucket_slots.specs.BucketView.{BucketView}
 use Rattle.bucket_table.specs.ArraysView.{ArraysView, IsRehash, RehashView, killed_flags, old_buckets}
 use Rattle.bucket_table.specs.Covered.{IsUnitKilled}
@@ -13,8 +11,8 @@ use Rattle.bucket_table.specs.State.{TicketState}
 use Rattle.bucket_table.specs.Steps.{HandsOut, position_after}
 use Rattle.bucket_table.specs.Units.{WorksSome}
 use Rattle.bucket_table.specs.declared.tickets.TicketError.{TicketError}
-use Rattle.bucket_table.specs.declared.tickets.TicketError.TheVariants.{NotOpen, NotDone}
 use Rattle.bucket_table.proofs.Each.{nothing}
+use Rattle.bucket_table.proofs.UnitEnds.{never_refused}
 use Rattle.bucket_table.proofs.UnitWork.{Handed, tickets_len}
 
 module _ {K V : Type 0} where
@@ -30,13 +28,7 @@ module _ {K V : Type 0} where
       → (success ≡ true → IsUnitKilled (killed_flags is.buckets) (ticket / 2048))
       → EndsRehash (Some is) ticket success answer after
       → IsFinished was success after
-  finished was started is after ticket success (Err NotOpen) none long same_len h same killed ends =
-      let there : Contains is.tickets.open_units was.tickets.position =
-      subst (λ (t : TicketState). Contains t.open_units was.tickets.position) (sym same)
-      (Contains-permutation (was.tickets.position ∷ was.tickets.open_units) started.tickets.open_units was.tickets.position h.open_is
-      (Contains-get_or (was.tickets.position ∷ was.tickets.open_units) 0 was.tickets.position (omega arith))) in
-      absurd (ends.0.0 (was.tickets.position, h.ticket_is, there))
-  finished was started is after ticket success (Err NotDone) none long same_len h same killed ends = absurd (ends.0.2 (killed ends.0.1))
+  finished was started is after ticket success (Err error) none long same_len h same killed ends = absurd (never_refused was started is after ticket success error h same killed ends)
   finished was started is None ticket success (Ok true) none long same_len h same killed ends =
       let last : TicketState = ends.0.0 in
       let (unit, ticket_is, done, closes, goes) = ends.0.1 in

@@ -1,10 +1,10 @@
 -- A raised minimum, a resize and a first array keep the map.
-use Rattle.std.proofs.Common.{ℕ, ◌+◌, ◌≡◌, Bool, IsSome, Result, sym, ap, subst, ◌∙◌}
+use Rattle.std.proofs.Common.{ℕ, ◌+◌, ◌-◌, ◌≡◌, Bool, IsSome, Result, sym, ap, subst, ◌∙◌}
 use Rattle.std.specs.Cmp.{IsEquivalence}
 use Rattle.bucket_table.specs.ArraysView.{ArePlaced, ArraysView, IsOneMap, TableView, entries_of, pairs_of}
 use Rattle.bucket_table.specs.Finding.{KeepsMap}
-use Rattle.bucket_table.specs.MapState.{KeepsPairs, RaisesMinimum, state_of}
-use Rattle.bucket_table.specs.Resizes.{MakesArray, Reserves, ResizesByPlan, with_minimum}
+use Rattle.bucket_table.specs.MapState.{KeepsPairs, LowersMinimum, RaisesMinimum, state_of}
+use Rattle.bucket_table.specs.Resizes.{MakesArray, Releases, Reserves, ResizesByPlan, with_minimum}
 use Rattle.bucket_table.specs.Units.{KeepsBag}
 use Rattle.bucket_table.proofs.MapKept.{one_map_found, pairs_kept, state_seen}
 use Rattle.bucket_table.proofs.WriterSteps.{kept_made, placed_beside, resize_keeps}
@@ -47,31 +47,34 @@ module _ {K V H : Type 0} where
             new.rehash) is keeps.1,
       )
 
+  -- a resize after the minimum was set changes no other part of the map
+  settled : (kind least : ℕ) (t : TableView K V H) (new : ArraysView K V) → KeepsMap (with_minimum t.arrays least) new
+      → state_of kind (record { hasher = t.hasher; arrays = new })
+      ≡ record (state_of kind t) { minimum = least; pairs = pairs_of new }
+  settled kind least t new kept =
+      ap (λ (n : ℕ). record { kind = kind; hasher = t.hasher; minimum = n; maximum = new.maximum; pairs = pairs_of new }) kept.minimum
+      ∙ ap (λ (n : ℕ). record { kind = kind; hasher = t.hasher; minimum = least; maximum = n; pairs = pairs_of new }) kept.maximum
+
   pub raised_seen : (kind additional answer : ℕ) (t s : TableView K V H) (new : ArraysView K V)
       → t ≡ s → Reserves additional t.arrays answer new
       → KeepsMap (with_minimum t.arrays (t.arrays.minimum + answer)) new
-      → RaisesMinimum additional (state_of kind s) answer
-      (state_of kind (record { hasher = t.hasher; arrays = new }))
+      → RaisesMinimum additional (state_of kind s) answer (state_of kind (record { hasher = t.hasher; arrays = new }))
   raised_seen kind additional answer t s new is reserves kept =
-      subst (λ (z : TableView K V H). RaisesMinimum additional (state_of kind z) answer
-      (state_of kind (record { hasher = t.hasher; arrays = new }))) is (record {
+      subst (λ (z : TableView K V H). RaisesMinimum additional (state_of kind z) answer (state_of kind (record { hasher = t.hasher; arrays = new }))) is (record {
         too_much = λ much. (reserves.too_much much).0;
         raised = λ fits. (reserves.raised fits).0;
         pairs = pairs_kept (entries_of t.arrays) (entries_of new) kept.pairs;
-        others = ap (λ (n : ℕ). record {
-          kind = kind;
-          hasher = t.hasher;
-          minimum = n;
-          maximum =
-              new.maximum;
-          pairs = pairs_of new;
-        }) kept.minimum
-            ∙ ap (λ (n : ℕ). record {
-              kind = kind;
-              hasher = t.hasher;
-              minimum = t.arrays.minimum +
-                  answer;
-              maximum = n;
-              pairs = pairs_of new;
-            }) kept.maximum;
+        others = settled kind (t.arrays.minimum + answer) t new kept;
+      })
+
+  pub lowered_seen : (kind released answer : ℕ) (t s : TableView K V H) (new : ArraysView K V)
+      → t ≡ s → Releases released t.arrays answer new
+      → KeepsMap (with_minimum t.arrays (t.arrays.minimum - answer)) new
+      → LowersMinimum released (state_of kind s) answer (state_of kind (record { hasher = t.hasher; arrays = new }))
+  lowered_seen kind released answer t s new is releases kept =
+      subst (λ (z : TableView K V H). LowersMinimum released (state_of kind z) answer (state_of kind (record { hasher = t.hasher; arrays = new }))) is (record {
+        too_much = λ much. (releases.too_much much).0;
+        lowered = λ fits. (releases.lowered fits).0;
+        pairs = pairs_kept (entries_of t.arrays) (entries_of new) kept.pairs;
+        others = settled kind (t.arrays.minimum - answer) t new kept;
       })

@@ -9,7 +9,6 @@ use Rattle.bucket_table.specs.Locking.{IsLocked}
 use Rattle.bucket_table.specs.Relocation.{buckets_of}
 use Rattle.bucket_table.specs.Retains.{IsSwept, IsSweptBelow, Retains}
 use Rattle.bucket_table.specs.Sides.{arrays_with, bucket_on}
-use Rattle.bucket_table.specs.Units.{KeepsBag, times_in}
 use Rattle.bucket_table.specs.LockedLaws.{buckets_of-array_with}
 use Rattle.bucket_table.proofs.HomeSplit.{changed_there, splits, taken_there}
 use Rattle.bucket_table.proofs.Sweeping.{IsSweeping, sweep_begins, sweep_ends, sweep_moves, sweep_stops, sweep_visits}
@@ -81,15 +80,7 @@ module _ {K V : Type 0} (IsTest : (K × V → Bool) → Type 0) (hash : K → �
       (taken_there hash now index split) (changed_there hash now index split left) retains counted)
 
 module _ {K V : Type 0} where
-  -- a bucket that was swept leaves the tickets
-  pub bag_swept : (IsTest : (K × V → Bool) → Type 0) (now visited : ArraysView K V)
-      (index taken : ℕ)
-      → ((left : BucketView K V) × Retains IsTest (bucket_on now false index) left taken
-      × (visited ≡ arrays_with now false index left)) → KeepsBag now.rehash visited.rehash
-  bag_swept IsTest now visited index taken (left, retains, visited_is) = λ unit. ap
-      (λ (a : ArraysView K V). times_in unit a.rehash) visited_is
-
-  -- and as many current buckets
+  -- a bucket that was swept leaves as many current buckets
   pub same_len : (IsTest : (K × V → Bool) → Type 0) (now visited : ArraysView K V) (index taken : ℕ)
       → ((left : BucketView K V) × Retains IsTest (bucket_on now false index) left taken
       × (visited ≡ arrays_with now false index left))
@@ -119,19 +110,3 @@ module _ {K V H : Type 0} where
       (pairs_of visited.arrays) (bound_of n (index + 1)) (bound_of n (index + 1)) count)
       (sym long) s in
       sweep_goes IsTest (hash old.hasher) old.arrays visited.arrays next count (bound_of (length (buckets_of visited.arrays.current)) (index + 1)) found at s' kept goes' past
-
-module _ {K V : Type 0} where
-  -- what a bucket that was swept leaves of the capacities
-  pub minimum_swept : (IsTest : (K × V → Bool) → Type 0) (now visited : ArraysView K V)
-      (index taken : ℕ)
-      → ((left : BucketView K V) × Retains IsTest (bucket_on now false index) left taken
-      × (visited ≡ arrays_with now false index left)) → visited.minimum ≡ now.minimum
-  minimum_swept IsTest now visited index taken (left, retains, visited_is) = ap
-      (λ (a : ArraysView K V). a.minimum) visited_is
-
-  pub maximum_swept : (IsTest : (K × V → Bool) → Type 0) (now visited : ArraysView K V)
-      (index taken : ℕ)
-      → ((left : BucketView K V) × Retains IsTest (bucket_on now false index) left taken
-      × (visited ≡ arrays_with now false index left)) → visited.maximum ≡ now.maximum
-  maximum_swept IsTest now visited index taken (left, retains, visited_is) = ap
-      (λ (a : ArraysView K V). a.maximum) visited_is

@@ -37,7 +37,7 @@ use Rattle.bucket_slots.specs.BucketView.{BucketView, Place, entries_in}
 use Rattle.bucket_slots.specs.Walking.{pairs_ahead}
 use Rattle.bucket_table.specs.ArraysView.{ArraysView, IsOneMap, TableView, entries_of, pairs_of}
 use Rattle.bucket_table.specs.Asking.{AsksShrinking, ResizesIf}
-use Rattle.bucket_table.specs.Cursors.{Departs, GoesOnFrom, HasNoneFrom, LeavesTo, Stays, bound_of}
+use Rattle.bucket_table.specs.Cursors.{Departs, GoesOnFrom, HasNoneFrom, LeavesTo, Passes, Stays, bound_of}
 use Rattle.bucket_table.specs.Locking.{IsLocked}
 use Rattle.bucket_table.specs.Optional.{IfNothing}
 use Rattle.bucket_table.specs.Rehashing.{KeepsArrays}
@@ -110,13 +110,19 @@ module _ {K V H : Type 0} where
       → LeavesTo (hash z.hasher) (bound_of (length (buckets_on z.arrays side)) (index + 1)) r new
       to) is h
 
-  pub departs_seen : (t s : TableView K V H) (side : Bool) (index : ℕ) (from : Place)
-      (new : ArraysView K V) → t ≡ s
-      → (pairs_ahead (bucket_on t.arrays side index) from ≡ [] → Departs side index t.arrays new)
-      → pairs_ahead (bucket_on s.arrays side index) from ≡ [] → Departs side index s.arrays new
-  departs_seen t s side index from new is h =
+  pub passes_seen : {E : Type 0} (t s : TableView K V H) (r : Result (Option ℕ) E) (new : ArraysView K V) → t ≡ s
+      → Passes (λ i. i) 0 t.arrays r new → Passes (λ i. i) 0 s.arrays r new
+  passes_seen t s r new is p = subst (λ (z : TableView K V H). Passes (λ i. i) 0 z.arrays r new) is p
+
+  pub departs_seen : {E : Type 0} (t s : TableView K V H) (side : Bool) (index : ℕ) (from : Place)
+      (r : Result (Option (Bool × ℕ)) E) (new : ArraysView K V) → t ≡ s
+      → (pairs_ahead (bucket_on t.arrays side index) from ≡ []
+      → Departs (λ to. to.1) side index t.arrays r new)
+      → pairs_ahead (bucket_on s.arrays side index) from ≡ []
+      → Departs (λ to. to.1) side index s.arrays r new
+  departs_seen t s side index from r new is h =
       subst (λ (z : TableView K V H). pairs_ahead (bucket_on z.arrays side index) from ≡ []
-      → Departs side index z.arrays new) is h
+      → Departs (λ to. to.1) side index z.arrays r new) is h
 
   -- a bucket of the table was gone through
   pub left_of : (eq : K → K → Bool) → IsEquivalence eq → (hash : H → K → ℕ) (t s : TableView K V H)

@@ -5,7 +5,7 @@ use Rattle.bucket_table.specs.Covered.{RehashState}
 use Rattle.bucket_table.specs.Runs.{Run}
 use Rattle.bucket_table.specs.TicketCalls.{IsTicketCall, TicketStep}
 use Rattle.bucket_table.specs.declared.script.call.Call.{Call}
-use Rattle.bucket_table.specs.declared.script.call.Call.TheVariants.{Put, Write, Read, Peek, Remove, Touch, Evict, Count, Has, Reserve, Start, Work, End, Walk, Clear}
+use Rattle.bucket_table.specs.declared.script.call.Call.TheVariants.{Put, Write, Read, Peek, Remove, Touch, Evict, Count, Has, Reserve, Release, Start, Work, End, Walk, Clear}
 use Rattle.bucket_table.specs.declared.script.reply.Reply.{Reply}
 use Rattle.bucket_table.specs.declared.script.reply.Reply.TheVariants.{Done, Present, Absent, Value, Old, Pair, Nothing, Number, Truth, Ticket, NoTicket, NoWork, Ended, Fault, Refused, WrongKind, Walked, Cleared}
 
@@ -76,6 +76,7 @@ module _ {K V : Type 0} where
   none_after Count reply after of h = absurd of
   none_after Has reply after of h = absurd of
   none_after (Reserve n0) reply after of h = absurd of
+  none_after (Release n0) reply after of h = absurd of
   none_after Walk reply after of h = absurd of
   none_after Clear reply after of h = absurd of
 

@@ -55,18 +55,25 @@ bag_back unit other was started is joined left =
     e
 
 module _ {K V : Type 0} where
+  -- the end of a ticket that was just handed out is done
+  pub never_refused : (was started is : RehashView K V) (after : Option (RehashView K V)) (ticket : ℕ) (success : Bool) (error : TicketError)
+      → HandsOut was.tickets ticket started.tickets → is.tickets ≡ started.tickets
+      → (success ≡ true → IsUnitKilled (killed_flags is.buckets) (ticket / 2048))
+      → EndsRehash (Some is) ticket success (Err error) after → ⊥
+  never_refused was started is after ticket success NotOpen h same killed ends =
+      let there : Contains is.tickets.open_units was.tickets.position =
+      subst (λ (t : TicketState). Contains t.open_units was.tickets.position) (sym same)
+      (Contains-permutation (was.tickets.position ∷ was.tickets.open_units) started.tickets.open_units was.tickets.position h.open_is
+      (Contains-get_or (was.tickets.position ∷ was.tickets.open_units) 0 was.tickets.position (omega arith))) in
+      ends.0.0 (was.tickets.position, h.ticket_is, there)
+  never_refused was started is after ticket success NotDone h same killed ends = ends.0.2 (killed ends.0.1)
+
   pub unit_ended : (was started is : RehashView K V) (after : Option (RehashView K V)) (ticket : ℕ) (success : Bool) (answer : Result Bool TicketError)
       → HandsOut was.tickets ticket started.tickets → is.tickets ≡ started.tickets
       → (success ≡ true → IsUnitKilled (killed_flags is.buckets) (ticket / 2048))
       → EndsRehash (Some is) ticket success answer after
       → KeepsBag (Some was) after × (success ≡ true → WorksUnit was after)
-  unit_ended was started is after ticket success (Err NotOpen) h same killed ends =
-      let there : Contains is.tickets.open_units was.tickets.position =
-      subst (λ (t : TicketState). Contains t.open_units was.tickets.position) (sym same)
-      (Contains-permutation (was.tickets.position ∷ was.tickets.open_units) started.tickets.open_units was.tickets.position h.open_is
-      (Contains-get_or (was.tickets.position ∷ was.tickets.open_units) 0 was.tickets.position (omega arith))) in
-      absurd (ends.0.0 (was.tickets.position, h.ticket_is, there))
-  unit_ended was started is after ticket success (Err NotDone) h same killed ends = absurd (ends.0.2 (killed ends.0.1))
+  unit_ended was started is after ticket success (Err error) h same killed ends = absurd (never_refused was started is after ticket success error h same killed ends)
   unit_ended was started is None ticket success (Ok true) h same killed ends =
       let (last, by) = ends.0 in
       let (unit, ticket_is, done, closes, goes) = by in

@@ -9,6 +9,7 @@ use Rattle.std.proofs.Common.{
   Bool,
   true,
   false,
+  None,
   Ok,
   Err,
   List,
@@ -41,13 +42,16 @@ use Rattle.bucket_slots.specs.Homes.{IsHome, Meets}
 use Rattle.bucket_slots.proofs.CallerLemmas.{map-entries_in}
 use Rattle.bucket_table.specs.ArraysView.{AreSourcesKilled, ArraysView, IsOneMap, TableView, entries_of, old_buckets}
 use Rattle.bucket_table.specs.Asking.{AsksShrinking, ResizesIf}
+use Rattle.bucket_table.specs.Cursors.{AreKilledFor}
 use Rattle.bucket_table.specs.Finding.{KeepsMap}
 use Rattle.bucket_table.specs.Locking.{IsLocked}
 use Rattle.bucket_table.specs.Rehashing.{KeepsArrays}
 use Rattle.bucket_table.specs.Relocation.{IsEntryHome, buckets_of}
+use Rattle.bucket_table.specs.Settings.{KeepsSettings}
 use Rattle.bucket_table.specs.Sides.{arrays_with, bucket_on}
-use Rattle.bucket_table.specs.Units.{KeepsBag, KeepsKilled}
-use Rattle.bucket_table.specs.Walks.{AreKilledFor, BeginsAt, EndsWell, IsKeptBy, IsVisitOf, KeepsBuckets, WalksBy, has_home_in, keys_in}
+use Rattle.bucket_table.specs.UnitRuns.{WorksUnits}
+use Rattle.bucket_table.specs.Units.{KeepsBag}
+use Rattle.bucket_table.specs.Walks.{BeginsAt, EndsWell, IsKeptBy, IsVisitOf, KeepsBuckets, WalksBy, has_home_in, keys_in}
 use Rattle.bucket_table.proofs.Bounds.{is_in}
 use Rattle.bucket_table.proofs.Each.{all_permuted, each_back, each_implies, each_map, each_unmap, map_append}
 use Rattle.bucket_table.specs.LockedLaws.{buckets_of-array_with}
@@ -55,9 +59,11 @@ use Rattle.bucket_table.proofs.HomeSplit.{changed_there, splits, taken_there}
 use Rattle.bucket_table.proofs.SideChanges.{locked_current, placed_change}
 use Rattle.bucket_table.proofs.MapKept.{map_kept}
 use Rattle.bucket_table.proofs.Preparing.{bag_both, bag_same, len_kept}
+use Rattle.bucket_table.proofs.SettingsKept.{settings_both}
 use Rattle.bucket_table.proofs.StayingKilled.{sources_still}
 use Rattle.bucket_table.proofs.TableCursor.{distinct_behind}
-use Rattle.bucket_table.proofs.WalkSteps.{WalksOn, begins, goes_on, walk_waits}
+use Rattle.bucket_table.proofs.UnitRuns.{units_alone, units_still}
+use Rattle.bucket_table.proofs.WalkSteps.{WalksOn, begins, goes_on, walk_alone, walk_units, walk_waits}
 
 module _ {K V : Type 0} where
   abbrev pub key_of : (K × V) × ℕ → K × ℕ
@@ -164,28 +170,28 @@ module _ {S K V : Type 0} (step : S → BucketView K V → Bool → Bool → Buc
     pub maximum : table.maximum ≡ old.maximum
 
   killed_wait : (table ready : ArraysView K V) (from index : ℕ) → AreKilledFor table from index
-      → KeepsArrays table ready → KeepsKilled table.rehash ready.rehash
+      → KeepsArrays table ready → WorksUnits 1 table ready.rehash
       → AreKilledFor ready from index
-  killed_wait table ready from index killed kept still = λ j low high.
-      sources_still table ready j still (len_kept ready.current table.current kept.current_len) (killed j low high)
+  killed_wait table ready from index killed kept unit = λ j low high.
+      sources_still table ready j (units_still 1 table ready.rehash unit) (len_kept ready.current table.current kept.current_len) (killed j low high)
 
   -- and is visited
   pub stands_next : (eq : K → K → Bool) → IsEquivalence eq
       → (first now next : S) (old table ready new : ArraysView K V) (from index : ℕ)
       (flag last more : Bool)
       → WalkStands first now old from index flag true table → KeepsArrays table ready
-      → KeepsBag table.rehash ready.rehash → KeepsKilled table.rehash ready.rehash
+      → KeepsBag table.rehash ready.rehash → WorksUnits 1 table ready.rehash → (table.rehash ≡ None → ready ≡ table)
       → IsOneMap eq hash ready → IsLocked ready false index → KeepsBuckets step
       → IsLentAt S step ready index now flag more last next new
       → WalkStands first next old from (index + 1) last more new
-  stands_next eq laws first now next old table ready new from index flag last more w kept bag still one locked owes (left, call, new_is) =
+  stands_next eq laws first now next old table ready new from index flag last more w kept bag unit waits one locked owes (left, call, new_is) =
       let keeps = owes now next (bucket_on ready false index) left flag more last (one.placed.homes.alive index locked.within) call in
       let visit = visited eq laws hash ready index left one locked keeps in
       let done : ArraysView K V = arrays_with ready false index left in
       let len = visit.len in
-      let before = killed_wait table ready from index w.killed kept still in
+      let before = killed_wait table ready from index w.killed kept unit in
       let after : WalkStands first next old from (index + 1) last more done = record {
-        walks = goes_on step hash first now next old table ready done from index flag last more (bucket_on ready false index) left w.walks (map_kept table ready kept) (len_kept ready.current table.current kept.current_len) call visit;
+        walks = goes_on step hash first now next old table ready from index flag last more left w.walks (map_kept table ready kept) (len_kept ready.current table.current kept.current_len) unit waits call visit;
         killed = λ j low high. elim (cases_lt j index) [
           | inl less ↦ subst (λ (n : ℕ). (i : ℕ) → i < length (old_buckets ready.rehash)
               → Meets (length (old_buckets ready.rehash)) i n j
@@ -220,14 +226,21 @@ module _ {S K V : Type 0} (step : S → BucketView K V → Bool → Bool → Buc
     maximum = refl;
   }
 
+  -- what holds of the table without an old array holds where none stood at first
+  pub walks_alone : {R : Type 0} (first now : S) (old table : ArraysView K V) (from index : ℕ) (flag more : Bool)
+      → WalkStands first now old from index flag more table → (table.rehash ≡ None → R)
+      → old.rehash ≡ None → R
+  walks_alone first now old table from index flag more w holds none =
+      holds (units_alone (length w.walks.visits) old table.rehash w.walks.units none)
+
   -- a refusal ends the walk
   pub walk_refused : {A E : Type 0} (e : E) (expected start : ℕ) (first now : S)
       (old table ready : ArraysView K V) (from index : ℕ) (flag more : Bool)
       → BeginsAt (length (buckets_of old.current)) expected start from
       → WalkStands first now old from index flag more table → KeepsArrays table ready
-      → KeepsKilled table.rehash ready.rehash → WalksBy {A = A} step hash expected start first old
+      → WorksUnits 1 table ready.rehash → (table.rehash ≡ None → ready ≡ table) → WalksBy {A = A} step hash expected start first old
       (Err e) now ready
-  walk_refused e expected start first now old table ready from index flag more at w kept still =
+  walk_refused e expected start first now old table ready from index flag more at w kept unit waits =
       let part = walk_waits hash old table ready from w.walks.visits w.walks.part (map_kept table ready kept) (len_kept ready.current table.current kept.current_len) in
       record {
         from = from;
@@ -238,7 +251,9 @@ module _ {S K V : Type 0} (step : S → BucketView K V → Bool → Bool → Buc
         calls = w.walks.calls;
         walk = part.walk;
         sources = subst (λ (n : ℕ). AreKilledFor ready from n) w.walks.reached
-            (killed_wait table ready from index w.killed kept still);
+            (killed_wait table ready from index w.killed kept unit);
+        units = walk_units step hash first now old table ready from index flag more w.walks unit;
+        alone = walk_alone step hash first now old table ready from index flag more w.walks waits;
         within = λ some. let reached = w.walks.reached in let fits = w.within
             (omega (arith, reached, some)) in omega (arith, reached, fits);
         whole = tt;
@@ -261,6 +276,8 @@ module _ {S K V : Type 0} (step : S → BucketView K V → Bool → Bool → Buc
     calls = w.walks.calls;
     walk = w.walks.part.walk;
     sources = subst (λ (n : ℕ). AreKilledFor table from n) w.walks.reached w.killed;
+    units = w.walks.units;
+    alone = w.walks.alone;
     within = λ some. let reached = w.walks.reached in let fits = w.within
         (omega (arith, reached, some)) in omega (arith, reached, fits);
     whole = elim (cases_Bool more) [
@@ -270,7 +287,20 @@ module _ {S K V : Type 0} (step : S → BucketView K V → Bool → Bool → Buc
     ends = ends;
   }
 
+module _ {S K V H : Type 0} (step : S → BucketView K V → Bool → Bool → BucketView K V → Bool → S
+    → Type 0) (hash : K → ℕ) where
+  -- what a walk keeps, whatever comes after it
+  pub settings_walked : (first now : S) (old table new : TableView K V H) (from index : ℕ) (flag more : Bool)
+      → WalkStands step hash first now old.arrays from index flag more table.arrays → table.hasher ≡ old.hasher
+      → KeepsSettings table new → KeepsSettings old new
+  settings_walked first now old table new from index flag more w same k =
+      settings_both old table new (record { hasher = same; minimum = w.minimum; maximum = w.maximum; bag = w.bag }) k
+
 module _ {K V H : Type 0} where
+  pub same_parts : (t s : TableView K V H) → s.hasher ≡ t.hasher → s.arrays ≡ t.arrays → s ≡ t
+  same_parts t s hasher arrays = ap (λ (h : H). record { hasher = h; arrays = s.arrays }) hasher ∙ ap
+      (λ (a : ArraysView K V). record { hasher = t.hasher; arrays = a }) arrays
+
   -- the table, seen as its parts
   pub begins_seen : (t s : TableView K V H) (len expected start from : ℕ) → t ≡ s
       → len ≡ length (buckets_of t.arrays.current) → BeginsAt len expected start from

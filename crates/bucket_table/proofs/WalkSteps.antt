@@ -17,6 +17,7 @@ use Rattle.std.proofs.Common.{
   [],
   ◌∷◌,
   ◌++◌,
+  None,
   length,
   filter,
   refl,
@@ -38,7 +39,9 @@ use Rattle.bucket_slots.specs.Homes.{interval_width}
 use Rattle.bucket_table.specs.ArraysView.{ArraysView, pairs_of}
 use Rattle.bucket_table.specs.Relocation.{buckets_of}
 use Rattle.bucket_table.specs.Visits.{AreCalls, HasStopped, Visited}
-use Rattle.bucket_table.specs.Walks.{AreLent, IsVisitOf, IsWalk, has_home_in, pairs_left}
+use Rattle.bucket_table.specs.Sides.{arrays_with, bucket_on}
+use Rattle.bucket_table.specs.UnitRuns.{WorksUnits}
+use Rattle.bucket_table.specs.Walks.{AreLent, IsVisitOf, IsWalk, VisitsAlone, has_home_in, pairs_left}
 use Rattle.bucket_table.proofs.Filters.{IsPermutation-filter, filter_all, filter_filter, filter_none}
 use Rattle.std.proofs.Math.Nat.{mul-le-mul_right}
 use Rattle.std.proofs.lemmas.Bool.{
@@ -59,6 +62,7 @@ use Rattle.std.proofs.lemmas.Bool.{
 }
 use Rattle.bucket_table.proofs.Bounds.{next_multiple}
 use Rattle.bucket_table.proofs.Each.{each, each_append, each_implies, to_front}
+use Rattle.bucket_table.proofs.UnitRuns.{no_units, units_alone, units_both}
 
 -- tests on hashes
 module _ (low high h : ℕ) where
@@ -307,6 +311,17 @@ module _ {K V : Type 0} (hash : K → ℕ) where
             next all);
       }
 
+module _ {K V : Type 0} where
+  -- one visit more, where no old array stands
+  alone_more : (old now : ArraysView K V) (start index : ℕ) (vs : List (Visited (BucketView K V))) (v : Visited (BucketView K V))
+      → index ≡ start + length vs → VisitsAlone old start vs now → v.lent ≡ bucket_on now false index
+      → VisitsAlone old start (vs ++ v ∷ []) (arrays_with now false index v.left)
+  alone_more old now start index [] v at so_far lent =
+      let here : index ≡ start = omega (arith, at) in
+      rw (so_far, here) (subst (λ (j : ℕ). v.lent ≡ bucket_on old false j) here (subst (λ (a : ArraysView K V). v.lent ≡ bucket_on a false index) so_far lent), refl)
+  alone_more old now start index (w ∷ vs) v at so_far lent =
+      (so_far.0, alone_more (arrays_with old false start w.left) now (start + 1) index vs v (omega (arith, at)) so_far.1 lent)
+
 module _ {S K V : Type 0} (step : S → BucketView K V → Bool → Bool → BucketView K V → Bool → S
     → Type 0) (hash : K → ℕ) where
   -- what is known between two calls of a walk
@@ -314,6 +329,8 @@ module _ {S K V : Type 0} (step : S → BucketView K V → Bool → Bool → Buc
     pub visits : List (Visited (BucketView K V))
     pub calls : AreCalls step first false visits now flag
     pub part : IsPartOfWalk hash old start visits table
+    pub units : WorksUnits (length visits) old table.rehash
+    pub alone : old.rehash ≡ None → VisitsAlone old start visits table
     pub reached : index ≡ start + length visits
     pub going : more ≡ true → HasStopped visits → ⊥
     pub stopped : more ≡ false → HasStopped visits
@@ -324,23 +341,41 @@ module _ {S K V : Type 0} (step : S → BucketView K V → Bool → Bool → Buc
     visits = [];
     calls = (refl, refl);
     part = walk_begins hash old start;
+    units = no_units old old.rehash refl;
+    alone = λ none. refl;
     reached = omega arith;
     going = λ e h. h;
     stopped = λ e. absurd (true≢false e);
   }
 
-  pub goes_on : (first now next : S) (old table ready new : ArraysView K V) (start index : ℕ) (flag last more : Bool) (lent left : BucketView K V)
+  -- a bucket is made ready
+  pub walk_alone : (first now : S) (old table ready : ArraysView K V) (start index : ℕ) (flag more : Bool)
+      → (w : WalksOn first now old start index flag more table) → (table.rehash ≡ None → ready ≡ table)
+      → old.rehash ≡ None → VisitsAlone old start w.visits ready
+  walk_alone first now old table ready start index flag more w waits none =
+      rw (waits (units_alone (length w.visits) old table.rehash w.units none)) (w.alone none)
+
+  pub walk_units : (first now : S) (old table ready : ArraysView K V) (start index : ℕ) (flag more : Bool)
+      → (w : WalksOn first now old start index flag more table) → WorksUnits 1 table ready.rehash
+      → WorksUnits (length w.visits + 1) old ready.rehash
+  walk_units first now old table ready start index flag more w unit =
+      units_both (length w.visits) 1 old table ready.rehash w.part.len w.units unit
+
+  -- and visited
+  pub goes_on : (first now next : S) (old table ready : ArraysView K V) (start index : ℕ) (flag last more : Bool) (left : BucketView K V)
       → WalksOn first now old start index flag true table
       → IsPermutation (pairs_of table) (pairs_of ready) → length (buckets_of ready.current) ≡ length
-      (buckets_of table.current)
-      → step now lent flag more left last next → IsVisitOf hash ready index lent left new
-      → WalksOn first next old start (index + 1) last more new
-  goes_on first now next old table ready new start index flag last more lent left w moved len call visit =
-      let v : Visited (BucketView K V) = record { lent = lent; left = left; more = more } in
+      (buckets_of table.current) → WorksUnits 1 table ready.rehash → (table.rehash ≡ None → ready ≡ table)
+      → step now (bucket_on ready false index) flag more left last next → IsVisitOf hash ready index (bucket_on ready false index) left (arrays_with ready false index left)
+      → WalksOn first next old start (index + 1) last more (arrays_with ready false index left)
+  goes_on first now next old table ready start index flag last more left w moved len unit waits call visit =
+      let v : Visited (BucketView K V) = record { lent = bucket_on ready false index; left = left; more = more } in
       record {
         visits = w.visits ++ v ∷ [];
         calls = calls_more step first now next false flag last w.visits v w.calls (w.going refl) call;
-        part = walk_more hash old ready new start index w.visits v w.reached (walk_waits hash old table ready start w.visits w.part moved len) visit;
+        part = walk_more hash old ready (arrays_with ready false index left) start index w.visits v w.reached (walk_waits hash old table ready start w.visits w.part moved len) visit;
+        units = subst (λ (n : ℕ). WorksUnits n old ready.rehash) (sym (length_push w.visits v)) (walk_units first now old table ready start index flag true w unit);
+        alone = λ none. alone_more old ready start index w.visits v w.reached (walk_alone first now old table ready start index flag true w waits none) refl;
         reached = omega (arith, w.reached, length_push w.visits v);
         going = λ e. going_more w.visits v (w.going refl) e;
         stopped = λ e. stopped_more w.visits v e;

@@ -1,17 +1,18 @@
 -- Where a cursor stands, and what it has behind it.
-use Rattle.std.specs.Prelude.{ℕ, ◌+◌, ◌*◌, ◌<◌, ◌≤◌, ◌≡◌, Bool, false, Option, Some, None, Result, Ok, Err, List, [], ◌∷◌, length}
+use Rattle.std.specs.Prelude.{ℕ, ◌+◌, ◌-◌, ◌*◌, ◌<◌, ◌≤◌, ◌≡◌, Bool, false, Option, Some, None, Result, Ok, Err, IsOk, List, [], ◌∷◌, length}
 use Rattle.std.specs.List.{AllByRecursion}
 use Rattle.bucket_slots.specs.ArrayView.{bucket_at}
 use Rattle.bucket_slots.specs.BucketView.{Place, null_place, pairs_in, slot_in}
-use Rattle.bucket_slots.specs.Homes.{Meets, interval_width}
+use Rattle.bucket_slots.specs.Homes.{IsInInterval, Meets, interval_width}
 use Rattle.bucket_slots.specs.Slots.{live_pair}
 use Rattle.bucket_slots.specs.Walking.{MovesToNext, pairs_ahead}
-use Rattle.bucket_table.specs.ArraysView.{ArraysView, old_buckets, pairs_of}
+use Rattle.bucket_table.specs.ArraysView.{AreSourcesKilled, ArraysView, old_buckets, pairs_of}
 use Rattle.bucket_table.specs.Asking.{AsksShrinking, ResizesIf}
 use Rattle.bucket_table.specs.Locking.{IsLocked}
 use Rattle.bucket_table.specs.Rehashing.{KeepsArrays}
 use Rattle.bucket_table.specs.Relocation.{buckets_of}
-use Rattle.bucket_table.specs.Sides.{bucket_on}
+use Rattle.bucket_table.specs.Sides.{bucket_on, buckets_on}
+use Rattle.bucket_table.specs.UnitRuns.{WorksUnits, steps_of}
 
 -- no pair has a hash from one bound up to below another
 abbrev pub HasNoneBetween : {K V : Type 0} → (K → ℕ) → ℕ → ℕ → List (K × V) → Type 0
@@ -67,11 +68,34 @@ LeavesTo hash bound (Ok (Some to)) arrays at = (to.0 ≡ false) × IsFirstFrom h
 LeavesTo hash bound (Ok None) arrays at = HasNoneFrom hash bound (pairs_of arrays) × (at ≡ null_place)
 LeavesTo hash bound (Err refused) arrays at = at ≡ null_place
 
+-- the sources of each current bucket from `start` up to below `end` are killed
+abbrev pub AreKilledFor : {K V : Type 0} → ArraysView K V → ℕ → ℕ → Type 0
+AreKilledFor arrays start end = (index : ℕ) → start ≤ index → index < end → AreSourcesKilled arrays index
+
+-- how many buckets a cursor passes from `from` on: up to the one that it answers, or all, and fewer where it is refused
+abbrev pub IsPassed : {A E : Type 0} → (A → ℕ) → ℕ → ℕ → Result (Option A) E → ℕ → Type 0
+IsPassed index_of len from (Ok (Some found)) passed = from + passed ≡ index_of found + 1
+IsPassed index_of len from (Ok None) passed = passed ≡ len - from
+IsPassed index_of len from (Err refused) passed = passed < len - from
+
+-- a cursor passes current buckets, from the one whose interval has a hash on, or none where the hash is past all: before each a unit is worked,
+-- and its sources are killed then. Without an old array nothing changes, and it isn't refused
+pub record Passes {K V A E : Type 0} (index_of : A → ℕ) (bound : ℕ) (old : ArraysView K V) (result : Result (Option A) E) (new : ArraysView K V) : Type 0 where
+  pub from : ℕ
+  pub passed : ℕ
+  pub begins : 0 < length (buckets_of old.current) → IsInInterval (length (buckets_of old.current)) from bound
+  pub count : IsPassed index_of (length (buckets_of old.current)) from result passed
+  pub units : WorksUnits (steps_of result passed) old new.rehash
+  pub sources : AreKilledFor new from (from + passed)
+  pub alone : old.rehash ≡ None → new ≡ old
+  pub succeeds : old.rehash ≡ None → IsOk result
+
 -- a bucket is left: where it has no live pair, and a shrinking is asked for near it, the arrays follow the plan or stay for want of memory; else they stay.
--- Then units and sources are moved, which keeps the pairs and the length of the current array
-pub record Departs {K V : Type 0} (is_old : Bool) (index : ℕ) (old new : ArraysView K V) : Type 0 where
+-- Then the buckets past it are passed, which keeps the pairs and the length of the current array
+pub record Departs {K V A E : Type 0} (index_of : A → ℕ) (is_old : Bool) (index : ℕ) (old : ArraysView K V) (result : Result (Option A) E) (new : ArraysView K V) : Type 0 where
   pub between : ArraysView K V
   pub asked : ResizesIf ((pairs_in (bucket_on old is_old index) ≡ []) × AsksShrinking old index) old between
+  pub passes : Passes index_of (bound_of (length (buckets_on old is_old)) (index + 1)) between result new
   pub kept : KeepsArrays between new
 
 -- a cursor stays in its bucket, of the old or of the current array, at the next live pair

@@ -1,13 +1,25 @@
 -- A current bucket whose old pairs have come.
 use Rattle.std.specs.Prelude.{ℕ, ◌≡◌, ◌<◌, Bool, true, false, None, IsSome, Result, Ok, Err, length}
 use Rattle.bucket_slots.specs.Homes.{IsHome}
-use Rattle.bucket_table.specs.ArraysView.{AreSourcesKilled, ArraysView}
+use Rattle.bucket_table.specs.ArraysView.{AreSourcesKilled, ArraysView, TableView}
+use Rattle.bucket_table.specs.MapState.{KeepsPairs, state_of}
+use Rattle.bucket_table.specs.Rehashing.{KeepsArrays}
 use Rattle.bucket_table.specs.Relocation.{buckets_of}
+use Rattle.bucket_table.specs.Units.{KeepsBag, WorksOneUnit}
 
 -- a current array stands, and each source of a hash's home is killed
 pub record IsReady {K V : Type 0} (arrays : ArraysView K V) (hash : ℕ) : Type 0 where
   pub stands : 0 < length (buckets_of arrays.current)
   pub killed : (index : ℕ) → IsHome (length (buckets_of arrays.current)) hash index → AreSourcesKilled arrays index
+
+-- a unit was worked, and no more than old pairs moved: the map, the length of the current array and the bag of
+-- tickets stay, and without an old array all stays
+pub record IsPrepared {K V H : Type 0} (kind : ℕ) (old after : TableView K V H) : Type 0 where
+  pub map : KeepsPairs (state_of kind old) (state_of kind after)
+  pub kept : KeepsArrays old.arrays after.arrays
+  pub bag : KeepsBag old.arrays.rehash after.arrays.rehash
+  pub unit : WorksOneUnit old.arrays after.arrays.rehash
+  pub alone : old.arrays.rehash ≡ None → after ≡ old
 
 -- what the preparation of a hash's home answers
 abbrev pub Prepares : {K V E : Type 0} → ArraysView K V → ℕ → Result Bool E → Type 0

@@ -52,16 +52,23 @@ MayResize Keep old new = new ≡ old
 MayResize GiveUp old new = new ≡ record old { current = None }
 MayResize (Resize capacity) old new = IsResized capacity old new ⊎ (new ≡ old)
 
--- the minimum raised by a number of slots
+-- another minimum
 abbrev pub with_minimum : {K V : Type 0} → ArraysView K V → ℕ → ArraysView K V
 with_minimum arrays minimum = record arrays { minimum = minimum }
+
+-- the minimum is this one now, and then the arrays follow the plan, or stay for want of memory
+abbrev pub Settles : {K V : Type 0} → ℕ → ArraysView K V → ArraysView K V → Type 0
+Settles minimum old new = (plan : Plan) × IsPlanOf (with_minimum old minimum) plan × MayResize plan (with_minimum old minimum) new
 
 -- a reservation raises the minimum where it may, and then resizes by the plan or stays
 pub record Reserves {K V : Type 0} (additional : ℕ) (old : ArraysView K V) (answer : ℕ) (new : ArraysView K V) : Type 0 where
   pub too_much : old.maximum - old.minimum < additional → (answer ≡ 0) × (new ≡ old)
-  pub raised : additional ≤ old.maximum - old.minimum
-      → (answer ≡ additional)
-      × ((plan : Plan) × IsPlanOf (with_minimum old (old.minimum + additional)) plan × MayResize plan (with_minimum old (old.minimum + additional)) new)
+  pub raised : additional ≤ old.maximum - old.minimum → (answer ≡ additional) × Settles (old.minimum + additional) old new
+
+-- a release lowers the minimum where it is so much, and then resizes by the plan or stays
+pub record Releases {K V : Type 0} (released : ℕ) (old : ArraysView K V) (answer : ℕ) (new : ArraysView K V) : Type 0 where
+  pub too_much : old.minimum < released → (answer ≡ 0) × (new ≡ old)
+  pub lowered : released ≤ old.minimum → (answer ≡ released) × Settles (old.minimum - released) old new
 
 abbrev pub MakesFrom : {K V : Type 0} → Option (List (BucketView K V)) → ArraysView K V → ArraysView K V → Type 0
 MakesFrom (Some buckets) old new = new ≡ old

@@ -9,7 +9,7 @@ use Rattle.bucket_table.specs.Units.{times_open}
 use Rattle.bucket_table.specs.declared.tickets.TicketError.{TicketError}
 use Rattle.bucket_table.specs.declared.tickets.TicketError.TheVariants.{NotOpen}
 use Rattle.bucket_table.specs.declared.script.call.Call.{Call}
-use Rattle.bucket_table.specs.declared.script.call.Call.TheVariants.{Put, Write, Read, Peek, Remove, Touch, Evict, Count, Has, Reserve, Start, Work, End, Walk, Clear}
+use Rattle.bucket_table.specs.declared.script.call.Call.TheVariants.{Put, Write, Read, Peek, Remove, Touch, Evict, Count, Has, Reserve, Release, Start, Work, End, Walk, Clear}
 use Rattle.bucket_table.specs.declared.script.reply.Reply.{Reply}
 use Rattle.bucket_table.specs.declared.script.reply.Reply.TheVariants.{Done, Ticket, NoTicket, NoWork, Ended, Fault, Refused}
 
@@ -82,6 +82,7 @@ module _ {K V : Type 0} where
   TicketStep before Count reply after = KeepsTickets before after
   TicketStep before Has reply after = KeepsTickets before after
   TicketStep before (Reserve additional) reply after = KeepsTickets before after
+  TicketStep before (Release released) reply after = KeepsTickets before after
   TicketStep before Walk reply after = KeepsTickets before after
   TicketStep before Clear reply after = KeepsTickets before after
   TicketStep before call reply after = ⊥

@@ -1,13 +1,15 @@
 -- What a walk does to the map.
-use Rattle.std.specs.Prelude.{ℕ, ◌+◌, ◌<◌, ◌≡◌, ◌≢◌, ◌≤◌, ◌⊎◌, ◌&&◌, nat_le, nat_lt, not, Bool, true, false, List, [], ◌∷◌, ◌++◌, filter, length, map, Result, Ok, Err, OnOk}
+use Rattle.std.specs.Prelude.{ℕ, ◌+◌, ◌<◌, ◌≡◌, ◌≢◌, ◌≤◌, ◌⊎◌, ◌&&◌, nat_le, nat_lt, not, Bool, true, false, List, [], ◌∷◌, ◌++◌, filter, length, map, None, Result, Ok, Err, OnOk}
 use Rattle.std.specs.List.{AllByRecursion, flat_map}
 use Rattle.std.specs.List.Sorted.{IsPermutation}
 use Rattle.bucket_slots.specs.BucketView.{BucketView, entries_in, pairs_in}
-use Rattle.bucket_table.specs.ArraysView.{AreSourcesKilled, ArraysView, pairs_of}
+use Rattle.bucket_table.specs.ArraysView.{ArraysView, pairs_of}
 use Rattle.bucket_table.specs.Asking.{AsksShrinking, ResizesIf}
-use Rattle.bucket_table.specs.Cursors.{bound_of}
+use Rattle.bucket_table.specs.Cursors.{AreKilledFor, bound_of}
 use Rattle.bucket_table.specs.Finding.{KeepsMap}
 use Rattle.bucket_table.specs.Relocation.{buckets_of}
+use Rattle.bucket_table.specs.Sides.{arrays_with, bucket_on}
+use Rattle.bucket_table.specs.UnitRuns.{WorksUnits, steps_of}
 use Rattle.bucket_table.specs.Visits.{AreCalls, HasStopped, Visited}
 
 -- the live keys in slot order, each with its byte
@@ -65,10 +67,6 @@ pub record BeginsAt (len expected start from : ℕ) : Type 0 where
   pub early : expected ≢ 0 → 0 < len → bound_of len from ≤ bound_of expected start
   pub reaches : expected ≢ 0 → 0 < len → bound_of expected start < bound_of len (from + 1)
 
--- the sources of each current bucket from `start` up to below `end` are killed
-abbrev pub AreKilledFor : {K V : Type 0} → ArraysView K V → ℕ → ℕ → Type 0
-AreKilledFor arrays start end = (index : ℕ) → start ≤ index → index < end → AreSourcesKilled arrays index
-
 -- a walk that wasn't refused, and whose truth value is set, ends with a resize where its first buckets have few live pairs, which keeps the map
 abbrev pub EndsWell : {K V : Type 0} → Bool → ArraysView K V → ArraysView K V → Type 0
 EndsWell true ended new = ResizesIf (AsksShrinking ended 0) ended new × KeepsMap ended new
@@ -77,6 +75,12 @@ EndsWell false ended new = new ≡ ended
 abbrev pub EndsWalk : {A E K V : Type 0} → Bool → Result A E → ArraysView K V → ArraysView K V → Type 0
 EndsWalk flag (Ok done) ended new = EndsWell flag ended new
 EndsWalk flag (Err refused) ended new = new ≡ ended
+
+-- where no old array stands, each bucket is lent as it stood at entry, and nothing changes but what the visits left
+abbrev pub VisitsAlone : {K V : Type 0} → ArraysView K V → ℕ → List (Visited (BucketView K V)) → ArraysView K V → Type 0
+VisitsAlone old index [] new = new ≡ old
+VisitsAlone old index (visit ∷ visits) new =
+    (visit.lent ≡ bucket_on old false index) × VisitsAlone (arrays_with old false index visit.left) (index + 1) visits new
 
 -- a walk by a visitor
 pub record WalksBy {S A E K V : Type 0} (step : S → BucketView K V → Bool → Bool → BucketView K V → Bool → S → Type 0) (hash : K → ℕ) (expected start : ℕ)
@@ -88,7 +92,9 @@ pub record WalksBy {S A E K V : Type 0} (step : S → BucketView K V → Bool �
   pub begins : BeginsAt (length (buckets_of old.current)) expected start from
   pub calls : AreCalls step first false visits now flag
   pub walk : IsWalk hash old from visits ended
+  pub units : WorksUnits (steps_of result (length visits)) old ended.rehash
   pub sources : AreKilledFor ended from (from + length visits)
   pub within : 0 < length visits → from + length visits ≤ length (buckets_of old.current)
   pub whole : OnOk result (IsWhole old from visits)
   pub ends : EndsWalk flag result ended new
+  pub alone : old.rehash ≡ None → VisitsAlone old from visits ended

@@ -102,7 +102,8 @@ impl<K, V, L: LruList, const TYPE: u8> Arrays<K, V, L, TYPE> {
 
     /// Returns the rehash word; `None` where no old array stands.
     pub(crate) fn word(&self) -> Option<usize>
-        ensures { result ≡ option_map (λ rehash. word_of rehash.tickets) self.now.rehash }
+        ensures word { result ≡ option_map (λ rehash. word_of rehash.tickets) self.now.rehash }
+        ensures few { IfSome self.now.rehash (λ rehash. length rehash.tickets.open_units ≤ 2047) }
     {
         match &self.rehash {
             Some(rehash) => Some(rehash.tickets.word()),

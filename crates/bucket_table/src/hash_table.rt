@@ -175,11 +175,14 @@ impl<K: Eq, V, H: KeyHash<K>, L: LruList, const TYPE: u8> HashTable<K, V, H, L, 
     }
 
     /// Returns the rehash word: 2048 times the next unit to hand out, and the number of open
-    /// tickets; `None` where no old array stands.
+    /// tickets, at most 2047; `None` where no old array stands.
     ///
     /// O(1). scc: `BucketArray::rehashing_metadata`.
     pub fn rehashing_metadata(&self) -> Option<usize>
-        ensures { result ≡ option_map (λ rehash. word_of rehash.tickets) self.now.arrays.rehash }
+        ensures word { result
+            ≡ option_map (λ rehash. word_of rehash.tickets) self.now.arrays.rehash }
+        ensures few { IfSome self.now.arrays.rehash (λ rehash.
+            length rehash.tickets.open_units ≤ 2047) }
     {
         self.arrays.word()
     }

@@ -60,7 +60,8 @@ impl Tickets {
 
     /// Returns the rehash word.
     pub fn word(&self) -> usize
-        ensures { result ≡ word_of self.now }
+        ensures word { result ≡ word_of self.now }
+        ensures few { length self.now.open_units ≤ 2047 }
     {
         self.position * TICKET_STEP + self.open_units.len()
     }

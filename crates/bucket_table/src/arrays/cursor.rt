@@ -1,20 +1,21 @@
 //! Cursors over the arrays.
-ghost use Rattle.std.specs.Prelude.{◌≡◌, ◌≢◌, Bool, ◌<◌, ◌≤◌, ◌+◌, [], true, false, length, IfOk};
+ghost use Rattle.std.specs.Prelude.{◌≡◌, ◌≢◌, Bool, ℕ, ◌<◌, ◌≤◌, ◌+◌, [], true, false, length, IfOk};
 ghost use Rattle.std.specs.Prelude.{Some};
-ghost use Rattle.std.specs.Prelude.{IfSome, OnOk};
+ghost use Rattle.std.specs.Prelude.{IfSome, IsOk, None, OnOk};
 ghost use Rattle.bucket_slots.specs.BucketView.{BucketView};
+ghost use Rattle.bucket_slots.specs.Homes.{IsInInterval, interval_width};
 ghost use Rattle.bucket_slots.specs.Sizing.{IsLength};
 ghost use Rattle.bucket_slots.specs.Walking.{pairs_ahead};
-ghost use Rattle.bucket_table.specs.ArraysView.{ArePlaced, AreSourcesKilled, RehashView};
+ghost use Rattle.bucket_table.specs.ArraysView.{ArePlaced, AreSourcesKilled};
 ghost use Rattle.bucket_table.specs.Cursors.{Departs, GoesOnFrom, Leaves, LeavesTo, ReachesPast};
-ghost use Rattle.bucket_table.specs.Cursors.{Stays, bound_of};
+ghost use Rattle.bucket_table.specs.Cursors.{Passes, Stays, bound_of};
 ghost use Rattle.bucket_table.specs.Finding.{KeepsMap};
 ghost use Rattle.bucket_table.specs.Rehashing.{KeepsArrays};
 ghost use Rattle.bucket_table.specs.Relocation.{buckets_of};
 ghost use Rattle.bucket_table.specs.Retains.{AnswersBy, Retains};
 ghost use Rattle.bucket_table.specs.Sides.{arrays_with, bucket_on, buckets_on};
-ghost use Rattle.bucket_table.specs.Units.{IsEasyUnit, IsUnitReady, KeepsBag, KeepsKilled};
-ghost use Rattle.bucket_table.specs.Units.{WorksUnit};
+ghost use Rattle.bucket_table.specs.UnitRuns.{WorksUnits};
+ghost use Rattle.bucket_table.specs.Units.{KeepsBag};
 
 use super::Arrays;
 use crate::hash_table::capacity::from_index_to_range;
@@ -40,13 +41,10 @@ impl<K: Eq + Drop, V: Drop, L: LruList + Drop, const TYPE: u8> Arrays<K, V, L, T
         ensures placed { ArePlaced (H.hash_of hasher.now) self.new }
         ensures kept { KeepsArrays self.old self.new }
         ensures bag { KeepsBag self.old.rehash self.new.rehash }
-        ensures still { KeepsKilled self.old.rehash self.new.rehash }
         ensures ready { OnOk result (AreSourcesKilled self.new index) }
-        ensures unit { (was : RehashView K V)
-            → (self.old.rehash ≡ Some was)
-            → IsUnitReady was
-            → IsEasyUnit was.tickets.position self.old was
-            → WorksUnit was self.new.rehash }
+        ensures units { WorksUnits 1 self.old self.new.rehash }
+        ensures alone { self.old.rehash ≡ None → self.new ≡ self.old }
+        ensures succeeds { self.old.rehash ≡ None → IsOk result }
     {
         self.work_unit(hasher);
         let to = self.len();
@@ -81,6 +79,10 @@ impl<K: Eq + Drop, V: Drop, L: LruList + Drop, const TYPE: u8> Arrays<K, V, L, T
         ensures found { GoesOnFrom (H.hash_of hasher.now)
             (bound_of (length (buckets_of self.old.current)) start) result self.new at.new }
         ensures order { IfOk result (λ found. IfSome found (λ index. start ≤ index)) }
+        ensures passes { (bound : ℕ)
+            → (0 < interval_width (length (buckets_of self.old.current))
+            → IsInInterval (length (buckets_of self.old.current)) start bound)
+            → Passes (λ index. index) bound self.old result self.new }
     {
         *at = EntryPtr::null();
         let mut index = start;
@@ -120,6 +122,7 @@ impl<K: Eq + Drop, V: Drop, L: LruList + Drop, const TYPE: u8> Arrays<K, V, L, T
         ensures found { GoesOnFrom (H.hash_of hasher.now) (bound_of len (index + 1)) result self.new
             at.new }
         ensures reaches { ReachesPast (bound_of len (index + 1)) result self.new }
+        ensures passes { Passes (λ index. index) (bound_of len (index + 1)) self.old result self.new }
     {
         *at = EntryPtr::null();
         self.sound();
@@ -153,7 +156,7 @@ impl<K: Eq + Drop, V: Drop, L: LruList + Drop, const TYPE: u8> Arrays<K, V, L, T
         ensures bag { KeepsBag self.old.rehash self.new.rehash }
         ensures leaves { Leaves (H.hash_of hasher.now) (bound_of
             (length (buckets_on self.old is_old)) (index + 1)) result self.new at.new }
-        ensures departs { Departs is_old index self.old self.new }
+        ensures departs { Departs (λ index. index) is_old index self.old result self.new }
     {
         let len = self.len_on(is_old);
         self.shrink_emptied(is_old, index);
@@ -184,7 +187,7 @@ impl<K: Eq + Drop, V: Drop, L: LruList + Drop, const TYPE: u8> Arrays<K, V, L, T
             → LeavesTo (H.hash_of hasher.now) (bound_of (length (buckets_on self.old is_old))
             (index + 1)) result self.new at.new }
         ensures departs { pairs_ahead (bucket_on self.old is_old index) at.old ≡ []
-            → Departs is_old index self.old self.new }
+            → Departs (λ to. to.1) is_old index self.old result self.new }
     {
         self.room_of(is_old);
         if at.find_next(self.bucket_of(is_old, index)) {

@@ -3,7 +3,7 @@ ghost use Rattle.std.specs.Prelude.{◌≡◌, ◌<◌, ◌≤◌, ◌↔◌, Bo
 ghost use Rattle.bucket_slots.specs.Homes.{IsHome};
 ghost use Rattle.bucket_table.specs.ArraysView.{ArePlaced, entries_of};
 ghost use Rattle.bucket_table.specs.Asking.{ResizesIf};
-ghost use Rattle.bucket_table.specs.Finding.{FindsAlone, FindsReady, KeepsMap};
+ghost use Rattle.bucket_table.specs.Finding.{FindsNone, FindsReady, KeepsMap};
 ghost use Rattle.bucket_table.specs.Free.{HasNoFreeHome, IsFreeHome};
 ghost use Rattle.bucket_table.specs.Growing.{Grows, WriterAsksGrowth};
 ghost use Rattle.bucket_table.specs.Locking.{IsLocked};
@@ -38,7 +38,7 @@ impl<K: Eq + Drop, V: Drop, L: LruList + Drop, const TYPE: u8> Arrays<K, V, L, T
         ensures locked { IfOk result (λ found. IsLocked self.new found.0 found.1) }
         ensures home { IfOk result (λ found. IsHome (length (buckets_on self.new found.0)) hash found.1) }
         ensures finds { IfOk result (λ found. FindsReady TYPE hash self.old found.0 found.1 self.new) }
-        ensures alone { self.old.rehash ≡ None → FindsAlone TYPE hash self.old result self.new }
+        ensures refused { OnErr result (FindsNone self.old self.new) }
     {
         let Ok(()) = self.make_ready(hasher, hash) else {
             return Err(AllocError);
@@ -57,7 +57,7 @@ impl<K: Eq + Drop, V: Drop, L: LruList + Drop, const TYPE: u8> Arrays<K, V, L, T
         ensures bag { KeepsBag self.old.rehash self.new.rehash }
         ensures ready { OnOk result (IsReady self.new hash) }
         ensures unit { WorksOneUnit self.old self.new.rehash }
-        ensures beside { IsSome self.old.rehash → OnOk result (KeepsArrays self.old self.new) }
+        ensures beside { IsSome self.old.rehash → KeepsArrays self.old self.new }
         ensures made { self.old.rehash ≡ None → OnOk result (MakesArray self.old self.new) }
         ensures refused { self.old.rehash ≡ None → OnErr result ((self.old.current ≡ None) × (self.new ≡ self.old)) }
     {

@@ -1,5 +1,5 @@
 //! Finishing a rehash.
-ghost use Rattle.std.specs.Prelude.{◌≡◌, None, IfOk};
+ghost use Rattle.std.specs.Prelude.{◌≡◌, false, None, Ok, IfOk};
 ghost use Rattle.bucket_table.specs.ArraysView.{ArePlaced};
 ghost use Rattle.bucket_table.specs.Finishing.{FinishesOne, IsUnopened, units_left};
 ghost use Rattle.bucket_table.specs.Rehashing.{KeepsArrays};
@@ -24,6 +24,7 @@ impl<K: Eq + Drop, V: Drop, L: LruList + Drop, const TYPE: u8> Arrays<K, V, L, T
         ensures none_open { IsUnopened self.new.rehash }
         ensures gone { IfOk result (λ count. self.new.rehash ≡ None) }
         ensures counted { IfOk result (λ count. count ≡ units_left self.old.rehash) }
+        ensures alone { self.old.rehash ≡ None → (result ≡ Ok 0) × (self.new ≡ self.old) }
     {
         let _len = self.old_len();
         let mut count: usize = 0;
@@ -45,6 +46,7 @@ impl<K: Eq + Drop, V: Drop, L: LruList + Drop, const TYPE: u8> Arrays<K, V, L, T
         ensures kept { KeepsArrays self.old self.new }
         ensures none_open { IsUnopened self.new.rehash }
         ensures unit { IfOk result (λ more. FinishesOne self.old.rehash more self.new.rehash) }
+        ensures alone { self.old.rehash ≡ None → (result ≡ Ok false) × (self.new ≡ self.old) }
     {
         let Some(ticket) = self.start_incremental_rehash() else {
             return Ok(false);

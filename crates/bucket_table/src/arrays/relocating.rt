@@ -1,7 +1,11 @@
 //! Old buckets that move on to the current array.
 ghost use Rattle.std.specs.Prelude.{◌≡◌, ◌<◌, ◌≤◌, ℕ, true, Some, IsOk, OnOk, OnErr, length};
-ghost use Rattle.bucket_table.specs.ArraysView.{ArePlaced, RehashView};
+ghost use Rattle.bucket_slots.specs.ArrayView.{bucket_at};
+ghost use Rattle.bucket_table.specs.ArraysView.{ArePlaced, RehashView, old_buckets};
+ghost use Rattle.bucket_table.specs.Landings.{CarriesRecency};
 ghost use Rattle.bucket_table.specs.Rehashing.{IsEasyMove, IsOldIndex, IsOldRange, IsUnmoved, RelocatesAt};
+ghost use Rattle.bucket_table.specs.Relocation.{buckets_of};
+ghost use Rattle.bucket_table.specs.UnitRuns.{SpendsSome};
 ghost use Rattle.bucket_table.specs.Units.{IsEasyRange, WorksRange};
 
 use super::Arrays;
@@ -11,11 +15,12 @@ use bucket_slots::bucket::AllocError;
 use bucket_slots::lru::LruList;
 
 impl<K: Eq + Drop, V: Drop, L: LruList + Drop, const TYPE: u8> Arrays<K, V, L, TYPE> {
-    /// Moves the pairs of an old bucket to their homes in the current array, and kills it.
+    /// Moves the pairs of an old bucket to their homes in the current array, and kills it. The
+    /// recency order goes along.
     ///
     /// # Errors
     ///
-    /// Want of memory: no pair has moved, and the bucket isn't killed.
+    /// Want of memory: no pair has moved, no recency list has changed, and the bucket isn't killed.
     pub(crate) fn relocate<H: KeyHash<K>>(
         &mut self,
         hasher: &H,
@@ -25,6 +30,8 @@ impl<K: Eq + Drop, V: Drop, L: LruList + Drop, const TYPE: u8> Arrays<K, V, L, T
         requires placed { ArePlaced (H.hash_of hasher.now) self.old }
         ensures placed { ArePlaced (H.hash_of hasher.now) self.new }
         ensures done { OnOk result (RelocatesAt index self.old self.new) }
+        ensures recency { OnOk result (CarriesRecency (bucket_at (old_buckets self.old.rehash) index)
+            (buckets_of self.old.current) (buckets_of self.new.current)) }
         ensures refused { OnErr result (IsUnmoved self.old self.new) }
         ensures succeeds { IsEasyMove index self.old → IsOk result }
     {
@@ -50,6 +57,7 @@ impl<K: Eq + Drop, V: Drop, L: LruList + Drop, const TYPE: u8> Arrays<K, V, L, T
         requires placed { ArePlaced (H.hash_of hasher.now) self.old }
         ensures placed { ArePlaced (H.hash_of hasher.now) self.new }
         ensures worked { WorksRange start end result self.old self.new }
+        ensures spends { SpendsSome (old_buckets self.old.rehash) (old_buckets self.new.rehash) }
         ensures succeeds { (was : RehashView K V)
             → (self.old.rehash ≡ Some was)
             → IsEasyRange start end self.old was

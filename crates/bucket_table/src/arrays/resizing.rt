@@ -1,9 +1,9 @@
 //! A resize: by its plan the current array becomes the old one, or is given up.
-ghost use Rattle.std.specs.Prelude.{◌≡◌, ◌≤◌, ◌+◌, ℕ, None, Some, IsSome, OnOk, OnErr};
+ghost use Rattle.std.specs.Prelude.{◌≡◌, ◌≤◌, ◌+◌, ◌-◌, ℕ, None, Some, IsSome, OnOk, OnErr};
 ghost use Rattle.bucket_table.specs.ArraysView.{ArePlaced, entries_of};
 ghost use Rattle.bucket_table.specs.Finding.{KeepsMap};
 ghost use Rattle.bucket_table.specs.ResizePlan.{IsCapacityWithin};
-ghost use Rattle.bucket_table.specs.Resizes.{IsPlanOf, IsResized, MakesArray, Reserves, ResizesByPlan, with_minimum};
+ghost use Rattle.bucket_table.specs.Resizes.{IsPlanOf, IsResized, MakesArray, Releases, Reserves, ResizesByPlan, Settles, with_minimum};
 ghost use Rattle.bucket_table.specs.Units.{KeepsBag};
 
 use super::plan::{Plan, plan_of};
@@ -86,9 +86,38 @@ impl<K: Drop, V: Drop, L: LruList + Drop, const TYPE: u8> Arrays<K, V, L, TYPE> 
         if additional > self.maximum - self.minimum {
             return 0;
         }
-        self.minimum += additional;
-        let _ = self.try_resize();
+        self.settle(self.minimum + additional);
         additional
+    }
+
+    /// Lowers the minimum by a number of slots, and resizes. Returns by how much it was lowered: by
+    /// nothing where that exceeds it.
+    ///
+    /// Want of memory leaves the arrays.
+    pub(crate) fn release_capacity(&mut self, released: usize) -> usize
+        ensures released { Releases released self.old result self.new }
+        ensures kept { KeepsMap (with_minimum self.old (self.old.minimum - result)) self.new }
+        ensures bag { KeepsBag self.old.rehash self.new.rehash }
+        ensures placed { (hash : K → ℕ) → ArePlaced hash self.old → ArePlaced hash self.new }
+    {
+        self.sound();
+        if released > self.minimum {
+            return 0;
+        }
+        self.settle(self.minimum - released);
+        released
+    }
+
+    /// Sets the minimum, and then resizes; want of memory leaves the arrays.
+    fn settle(&mut self, minimum: usize)
+        requires { minimum ≤ self.old.maximum }
+        ensures settled { Settles minimum self.old self.new }
+        ensures kept { KeepsMap (with_minimum self.old minimum) self.new }
+        ensures bag { KeepsBag self.old.rehash self.new.rehash }
+        ensures placed { (hash : K → ℕ) → ArePlaced hash self.old → ArePlaced hash self.new }
+    {
+        self.minimum = minimum;
+        let _ = self.try_resize();
     }
 
     /// Gives the current array up.

@@ -1,7 +1,8 @@
 //! A unit of a rehash inside a call.
 ghost use Rattle.std.specs.Prelude.{◌≡◌, ◌*◌, true, None, Some};
-ghost use Rattle.bucket_table.specs.ArraysView.{ArePlaced, RehashView};
+ghost use Rattle.bucket_table.specs.ArraysView.{ArePlaced, RehashView, old_buckets};
 ghost use Rattle.bucket_table.specs.Rehashing.{IsOldIndex, KeepsArrays};
+ghost use Rattle.bucket_table.specs.UnitRuns.{SpendsSome, WorksUnits};
 ghost use Rattle.bucket_table.specs.Units.{IsEasyUnit, IsUnitReady, KeepsBag, KeepsKilled, WorksSome, WorksUnit};
 
 use super::Arrays;
@@ -22,6 +23,7 @@ impl<K: Eq + Drop, V: Drop, L: LruList + Drop, const TYPE: u8> Arrays<K, V, L, T
             → IsUnitReady was
             → IsEasyUnit was.tickets.position self.old was
             → WorksUnit was self.new.rehash }
+        ensures units { WorksUnits 1 self.old self.new.rehash }
         ensures alone { self.old.rehash ≡ None → self.new ≡ self.old }
     {
         self.sound();
@@ -38,6 +40,7 @@ impl<K: Eq + Drop, V: Drop, L: LruList + Drop, const TYPE: u8> Arrays<K, V, L, T
         requires placed { ArePlaced (H.hash_of hasher.now) self.old }
         ensures placed { ArePlaced (H.hash_of hasher.now) self.new }
         ensures worked { WorksSome unit result self.old self.new }
+        ensures spends { SpendsSome (old_buckets self.old.rehash) (old_buckets self.new.rehash) }
         ensures succeeds { (was : RehashView K V)
             → (self.old.rehash ≡ Some was)
             → IsEasyUnit unit self.old was

@@ -1,17 +1,18 @@
 //! Cursors over a table, and what they sweep.
-ghost use Rattle.std.specs.Prelude.{◌≡◌, ◌≢◌, ◌<◌, ◌+◌, [], ℕ, Bool, Some, false, length, IfOk};
+ghost use Rattle.std.specs.Prelude.{◌≡◌, ◌≢◌, ◌<◌, ◌+◌, [], ℕ, Bool, Some, None, false, length, IfOk, IsOk};
 ghost use Rattle.std.specs.Prelude.{OnErr};
 ghost use Rattle.bucket_slots.specs.BucketView.{BucketView, null_place};
 ghost use Rattle.bucket_slots.specs.Sizing.{IsLength};
 ghost use Rattle.bucket_slots.specs.Walking.{MovesToNext, pairs_ahead};
 ghost use Rattle.bucket_table.specs.ArraysView.{IsOneMap, pairs_of};
 ghost use Rattle.bucket_table.specs.Cursors.{Departs, GoesOnFrom, HasNoneFrom, IsFirstFrom, Leaves};
-ghost use Rattle.bucket_table.specs.Cursors.{LeavesTo, ReachesAt, Stays, bound_of};
+ghost use Rattle.bucket_table.specs.Cursors.{LeavesTo, Passes, ReachesAt, Stays, bound_of};
 ghost use Rattle.bucket_table.specs.Locking.{IsLocked};
 ghost use Rattle.bucket_table.specs.MapState.{KeepsPairs, state_of};
 ghost use Rattle.bucket_table.specs.Optional.{IfHeld, IfNotHeld, IfNothing, IsHeld};
 ghost use Rattle.bucket_table.specs.Relocation.{buckets_of};
 ghost use Rattle.bucket_table.specs.Retains.{AnswersBy, IsSwept, IsSweptBelow, Retains};
+ghost use Rattle.bucket_table.specs.Settings.{KeepsSettings};
 ghost use Rattle.bucket_table.specs.Sides.{arrays_with, bucket_on, buckets_on};
 ghost use Rattle.bucket_table.specs.Units.{KeepsBag};
 
@@ -30,15 +31,19 @@ impl<K: Eq + Drop, V: Drop, H: KeyHash<K>, L: LruList + Drop, const TYPE: u8> Ha
     /// Moves a pointer to the first live pair, and returns that pair's current bucket; `None`, and
     /// a null pointer, where the map is empty.
     ///
+    /// Before each bucket that it passes a unit of the old array is worked, and the bucket's old
+    /// pairs come.
+    ///
     /// # Errors
     ///
-    /// Want of memory: the pointer is null.
+    /// Want of memory beside an old array: the pointer is null.
     ///
     /// O(buckets passed, and pairs that move). Own.
     pub fn first(&mut self, at: &mut EntryPtr<K, V, TYPE>) -> Result<Option<usize>, AllocError>
         ensures map { KeepsPairs (state_of TYPE self.old) (state_of TYPE self.new) }
         ensures bag { KeepsBag self.old.arrays.rehash self.new.arrays.rehash }
         ensures found { GoesOnFrom (H.hash_of self.old.hasher) 0 result self.new.arrays at.new }
+        ensures passes { Passes (λ index. index) 0 self.old.arrays result self.new.arrays }
         ensures none { IfNothing result (pairs_of self.old.arrays ≡ []) }
     {
         self.arrays.first_from(&self.hasher, 0, at)
@@ -48,12 +53,13 @@ impl<K: Eq + Drop, V: Drop, H: KeyHash<K>, L: LruList + Drop, const TYPE: u8> Ha
     /// pair's bucket is one of the old array, and its index; `None`, and a null pointer, where no
     /// live pair has a hash past the bucket's.
     ///
-    /// A bucket that is left without a live pair may be followed by a resize. A pair may be met
-    /// again.
+    /// A bucket that is left without a live pair may be followed by a resize. Before each bucket
+    /// that is passed then a unit of the old array is worked, and the bucket's old pairs come. A
+    /// pair may be met again.
     ///
     /// # Errors
     ///
-    /// Want of memory: the pointer is null.
+    /// Want of memory beside an old array: the pointer is null.
     ///
     /// O(buckets passed, and pairs that move). Own.
     pub fn advance(
@@ -72,7 +78,7 @@ impl<K: Eq + Drop, V: Drop, H: KeyHash<K>, L: LruList + Drop, const TYPE: u8> Ha
             (length (buckets_on self.old.arrays is_old)) (index + 1)) result self.new.arrays
             at.new }
         ensures departs { pairs_ahead (bucket_on self.old.arrays is_old index) at.old ≡ []
-            → Departs is_old index self.old.arrays self.new.arrays }
+            → Departs (λ to. to.1) is_old index self.old.arrays result self.new.arrays }
     {
         self.arrays.advance(&self.hasher, is_old, index, at)
     }
@@ -92,10 +98,7 @@ impl<K: Eq + Drop, V: Drop, H: KeyHash<K>, L: LruList + Drop, const TYPE: u8> Ha
         generation: &G,
     ) -> Result<usize, AllocError>
         requires callable { F.IsAlwaysCallable keep.now }
-        ensures hasher { self.new.hasher ≡ self.old.hasher }
-        ensures bag { KeepsBag self.old.arrays.rehash self.new.arrays.rehash }
-        ensures minimum { self.new.arrays.minimum ≡ self.old.arrays.minimum }
-        ensures maximum { self.new.arrays.maximum ≡ self.old.arrays.maximum }
+        ensures settings { KeepsSettings self.old self.new }
         ensures swept { IfOk result (λ count. (test : K × V → Bool)
             → AnswersBy (λ key value answer. F.post keep.now key value answer) test
             → IsSwept test (pairs_of self.old.arrays) (pairs_of self.new.arrays) count) }
@@ -154,9 +157,11 @@ impl<K: Eq + Drop, V: Drop, H: KeyHash<K>, L: LruList + Drop, const TYPE: u8> Ha
     /// Moves a pointer to the first live pair, and locks that pair's bucket. Returns `None`, and
     /// leaves a null pointer, where the map is empty.
     ///
+    /// What the table is after `None` and after a refusal stands at `first`, by which this works.
+    ///
     /// # Errors
     ///
-    /// Want of memory: the pointer is null.
+    /// Want of memory beside an old array: the pointer is null.
     ///
     /// O(buckets passed, and pairs that move). Own.
     pub fn first_sync(
@@ -172,8 +177,11 @@ impl<K: Eq + Drop, V: Drop, H: KeyHash<K>, L: LruList + Drop, const TYPE: u8> Ha
         ensures side { IfHeld result (λ locked. locked.is_old ≡ false) }
         ensures found { IfHeld result (λ locked.
             IsFirstFrom (H.hash_of self.old.hasher) locked.table.now.arrays 0 locked.index at.new) }
+        ensures passes { IfHeld result (λ locked. Passes (λ locked. locked.index) 0 self.old.arrays
+            result locked.table.now.arrays) }
         ensures none { IfNothing result (pairs_of self.old.arrays ≡ []) }
         ensures null { IfNotHeld result (at.new ≡ null_place) }
+        ensures succeeds { self.old.arrays.rehash ≡ None → IsOk result }
     {
         match self.first(at) {
             Ok(Some(index)) => Ok(Some(self.lock(false, index))),
@@ -195,12 +203,13 @@ impl<'a, K: Eq + Drop, V: Drop, H: KeyHash<K>, L: LruList + Drop, const TYPE: u8
     /// bucket. Returns `None`, and leaves a null pointer, where no live pair has a hash past the
     /// bucket's.
     ///
-    /// A bucket that is left without a live pair may be followed by a resize. A pair may be met
-    /// again.
+    /// A bucket that is left without a live pair may be followed by a resize. Before each bucket
+    /// that is passed then a unit of the old array is worked, and the bucket's old pairs come. A
+    /// pair may be met again.
     ///
     /// # Errors
     ///
-    /// Want of memory: the pointer is null, and no bucket is locked.
+    /// Want of memory beside an old array: the pointer is null, and no bucket is locked.
     ///
     /// O(buckets passed, and pairs that move). scc: `LockedBucket::next_sync`.
     pub fn next_sync(self, at: &mut EntryPtr<K, V, TYPE>) -> Result<Option<Self>, AllocError>
@@ -227,8 +236,8 @@ impl<'a, K: Eq + Drop, V: Drop, H: KeyHash<K>, L: LruList + Drop, const TYPE: u8
             (Some locked.index) locked.table.now.arrays) }
         ensures departs { pairs_ahead (bucket_on self.entry.table.now.arrays self.entry.is_old
             self.entry.index) at.old ≡ []
-            → IfHeld result (λ locked. Departs self.entry.is_old self.entry.index
-            self.entry.table.now.arrays locked.table.now.arrays) }
+            → IfHeld result (λ locked. Departs (λ locked. locked.index) self.entry.is_old
+            self.entry.index self.entry.table.now.arrays result locked.table.now.arrays) }
         ensures held { pairs_ahead (bucket_on self.entry.table.now.arrays self.entry.is_old
             self.entry.index) at.old ≢ [] → IsHeld result }
         ensures none { IfNothing result (HasNoneFrom (H.hash_of self.entry.table.now.hasher)

@@ -1,5 +1,5 @@
 //! Finishing a rehash of a table.
-ghost use Rattle.std.specs.Prelude.{◌≡◌, None, IfOk};
+ghost use Rattle.std.specs.Prelude.{◌≡◌, None, Ok, IfOk};
 ghost use Rattle.bucket_table.specs.Finishing.{IsUnopened, units_left};
 ghost use Rattle.bucket_table.specs.MapState.{KeepsPairs, state_of};
 ghost use Rattle.bucket_table.specs.Rehashing.{KeepsArrays};
@@ -21,13 +21,16 @@ impl<K: Eq + Drop, V: Drop, H: KeyHash<K>, L: LruList + Drop, const TYPE: u8> Ha
     ///
     /// # Errors
     ///
-    /// Want of memory: the old array stands, its pairs are in both arrays, and no ticket is open.
+    /// Want of memory beside an old array: it stands, its pairs are in both arrays, and no ticket is
+    /// open.
     ///
     /// O(old buckets from the position on, and their pairs). Own.
     pub fn finish_rehash(&mut self) -> Result<usize, AllocError>
         requires none_open { IsUnopened self.old.arrays.rehash }
         ensures gone { IfOk result (λ count. self.new.arrays.rehash ≡ None) }
         ensures counted { IfOk result (λ count. count ≡ units_left self.old.arrays.rehash) }
+        ensures alone { self.old.arrays.rehash ≡ None
+            → (result ≡ Ok 0) × (self.new ≡ self.old) }
 
         // Done or refused, the map is the same, and no ticket is open.
         ensures map { KeepsPairs (state_of TYPE self.old) (state_of TYPE self.new) }

@@ -1,9 +1,9 @@
 //! Look-ups: by key, and by a probe in code that knows no equality of keys.
-ghost use Rattle.std.specs.Prelude.{◌≡◌, ◌%◌, ◌+◌, ◌≤◌, true, None, Some, IfSome, IfNone};
+ghost use Rattle.std.specs.Prelude.{◌≡◌, ◌%◌, ◌+◌, ◌≤◌, true, IfSome, IfNone};
 ghost use Rattle.std.specs.Borrow.{Bor};
 ghost use Rattle.bucket_slots.specs.Places.{pair_lent};
 ghost use Rattle.bucket_slots.specs.Searching.{matching_len, pair_wanted};
-ghost use Rattle.bucket_table.specs.ArraysView.{RehashView, old_buckets, pairs_of};
+ghost use Rattle.bucket_table.specs.ArraysView.{old_buckets, pairs_of};
 ghost use Rattle.bucket_table.specs.LookingUp.{
   AreUnwanted,
   IsAbsent,
@@ -14,9 +14,8 @@ ghost use Rattle.bucket_table.specs.LookingUp.{
   looked_up_len,
   pair_looked_up,
 };
-ghost use Rattle.bucket_table.specs.MapState.{KeepsPairs, state_of};
+ghost use Rattle.bucket_table.specs.Preparing.{IsPrepared};
 ghost use Rattle.bucket_table.specs.Relocation.{buckets_of};
-ghost use Rattle.bucket_table.specs.Units.{IsEasyUnit, IsUnitReady, KeepsBag, WorksUnit};
 
 use crate::hash_table::HashTable;
 use crate::key_hash::KeyHash;
@@ -69,20 +68,18 @@ impl<K: Eq + Drop, V: Drop, H: KeyHash<K>, L: LruList + Drop, const TYPE: u8> Ha
 > {
     /// Returns what a function answers on the pair whose key is equal; `None` where the map has
     /// none.
+    ///
+    /// Beside an old array it works one unit first, and moves the sources of the hash's home. May
+    /// take memory, and is never refused: without it a pair is found in the old array.
+    ///
+    /// O(slots of a unit, of the sources and of their targets). scc: `HashTable::reader_sync`.
     pub fn reader_sync<R, F: FnOnce(&K, &V) -> R>(&mut self, key: &K, reader: F) -> Option<R>
         requires callable { (own : Bor K) (value : Bor V) → F.pre reader own value }
         ensures found { IfSome result (λ answer. (own : Bor K) × (value : Bor V)
             × IsThere K.eq key.now (pairs_of self.new.arrays) (own.now, value.now)
             × F.post reader own value answer) }
         ensures absent { IfNone result (IsAbsent K.eq key.now (pairs_of self.new.arrays)) }
-        ensures map { KeepsPairs (state_of TYPE self.old) (state_of TYPE self.new) }
-        ensures bag { KeepsBag self.old.arrays.rehash self.new.arrays.rehash }
-        ensures unit { (was : RehashView K V)
-            → (self.old.arrays.rehash ≡ Some was)
-            → IsUnitReady was
-            → IsEasyUnit was.tickets.position self.old.arrays was
-            → WorksUnit was self.new.arrays.rehash }
-        ensures alone { self.old.arrays.rehash ≡ None → self.new ≡ self.old }
+        ensures prepared { IsPrepared TYPE self.old self.new }
     {
         let hash = self.hasher.hash_one(key);
         let _ = self.prepare(hash);

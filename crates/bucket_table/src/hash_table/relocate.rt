@@ -1,18 +1,20 @@
 //! Pairs that move from an old bucket to their homes in the current array.
 //!
 //! Ports `relocate_bucket` of scc's `src/hash_table.rs`.
-ghost use Rattle.std.specs.Prelude.{◌≡◌, ◌+◌, ◌<◌, ◌≤◌, [], ℕ, Some, false, length, IsOk, OnErr, OnOk, slice_index};
+ghost use Rattle.std.specs.Prelude.{◌≡◌, ◌+◌, ◌<◌, ◌≤◌, [], ℕ, Some, None, true, false, length, IsOk, OnErr, OnOk, slice_index};
 ghost use Rattle.std.specs.List.{All};
 ghost use Rattle.bucket_slots.specs.ArrayView.{bucket_at};
 ghost use Rattle.bucket_slots.specs.BucketView.{entries_in, pairs_in, slot_in};
 ghost use Rattle.bucket_slots.specs.Homes.{IsInRange};
+ghost use Rattle.bucket_slots.specs.Recency.{IsRecencyOrder};
 ghost use Rattle.bucket_slots.specs.Reserving.{free_len_in};
 ghost use Rattle.bucket_slots.specs.Slots.{is_free, live_pair};
+ghost use Rattle.bucket_table.specs.Landings.{AreListable, CarriesRecency, HaveLanded, ListsArrivals, landing_of, landings_with};
 ghost use Rattle.bucket_table.specs.Relocation.{AreHome, AreTwoArrays, HasOwnByte, HasRoomFor, IsRelocated, IsWay, KeepsEntries, KeepsOthers, MovesInto, home_of, homed_len};
 
 use crate::hash_table::capacity::from_index_to_range;
 use crate::key_hash::KeyHash;
-use bucket_slots::bucket::{AllocError, BUCKET_LEN, Bucket, EntryPtr};
+use bucket_slots::bucket::{AllocError, BUCKET_LEN, Bucket, CACHE, EntryPtr};
 use bucket_slots::bucket_array::BucketArray;
 use bucket_slots::lru::LruList;
 use std::alloc::Global;
@@ -20,15 +22,22 @@ use std::alloc::Global;
 /// The pairs of so many targets are counted without memory.
 const COUNTED_TARGETS: usize = 8;
 
+/// Where the pair of an own slot has landed: the index of a bucket, and an own slot of it.
+#[derive(Clone, Copy)]
+pub(crate) struct Landing {
+    home: usize,
+    slot: usize,
+}
+
 /// Moves the pairs of an old bucket to their homes in the current array, and kills it. A bucket
 /// that is killed already stays as it is.
 ///
 /// Room is made in all targets before a pair moves, where the old array is longer or the bucket
-/// has more pairs than an empty target takes.
+/// has more pairs than an empty target takes. The recency order goes along.
 ///
 /// # Errors
 ///
-/// Want of memory: no pair has moved, and the bucket isn't killed.
+/// Want of memory: no pair has moved, no recency list has changed, and the bucket isn't killed.
 pub(crate) fn relocate<K: Eq + Drop, V: Drop, H: KeyHash<K>, L: LruList, const TYPE: u8>(
     alloc: Global,
     hasher: &H,
@@ -45,6 +54,8 @@ pub(crate) fn relocate<K: Eq + Drop, V: Drop, H: KeyHash<K>, L: LruList, const T
     ensures never_refused { length linked.old ≤ length current.old
         → length (pairs_in (bucket_at linked.old index)) ≤ BUCKET_LEN
         → IsOk result }
+    ensures recency { OnOk result
+        (CarriesRecency (bucket_at linked.old index) current.old current.new) }
 {
     current.room();
     let from = linked.len();
@@ -60,7 +71,7 @@ pub(crate) fn relocate<K: Eq + Drop, V: Drop, H: KeyHash<K>, L: LruList, const T
             return Err(refused);
         }
     }
-    move_pairs(hasher, current, source, start, end);
+    carry_pairs(hasher, current, source, start, end);
     source.kill();
     Ok(())
 }
@@ -148,8 +159,11 @@ fn reserve_each<K: Drop, V: Drop, L: LruList, const TYPE: u8>(
 }
 
 /// Moves each pair of a bucket to its home in an array that has room for it, one of the buckets
-/// from `start` up to below `end`.
-fn move_pairs<K: Eq + Drop, V: Drop, H: KeyHash<K>, L: LruList, const TYPE: u8>(
+/// from `start` up to below `end`, and its recency order with it.
+///
+/// The listed pairs that land in own slots are listed there behind their bucket's own, in the order
+/// in which they were listed. A pair that lands in a chain isn't listed.
+fn carry_pairs<K: Eq + Drop, V: Drop, H: KeyHash<K>, L: LruList, const TYPE: u8>(
     hasher: &H,
     current: &mut BucketArray<K, V, L, TYPE>,
     source: &mut Bucket<K, V, L, TYPE>,
@@ -167,14 +181,94 @@ fn move_pairs<K: Eq + Drop, V: Drop, H: KeyHash<K>, L: LruList, const TYPE: u8>(
     ensures moved { MovesInto (H.hash_of hasher.now) source.old current.old source.new current.new }
     ensures homes { AreHome (H.hash_of hasher.now) current.new }
     ensures emptied { pairs_in source.new ≡ [] }
+    ensures recency { CarriesRecency source.old current.old current.new }
+{
+    source.sound();
+    let (order, len) = source.take_lru();
+    if len == 0 {
+        move_pairs(hasher, current, source, start, end, &mut []);
+        return;
+    }
+    let mut landings = [None; BUCKET_LEN];
+    move_pairs(hasher, current, source, start, end, &mut landings);
+    append_arrivals(current, &order[..len], &landings);
+}
+
+/// Moves each pair of a bucket to its home in an array that has room for it, one of the buckets
+/// from `start` up to below `end`. Says in `landings` of as many own slots of the bucket as there
+/// is room for where their pairs landed, and nothing of a pair that landed in a chain.
+fn move_pairs<K: Eq + Drop, V: Drop, H: KeyHash<K>, L: LruList, const TYPE: u8>(
+    hasher: &H,
+    current: &mut BucketArray<K, V, L, TYPE>,
+    source: &mut Bucket<K, V, L, TYPE>,
+    start: usize,
+    end: usize,
+    landings: &mut [Option<Landing>],
+)
+    requires within { end ≤ length current.old }
+    requires in_range { All
+        (λ pair. IsInRange start end (home_of (length current.old) (H.hash_of hasher.now pair.0)))
+        (pairs_in source.old) }
+    requires own_bytes { All (HasOwnByte (H.hash_of hasher.now)) (entries_in source.old) }
+    requires homes { AreHome (H.hash_of hasher.now) current.old }
+    requires room { HasRoomFor (H.hash_of hasher.now) current.old (pairs_in source.old) }
+    requires alive { (j : ℕ) → j < length current.old → (bucket_at current.old j).killed ≡ false }
+    requires unsaid { (slot : ℕ) → landing_of landings.old slot ≡ None }
+    ensures moved { MovesInto (H.hash_of hasher.now) source.old current.old source.new current.new }
+    ensures homes { AreHome (H.hash_of hasher.now) current.new }
+    ensures emptied { pairs_in source.new ≡ [] }
+    ensures landed { HaveLanded (H.hash_of hasher.now) source.old current.old current.new landings.new }
 {
     let mut at = EntryPtr::null();
     'pairs: while at.find_next(source) {
         source.sound();
         let (home, hash) = way_of(hasher, current, source, &at, start, end);
-        let Ok(_) = current.bucket_mut(home).extract_from(hash, source, &mut at) else {
+        let target = current.bucket_mut(home);
+        target.sound();
+        let Ok(to) = target.extract_from(hash, source, &mut at) else {
             unreachable!()
         };
+        say_landing(landings, &at, home, &to);
+    }
+}
+
+/// Says of a pair that moved from an own slot to one of bucket `home` where it landed, where there
+/// is room for it.
+fn say_landing<K, V, const TYPE: u8>(
+    landings: &mut [Option<Landing>],
+    from: &EntryPtr<K, V, TYPE>,
+    home: usize,
+    to: &EntryPtr<K, V, TYPE>,
+)
+    ensures { landings.new ≡ landings_with landings.old from.now home to.now }
+{
+    let pos = from.pos();
+    if pos < landings.len() && from.block() == 0 && to.block() == 0 {
+        let slot = to.pos();
+        landings[pos] = Some(Landing { home, slot });
+    }
+}
+
+/// Lists own slots of an array behind those that their buckets list: those in which the pairs of
+/// the slots of an order landed, in that order.
+fn append_arrivals<K: Eq + Drop, V: Drop, L: LruList, const TYPE: u8>(
+    current: &mut BucketArray<K, V, L, TYPE>,
+    order: &[u8],
+    landings: &[Option<Landing>; BUCKET_LEN],
+)
+    requires once { IsRecencyOrder order.now }
+    requires table { AreListable landings.now current.old }
+    requires cache { 0 < length order.now → TYPE ≡ CACHE }
+    requires keeps { 0 < length order.now → L.KEEPS ≡ true }
+    ensures { ListsArrivals landings.now order.now current.old current.new }
+{
+    current.room();
+    'order: for slot in order {
+        if let Some(landing) = landings[*slot as usize] {
+            let at = EntryPtr::own_slot(landing.slot);
+            let target = current.bucket_mut(landing.home);
+            target.append_lru(&at);
+        }
     }
 }
 

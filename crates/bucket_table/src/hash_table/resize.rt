@@ -6,8 +6,8 @@
 //!
 //! Ports `get_or_create_array`, `reserve_capacity` and `try_resize` of scc's `src/hash_table.rs`.
 ghost use Rattle.std.specs.Borrow.{sem};
-ghost use Rattle.bucket_table.specs.MapState.{KeepsPairs, RaisesMinimum, state_of};
-ghost use Rattle.bucket_table.specs.Resizes.{Reserves, ResizesByPlan};
+ghost use Rattle.bucket_table.specs.MapState.{KeepsPairs, LowersMinimum, RaisesMinimum, state_of};
+ghost use Rattle.bucket_table.specs.Resizes.{Releases, Reserves, ResizesByPlan};
 ghost use Rattle.bucket_table.specs.Units.{KeepsBag};
 
 use crate::hash_table::HashTable;
@@ -82,5 +82,20 @@ impl<K: Eq + Drop, V: Drop, H: KeyHash<K>, L: LruList + Drop, const TYPE: u8> Ha
         ensures bag { KeepsBag self.old.arrays.rehash self.new.arrays.rehash }
     {
         self.arrays.reserve_capacity(additional)
+    }
+
+    /// Lowers the minimum by a number of slots, and resizes as `try_resize` does. Returns by how
+    /// much it was lowered: by nothing, and with no resize, where that exceeds the minimum.
+    ///
+    /// The answer says that the minimum was lowered, not that slots were given back. May take
+    /// memory, and is never refused: want of it leaves the arrays.
+    ///
+    /// O(buckets of the current array and of the one that is made). Own.
+    pub fn release_capacity(&mut self, released: usize) -> usize
+        ensures arrays { Releases released self.old.arrays result self.new.arrays }
+        ensures map { LowersMinimum released (state_of TYPE self.old) result (state_of TYPE self.new) }
+        ensures bag { KeepsBag self.old.arrays.rehash self.new.arrays.rehash }
+    {
+        self.arrays.release_capacity(released)
     }
 }

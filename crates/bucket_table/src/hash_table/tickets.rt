@@ -7,7 +7,11 @@
 //! Ports `start_incremental_rehash`, `relocate_bucket` and `end_incremental_rehash` of scc's
 //! `src/hash_table.rs`.
 ghost use Rattle.std.specs.Prelude.{◌↔◌, ◌<◌, None, IsTrue, OnOk, OnErr, IsOk};
+ghost use Rattle.bucket_slots.specs.ArrayView.{bucket_at};
+ghost use Rattle.bucket_table.specs.ArraysView.{RehashView, old_buckets};
+ghost use Rattle.bucket_table.specs.Carrying.{CarriesPairs};
 ghost use Rattle.bucket_table.specs.Rehashing.{ChangesRehash, EndsRehash, IsEasyMove, IsOldIndex, IsUnmoved, KeepsArrays, RelocatesAt, StartsRehash};
+ghost use Rattle.bucket_table.specs.Relocation.{buckets_of};
 ghost use Rattle.bucket_table.specs.MapState.{KeepsPairs, state_of};
 
 use crate::hash_table::HashTable;
@@ -52,16 +56,25 @@ impl<K: Eq + Drop, V: Drop, H: KeyHash<K>, L: LruList + Drop, const TYPE: u8> Ha
     /// Moves the pairs of an old bucket to their homes in the current array, and kills it. A killed
     /// bucket stays as it is.
     ///
+    /// A cache's recency order goes along: the listed pairs that land in own slots are listed there
+    /// behind their bucket's own, in the order in which they were listed. A pair that lands in a
+    /// chain isn't listed.
+    ///
     /// # Errors
     ///
-    /// Want of memory: each bucket has the live pairs that it had, and the old one isn't killed. A
-    /// current array that isn't shorter rules it out, where the bucket has at most 32 live pairs.
+    /// Want of memory: each bucket has the live pairs and the recency list that it had, and the old
+    /// one isn't killed. A current array that isn't shorter rules it out, where the bucket has at
+    /// most 32 live pairs.
     ///
-    /// O(slots of the bucket and of its targets). scc: `HashTable::relocate_bucket_sync`.
+    /// O(slots of the bucket and of its targets). scc: `HashTable::relocate_bucket_sync`, which
+    /// carries no order; see `docs/DIFFERENCES.md`.
     pub fn relocate_bucket_sync(&mut self, index: usize) -> Result<(), AllocError>
         requires within { IsOldIndex self.old.arrays index }
         ensures map { KeepsPairs (state_of TYPE self.old) (state_of TYPE self.new) }
         ensures done { OnOk result (RelocatesAt index self.old.arrays self.new.arrays) }
+        ensures recency { OnOk result
+            (CarriesPairs K.eq (bucket_at (old_buckets self.old.arrays.rehash) index)
+            (buckets_of self.old.arrays.current) (buckets_of self.new.arrays.current)) }
         ensures refused { OnErr result (IsUnmoved self.old.arrays self.new.arrays) }
         ensures succeeds { IsEasyMove index self.old.arrays → IsOk result }
     {

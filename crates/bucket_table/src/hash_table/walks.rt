@@ -1,19 +1,20 @@
 //! Walks over a table's current buckets.
-ghost use Rattle.std.specs.Prelude.{◌≡◌, ◌≢◌, ◌<◌, ◌≤◌, ◌+◌, ◌⊎◌, ℕ, false, length, OnOk, Some};
+ghost use Rattle.std.specs.Prelude.{◌≡◌, ◌≢◌, ◌<◌, ◌≤◌, ◌+◌, ◌⊎◌, ℕ, false, length, IsOk, None, OnOk};
 ghost use Rattle.std.specs.Int.{IsPowerOfTwo};
 ghost use Rattle.bucket_slots.specs.ArrayRoom.{BucketFits};
 ghost use Rattle.bucket_slots.specs.BucketView.{BucketView};
 ghost use Rattle.bucket_slots.specs.Sizing.{IsLength};
-ghost use Rattle.bucket_table.specs.ArraysView.{AreSourcesKilled, RehashView};
+ghost use Rattle.bucket_table.specs.ArraysView.{AreSourcesKilled};
 ghost use Rattle.bucket_table.specs.Asking.{AsksShrinking, ResizesIf};
 ghost use Rattle.bucket_table.specs.Finding.{KeepsMap};
 ghost use Rattle.bucket_table.specs.Locking.{IsLocked};
 ghost use Rattle.bucket_table.specs.MapState.{KeepsPairs, state_of};
 ghost use Rattle.bucket_table.specs.Rehashing.{KeepsArrays};
 ghost use Rattle.bucket_table.specs.Relocation.{buckets_of};
+ghost use Rattle.bucket_table.specs.Settings.{KeepsSettings};
 ghost use Rattle.bucket_table.specs.Sides.{arrays_with, bucket_on};
-ghost use Rattle.bucket_table.specs.Units.{IsEasyUnit, IsUnitReady, KeepsBag, KeepsKilled};
-ghost use Rattle.bucket_table.specs.Units.{WorksUnit};
+ghost use Rattle.bucket_table.specs.UnitRuns.{WorksUnits};
+ghost use Rattle.bucket_table.specs.Units.{KeepsBag};
 ghost use Rattle.bucket_table.specs.Visits.{reading};
 ghost use Rattle.bucket_table.specs.Walks.{BeginsAt, KeepsBuckets, WalksBy};
 
@@ -41,7 +42,8 @@ impl<K: Eq + Drop, V: Drop, H: KeyHash<K>, L: LruList + Drop, const TYPE: u8> Ha
     ///
     /// # Errors
     ///
-    /// Want of memory: the walk ends there, the earlier visits stand, and nothing is resized.
+    /// Want of memory beside an old array: the walk ends there, the earlier visits stand, and
+    /// nothing is resized.
     ///
     /// O(buckets from `start` on, and pairs that move), and the visitor's calls. scc:
     /// `HashTable::for_each_writer_sync`.
@@ -57,10 +59,8 @@ impl<K: Eq + Drop, V: Drop, H: KeyHash<K>, L: LruList + Drop, const TYPE: u8> Ha
         ensures again { F.may_visit visitor.new }
         ensures walked { WalksBy F.visits (H.hash_of self.old.hasher) expected_len start visitor.old
             self.old.arrays result visitor.new self.new.arrays }
-        ensures hasher { self.new.hasher ≡ self.old.hasher }
-        ensures bag { KeepsBag self.old.arrays.rehash self.new.arrays.rehash }
-        ensures minimum { self.new.arrays.minimum ≡ self.old.arrays.minimum }
-        ensures maximum { self.new.arrays.maximum ≡ self.old.arrays.maximum }
+        ensures settings { KeepsSettings self.old self.new }
+        ensures succeeds { self.old.arrays.rehash ≡ None → IsOk result }
     {
         let mut flag = false;
         let mut more = true;
@@ -87,7 +87,7 @@ impl<K: Eq + Drop, V: Drop, H: KeyHash<K>, L: LruList + Drop, const TYPE: u8> Ha
     ///
     /// # Errors
     ///
-    /// Want of memory: the walk ends there, and the earlier visits stand.
+    /// Want of memory beside an old array: the walk ends there, and the earlier visits stand.
     ///
     /// O(buckets, and pairs that move), and the reader's calls. scc:
     /// `HashTable::for_each_reader_sync`.
@@ -103,6 +103,8 @@ impl<K: Eq + Drop, V: Drop, H: KeyHash<K>, L: LruList + Drop, const TYPE: u8> Ha
         ensures hasher { self.new.hasher ≡ self.old.hasher }
         ensures kept { KeepsArrays self.old.arrays self.new.arrays }
         ensures bag { KeepsBag self.old.arrays.rehash self.new.arrays.rehash }
+        ensures alone { self.old.arrays.rehash ≡ None → self.new ≡ self.old }
+        ensures succeeds { self.old.arrays.rehash ≡ None → IsOk result }
     {
         let mut more = true;
         let mut index = 0;
@@ -140,13 +142,10 @@ impl<K: Eq + Drop, V: Drop, H: KeyHash<K>, L: LruList + Drop, const TYPE: u8> Ha
         ensures hasher { self.new.hasher ≡ self.old.hasher }
         ensures kept { KeepsArrays self.old.arrays self.new.arrays }
         ensures bag { KeepsBag self.old.arrays.rehash self.new.arrays.rehash }
-        ensures still { KeepsKilled self.old.arrays.rehash self.new.arrays.rehash }
         ensures ready { OnOk result (AreSourcesKilled self.new.arrays index) }
-        ensures unit { (was : RehashView K V)
-            → (self.old.arrays.rehash ≡ Some was)
-            → IsUnitReady was
-            → IsEasyUnit was.tickets.position self.old.arrays was
-            → WorksUnit was self.new.arrays.rehash }
+        ensures units { WorksUnits 1 self.old.arrays self.new.arrays.rehash }
+        ensures alone { self.old.arrays.rehash ≡ None → self.new.arrays ≡ self.old.arrays }
+        ensures succeeds { self.old.arrays.rehash ≡ None → IsOk result }
     {
         self.arrays.prepare_at(&self.hasher, index)
     }

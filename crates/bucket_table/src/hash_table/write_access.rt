@@ -6,22 +6,19 @@
 //!
 //! Ports `writer_sync`, `try_reserve_bucket`, `optional_writer_sync` and `try_optional_writer` of
 //! scc's `src/hash_table.rs`.
-ghost use Rattle.std.specs.Prelude.{◌≡◌, [], false, None, Ok, Err, Some, IfOk, IsSome, IfSome, IfNone, IsOk, length};
+ghost use Rattle.std.specs.Prelude.{◌≡◌, [], false, None, Ok, Err, IfOk, IfSome, IfNone, IsOk, IsSome, OnErr, length};
 ghost use Rattle.std.specs.Borrow.{RestsIfErr, RestsIfNone, sem};
 ghost use Rattle.bucket_slots.specs.Homes.{IsHome};
 ghost use Rattle.bucket_table.specs.ArraysView.{pairs_of};
-ghost use Rattle.bucket_table.specs.Finding.{FindsAlone, GrowsFirst};
+ghost use Rattle.bucket_table.specs.Finding.{FindsBucket};
 ghost use Rattle.bucket_table.specs.Free.{HasNoFreeHome, IsFreeHome};
-ghost use Rattle.bucket_table.specs.Refusing.{IsGivenFor, IsMissing, IsRefused};
+ghost use Rattle.bucket_table.specs.Refusing.{IsGivenFor, IsRefused};
 ghost use Rattle.bucket_table.specs.TableRow.{table_row};
 ghost use Rattle.bucket_table.specs.Locking.{IsLocked};
 ghost use Rattle.bucket_table.specs.Optional.{IfHeld, IsHeldFor};
-ghost use Rattle.bucket_table.specs.Preparing.{AnswersFor, IsReady, Prepares};
-ghost use Rattle.bucket_table.specs.Rehashing.{KeepsArrays};
+ghost use Rattle.bucket_table.specs.Preparing.{AnswersFor, IsPrepared, IsReady, Prepares};
 ghost use Rattle.bucket_table.specs.Relocation.{buckets_of};
-ghost use Rattle.bucket_table.specs.MapState.{KeepsPairs, state_of};
 ghost use Rattle.bucket_table.specs.Sides.{buckets_on};
-ghost use Rattle.bucket_table.specs.Units.{KeepsBag, WorksOneUnit};
 
 use crate::hash_table::{HashTable, LockedBucket, Missing};
 use crate::key_hash::KeyHash;
@@ -45,12 +42,8 @@ impl<K: Eq + Drop, V: Drop, H: KeyHash<K>, L: LruList + Drop, const TYPE: u8> Ha
     /// O(slots of a unit, of the sources and of their targets). scc:
     /// `HashTable::dedup_bucket_sync`, `incremental_rehash_sync`.
     pub fn prepare(&mut self, hash: u64) -> Result<bool, AllocError>
-        ensures map { KeepsPairs (state_of TYPE self.old) (state_of TYPE self.new) }
-        ensures kept { KeepsArrays self.old.arrays self.new.arrays }
-        ensures bag { KeepsBag self.old.arrays.rehash self.new.arrays.rehash }
+        ensures prepared { IsPrepared TYPE self.old self.new }
         ensures ready { Prepares self.new.arrays hash result }
-        ensures unit { WorksOneUnit self.old.arrays self.new.arrays.rehash }
-        ensures alone { self.old.arrays.rehash ≡ None → self.new ≡ self.old }
         ensures succeeds { self.old.arrays.rehash ≡ None → IsOk result }
         ensures answer { AnswersFor result self.old.arrays }
         ensures empty { result ≡ Ok false → pairs_of self.new.arrays ≡ [] }
@@ -74,13 +67,10 @@ impl<K: Eq + Drop, V: Drop, H: KeyHash<K>, L: LruList + Drop, const TYPE: u8> Ha
     ///
     /// O(slots of a unit, of the sources and of their targets; buckets that a resize makes). Own.
     pub fn find(&mut self, hash: u64) -> Result<(bool, usize), AllocError>
-        ensures map { KeepsPairs (state_of TYPE self.old) (state_of TYPE self.new) }
-        ensures bag { KeepsBag self.old.arrays.rehash self.new.arrays.rehash }
+        ensures found { IfOk result (λ found.
+            FindsBucket TYPE hash self.old found.0 found.1 self.new) }
         ensures locked { IfOk result (λ found. IsLocked self.new.arrays found.0 found.1) }
-        ensures home { IfOk result (λ found.
-            IsHome (length (buckets_on self.new.arrays found.0)) hash found.1) }
-        ensures alone { self.old.arrays.rehash ≡ None
-            → FindsAlone TYPE hash self.old.arrays result self.new.arrays }
+        ensures refused { OnErr result (IsRefused TYPE self.old self.new) }
     {
         self.arrays.find(&self.hasher, hash)
     }
@@ -140,14 +130,8 @@ impl<K: Eq + Drop, V: Drop, H: KeyHash<K>, L: LruList + Drop, const TYPE: u8> Ha
             self.entry (λ locked. locked.table.ghost_name) result (IsRefused TYPE self.old)) }
         ensures same_table { IfOk result (λ locked. locked.table.ghost_name
             ≡ self.entry.ghost_name) }
-        ensures map { IfOk result (λ locked. KeepsPairs (state_of TYPE self.old)
-            (state_of TYPE locked.table.now)) }
-        ensures bag { IfOk result (λ locked.
-            KeepsBag self.old.arrays.rehash locked.table.now.arrays.rehash) }
-        ensures home { IfOk result (λ locked.
-            IsHome (length (buckets_on locked.table.now.arrays locked.is_old)) hash locked.index) }
-        ensures alone { self.old.arrays.rehash ≡ None → IfOk result (λ locked.
-            GrowsFirst TYPE hash self.old.arrays locked.is_old locked.index locked.table.now.arrays) }
+        ensures found { IfOk result (λ locked.
+            FindsBucket TYPE hash self.old locked.is_old locked.index locked.table.now) }
         ensures succeeds { self.old.arrays.rehash ≡ None → IsSome self.old.arrays.current
             → IsOk result }
     {
@@ -175,14 +159,8 @@ impl<K: Eq + Drop, V: Drop, H: KeyHash<K>, L: LruList + Drop, const TYPE: u8> Ha
             self.entry (λ locked. locked.table.ghost_name) result (IsRefused TYPE self.old)) }
         ensures same_table { IfOk result (λ locked. locked.table.ghost_name
             ≡ self.entry.ghost_name) }
-        ensures map { IfOk result (λ locked. KeepsPairs (state_of TYPE self.old)
-            (state_of TYPE locked.table.now)) }
-        ensures bag { IfOk result (λ locked.
-            KeepsBag self.old.arrays.rehash locked.table.now.arrays.rehash) }
-        ensures home { IfOk result (λ locked.
-            IsHome (length (buckets_on locked.table.now.arrays locked.is_old)) hash locked.index) }
-        ensures alone { self.old.arrays.rehash ≡ None → IfOk result (λ locked.
-            GrowsFirst TYPE hash self.old.arrays locked.is_old locked.index locked.table.now.arrays) }
+        ensures found { IfOk result (λ locked.
+            FindsBucket TYPE hash self.old locked.is_old locked.index locked.table.now) }
         ensures succeeds { self.old.arrays.rehash ≡ None → IsSome self.old.arrays.current
             → IsOk result }
     {
@@ -206,20 +184,11 @@ impl<K: Eq + Drop, V: Drop, H: KeyHash<K>, L: LruList + Drop, const TYPE: u8> Ha
     ) -> Result<Option<LockedBucket<'_, K, V, H, L, TYPE>>, AllocError>
         ensures same_table { IfHeld result (λ locked. locked.table.ghost_name
             ≡ self.entry.ghost_name) }
-        ensures kept { IfHeld result (λ locked.
-            KeepsArrays self.old.arrays locked.table.now.arrays) }
-        ensures map { IfHeld result (λ locked. KeepsPairs (state_of TYPE self.old)
-            (state_of TYPE locked.table.now)) }
-        ensures bag { IfHeld result (λ locked.
-            KeepsBag self.old.arrays.rehash locked.table.now.arrays.rehash) }
+        ensures prepared { IfHeld result (λ locked. IsPrepared TYPE self.old locked.table.now) }
         ensures side { IfHeld result (λ locked. locked.is_old ≡ false) }
         ensures home { IfHeld result (λ locked.
             IsHome (length (buckets_of locked.table.now.arrays.current)) hash locked.index) }
-        ensures unit { IfHeld result (λ locked.
-            WorksOneUnit self.old.arrays locked.table.now.arrays.rehash) }
         ensures answer { IsHeldFor result self.old.arrays }
-        ensures alone { self.old.arrays.rehash ≡ None → IfHeld result (λ locked. locked.table.now
-            ≡ self.old) }
         ensures succeeds { self.old.arrays.rehash ≡ None → IsOk result }
     {
         match self.prepare(hash) {
@@ -245,22 +214,15 @@ impl<K: Eq + Drop, V: Drop, H: KeyHash<K>, L: LruList + Drop, const TYPE: u8> Ha
         ensures* rests { sem 𝓛 (RestsIfErr
             (table_row K.row V.row H.row L.row TYPE.row K.PartialEq H.KeyHash
             (record { KEEPS = L.KEEPS; listed = L.listed; IsTail = L.IsTail }) L.Default)
-            self.entry (λ locked. locked.table.ghost_name) result (IsMissing TYPE self.old)) }
+            self.entry (λ locked. locked.table.ghost_name) result (IsPrepared TYPE self.old)) }
         ensures same_table { IfOk result (λ locked. locked.table.ghost_name
             ≡ self.entry.ghost_name) }
-        ensures map { IfOk result (λ locked. KeepsPairs (state_of TYPE self.old)
-            (state_of TYPE locked.table.now)) }
-        ensures bag { IfOk result (λ locked.
-            KeepsBag self.old.arrays.rehash locked.table.now.arrays.rehash) }
+        ensures prepared { IfOk result (λ locked. IsPrepared TYPE self.old locked.table.now) }
         ensures side { IfOk result (λ locked. locked.is_old ≡ false) }
-        ensures unit { IfOk result (λ locked.
-            WorksOneUnit self.old.arrays locked.table.now.arrays.rehash) }
         ensures answer { IsGivenFor result self.old.arrays }
         ensures home { IfOk result (λ locked.
             IsHome (length (buckets_on locked.table.now.arrays locked.is_old)) hash locked.index) }
         ensures empty { result ≡ Err Missing.Array → pairs_of self.old.arrays ≡ [] }
-        ensures alone { self.old.arrays.rehash ≡ None → IfOk result (λ locked. locked.table.now
-            ≡ self.old) }
     {
         match self.prepare(hash) {
             Ok(true) => Ok(self.lock_home(hash)),

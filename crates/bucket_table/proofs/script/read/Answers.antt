@@ -11,21 +11,21 @@ pub returns-in-Some-clause-step : goal.returns-in-Some-clause-step
 returns-in-Some-clause-step g c =
     let found = c.in-Some.ensures.found in
     let answer : c.in-Some.value ≡ found.1.now = search (rules, found.3) in
-    let there = there_before g.K.PartialEq.eq c.args.key (state_of g.row.TYPE c.args.table.now) (state_of g.row.TYPE c.reader_sync.new.self) (found.0.now, found.1.now) c.reader_sync.ensures.map found.2 in (
+    let there = there_before g.K.PartialEq.eq c.args.key (state_of g.row.TYPE c.args.table.now) (state_of g.row.TYPE c.reader_sync.new.self) (found.0.now, found.1.now) c.reader_sync.ensures.prepared.map found.2 in (
       (
         found.0.now,
         subst (λ (v : g.row.V.Denot). IsThere g.K.PartialEq.eq c.args.key
             (pairs_of c.args.table.now.arrays) (found.0.now, v)) (sym answer) there,
       ),
-      c.reader_sync.ensures.map,
+      c.reader_sync.ensures.prepared.map,
     )
 
 pub returns-in-Some-clause-tickets : goal.returns-in-Some-clause-tickets
-returns-in-Some-clause-tickets g c = tickets_kept c.args.table.now.arrays c.reader_sync.new.self.arrays c.reader_sync.ensures.bag
+returns-in-Some-clause-tickets g c = tickets_kept c.args.table.now.arrays c.reader_sync.new.self.arrays c.reader_sync.ensures.prepared.bag
 
 pub returns-in-None-clause-step : goal.returns-in-None-clause-step
 returns-in-None-clause-step g c =
-    (absent_before g.K.PartialEq.eq c.args.key (state_of g.row.TYPE c.args.table.now) (state_of g.row.TYPE c.reader_sync.new.self) c.reader_sync.ensures.map c.in-None.ensures.absent, c.reader_sync.ensures.map)
+    (absent_before g.K.PartialEq.eq c.args.key (state_of g.row.TYPE c.args.table.now) (state_of g.row.TYPE c.reader_sync.new.self) c.reader_sync.ensures.prepared.map c.in-None.ensures.absent, c.reader_sync.ensures.prepared.map)
 
 pub returns-in-None-clause-tickets : goal.returns-in-None-clause-tickets
-returns-in-None-clause-tickets g c = tickets_kept c.args.table.now.arrays c.reader_sync.new.self.arrays c.reader_sync.ensures.bag
+returns-in-None-clause-tickets g c = tickets_kept c.args.table.now.arrays c.reader_sync.new.self.arrays c.reader_sync.ensures.prepared.bag

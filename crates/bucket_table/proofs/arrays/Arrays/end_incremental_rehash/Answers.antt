@@ -4,6 +4,16 @@ use Rattle.bucket_table.specs.Steps.{Ends}
 use Rattle.bucket_table.proofs.Ending.{ends_by, goes, goes_pairs, refused, stays, with_rehash}
 use Rattle.bucket_table.proofs.arrays.Arrays.end_incremental_rehash.Goals as goal
 
+pub invariant_of-self-then-end : goal.invariant_of-self-then-end
+invariant_of-self-then-end g c =
+    let kept = c.self.invariant in
+    record {
+      maximum_power = kept.maximum_power;
+      bounded = kept.bounded;
+      within = kept.within;
+      beside = rw c.take.ensures.after (λ none. absurd cc);
+    }
+
 pub invariant_of-self-in-Ok-false : goal.invariant_of-self-in-Ok-false
 invariant_of-self-in-Ok-false g c =
     let stood = sym c.take.ensures.value ∙ c.in-Some.is in

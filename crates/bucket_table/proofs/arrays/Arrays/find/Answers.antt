@@ -1,4 +1,5 @@
 use Rattle.std.proofs.Common.{◌∙◌}
+use Rattle.bucket_table.specs.Finding.{FindsReady}
 use Rattle.bucket_table.proofs.ResizeSteps.{locked_grown}
 use Rattle.bucket_table.proofs.WriterSteps.{bag_through, home_through, kept_through, locked_ready}
 use Rattle.bucket_table.proofs.arrays.Arrays.find.Goals as goal
@@ -23,3 +24,10 @@ returns-clause-locked g c =
 pub returns-clause-home : goal.returns-clause-home
 returns-clause-home g c =
     home_through c.grow_at-is_old.result c.args.hash c.home-index.result c.make_ready.new.self c.grow_at-is_old.new.self c.grow_at-is_old.ensures.grown c.home-index.ensures
+
+pub returns-clause-finds : goal.returns-clause-finds
+unfolding FindsReady
+returns-clause-finds g c =
+    let e = c.make_ready.ensures in
+    let killed = c.in-Ok.ensures.ready.killed c.home-index.result c.home-index.ensures in
+    (c.make_ready.new.self, record { first = c.in-Ok.ensures.made; beside = e.beside; unit = e.unit; killed = killed }, c.grow_at-is_old.ensures.asked, c.grow_at-is_old.ensures.grown)

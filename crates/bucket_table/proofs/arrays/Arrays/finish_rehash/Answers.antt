@@ -1,10 +1,10 @@
-use Rattle.std.proofs.Common.{arith}
+use Rattle.std.proofs.Common.{◌∙◌, ◌≡◌, Ok, ap, arith, refl}
 use Rattle.bucket_table.proofs.FinishingUnits.{all_done, few_left, none_left, one_more}
 use Rattle.bucket_table.proofs.UnitSteps.{kept_both, kept_none}
 use Rattle.bucket_table.proofs.arrays.Arrays.finish_rehash.Goals as goal
 
 pub loop-count-init : goal.loop-count-init
-loop-count-init g c = (c.requires.placed, kept_none c.args.self.now, c.requires.none_open, omega arith)
+loop-count-init g c = (c.requires.placed, kept_none c.args.self.now, c.requires.none_open, omega arith, λ none. refl)
 
 pub returns-in_err-finish_unit-clause-kept : goal.returns-in_err-finish_unit-clause-kept
 returns-in_err-finish_unit-clause-kept g c = kept_both c.args.self.now c.loop-count.self c.finish_unit.new.self c.loop-count.invariant.1 c.finish_unit.ensures.kept
@@ -17,8 +17,13 @@ loop-count-smaller g c =
 pub loop-count-preserved : goal.loop-count-preserved
 loop-count-preserved g c =
     let fewer = one_more c.loop-count.self.rehash c.finish_unit.new.self.rehash c.in_ok-finish_unit.field-0 c.in_ok-finish_unit.ensures.unit c.if-branch.true in
-    let so_far = c.loop-count.invariant.3 in
-    (c.finish_unit.ensures.placed, kept_both c.args.self.now c.loop-count.self c.finish_unit.new.self c.loop-count.invariant.1 c.finish_unit.ensures.kept, c.finish_unit.ensures.none_open, omega (arith, fewer, so_far))
+    let so_far = c.loop-count.invariant.3 in (
+      c.finish_unit.ensures.placed,
+      kept_both c.args.self.now c.loop-count.self c.finish_unit.new.self c.loop-count.invariant.1 c.finish_unit.ensures.kept,
+      c.finish_unit.ensures.none_open,
+      omega (arith, fewer, so_far),
+      λ none. absurd (omega (arith, fewer, none_left c.loop-count.self.rehash (ap (λ a. a.rehash) (c.loop-count.invariant.4 none) ∙ none))),
+    )
 
 pub overflow_add-count : goal.overflow_add-count
 overflow_add-count g c =
@@ -39,3 +44,16 @@ returns-clause-counted g c =
     let so_far = c.loop-count.invariant.3 in
     let none = none_left c.loop-count.self.rehash done.0 in
     omega (arith, so_far, none)
+
+pub returns-in_err-finish_unit-clause-alone : goal.returns-in_err-finish_unit-clause-alone
+returns-in_err-finish_unit-clause-alone g c = λ none.
+    let no = (c.in_err-finish_unit.ensures.alone (ap (λ a. a.rehash) (c.loop-count.invariant.4 none) ∙ none)).0 in
+    absurd cc
+
+pub returns-clause-alone : goal.returns-clause-alone
+returns-clause-alone g c = λ none.
+    let so_far = c.loop-count.invariant.3 in
+    let at_first = none_left c.args.self.now.rehash none in
+    let here = ap (λ a. a.rehash) (c.loop-count.invariant.4 none) ∙ none in
+    let nothing : c.loop-count.count ≡ 0 = omega (arith, so_far, at_first) in
+    (ap (λ n. Ok n) nothing, (c.finish_unit.ensures.alone here).1 ∙ c.loop-count.invariant.4 none)

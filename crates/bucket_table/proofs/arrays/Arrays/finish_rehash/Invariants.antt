@@ -1,4 +1,4 @@
-use Rattle.std.proofs.Common.{◌+◌, ◌≡◌}
+use Rattle.std.proofs.Common.{◌+◌, ◌≡◌, None}
 use Rattle.bucket_table.specs.ArraysView.{ArePlaced}
 use Rattle.bucket_table.specs.Finishing.{IsUnopened, units_left}
 use Rattle.bucket_table.specs.Rehashing.{KeepsArrays}
@@ -11,6 +11,7 @@ invariant-loop-count g l =
     × KeepsArrays l.fn.self l.self
     × IsUnopened l.self.rehash
     × (l.count + units_left l.self.rehash ≡ units_left l.fn.self.rehash)
+    × (l.fn.self.rehash ≡ None → l.self ≡ l.fn.self)
 
 abbrev pub decreases-loop-count : goal.decreases-loop-count
 decreases-loop-count g l = units_left l.self.rehash

@@ -1,4 +1,6 @@
-use Rattle.std.proofs.Common.{Some, refl, rules}
+use Rattle.std.proofs.Common.{Some, refl, rules, sym}
+use Rattle.std.proofs.lemmas.Option.{none-some}
+use Rattle.bucket_table.proofs.CountSteps.{none_started}
 use Rattle.bucket_table.proofs.FinishingUnits.{finishes, unit_finished}
 use Rattle.bucket_table.proofs.Placing.{placed_end, placed_start}
 use Rattle.bucket_table.proofs.UnitWork.{handed}
@@ -37,3 +39,11 @@ pub relocate_unit-success-requires : goal.relocate_unit-success-requires
 relocate_unit-success-requires g c =
     let h = handed _ _ c.in-Some.ticket c.requires.placed.rehashed c.in-Some.ensures.rehash in
     (search rules, ((h.started, h.middle_is, h.within), placed_start (g.H.KeyHash.hash_of c.args.hasher.now) c.args.self.now c.start_incremental_rehash.new.self (Some c.in-Some.ticket) c.requires.placed c.in-Some.ensures.rehash c.in-Some.ensures.others))
+
+pub returns-then-success-clause-alone : goal.returns-then-success-clause-alone
+returns-then-success-clause-alone g c = λ alone.
+    absurd (none-some c.in-Some.ticket (sym (none_started c.args.self.now c.start_incremental_rehash.new.self (Some c.in-Some.ticket) c.in-Some.ensures.rehash c.in-Some.ensures.others alone).0))
+
+pub returns-else-success-clause-alone : goal.returns-else-success-clause-alone
+returns-else-success-clause-alone g c = λ alone.
+    absurd (none-some c.in-Some.ticket (sym (none_started c.args.self.now c.start_incremental_rehash.new.self (Some c.in-Some.ticket) c.in-Some.ensures.rehash c.in-Some.ensures.others alone).0))

@@ -1,15 +1,16 @@
-use Rattle.std.proofs.Common.{rules, arith, subst, ◌<◌}
+use Rattle.std.proofs.Common.{◌∙◌, rules, arith, subst, ◌<◌}
 use Rattle.bucket_slots.specs.Sizing.{IsLength}
-use Rattle.bucket_table.proofs.CursorSteps.{ends, passes_at, still_within, stops_at}
+use Rattle.bucket_table.proofs.CursorSteps.{ends, passes_at, sets_out, still_within, stops_at}
+use Rattle.bucket_table.proofs.PassingUnits.{begins_wide, passes_all, passes_found, passes_refused, worked_more, worked_none}
 use Rattle.bucket_table.proofs.Preparing.{bag_both, len_kept}
 use Rattle.bucket_table.proofs.UnitSteps.{kept_both}
 use Rattle.bucket_table.proofs.arrays.Arrays.first_from.Goals as goal
 
 pub returns-in_default-clause-kept : goal.returns-in_default-clause-kept
-returns-in_default-clause-kept g c = kept_both c.args.self.now c.loop-index.self c.prepare_at.new.self c.loop-index.invariant.kept c.prepare_at.ensures.kept
+returns-in_default-clause-kept g c = kept_both c.args.self.now c.loop-index.self c.prepare_at.new.self c.loop-index.invariant.0.kept c.prepare_at.ensures.kept
 
 pub returns-in_default-clause-bag : goal.returns-in_default-clause-bag
-returns-in_default-clause-bag g c = bag_both c.args.self.now.rehash c.loop-index.self.rehash c.prepare_at.new.self.rehash c.loop-index.invariant.bag c.prepare_at.ensures.bag
+returns-in_default-clause-bag g c = bag_both c.args.self.now.rehash c.loop-index.self.rehash c.prepare_at.new.self.rehash c.loop-index.invariant.0.bag c.prepare_at.ensures.bag
 
 pub bucket_of-requires : goal.bucket_of-requires
 bucket_of-requires g c =
@@ -17,33 +18,55 @@ bucket_of-requires g c =
     (search rules, (search rules, within))
 
 pub returns-then-find_next-clause-kept : goal.returns-then-find_next-clause-kept
-returns-then-find_next-clause-kept g c = kept_both c.args.self.now c.loop-index.self c.prepare_at.new.self c.loop-index.invariant.kept c.prepare_at.ensures.kept
+returns-then-find_next-clause-kept g c = kept_both c.args.self.now c.loop-index.self c.prepare_at.new.self c.loop-index.invariant.0.kept c.prepare_at.ensures.kept
 
 pub returns-then-find_next-clause-bag : goal.returns-then-find_next-clause-bag
-returns-then-find_next-clause-bag g c = bag_both c.args.self.now.rehash c.loop-index.self.rehash c.prepare_at.new.self.rehash c.loop-index.invariant.bag c.prepare_at.ensures.bag
+returns-then-find_next-clause-bag g c = bag_both c.args.self.now.rehash c.loop-index.self.rehash c.prepare_at.new.self.rehash c.loop-index.invariant.0.bag c.prepare_at.ensures.bag
 
 pub returns-then-find_next-clause-found : goal.returns-then-find_next-clause-found
 returns-then-find_next-clause-found g c =
     stops_at (g.H.KeyHash.hash_of c.args.hasher.now) c.args.self.now c.loop-index.self c.prepare_at.new.self c.args.start c.loop-index.index c.len.result c.loop-index.at c.find_next.new.self c.bucket_of.result.now
-    c.loop-index.invariant c.prepare_at.ensures.placed c.prepare_at.ensures.kept c.prepare_at.ensures.bag c.len.ensures.value (search rules) c.len.ensures.power c.in-Ok.ensures.ready c.bucket_of.ensures (c.find_next.ensures.ahead c.if-find_next.true)
+    c.loop-index.invariant.0 c.prepare_at.ensures.placed c.prepare_at.ensures.kept c.prepare_at.ensures.bag c.len.ensures.value (search rules) c.len.ensures.power c.in-Ok.ensures.ready c.bucket_of.ensures (c.find_next.ensures.ahead c.if-find_next.true)
 
 pub loop-index-smaller : goal.loop-index-smaller
 loop-index-smaller g c =
-    let same = len_kept c.loop-index.self.current c.args.self.now.current c.loop-index.invariant.kept.current_len in
+    let same = len_kept c.loop-index.self.current c.args.self.now.current c.loop-index.invariant.0.kept.current_len in
     let within : c.loop-index.index < c.len.result = search rules in
     omega (arith, within, c.len.ensures.value, same)
 
 pub loop-index-preserved : goal.loop-index-preserved
-loop-index-preserved g c =
-    passes_at (g.H.KeyHash.hash_of c.args.hasher.now) c.args.self.now c.loop-index.self c.prepare_at.new.self c.args.start c.loop-index.index c.len.result c.loop-index.at c.find_next.new.self c.bucket_of.result.now
-    c.loop-index.invariant c.prepare_at.ensures.placed c.prepare_at.ensures.kept c.prepare_at.ensures.bag c.len.ensures.value (search rules) c.in-Ok.ensures.ready c.bucket_of.ensures (c.find_next.ensures.end c.if-find_next.false)
+loop-index-preserved g c = (
+  passes_at (g.H.KeyHash.hash_of c.args.hasher.now) c.args.self.now c.loop-index.self c.prepare_at.new.self c.args.start c.loop-index.index c.len.result c.loop-index.at c.find_next.new.self c.bucket_of.result.now
+      c.loop-index.invariant.0 c.prepare_at.ensures.placed c.prepare_at.ensures.kept c.prepare_at.ensures.bag c.len.ensures.value (search rules) c.in-Ok.ensures.ready c.bucket_of.ensures (c.find_next.ensures.end c.if-find_next.false),
+  worked_more c.args.self.now c.loop-index.self c.prepare_at.new.self c.args.start c.loop-index.index c.loop-index.invariant.1 c.prepare_at.ensures.kept c.prepare_at.ensures.units c.prepare_at.ensures.alone c.len.result c.len.ensures.value (search rules) c.in-Ok.ensures.ready,
+)
+
+pub loop-index-init : goal.loop-index-init
+loop-index-init g c = (
+  sets_out (g.H.KeyHash.hash_of c.args.hasher.now) c.args.self.now c.args.start c.null.result c.requires.placed c.null.ensures,
+  worked_none c.args.self.now c.args.start,
+)
+
+pub returns-in_default-clause-passes : goal.returns-in_default-clause-passes
+returns-in_default-clause-passes g c = λ bound begins.
+    passes_refused c.args.self.now c.loop-index.self c.prepare_at.new.self c.args.start c.loop-index.index c.loop-index.invariant.1 c.prepare_at.ensures.kept c.prepare_at.ensures.units c.prepare_at.ensures.alone _ c.len.result bound c.len.ensures.value (search rules) (λ none. absurd (search rules)) (begins_wide c.args.self.now c.len.result c.args.start bound (c.len.ensures.value ∙ c.loop-index.invariant.1.len) c.len.ensures.power begins)
+
+pub returns-then-find_next-clause-passes : goal.returns-then-find_next-clause-passes
+returns-then-find_next-clause-passes g c = λ bound begins.
+    passes_found c.args.self.now c.prepare_at.new.self c.args.start c.loop-index.index bound
+    (worked_more c.args.self.now c.loop-index.self c.prepare_at.new.self c.args.start c.loop-index.index c.loop-index.invariant.1 c.prepare_at.ensures.kept c.prepare_at.ensures.units c.prepare_at.ensures.alone c.len.result c.len.ensures.value (search rules) c.in-Ok.ensures.ready)
+    c.loop-index.invariant.0.order (begins_wide c.args.self.now c.len.result c.args.start bound (c.len.ensures.value ∙ c.loop-index.invariant.1.len) c.len.ensures.power begins)
+
+pub returns-clause-passes : goal.returns-clause-passes
+returns-clause-passes g c = λ bound begins.
+    passes_all c.args.self.now c.loop-index.self c.args.start c.loop-index.index bound c.loop-index.invariant.1 (omega (arith, c.loop-index-test.false, c.len.ensures.value)) (begins_wide c.args.self.now c.len.result c.args.start bound (c.len.ensures.value ∙ c.loop-index.invariant.1.len) c.len.ensures.power begins)
 
 pub returns-clause-found : goal.returns-clause-found
 returns-clause-found g c = (
-  ends (g.H.KeyHash.hash_of c.args.hasher.now) c.args.self.now c.loop-index.self c.args.start c.loop-index.index c.loop-index.at c.loop-index.invariant (g.met.H.KeyHash.fits c.args.hasher.now) c.sound.ensures
+  ends (g.H.KeyHash.hash_of c.args.hasher.now) c.args.self.now c.loop-index.self c.args.start c.loop-index.index c.loop-index.at c.loop-index.invariant.0 (g.met.H.KeyHash.fits c.args.hasher.now) c.sound.ensures
       (λ e. c.len.ensures.none (omega (arith, e, c.len.ensures.value)))
       (λ some. subst IsLength c.len.ensures.value (c.len.ensures.power
       (omega (arith, some, c.len.ensures.value)))) (omega
       (arith, c.loop-index-test.false, c.len.ensures.value)),
-  c.loop-index.invariant.null,
+  c.loop-index.invariant.0.null,
 )

@@ -1,9 +1,11 @@
-use Rattle.std.proofs.Common.{ℕ, ◌+◌, ◌^◌, ◌≤◌, ◌<◌, arith, length, subst, sym}
+use Rattle.std.proofs.Common.{ℕ, ◌+◌, ◌^◌, ◌≡◌, ◌≤◌, ◌<◌, arith, length, subst, sym}
+use Rattle.bucket_slots.specs.Sizing.{IsLength}
 use Rattle.bucket_table.specs.ArraysView.{pairs_of}
 use Rattle.bucket_table.specs.Cursors.{HasNoneFrom, bound_of}
 use Rattle.bucket_table.specs.Relocation.{buckets_of}
 use Rattle.bucket_table.proofs.Bounds.{all_hashes}
 use Rattle.bucket_table.proofs.CursorSteps.{goes_later, no_map, none_past, reaches_on}
+use Rattle.bucket_table.proofs.PassingUnits.{passes_nowhere, passes_past}
 use Rattle.bucket_table.proofs.arrays.Arrays.leave.Goals as goal
 
 pub returns-then-now-eq0-clause-found : goal.returns-then-now-eq0-clause-found
@@ -30,3 +32,20 @@ returns-clause-reaches g c =
     let past = subst (λ (n : ℕ). bound_of c.args.len (c.args.index + 1) < bound_of n
     (c.scaled.result + 1)) c.len-now.ensures.value c.scaled.ensures.reaches in
     reaches_on c.first_from.result c.args.len (c.args.index + 1) c.scaled.result c.args.self.now c.first_from.new.self past c.first_from.ensures.kept c.first_from.ensures.order
+
+pub returns-then-now-eq0-clause-passes : goal.returns-then-now-eq0-clause-passes
+returns-then-now-eq0-clause-passes g c = passes_nowhere c.args.self.now _ (omega (arith, c.len-now.ensures.value, c.if-now-eq0.true))
+
+pub returns-then-index-len-clause-passes : goal.returns-then-index-len-clause-passes
+returns-then-index-len-clause-passes g c =
+    let top : bound_of c.args.len (c.args.index + 1) ≡ 2 ^ 64 = subst
+    (λ (n : ℕ). bound_of c.args.len n ≡ 2 ^ 64) (sym c.if-index-len.true) (all_hashes c.args.len c.requires.length) in
+    passes_past c.args.self.now _ top (λ some. subst IsLength c.len-now.ensures.value (c.len-now.ensures.power (omega (arith, some, c.len-now.ensures.value))))
+
+pub returns-clause-passes : goal.returns-clause-passes
+returns-clause-passes g c =
+    let early = subst (λ (n : ℕ). bound_of n c.scaled.result ≤ bound_of c.args.len
+    (c.args.index + 1)) c.len-now.ensures.value c.scaled.ensures.early in
+    let past = subst (λ (n : ℕ). bound_of c.args.len (c.args.index + 1) < bound_of n
+    (c.scaled.result + 1)) c.len-now.ensures.value c.scaled.ensures.reaches in
+    c.first_from.ensures.passes (bound_of c.args.len (c.args.index + 1)) (λ some. (early, past))

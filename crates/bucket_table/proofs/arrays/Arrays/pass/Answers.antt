@@ -1,4 +1,5 @@
-use Rattle.std.proofs.Common.{arith, rules, subst, sym, ◌<◌, ℕ}
+use Rattle.std.proofs.Common.{◌+◌, ◌<◌, ℕ, arith, rules, subst, sym}
+use Rattle.bucket_table.specs.Cursors.{Passes, bound_of}
 use Rattle.bucket_table.proofs.WriterSteps.{kept_maps, kept_prepared}
 use Rattle.bucket_table.proofs.Preparing.{bag_both}
 use Rattle.bucket_table.proofs.arrays.Arrays.pass.Goals as goal
@@ -16,4 +17,4 @@ leave-requires g c =
     (search rules, (search rules, (c.len_on-len.ensures.power (omega (arith, within)), (within, c.shrink_emptied.ensures.placed (g.H.KeyHash.hash_of c.args.hasher.now) c.requires.placed))))
 
 pub returns-clause-departs : goal.returns-clause-departs
-returns-clause-departs g c = record { between = c.shrink_emptied.new.self; asked = c.shrink_emptied.ensures.asked; kept = c.leave.ensures.kept }
+returns-clause-departs g c = record { between = c.shrink_emptied.new.self; asked = c.shrink_emptied.ensures.asked; passes = subst (λ (n : ℕ). Passes (λ (i : ℕ). i) (bound_of n (c.args.index + 1)) c.shrink_emptied.new.self c.leave.result c.leave.new.self) c.len_on-len.ensures.value c.leave.ensures.passes; kept = c.leave.ensures.kept }

@@ -1,8 +1,8 @@
 use Rattle.std.proofs.Common.{Bool, subst}
 use Rattle.bucket_table.specs.Units.{WorksRange}
 use Rattle.bucket_table.proofs.CursorSteps.{sources_worked}
-use Rattle.bucket_table.proofs.Preparing.{kept_worked, rehash_worked, unit_still}
-use Rattle.bucket_table.proofs.StayingKilled.{killed_both, killed_range}
+use Rattle.bucket_table.proofs.Preparing.{kept_worked, len_kept}
+use Rattle.bucket_table.proofs.UnitRuns.{dedup_runs, units_both}
 use Rattle.bucket_table.proofs.UnitSteps.{kept_both}
 use Rattle.bucket_table.proofs.arrays.Arrays.prepare_at.Goals as goal
 
@@ -22,20 +22,12 @@ pub returns-else-relocate_range-clause-kept : goal.returns-else-relocate_range-c
 returns-else-relocate_range-clause-kept g c =
     kept_both c.args.self.now c.work_unit.new.self c.relocate_range.new.self c.work_unit.ensures.kept (kept_worked _ _ _ c.work_unit.new.self c.relocate_range.new.self c.relocate_range.ensures.worked)
 
-pub returns-then-relocate_range-clause-still : goal.returns-then-relocate_range-clause-still
-returns-then-relocate_range-clause-still g c =
-    killed_both c.args.self.now.rehash c.work_unit.new.self.rehash c.relocate_range.new.self.rehash c.work_unit.ensures.still (killed_range _ _ _ c.work_unit.new.self c.relocate_range.new.self c.relocate_range.ensures.worked)
+pub returns-then-relocate_range-clause-units : goal.returns-then-relocate_range-clause-units
+returns-then-relocate_range-clause-units g c =
+    units_both 1 0 c.args.self.now c.work_unit.new.self _ (len_kept _ _ c.work_unit.ensures.kept.current_len) c.work_unit.ensures.units
+    (dedup_runs _ _ _ c.work_unit.new.self c.relocate_range.new.self c.relocate_range.ensures.worked c.relocate_range.ensures.spends)
 
-pub returns-else-relocate_range-clause-still : goal.returns-else-relocate_range-clause-still
-returns-else-relocate_range-clause-still g c =
-    killed_both c.args.self.now.rehash c.work_unit.new.self.rehash c.relocate_range.new.self.rehash c.work_unit.ensures.still (killed_range _ _ _ c.work_unit.new.self c.relocate_range.new.self c.relocate_range.ensures.worked)
-
-pub returns-then-relocate_range-clause-unit : goal.returns-then-relocate_range-clause-unit
-returns-then-relocate_range-clause-unit g c = λ was is ready easy.
-    unit_still was c.work_unit.new.self.rehash c.relocate_range.new.self.rehash (c.work_unit.ensures.unit was is ready easy)
-    (rehash_worked _ _ _ c.work_unit.new.self c.relocate_range.new.self c.relocate_range.ensures.worked)
-
-pub returns-else-relocate_range-clause-unit : goal.returns-else-relocate_range-clause-unit
-returns-else-relocate_range-clause-unit g c = λ was is ready easy.
-    unit_still was c.work_unit.new.self.rehash c.relocate_range.new.self.rehash (c.work_unit.ensures.unit was is ready easy)
-    (rehash_worked _ _ _ c.work_unit.new.self c.relocate_range.new.self c.relocate_range.ensures.worked)
+pub returns-else-relocate_range-clause-units : goal.returns-else-relocate_range-clause-units
+returns-else-relocate_range-clause-units g c =
+    units_both 1 0 c.args.self.now c.work_unit.new.self _ (len_kept _ _ c.work_unit.ensures.kept.current_len) c.work_unit.ensures.units
+    (dedup_runs _ _ _ c.work_unit.new.self c.relocate_range.new.self c.relocate_range.ensures.worked c.relocate_range.ensures.spends)

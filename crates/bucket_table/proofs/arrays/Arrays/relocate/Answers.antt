@@ -1,5 +1,8 @@
-use Rattle.std.proofs.Common.{arith, refl, subst, sym}
-use Rattle.bucket_table.specs.ArraysView.{AreArrays, ArePlaced}
+use Rattle.std.proofs.Common.{arith, refl, subst, sym, OnOk}
+use Rattle.bucket_slots.specs.ArrayView.{bucket_at}
+use Rattle.bucket_table.specs.ArraysView.{AreArrays, ArePlaced, old_buckets}
+use Rattle.bucket_table.specs.Landings.{CarriesRecency}
+use Rattle.bucket_table.specs.Relocation.{buckets_of}
 use Rattle.bucket_table.proofs.Joining.{arrays_after, done_seen, inside, opened, placed_after, refused_seen}
 use Rattle.bucket_table.proofs.arrays.Arrays.relocate.Goals as goal
 
@@ -37,3 +40,9 @@ returns-clause-refused g c =
     let within = inside c.args.self.now c.self.inside.minimum c.self.inside.maximum c.args.index c.in-Some.current c.rehash.inside.array c.rehash.inside.tickets view c.requires.within in
     let e = c.relocate.ensures in
     (refused_seen c.relocate.result c.self.inside.minimum c.self.inside.maximum c.args.index c.in-Some.current c.rehash.inside.array c.relocate.new.current c.relocate.new.linked c.rehash.inside.tickets c.args.self.now view e.kept e.linked_kept)
+
+pub returns-clause-recency : goal.returns-clause-recency
+returns-clause-recency g c =
+    let view = opened c.self.inside.minimum c.self.inside.maximum c.self.inside.current c.self.inside.rehash c.in-Some.current c.rehash.inside.array c.rehash.inside.tickets c.in-Some-rehash.rehash c.args.self.now c.self.view_is c.in-Some.is c.in-Some-rehash.is c.rehash.view_is in
+    subst (λ a. OnOk c.relocate.result (CarriesRecency (bucket_at (old_buckets a.rehash) c.args.index) (buckets_of a.current) c.relocate.new.current)) view
+    c.relocate.ensures.recency

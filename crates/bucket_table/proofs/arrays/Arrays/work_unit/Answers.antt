@@ -3,6 +3,7 @@ use Rattle.bucket_table.proofs.CountSteps.{none_started}
 use Rattle.std.proofs.lemmas.Option.{none-some}
 use Rattle.bucket_table.proofs.Placing.{placed_end, placed_start}
 use Rattle.bucket_table.proofs.StayingKilled.{killed_both, killed_ended, killed_some, killed_started}
+use Rattle.bucket_table.proofs.OneUnit.{handed_runs, none_runs}
 use Rattle.bucket_table.proofs.UnitWork.{easy_handed, handed, unit_bag}
 use Rattle.bucket_table.proofs.arrays.Arrays.work_unit.Goals as goal
 
@@ -41,3 +42,13 @@ returns-clause-still g c =
     killed_both c.args.self.now.rehash c.relocate_unit-success.new.self.rehash c.end_incremental_rehash.new.self.rehash
     (killed_both c.args.self.now.rehash c.start_incremental_rehash.new.self.rehash c.relocate_unit-success.new.self.rehash (killed_started _ _ _ c.in-Some.ensures.rehash) (killed_some _ _ c.start_incremental_rehash.new.self c.relocate_unit-success.new.self c.relocate_unit-success.ensures.worked))
     (killed_ended c.relocate_unit-success.new.self.rehash c.end_incremental_rehash.new.self.rehash c.in-Some.ticket c.relocate_unit-success.result c.end_incremental_rehash.result c.end_incremental_rehash.ensures.rehash)
+
+pub returns-in_default-clause-units : goal.returns-in_default-clause-units
+returns-in_default-clause-units g c = none_runs c.args.self.now c.args.self.now.rehash _ c.requires.placed.rehashed c.in_default.ensures.rehash
+
+pub returns-clause-units : goal.returns-clause-units
+returns-clause-units g c =
+    let h = handed _ _ c.in-Some.ticket c.requires.placed.rehashed c.in-Some.ensures.rehash in
+    handed_runs c.args.self.now c.start_incremental_rehash.new.self c.relocate_unit-success.new.self c.end_incremental_rehash.new.self.rehash c.in-Some.ticket c.relocate_unit-success.result c.end_incremental_rehash.result
+    c.requires.placed.rehashed h (ap (λ a. a.current) c.in-Some.ensures.others) c.relocate_unit-success.ensures.worked c.relocate_unit-success.ensures.spends
+    (λ easy. c.relocate_unit-success.ensures.succeeds h.started h.middle_is easy) c.end_incremental_rehash.ensures.rehash

@@ -16,4 +16,4 @@ pub returns-clause-map : goal.returns-clause-map
 returns-clause-map g c = state_seen g.row.TYPE _ c.args.self.now c.advance.new.self c.self.view_is c.advance.ensures.kept
 
 pub returns-clause-departs : goal.returns-clause-departs
-returns-clause-departs g c = departs_seen _ c.args.self.now c.args.is_old c.args.index c.args.at.now c.advance.new.self c.self.view_is c.advance.ensures.departs
+returns-clause-departs g c = departs_seen _ c.args.self.now c.args.is_old c.args.index c.args.at.now c.advance.result c.advance.new.self c.self.view_is c.advance.ensures.departs

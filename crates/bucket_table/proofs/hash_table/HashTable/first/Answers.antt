@@ -1,6 +1,6 @@
 use Rattle.std.proofs.Common.{arith}
 use Rattle.bucket_table.proofs.MapKept.{one_map_kept, state_seen}
-use Rattle.bucket_table.proofs.TableCursor.{goes_seen, nothing_seen}
+use Rattle.bucket_table.proofs.TableCursor.{goes_seen, nothing_seen, passes_seen}
 use Rattle.bucket_table.proofs.WriterSteps.{kept_prepared}
 use Rattle.bucket_table.proofs.hash_table.HashTable.first.Goals as goal
 
@@ -16,3 +16,8 @@ returns-clause-found g c = goes_seen g.H.KeyHash.hash_of _ c.args.self.now _ 0 c
 
 pub returns-clause-none : goal.returns-clause-none
 returns-clause-none g c = nothing_seen g.H.KeyHash.hash_of _ c.args.self.now _ c.first_from.result c.first_from.new.self c.first_from.new.at c.self.view_is (omega arith) c.first_from.ensures.kept c.first_from.ensures.found
+
+pub returns-clause-passes : goal.returns-clause-passes
+returns-clause-passes g c =
+    passes_seen _ c.args.self.now c.first_from.result c.first_from.new.self c.self.view_is
+    (c.first_from.ensures.passes 0 (λ wide. (omega arith, omega (arith, wide))))

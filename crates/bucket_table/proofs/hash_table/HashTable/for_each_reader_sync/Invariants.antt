@@ -1,4 +1,4 @@
-use Rattle.std.proofs.Common.{◌-◌, ◌≡◌, false, length}
+use Rattle.std.proofs.Common.{◌-◌, ◌≡◌, None, false, length}
 use Rattle.bucket_table.specs.Rehashing.{KeepsArrays}
 use Rattle.bucket_table.specs.Relocation.{buckets_of}
 use Rattle.bucket_table.specs.Visits.{reading}
@@ -12,6 +12,7 @@ invariant-loop-more g l =
     × WalkStands (reading g.F.Read.reads) (g.H.KeyHash.hash_of l.fn.self.hasher) l.fn.reader
     l.reader l.fn.self.arrays 0 l.index false l.more l.self.arrays
     × KeepsArrays l.fn.self.arrays l.self.arrays
+    × (l.fn.self.arrays.rehash ≡ None → l.self.arrays ≡ l.fn.self.arrays)
 
 abbrev pub decreases-loop-more : goal.decreases-loop-more
 decreases-loop-more g l = length (buckets_of l.fn.self.arrays.current) - l.index

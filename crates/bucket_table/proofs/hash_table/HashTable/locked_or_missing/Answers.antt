@@ -6,18 +6,15 @@ use Rattle.bucket_table.proofs.hash_table.HashTable.locked_or_missing.Goals as g
 pub returns-in-Ok-false : goal.returns-in-Ok-false
 returns-in-Ok-false g c =
     let e = c.prepare.ensures in
-    let none = none_before (state_of g.row.TYPE c.args.self.now) (state_of g.row.TYPE c.prepare.new.self) e.map (search (rules, e.empty)) in (
-      (refl, λ x. tt, record { map = e.map; bag = e.bag; alone = e.alone }),
+    let none = none_before (state_of g.row.TYPE c.args.self.now) (state_of g.row.TYPE c.prepare.new.self) e.prepared.map (search (rules, e.empty)) in (
+      (refl, λ x. tt, e.prepared),
       record {
         rests = tt;
         same_table = tt;
-        map = tt;
-        bag = tt;
+        prepared = tt;
         home = tt;
         side = tt;
-        unit = tt;
         answer = search (rules, e.answer);
         empty = λ same. none;
-        alone = λ same. tt;
       },
     )

@@ -1,3 +1,4 @@
+use Rattle.bucket_table.proofs.CarriedPairs.{carried_still}
 use Rattle.bucket_table.proofs.MapKept.{kept_of, one_map_kept, state_seen}
 use Rattle.bucket_table.proofs.WriterSteps.{kept_prepared}
 use Rattle.bucket_table.proofs.hash_table.HashTable.relocate_bucket_sync.Goals as goal
@@ -10,3 +11,11 @@ invariant_of-self g c =
 
 pub returns-clause-map : goal.returns-clause-map
 returns-clause-map g c = state_seen g.row.TYPE _ c.args.self.now c.relocate.new.self c.self.view_is (kept_prepared _ c.relocate.new.self (kept_of c.relocate.result c.args.index c.self.inside.arrays c.relocate.new.self c.relocate.ensures.done c.relocate.ensures.refused))
+
+pub returns-clause-recency : goal.returns-clause-recency
+returns-clause-recency g c =
+    let e = c.relocate.ensures in
+    let hash = g.H.KeyHash.hash_of c.self.inside.hasher in
+    let kept = kept_of c.relocate.result c.args.index c.self.inside.arrays c.relocate.new.self e.done e.refused in
+    let one = one_map_kept g.K.PartialEq.eq g.met.K.Eq.laws hash c.self.inside.arrays c.relocate.new.self c.self.invariant kept e.placed in
+    rw (← c.self.view_is) (carried_still c.relocate.result g.K.PartialEq.eq g.met.K.Eq.laws hash _ _ c.relocate.new.self one e.recency)

@@ -1,18 +1,15 @@
-use Rattle.std.proofs.Common.{◌≡◌, length}
+use Rattle.std.proofs.Common.{length}
 use Rattle.bucket_table.specs.Relocation.{buckets_of}
 use Rattle.bucket_table.specs.Retains.{AnswersBy}
-use Rattle.bucket_table.specs.Units.{KeepsBag}
+use Rattle.bucket_table.specs.Settings.{KeepsSettings}
 use Rattle.bucket_table.proofs.SweepSteps.{SweepsOn, hashes_left}
 use Rattle.bucket_table.proofs.hash_table.HashTable.sweep.Given as goal
 
 abbrev pub invariant-loop-place : goal.invariant-loop-place
 invariant-loop-place g l =
-    (l.self.hasher ≡ l.fn.self.hasher)
-    × KeepsBag l.fn.self.arrays.rehash l.self.arrays.rehash
+    KeepsSettings l.fn.self l.self
     × SweepsOn (AnswersBy (λ key value answer. goal.F-post g l.keep key value answer))
     (g.H.KeyHash.hash_of l.fn.self.hasher) l.fn.self.arrays l.self.arrays l.count l.place
-    × (l.self.arrays.minimum ≡ l.fn.self.arrays.minimum)
-    × (l.self.arrays.maximum ≡ l.fn.self.arrays.maximum)
 
 abbrev pub decreases-loop-place : goal.decreases-loop-place
 decreases-loop-place g l = hashes_left (length (buckets_of l.self.arrays.current)) l.place

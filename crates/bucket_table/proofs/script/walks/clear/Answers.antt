@@ -31,22 +31,22 @@ returns-then-num_slots-eq0-clause-tickets g c = tickets_kept c.args.table.now.ar
 pub returns-in-Ok-clause-step : goal.returns-in-Ok-clause-step
 returns-in-Ok-clause-step g c =
     let w = c.for_each_writer_sync in
-    clears_all g.row.TYPE c.args.table.now w.new.self w.ensures.hasher _ w.ensures.minimum w.ensures.maximum
+    clears_all g.row.TYPE c.args.table.now w.new.self w.ensures.settings.hasher _ w.ensures.settings.minimum w.ensures.settings.maximum
     (emptied (λ e. e.count) (g.H.KeyHash.hash_of c.args.table.now.hasher)
     c.args.table.now.arrays c.sound.ensures.empty c.sound.ensures.long (g.met.H.KeyHash.fits c.args.table.now.hasher)
     _ _ w.new.visitor w.new.self.arrays refl c.in-Ok.ensures.walked)
 
 pub returns-in-Ok-clause-tickets : goal.returns-in-Ok-clause-tickets
 returns-in-Ok-clause-tickets g c =
-    tickets_kept c.args.table.now.arrays c.for_each_writer_sync.new.self.arrays c.for_each_writer_sync.ensures.bag
+    tickets_kept c.args.table.now.arrays c.for_each_writer_sync.new.self.arrays c.for_each_writer_sync.ensures.settings.bag
 
 pub returns-in-Err-clause-step : goal.returns-in-Err-clause-step
 returns-in-Err-clause-step g c =
     let w = c.for_each_writer_sync in
-    clears_below g.row.TYPE c.args.table.now w.new.self w.ensures.hasher g.H.KeyHash.hash_of w.ensures.minimum w.ensures.maximum
+    clears_below g.row.TYPE c.args.table.now w.new.self w.ensures.settings.hasher g.H.KeyHash.hash_of w.ensures.settings.minimum w.ensures.settings.maximum
     (emptied_below (λ e. e.count) (g.H.KeyHash.hash_of c.args.table.now.hasher)
     c.args.table.now.arrays _ _ w.new.visitor w.new.self.arrays c.in-Err.ensures.walked)
 
 pub returns-in-Err-clause-tickets : goal.returns-in-Err-clause-tickets
 returns-in-Err-clause-tickets g c =
-    tickets_kept c.args.table.now.arrays c.for_each_writer_sync.new.self.arrays c.for_each_writer_sync.ensures.bag
+    tickets_kept c.args.table.now.arrays c.for_each_writer_sync.new.self.arrays c.for_each_writer_sync.ensures.settings.bag

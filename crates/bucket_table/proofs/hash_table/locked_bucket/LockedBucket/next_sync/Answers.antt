@@ -1,6 +1,8 @@
+use Rattle.std.proofs.Common.{Ok, Some, refl}
 use Rattle.bucket_slots.specs.declared.bucket.AllocError.{AllocError}
 use Rattle.bucket_table.proofs.SyncSteps.{next_leaves, next_locked, next_stays, none_before, none_null, refused_null, stays_done, stays_held}
 use Rattle.bucket_table.proofs.MapKept.{one_map_found, state_seen}
+use Rattle.bucket_table.proofs.PassingUnits.{departs_as}
 use Rattle.bucket_table.proofs.TableCursor.{departs_seen}
 use Rattle.bucket_table.proofs.hash_table.locked_bucket.LockedBucket.next_sync.Goals as goal
 
@@ -41,4 +43,6 @@ pub returns-in-Ok-Some-clause-map : goal.returns-in-Ok-Some-clause-map
 returns-in-Ok-Some-clause-map g c = state_seen g.row.TYPE _ c.args.self.table.now c.advance.new.self c.table.view_is c.advance.ensures.kept
 
 pub returns-in-Ok-Some-clause-departs : goal.returns-in-Ok-Some-clause-departs
-returns-in-Ok-Some-clause-departs g c = departs_seen _ c.args.self.table.now c.args.self.is_old c.args.self.index c.args.at.now c.advance.new.self c.table.view_is c.advance.ensures.departs
+returns-in-Ok-Some-clause-departs g c = λ none.
+    departs_as (λ to. to.1) _ (Ok (Some (c.in-Ok-Some.is_old, c.in-Ok-Some.index))) _ (λ len from passed h. h) (λ passed. refl) (λ ok. ok) c.args.self.is_old c.args.self.index c.args.self.table.now.arrays c.advance.new.self
+    (departs_seen _ c.args.self.table.now c.args.self.is_old c.args.self.index c.args.at.now _ c.advance.new.self c.table.view_is (rw c.in-Ok-Some.field-0-is at c.in-Ok-Some.ensures.departs) none)

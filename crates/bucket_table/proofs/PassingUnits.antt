@@ -1,0 +1,177 @@
+-- The units that a cursor works as it passes buckets.
+use Rattle.std.proofs.Common.{ℕ, ◌+◌, ◌-◌, ◌^◌, ◌<◌, ◌≤◌, ◌≡◌, Bool, Option, Some, None, Result, Ok, Err, IsOk, length, refl, sym, subst, ◌∙◌, arith, inl, inr}
+use Rattle.std.proofs.lemmas.Bool.{cases_lt}
+use Rattle.bucket_slots.specs.Homes.{IsInInterval, interval_width}
+use Rattle.bucket_slots.specs.Sizing.{IsLength}
+use Rattle.bucket_table.specs.ArraysView.{AreSourcesKilled, ArraysView}
+use Rattle.bucket_table.specs.Cursors.{AreKilledFor, Departs, IsPassed, Passes, bound_of}
+use Rattle.bucket_table.specs.Rehashing.{KeepsArrays}
+use Rattle.bucket_table.specs.Relocation.{buckets_of}
+use Rattle.bucket_table.specs.UnitRuns.{WorksUnits, steps_of}
+use Rattle.bucket_table.specs.Sides.{buckets_on}
+use Rattle.bucket_table.proofs.Bounds.{all_hashes, wide}
+use Rattle.bucket_table.proofs.Preparing.{len_kept}
+use Rattle.bucket_table.proofs.StayingKilled.{sources_still}
+use Rattle.bucket_table.proofs.UnitRuns.{no_units, units_alone, units_both, units_still}
+
+module _ {K V : Type 0} where
+  -- what a cursor on its way has worked
+  pub record HasWorked (old : ArraysView K V) (start index : ℕ) (now : ArraysView K V) : Type 0 where
+    pub order : start ≤ index
+    pub within : start < index → index ≤ length (buckets_of old.current)
+    pub len : length (buckets_of now.current) ≡ length (buckets_of old.current)
+    pub units : WorksUnits (index - start) old now.rehash
+    pub sources : AreKilledFor now start index
+    pub alone : old.rehash ≡ None → now ≡ old
+
+  pub worked_none : (old : ArraysView K V) (start : ℕ) → HasWorked old start start old
+  worked_none old start =
+      let none : start - start ≡ 0 = omega arith in
+      record {
+        order = omega arith;
+        within = λ some. absurd (omega (arith, some));
+        len = refl;
+        units = subst (λ (n : ℕ). WorksUnits n old old.rehash) (sym none) (no_units old old.rehash refl);
+        sources = λ i low high. absurd (omega (arith, low, high));
+        alone = λ none. refl;
+      }
+
+  -- a bucket is made ready, or refused
+  module _ (old before now : ArraysView K V) (start index : ℕ) (w : HasWorked old start index before)
+      (kept : KeepsArrays before now) (unit : WorksUnits 1 before now.rehash) (waits : before.rehash ≡ None → now ≡ before) where
+    units_now : WorksUnits (index - start + 1) old now.rehash
+    units_now = units_both (index - start) 1 old before now.rehash w.len w.units unit
+
+    sources_now : AreKilledFor now start index
+    sources_now i low high = sources_still before now i (units_still 1 before now.rehash unit) (len_kept now.current before.current kept.current_len) (w.sources i low high)
+
+    pub alone_now : {R : Type 0} → (before.rehash ≡ None → R) → old.rehash ≡ None → R
+    alone_now holds none = holds (units_alone (index - start) old before.rehash w.units none)
+
+    still_alone : old.rehash ≡ None → now ≡ old
+    still_alone none = alone_now waits none ∙ w.alone none
+
+    pub worked_more : (len : ℕ) → len ≡ length (buckets_of before.current) → index < len → AreSourcesKilled now index
+        → HasWorked old start (index + 1) now
+    worked_more len is below ready =
+        let long = w.len in
+        let order = w.order in
+        let steps : index + 1 - start ≡ index - start + 1 = omega (arith, order) in
+        record {
+          order = omega (arith, order);
+          within = λ some. omega (arith, long, is, below);
+          len = len_kept now.current before.current kept.current_len ∙ w.len;
+          units = subst (λ (n : ℕ). WorksUnits n old now.rehash) (sym steps) units_now;
+          sources = λ i low high. elim (cases_lt i index) [
+            | inl less ↦ sources_now i low less
+            | inr more ↦
+                let here : index ≡ i = omega (arith, high, more) in
+                subst (λ (j : ℕ). AreSourcesKilled now j) here ready
+          ];
+          alone = still_alone;
+        }
+
+    pub passes_refused : {E : Type 0} (e : E) (len bound : ℕ) → len ≡ length (buckets_of before.current) → index < len
+        → (before.rehash ≡ None → ⊥) → (0 < length (buckets_of old.current) → IsInInterval (length (buckets_of old.current)) start bound)
+        → Passes {E = E} (λ (i : ℕ). i) bound old (Err e) now
+    passes_refused e len bound is below never begins =
+        let long = w.len in
+        let order = w.order in
+        let at : start + (index - start) ≡ index = omega (arith, order) in
+        record {
+          from = start;
+          passed = index - start;
+          begins = begins;
+          count = omega (arith, order, below, is, long);
+          units = units_now;
+          sources = subst (λ (n : ℕ). AreKilledFor now start n) (sym at) sources_now;
+          alone = still_alone;
+          succeeds = λ none. absurd (alone_now never none);
+        }
+
+  -- an array that stands has hashes for each bucket
+  pub begins_wide : (old : ArraysView K V) (len start bound : ℕ) → len ≡ length (buckets_of old.current)
+      → (0 < len → IsLength len)
+      → (0 < interval_width (length (buckets_of old.current)) → IsInInterval (length (buckets_of old.current)) start bound)
+      → 0 < length (buckets_of old.current) → IsInInterval (length (buckets_of old.current)) start bound
+  begins_wide old len start bound is long begins some =
+      begins (wide (length (buckets_of old.current)) (subst IsLength is (long (omega (arith, is, some)))))
+
+  -- it stops at a bucket, or past the last one
+  pub passes_found : {E : Type 0} (old now : ArraysView K V) (start index bound : ℕ) → HasWorked old start (index + 1) now → start ≤ index
+      → (0 < length (buckets_of old.current) → IsInInterval (length (buckets_of old.current)) start bound)
+      → Passes {E = E} (λ (i : ℕ). i) bound old (Ok (Some index)) now
+  passes_found old now start index bound w low begins =
+      let at : start + (index + 1 - start) ≡ index + 1 = omega (arith, low) in
+      record {
+        from = start;
+        passed = index + 1 - start;
+        begins = begins;
+        count = at;
+        units = w.units;
+        sources = subst (λ (n : ℕ). AreKilledFor now start n) (sym at) w.sources;
+        alone = w.alone;
+        succeeds = λ none. refl;
+      }
+
+  pub passes_all : {E : Type 0} (old now : ArraysView K V) (start index bound : ℕ) → HasWorked old start index now
+      → length (buckets_of now.current) ≤ index
+      → (0 < length (buckets_of old.current) → IsInInterval (length (buckets_of old.current)) start bound)
+      → Passes {E = E} (λ (i : ℕ). i) bound old (Ok None) now
+  passes_all old now start index bound w past begins =
+      let order = w.order in
+      let long = w.len in
+      let at : start + (index - start) ≡ index = omega (arith, order) in
+      record {
+        from = start;
+        passed = index - start;
+        begins = begins;
+        count = elim (cases_lt start index) [
+          | inl some ↦ let fits = w.within some in omega (arith, fits, past, long)
+          | inr none ↦ omega (arith, none, past, long, order)
+        ];
+        units = w.units;
+        sources = subst (λ (n : ℕ). AreKilledFor now start n) (sym at) w.sources;
+        alone = w.alone;
+        succeeds = λ none. refl;
+      }
+
+  -- where there is no array, or the hash is past all, none is passed
+  pub passes_nowhere : {E : Type 0} (arrays : ArraysView K V) (bound : ℕ) → length (buckets_of arrays.current) ≡ 0
+      → Passes {E = E} (λ (i : ℕ). i) bound arrays (Ok None) arrays
+  passes_nowhere arrays bound none = passes_all arrays arrays 0 0 bound (worked_none arrays 0) (omega (arith, none)) (λ some. absurd (omega (arith, none, some)))
+
+  pub passes_past : {E : Type 0} (arrays : ArraysView K V) (bound : ℕ) → bound ≡ 2 ^ 64
+      → (0 < length (buckets_of arrays.current) → IsLength (length (buckets_of arrays.current)))
+      → Passes {E = E} (λ (i : ℕ). i) bound arrays (Ok None) arrays
+  passes_past arrays bound is long =
+      let n : ℕ = length (buckets_of arrays.current) in
+      passes_all arrays arrays n n bound (worked_none arrays n) (omega arith)
+      (λ some. (omega (arith, all_hashes n (long some), is), omega (arith, all_hashes n (long some), is, wide n (long some))))
+
+-- the same answer in another form
+module _ {K V A B E F : Type 0} (f : A → ℕ) (g : B → ℕ) (r : Result (Option A) E) (r' : Result (Option B) F)
+    (count : (len from passed : ℕ) → IsPassed f len from r passed → IsPassed g len from r' passed)
+    (steps : (passed : ℕ) → steps_of r passed ≡ steps_of r' passed) (ok : IsOk r → IsOk r') where
+  passes_as : (bound : ℕ) (old new : ArraysView K V) → Passes f bound old r new → Passes g bound old r' new
+  passes_as bound old new p = record {
+    from = p.from;
+    passed = p.passed;
+    begins = p.begins;
+    count = count (length (buckets_of old.current)) p.from p.passed p.count;
+    units = subst (λ (n : ℕ). WorksUnits n old new.rehash) (steps p.passed) p.units;
+    sources = p.sources;
+    alone = p.alone;
+    succeeds = λ none. ok (p.succeeds none);
+  }
+
+  pub passes_now : (bound : ℕ) (old new now : ArraysView K V) → now ≡ new → Passes f bound old r new → Passes g bound old r' now
+  passes_now bound old new now is p = rw is (passes_as bound old new p)
+
+  pub departs_as : (side : Bool) (index : ℕ) (old new : ArraysView K V) → Departs f side index old r new → Departs g side index old r' new
+  departs_as side index old new d = record {
+    between = d.between;
+    asked = d.asked;
+    passes = passes_as (bound_of (length (buckets_on old side)) (index + 1)) d.between new d.passes;
+    kept = d.kept;
+  }

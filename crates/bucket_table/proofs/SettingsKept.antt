@@ -1,0 +1,46 @@
+-- The hasher, the capacities and the bag stay, one call after another.
+use Rattle.std.proofs.Common.{ℕ, ◌≡◌, ◌∙◌, Bool, false, ap, refl}
+use Rattle.bucket_slots.specs.BucketView.{BucketView}
+use Rattle.bucket_table.specs.ArraysView.{ArraysView, TableView}
+use Rattle.bucket_table.specs.MapState.{KeepsPairs, state_of}
+use Rattle.bucket_table.specs.Retains.{Retains}
+use Rattle.bucket_table.specs.Settings.{KeepsSettings}
+use Rattle.bucket_table.specs.Sides.{arrays_with, bucket_on}
+use Rattle.bucket_table.specs.Units.{KeepsBag, times_in}
+use Rattle.bucket_table.proofs.MapKept.{hasher_kept, maximum_kept, minimum_kept}
+use Rattle.bucket_table.proofs.Preparing.{bag_both, bag_same}
+
+module _ {K V H : Type 0} where
+  pub settings_same : (table : TableView K V H) → KeepsSettings table table
+  settings_same table = record { hasher = refl; minimum = refl; maximum = refl; bag = bag_same table.arrays.rehash }
+
+  pub settings_both : (first second third : TableView K V H) → KeepsSettings first second → KeepsSettings second third
+      → KeepsSettings first third
+  settings_both first second third a b = record {
+    hasher = b.hasher ∙ a.hasher;
+    minimum = b.minimum ∙ a.minimum;
+    maximum = b.maximum ∙ a.maximum;
+    bag = bag_both first.arrays.rehash second.arrays.rehash third.arrays.rehash a.bag b.bag;
+  }
+
+  -- a call that keeps the map and the bag
+  pub settings_kept : (kind : ℕ) (old new : TableView K V H) → KeepsPairs (state_of kind old) (state_of kind new)
+      → KeepsBag old.arrays.rehash new.arrays.rehash → KeepsSettings old new
+  settings_kept kind old new kept bag = record {
+    hasher = hasher_kept _ _ kept;
+    minimum = minimum_kept _ _ kept;
+    maximum = maximum_kept _ _ kept;
+    bag = bag;
+  }
+
+  -- a bucket that was swept
+  pub settings_swept : (IsTest : (K × V → Bool) → Type 0) (now visited : TableView K V H) (index taken : ℕ)
+      → visited.hasher ≡ now.hasher → ((left : BucketView K V)
+      × Retains IsTest (bucket_on now.arrays false index) left taken
+      × (visited.arrays ≡ arrays_with now.arrays false index left)) → KeepsSettings now visited
+  settings_swept IsTest now visited index taken same (left, retains, visited_is) = record {
+    hasher = same;
+    minimum = ap (λ (a : ArraysView K V). a.minimum) visited_is;
+    maximum = ap (λ (a : ArraysView K V). a.maximum) visited_is;
+    bag = λ unit. ap (λ (a : ArraysView K V). times_in unit a.rehash) visited_is;
+  }
