@@ -9,7 +9,7 @@ use Rattle.bhtable.specs.declared.request.Question.TheVariants.{Slots, Word}
 use Rattle.bhtable.specs.declared.request.Request.{Request}
 use Rattle.bhtable.specs.declared.request.Request.TheVariants.{New, Call as Calls, Question as Questions, Epoch}
 use Rattle.bucket_table.specs.declared.script.call.Call.{Call}
-use Rattle.bucket_table.specs.declared.script.call.Call.TheVariants.{Put, Write, Read, Peek, Remove, Touch, Evict, Count, Has, Reserve, Start, Work, End, Walk, Clear}
+use Rattle.bucket_table.specs.declared.script.call.Call.TheVariants.{Put, Write, Read, Peek, Remove, Touch, Evict, Count, Has, Reserve, Release, Start, Work, End, Walk, Clear}
 use Rattle.bucket_table.specs.declared.script.hashes.ScriptHash.{ScriptHash}
 use Rattle.bucket_table.specs.declared.script.hashes.ScriptHash.TheVariants.{Zero, Id, Spread}
 
@@ -47,6 +47,7 @@ call_line (Evict key) = (codes "evict", number key ∷ [])
 call_line Count = (codes "count", [])
 call_line Has = (codes "has", [])
 call_line (Reserve additional) = (codes "reserve", number additional ∷ [])
+call_line (Release released) = (codes "release", number released ∷ [])
 call_line Start = (codes "start", [])
 call_line (Work index) = (codes "work", number index ∷ [])
 call_line (End ticket success) = (codes "end", number ticket ∷ text (end_word success) ∷ [])

@@ -78,7 +78,7 @@ enum Form {
 }
 
 // Each verb, and its form: of a call, with zeros where a line has its numbers.
-const FORMS: [(&[u8], Form); 19] = [
+const FORMS: [(&[u8], Form); 20] = [
     (b"new", Form::Table),
     (b"epoch", Form::Epoch),
     (b"slots", Form::Question(Question::Slots)),
@@ -93,6 +93,7 @@ const FORMS: [(&[u8], Form); 19] = [
     (b"count", Form::Call(Call::Count)),
     (b"has", Form::Call(Call::Has)),
     (b"reserve", Form::Call(Call::Reserve(0))),
+    (b"release", Form::Call(Call::Release(0))),
     (b"start", Form::Call(Call::Start)),
     (b"work", Form::Call(Call::Work(0))),
     (b"end", Form::Call(Call::End(0, false))),
@@ -181,6 +182,7 @@ fn call_in(model: Call<u64, u64>, words: &mut Words<'_>) -> Option<Call<u64, u64
         Call::Evict(_) => Call::Evict(words.number()?),
         Call::Count | Call::Has | Call::Start | Call::Walk | Call::Clear => model,
         Call::Reserve(_) => Call::Reserve(words.number()? as usize),
+        Call::Release(_) => Call::Release(words.number()? as usize),
         Call::Work(_) => Call::Work(words.number()? as usize),
         Call::End(..) => Call::End(words.number()? as usize, success_of(words.next_word()?)?),
     })

@@ -6,6 +6,7 @@ use std::io::{Read, Write};
 use std::process::Abort;
 use std::test::Fail;
 
+mod abandoned;
 mod bad_lines;
 mod caches;
 mod devices;
@@ -76,12 +77,18 @@ fn push_lines(dialogue: &mut Dialogue, lines: &[(&str, &str)]) -> Result<(), Fai
     Ok(())
 }
 
-// A table whose 64 slots have just become 128: the last pair went to a bucket of the old array.
-fn push_doubled(dialogue: &mut Dialogue) -> Result<(), Fail> {
-    dialogue.push_puts("new map spread 0 9223372036854775808\n", 31)?;
+// Thirty-one pairs in each of two buckets.
+fn push_two_buckets(dialogue: &mut Dialogue, table: &str) -> Result<(), Fail> {
+    dialogue.push_puts(table, 31)?;
     for key in 128..159 {
         dialogue.push_put(key, key)?;
     }
+    Ok(())
+}
+
+// A table whose 64 slots have just become 128: the last pair went to a bucket of the old array.
+fn push_doubled(dialogue: &mut Dialogue) -> Result<(), Fail> {
+    push_two_buckets(dialogue, "new map spread 0 9223372036854775808\n")?;
     dialogue.push_put(31, 31)
 }
 

@@ -76,10 +76,11 @@ fn refuses_a_call_with_too_few_words_or_too_many(rt: HostRuntime) -> Result<(), 
 }
 
 // Reservations, work, tickets and questions with too few words or too many, or with other words.
-const OPERANDS: [(&str, &str); 17] = [
+const OPERANDS: [(&str, &str); 18] = [
     ("new map id 0 64\nreserve", "ok\nbad line 2\n"),
     ("new map id 0 64\nreserve 1 2", "ok\nbad line 2\n"),
     ("new map id 0 64\nreserve none", "ok\nbad line 2\n"),
+    ("new map id 0 64\nrelease", "ok\nbad line 2\n"),
     ("new map id 0 64\nstart 1", "ok\nbad line 2\n"),
     ("new map id 0 64\nwork", "ok\nbad line 2\n"),
     ("new map id 0 64\nwork 1 2", "ok\nbad line 2\n"),

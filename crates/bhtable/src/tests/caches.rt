@@ -1,5 +1,5 @@
 //! What a cache answers.
-use super::{Dialogue, check_after_puts, check_lines};
+use super::{Dialogue, check_after_puts, check_lines, push_lines, push_two_buckets};
 use std::io::Write;
 use std::test::Fail;
 
@@ -78,4 +78,54 @@ const A_PAIR_COMES_AND_GOES: [(&str, &str); 16] = [
 #[test]
 fn answers_each_call_on_a_cache(rt: HostRuntime) -> Result<(), Fail> {
     check_lines(&rt, rt.alloc(), &A_PAIR_COMES_AND_GOES)
+}
+
+// The old pairs move on at the first look-up: the two that were touched go in the order in which
+// they were touched, and then that of the first slot.
+const TOUCHED_BEFORE_A_GROWTH: [(&str, &str); 11] = [
+    ("touch 3", "ok"),
+    ("touch 5", "ok"),
+    ("put 31 31", "ok"),
+    ("slots", "128"),
+    ("read 0", "value 0"),
+    ("evict 0", "pair 3 3"),
+    ("evict 0", "nothing"),
+    ("put 3 3", "ok"),
+    ("evict 0", "pair 5 5"),
+    ("put 5 5", "ok"),
+    ("evict 0", "pair 0 0"),
+];
+
+#[test]
+fn remembers_touches_over_a_growth(rt: HostRuntime) -> Result<(), Fail> {
+    let mut dialogue = Dialogue::new(rt.alloc());
+    push_two_buckets(&mut dialogue, "new cache spread 0 128\n")?;
+    push_lines(&mut dialogue, &TOUCHED_BEFORE_A_GROWTH)?;
+    dialogue.check(&rt, rt.alloc())
+}
+
+// One old bucket is left without a pair; the other has 152 to 158, and 158 was touched first.
+#[test]
+fn remembers_touches_over_a_shrinkage(rt: HostRuntime) -> Result<(), Fail> {
+    let mut dialogue = Dialogue::new(rt.alloc());
+    push_two_buckets(&mut dialogue, "new cache spread 0 128\n")?;
+    dialogue.push_put(31, 31)?;
+    push_removals(&mut dialogue, 128, 152)?;
+    push_lines(&mut dialogue, &[("touch 158", "ok"), ("touch 152", "ok")])?;
+    push_removals(&mut dialogue, 0, 32)?;
+    push_lines(&mut dialogue, &[("slots", "64")])?;
+    for key in 160..185 {
+        dialogue.push_put(key, key)?;
+    }
+    push_lines(&mut dialogue, &[("evict 152", "pair 158 158")])?;
+    dialogue.check(&rt, rt.alloc())
+}
+
+// Each of the keys from `start` up to below `end` has itself for a value.
+fn push_removals(dialogue: &mut Dialogue, start: u8, end: u8) -> Result<(), Fail> {
+    for key in start..end {
+        writeln!(dialogue.input, "remove {key}")?;
+        writeln!(dialogue.replies, "pair {key} {key}")?;
+    }
+    Ok(())
 }

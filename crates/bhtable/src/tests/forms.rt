@@ -5,7 +5,7 @@ use std::process::Abort;
 use std::test::Fail;
 
 // Input, and all of its output; the status is 0.
-const READABLE: [(&str, &str); 9] = [
+const READABLE: [(&str, &str); 10] = [
     ("", ""),
     ("\n\r\n \t \n", ""),
     ("new map id 0 64", "ok\n"),
@@ -22,6 +22,10 @@ const READABLE: [(&str, &str); 9] = [
     (
         "new map id 0 64\nput 18446744073709551615 18446744073709551615\nremove 18446744073709551615",
         "ok\nok\npair 18446744073709551615 18446744073709551615\n",
+    ),
+    (
+        "new map id 0 64\nput 1 18446744073709551615\npeek 1",
+        "ok\nok\nvalue 18446744073709551615\n",
     ),
     (
         "new map id 9223372036854775808 9223372036854775808\nnew map zero 64 64",
@@ -68,8 +72,8 @@ const ENDINGS: [&str; 4] = ["\n", "\r\n", "", "\r"];
 #[test]
 fn reads_a_line_of_4096_bytes_and_none_of_4097(rt: HostRuntime) -> Result<(), Fail> {
     for ending in ENDINGS {
-        let (longest, longer) = ((4096, "peek 1", ending), (4097, "peek 1", ending));
-        check_long(&rt, rt.alloc(), longest, "ok\nabsent\n", 0)?;
+        let (longest, longer) = ((4096, "count", ending), (4097, "count", ending));
+        check_long(&rt, rt.alloc(), longest, "ok\n0\n", 0)?;
         check_long(&rt, rt.alloc(), longer, "ok\nbad line 2\n", 2)?;
     }
     Ok(())

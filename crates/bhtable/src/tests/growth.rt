@@ -51,6 +51,43 @@ fn reserves_no_more_than_the_maximum(rt: HostRuntime) -> Result<(), Fail> {
     check_lines(&rt, rt.alloc(), &A_MAXIMUM_OF_128)
 }
 
+const A_RELEASED_MINIMUM: [(&str, &str); 16] = [
+    ("new map id 4096 9223372036854775808", "ok"),
+    ("put 5 50", "ok"),
+    ("release 5000", "0"),
+    ("slots", "4096"),
+    ("release 4095", "4095"),
+    ("slots", "64"),
+    ("word", "0"),
+    ("read 5", "value 50"),
+    ("word", "2048"),
+    ("read 5", "value 50"),
+    ("word", "none"),
+    ("release 1", "1"),
+    ("slots", "64"),
+    ("remove 5", "pair 5 50"),
+    ("slots", "0"),
+    ("release 1", "0"),
+];
+
+#[test]
+fn shrinks_to_what_is_left_of_the_minimum(rt: HostRuntime) -> Result<(), Fail> {
+    check_lines(&rt, rt.alloc(), &A_RELEASED_MINIMUM)
+}
+
+// The estimate is 0, and so is the minimum: a table with pairs keeps its array.
+const NO_MINIMUM_LEFT: [(&str, &str); 4] = [
+    ("new map id 4096 9223372036854775808", "ok"),
+    ("put 5 50", "ok"),
+    ("release 4096", "4096"),
+    ("slots", "4096"),
+];
+
+#[test]
+fn keeps_its_array_with_no_minimum_left(rt: HostRuntime) -> Result<(), Fail> {
+    check_lines(&rt, rt.alloc(), &NO_MINIMUM_LEFT)
+}
+
 // The sampled bucket is the other one.
 #[test]
 fn keeps_its_length_where_one_bucket_has_all(rt: HostRuntime) -> Result<(), Fail> {

@@ -4,7 +4,7 @@ use std::io::Write;
 use std::test::Fail;
 
 // A table of 8192 slots beside an old array of 128 buckets, which has the pair.
-const TWO_UNITS: [(&str, &str); 3] = [
+pub(super) const TWO_UNITS: [(&str, &str); 3] = [
     ("new map spread 4096 9223372036854775808", "ok"),
     ("put 5 50", "ok"),
     ("reserve 4096", "4096"),
