@@ -1,2 +1,2 @@
-mod NoTickets
 mod OneOfMany
+mod TakingKeys

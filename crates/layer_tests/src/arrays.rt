@@ -58,6 +58,42 @@ fn a_change_of_one_bucket_leaves_the_others(rt: HostRuntime) -> Result<(), Fail>
     Ok(())
 }
 
+// An array of eight parts: a bucket in each part and at the ends of some, from the last to the first.
+const IN_PARTS: [usize; 11] = [511, 510, 449, 448, 447, 320, 300, 255, 130, 64, 3];
+
+#[test]
+fn a_bucket_lent_in_one_part_leaves_the_others(rt: HostRuntime) -> Result<(), Fail> {
+    let mut array = Array::alloc(rt.alloc(), 512 * 32)?;
+    check_same(&rt, array.len(), 512, "long");
+    for (done, index) in IN_PARTS.iter().enumerate() {
+        put(&rt, &mut array, *index, *index as u64)?;
+        put(&rt, &mut array, *index, 1000)?;
+        check_touched(&rt, &array, &IN_PARTS[..done + 1]);
+    }
+    Ok(())
+}
+
+// These buckets have their index and 1000 as keys, in this order; the others are empty.
+fn check_touched(rt: &impl Abort, array: &Array, touched: &[usize]) {
+    for index in 0..array.len() {
+        let there = touched.contains(&index);
+        let block = array.data_block(index);
+        let found = (
+            array.bucket(index).len(),
+            block.key(0).copied(),
+            block.key(1).copied(),
+        );
+        let wanted = if there {
+            (2, Some(index as u64), Some(1000))
+        } else {
+            (0, None, None)
+        };
+        if found != wanted {
+            check_same(rt, found, wanted, index);
+        }
+    }
+}
+
 // Inserts a key into a bucket of the array, with ten times itself as its value.
 fn put(rt: &impl Abort, array: &mut Array, index: usize, key: u64) -> Result<(), Fail> {
     assert!(rt; index < array.len());

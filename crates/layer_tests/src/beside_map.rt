@@ -120,6 +120,7 @@ impl Course {
 
             // The course makes no such call.
             Call::Reserve(_)
+            | Call::Release(_)
             | Call::Start
             | Call::Work(_)
             | Call::End(..)

@@ -9,7 +9,7 @@ use bucket_slots::lru::LruList;
 use std::mem;
 
 /// Returns a pointer to the pair of a key, if there is one.
-fn find<V, L: LruList, const TYPE: u8>(
+pub(crate) fn find<V, L: LruList, const TYPE: u8>(
     bucket: &Bucket<u64, V, L, TYPE>,
     key: u64,
     hash: u64,

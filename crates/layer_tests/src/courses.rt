@@ -1,6 +1,8 @@
 //! Long courses of calls on tables of each kind, beside a map of the standard library. Pairs come and
 //! go like tides, so that tables get longer arrays and shorter ones again, while tickets are opened,
 //! left open and ended at random.
+mod direct;
+
 use crate::checks::check_same;
 use crate::scripts::Table;
 use bucket_slots::bucket::{CACHE, INDEX, MAP};
@@ -8,6 +10,7 @@ use bucket_slots::lru::{DoublyLinkedList, LruList};
 use bucket_table::hash_table::HashTable;
 use bucket_table::script::{Call, FixedGeneration, Reply, ScriptHash, run};
 use bucket_table::tickets::TicketError;
+use direct::call_directly;
 use std::alloc::Global;
 use std::collections::BTreeMap;
 use std::process::Abort;
@@ -22,11 +25,16 @@ const TIDE: u64 = 5000;
 // After how many calls all open tickets are given up.
 const SETTLING: u64 = 200;
 
+// After how many calls one is made that no script makes.
+const DIRECT: u64 = 50;
+
 // An odd number with its bits spread, so that keys take homes all over the array.
 const SPREADING: u64 = 11400714819323198485;
 
-// Six times the double of the first 64 slots.
+// Six times the double of the first 64 slots, and twice.
 const SIX_DOUBLINGS: usize = 4096;
+
+const TWO_DOUBLINGS: usize = 256;
 
 /// What becomes of a table: the map that it is, its open tickets, and a sequence of numbers that
 /// chooses the calls.
@@ -35,14 +43,18 @@ struct Course {
     kind: u8,
     /// The greatest number of a key.
     mask: u64,
-    /// Whether the least capacity is raised, since no growth comes by itself.
+    /// Whether the least capacity is raised, if by little: above 0 it lets a table grow and shrink
+    /// whose last buckets are always empty.
     raises: bool,
     map: BTreeMap<u64, u64>,
     open: Vec<usize>,
     state: u64,
     comes: u64,
     goes: u64,
+    slots: usize,
     most_slots: usize,
+    /// How often the array became shorter with a pair in it.
+    shrinks: u64,
 }
 
 impl Course {
@@ -58,7 +70,9 @@ impl Course {
             state: 1,
             comes: 0,
             goes: 0,
+            slots: 0,
             most_slots: 0,
+            shrinks: 0,
         }
     }
 
@@ -109,7 +123,8 @@ impl Course {
 
     fn question(&self, state: u64) -> Call<u64, u64> {
         match state % 64 {
-            0 if self.raises => Call::Reserve(64),
+            0 if self.raises => Call::Reserve(1),
+            1 => Call::Walk,
             number if number % 2 == 0 => Call::Count,
             _ => Call::Has,
         }
@@ -162,6 +177,7 @@ impl Course {
             Call::Count => reply == Reply::Number(self.map.len()),
             Call::Has => reply == Reply::Truth(!self.map.is_empty()),
             Call::Reserve(asked) => reply == Reply::Number(asked),
+            Call::Walk => matches!(reply, Reply::Walked(_, pairs) if pairs == self.map.len()),
             _ => false,
         }
     }
@@ -201,6 +217,23 @@ impl Course {
         true
     }
 
+    // The epoch and the test of a call.
+    fn generation(&self) -> FixedGeneration {
+        FixedGeneration {
+            epoch: ((self.state >> 48) % 8) as u8,
+            keep: self.state >> 47 & 1 == 1,
+        }
+    }
+
+    // How many slots the current array has now.
+    fn sees(&mut self, slots: usize) {
+        if slots < self.slots && !self.map.is_empty() {
+            self.shrinks = self.shrinks.wrapping_add(1);
+        }
+        self.slots = slots;
+        self.most_slots = self.most_slots.max(slots);
+    }
+
     // What the rehash word says of open tickets.
     fn counts(&self, word: Option<usize>) -> bool {
         match word {
@@ -218,19 +251,15 @@ fn does<L: LruList + Drop, const TYPE: u8>(
     course: &mut Course,
     call: Call<u64, u64>,
 ) -> Result<(), Fail> {
-    let generation = FixedGeneration {
-        epoch: ((course.state >> 48) % 8) as u8,
-        keep: course.state >> 47 & 1 == 1,
-    };
     let mut calls = Vec::new(alloc);
     calls.push(call)?;
-    let replies = run(alloc, table, calls, &generation)?;
+    let replies = run(alloc, table, calls, &course.generation())?;
     let Some(reply) = replies.get(0) else {
         return Err("no reply".into());
     };
     check_same(rt, course.follow(call, *reply)?, true, (call, *reply));
     check_same(rt, course.counts(table.rehashing_metadata()), true, call);
-    course.most_slots = course.most_slots.max(table.num_slots());
+    course.sees(table.num_slots());
     Ok(())
 }
 
@@ -256,12 +285,18 @@ fn play<L: LruList + Drop, const TYPE: u8>(
 ) -> Result<(), Fail> {
     let mut table: Table<L, TYPE> = HashTable::new(alloc, hasher, 0, 1 << 63);
     let mut course = Course::new(alloc, TYPE, hasher);
+    if course.raises {
+        does(rt, alloc, &mut table, &mut course, Call::Reserve(1))?;
+    }
     for number in 0..CALLS {
         if number % SETTLING == 0 {
             settle(rt, alloc, &mut table, &mut course)?;
         }
         if number % TIDE == 0 {
             check_pairs(rt, &table, &course);
+        }
+        if number % DIRECT == 0 {
+            call_directly(rt, &mut table, &mut course, number)?;
         }
         let call = course.call(number);
         does(rt, alloc, &mut table, &mut course, call)?;
@@ -287,8 +322,8 @@ fn check_pairs<L: LruList + Drop, const TYPE: u8>(
     }
 }
 
-// All pairs are gone. Where the least capacity is 0 the array was doubled six times and more, and
-// counts give it up.
+// All pairs are gone. The array was doubled, and was shortened with pairs in it, and counts and a
+// resize bring it back to the least capacity.
 fn check_end<L: LruList + Drop, const TYPE: u8>(
     rt: &impl Abort,
     alloc: Global,
@@ -298,17 +333,17 @@ fn check_end<L: LruList + Drop, const TYPE: u8>(
     for _ in 0..4 {
         does(rt, alloc, table, course, Call::Count)?;
     }
+    let _ = table.try_resize()?;
+    does(rt, alloc, table, course, Call::Count)?;
+    let (most, least) = match course.raises {
+        true => (TWO_DOUBLINGS, 64),
+        false => (SIX_DOUBLINGS, 0),
+    };
     check_same(rt, course.map.len(), 0, "pairs are left");
     check_same(rt, table.rehashing_metadata(), None, "the last rehash");
-    if !course.raises {
-        check_same(
-            rt,
-            course.most_slots >= SIX_DOUBLINGS,
-            true,
-            "six doublings",
-        );
-        check_same(rt, table.num_slots(), 0, "the way back");
-    }
+    check_same(rt, course.most_slots >= most, true, "doublings");
+    check_same(rt, course.shrinks > 0, true, "shrinks of pairs");
+    check_same(rt, table.num_slots(), least, "the way back");
     Ok(())
 }
 

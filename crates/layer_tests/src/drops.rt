@@ -242,3 +242,43 @@ fn pairs_still_held_are_dropped_with_the_array(rt: HostRuntime) -> Result<(), Fa
     check_count(&rt, &counted, 1);
     Ok(())
 }
+
+// The length of an array of eight parts.
+const LENGTH: usize = 512;
+
+// How many pairs come into which of its buckets: at an end of the first part and of the last one, and
+// in the midst of a part. Two of these buckets need a chain.
+const TOUCHED: [(usize, u64); 4] = [(0, 1), (300, 40), (510, 33), (511, 2)];
+
+// How many pairs these are.
+const PAIRS: usize = 76;
+
+#[test]
+fn pairs_in_a_few_parts_of_an_array_are_dropped_once(rt: HostRuntime) -> Result<(), Fail> {
+    let counted = Rc::new(rt.alloc(), 0)?;
+    let untouched = BucketArray::<u64, Rc<i32>, (), MAP>::alloc(rt.alloc(), LENGTH * 32)?;
+    let mut array = BucketArray::<u64, Rc<i32>, (), MAP>::alloc(rt.alloc(), LENGTH * 32)?;
+    check_same(
+        &rt,
+        (array.len(), untouched.len()),
+        (LENGTH, LENGTH),
+        "long",
+    );
+    for (index, keys) in TOUCHED {
+        for key in 0..keys {
+            assert!(rt; index < array.len());
+            insert_clone(array.bucket_mut(index), key, &counted, Kept::All)?;
+        }
+    }
+    check_count(&rt, &counted, 1 + PAIRS);
+    for key in 0..20 {
+        assert!(rt; 300 < array.len());
+        check_same(&rt, take(array.bucket_mut(300), key), true, key);
+    }
+    check_count(&rt, &counted, 1 + PAIRS - 20);
+    drop(untouched);
+    check_count(&rt, &counted, 1 + PAIRS - 20);
+    drop(array);
+    check_count(&rt, &counted, 1);
+    Ok(())
+}

@@ -48,7 +48,17 @@ const STORIES: &[Story] = steps! {
     Story { name: "a first writer makes an array, and a count drops it", hasher: ScriptHash::Id,
         minimum: 0, start: &[], steps: steps! {
             Locks(0, 0), Sees(64, None), Does(Count, Number(0)), Sees(0, None), Reserves(0, 0),
-            Sees(64, None), Does(Count, Number(0)), Sees(0, None) } },
+            Sees(64, None), Does(Count, Number(0)), Sees(0, None), Makes(2), Sees(64, None),
+            Makes(2), Does(Count, Number(0)), Sees(0, None) } },
+    // All pairs are in the second bucket, where no growth by itself looks, and 256 is the least power
+    // of two whose half isn't below 100.
+    Story { name: "a resize that is asked for comes once", hasher: ScriptHash::Spread, minimum: 0,
+        start: steps! { Puts(128, 228), Sees(64, None) }, steps: steps! {
+            Resizes(true), Sees(256, Some(0)), Resizes(false), Sees(256, Some(0)),
+            Does(Count, Number(100)) } },
+    Story { name: "a resize that is asked for gives an empty array up", hasher: ScriptHash::Id,
+        minimum: 0, start: steps! { Locks(0, 0), Sees(64, None) }, steps: steps! {
+            Resizes(true), Sees(0, None), Resizes(false), Sees(0, None) } },
     // Half of all hashes are the second bucket's.
     Story { name: "the upper bits of a hash choose its bucket", hasher: ScriptHash::Id, minimum: 0,
         start: &[], steps: steps! {

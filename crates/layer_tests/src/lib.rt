@@ -1,6 +1,6 @@
 //! Tests of buckets, of arrays of buckets, of tables and of scripts, in one crate at the top,
 //! since a crate with tests is proved twice. The functions that aren't tests show that generic
-//! code reaches a bucket behind a vector.
+//! code reaches a bucket behind a vector, and what a caller can say of calls of a table.
 #![tactic(auto)]
 
 #[cfg(test)]
@@ -18,11 +18,16 @@ mod checks;
 #[cfg(test)]
 mod courses;
 #[cfg(test)]
+mod cursors;
+#[cfg(test)]
 mod data_blocks;
 #[cfg(test)]
 mod drops;
+pub mod going_on;
 #[cfg(test)]
 mod growth;
+#[cfg(test)]
+mod hostile;
 #[cfg(test)]
 mod indexes;
 #[cfg(test)]
@@ -32,6 +37,8 @@ mod matching;
 #[cfg(test)]
 mod pointers;
 pub mod probe;
+#[cfg(test)]
+mod probes;
 #[cfg(test)]
 mod recency_lists;
 #[cfg(test)]
@@ -44,6 +51,7 @@ mod stage;
 mod steps;
 #[cfg(test)]
 mod tables;
+pub mod taking;
 #[cfg(test)]
 mod tickets;
 #[cfg(test)]

@@ -27,6 +27,11 @@ const WHOLE_ROWS: [([u8; 32], u8, u32); 4] = [
     (LAST_IS_NINE, 1, 0),
 ];
 
+// Places in a row, a bit each: none, all, and every one of each residue modulo 2 and 3.
+const PLACES: [u32; 7] = [
+    0, 0xFFFFFFFF, 0x55555555, 0xAAAAAAAA, 0x49249249, 0x92492492, 0x24924924,
+];
+
 // How many rows of each length are made.
 const MADE_ROWS: u64 = 200;
 
@@ -79,4 +84,54 @@ fn made_row<const LEN: usize>(seed: u64) -> [u8; LEN] {
         bytes[i] = ((state >> 40) % 5) as u8;
     }
     bytes
+}
+
+#[test]
+fn agrees_with_a_loop_on_every_byte_at_each_place(rt: HostRuntime) {
+    for byte in 0..=255u8 {
+        for places in &PLACES {
+            check_places(&rt, byte, *places);
+        }
+        for place in 0..32u32 {
+            check_places(&rt, byte, 1 << place);
+        }
+    }
+}
+
+// The byte stands at these places of a block and of a whole row, and nowhere else.
+fn check_places(rt: &impl Abort, byte: u8, places: u32) {
+    check_row(rt, &row_with::<4>(byte, places), byte, places % 16);
+    check_row(rt, &row_with::<32>(byte, places), byte, places);
+}
+
+// The matcher, a loop and the places say the same.
+fn check_row<const LEN: usize>(rt: &impl Abort, bytes: &[u8; LEN], byte: u8, places: u32)
+    requires { LEN ≤ 32 }
+{
+    let found = (match_partial_hash(bytes, byte), mask_by_loop(bytes, byte));
+    if found != (places, places) {
+        check_same(rt, found, (places, places), (LEN, byte));
+    }
+}
+
+// A row with the byte at these places. Each other byte differs from it in one bit.
+fn row_with<const LEN: usize>(byte: u8, places: u32) -> [u8; LEN] {
+    let mut bytes = [byte; LEN];
+    for i in 0..LEN {
+        if i < 32 && places >> i as u32 & 1 == 0 {
+            bytes[i] = byte ^ 1 << (i % 8) as u32;
+        }
+    }
+    bytes
+}
+
+// The mask of the bytes that equal one byte, found by looking at each.
+fn mask_by_loop(bytes: &[u8], byte: u8) -> u32 {
+    let mut mask = 0;
+    for (i, own) in bytes.iter().enumerate() {
+        if i < 32 && *own == byte {
+            mask |= 1u32 << i as u32;
+        }
+    }
+    mask
 }

@@ -1,11 +1,14 @@
 //! Steps on a table: calls, and what is seen of the table then. A story is a list of steps on a new
 //! table.
-ghost use Rattle.std.specs.Prelude.{◌≡◌, ◌≤◌, None};
+ghost use Rattle.std.specs.Prelude.{◌≤◌};
 
 use crate::by_lock::{Map, home_of, index_of, place_of, put_at, reserved_index_of, take_at};
 use crate::checks::check_same;
+use crate::cursors::{Stop, follow};
+use crate::probes::asked_for;
 use crate::scripts::Row;
 use crate::steps::Spot;
+use crate::walks::{finish, strip};
 use bucket_table::hash_table::HashTable;
 use bucket_table::script::{Call, Reply, ScriptHash, run};
 use std::alloc::Global;
@@ -51,10 +54,24 @@ pub(crate) enum Step {
     Sees(usize, Option<usize>),
     /// The value under a key is this one, as a peek has it.
     Holds(u64, u64),
+    /// Whether a look-up by a probe finds a key, and how many keys the probe is asked of.
+    Asks(u64, bool, u64),
+    /// The array that is there, or is made, has so many buckets.
+    Makes(usize),
+    /// A resize is asked for, and comes or doesn't.
+    Resizes(bool),
+    /// No ticket is open, and so many units are left and worked.
+    Finishes(usize),
+    /// The pairs of keys from a number on are kept, and so many others go.
+    Sweeps(u64, usize),
+    /// A walk takes out two keys, which are there, and asks for a shorter array.
+    Strips(u64, u64),
+    /// A cursor goes from the first pair on, and ends behind these.
+    Follows(&'static [Stop]),
 }
 
 /// A step's place: its story, and its number there.
-type At = (&'static str, usize);
+pub(crate) type At = (&'static str, usize);
 
 /// Plays stories, each on a new table.
 pub(crate) fn tell(rt: &impl Abort, alloc: Global, stories: &[Story]) -> Result<(), Fail> {
@@ -70,7 +87,6 @@ pub(crate) fn tell(rt: &impl Abort, alloc: Global, stories: &[Story]) -> Result<
 /// A map with no pair, whose greatest capacity is 2^63 slots.
 pub(crate) fn new_map(alloc: Global, hasher: ScriptHash, minimum: usize) -> Map
     requires { minimum ≤ 4096 }
-    ensures { result.arrays.rehash ≡ None }
 {
     HashTable::new(alloc, hasher, minimum, 1 << 63)
 }
@@ -97,14 +113,34 @@ fn take(rt: &impl Abort, alloc: Global, table: &mut Map, at: At, step: &Step) ->
         Step::Puts(from, to) => puts(rt, alloc, table, at, *from, *to),
         Step::Takes(from, to) => takes(rt, alloc, table, at, *from, *to),
         Step::Works(from, to) => works(rt, alloc, table, at, *from, *to),
+        Step::Follows(stops) => follow(rt, table, at, stops),
         _ => {
+            call(rt, table, at, step)?;
             look(rt, table, at, step);
             Ok(())
         }
     }
 }
 
-// Takes a step that needs no script.
+// Takes a step that needs no script, and may need memory.
+fn call(rt: &impl Abort, table: &mut Map, at: At, step: &Step) -> Result<(), Fail> {
+    match step {
+        Step::Makes(len) => check_same(rt, table.get_or_create_array()?.len(), *len, at),
+        Step::Resizes(done) => check_same(rt, table.try_resize()?, *done, at),
+        Step::Finishes(units) => check_same(rt, finish(table)?, Some(*units), at),
+        Step::Sweeps(from, taken) => {
+            let keep = |key: &u64, _value: &u64| *key >= *from;
+            check_same(rt, table.sweep(&keep, &())?, *taken, at);
+        }
+        Step::Strips(first, second) => {
+            check_same(rt, strip(table, (*first, *second))?, (true, true), at);
+        }
+        _ => {}
+    }
+    Ok(())
+}
+
+// Takes a step that needs neither a script nor memory of the test's own.
 fn look(rt: &impl Abort, table: &mut Map, at: At, step: &Step) {
     match step {
         Step::Lands(key, index, spot) => {
@@ -123,6 +159,9 @@ fn look(rt: &impl Abort, table: &mut Map, at: At, step: &Step) {
         }
         Step::Holds(key, value) => {
             check_same(rt, table.peek_entry(key), Some((key, value)), at);
+        }
+        Step::Asks(key, found, asked) => {
+            check_same(rt, asked_for(table, *key), (*found, *asked), at);
         }
         _ => {}
     }

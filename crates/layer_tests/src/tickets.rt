@@ -10,7 +10,7 @@ use std::test::Fail;
 
 // An old array of 128 buckets, two units, beside one of 256. The word is 2048 times the next unit,
 // and the number of open tickets.
-const TWO_UNITS: &[Step] = steps! {
+pub(crate) const TWO_UNITS: &[Step] = steps! {
     Does(Put(5, 50), Done), Sees(4096, None), Does(Reserve(4096), Number(4096)),
     Sees(8192, Some(0)), Holds(5, 50)
 };

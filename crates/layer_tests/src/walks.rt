@@ -1,19 +1,33 @@
-//! Walks over a table, sweeps of it, and rehashes that are finished.
+//! Walks over a table, cursors and sweeps, counted look-ups, and rehashes that are finished.
+ghost use Rattle.std.specs.Prelude.{◌≡◌, false};
+ghost use Rattle.bucket_table.specs.Finishing.{IsUnopened};
+ghost use Rattle.bucket_table.specs.Walks.{IsKeptBy};
+
+use crate::by_key::find;
 use crate::by_lock::Map;
 use crate::checks::check_same;
+use crate::cursors::Stop;
 use crate::growth::DOUBLED;
 use crate::steps::steps;
 use crate::tables::Step::*;
-use crate::tables::{Step, new_map, play};
-use bucket_slots::bucket::{Bucket, MAP};
+use crate::tables::{Step, Story, new_map, play, tell};
+use crate::tickets::TWO_UNITS;
+use bucket_slots::bucket::{AllocError, Bucket, MAP};
 use bucket_table::script::Call::*;
 use bucket_table::script::Reply::*;
 use bucket_table::script::ScriptHash;
+use bucket_table::tickets::TICKET_STEP;
 use std::alloc::Global;
 use std::process::Abort;
 use std::test::Fail;
 
 type Pairs = Bucket<u64, u64, (), MAP>;
+
+// A map of four buckets, the first with keys 0 to 31, and the third with the other seven.
+const SEVEN_BEHIND: &[Step] = steps! {
+    Puts(0, 31), Puts(128, 159), Puts(31, 32), Does(Read(0), Value(0)), Sees(128, None),
+    Takes(128, 152)
+};
 
 // A map of 63 pairs that has just doubled to four buckets.
 fn doubled_map(rt: &impl Abort, alloc: Global) -> Result<Map, Fail> {
@@ -51,39 +65,91 @@ fn a_walk_that_is_stopped_has_seen_one_bucket(rt: HostRuntime) -> Result<(), Fai
     Ok(())
 }
 
-// Of the 39 pairs that are left 32 go, and the table shrinks behind the first bucket.
-const SWEPT: &[Step] = steps! { Sees(64, None), Does(Count, Number(7)), Holds(152, 152) };
-
-#[test]
-fn a_sweep_goes_on_over_a_shrink(rt: HostRuntime) -> Result<(), Fail> {
-    let mut table = doubled_map(&rt, rt.alloc())?;
-    play(&rt, rt.alloc(), &mut table, "24 go", &[Takes(128, 152)])?;
-    let keep = |key: &u64, _value: &u64| *key >= 128;
-    let taken = table.sweep(&keep, &())?;
-    check_same(&rt, taken, 32, "taken");
-    play(&rt, rt.alloc(), &mut table, "a sweep", SWEPT)
+/// Finishes a rehash, where no ticket is open, and returns how many units were left.
+pub(crate) fn finish(table: &mut Map) -> Result<Option<usize>, AllocError> {
+    if has_open_ticket(table) {
+        return Ok(None);
+    }
+    match table.finish_rehash() {
+        Ok(units) => Ok(Some(units)),
+        Err(refused) => Err(refused),
+    }
 }
 
-// An old array of 128 buckets, two units.
-#[test]
-fn a_rehash_is_finished_unit_by_unit(rt: HostRuntime) -> Result<(), Fail> {
-    let mut table = new_map(rt.alloc(), ScriptHash::Spread, 4096);
-    let _ = table.find(0)?;
-    check_same(&rt, table.reserve_capacity(4096), 4096, "raised");
-    check_same(&rt, table.rehashing_metadata(), Some(0), "an old array");
-    check_same(&rt, table.finish_rehash()?, 2, "two units");
-    check_same(&rt, table.finish_rehash()?, 0, "no unit");
-    Ok(())
+// Whether a ticket is open, as the rehash word tells.
+fn has_open_ticket(table: &Map) -> bool
+    ensures { result ≡ false → IsUnopened table.now.arrays.rehash }
+{
+    match table.rehashing_metadata() {
+        Some(word) => word % TICKET_STEP != 0,
+        None => false,
+    }
 }
 
+/// Takes two keys out in a walk, which then asks for a shorter array. Returns whether each was
+/// there.
+pub(crate) fn strip(table: &mut Map, keys: (u64, u64)) -> Result<(bool, bool), AllocError> {
+    let mut taken = (false, false);
+    let mut takes = |bucket: &mut Pairs, flag: &mut bool| -> bool
+        ensures { bucket.old.killed ≡ false → IsKeptBy bucket.old bucket.new }
+    {
+        let first = take_key(bucket, keys.0);
+        let second = take_key(bucket, keys.1);
+        taken = (taken.0 | first, taken.1 | second);
+        *flag |= first | second;
+        true
+    };
+    table.for_each_writer_sync(0, 0, &mut takes)?;
+    Ok(taken)
+}
+
+// Takes a key out of a bucket, and returns whether it was there.
+fn take_key(bucket: &mut Pairs, key: u64) -> bool
+    ensures { bucket.old.killed ≡ false → IsKeptBy bucket.old bucket.new }
+{
+    let Some(mut at) = find(bucket, key, key) else {
+        return false;
+    };
+    let _ = bucket.remove(&mut at);
+    true
+}
+
+const STORIES: &[Story] = steps! {
+    Story { name: "a rehash is finished unit by unit", hasher: ScriptHash::Spread, minimum: 4096,
+        start: TWO_UNITS, steps: steps! {
+            Finishes(2), Sees(8192, None), Finishes(0), Sees(8192, None), Holds(5, 50) } },
+    Story { name: "a unit that is done is finished no more", hasher: ScriptHash::Spread,
+        minimum: 4096, start: TWO_UNITS, steps: steps! {
+            Does(Start, Ticket(0)), Works(0, 64), Does(End(0, true), Ended(false)),
+            Sees(8192, Some(2048)), Finishes(1), Sees(8192, None), Holds(5, 50) } },
+    Story { name: "a look-up asks the keys with the byte in two homes",
+        hasher: ScriptHash::Spread, minimum: 0, start: DOUBLED,
+        steps: steps! { Asks(5, true, 1), Asks(40, false, 0), Sees(128, Some(0)) } },
+    // The newest block of the chain has keys 36 to 39, and comes before that of 32 to 35.
+    Story { name: "a look-up asks in slot order", hasher: ScriptHash::Zero, minimum: 0,
+        start: steps! { Puts(0, 40) }, steps: steps! {
+            Asks(31, true, 32), Asks(36, true, 33), Asks(35, true, 40), Asks(99, false, 40) } },
+    Story { name: "a walk takes pairs out and leaves a short array", hasher: ScriptHash::Id,
+        minimum: 0, start: steps! { Puts(1, 4) }, steps: steps! {
+            Strips(2, 3), Sees(64, None),
+            Follows(&[Stop { keys: (1, 2), bucket: (0, 64), takes: false }]) } },
+    // Once 0 to 31 are gone the table shrinks, and the bucket behind is the second of two.
+    Story { name: "a cursor goes on over the shrink that it brings", hasher: ScriptHash::Spread,
+        minimum: 0, start: SEVEN_BEHIND, steps: steps! {
+            Follows(&[
+                Stop { keys: (0, 32), bucket: (0, 128), takes: true },
+                Stop { keys: (152, 159), bucket: (1, 64), takes: false },
+            ]),
+            Sees(64, None), Does(Count, Number(7)) } },
+    Story { name: "a sweep goes on over the shrink that it brings", hasher: ScriptHash::Spread,
+        minimum: 0, start: SEVEN_BEHIND, steps: steps! {
+            Sweeps(128, 32), Sees(64, None), Does(Count, Number(7)), Holds(152, 152) } },
+    Story { name: "a walk counts each bucket and each pair, and a clearing leaves none",
+        hasher: ScriptHash::Spread, minimum: 0, start: DOUBLED, steps: steps! {
+            Does(Walk, Walked(4, 63)), Does(Clear, Cleared(63)), Sees(0, None) } }
+};
+
 #[test]
-fn a_unit_that_is_worked_is_finished_no_more(rt: HostRuntime) -> Result<(), Fail> {
-    let mut table = new_map(rt.alloc(), ScriptHash::Spread, 4096);
-    let _ = table.find(0)?;
-    check_same(&rt, table.reserve_capacity(4096), 4096, "raised");
-    let _ = table.find(0)?;
-    check_same(&rt, table.rehashing_metadata(), Some(2048), "one unit");
-    check_same(&rt, table.finish_rehash()?, 1, "the other");
-    check_same(&rt, table.rehashing_metadata(), None, "no old array");
-    Ok(())
+fn walks_and_cursors_go_through_the_stories(rt: HostRuntime) -> Result<(), Fail> {
+    tell(&rt, rt.alloc(), STORIES)
 }

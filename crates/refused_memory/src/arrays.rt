@@ -1,4 +1,6 @@
 //! Arrays of buckets, for runs in which a request for memory is refused.
+ghost use Rattle.std.specs.Prelude.{◌<◌, length};
+
 use crate::outcome::Outcome;
 use bucket_slots::bucket::MAP;
 use bucket_slots::bucket_array::BucketArray;
@@ -19,5 +21,34 @@ pub(crate) fn arrays(alloc: Global) -> Outcome {
             return Outcome::Wrong;
         }
     }
+    array_in_parts(alloc)
+}
+
+// A capacity whose array has 256 buckets, in four parts.
+const IN_PARTS: usize = 8192;
+
+/// Makes an array of several parts, and fills a bucket in each, which takes no more memory.
+fn array_in_parts(alloc: Global) -> Outcome {
+    let Ok(mut array) = Array::alloc(alloc, IN_PARTS) else {
+        return Outcome::AsBefore;
+    };
+    for index in [255, 70, 130, 0] {
+        if index >= array.len() || !fills(&mut array, index) {
+            return Outcome::Wrong;
+        }
+    }
     Outcome::Done
+}
+
+/// Fills the own slots of a bucket that is empty.
+fn fills(array: &mut Array, index: usize) -> bool
+    requires { index < length array.old }
+{
+    let bucket = array.bucket_mut(index);
+    for key in 0..32 {
+        if bucket.insert(0, (key, key), &()).is_err() {
+            return false;
+        }
+    }
+    bucket.len() == 32
 }

@@ -37,10 +37,20 @@ impl Beside {
         len
     }
 
-    fn set(&mut self, key: u64, value: Option<u64>) {
+    /// Gives a key this value, or none.
+    pub(crate) fn set(&mut self, key: u64, value: Option<u64>) {
         if let Some(place) = self.values.get_mut(key as usize) {
             *place = value;
         }
+    }
+
+    /// Takes the keys below a bound away, and returns how many there were.
+    pub(crate) fn drop_below(&mut self, bound: u64) -> usize {
+        let len = self.len();
+        for key in 0..bound.min(KEYS) {
+            self.set(key, None);
+        }
+        len.saturating_sub(self.len())
     }
 
     /// Whether the reply is one of the map's, which changes with it. A refused call changes nothing,

@@ -342,7 +342,7 @@ fn judged<const TYPE: u8>(
 }
 
 /// Whether the table has the map's values.
-fn holds<const TYPE: u8>(table: &Table<TYPE>, beside: &Beside) -> bool {
+pub(crate) fn holds<const TYPE: u8>(table: &Table<TYPE>, beside: &Beside) -> bool {
     for key in 0..KEYS {
         let there = match table.peek_entry(&key) {
             Some((_, found)) => Some(*found),

@@ -1,5 +1,5 @@
-//! Scripts on tables that stay small and that grow, calls on buckets and new arrays, for runs in which
-//! a request for memory is refused.
+//! Scripts on tables that stay small and that grow, and calls on tables, on buckets and on new
+//! arrays, for runs in which a request for memory is refused.
 //!
 //! The program judges its own outcome, and prints it in one line. A right outcome with a request
 //! refused has a status of its own, so that of two runs with status 0 both printed `done`, unless
@@ -9,12 +9,15 @@
 mod arrays;
 mod beside;
 mod buckets;
+mod by_call;
+mod direct;
 mod growing;
 mod index_bucket;
 mod outcome;
 
 use crate::arrays::arrays;
 use crate::buckets::two_buckets;
+use crate::direct::direct_calls;
 use crate::growing::growing_scripts;
 use crate::index_bucket::index_bucket;
 use crate::outcome::Outcome;
@@ -48,7 +51,10 @@ fn all_parts(alloc: Global) -> Outcome {
         Outcome::Done => {}
         outcome => return outcome,
     }
-    growing_scripts(alloc)
+    match growing_scripts(alloc) {
+        Outcome::Done => direct_calls(alloc),
+        outcome => outcome,
+    }
 }
 
 /// The calls of the rows.

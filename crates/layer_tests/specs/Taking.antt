@@ -1,0 +1,10 @@
+-- A call that takes the pair of a key out of a map.
+use Rattle.std.specs.Prelude.{◌≡◌, Bool, true, Option, Some, None, Result, Ok, Err}
+use Rattle.bucket_table.specs.LookingUp.{IsAbsent}
+use Rattle.bucket_table.specs.MapState.{KeepsPairs, MapState, TakesPair}
+
+-- the pair whose key is equal goes; none has such a key; or all stays for want of memory
+abbrev pub TakesKey : {K V H E : Type 0} → (K → K → Bool) → K → MapState K V H → Result (Option (K × V)) E → MapState K V H → Type 0
+TakesKey eq key old (Ok (Some pair)) new = (eq pair.0 key ≡ true) × TakesPair old pair new
+TakesKey eq key old (Ok None) new = IsAbsent eq key old.pairs × KeepsPairs old new
+TakesKey eq key old (Err refused) new = KeepsPairs old new

@@ -1,0 +1,82 @@
+//! A cursor over a map, which may take out what it meets.
+use crate::by_key::find;
+use crate::by_lock::Map;
+use crate::checks::check_same;
+use crate::tables::At;
+use bucket_slots::bucket::{EntryPtr, MAP};
+use bucket_table::hash_table::LockedBucket;
+use bucket_table::script::ScriptHash;
+use std::process::Abort;
+use std::test::Fail;
+
+type Locked<'a> = LockedBucket<'a, u64, u64, ScriptHash, (), MAP>;
+
+/// Keys that a cursor meets one after another in one bucket.
+#[derive(Clone, Copy)]
+pub(crate) struct Stop {
+    /// The first key, and the first that isn't meant.
+    pub(crate) keys: (u64, u64),
+    /// The bucket's index, and how many slots its array has.
+    pub(crate) bucket: (usize, usize),
+    /// Whether each pair is taken out of the bucket.
+    pub(crate) takes: bool,
+}
+
+/// A cursor meets the keys of these stops, and then no more.
+pub(crate) fn follow(
+    rt: &impl Abort,
+    table: &mut Map,
+    row: At,
+    stops: &[Stop],
+) -> Result<(), Fail> {
+    let mut at = EntryPtr::null();
+    let mut held = table.first_sync(&mut at)?;
+    for stop in stops {
+        held = go_over(rt, held, &mut at, row, stop)?;
+    }
+    check_same(rt, (held.is_none(), at.is_valid()), (true, false), row);
+    Ok(())
+}
+
+// The cursor meets the keys of a stop. Returns the bucket behind them.
+fn go_over<'a>(
+    rt: &impl Abort,
+    first: Option<Locked<'a>>,
+    at: &mut EntryPtr<u64, u64, MAP>,
+    row: At,
+    stop: &Stop,
+) -> Result<Option<Locked<'a>>, Fail> {
+    let mut held = first;
+    for key in stop.keys.0..stop.keys.1 {
+        let Some(mut locked) = held else {
+            return Err("the cursor has ended".into());
+        };
+        let bucket = (locked.bucket_index(), locked.array().num_slots());
+        check_same(rt, bucket, stop.bucket, (row, key));
+        check_same(
+            rt,
+            meets(&mut locked, at, key, stop.takes),
+            true,
+            (row, key),
+        );
+        held = locked.next_sync(at)?;
+    }
+    Ok(held)
+}
+
+// Whether the cursor stands at the pair of a key, which it takes out where that is asked.
+fn meets(locked: &mut Locked<'_>, at: &mut EntryPtr<u64, u64, MAP>, key: u64, takes: bool) -> bool {
+    // The low byte of a hash is that of its key, unless all hashes are 0, and a bucket looks at no
+    // more.
+    let Some(mut there) = find(locked.bucket(), key, key) else {
+        return false;
+    };
+    if (there.block(), there.pos()) != (at.block(), at.pos()) {
+        return false;
+    }
+    if takes {
+        let _ = locked.remove_entry(&mut there);
+        *at = there;
+    }
+    true
+}
