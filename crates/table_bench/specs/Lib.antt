@@ -1,1 +1,1 @@
-mod Multiplied
+pub mod Mixed

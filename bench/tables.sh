@@ -1,0 +1,141 @@
+#!/usr/bin/env bash
+# Prints what calls cost on a table that grew from nothing, on the kit's `HashMap` and, where
+# `rustc` is there, on that of Rust's standard library: one hash, the same keys, the maps in turn in
+# each round. A figure is a median, with the least and the greatest; ratios are of medians. It
+# asserts nothing.
+#
+# Called as `bench/tables.sh [-i] [ROUNDS]`. With -i it prints instructions a call as well, where
+# `valgrind` is there. Without a number there are 5 rounds.
+set -eu
+root=$(dirname -- "$(dirname -- "$(readlink -f -- "${BASH_SOURCE[0]}")")")
+
+with_instructions=
+if [ "${1:-}" = -i ]; then
+    with_instructions=yes
+    shift
+fi
+rounds=${1:-5}
+
+folder=$(mktemp -d)
+trap 'rm -r "$folder"' EXIT
+
+# The programs. That of the table and of the kit's map is proved and built where it has to be.
+if ! (cd "$root/crates/table_bench" && rt run) >"$folder/log" 2>&1; then
+    cat "$folder/log" >&2
+    exit 1
+fi
+program=$root/crates/table_bench/out/table_bench
+maps="table kit"
+if command -v rustc >/dev/null; then
+    rustc -O --edition 2021 -o "$folder/std_map" "$root/bench/std_map.rs"
+    maps="table kit std"
+fi
+
+# run MAP COURSE PAIRS, with a command in front where there are more words: runs a course.
+run() {
+    case $1 in
+        table) "${@:4}" "$program" table "$2" "$3" ;;
+        kit) "${@:4}" "$program" map "$2" "$3" ;;
+        std) "${@:4}" "$folder/std_map" "$2" "$3" ;;
+    esac
+}
+
+# A line for each figure: pairs, its name, the map, and the figure a call. Of the bytes the first of
+# a run counts, since later ones are memory that the run had before.
+for ((round = 0; round < rounds; round++)); do
+    for job in {calls,large,single}\ {1000,64000,1000000} "single 4000000"; do
+        read -r course pairs <<<"$job"
+        for map in $maps; do
+            run "$map" "$course" "$pairs" |
+                awk -v map="$map" -v pairs="$pairs" \
+                    '$1 != "bytes" || !seen++ { print pairs, $1, map, $2 / $3 }'
+        done
+    done
+done | sort -k1,3 -k4,4g >"$folder/figures"
+
+awk -v maps="$maps" '
+    {
+        group = $1 " " $2 " " $3
+        figures[group, ++count[group]] = $4
+    }
+    function shown(x) { return sprintf(x < 100 ? "%.1f" : "%.0f", x) }
+    function median(group) { return figures[group, int((count[group] + 1) / 2)] }
+    function line(pairs, name, label, unit,    i, group, text) {
+        text = sprintf("%-34s", label)
+        for (i = 1; i <= kinds; i++) {
+            group = pairs " " name " " kind[i]
+            text = text sprintf("%-28s", shown(median(group) / unit) " (" \
+                shown(figures[group, 1] / unit) ".." shown(figures[group, count[group]] / unit) ")")
+        }
+        for (i = 2; i <= kinds; i++)
+            text = text sprintf("%-11s", sprintf("x%.2f", \
+                median(pairs " " name " table") / median(pairs " " name " " kind[i])))
+        sub(/ +$/, "", text)
+        print text
+    }
+    function head(title,    i, text) {
+        text = sprintf("%-34s", title)
+        for (i = 1; i <= kinds; i++) text = text sprintf("%-28s", kind[i])
+        for (i = 2; i <= kinds; i++) text = text sprintf("%-11s", "to " kind[i])
+        print ""
+        sub(/ +$/, "", text)
+        print text
+    }
+    function grown(pairs,    i, text) {
+        text = sprintf("%-34s", "  grown to large enough")
+        for (i = 1; i <= kinds; i++)
+            text = text sprintf("%-28s", sprintf("x%.2f", \
+                median(pairs " insert " kind[i]) / median(pairs " large " kind[i])))
+        sub(/ +$/, "", text)
+        print text
+    }
+    END {
+        kinds = split(maps, kind)
+        split("1000 64000 1000000", sizes)
+        for (s = 1; s <= 3; s++) {
+            head(sizes[s] " pairs")
+            line(sizes[s], "insert", "  insert, grown, ns", 1)
+            line(sizes[s], "large", "  insert, large enough, ns", 1)
+            grown(sizes[s])
+            line(sizes[s], "hit", "  hit, ns", 1)
+            line(sizes[s], "miss", "  miss, ns", 1)
+            line(sizes[s], "churn", "  remove one, insert one, ns", 1)
+            line(sizes[s], "remove", "  remove, ns", 1)
+            line(sizes[s], "walk", "  walk, ns a pair", 1)
+            line(sizes[s], "sweep", "  sweep or retain, ns a pair", 1)
+            line(sizes[s], "bytes", "  bytes a pair", 1)
+            line(sizes[s], "longest", "  longest insertion, us", 1000)
+            line(sizes[s], "rarely", "  99.99th percentile of these, us", 1000)
+        }
+        head("4000000 pairs")
+        line(4000000, "longest", "  longest insertion, us", 1000)
+        line(4000000, "rarely", "  99.99th percentile of these, us", 1000)
+    }' "$folder/figures"
+
+echo
+"$program" arrays
+
+# Instructions, counted over 64 maps of 1,000 pairs; insertions are counted twice on each.
+if [ -n "$with_instructions" ] && command -v valgrind >/dev/null; then
+    echo
+    echo "instructions a call, or a pair, at 1000 pairs"
+    for map in $maps; do
+        run "$map" calls 1000 valgrind --tool=callgrind --callgrind-out-file="$folder/calls" \
+            >/dev/null 2>&1
+        callgrind_annotate --inclusive=yes --threshold=100 "$folder/calls" | tr -d , |
+            awk -v map="$map" '
+                match($0, /(insert|find|miss|churn|remove)_all|::sum|::drop_odd/) {
+                    name = substr($0, RSTART, RLENGTH)
+                    if (!(name in count)) count[name] = $1
+                }
+                END {
+                    printf "  %-6s insert %.0f, hit %.0f, miss %.0f, ", map,
+                        count["insert_all"] / 128000, count["find_all"] / 64000,
+                        count["miss_all"] / 64000
+                    printf "churn %.0f, remove %.0f, ",
+                        count["churn_all"] / 64000, count["remove_all"] / 64000
+                    printf "walk %.1f, sweep %.1f\n",
+                        count["::sum"] / 64000, count["::drop_odd"] / 64000
+                }'
+    done
+fi

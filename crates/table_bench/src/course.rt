@@ -1,0 +1,193 @@
+//! The courses that a map of numbers goes through, and what each of their calls cost.
+//!
+//! Each figure is a line: its name, all nanoseconds or bytes, and the number of calls or pairs.
+use crate::measured::Measured;
+use crate::resident::resident_bytes;
+use std::io;
+use std::time::Instant;
+
+/// Prints what a call cost: its name, the time since `start`, and the number of calls. Without
+/// times it prints the name and the number.
+fn print_time(
+    rt: &HostRuntime,
+    wants_times: bool,
+    name: &str,
+    start: Instant,
+    calls: u64,
+) -> io::Result<()> {
+    let nanoseconds = start.elapsed(rt)?.as_nanos();
+    if wants_times {
+        println!(rt; "{name} {nanoseconds} {calls}")?;
+    } else {
+        println!(rt; "{name} {calls}")?;
+    }
+    Ok(())
+}
+
+/// Prints what calls cost on a map that grows from nothing to an even number of pairs.
+pub(crate) fn run_calls<M: Measured>(
+    rt: &HostRuntime,
+    wants_times: bool,
+    pairs: u64,
+) -> io::Result<()> {
+    let twice = pairs.wrapping_mul(2);
+    let before = resident_bytes(rt, wants_times)?;
+    let mut map = M::with_room(rt.alloc(), 0)?;
+    let start = Instant::now(rt)?;
+    require(insert_all(&mut map, 0, pairs) == pairs)?;
+    print_time(rt, wants_times, "insert", start, pairs)?;
+    let after = resident_bytes(rt, wants_times)?;
+    if wants_times {
+        println!(rt; "bytes {} {pairs}", after.saturating_sub(before))?;
+    }
+    let start = Instant::now(rt)?;
+    require(find_all(&map, 0, pairs) == pairs)?;
+    print_time(rt, wants_times, "hit", start, pairs)?;
+    let start = Instant::now(rt)?;
+    require(miss_all(&map, pairs, twice) == pairs)?;
+    print_time(rt, wants_times, "miss", start, pairs)?;
+    let start = Instant::now(rt)?;
+    require(churn_all(&mut map, pairs) == pairs)?;
+    print_time(rt, wants_times, "churn", start, pairs)?;
+    run_ends(rt, wants_times, &mut map, pairs)
+}
+
+/// Prints what walks cost, sweeps, and removals, on a map with the keys from `pairs` to twice that.
+fn run_ends<M: Measured>(
+    rt: &HostRuntime,
+    wants_times: bool,
+    map: &mut M,
+    pairs: u64,
+) -> io::Result<()> {
+    let twice = pairs.wrapping_mul(2);
+    let start = Instant::now(rt)?;
+    let sum = map.sum();
+    print_time(rt, wants_times, "walk", start, pairs)?;
+    require(sum == sum_between(pairs, twice))?;
+    let start = Instant::now(rt)?;
+    require(remove_all(map, pairs, twice) == pairs)?;
+    print_time(rt, wants_times, "remove", start, pairs)?;
+    require(insert_all(map, 0, pairs) == pairs)?;
+    let start = Instant::now(rt)?;
+    require(map.drop_odd() == pairs / 2)?;
+    print_time(rt, wants_times, "sweep", start, pairs)
+}
+
+/// Prints what an insertion costs in a map that was large enough from the start.
+pub(crate) fn run_large<M: Measured>(
+    rt: &HostRuntime,
+    wants_times: bool,
+    pairs: u64,
+) -> io::Result<()> {
+    let mut map = M::with_room(rt.alloc(), pairs)?;
+    let start = Instant::now(rt)?;
+    require(insert_all(&mut map, 0, pairs) == pairs)?;
+    print_time(rt, wants_times, "large", start, pairs)
+}
+
+/// Prints the longest insertion on the way to so many pairs, and the one that all but one in
+/// 10,000 don't pass.
+pub(crate) fn run_single<M: Measured>(
+    rt: &HostRuntime,
+    wants_times: bool,
+    pairs: u64,
+) -> io::Result<()> {
+    let mut times: Vec<u128> = Vec::with_capacity(rt.alloc(), pairs as usize)?;
+    let mut map = M::with_room(rt.alloc(), 0)?;
+    for key in 0..pairs {
+        let start = Instant::now(rt)?;
+        let came = map.put(key);
+        times.push(start.elapsed(rt)?.as_nanos())?;
+        require(came)?;
+    }
+    times.sort_unstable();
+    let last = times.len().saturating_sub(1);
+    let rare = times.len() / 10_000;
+    if wants_times {
+        let longest = times.get(last).copied().unwrap_or(0);
+        let most = times.get(last.saturating_sub(rare)).copied().unwrap_or(0);
+        println!(rt; "longest {longest} 1")?;
+        println!(rt; "rarely {most} 1")?;
+    } else {
+        println!(rt; "single {}", times.len())?;
+    }
+    Ok(())
+}
+
+/// The error of a run that did something else than was timed.
+fn require(holds: bool) -> io::Result<()> {
+    if holds {
+        Ok(())
+    } else {
+        Err(io::Error::from(io::ErrorKind::InvalidData))
+    }
+}
+
+/// Inserts the keys between two numbers, and returns how many came.
+#[inline(never)]
+fn insert_all<M: Measured>(map: &mut M, from: u64, to: u64) -> u64 {
+    let mut inserted: u64 = 0;
+    for key in from..to {
+        if map.put(key) {
+            inserted = inserted.wrapping_add(1);
+        }
+    }
+    inserted
+}
+
+/// Looks the keys between two numbers up, and returns how many are there.
+#[inline(never)]
+fn find_all<M: Measured>(map: &M, from: u64, to: u64) -> u64 {
+    let mut found: u64 = 0;
+    for key in from..to {
+        if map.has(key) {
+            found = found.wrapping_add(1);
+        }
+    }
+    found
+}
+
+/// Looks the keys between two numbers up, and returns how many aren't there.
+#[inline(never)]
+fn miss_all<M: Measured>(map: &M, from: u64, to: u64) -> u64 {
+    let mut missed: u64 = 0;
+    for key in from..to {
+        if !map.has(key) {
+            missed = missed.wrapping_add(1);
+        }
+    }
+    missed
+}
+
+/// Takes the keys below `pairs` out, and inserts one for each. Returns how many went and came.
+#[inline(never)]
+fn churn_all<M: Measured>(map: &mut M, pairs: u64) -> u64 {
+    let mut changed: u64 = 0;
+    for key in 0..pairs {
+        if map.take(key) && map.put(key.wrapping_add(pairs)) {
+            changed = changed.wrapping_add(1);
+        }
+    }
+    changed
+}
+
+/// Takes the keys between two numbers out, and returns how many were there.
+#[inline(never)]
+fn remove_all<M: Measured>(map: &mut M, from: u64, to: u64) -> u64 {
+    let mut removed: u64 = 0;
+    for key in from..to {
+        if map.take(key) {
+            removed = removed.wrapping_add(1);
+        }
+    }
+    removed
+}
+
+/// The sum of the numbers between two, wrapping.
+fn sum_between(from: u64, to: u64) -> u64 {
+    let mut sum: u64 = 0;
+    for key in from..to {
+        sum = sum.wrapping_add(key);
+    }
+    sum
+}
