@@ -4,47 +4,30 @@
 #
 # Needs rt on the PATH. Ends with status 0 where every run was right, else with 1.
 set -u
-cd "$(dirname "${BASH_SOURCE[0]}")/../crates/refused_memory" || exit 1
-
-# More requests than the program makes.
-most=100
-
-log=$(mktemp) || exit 1
-trap 'rm -f "$log"' EXIT
+source "$(dirname "${BASH_SOURCE[0]}")/lib/refusing.sh"
+prepare_refusing refused_memory
 
 as_before=0
 otherwise=0
 for ((request = 1; request <= most; request++)); do
-    outcome=$(rt try --fail-alloc "$request" 2>"$log")
-    status=$?
-    asked=$(sed -n 's/^allocations: \([0-9][0-9]*\)$/\1/p' "$log")
+    run_refusing "$request" </dev/null
+    outcome=$(cat "$folder/output")
     case "$outcome, status $status" in
-        "done, status 0" | "as before, status 10" | "no script, status 11" | "otherwise, status 13") ;;
-        *) asked= ;;
+        "done, status 0") [ "$is_refused" = 1 ] || break ;;
+        "as before, status 10") as_before=$((as_before + 1)) ;;
+        "otherwise, status 13") otherwise=$((otherwise + 1)) ;;
+        "no script, status 11") ;;
+        *) fail "request $request refused: $outcome, status $status" ;;
     esac
-    if [ -z "$asked" ]; then
-        cat "$log" >&2
-        echo "request $request refused: $outcome, status $status" >&2
-        exit 1
+    if [ "$is_refused" = 0 ] || [ "$outcome" = done ]; then
+        fail "request $request: refused or not, the run was $outcome"
     fi
-    if ((asked < request)); then
-        break
-    fi
-    if [ "$outcome" = done ]; then
-        echo "request $request refused, and yet the run was done" >&2
-        exit 1
-    fi
-    [ "$outcome" = "as before" ] && as_before=$((as_before + 1))
-    [ "$outcome" = "otherwise" ] && otherwise=$((otherwise + 1))
-    echo "request $request refused: $outcome"
 done
 
-if ((asked >= request)) || [ "$outcome" != done ]; then
-    echo "no run was done" >&2
-    exit 1
+if ((request > most)); then
+    fail "no run was done"
 fi
 if ((as_before == 0 || otherwise == 0)); then
-    echo "no refusal reached a script, or none a resize" >&2
-    exit 1
+    fail "no refusal reached a script, or none a resize"
 fi
-echo "none refused: $outcome"
+echo "$((request - 1)) requests refused: $as_before as before, $otherwise otherwise, then done"

@@ -5,13 +5,8 @@
 #
 # Needs rt on the PATH. Ends with status 0 where every run was right, else with 1.
 set -u
-cd "$(dirname "${BASH_SOURCE[0]}")/../crates/bhtable" || exit 1
-
-# More requests than the program makes.
-most=100
-
-folder=$(mktemp -d) || exit 1
-trap 'rm -rf "$folder"' EXIT
+source "$(dirname "${BASH_SOURCE[0]}")/lib/refusing.sh"
+prepare_refusing bhtable
 
 # Keys of one hash, more than a bucket has own slots: the first makes the array, later ones a block of
 # the chain, then another. The keys that are read and removed aren't the first and stand in own slots,
@@ -50,35 +45,28 @@ refused_once() {
 
 ended_early=0
 refusals=0
+every_reply=0
 for ((request = 1; request <= most; request++)); do
-    rt try --fail-alloc "$request" <"$folder/input" >"$folder/output" 2>"$folder/log"
-    status=$?
-    asked=$(sed -n 's/^allocations: \([0-9][0-9]*\)$/\1/p' "$folder/log")
+    run_refusing "$request" <"$folder/input"
     if [ "$status" = 0 ] && cmp -s "$folder/wanted" "$folder/output"; then
-        outcome="every reply"
+        [ "$is_refused" = 1 ] || break
+        every_reply=$((every_reply + 1))
+    elif [ "$is_refused" = 0 ]; then
+        fail "no request refused, and yet a wrong output, status $status"
     elif ran_out; then
-        outcome="no memory"
         ended_early=$((ended_early + 1))
     elif refused_once; then
-        outcome="one refusal"
         refusals=$((refusals + 1))
     else
-        cat "$folder/log" "$folder/output" >&2
-        echo "request $request refused: wrong output, status $status" >&2
-        exit 1
+        fail "request $request refused: wrong output, status $status"
     fi
-    if [ -n "$asked" ] && ((asked < request)); then
-        break
-    fi
-    echo "request $request refused: $outcome"
 done
 
-if ((request > most)) || [ "$outcome" != "every reply" ]; then
-    echo "no run was whole" >&2
-    exit 1
+if ((request > most)); then
+    fail "no run was whole"
 fi
 if ((ended_early == 0 || refusals == 0)); then
-    echo "no refusal reached a reply, or none ended a run" >&2
-    exit 1
+    fail "no refusal reached a reply, or none ended a run"
 fi
-echo "none refused: $outcome"
+echo "$((request - 1)) requests refused: $refusals gave a reply, $ended_early ended the run," \
+    "$every_reply did neither"

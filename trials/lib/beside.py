@@ -1,0 +1,104 @@
+"""A plain map beside a table: which replies it may give to a line, and what they do to the map."""
+
+import re
+
+HASHES = {
+    "zero": lambda key: 0,
+    "id": lambda key: key,
+    "spread": lambda key: (key << 56 | key & 255) % 2**64,
+}
+
+# What is said of arrays and tickets is not the map's: any reply of the line's form may come.
+FORMS = {
+    "epoch": "ok",
+    "slots": "[0-9]+",
+    "word": "[0-9]+|none",
+    "start": "ticket [0-9]+|none",
+    "work": "ok|none|refused 3",
+    "end": "gone|stays|refused [12]",
+}
+
+REFUSABLE = {"put", "write", "remove", "touch", "evict", "walk"}
+
+
+class Beside:
+    """The maps that the table may hold. There is one, until a clearing is refused."""
+
+    def __init__(self):
+        self.maps = []
+
+    def follow(self, line, reply):
+        """Takes a line that could be read, and says whether its reply is one of the map's."""
+        verb, *words = line.split()
+        if verb == "new":
+            self.kind, self.hash = words[0], HASHES[words[1]]
+            self.minimum, self.maximum = int(words[2]), int(words[3])
+            self.maps = [{}]
+            return reply == "ok"
+        if verb in FORMS:
+            return bool(re.fullmatch(FORMS[verb], reply))
+        if verb == "reserve":
+            return reply == self.reserved(int(words[0]))
+        if verb == "release":
+            return reply == self.released(int(words[0]))
+        numbers = [int(word) for word in words]
+        self.maps = [after for map in self.maps for after in self.steps(map, verb, numbers, reply)]
+        return bool(self.maps)
+
+    def reserved(self, number):
+        if number > self.maximum - self.minimum:
+            return "0"
+        self.minimum += number
+        return str(number)
+
+    def released(self, number):
+        if number > self.minimum:
+            return "0"
+        self.minimum -= number
+        return str(number)
+
+    def steps(self, map, verb, numbers, reply):
+        """The maps that the table may hold then: none, where the reply is not one of this map's."""
+        if verb in ("touch", "evict") and self.kind != "cache":
+            return [map] if reply == "wrong kind" else []
+        if reply == "refused 3":
+            return self.cleared(map) if verb == "clear" else [map] if verb in REFUSABLE else []
+        if verb == "evict":
+            taken = re.fullmatch("pair ([0-9]+) ([0-9]+)", reply)
+            if not taken:
+                return [map] if reply == "nothing" else []
+            key, value = int(taken[1]), int(taken[2])
+            return [without(map, key)] if map.get(key) == value else []
+        if verb == "walk":
+            return [map] if re.fullmatch(f"walked [0-9]+ {len(map)}", reply) else []
+        wanted, after = answer(map, verb, *numbers)
+        return [after] if reply == wanted else []
+
+    def cleared(self, map):
+        """What a refused clearing may leave: the pairs whose hash is not below some bound."""
+        bounds = {0, 2**64, *(self.hash(key) for key in map)}
+        return [{k: map[k] for k in map if self.hash(k) >= bound} for bound in sorted(bounds)]
+
+
+def answer(map, verb, key=None, value=None):
+    """The one reply that a map gives, and the map after it."""
+    there = map.get(key)
+    if verb == "count":
+        return str(len(map)), map
+    if verb == "has":
+        return str(bool(map)).lower(), map
+    if verb == "clear":
+        return f"cleared {len(map)}", {}
+    if verb == "put":
+        return ("ok", {**map, key: value}) if there is None else ("present", map)
+    if there is None:
+        return "absent", map
+    if verb == "write":
+        return f"old {there}", {**map, key: value}
+    if verb == "remove":
+        return f"pair {key} {there}", without(map, key)
+    return ("ok" if verb == "touch" else f"value {there}"), map
+
+
+def without(map, key):
+    return {k: map[k] for k in map if k != key}

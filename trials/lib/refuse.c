@@ -1,0 +1,92 @@
+// Refuses one request for memory of the program that it is preloaded into.
+//
+// Request REFUSED_REQUEST, counted from 1, is answered as if no memory were left, and `refused` is
+// said on standard error. Only what the program's own code asks for is counted: what its libraries
+// ask for on their own is not.
+#define _GNU_SOURCE
+#include <dlfcn.h>
+#include <errno.h>
+#include <link.h>
+#include <stdint.h>
+#include <stdlib.h>
+#include <unistd.h>
+
+// Where the program's code stands.
+static uintptr_t start, end;
+
+// Which request from here on is refused; 0 where none is any more.
+static unsigned long refused;
+
+// The first object is the program.
+static int note_program(struct dl_phdr_info *info, size_t size, void *unused) {
+    (void)size;
+    (void)unused;
+    start = UINTPTR_MAX;
+    for (int i = 0; i < info->dlpi_phnum; i++) {
+        const ElfW(Phdr) *part = &info->dlpi_phdr[i];
+        if (part->p_type == PT_LOAD && part->p_flags & PF_X) {
+            uintptr_t from = info->dlpi_addr + part->p_vaddr;
+            start = from < start ? from : start;
+            end = from + part->p_memsz > end ? from + part->p_memsz : end;
+        }
+    }
+    return 1;
+}
+
+__attribute__((constructor)) static void begin(void) {
+    const char *number = getenv("REFUSED_REQUEST");
+    refused = number ? strtoul(number, NULL, 10) : 0;
+    dl_iterate_phdr(note_program, NULL);
+}
+
+// Counts a request by the place that it is to return to.
+static int is_refused(void *back) {
+    if (refused == 0 || (uintptr_t)back < start || (uintptr_t)back >= end || --refused > 0) {
+        return 0;
+    }
+    static const char said[] = "refused\n";
+    if (write(STDERR_FILENO, said, sizeof said - 1) < 0) {
+        _exit(99);
+    }
+    return 1;
+}
+
+#define IS_REFUSED is_refused(__builtin_return_address(0))
+
+// The function of this name behind this library.
+#define NEXT(type, name) ((type)dlsym(RTLD_NEXT, name))
+
+static void *none(void) {
+    errno = ENOMEM;
+    return NULL;
+}
+
+void *malloc(size_t size) {
+    static void *(*next)(size_t);
+    next = next ? next : NEXT(void *(*)(size_t), "malloc");
+    return IS_REFUSED ? none() : next(size);
+}
+
+void *calloc(size_t count, size_t size) {
+    static void *(*next)(size_t, size_t);
+    next = next ? next : NEXT(void *(*)(size_t, size_t), "calloc");
+    return IS_REFUSED ? none() : next(count, size);
+}
+
+void *realloc(void *old, size_t size) {
+    static void *(*next)(void *, size_t);
+    next = next ? next : NEXT(void *(*)(void *, size_t), "realloc");
+    return IS_REFUSED ? none() : next(old, size);
+}
+
+void *aligned_alloc(size_t alignment, size_t size) {
+    static void *(*next)(size_t, size_t);
+    next = next ? next : NEXT(void *(*)(size_t, size_t), "aligned_alloc");
+    return IS_REFUSED ? none() : next(alignment, size);
+}
+
+int posix_memalign(void **made, size_t alignment, size_t size) {
+    static int (*next)(void **, size_t, size_t);
+    next = next ? next : NEXT(int (*)(void **, size_t, size_t), "posix_memalign");
+    return IS_REFUSED ? ENOMEM : next(made, alignment, size);
+}

@@ -1,0 +1,41 @@
+# For trials to source: runs a program with one request for memory refused, a request a run.
+#
+#   prepare_refusing NAME   builds the program of crates/NAME, where it isn't built, and refuse.c
+#   run_refusing NUMBER     runs it with that request refused, counted from 1: its output goes to
+#                           $folder/output and its complaints to $folder/log, and then $status is
+#                           its exit status, and $is_refused is 1, or 0 where it asked for less
+#
+# refuse.c is preloaded, so that a run takes milliseconds. Where that can't be done,
+# `rt try --fail-alloc` does the same in a minute.
+
+source "$(dirname "${BASH_SOURCE[0]}")/running.sh"
+
+# More requests than a program makes.
+most=10000
+
+prepare_refusing() {
+    prepare "$1"
+    shim=
+    if cc -O1 -Wall -Wextra -shared -fPIC "$root/trials/lib/refuse.c" -o "$folder/refuse.so" -ldl \
+        >"$folder/log" 2>&1; then
+        shim=$folder/refuse.so
+        run_refusing 1 </dev/null
+        [ "$is_refused" = 1 ] || shim=
+    fi
+    [ -n "$shim" ] || echo "$0: nothing can be preloaded, so each run takes a minute" >&2
+}
+
+run_refusing() {
+    if [ -n "$shim" ]; then
+        REFUSED_REQUEST=$1 LD_PRELOAD=$shim "$program" >"$folder/output" 2>"$folder/log"
+        status=$?
+        is_refused=$(grep -cx refused "$folder/log")
+        return
+    fi
+    (cd "$crate" && rt try --fail-alloc "$1") >"$folder/output" 2>"$folder/log"
+    status=$?
+    local asked
+    asked=$(sed -n 's/^allocations: \([0-9][0-9]*\)$/\1/p' "$folder/log")
+    [ -n "$asked" ] || fail "request $1: nothing tells how many there were"
+    is_refused=$((asked >= $1))
+}

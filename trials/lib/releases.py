@@ -1,0 +1,89 @@
+"""20,000 lines that raise and lower the minimum by chance while a table grows and shrinks.
+
+  releases.py write FILE     writes the lines
+  releases.py judge FOLDER   judges the runs FOLDER/N, whose first line is their status
+"""
+
+import os
+import sys
+from collections import Counter
+
+from chance import Chance
+from refused_scripts import judge_run, read_run
+
+CALLS = 20_000
+M = 2**14
+KEYS = 300
+TABLES = ["map id", "map spread", "map zero", "index spread", "cache spread"]
+
+
+class Course:
+    """The lines on one table, by chance, with a plain counter of its minimum."""
+
+    def __init__(self, chance, kind):
+        self.chance, self.minimum = chance, 0
+        self.first = f"new {kind} 0 {M}"
+
+    def line(self, rises):
+        """A line: a put or a removal, mostly, or one that sets the minimum, looks or moves."""
+        chance = self.chance
+        key = chance.below(KEYS) * (2**55 + 1)
+        chosen = chance.below(16)
+        if chosen == 0:
+            return self.reserve(chance.pick([0, 1, 64, 500, 2000, M]))
+        if chosen == 1:
+            return self.release(chance.pick([0, 1, self.minimum, self.minimum + 1, 700]))
+        if chosen < 5:
+            return chance.pick([f"peek {key}", "count", "slots", "word", f"read {key}", "has"])
+        if chosen < 7:
+            ends = [f"end {2048 * chance.below(3)} {how}" for how in ("done", "fail")]
+            return chance.pick(["start", f"work {chance.below(512)}", *ends])
+        return f"put {key} {chosen}" if rises == (chosen < 14) else f"remove {key}"
+
+    def reserve(self, number):
+        if number <= M - self.minimum:
+            self.minimum += number
+        return f"reserve {number}"
+
+    def release(self, number):
+        if number <= self.minimum:
+            self.minimum -= number
+        return f"release {number}"
+
+
+def lines():
+    chance, left = Chance(7), CALLS
+    while left:
+        course = Course(chance, chance.pick(TABLES))
+        yield course.first
+        for phase in range(8):
+            for _ in range(min(left, 250)):
+                yield course.line(phase % 2 == 0)
+            left -= min(left, 250)
+
+
+def judge(folder):
+    wanted, counts = list(lines()), Counter()
+    for number in os.listdir(folder):
+        status, replies = read_run(f"{folder}/{number}")
+        wrong = judge_run(wanted, status, replies)
+        if wrong:
+            sys.exit(f"request {number} refused: {wrong}")
+        counts["runs"] += 1
+        counts["ended"] += status == 3
+        counts["refused a step"] += "refused 3" in replies
+        for line, reply in zip(wanted, replies):
+            if line.startswith("release"):
+                counts["lowered"] += reply != "0"
+                counts["not lowered"] += reply == "0" and line != "release 0"
+    print(", ".join(f"{it} {count}" for it, count in counts.items()))
+    if not all(counts.values()):
+        sys.exit("something never happens")
+
+
+if __name__ == "__main__":
+    if sys.argv[1] == "write":
+        with open(sys.argv[2], "w") as file:
+            file.writelines(f"{line}\n" for line in lines())
+    else:
+        judge(sys.argv[2])

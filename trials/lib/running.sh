@@ -1,0 +1,39 @@
+# For trials to source: builds a program, and runs it.
+#
+#   prepare NAME                         builds the program of crates/NAME, where it isn't built
+#   compare_run LINES REPLIES SECONDS    runs it on a file of lines: it has to end in time, with
+#                                        status 0 and these replies
+#   fail WHY                             ends the trial, and shows the last run
+#
+# The trial's files go to $folder, the last run's output to $folder/output.
+
+root=$(dirname -- "$(readlink -f -- "${BASH_SOURCE[0]}")")/../..
+folder=$(mktemp -d) || exit 1
+trap 'rm -rf "$folder"' EXIT
+touch "$folder/log" "$folder/output"
+
+# Proves and builds the program, where it isn't there or is older than its sources.
+prepare() {
+    crate=$root/crates/$1
+    program=$crate/out/$1
+    if [ -x "$program" ] && [ -z "$(find "$root/crates.txt" "$root"/crates/*/{src,specs,proofs} \
+        -newer "$program" -print -quit 2>/dev/null)" ]; then
+        return
+    fi
+    (cd "$crate" && rt run) </dev/null >"$folder/log" 2>&1 || fail "the program $1 isn't built"
+}
+
+compare_run() {
+    timeout "$3" "$program" <"$1" >"$folder/output" 2>"$folder/log"
+    local status=$?
+    if [ "$status" != 0 ]; then
+        fail "the run ended with status $status"
+    fi
+    diff "$2" "$folder/output" >"$folder/log" || fail "wanted (<) and found (>) differ"
+}
+
+fail() {
+    tail -n 20 "$folder/log" "$folder/output" >&2
+    echo "$0: $1" >&2
+    exit 1
+}
