@@ -8,7 +8,7 @@ use Rattle.bucket_slots.specs.BucketLaws.{IsBucketOf}
 use Rattle.bucket_slots.specs.BucketView.{BucketView, Place, listed_pairs, pairs_in, slot_in}
 use Rattle.bucket_slots.specs.Moving.{slots_vacated}
 use Rattle.bucket_slots.specs.Placing.{place_for_next, slots_with}
-use Rattle.bucket_slots.specs.Slots.{Slot, free, is_live, live_pair, slot_at}
+use Rattle.bucket_slots.specs.Slots.{is_live, live_pair, slot_at}
 use Rattle.bucket_slots.proofs.CallerLemmas.{live_from_pair, live_not_free, pairs_in-slots_vacated}
 use Rattle.bucket_slots.proofs.RecencyCallerLemmas.{chain_kept, chain_put, free_unlisted, listed-slots_with, listed_pairs-slots_with}
 use Rattle.bucket_slots.proofs.RecencyCallerLemmas.{own-slots_vacated, own_kept, own_put, own_vacated, was_free}

@@ -1,6 +1,6 @@
 use Rattle.std.proofs.Common.{rules, subst, sym, ◌∙◌, refl}
 use Rattle.bucket_table.specs.Relocation.{MovesInto}
-use Rattle.bucket_table.proofs.Carried.{IsCarried, carried_over, carries_unlisted, is_cache, is_kept, moves_unlisted, order_back}
+use Rattle.bucket_table.proofs.Carried.{carried_over, carries_unlisted, is_cache, is_kept, moves_unlisted, order_back}
 use Rattle.bucket_table.proofs.Landings.{none_said}
 use Rattle.bucket_table.proofs.hash_table.relocate.carry_pairs.Goals as goal
 
