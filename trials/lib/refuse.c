@@ -1,8 +1,9 @@
-// Refuses one request for memory of the program that it is preloaded into.
+// Refuses requests for memory of the program that it is preloaded into.
 //
-// Request REFUSED_REQUEST, counted from 1, is answered as if no memory were left, and `refused` is
-// said on standard error. Only what the program's own code asks for is counted: what its libraries
-// ask for on their own is not.
+// Request REFUSED_REQUEST, counted from 1, is answered as if no memory were left. Where
+// REFUSED_BYTES is given, each later request for so many bytes or more is so answered by chance, one
+// in four, by REFUSED_SEED, and that one isn't. `refused` is said on standard error each time. Only
+// what the program's own code asks for is counted: what its libraries ask for on their own is not.
 #define _GNU_SOURCE
 #include <dlfcn.h>
 #include <errno.h>
@@ -16,6 +17,10 @@ static uintptr_t start, end;
 
 // Which request from here on is refused; 0 where none is any more.
 static unsigned long refused;
+
+// The state of chance, and the fewest bytes that it refuses; 0 where it refuses nothing.
+static uint64_t chance;
+static size_t fewest;
 
 // The first object is the program.
 static int note_program(struct dl_phdr_info *info, size_t size, void *unused) {
@@ -33,15 +38,35 @@ static int note_program(struct dl_phdr_info *info, size_t size, void *unused) {
     return 1;
 }
 
+// The number that the environment gives under a name, or 0.
+static unsigned long number_of(const char *name) {
+    const char *number = getenv(name);
+    return number ? strtoul(number, NULL, 10) : 0;
+}
+
 __attribute__((constructor)) static void begin(void) {
-    const char *number = getenv("REFUSED_REQUEST");
-    refused = number ? strtoul(number, NULL, 10) : 0;
+    refused = number_of("REFUSED_REQUEST");
+    chance = number_of("REFUSED_SEED");
+    fewest = number_of("REFUSED_BYTES");
     dl_iterate_phdr(note_program, NULL);
 }
 
+// Whether this request of the program is the one, or one by chance.
+static int is_chosen(size_t size) {
+    if (refused > 0) {
+        refused--;
+        return fewest == 0 && refused == 0;
+    }
+    if (fewest == 0 || size < fewest) {
+        return 0;
+    }
+    chance = chance * 6364136223846793005 + 1442695040888963407;
+    return chance >> 62 == 0;
+}
+
 // Counts a request by the place that it is to return to.
-static int is_refused(void *back) {
-    if (refused == 0 || (uintptr_t)back < start || (uintptr_t)back >= end || --refused > 0) {
+static int is_refused(void *back, size_t size) {
+    if ((uintptr_t)back < start || (uintptr_t)back >= end || !is_chosen(size)) {
         return 0;
     }
     static const char said[] = "refused\n";
@@ -51,7 +76,7 @@ static int is_refused(void *back) {
     return 1;
 }
 
-#define IS_REFUSED is_refused(__builtin_return_address(0))
+#define IS_REFUSED(size) is_refused(__builtin_return_address(0), size)
 
 // The function of this name behind this library.
 #define NEXT(type, name) ((type)dlsym(RTLD_NEXT, name))
@@ -64,29 +89,29 @@ static void *none(void) {
 void *malloc(size_t size) {
     static void *(*next)(size_t);
     next = next ? next : NEXT(void *(*)(size_t), "malloc");
-    return IS_REFUSED ? none() : next(size);
+    return IS_REFUSED(size) ? none() : next(size);
 }
 
 void *calloc(size_t count, size_t size) {
     static void *(*next)(size_t, size_t);
     next = next ? next : NEXT(void *(*)(size_t, size_t), "calloc");
-    return IS_REFUSED ? none() : next(count, size);
+    return IS_REFUSED(count * size) ? none() : next(count, size);
 }
 
 void *realloc(void *old, size_t size) {
     static void *(*next)(void *, size_t);
     next = next ? next : NEXT(void *(*)(void *, size_t), "realloc");
-    return IS_REFUSED ? none() : next(old, size);
+    return IS_REFUSED(size) ? none() : next(old, size);
 }
 
 void *aligned_alloc(size_t alignment, size_t size) {
     static void *(*next)(size_t, size_t);
     next = next ? next : NEXT(void *(*)(size_t, size_t), "aligned_alloc");
-    return IS_REFUSED ? none() : next(alignment, size);
+    return IS_REFUSED(size) ? none() : next(alignment, size);
 }
 
 int posix_memalign(void **made, size_t alignment, size_t size) {
     static int (*next)(void **, size_t, size_t);
     next = next ? next : NEXT(int (*)(void **, size_t, size_t), "posix_memalign");
-    return IS_REFUSED ? ENOMEM : next(made, alignment, size);
+    return IS_REFUSED(size) ? ENOMEM : next(made, alignment, size);
 }

@@ -1,12 +1,15 @@
-# For trials to source: runs a program with one request for memory refused, a request a run.
+# For trials to source: runs a program with one request for memory refused, a request a run, or with
+# requests refused by chance.
 #
 #   prepare_refusing NAME   builds the program of crates/NAME, where it isn't built, and refuse.c
 #   run_refusing NUMBER     runs it with that request refused, counted from 1: its output goes to
 #                           $folder/output and its complaints to $folder/log, and then $status is
 #                           its exit status, and $is_refused is 1, or 0 where it asked for less
+#   run_by_chance SEED      runs it with requests refused by chance, the same in each run of a seed,
+#                           as run_refusing does; then $refusals is how many
 #
 # refuse.c is preloaded, so that a run takes milliseconds. Where that can't be done,
-# `rt try --fail-alloc` does the same in a minute.
+# `rt try --fail-alloc` refuses one request in a minute, and nothing is refused by chance.
 
 source "$(dirname "${BASH_SOURCE[0]}")/running.sh"
 
@@ -38,4 +41,16 @@ run_refusing() {
     asked=$(sed -n 's/^allocations: \([0-9][0-9]*\)$/\1/p' "$folder/log")
     [ -n "$asked" ] || fail "request $1: nothing tells how many there were"
     is_refused=$((asked >= $1))
+}
+
+# What a call and its reply ask for on their way is less, and is granted, as are the two requests
+# with which a run begins: so a run goes on.
+least_refused=100
+
+run_by_chance() {
+    [ -n "$shim" ] || fail "nothing can be preloaded, so nothing is refused by chance"
+    REFUSED_REQUEST=2 REFUSED_SEED=$1 REFUSED_BYTES=$least_refused LD_PRELOAD=$shim "$program" \
+        >"$folder/output" 2>"$folder/log"
+    status=$?
+    refusals=$(grep -cx refused "$folder/log")
 }

@@ -59,6 +59,21 @@ pub(crate) fn touch_key<V, L: LruList, const TYPE: u8>(
     true
 }
 
+/// Inserts a pair, and puts it at the oldest end of the recency list, where it has an own slot.
+pub(crate) fn insert_oldest<V: Drop, L: LruList, G: Generation, const TYPE: u8>(
+    bucket: &mut Bucket<u64, V, L, TYPE>,
+    hash: u64,
+    pair: (u64, V),
+    generation: &G,
+) -> Result<EntryPtr<u64, V, TYPE>, (u64, V)>
+    requires cache { TYPE ≡ CACHE }
+{
+    bucket.sound();
+    let at = bucket.insert(hash, pair, generation)?;
+    bucket.append_lru(&at);
+    Ok(at)
+}
+
 /// Moves the pair of a key to a bucket that isn't killed. Returns where it stands there, and where
 /// the pointer to its earlier place is then.
 pub(crate) fn move_key<V: Drop, L: LruList, const TYPE: u8>(

@@ -1,4 +1,5 @@
-//! Evictions from one bucket of a cache: from own slots alone, in the order of the touches.
+//! Evictions from one bucket of a cache: from own slots alone, in the order of the touches. The
+//! order can be taken out of a bucket, and pairs put behind it.
 use crate::checks::check_same;
 use crate::steps::Step::*;
 use crate::steps::{Story, stories};
@@ -8,6 +9,9 @@ use std::process::Abort;
 use std::test::Fail;
 
 type Stage = crate::stage::Stage<DoublyLinkedList, CACHE>;
+
+// A cache that keeps no order.
+type Orderless = crate::stage::Stage<(), CACHE>;
 
 // Each key is its own value.
 const EVICTIONS: &[Story] = stories! {
@@ -19,10 +23,40 @@ const EVICTIONS: &[Story] = stories! {
         Len(31), Evict(None), Len(31);
 };
 
+const ORDERS: &[Story] = stories! {
+    "the order is taken, and nothing is listed then", 0:
+        Values(1, 0), Use(0, 4), Touch(1, true), TakeOrder(&[1, 3, 2, 0]), TakeOrder(&[]),
+        Fill(4, 32), Touch(2, true), TakeOrder(&[2]), Evict(Some(0)), Len(31);
+    "the order of a full bucket is taken", 0:
+        Use(0, 40), TakeOrder(&[
+            31, 30, 29, 28, 27, 26, 25, 24, 23, 22, 21, 20, 19, 18, 17, 16,
+            15, 14, 13, 12, 11, 10, 9, 8, 7, 6, 5, 4, 3, 2, 1, 0
+        ]), Len(40), Holds(0, 40);
+    "a pair that comes as the oldest goes first", 0:
+        Values(1, 0), Use(0, 2), PutOldest(2, (0, 2)), PutOldest(3, (0, 3)), Fill(4, 32),
+        Evict(Some(3)), Fill(40, 41), Evict(Some(2)), Fill(41, 42), Evict(Some(0)), Fill(42, 43),
+        Evict(Some(1)), Fill(43, 44), Evict(Some(42)), Len(31);
+    "the oldest of an empty list is the newest", 0:
+        PutOldest(7, (0, 0)), PutOldest(8, (0, 1)), TakeOrder(&[0, 1]), PutOldest(9, (0, 2)),
+        Touch(8, true), Touch(9, true), TakeOrder(&[2, 1]);
+    "a pair of the chain isn't listed", 0:
+        Fill(0, 31), PutOldest(31, (0, 31)), PutOldest(32, (1, 0)), TakeOrder(&[31]);
+};
+
+const NO_ORDER: &[Story] = stories! {
+    "nothing is listed", 0:
+        Values(1, 0), PutOldest(0, (0, 0)), PutOldest(1, (0, 1)), Use(2, 32), TakeOrder(&[]),
+        Touch(1, true), TakeOrder(&[]), Evict(Some(0)), Len(31);
+};
+
 #[test]
 fn buckets_of_a_cache_go_through_the_stories(rt: HostRuntime) -> Result<(), Fail> {
-    for story in EVICTIONS {
+    for story in EVICTIONS.iter().chain(ORDERS) {
         let mut stage = Stage::new(rt.alloc());
+        stage.tell(&rt, story)?;
+    }
+    for story in NO_ORDER {
+        let mut stage = Orderless::new(rt.alloc());
         stage.tell(&rt, story)?;
     }
     Ok(())

@@ -1,5 +1,5 @@
 //! Recency lists on their own, as their owner keeps them.
-ghost use Rattle.std.specs.Prelude.{ℕ, List};
+ghost use Rattle.std.specs.Prelude.{◌<◌, ℕ, List};
 
 use crate::checks::check_same;
 use crate::steps::steps;
@@ -33,6 +33,9 @@ enum Act {
     Remove(u8, Option<u32>),
     /// A slot is the newest, and the tail is that then, where it changes.
     Promote(u8, Option<u32>),
+    /// A slot that is off the list, or is taken off, is the oldest, and the tail is that then, where
+    /// nothing was listed.
+    Append(u8, Option<u32>),
 }
 
 impl<L: LruList> Recent<L> {
@@ -72,11 +75,26 @@ impl<L: LruList> Recent<L> {
                 self.tail = found.unwrap_or(self.tail);
                 check_same(rt, found, wanted, (row, "promote", slot));
             }
+            Append(slot, wanted) => {
+                assert!(rt; slot < 32);
+                check_same(rt, self.append(slot), wanted, (row, "append", slot));
+            }
         }
+    }
+
+    // Takes a slot off, where it is listed, and puts it at the oldest end.
+    fn append(&mut self, slot: u8) -> Option<u32>
+        requires { slot < 32 }
+    {
+        let left = self.list.remove(self.tail, slot);
+        self.tail = left.unwrap_or(self.tail);
+        let found = self.list.append(self.tail, slot);
+        self.tail = found.unwrap_or(self.tail);
+        found
     }
 }
 
-const STORIES: [(&str, &[Act]); 5] = [
+const STORIES: [(&str, &[Act]); 8] = [
     (
         "the only slot is removed",
         steps! {
@@ -112,11 +130,37 @@ const STORIES: [(&str, &[Act]); 5] = [
         Remove(3, None), Promote(0, Some(1)), Remove(3, None), Evict(Some((0, 0))), Evict(None)
     },
     ),
+    (
+        "appended slots are older than all others",
+        steps! {
+        Append(5, Some(6)), Append(9, None), Promote(7, Some(8)), Append(0, None),
+        Evict(Some((0, 8))), Evict(Some((9, 8))), Evict(Some((5, 8))), Evict(Some((7, 0))),
+        Evict(None)
+    },
+    ),
+    (
+        "a listed slot is appended",
+        steps! {
+        Promote(3, Some(4)), Append(3, Some(4)), Promote(31, Some(32)), Promote(30, Some(31)),
+        Append(30, None), Append(31, None), Evict(Some((31, 4))), Remove(30, None),
+        Append(3, Some(4)), Evict(Some((3, 0))), Evict(None)
+    },
+    ),
+    // Slot 3 has slot 0 on both sides, at the other end.
+    (
+        "slot three is appended",
+        steps! {
+        Append(0, Some(1)), Append(3, None), Remove(0, Some(4)), Append(0, None),
+        Evict(Some((0, 4))), Evict(Some((3, 0))), Evict(None)
+    },
+    ),
 ];
 
 const NOTHING_IS_KEPT: &[Act] = &[
     Promote(3, None),
     Promote(0, None),
+    Append(3, None),
+    Append(0, None),
     Remove(3, None),
     Evict(None),
 ];
@@ -150,6 +194,7 @@ fn agrees_with_a_plain_list_of_slots(rt: HostRuntime) -> Result<(), Fail> {
         let act = match random >> 29 {
             0 | 1 => Evict(plain_eviction(&mut plain)),
             2 => Remove(slot, plain_removal(&mut plain, slot)),
+            3 => Append(slot, plain_appending(&mut plain, slot)?),
             _ => Promote(slot, plain_touch(&mut plain, slot)?),
         };
         recent.act(&rt, ("beside a plain list", step), act);
@@ -187,4 +232,15 @@ fn plain_touch(plain: &mut Vec<u8>, slot: u8) -> Result<Option<u32>, Fail> {
     plain_removal(plain, slot);
     plain.insert(0, slot)?;
     Ok(Some(plain_tail(plain)))
+}
+
+fn plain_appending(plain: &mut Vec<u8>, slot: u8) -> Result<Option<u32>, Fail> {
+    plain_removal(plain, slot);
+    let is_alone = plain.is_empty();
+    plain.push(slot)?;
+    Ok(if is_alone {
+        Some(plain_tail(plain))
+    } else {
+        None
+    })
 }

@@ -1,6 +1,8 @@
 //! The stage of a story: a bucket of any kind, with any recency list, and what steps do there. A
 //! step that finds another answer than its own tells its story, its row, the call, both answers.
-use crate::by_key::{kill_empty, mark_key, move_key, remove_at, touch_key, write_key};
+use crate::by_key::{
+    insert_oldest, kill_empty, mark_key, move_key, remove_at, touch_key, write_key,
+};
 use crate::checks::check_same;
 use crate::steps::Step::*;
 use crate::steps::{Answers, Kept, Spot, Step, Story};
@@ -77,6 +79,14 @@ impl<L: LruList, const TYPE: u8> Stage<L, TYPE> {
             Fill(from, to) => self.fill(rt, row, from, to, false)?,
             Use(from, to) => self.fill(rt, row, from, to, true)?,
             Put(key, spot) => check_same(rt, self.put(key)?, spot, (row, "put", key)),
+            PutOldest(key, spot) => {
+                check_same(
+                    rt,
+                    self.put_oldest(key)?,
+                    Some(spot),
+                    (row, "put oldest", key),
+                );
+            }
             Move(key, spot) => {
                 let found = self.bring(rt, row, key)?;
                 check_same(rt, found, spot, (row, "move", key));
@@ -100,6 +110,17 @@ impl<L: LruList, const TYPE: u8> Stage<L, TYPE> {
         let hash = self.hash_of(key);
         let at = self.bucket.insert(hash, pair, &self.now)?;
         Ok((at.block(), at.pos()))
+    }
+
+    // Inserts a key as the oldest of a cache.
+    fn put_oldest(&mut self, key: u64) -> Result<Option<Spot>, Fail> {
+        if TYPE != CACHE {
+            return Ok(None);
+        }
+        let pair = (key, self.value_of(key));
+        let hash = self.hash_of(key);
+        let at = insert_oldest(&mut self.bucket, hash, pair, &self.now)?;
+        Ok(Some((at.block(), at.pos())))
     }
 
     // Inserts keys, and touches them where that is asked.
@@ -161,6 +182,7 @@ impl<L: LruList, const TYPE: u8> Stage<L, TYPE> {
                 };
                 check_same(rt, self.evict(), Some(pair), (row, "evict"));
             }
+            TakeOrder(slots) => self.take_order(rt, row, slots),
             Marks(keys) => self.mark_keys(rt, row, keys),
             MarkUp(from, to, by) => self.mark_up(rt, row, from, to, by),
             Clear(left) => check_same(rt, self.clear(false), Some(left), (row, "clear")),
@@ -230,6 +252,16 @@ impl<L: LruList, const TYPE: u8> Stage<L, TYPE> {
             return None;
         }
         Some(self.bucket.evict_lru_head())
+    }
+
+    // Takes the recency order, which has these slots and then bytes of 0.
+    fn take_order(&mut self, rt: &impl Abort, row: (&str, usize), slots: &[u8]) {
+        let (order, len) = self.bucket.take_lru();
+        check_same(rt, len, slots.len(), (row, "take order"));
+        for (at, slot) in order.iter().enumerate() {
+            let wanted = slots.get(at).copied().unwrap_or(0);
+            check_same(rt, *slot, wanted, (row, "take order", at));
+        }
     }
 
     fn mark(&mut self, key: u64) -> bool {

@@ -69,6 +69,8 @@ pub(crate) enum Step {
     Use(u64, u64),
     /// A key comes, and stands there.
     Put(u64, Spot),
+    /// A key comes as the oldest, and stands there.
+    PutOldest(u64, Spot),
     /// Keys go with their values, each with one pair fewer, and are found no more.
     Drain(u64, u64),
     /// A key goes with its value, and leaves the walk's pointer there; or there is none.
@@ -93,6 +95,8 @@ pub(crate) enum Step {
     Touch(u64, bool),
     /// A pair goes, which has this key and its value; or none.
     Evict(Option<u64>),
+    /// These own slots are listed, newest first, and none is then.
+    TakeOrder(&'static [u8]),
     /// So many slots are free then.
     Reserve(usize),
     /// The bucket is killed, if it has no pair and isn't killed.
