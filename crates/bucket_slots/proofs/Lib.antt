@@ -10,9 +10,9 @@ pub mod Bitmaps
 pub mod RowSlots
 pub mod RowFields
 pub mod RowMasks
-pub mod Expiring
 pub mod Counting
 pub mod Entries
+pub mod BoxedWalks
 pub mod ChainRows
 pub mod FirstPlaces
 pub mod Pointing

@@ -1,21 +1,69 @@
-use Rattle.std.proofs.Common.{arith, sym, ap, ◌≡◌, ◌∙◌, None, Some}
+use Rattle.std.proofs.Common.{arith, ap, sym, ◌∙◌, ◌+◌, ◌-◌, ◌≡◌, ◌∷◌, [], None, Some, count_by, drop, length}
 use Rattle.std.specs.List.{position}
 use Rattle.std.proofs.lemmas.Grind.{common_steps}
-use Rattle.bucket_slots.specs.Searching.{is_wanted}
+use Rattle.std.proofs.lemmas.List.{get_or_read}
+use Rattle.std.proofs.lemmas.List.Sums.{sum_by-append}
+use Rattle.bucket_slots.specs.BucketView.{flattened}
+use Rattle.bucket_slots.specs.Searching.{has_byte, is_wanted}
+use Rattle.bucket_slots.proofs.BoxedWalks.{drop_behind, length-some, row_behind}
+use Rattle.bucket_slots.proofs.Counting.{tally}
 use Rattle.bucket_slots.proofs.bucket.chain.Chain.find_by.Goals as goal
 
-pub returns-in-Some-clause-place : goal.returns-in-Some-clause-place
-returns-in-Some-clause-place g c =
-    let here : position (is_wanted (g.P.KeyProbe.wants c.args.probe.now) c.args.byte) c.index.result.now ≡ Some c.in-Some.pos =
-    ap (λ t. position (is_wanted t c.args.byte) c.index.result.now) (sym c.loop-i.invariant.fixed) ∙ sym c.in-Some.ensures.place in
+pub room-requires : goal.room-requires
+room-requires g c =
+    let some = length-some c.loop-at.at.now c.at.inside.first c.in-Some.block c.at.view_is c.in-Some.is in
+    omega (arith, ap length some, c.loop-at.invariant.one, c.loop-at.invariant.within)
+
+pub returns-in-Some-find_by-clause-place : goal.returns-in-Some-find_by-clause-place
+returns-in-Some-find_by-clause-place g c =
+    let some = length-some c.loop-at.at.now c.at.inside.first c.in-Some.block c.at.view_is c.in-Some.is
+    ∙ ap (λ block. block.row ∷ block.next) (sym c.deref.ensures) in
+    let row = c.deref.result.now.row in
+    let behind = c.deref.result.now.next in
+    let here : position (is_wanted (g.P.KeyProbe.wants c.args.probe.now) c.args.byte) row ≡ Some c.in-Some-find_by.pos =
+    ap (λ t. position (is_wanted t c.args.byte) row) (sym c.loop-at.invariant.fixed) ∙ sym c.in-Some-find_by.ensures.place in
     grind (arith, common_steps)
 
-pub loop-i-preserved : goal.loop-i-preserved
-loop-i-preserved g c =
-    let here : position (is_wanted (g.P.KeyProbe.wants c.args.probe.now) c.args.byte) c.index.result.now ≡ None =
-    ap (λ t. position (is_wanted t c.args.byte) c.index.result.now) (sym c.loop-i.invariant.fixed) ∙ sym c.in_default.ensures.place in
+pub returns-in-Some-find_by-clause-pair : goal.returns-in-Some-find_by-clause-pair
+returns-in-Some-find_by-clause-pair g c =
+    let some = length-some c.loop-at.at.now c.at.inside.first c.in-Some.block c.at.view_is c.in-Some.is
+    ∙ ap (λ block. block.row ∷ block.next) (sym c.deref.ensures) in
+    let row = c.deref.result.now.row in
+    let behind = c.deref.result.now.next in
+    let rows = c.args.self.now in
+    let i = c.loop-at.number - 1 in
+    let there = get_or_read rows i row (omega (arith, ap length some, c.loop-at.invariant.one, c.loop-at.invariant.within))
+    (row_behind rows behind row i (sym c.loop-at.invariant.here ∙ some)) [] in
+    rw (c.at-in-Some-find_by.ensures, ← there) c.in-Some-find_by.ensures.pair
+
+pub returns-in-Some-find_by-clause-few : goal.returns-in-Some-find_by-clause-few
+returns-in-Some-find_by-clause-few g c =
+    let some = length-some c.loop-at.at.now c.at.inside.first c.in-Some.block c.at.view_is c.in-Some.is
+    ∙ ap (λ block. block.row ∷ block.next) (sym c.deref.ensures) in
+    let row = c.deref.result.now.row in
+    let behind = c.deref.result.now.next in
+    let parts = sum_by-append (λ x. tally (has_byte c.args.byte x)) row (flattened behind) in
+    let step = ap (λ rows. count_by (has_byte c.args.byte) (flattened rows)) some in
+    omega (arith, parts, step, c.find_by.ensures.few, c.loop-at.invariant.few)
+
+pub loop-at-preserved : goal.loop-at-preserved
+loop-at-preserved g c =
+    let some = length-some c.loop-at.at.now c.at.inside.first c.in-Some.block c.at.view_is c.in-Some.is
+    ∙ ap (λ block. block.row ∷ block.next) (sym c.deref.ensures) in
+    let row = c.deref.result.now.row in
+    let behind = c.deref.result.now.next in
+    let parts = sum_by-append (λ x. tally (has_byte c.args.byte x)) row (flattened behind) in
+    let step = ap (λ rows. count_by (has_byte c.args.byte) (flattened rows)) some in
+    let next = ap (λ block. block.next) (c.deref-in-Some.ensures ∙ sym c.deref.ensures) in
+    let up : c.loop-at.number - 1 + 1 ≡ c.loop-at.number + 1 - 1 = omega (arith, c.loop-at.invariant.one) in
+    let here : position (is_wanted (g.P.KeyProbe.wants c.args.probe.now) c.args.byte) row ≡ None =
+    ap (λ t. position (is_wanted t c.args.byte) row) (sym c.loop-at.invariant.fixed) ∙ sym c.in_default-find_by.ensures.place in
     record {
+      one = omega arith;
+      here = next ∙ drop_behind c.args.self.now behind row (c.loop-at.number - 1) (sym c.loop-at.invariant.here ∙ some)
+          ∙ ap (λ n. drop n c.args.self.now) up;
+      within = omega (arith, ap length next, ap length some, c.loop-at.invariant.within);
       place = grind (arith, common_steps);
-      few = grind (arith, common_steps);
-      fixed = c.find_by.ensures.fixed ∙ c.loop-i.invariant.fixed;
+      few = omega (arith, parts, step, ap (λ rows. count_by (has_byte c.args.byte) (flattened rows)) next, c.find_by.ensures.few, c.loop-at.invariant.few);
+      fixed = c.find_by.ensures.fixed ∙ c.loop-at.invariant.fixed;
     }

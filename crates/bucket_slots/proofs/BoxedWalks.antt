@@ -1,0 +1,52 @@
+-- Rows on both sides of a place in a list of blocks.
+use Rattle.std.proofs.Common.{ℕ, ◌+◌, ◌-◌, ◌<◌, ◌≤◌, ◌≡◌, Option, Some, None, get_or, List, [], ◌∷◌, ◌++◌, length, take, drop, refl, sym, ap, ◌∙◌, arith, Box}
+use Rattle.std.proofs.Math.Seq.{take-add}
+use Rattle.std.proofs.lemmas.List.{append_assoc, drop-drop, drop_all, get_or-drop, length-drop}
+use Rattle.bucket_slots.specs.declared.bucket.blocks.Block.{Block}
+use Rattle.bucket_slots.specs.Layout.BoxedRows.{rows_of}
+use Rattle.bucket_slots.specs.Layout.LinkLoans.{link_with_next, link_with_row}
+
+pub link_with_next-rows : {T A : Type 0} (link : Option (Box (Block T) A)) (rows : List T) → 0 < length (rows_of link)
+    → rows_of (link_with_next link rows) ≡ take 1 (rows_of link) ++ rows
+link_with_next-rows None rows some = absurd (omega (arith, some))
+link_with_next-rows (Some block) rows some = refl
+
+-- some rows, one, and some more, each behind those before
+pub take-walked : {T : Type 0} (rows rest : List T) (count half : ℕ) → half < count
+    → take half rows ++ (take 1 (drop half rows) ++ (take (count - half - 1) (drop 1 (drop half rows)) ++ rest)) ≡ take count rows ++ rest
+take-walked rows rest count half below =
+    let more : half + (1 + (count - half - 1)) ≡ count = omega arith in
+    let later = take-add 1 (count - half - 1) (drop half rows) in
+    let all = take-add half (1 + (count - half - 1)) rows in
+    sym (ap (λ n. take n rows ++ rest) (sym more) ∙ ap (λ l. l ++ rest) (all ∙ ap (λ l. take half rows ++ l) later)
+    ∙ append_assoc (take half rows) _ rest ∙ ap (λ l. take half rows ++ l) (append_assoc (take 1 (drop half rows)) _ rest))
+
+pub drop-walked : {T : Type 0} (rows : List T) (count half : ℕ) → half < count
+    → drop (count - half - 1) (drop 1 (drop half rows)) ≡ drop count rows
+drop-walked rows count half below =
+    let more : half + 1 + (count - half - 1) ≡ count = omega arith in
+    ap (drop (count - half - 1)) (drop-drop 1 half rows) ∙ drop-drop (count - half - 1) (half + 1) rows ∙ ap (λ n. drop n rows) more
+
+pub link_with_row-rows : {T A : Type 0} (link : Option (Box (Block T) A)) (row : T) → 0 < length (rows_of link)
+    → rows_of (link_with_row link row) ≡ row ∷ drop 1 (rows_of link)
+link_with_row-rows None row some = absurd (omega (arith, some))
+link_with_row-rows (Some block) row some = refl
+
+-- what stands first behind some rows is the next one
+pub row_behind : {T : Type 0} (rows behind : List T) (row : T) (index : ℕ) → drop index rows ≡ row ∷ behind
+    → row ≡ get_or rows index row
+row_behind rows behind row index here =
+    let there : index + 0 ≡ index = omega arith in
+    ap (λ l. get_or l 0 row) (sym here) ∙ get_or-drop index rows 0 row ∙ ap (λ n. get_or rows n row) there
+
+pub drop_behind : {T : Type 0} (rows behind : List T) (row : T) (index : ℕ) → drop index rows ≡ row ∷ behind
+    → behind ≡ drop (index + 1) rows
+drop_behind rows behind row index here = ap (drop 1) (sym here) ∙ drop-drop 1 index rows
+
+pub drop_past_end : {T : Type 0} (rows : List T) (index count : ℕ) → index ≤ count → drop index rows ≡ [] → drop count rows ≡ []
+drop_past_end rows index count later here = drop_all count rows (omega (arith, length-drop index rows, ap length here))
+
+-- a link that holds a block has its row in front
+pub length-some : {T A : Type 0} (rows : List T) (link : Option (Box (Block T) A)) (block : Box (Block T) A)
+    → rows_of link ≡ rows → link ≡ Some block → rows ≡ block.value.row ∷ block.value.next
+length-some rows link block same some = sym same ∙ ap rows_of some

@@ -1,0 +1,10 @@
+use mathlib.Core.List.{reverse_aux}
+use Rattle.std.proofs.Common.{◌≡◌, length, reverse}
+use Rattle.bucket_slots.proofs.bucket.blocks.Blocks.reversed.Given as goal
+
+-- what is turned already stands behind the rest, turned
+abbrev pub invariant-loop-block : goal.invariant-loop-block
+invariant-loop-block g l = reverse_aux l.self l.turned ≡ reverse l.fn.self
+
+abbrev pub decreases-loop-block : goal.decreases-loop-block
+decreases-loop-block g l = length l.self

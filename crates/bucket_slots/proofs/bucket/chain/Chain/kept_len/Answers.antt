@@ -1,0 +1,37 @@
+use Rattle.std.proofs.Common.{arith, ap, refl, sym, ◌∙◌, ◌-◌, ◌≡◌, [], length, take}
+use Rattle.std.specs.List.{suffix_len}
+use Rattle.std.proofs.Math.Seq.{take-length}
+use Rattle.bucket_slots.specs.Layout.BoxedRows.{rows_of}
+use Rattle.bucket_slots.specs.Slots.{all_free}
+use Rattle.bucket_slots.proofs.BoxedWalks.{drop_behind, length-some}
+use Rattle.bucket_slots.proofs.FreeEnds.{kept_passed}
+use Rattle.bucket_slots.proofs.bucket.chain.Chain.kept_len.Goals as goal
+use Rattle.bucket_slots.proofs.bucket.chain.Chain.kept_len.Goals.{then-not-is_empty, else-not-is_empty}
+
+pub loop-at-preserved : goal.loop-at-preserved
+loop-at-preserved g c =
+    let rows = c.args.self.now in
+    let some = length-some c.loop-at.at.now c.at.inside.first c.in-Some.block c.at.view_is c.in-Some.is in
+    let here = sym c.loop-at.invariant.here ∙ some in
+    let next = ap (λ block. block.next) c.deref-in-Some.ensures in
+    let row = c.in-Some.block.value.row in
+    let behind = drop_behind rows c.in-Some.block.value.next row c.loop-at.passed here in
+    let seen = ap (λ block. all_free block.row) (sym c.deref.ensures) ∙ sym c.is_empty.ensures in
+    record {
+      here = next ∙ behind;
+      within = omega (arith, ap length some, ap length next, c.loop-at.invariant.within);
+      kept = kept_passed rows c.in-Some.block.value.next row c.loop-at.passed c.loop-at.kept c.if-not-is_empty.kept (all_free row)
+          here c.loop-at.invariant.kept refl
+          (elim c.if-not-is_empty.branch [
+            | then-not-is_empty w ↦ rw (seen ∙ w.if-not-is_empty.true) w.kept-is
+            | else-not-is_empty w ↦ rw (seen ∙ w.if-not-is_empty.false) w.kept-is
+          ]);
+    }
+
+pub returns : goal.returns
+returns g c =
+    let rows = c.args.self.now in
+    let none : c.loop-at.at.now ≡ [] = sym c.at.view_is ∙ ap rows_of c.in_default.is in
+    let all : c.loop-at.passed ≡ length rows = omega (arith, ap length none, c.loop-at.invariant.within) in
+    let whole = ap (λ n. take n rows) all ∙ take-length rows in
+    c.loop-at.invariant.kept ∙ ap (λ l. c.loop-at.passed - suffix_len all_free l) whole ∙ ap (λ n. n - suffix_len all_free rows) all

@@ -1,0 +1,13 @@
+use Rattle.std.proofs.Common.{◌≡◌, ◌+◌, ◌-◌, drop, length, take}
+use Rattle.std.specs.List.{suffix_len}
+use Rattle.bucket_slots.specs.Slots.{all_free}
+use Rattle.bucket_slots.proofs.bucket.chain.Chain.kept_len.Given as goal
+
+-- of the blocks that were passed so many would be kept
+abbrev pub invariant-loop-at : goal.invariant-loop-at
+invariant-loop-at g l =
+    let rows = l.self in record {
+      here : l.at ≡ drop l.passed rows;
+      within : l.passed + length l.at ≡ length rows;
+      kept : l.kept ≡ l.passed - suffix_len all_free (take l.passed rows);
+    }
