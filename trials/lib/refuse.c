@@ -1,9 +1,10 @@
 // Refuses requests for memory of the program that it is preloaded into.
 //
-// Request REFUSED_REQUEST, counted from 1, is answered as if no memory were left. Where
-// REFUSED_BYTES is given, each later request for so many bytes or more is so answered by chance, one
-// in four, by REFUSED_SEED, and that one isn't. `refused` is said on standard error each time. Only
-// what the program's own code asks for is counted: what its libraries ask for on their own is not.
+// Each request whose number, counted from 1, stands in REFUSED_REQUEST is answered as if no memory
+// were left; the numbers rise, with a comma between two. Where REFUSED_BYTES is given, REFUSED_REQUEST
+// is one number, and each request behind that one for so many bytes or more is so answered by chance,
+// one in four, by REFUSED_SEED. `refused` is said on standard error each time. Only what the
+// program's own code asks for is counted: what its libraries ask for on their own is not.
 #define _GNU_SOURCE
 #include <dlfcn.h>
 #include <errno.h>
@@ -15,8 +16,10 @@
 // Where the program's code stands.
 static uintptr_t start, end;
 
-// Which request from here on is refused; 0 where none is any more.
-static unsigned long refused;
+// How many requests came, the next one that is refused, or 0 where none is any more, and the numbers
+// behind it.
+static unsigned long asked, refused;
+static char *behind;
 
 // The state of chance, and the fewest bytes that it refuses; 0 where it refuses nothing.
 static uint64_t chance;
@@ -38,6 +41,11 @@ static int note_program(struct dl_phdr_info *info, size_t size, void *unused) {
     return 1;
 }
 
+// Reads the next number, behind a comma where there is one.
+static void next_refused(void) {
+    refused = behind ? strtoul(behind + (*behind == ','), &behind, 10) : 0;
+}
+
 // The number that the environment gives under a name, or 0.
 static unsigned long number_of(const char *name) {
     const char *number = getenv(name);
@@ -45,23 +53,28 @@ static unsigned long number_of(const char *name) {
 }
 
 __attribute__((constructor)) static void begin(void) {
-    refused = number_of("REFUSED_REQUEST");
+    behind = getenv("REFUSED_REQUEST");
+    next_refused();
     chance = number_of("REFUSED_SEED");
     fewest = number_of("REFUSED_BYTES");
     dl_iterate_phdr(note_program, NULL);
 }
 
-// Whether this request of the program is the one, or one by chance.
+// Whether this request of the program is one of those numbered, or one by chance.
 static int is_chosen(size_t size) {
-    if (refused > 0) {
-        refused--;
-        return fewest == 0 && refused == 0;
+    asked++;
+    if (fewest > 0) {
+        if (asked <= refused || size < fewest) {
+            return 0;
+        }
+        chance = chance * 6364136223846793005 + 1442695040888963407;
+        return chance >> 62 == 0;
     }
-    if (fewest == 0 || size < fewest) {
+    if (asked != refused) {
         return 0;
     }
-    chance = chance * 6364136223846793005 + 1442695040888963407;
-    return chance >> 62 == 0;
+    next_refused();
+    return 1;
 }
 
 // Counts a request by the place that it is to return to.

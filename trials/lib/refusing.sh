@@ -8,8 +8,10 @@
 #   run_by_chance SEED      runs it with requests refused by chance, the same in each run of a seed,
 #                           as run_refusing does; then $refusals is how many
 #
-# refuse.c is preloaded, so that a run takes milliseconds. Where that can't be done,
-# `rt try --fail-alloc` refuses one request in a minute, and nothing is refused by chance.
+# refuse.c is preloaded, so that a run takes milliseconds. Where that can't be done, $shim is empty,
+# `rt try --fail-alloc` refuses one request in a minute, and nothing is refused by chance. With
+# refuse.c NUMBER may be several numbers, rising, with a comma between two; $is_refused is then how
+# many of them were refused.
 
 source "$(dirname "${BASH_SOURCE[0]}")/running.sh"
 

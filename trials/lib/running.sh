@@ -1,6 +1,7 @@
 # For trials to source: builds a program, and runs it.
 #
 #   prepare NAME                         builds the program of crates/NAME, where it isn't built
+#   prepare_by_rattle                    the same by Rattle's own compiler: $program.by-rattle
 #   compare_run LINES REPLIES SECONDS    runs it on a file of lines: it has to end in time, with
 #                                        status 0 and these replies
 #   fail WHY                             ends the trial, and shows the last run
@@ -16,11 +17,32 @@ touch "$folder/log" "$folder/output"
 prepare() {
     crate=$root/crates/$1
     program=$crate/out/$1
-    if [ -x "$program" ] && [ -z "$(find "$root/crates.txt" "$root"/crates/*/{src,specs,proofs} \
-        -newer "$program" -print -quit 2>/dev/null)" ]; then
+    if is_newest "$program"; then
         return
     fi
     (cd "$crate" && rt run) </dev/null >"$folder/log" 2>&1 || fail "the program $1 isn't built"
+}
+
+# Whether a program is there, and is no older than the sources.
+is_newest() {
+    [ -x "$1" ] && [ -z "$(find "$root/crates.txt" "$root"/crates/*/{src,specs,proofs} \
+        -newer "$1" -print -quit 2>/dev/null)" ]
+}
+
+# Called after prepare, whose program stays: `rt run` writes the same file, whichever compiler it has.
+prepare_by_rattle() {
+    local made=$program.by-rattle
+    if is_newest "$made"; then
+        return
+    fi
+    cp -p "$program" "$folder/by-llvm" || exit 1
+    (cd "$crate" && rt run --backend rattle) </dev/null >"$folder/log" 2>&1
+    local status=$?
+    cp -p "$program" "$folder/by-rattle" && cp -p "$folder/by-llvm" "$program" || exit 1
+    if [ "$status" != 0 ]; then
+        fail "Rattle's own compiler didn't build the program, or its run failed"
+    fi
+    cp -p "$folder/by-rattle" "$made" || exit 1
 }
 
 compare_run() {

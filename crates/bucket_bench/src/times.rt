@@ -1,4 +1,4 @@
-//! What calls cost, in nanoseconds a call.
+//! What calls cost, in nanoseconds.
 use std::io;
 use std::time::{Clock, Instant};
 
@@ -10,10 +10,14 @@ pub(crate) struct Costs {
     pub(crate) remove: u128,
 }
 
+/// Returns the time since `start`.
+pub(crate) fn elapsed(clock: &impl Clock, start: Instant) -> io::Result<u128> {
+    Ok(start.elapsed(clock)?.as_nanos())
+}
+
 /// Returns the time since `start`, for each of `calls` calls.
 pub(crate) fn elapsed_per(clock: &impl Clock, start: Instant, calls: usize) -> io::Result<u128> {
-    let nanoseconds = start.elapsed(clock)?.as_nanos();
-    Ok(nanoseconds / (calls as u128).max(1))
+    Ok(elapsed(clock, start)? / (calls as u128).max(1))
 }
 
 /// The error of a run that found no memory.

@@ -1,11 +1,12 @@
 //! What becomes of values that are counted: each is dropped once, when its pair goes, when a
 //! clearing lets it go, or with its bucket or its array.
-use crate::by_key::{kill_empty, mark_key, move_key, remove_at};
+use crate::by_key::{kill_empty, mark_key, move_key, remove_at, write_key};
 use crate::checks::check_same;
 use crate::steps::{Answers, Kept, stories};
 use Act::*;
 use bucket_slots::bucket::{Bucket, INDEX, MAP};
 use bucket_slots::bucket_array::BucketArray;
+use std::alloc::Global;
 use std::process::Abort;
 use std::rc::Rc;
 use std::test::Fail;
@@ -25,6 +26,19 @@ fn insert_clone<const TYPE: u8>(
     Ok(())
 }
 
+// A bucket of the keys from 0 on.
+fn filled<const TYPE: u8>(
+    alloc: Global,
+    keys: u64,
+    counted: &Rc<i32>,
+) -> Result<Counted<TYPE>, Fail> {
+    let mut bucket = Counted::<TYPE>::new(alloc);
+    for key in 0..keys {
+        insert_clone(&mut bucket, key, counted, Kept::All)?;
+    }
+    Ok(bucket)
+}
+
 // The value and its clones are this many.
 fn check_count(rt: &impl Abort, counted: &Rc<i32>, count: usize) {
     check_same(rt, Rc::strong_count(counted), count, "clones");
@@ -35,6 +49,10 @@ fn check_count(rt: &impl Abort, counted: &Rc<i32>, count: usize) {
 enum Act {
     /// A key comes, with a clone and by a test of the marks.
     Put(u64, Kept),
+    /// A clone is written over the value of each of these keys.
+    Write(&'static [u64]),
+    /// So many slots are free then.
+    Reserve(usize),
     /// The pairs of these keys go.
     Take(&'static [u64]),
     /// The pairs of these keys are marked.
@@ -59,6 +77,12 @@ type Story = (&'static str, u64, &'static [Act]);
 const OF_MAPS: &[Story] = stories! {
     "each value is dropped once with its bucket", 41:
         Count(42), Take(&[4, 39, 40]), Count(39);
+    // In own slots, in the chain's head and in its last block.
+    "a value goes as another is written over it", 41:
+        Write(&[0, 31, 32, 35, 40]), Count(42), Len(41), Take(&[32, 40]), Count(40);
+    // Two free blocks stand behind the one of live pairs. It goes, and a pair comes to one of them.
+    "free blocks hold no value", 33:
+        Reserve(11), Count(34), Take(&[32]), Count(33), Put(50, Kept::All), Count(34);
 };
 
 const OF_INDEXES: &[Story] = stories! {
@@ -73,6 +97,11 @@ const OF_INDEXES: &[Story] = stories! {
     "marked pairs go with their bucket", 41:
         Mark(&[0, 7, 32, 39, 40]), Count(42), Len(36);
     // A bucket with live pairs stays. One of marked pairs alone is killed.
+    "a clearing of marks alone drops all values", 41:
+        MarkUp(0, 41), Count(42), Clear(Kept::None), Count(1), Put(50, Kept::None), Count(2);
+    // The free blocks at the chain's end go, and the one before them stays with its live pair.
+    "a clearing drops no value with a free block", 33:
+        Reserve(11), Mark(&[5]), Clear(Kept::All), Count(34), Clear(Kept::None), Count(33), Len(32);
     "a killed bucket of an index keeps its marked pairs", 41:
         MarkUp(0, 41), Kill, Count(42), Own(31);
 };
@@ -81,13 +110,13 @@ const OF_INDEXES: &[Story] = stories! {
 fn each_value_is_dropped_once(rt: HostRuntime) -> Result<(), Fail> {
     let counted = Rc::new(rt.alloc(), 0)?;
     for story in OF_MAPS {
-        let mut bucket = Counted::<MAP>::new(rt.alloc());
+        let mut bucket = filled::<MAP>(rt.alloc(), story.1, &counted)?;
         play(&rt, &mut bucket, &counted, story)?;
         drop(bucket);
         check_count(&rt, &counted, 1);
     }
     for story in OF_INDEXES {
-        let mut bucket = Counted::<INDEX>::new(rt.alloc());
+        let mut bucket = filled::<INDEX>(rt.alloc(), story.1, &counted)?;
         play(&rt, &mut bucket, &counted, story)?;
         drop(bucket);
         check_count(&rt, &counted, 1);
@@ -95,19 +124,18 @@ fn each_value_is_dropped_once(rt: HostRuntime) -> Result<(), Fail> {
     Ok(())
 }
 
-// Plays a story, after its keys have come.
+// Plays a story on a bucket of its keys.
 fn play<const TYPE: u8>(
     rt: &impl Abort,
     bucket: &mut Counted<TYPE>,
     counted: &Rc<i32>,
-    (story, keys, acts): &Story,
+    (story, _, acts): &Story,
 ) -> Result<(), Fail> {
-    for key in 0..*keys {
-        insert_clone(bucket, key, counted, Kept::All)?;
-    }
     for (row, act) in acts.iter().enumerate() {
         match *act {
             Put(key, kept) => insert_clone(bucket, key, counted, kept)?,
+            Write(keys) => write_clones(rt, bucket, keys, counted)?,
+            Reserve(slots) => bucket.reserve_slots(slots)?,
             Count(count) => {
                 check_same(
                     rt,
@@ -118,6 +146,21 @@ fn play<const TYPE: u8>(
             }
             _ => change(rt, bucket, (story, row), *act),
         }
+    }
+    Ok(())
+}
+
+// Writes a clone over the value of each key.
+fn write_clones<const TYPE: u8>(
+    rt: &impl Abort,
+    bucket: &mut Counted<TYPE>,
+    keys: &[u64],
+    counted: &Rc<i32>,
+) -> Result<(), Fail> {
+    for key in keys {
+        let value = counted.clone()?;
+        let old = write_key(bucket, *key, 0, value);
+        check_same(rt, old.is_some(), true, ("write", *key));
     }
     Ok(())
 }
@@ -179,13 +222,38 @@ fn clear<const TYPE: u8>(bucket: &mut Counted<TYPE>, kept: Kept) -> bool {
     true
 }
 
+// Pairs of 50 blocks and of the own slots.
+const MANY: u64 = 232;
+
+// From the first pair on, so that the last block goes first; and from the last one back, so that the
+// head does each time.
+#[test]
+fn each_removed_value_is_dropped_at_once(rt: HostRuntime) -> Result<(), Fail> {
+    let counted = Rc::new(rt.alloc(), 0)?;
+    for backwards in [false, true] {
+        let mut bucket = filled::<MAP>(rt.alloc(), MANY, &counted)?;
+        take_all(&rt, &mut bucket, &counted, backwards);
+        check_same(&rt, bucket.len(), 0, backwards);
+    }
+    Ok(())
+}
+
+fn take_all(rt: &impl Abort, bucket: &mut Counted<MAP>, counted: &Rc<i32>, backwards: bool) {
+    for gone in 0..MANY {
+        let left = MANY - gone;
+        let key = if backwards { left - 1 } else { gone };
+        check_same(rt, take(bucket, key), true, (backwards, key));
+        check_count(rt, counted, left as usize);
+    }
+}
+
+// The blocks of the source stay, free, until it is killed.
 #[test]
 fn each_value_is_dropped_once_after_its_bucket_is_killed(rt: HostRuntime) -> Result<(), Fail> {
     let counted = Rc::new(rt.alloc(), 0)?;
-    let mut source = Counted::<MAP>::new(rt.alloc());
+    let mut source = filled::<MAP>(rt.alloc(), 41, &counted)?;
     let mut target = Counted::<MAP>::new(rt.alloc());
     for key in 0..41 {
-        insert_clone(&mut source, key, &counted, Kept::All)?;
         check_move(&rt, &mut target, &mut source, key)?;
     }
     check_kill(&rt, &mut source);

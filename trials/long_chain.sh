@@ -1,0 +1,31 @@
+#!/usr/bin/env bash
+# Runs crates/long_chain on a stack of 64 KiB, as LLVM builds it and as Rattle's own compiler does:
+# 100,000 blocks of a bucket's chain go at once, and 8,032 pairs of one hash come and go.
+#
+# Needs rt on the PATH. Ends with status 0 where both runs wrote what the crate's file stdout has,
+# else with 1.
+set -u
+source "$(dirname "${BASH_SOURCE[0]}")/lib/running.sh"
+prepare long_chain
+prepare_by_rattle
+
+# The size of the stack in KiB, and the most seconds that a run takes.
+stack=64
+seconds=120
+
+# The environment stands on the stack too, so it is left out.
+count=0
+for build in "$program" "$program.by-rattle"; do
+    begun=$(date +%s%N)
+    (ulimit -s "$stack" && ulimit -c 0 && exec timeout "$seconds" env -i "$build") \
+        </dev/null >"$folder/output" 2>"$folder/log"
+    status=$?
+    name=$(basename "$build")
+    if [ "$status" != 0 ]; then
+        fail "$name ended with status $status on a stack of $stack KiB"
+    fi
+    diff "$crate/stdout" "$folder/output" >"$folder/log" || fail "wanted (<) and found (>) differ"
+    echo "$name: $(wc -l <"$folder/output") lines in $((($(date +%s%N) - begun) / 1000000)) ms"
+    count=$((count + 1))
+done
+echo "$count builds on a stack of $stack KiB"
