@@ -8,15 +8,16 @@ source "$(dirname "${BASH_SOURCE[0]}")/lib/refusing.sh"
 prepare_refusing refused_memory
 
 as_before=0
-otherwise=0
+not_resized=0
+not_moved=0
 for ((request = 1; request <= most; request++)); do
     run_refusing "$request" </dev/null
     outcome=$(cat "$folder/output")
     case "$outcome, status $status" in
         "done, status 0") [ "$is_refused" = 1 ] || break ;;
         "as before, status 10") as_before=$((as_before + 1)) ;;
-        "otherwise, status 13") otherwise=$((otherwise + 1)) ;;
-        "no script, status 11") ;;
+        "not resized, status 13") not_resized=$((not_resized + 1)) ;;
+        "not moved, status 14") not_moved=$((not_moved + 1)) ;;
         *) fail "request $request refused: $outcome, status $status" ;;
     esac
     if [ "$is_refused" = 0 ] || [ "$outcome" = done ]; then
@@ -27,7 +28,8 @@ done
 if ((request > most)); then
     fail "no run was done"
 fi
-if ((as_before == 0 || otherwise == 0)); then
-    fail "no refusal reached a script, or none a resize"
+if ((as_before == 0 || not_resized == 0 || not_moved == 0)); then
+    fail "no refusal reached a call, or none a resize, or none a look-up's move"
 fi
-echo "$((request - 1)) requests refused: $as_before as before, $otherwise otherwise, then done"
+counts="$as_before as before, $not_resized not resized, $not_moved not moved"
+echo "$((request - 1)) requests refused: $counts, then done"

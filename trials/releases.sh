@@ -1,7 +1,9 @@
 #!/usr/bin/env bash
 # Runs the program on 20,000 lines by chance that raise and lower the minimum while tables of each
 # kind grow and shrink, with every 23rd request for memory refused, a request a run, and at last
-# with none. A plain map and a counter of the minimum beside each run take the replies.
+# with none. A plain map beside each run takes the replies, and each number of slots has to be the
+# one that the plan of a resize makes, or where a request for it was refused the one before: see
+# lib/arrays.py.
 #
 # Needs rt and python3 on the PATH. Ends with status 0 where every run was right, else with 1.
 set -u

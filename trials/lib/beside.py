@@ -18,7 +18,8 @@ FORMS = {
     "end": "gone|stays|refused [12]",
 }
 
-REFUSABLE = {"put", "write", "remove", "touch", "evict", "walk"}
+# What changes a pair that is there is never refused.
+REFUSABLE = {"put", "evict", "walk"}
 
 
 class Beside:

@@ -21,10 +21,14 @@ MOST = 2**63
 
 
 class Bucket:
-    """Own slots, blocks of a chain with its head first, and the own keys in use, newest first."""
+    """Own slots, blocks of a chain with its head first, and the own keys in use, newest first.
+
+    There is one order of these, until one is touched of which it's untold whether it has moved on
+    from an old bucket; `came` then has the old bucket's number, and whether it was an own slot's.
+    """
 
     def __init__(self):
-        self.own, self.chain, self.used = [None] * OWN, [], []
+        self.own, self.chain, self.orders, self.came = [None] * OWN, [], {()}, {}
 
     def rows(self):
         return [self.own, *self.chain]
@@ -47,16 +51,37 @@ class Bucket:
         row = next(row for row in self.rows() if key in row)
         row[row.index(key)] = None
         self.chain = [block for block in self.chain if block is not row or any_key(block)]
-        self.used = [it for it in self.used if it != key]
+        self.orders = {without(order, key) for order in self.orders}
 
     def touch(self, key):
-        if key in self.own:
-            self.used = [key, *(it for it in self.used if it != key)]
+        """The key becomes the newest of all, or of those that its old bucket still has."""
+        if key not in self.own:
+            return
+        orders = {(key, *without(order, key)) for order in self.orders}
+        if key in self.came:
+            source, was_own = self.came[key]
+            orders |= {self.behind(order, key, source) if was_own else order for order in self.orders}
+        self.orders = orders
 
-    def oldest(self):
-        if None in self.own:
-            return None
-        return self.used[-1] if self.used else self.own[0]
+    def behind(self, order, key, source):
+        rest = without(order, key)
+        last = max((at + 1 for at, it in enumerate(rest) if self.number_of(it) < source), default=0)
+        return (*rest[:last], key, *rest[last:])
+
+    def number_of(self, key):
+        return self.came.get(key, (-1,))[0]
+
+    def oldest(self, order):
+        return order[-1] if order else self.own[0]
+
+    def evict(self, key):
+        """Keeps the orders of which this key is the oldest, and says whether there is one."""
+        self.orders = {order for order in self.orders if self.oldest(order) == key}
+        return bool(self.orders)
+
+
+def without(order, key):
+    return tuple(it for it in order if it != key)
 
 
 def any_key(block):
@@ -64,10 +89,14 @@ def any_key(block):
 
 
 class Cache:
-    """The buckets by their index, and what has become of the array so far."""
+    """The buckets by their index, and what has become of the array so far.
 
-    def __init__(self, hash):
-        self.hash, self.buckets, self.seen = hash, [], Counter()
+    Where requests for memory may be refused, it's untold which old buckets have moved on when a key
+    is touched, until a put or an eviction of their home isn't refused.
+    """
+
+    def __init__(self, hash, may_be_refused=False):
+        self.hash, self.may_be_refused, self.buckets, self.seen = hash, may_be_refused, [], Counter()
 
     def index(self, key, length):
         return self.hash(key) * length >> 64
@@ -80,28 +109,39 @@ class Cache:
         old, self.buckets = self.buckets, [Bucket() for _ in range(length)]
         if old and length:
             self.seen["growths" if length > len(old) else "shrinkages"] += 1
-        for source in old:
+        for number, source in enumerate(old):
             keys = source.keys()
             if length < len(old) or len(keys) > OWN:
                 for index, number in Counter(self.index(key, length) for key in keys).items():
                     self.buckets[index].reserve(number)
             for key in keys:
                 self.home(key).put(key)
-            for key in source.used:
-                if key in self.home(key).own:
-                    self.home(key).used.append(key)
-                    self.seen["carried"] += 1
+                if self.may_be_refused:
+                    self.home(key).came[key] = (number, key in source.own)
+            for home in {self.index(key, length) for key in keys}:
+                self.carry(source.orders, self.buckets[home])
+
+    def carry(self, orders, target):
+        """Those of an old bucket in use that got own slots come behind a target's own."""
+        came = {tuple(key for key in order if key in target.own) for order in orders}
+        target.orders = {(*order, *more) for order in target.orders for more in came}
+        self.seen["carried"] += max(len(more) for more in came)
+
+    def evicts(self, key, reply):
+        """Whether an eviction may have this reply; it is done then."""
+        home = self.home(key)
+        if None in home.own:
+            return reply == "nothing"
+        gone = int(reply.split()[-1]) if reply.startswith("pair") else None
+        if reply != f"pair {gone} {gone}" or not home.evict(gone):
+            return False
+        self.seen["evicted in use" if home.orders != {()} else "evicted"] += 1
+        home.take(gone)
+        return True
 
     def answer(self, verb, key):
         """The reply, once the call was done on the buckets as they are."""
         home = self.home(key)
-        if verb == "evict":
-            gone = home.oldest()
-            if gone is None:
-                return "nothing"
-            self.seen["evicted in use" if home.used else "evicted"] += 1
-            home.take(gone)
-            return f"pair {gone} {gone}"
         if key not in home.keys():
             return "absent"
         if verb == "touch":
@@ -110,22 +150,27 @@ class Cache:
         home.take(key)
         return f"pair {key} {key}"
 
-
     def follow(self, line, reply, slots):
         """Takes a call, its reply and the slots behind it, and says whether the reply is right."""
         verb, key = line.split()[0], int(line.split()[1])
         length = slots // OWN
         if not self.buckets:
             self.resize(length)
-        if verb == "put":
+        if verb in ("put", "evict"):
+            # The bucket's last pairs have come.
+            self.home(key).came = {}
+        if verb == "evict":
+            is_right = self.evicts(key, reply)
+        elif verb == "put":
             wanted = "present" if key in self.home(key).keys() else "ok"
             if wanted == "ok":
                 self.home(key).put(key)
+            is_right = reply == wanted
         else:
-            wanted = self.answer(verb, key)
+            is_right = reply == self.answer(verb, key)
         if length != len(self.buckets):
             self.resize(length)
-        return reply == wanted
+        return is_right
 
 
 def lines_of(chance, keys):

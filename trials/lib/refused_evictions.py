@@ -4,12 +4,13 @@
   refused_evictions.py judge FOLDER    judges the runs FOLDER/SEED, whose first line is their status
                                        and the number of requests that were refused
 
-Which old buckets have moved is untold where one is refused, and makes no difference to any reply:
-the old buckets of a bucket's pairs move in their order and each whole, room that a refused move has
-made is used by the next, and a call on a bucket is refused until the last of them has moved. So the
-model, which moves all pairs on at once, has one reply for each call, and each eviction is judged by
-it. A step that is refused changes nothing in the model, and a run has no more of them than requests
-that were refused.
+Which old buckets have moved is untold where one is refused. They move in their order and each whole,
+room that a refused move has made is used by the next, and a put or an eviction of a bucket is refused
+until the last of them has moved. So where a pair stands is told by a model that moves all on at once.
+A touch is never refused: it makes its key the newest of all or, where its old bucket hasn't moved, of
+those in that; the model has an order for each, and an eviction rules out those that it doesn't fit.
+No pair is removed, since it would leave another place behind. A step that is refused changes nothing
+in the model, and a run has no more of them than requests that were refused.
 """
 
 import os
@@ -51,7 +52,7 @@ def lines_of(seed):
 def line(chance, key):
     chosen = chance.below(16)
     if chosen < 7:
-        return f"put {key} {key}" if chosen < 6 else f"remove {key}"
+        return f"put {key} {key}"
     return f"touch {key}" if chosen < 13 else f"evict {key}"
 
 
@@ -67,7 +68,7 @@ def follow(cache, call, reply, slots):
     verb, word = call.split()[:2]
     if reply == "refused 3" and verb in REFUSABLE:
         cache.seen[f"refused {verb}"] += 1
-    elif verb not in REFUSABLE:
+    elif verb in ("reserve", "release"):
         if reply != word:
             return False
     else:
@@ -80,7 +81,7 @@ def follow(cache, call, reply, slots):
 def judge_run(seed, status, refusals, replies):
     """What was seen of a run: the first reply is to the line that makes the cache."""
     first, *calls = lines_of(seed)
-    cache = Cache(HASHES[first.split()[2]])
+    cache = Cache(HASHES[first.split()[2]], may_be_refused=True)
     if status == 3 and replies and replies[-1] == "no memory":
         replies.pop()
         cache.seen["ended"] += 1

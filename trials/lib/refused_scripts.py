@@ -65,15 +65,21 @@ DOUBLED = [
     ("slots", "128", "64"),
 ]
 
-# The array shrinks from 16 buckets to 4, and room has to be made before pairs move.
-SHRUNK = [
-    (f"new map spread 1 {M}", "ok"),
-    *puts(*range(128, 228), *range(32)),
-    ("slots", "512", "64"),
-    *takes(*range(192, 228), *range(168, 192), *range(16), *range(16, 32)),
-    ("slots", "128", "512"),
-    ("start", "ticket 0", "none"),
-]
+
+
+def shrunk(kind):
+    """The array shrinks from 16 buckets to 4, and room has to be made before pairs move."""
+    return [
+        (f"new {kind} spread 1 {M}", "ok"),
+        *puts(*range(128, 228), *range(32)),
+        ("slots", "512", "64"),
+        *takes(*range(192, 228), *range(168, 192), *range(16), *range(16, 32)),
+        ("slots", "128", "512"),
+        ("start", "ticket 0", "none"),
+    ]
+
+
+SHRUNK = shrunk("map")
 
 EVICTING = [
     ("new cache zero 64 64", "ok"),
@@ -115,6 +121,28 @@ SCRIPTS = {
         ("count", "41"),
     ],
     "a_read_in_a_shrunk_array": [*SHRUNK, ("read 160", "value 160"), *peeks(*range(128, 168))],
+    "changes_amid_a_rehash": [
+        *SHRUNK,
+        ("write 150 1", "old 150"),
+        ("remove 150", "pair 150 1"),
+        *takes(*range(128, 150)),
+        ("count", "17"),
+    ],
+    "changes_of_an_index_amid_a_rehash": [
+        *shrunk("index"),
+        ("write 150 1", "old 150"),
+        ("remove 150", "pair 150 1"),
+        *takes(*range(128, 150)),
+        ("count", "17"),
+    ],
+    "changes_of_a_cache_amid_a_rehash": [
+        *shrunk("cache"),
+        ("touch 151", "ok"),
+        ("write 150 1", "old 150"),
+        ("remove 150", "pair 150 1"),
+        *takes(*range(128, 150)),
+        ("count", "17"),
+    ],
     # A refused walk has emptied the old buckets 0 to 9, and not yet 10.
     "a_walk_over_a_shrunk_array": [
         *SHRUNK,
@@ -152,6 +180,24 @@ SCRIPTS = {
     ],
     "an_eviction": EVICTING,
     "marks": MARKING,
+    # The old bucket has more pairs than own slots, and marks beside them, so that room is reserved in
+    # the longer array.
+    "marks_and_a_longer_array": [
+        (f"new index zero 0 {M}", "ok"),
+        *puts(*range(32)),
+        *takes(*range(4)),
+        *puts(*range(32, 45)),
+        ("count", "41", "40"),
+        ("reserve 4096", "4096"),
+        ("slots", "4096", "64"),
+        ("start", "ticket 0", "none"),
+        ("work 0", "ok", "refused 3"),
+        ("work 1", "ok", "none"),
+        ("end 0 done", "gone", "refused 2"),
+        ("peek 0", "absent"),
+        ("peek 40", "value 40"),
+        ("count", "41"),
+    ],
     "two_units_of_an_index": [
         (f"new index spread 4096 {M}", "ok"),
         *looks(TWO_UNITS + THE_FIRST_FAILS),
@@ -180,14 +226,13 @@ def read_run(file):
     return int(status), replies
 
 
-def judge_run(lines, status, replies):
-    """Says what is wrong with a run, or gives None."""
+def judge_run(lines, status, replies, beside):
+    """Says what is wrong with a run, by what is beside it, or gives None."""
     if status == 3:
         if not replies or replies.pop() != "no memory" or len(replies) > len(lines):
             return "status 3 without `no memory`"
     elif status != 0 or len(replies) != len(lines):
         return f"status {status} and {len(replies)} replies to {len(lines)} lines"
-    beside = Beside()
     for number, (line, reply) in enumerate(zip(lines, replies), 1):
         if not beside.follow(line, reply):
             return f"line {number}: `{line}` was answered `{reply}`"
@@ -205,7 +250,7 @@ def judge_script(folder, rows):
             sys.exit(f"{folder}: with all memory `{row[0]}` is not answered `{row[1]}`")
     for number in range(1, runs + 1):
         status, replies = read_run(f"{folder}/{number}")
-        wrong = judge_run(lines, status, replies)
+        wrong = judge_run(lines, status, replies, Beside())
         if wrong:
             sys.exit(f"{folder}: request {number} refused: {wrong}")
         unseen -= set(enumerate(replies))

@@ -1,13 +1,16 @@
 """20,000 lines that raise and lower the minimum by chance while a table grows and shrinks.
 
   releases.py write FILE     writes the lines
-  releases.py judge FOLDER   judges the runs FOLDER/N, whose first line is their status
+  releases.py judge FOLDER   judges the runs FOLDER/N, whose first line is their status: in all but
+                             the last a request was refused
 """
 
 import os
 import sys
 from collections import Counter
 
+from arrays import Arrays
+from beside import Beside
 from chance import Chance
 from refused_scripts import judge_run, read_run
 
@@ -62,16 +65,43 @@ def lines():
             left -= min(left, 250)
 
 
+class Table(Beside):
+    """A map beside its arrays, of whose requests in all tables at most so many are refused."""
+
+    def __init__(self, refusals):
+        super().__init__()
+        self.refusals = refusals
+
+    def follow(self, line, reply):
+        """Whether the reply is one of the map's and of its arrays."""
+        if not super().follow(line, reply):
+            return False
+        verb, *words = line.split()
+        if verb == "new":
+            self.arrays = Arrays(*words[:2], self.minimum, self.maximum, self.refusals)
+            return True
+        fits = self.arrays.follow(line, reply)
+        self.refusals = max((state.refusals for state in self.arrays.states), default=0)
+        return fits
+
+
 def judge(folder):
     wanted, counts = list(lines()), Counter()
-    for number in os.listdir(folder):
+    runs = sorted(map(int, os.listdir(folder)))
+    ample = read_run(f"{folder}/{runs[-1]}")[1]
+    for number in runs:
         status, replies = read_run(f"{folder}/{number}")
-        wrong = judge_run(wanted, status, replies)
+        refusals = int(number < runs[-1])
+        # A run that has the replies of the last one, or broke off in them, is as right as that.
+        is_begun = status == 3 and replies == [*ample[: len(replies) - 1], "no memory"]
+        is_known = is_begun or number < runs[-1] and (status, replies) == (0, ample)
+        wrong = None if is_known else judge_run(wanted, status, replies, Table(refusals))
         if wrong:
             sys.exit(f"request {number} refused: {wrong}")
         counts["runs"] += 1
         counts["ended"] += status == 3
         counts["refused a step"] += "refused 3" in replies
+        counts["went otherwise"] += status == 0 and "refused 3" not in replies and replies != ample
         for line, reply in zip(wanted, replies):
             if line.startswith("release"):
                 counts["lowered"] += reply != "0"

@@ -1,22 +1,15 @@
 -- How a script ends: what is answered, and what is left in the output.
-use Rattle.std.proofs.Common.{◌≡◌, ℕ, ◌+◌, ◌↔◌, inl, inr, List, [], ◌∷◌, ◌++◌, Option, IsSome, Result, Ok, Err, MatchResult, length, refl, sym, ap, ◌∙◌, append_assoc, append-nil}
+use Rattle.std.proofs.Common.{◌≡◌, ℕ, ◌+◌, ◌↔◌, inl, inr, List, [], ◌∷◌, ◌++◌, Option, IsSome, Result, Ok, Err, MatchResult, length, refl, sym, append-nil}
 use Rattle.std.specs.Result.{result_and}
 use Rattle.bhtable.specs.Answers.{IsUnreadable, ScriptTable}
-use Rattle.bhtable.specs.Layout.Sessions.{HasEnded, HasReplied, HasStopped, HasTaken, HasTakenSome, table_at_hand}
+use Rattle.bhtable.specs.Layout.Sessions.{HasEnded, HasReplied, HasRepliedSome, HasStopped, HasTaken, HasTakenSome, table_at_hand}
 use Rattle.bhtable.specs.Layout.Stops.{IsLack}
 use Rattle.bhtable.specs.declared.session.Session.{Session}
 use Rattle.bhtable.specs.declared.stop.Stop.{Stop}
 use Rattle.bhtable.specs.declared.stop.Stop.TheVariants.{BadLine, NoMemory, InputFailed, OutputFailed}
+use Rattle.bhtable.proofs.Replying.{some_of_more}
 use Rattle.bhtable.proofs.Taking.{replied_all}
 use Rattle.bhtable.proofs.Unreadable.{still_unreadable}
-
--- the first of the lines are answered
-pub record HasRepliedSome (start output : Option (List ℕ)) (waiting : List ℕ) (lines : List (List ℕ)) : Type 0 where
-  pub first : List (List ℕ)
-  pub others : List (List ℕ)
-  pub table : Option ScriptTable
-  pub in_order : lines ≡ first ++ others
-  pub replied : HasReplied start output waiting first table
 
 -- those before one that can't be read are answered
 pub record HasRepliedBad (start output : Option (List ℕ)) (waiting : List ℕ) (lines : List (List ℕ)) (number : ℕ) : Type 0 where
@@ -36,7 +29,7 @@ IsReplied (Ok done) start output waiting lines =
 IsReplied (Err (BadLine number)) start output waiting lines = HasRepliedBad start output waiting lines number
 IsReplied (Err NoMemory) start output waiting lines = HasRepliedSome start output waiting lines
 IsReplied (Err InputFailed) start output waiting lines = HasRepliedSome start output waiting lines
-IsReplied (Err OutputFailed) start output waiting lines = Unit {0}
+IsReplied (Err OutputFailed) start output waiting lines = (waiting ≡ []) × ((lost : List ℕ) × HasRepliedSome start output lost lines)
 
 -- what `answer` ensures
 pub record IsAnswered (result : Result (Unit {0}) Stop) (output output2 : Option (List ℕ)) (session session2 : Session) : Type 0 where
@@ -51,27 +44,24 @@ pub record IsAnswered (result : Result (Unit {0}) Stop) (output output2 : Option
 err_is_not_ok : (result : Result (Unit {0}) Stop) (stop : Stop) → result ≡ Err stop → result ≡ Ok tt → ⊥
 err_is_not_ok result stop failed done = absurd (cc)
 
-some_of : (start output : Option (List ℕ)) (session : Session) (lines first others : List (List ℕ)) → lines ≡ first ++ others
-    → session.calls.items ≡ [] → HasTakenSome start output session first
-    → HasRepliedSome start output session.replies lines
-some_of start output session lines first others parts none some =
-    let in_order = parts ∙ ap (λ (ls : List (List ℕ)). ls ++ others) some.in_order ∙ append_assoc some.first some.others others in
-    elim some.kept [
-      | inl taken ↦ record {
-        first = some.first;
-        others = some.others ++ others;
-        table = table_at_hand session.table;
-        in_order = in_order;
-        replied = replied_all start output session some.first taken none;
-      }
-      | inr replied ↦ record {
-        first = some.first;
-        others = some.others ++ others;
-        table = replied.1.0;
-        in_order = in_order;
-        replied = replied.1.1;
-      }
-    ]
+some_kept : (start output : Option (List ℕ)) (session : Session) (lines : List (List ℕ)) → session.calls.items ≡ []
+    → HasTakenSome start output session lines → HasRepliedSome start output session.replies lines
+some_kept start output session lines none some = elim some.kept [
+  | inl taken ↦ record {
+    first = some.first;
+    others = some.others;
+    table = table_at_hand session.table;
+    in_order = some.in_order;
+    replied = replied_all start output session some.first taken none;
+  }
+  | inr replied ↦ record {
+    first = some.first;
+    others = some.others;
+    table = replied.1.0;
+    in_order = some.in_order;
+    replied = replied.1.1;
+  }
+]
 
 -- a stop on the way
 stopped : (stop : Stop) (start output : Option (List ℕ)) (session : Session) (lines first others : List (List ℕ)) → lines ≡ first ++ others
@@ -79,9 +69,10 @@ stopped : (stop : Stop) (start output : Option (List ℕ)) (session : Session) (
     → IsReplied (Err stop) start output session.replies lines
 stopped (BadLine number) start output session lines first others parts lack none left = absurd lack
 stopped NoMemory start output session lines first others parts lack none left =
-    some_of start output session lines first others parts none left
+    some_of_more start output session.replies lines first others parts (some_kept start output session first none left)
 stopped InputFailed start output session lines first others parts lack none left = absurd lack
-stopped OutputFailed start output session lines first others parts lack none left = tt
+stopped OutputFailed start output session lines first others parts lack none left =
+    (left.no_reply, (left.lost, some_of_more start output left.lost lines first others parts left.replied))
 
 -- where the first of the lines are taken, or answered
 some_answered : (result : Result (Unit {0}) Stop) (stop : Stop) (start output output2 : Option (List ℕ)) (session session2 : Session)
@@ -141,5 +132,6 @@ ended_answered result (Err NoMemory) start output output2 session session2 lines
     some_answered result NoMemory start output output2 session session2 lines step some (λ replied. replied)
 ended_answered result (Err InputFailed) start output output2 session session2 lines step some =
     some_answered result InputFailed start output output2 session session2 lines step some (λ replied. replied)
-ended_answered result (Err OutputFailed) start output output2 session session2 lines step none =
-    rw (step.none none).0 tt
+ended_answered result (Err OutputFailed) start output output2 session session2 lines step failed =
+    let same = step.none failed.no_call in
+    rw (same.0, same.1, same.2) (failed.no_reply, (failed.lost, failed.replied))

@@ -1,7 +1,9 @@
 mod Answering
+mod Closing
 mod Digits
 mod Ending
 mod Finding
+mod Growing
 mod LineSplits
 mod Naming
 mod Numbers

@@ -1,148 +1,180 @@
--- What is left in the output once everything is written out, and with which status.
-use Rattle.std.proofs.Common.{◌≡◌, ℕ, ◌⊎◌, inl, inr, List, [], ◌∷◌, ◌++◌, ◌+◌, length, Option, Some, None, Result, Ok, Err, MatchResult, refl, sym, subst, append-nil}
+-- What is left in the output once everything is written out, or a write has failed, and with which status.
+use Rattle.std.proofs.Common.{◌≡◌, ℕ, inl, inr, List, [], ◌++◌, Option, Some, None, Result, Ok, Err, IfErr, MatchResult, codes, refl, sym, subst, append-nil}
 use Rattle.std.proofs.KnownBytes.{Appends-nil, Appends-trans}
 use Rattle.std.specs.Io.KnownBytes.{Appends, append_known}
 use Rattle.std.specs.Result.{result_and}
+use Rattle.bhtable.specs.Answers.{AreAnswers, ScriptTable}
 use Rattle.bhtable.specs.InputLines.{lines_of}
-use Rattle.bhtable.specs.Layout.Stops.{IsInput, IsOutputUpTo, last_line_of, status_of}
-use Rattle.bhtable.specs.Outputs.{HasAnswered, HasAnsweredSome, IsOutputOf, IsServed}
-use Rattle.bhtable.specs.Layout.Replies.{IsPushed, IsTold}
-use Rattle.bhtable.specs.Texts.{bad_line}
+use Rattle.bhtable.specs.Layout.Growing.{HasGrown}
+use Rattle.bhtable.specs.Layout.Replies.{IsLeftBy, IsPushed}
+use Rattle.bhtable.specs.Layout.Sessions.{HasRepliedSome}
+use Rattle.bhtable.specs.Layout.Stops.{IsInput, IsOutputUpTo, IsReported}
+use Rattle.bhtable.specs.Outputs.{HasAnswered, HasAnsweredSome, HasBadLine, HasBegun, IsOutputOf, IsServed, IsWhole}
+use Rattle.bhtable.specs.Texts.{bad_line, line_of}
 use Rattle.bhtable.specs.declared.stop.Stop.{Stop}
 use Rattle.bhtable.specs.declared.stop.Stop.TheVariants.{BadLine, NoMemory, InputFailed, OutputFailed}
-use Rattle.bhtable.proofs.Ending.{HasRepliedBad, HasRepliedSome, IsReplied}
-use Rattle.bhtable.proofs.Replying.{answered_out, replied_same, written_out}
+use Rattle.bhtable.proofs.Growing.{grown_more, grown_out, grown_waiting, would_grow}
+use Rattle.bhtable.proofs.Replying.{answered_out}
+use Rattle.bhtable.proofs.Closing.{HasToldBad, IsReady, ready_grown}
 
-some_out : (start output output2 : Option (List ℕ)) (waiting : List ℕ) (lines : List (List ℕ)) → HasRepliedSome start output waiting lines
-    → Appends output output2 waiting → HasAnsweredSome lines start output2 []
-some_out start output output2 waiting lines some written = record {
+-- the answers of the first lines, and of what comes last, as far as the output has them
+begun : (lines first others : List (List ℕ)) (start output : Option (List ℕ)) (lost text last : List ℕ) (table : Option ScriptTable)
+    (status : ℕ) → ((whole : Option (List ℕ)) → HasAnsweredSome lines start whole last → IsWhole lines start whole status)
+    → lines ≡ first ++ others → AreAnswers None first text table → HasGrown start [] output lost (text ++ last)
+    → HasBegun lines start output
+begun lines first others start output lost text last table status made parts answers grown = record {
+  written = grown.taken;
+  rest = lost;
+  status = status;
+  grown = grown.written;
+  whole = made (append_known output lost) (record {
+    first = first;
+    others = others;
+    in_order = parts;
+    answered =
+        record { text = text; table = table; answers = answers; written = would_grow start output lost (text ++ last) grown };
+  });
+}
+
+-- where nothing tells of an end, the input might have failed
+some_begun : (start output : Option (List ℕ)) (lost : List ℕ) (lines : List (List ℕ)) → HasRepliedSome start output lost lines
+    → HasBegun lines start output
+some_begun start output lost lines some =
+    let last = line_of (codes "input failed") in
+    let text = some.replied.text in
+    begun lines some.first some.others start output (lost ++ last) text last some.table 4 (λ _ whole. inr (inr (inr (refl, whole))))
+    some.in_order some.replied.answers
+    (grown_more start output output [] lost (lost ++ last) text last some.replied.written (grown_waiting output lost last))
+
+-- the last line is cut off
+last_begun : (lines : List (List ℕ)) (start output output2 : Option (List ℕ)) (lost last : List ℕ) (status : ℕ)
+    → ((whole : Option (List ℕ)) → HasAnsweredSome lines start whole last → IsWhole lines start whole status)
+    → HasAnsweredSome lines start output [] → HasGrown output [] output2 lost last → HasBegun lines start output2
+last_begun lines start output output2 lost last status made some cut =
+    let text = some.answered.text in
+    let before : HasGrown start [] output [] text = record {
+      taken = text;
+      written = subst (λ (t : List ℕ). Appends start output t) (append-nil text) some.answered.written;
+      in_order = sym (append-nil text);
+    } in
+    begun lines some.first some.others start output2 lost text last some.answered.table status made some.in_order some.answered.answers
+    (grown_more start output output2 [] [] lost text last before cut)
+
+told_grown : (start output : Option (List ℕ)) (waiting : List ℕ) (lines : List (List ℕ)) (number : ℕ)
+    (told : HasToldBad start output waiting lines number)
+    → HasGrown start [] output waiting (told.bad.replied.text ++ bad_line number)
+told_grown start output waiting lines number told =
+    grown_more start told.before output [] told.between waiting told.bad.replied.text (bad_line number) told.bad.replied.written told.told
+
+bad_whole : (start output whole : Option (List ℕ)) (waiting : List ℕ) (lines : List (List ℕ)) (number : ℕ)
+    (told : HasToldBad start output waiting lines number)
+    → Appends start whole (told.bad.replied.text ++ bad_line number) → HasBadLine lines start whole
+bad_whole start output whole waiting lines number told written = record {
+  first = told.bad.first;
+  line = told.bad.line;
+  others = told.bad.others;
+  in_order = told.bad.in_order;
+  answered = record {
+    text = told.bad.replied.text;
+    table = told.bad.table;
+    answers = told.bad.replied.answers;
+    written = rw (← told.bad.numbered) written;
+  };
+  unreadable = told.bad.unreadable;
+}
+
+-- what waits is lost
+ready_begun : (ended : Result (Unit {0}) Stop) (start output : Option (List ℕ)) (lost : List ℕ) (lines : List (List ℕ))
+    → IsReady ended start output lost lines → HasBegun lines start output
+ready_begun (Ok done) start output lost lines (table, replied) = some_begun start output lost lines (record {
+  first = lines;
+  others = [];
+  table = table;
+  in_order = sym (append-nil lines);
+  replied = replied;
+})
+ready_begun (Err (BadLine number)) start output lost lines told =
+    let grown = told_grown start output lost lines number told in
+    let text = told.bad.replied.text ++ bad_line number in
+    record {
+      written = grown.taken;
+      rest = lost;
+      status = 2;
+      grown = grown.written;
+      whole = inr (inl (
+        refl,
+        bad_whole start output (append_known output lost) lost lines number told (would_grow start output lost text grown),
+      ));
+    }
+ready_begun (Err NoMemory) start output lost lines some = some_begun start output lost lines some
+ready_begun (Err InputFailed) start output lost lines some = some_begun start output lost lines some
+ready_begun (Err OutputFailed) start output lost lines (empty, (lost2, some)) = some_begun start output lost2 lines some
+
+some_out : (start output : Option (List ℕ)) (lines : List (List ℕ)) → HasRepliedSome start output [] lines
+    → HasAnsweredSome lines start output []
+some_out start output lines some = record {
   first = some.first;
   others = some.others;
   in_order = some.in_order;
-  answered = answered_out start output output2 waiting some.first some.table some.replied written;
+  answered = answered_out start output some.first some.table some.replied;
 }
 
--- a bad line isn't told of where there is no memory for that
-bad_out : (result : Result (Unit {0}) Stop) (number : ℕ) (start output output2 output3 : Option (List ℕ)) (waiting waiting2 : List ℕ)
-    (lines : List (List ℕ)) → HasRepliedBad start output waiting lines number
-    → IsPushed result (append_known output waiting) (append_known output2 waiting2) (bad_line number) → Appends output2 output3 waiting2
-    → MatchResult (result_and {U = Unit {0}} result (Err (BadLine number))) (λ _. HasAnswered lines start output3 [])
-    (λ stop. IsOutputUpTo stop lines start output3)
-bad_out (Ok done) number start output output2 output3 waiting waiting2 lines bad grown written = record {
-  first = bad.first;
-  line = bad.line;
-  others = bad.others;
-  in_order = bad.in_order;
-  answered = record {
-    text = bad.replied.text;
-    table = bad.table;
-    answers = bad.replied.answers;
-    written = rw (← bad.numbered)
-        (written_out start output output2 output3 waiting waiting2 bad.replied.text (bad_line number) bad.replied.written grown written);
-  };
-  unreadable = bad.unreadable;
-}
-bad_out (Err (BadLine other)) number start output output2 output3 waiting waiting2 lines bad never written = absurd never
-bad_out (Err NoMemory) number start output output2 output3 waiting waiting2 lines bad kept written =
-    let some : HasRepliedSome start output2 waiting2 lines = record {
-      first = bad.first;
-      others = bad.line ∷ bad.others;
-      table = bad.table;
-      in_order = bad.in_order;
-      replied = replied_same start output output2 waiting waiting2 bad.first bad.table bad.replied kept;
-    } in
-    some_out start output2 output3 waiting2 lines some written
-bad_out (Err InputFailed) number start output output2 output3 waiting waiting2 lines bad never written = absurd never
-bad_out (Err OutputFailed) number start output output2 output3 waiting waiting2 lines bad unknown written = tt
+-- nothing waits any more
+ready_out : (ended : Result (Unit {0}) Stop) (start output : Option (List ℕ)) (lines : List (List ℕ))
+    → IsReady ended start output [] lines
+    → MatchResult ended (λ _. HasAnswered lines start output []) (λ stop. IsOutputUpTo stop lines start output)
+ready_out (Ok done) start output lines (table, replied) = answered_out start output lines table replied
+ready_out (Err (BadLine number)) start output lines told =
+    bad_whole start output output [] lines number told (grown_out start output _ (told_grown start output [] lines number told))
+ready_out (Err NoMemory) start output lines some = some_out start output lines some
+ready_out (Err InputFailed) start output lines some = some_out start output lines some
+ready_out (Err OutputFailed) start output lines failed = ready_begun (Err OutputFailed) start output [] lines failed
 
-pub all_out : (start output output2 : Option (List ℕ)) (waiting : List ℕ) (lines : List (List ℕ))
-    → IsReplied (Ok tt) start output waiting lines
-    → Appends output output2 waiting → HasAnswered lines start output2 []
-all_out start output output2 waiting lines replied written =
-    answered_out start output output2 waiting lines replied.0 replied.1 written
-
-told_out : (stop : Stop) (result : Result (Unit {0}) Stop) (start output output2 output3 : Option (List ℕ)) (waiting waiting2 : List ℕ)
-    (lines : List (List ℕ)) → (HasAnsweredSome lines start output3 [] → IsOutputUpTo stop lines start output3)
-    → HasRepliedSome start output waiting lines
-    → (result ≡ Ok tt) × (append_known output2 waiting2 ≡ append_known output waiting) → Appends output2 output3 waiting2
-    → MatchResult (result_and {U = Unit {0}} result (Err stop)) (λ _. HasAnswered lines start output3 [])
-    (λ s. IsOutputUpTo s lines start output3)
-told_out stop result start output output2 output3 waiting waiting2 lines made some (done, same) written =
-    let known = append_known output waiting in
-    let kept = subst (λ (bytes : Option (List ℕ)). Appends known bytes []) (sym same) (Appends-nil known) in
-    let some2 : HasRepliedSome start output2 waiting2 lines = record {
-      first = some.first;
-      others = some.others;
-      table = some.table;
-      in_order = some.in_order;
-      replied = replied_same start output output2 waiting waiting2 some.first some.table some.replied kept;
-    } in
-    rw done (made (some_out start output2 output3 waiting2 lines some2 written))
-
-pub stop_out : (stop : Stop) (result : Result (Unit {0}) Stop) (start output output2 output3 : Option (List ℕ)) (waiting waiting2 : List ℕ)
-    (lines : List (List ℕ)) → IsReplied (Err stop) start output waiting lines
-    → IsTold stop result (append_known output waiting) (append_known output2 waiting2) → Appends output2 output3 waiting2
-    → MatchResult (result_and {U = Unit {0}} result (Err stop)) (λ _. HasAnswered lines start output3 [])
-    (λ s. IsOutputUpTo s lines start output3)
-stop_out (BadLine number) result start output output2 output3 waiting waiting2 lines replied told written =
-    bad_out result number start output output2 output3 waiting waiting2 lines replied told written
-stop_out NoMemory result start output output2 output3 waiting waiting2 lines replied told written =
-    told_out NoMemory result start output output2 output3 waiting waiting2 lines (λ some. some) replied told written
-stop_out InputFailed result start output output2 output3 waiting waiting2 lines replied told written =
-    told_out InputFailed result start output output2 output3 waiting waiting2 lines (λ some. some) replied told written
-stop_out OutputFailed result start output output2 output3 waiting waiting2 lines replied told written = rw told.0 tt
+-- what waits is written, as far as the writer takes it
+pub ready_written : (result ended : Result (Unit {0}) Stop) (start output output2 : Option (List ℕ)) (waiting left : List ℕ)
+    (lines : List (List ℕ)) → IsReady ended start output waiting lines → left ≡ [] → IsPushed result output waiting output2 left []
+    → IfErr result (λ stop. stop ≡ OutputFailed)
+    → MatchResult (result_and result ended) (λ _. HasAnswered lines start output2 []) (λ stop. IsOutputUpTo stop lines start output2)
+ready_written (Ok done) ended start output output2 waiting left lines ready empty grown failed =
+    ready_out ended start output2 lines (rw empty at (ready_grown ended start output output2 waiting left lines ready grown))
+ready_written (Err stop) ended start output output2 waiting left lines ready empty cut failed =
+    let rest = subst (λ (s : Stop). IsLeftBy s output waiting output2 left []) failed cut in
+    let now = ready_grown ended start output output2 waiting rest.1.0 lines ready rest.1.1 in
+    subst (λ (s : Stop). IsOutputUpTo s lines start output2) (sym failed) (ready_begun ended start output2 rest.1.0 lines now)
 
 -- the last line behind the others
-answered_then : (lines : List (List ℕ)) (start output output2 : Option (List ℕ)) (last : List ℕ) → HasAnswered lines start output []
-    → Appends output output2 last → HasAnswered lines start output2 last
-answered_then lines start output output2 last answered written = record {
-  text = answered.text;
-  table = answered.table;
-  answers = answered.answers;
-  written = subst (λ (text : List ℕ). Appends start output2 (text ++ last)) (append-nil answered.text)
-      (Appends-trans start output output2 (answered.text ++ []) last answered.written written);
+some_then : (lines : List (List ℕ)) (start output output2 : Option (List ℕ)) (last : List ℕ) → HasAnsweredSome lines start output []
+    → Appends output output2 last → HasAnsweredSome lines start output2 last
+some_then lines start output output2 last some written = record {
+  first = some.first;
+  others = some.others;
+  in_order = some.in_order;
+  answered = record {
+    text = some.answered.text;
+    table = some.answered.table;
+    answers = some.answered.answers;
+    written = subst (λ (text : List ℕ). Appends start output2 (text ++ last)) (append-nil some.answered.text)
+        (Appends-trans start output output2 (some.answered.text ++ []) last some.answered.written written);
+  };
 }
 
 reported : (stop : Stop) (lines : List (List ℕ)) (start output output2 : Option (List ℕ)) (status : ℕ)
-    → IsOutputUpTo stop lines start output
-    → status ≡ status_of stop → Appends output output2 (last_line_of stop) → IsOutputOf lines start output2 status
-reported (BadLine number) lines start output output2 status bad is written =
-    let all = bad.answered.text ++ bad_line (length bad.first + 1) in
-    inr (inl (
-      is,
-      record {
-        first = bad.first;
-        line = bad.line;
-        others = bad.others;
-        in_order = bad.in_order;
-        answered = record {
-          text = bad.answered.text;
-          table = bad.answered.table;
-          answers = bad.answered.answers;
-          written = subst (λ (text : List ℕ). Appends start output2 text) (append-nil all)
-              (Appends-trans start output output2 all [] bad.answered.written written);
-        };
-        unreadable = bad.unreadable;
-      },
-    ))
-reported NoMemory lines start output output2 status some is written = inr (inr (inl (
-  is,
-  record {
-    first = some.first;
-    others = some.others;
-    in_order = some.in_order;
-    answered = answered_then some.first start output output2 _ some.answered written;
-  },
-)))
-reported InputFailed lines start output output2 status some is written = inr (inr (inr is))
-reported OutputFailed lines start output output2 status unknown is written = inr (inr (inr is))
+    → IsOutputUpTo stop lines start output → IsReported stop status output output2 → IsOutputOf lines start output2 status
+reported (BadLine number) lines start output output2 status bad (is, same) = inl (inr (inl (is, rw same bad)))
+reported NoMemory lines start output output2 status some (inl (is, written)) =
+    inl (inr (inr (inl (is, some_then lines start output output2 _ some written))))
+reported NoMemory lines start output output2 status some (inr (is, (lost, cut))) =
+    inr (is, last_begun lines start output output2 lost _ 3 (λ _ whole. inr (inr (inl (refl, whole)))) some cut)
+reported InputFailed lines start output output2 status some (inl (is, written)) =
+    inl (inr (inr (inr (is, some_then lines start output output2 _ some written))))
+reported InputFailed lines start output output2 status some (inr (is, (lost, cut))) =
+    inr (is, last_begun lines start output output2 lost _ 4 (λ _ whole. inr (inr (inr (refl, whole)))) some cut)
+reported OutputFailed lines start output output2 status failed (is, same) = inr (is, rw same failed)
 
 pub served : (stop : Stop) (input start output output2 : Option (List ℕ)) (bytes : List ℕ) (status : ℕ) → IsInput input bytes
-    → IsOutputUpTo stop (lines_of bytes) start output
-    → (status ≡ 4) ⊎ ((status ≡ status_of stop) × Appends output output2 (last_line_of stop)) → IsServed input start output2 status
-served stop input start output output2 bytes status is upto (inl failed) = (bytes, is, inr (inr (inr failed)))
-served stop input start output output2 bytes status is upto (inr told) =
-    (bytes, is, reported stop (lines_of bytes) start output output2 status upto told.0 told.1)
+    → IsOutputUpTo stop (lines_of bytes) start output → IsReported stop status output output2 → IsServed input start output2 status
+served stop input start output output2 bytes status is upto told =
+    (bytes, is, reported stop (lines_of bytes) start output output2 status upto told)
 
 -- before anything is read
 some_bytes : (input : Option (List ℕ)) → (bytes : List ℕ) × IsInput input bytes

@@ -3,7 +3,7 @@ use Rattle.std.proofs.Common.{◌≡◌, ℕ, ◌+◌, ◌<◌, ◌⊎◌, inl, 
 use Rattle.std.specs.Io.KnownBytes.{Consumes, IsAtEnd}
 use Rattle.bhtable.specs.InputLines.{lines_of}
 use Rattle.bhtable.specs.Layout.Found.{IsFoundIn}
-use Rattle.bhtable.specs.Layout.Sessions.{HasEnded, HasFoundBad, HasStopped, HasTaken, HasTakenSome, IsBadAt, table_at_hand}
+use Rattle.bhtable.specs.Layout.Sessions.{HasEnded, HasFailed, HasFoundBad, HasStopped, HasTaken, HasTakenSome, IsBadAt, table_at_hand}
 use Rattle.bhtable.specs.Layout.Stops.{IsInput, IsLack}
 use Rattle.bhtable.specs.declared.line.Found.TheVariants.{Line as FoundLine, TooLong, End}
 use Rattle.bhtable.specs.declared.line.Line.{Line}
@@ -12,6 +12,7 @@ use Rattle.bhtable.specs.declared.stop.Stop.{Stop}
 use Rattle.bhtable.specs.declared.stop.Stop.TheVariants.{BadLine, NoMemory, InputFailed, OutputFailed}
 use Rattle.bhtable.proofs.Finding.{found_end, found_line, found_too_long}
 use Rattle.bhtable.proofs.Reading.{HasRead, all_lines, line_passed, more_read}
+use Rattle.bhtable.proofs.Replying.{some_of_more}
 
 -- as many lines as `number` are read from the input, and taken
 pub record HasCome (input left : Option (List ℕ)) (is_ended : Bool) (unread : List ℕ) (start output : Option (List ℕ)) (session : Session)
@@ -26,9 +27,9 @@ abbrev pub EndsSo : Option (List ℕ) → Option (List ℕ) → Option (List ℕ
 EndsSo input start output session result =
     (bytes : List ℕ) × IsInput input bytes × HasEnded result start output session (lines_of bytes)
 
-some_of_more : (start output : Option (List ℕ)) (session : Session) (lines first others : List (List ℕ)) → lines ≡ first ++ others
+more_lines : (start output : Option (List ℕ)) (session : Session) (lines first others : List (List ℕ)) → lines ≡ first ++ others
     → HasTakenSome start output session first → HasTakenSome start output session lines
-some_of_more start output session lines first others parts some = record {
+more_lines start output session lines first others parts some = record {
   first = some.first;
   others = some.others ++ others;
   in_order = parts ∙ ap (λ (ls : List (List ℕ)). ls ++ others) some.in_order ∙ append_assoc some.first some.others others;
@@ -95,11 +96,17 @@ module _ (input left : Option (List ℕ)) (is_ended : Bool) (unread : List ℕ) 
   ends_between output2 session2 (BadLine other) lack left2 = absurd lack
   ends_between output2 session2 NoMemory lack left2 =
       let all = all_lines input left is_ended unread come.before come.read in
-      (all.bytes, all.input, some_of_more start output2 session2 (lines_of all.bytes) come.before _ all.in_order left2)
+      (all.bytes, all.input, more_lines start output2 session2 (lines_of all.bytes) come.before _ all.in_order left2)
   ends_between output2 session2 InputFailed lack left2 = absurd lack
   ends_between output2 session2 OutputFailed lack left2 =
       let all = all_lines input left is_ended unread come.before come.read in
-      (all.bytes, all.input, left2)
+      let failed : HasFailed start output2 session2 (lines_of all.bytes) = record {
+        no_call = left2.no_call;
+        no_reply = left2.no_reply;
+        lost = left2.lost;
+        replied = some_of_more start output2 left2.lost (lines_of all.bytes) come.before _ all.in_order left2.replied;
+      } in
+      (all.bytes, all.input, failed)
 
   pub ends_unread : (output2 : Option (List ℕ)) (session2 : Session) → HasTaken start output2 session2 come.before
       → EndsSo input start output2 session2 (Err InputFailed)
@@ -107,7 +114,7 @@ module _ (input left : Option (List ℕ)) (is_ended : Bool) (unread : List ℕ) 
       let all = all_lines input left is_ended unread come.before come.read in (
         all.bytes,
         all.input,
-        some_of_more start output2 session2 (lines_of all.bytes) come.before _ all.in_order
+        more_lines start output2 session2 (lines_of all.bytes) come.before _ all.in_order
             (all_taken start output2 session2 come.before taken),
       )
 

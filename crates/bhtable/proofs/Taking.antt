@@ -1,11 +1,10 @@
 -- What a session holds after a line, and after the calls that wait are answered.
 use Rattle.std.proofs.Common.{◌≡◌, ℕ, ◌≤◌, ◌==◌, inl, inr, true, List, [], ◌∷◌, ◌++◌, Option, Some, IsSome, Result, Ok, Err, MatchResult, length, arith, eqb-true, refl, sym, ap, ◌∙◌, append_assoc, append-nil}
-use Rattle.std.proofs.KnownBytes.{Appends-nil}
-use Rattle.std.specs.Io.KnownBytes.{Appends, append_known}
 use Rattle.bucket_table.specs.declared.script.call.Call.{Call}
 use Rattle.bucket_table.specs.declared.script.reply.Reply.{Reply}
-use Rattle.bhtable.specs.Answers.{ScriptTable}
-use Rattle.bhtable.specs.Layout.Replies.{ArePushed, lines_of_replies}
+use Rattle.bhtable.specs.Answers.{AreAnswers, ScriptTable}
+use Rattle.bhtable.specs.Layout.Growing.{HasGrown}
+use Rattle.bhtable.specs.Layout.Replies.{ArePushed, IsLeftBy, lines_of_replies}
 use Rattle.bhtable.specs.Requests.{Asks}
 use Rattle.bhtable.specs.Layout.Sessions.{AskForCalls, HasReplied, HasStopped, HasTaken, HasTakenSome, ScriptRun, table_at_hand}
 use Rattle.bhtable.specs.Words.{parts_of}
@@ -14,6 +13,7 @@ use Rattle.bhtable.specs.declared.session.Session.{Session}
 use Rattle.bhtable.specs.declared.stop.Stop.{Stop}
 use Rattle.bhtable.specs.declared.stop.Stop.TheVariants.{BadLine, NoMemory, InputFailed, OutputFailed}
 use Rattle.bhtable.proofs.Answering.{answered_all, answered_nothing, answered_some, asked_nothing_more, asked_one_more}
+use Rattle.bhtable.proofs.Growing.{nothing_grown}
 use Rattle.bhtable.proofs.Replying.{replied_more}
 
 pub taken_blank : (start output : Option (List ℕ)) (session : Session) (lines : List (List ℕ)) (line : List ℕ)
@@ -51,7 +51,7 @@ replied_all start output session lines taken none =
     let blank : AskForCalls taken.waiting [] = rw none at taken.calls in
     let table = table_at_hand session.table in
     rw taken.in_order (replied_more start output output _ _ [] taken.answered taken.waiting table table taken.replied
-    (answered_nothing taken.waiting table blank) (Appends-nil (append_known output session.replies)))
+    (answered_nothing taken.waiting table blank) (nothing_grown output session.replies))
 
 -- a vector without elements
 pub no_items : {X : Type 0} (items : List X) (len : ℕ) → len ≡ length items → true ≡ (len == 0) → items ≡ []
@@ -70,34 +70,42 @@ taken_all start output session lines replied none = record {
   needed = λ _. none;
 }
 
--- the first of the replies were appended
-some_pushed : (start output output2 : Option (List ℕ)) (session session2 : Session) (lines : List (List ℕ)) (before after : ScriptTable)
-    (replies others : List (Reply ℕ ℕ)) → HasTaken start output session lines → table_at_hand session.table ≡ Some before
-    → ScriptRun before session.calls.items (replies ++ others) after
-    → Appends (append_known output session.replies) (append_known output2 session2.replies) (lines_of_replies replies)
-    → session2.calls.items ≡ [] → HasTakenSome start output2 session2 lines
-some_pushed start output output2 session session2 lines before after replies others taken there ran grown none =
-    let some = answered_some taken.waiting session.calls.items replies others before after taken.calls ran in
-    let replied = rw there at taken.replied in
-    record {
-      first = taken.answered ++ some.first;
-      others = some.others;
-      in_order = taken.in_order ∙ ap (λ (ls : List (List ℕ)). taken.answered ++ ls) some.in_order
-          ∙ sym (append_assoc taken.answered some.first some.others);
-      kept = inr (
-        none,
-        (
-          some.table,
-          replied_more start output output2 _ _ _ taken.answered some.first (Some before) some.table replied
-              some.answers grown,
-        ),
-      );
+-- a stop behind the answers of the first of the lines
+pub stopped_at : (stop : Stop) (start output output2 : Option (List ℕ)) (session session2 : Session)
+    (lines first more others : List (List ℕ)) (text : List ℕ) (table table2 : Option ScriptTable) → lines ≡ (first ++ more) ++ others
+    → HasReplied start output session.replies first table → AreAnswers table more text table2
+    → IsLeftBy stop output session.replies output2 session2.replies text → session2.calls.items ≡ []
+    → HasStopped stop start output2 session2 lines
+stopped_at (BadLine number) start output output2 session session2 lines first more others text table table2 parts replied answers never
+    none =
+    absurd never
+stopped_at NoMemory start output output2 session session2 lines first more others text table table2 parts replied answers grown
+    none = record {
+      first = first ++ more;
+      others = others;
+      in_order = parts;
+      kept = inr (none, (table2, replied_more start output output2 _ _ text first more table table2 replied answers grown));
+    }
+stopped_at InputFailed start output output2 session session2 lines first more others text table table2 parts replied answers never none =
+    absurd never
+stopped_at OutputFailed start output output2 session session2 lines first more others text table table2 parts replied answers
+    (empty, (lost, grown)) none = record {
+      no_call = none;
+      no_reply = empty;
+      lost = lost;
+      replied = record {
+        first = first ++ more;
+        others = others;
+        table = table2;
+        in_order = parts;
+        replied = replied_more start output output2 _ lost text first more table table2 replied answers grown;
+      };
     }
 
 all_pushed : (start output output2 : Option (List ℕ)) (session session2 : Session) (lines : List (List ℕ)) (before after : ScriptTable)
     (replies : List (Reply ℕ ℕ)) → HasTaken start output session lines → table_at_hand session.table ≡ Some before
     → ScriptRun before session.calls.items replies after
-    → Appends (append_known output session.replies) (append_known output2 session2.replies) (lines_of_replies replies)
+    → HasGrown output session.replies output2 session2.replies (lines_of_replies replies)
     → HasReplied start output2 session2.replies lines (Some after)
 all_pushed start output output2 session session2 lines before after replies taken there ran grown =
     let replied = rw there at taken.replied in
@@ -109,7 +117,7 @@ pub pushed : (start output output2 : Option (List ℕ)) (session session2 : Sess
     (replies : List (Reply ℕ ℕ)) (result : Result (Unit {0}) Stop) → HasTaken start output session lines
     → table_at_hand session.table ≡ Some before → table_at_hand session2.table ≡ Some after
     → ScriptRun before session.calls.items replies after
-    → ArePushed result (append_known output session.replies) (append_known output2 session2.replies) replies
+    → ArePushed result output session.replies output2 session2.replies replies
     → session2.calls.items ≡ []
     → MatchResult result
     (λ _. HasReplied start output2 session2.replies lines (table_at_hand session2.table))
@@ -117,18 +125,13 @@ pub pushed : (start output output2 : Option (List ℕ)) (session session2 : Sess
 pushed start output output2 session session2 lines before after replies (Ok done) taken there there2 ran (first, others, parts, all) none =
     let whole : replies ≡ first = parts ∙ ap (λ (rs : List (Reply ℕ ℕ)). first ++ rs) all.0 ∙ append-nil first in
     rw there2 (all_pushed start output output2 session session2 lines before after first taken there (rw whole at ran) all.1)
-pushed start output output2 session session2 lines before after replies (Err (BadLine number)) taken there there2 ran
-    (first, others, parts, never) none =
-    absurd never
-pushed start output output2 session session2 lines before after replies (Err NoMemory) taken there there2 ran (first, others, parts, grown)
+pushed start output output2 session session2 lines before after replies (Err stop) taken there there2 ran (first, others, parts, left)
     none =
-    some_pushed start output output2 session session2 lines before after first others taken there (rw parts at ran) grown none
-pushed start output output2 session session2 lines before after replies (Err InputFailed) taken there there2 ran
-    (first, others, parts, never) none =
-    absurd never
-pushed start output output2 session session2 lines before after replies (Err OutputFailed) taken there there2 ran
-    (first, others, parts, unknown) none =
-    none
+    let some = answered_some taken.waiting session.calls.items first others before after taken.calls (rw parts at ran) in
+    stopped_at stop start output output2 session session2 lines taken.answered some.first some.others (lines_of_replies first) (Some before)
+    some.table
+    (taken.in_order ∙ ap (λ (ls : List (List ℕ)). taken.answered ++ ls) some.in_order
+    ∙ sym (append_assoc taken.answered some.first some.others)) (rw there at taken.replied) some.answers left none
 
 -- after a call that there is no memory for
 pub taken_so_far : (start output : Option (List ℕ)) (session session2 : Session) (lines : List (List ℕ))

@@ -1,12 +1,11 @@
 -- What a session holds after a line that changes no pair, and after its replies are written out.
-use Rattle.std.proofs.Common.{◌≡◌, ℕ, ◌≤◌, inr, List, [], ◌∷◌, ◌++◌, Option, None, Some, IsSome, Result, Ok, Err, OnOk, IfErr, MatchResult, length, refl, sym, subst, ◌∙◌, append-nil}
-use Rattle.std.specs.Io.KnownBytes.{Appends, append_known}
+use Rattle.std.proofs.Common.{◌≡◌, ℕ, ◌≤◌, List, [], ◌∷◌, ◌++◌, Option, None, Some, IsSome, Result, Ok, Err, MatchResult, length, refl, ◌∙◌, append-nil}
 use Rattle.bucket_table.specs.declared.script.generation.FixedGeneration.{FixedGeneration}
 use Rattle.bucket_table.specs.declared.script.reply.Reply.{Reply}
 use Rattle.bucket_table.specs.declared.script.reply.Reply.TheVariants.{Done}
 use Rattle.bhtable.specs.Answers.{Answers, IsAnswer, ScriptTable, Tells}
 use Rattle.bhtable.specs.Outputs.{HasAnswered}
-use Rattle.bhtable.specs.Layout.Replies.{IsPushed}
+use Rattle.bhtable.specs.Layout.Replies.{IsLeftBy, IsPushed}
 use Rattle.bhtable.specs.Layout.Sessions.{HasReplied, HasStopped, HasTaken, IsBadAt, table_at_hand, table_of}
 use Rattle.bhtable.specs.Layout.Stops.{IsLack}
 use Rattle.bhtable.specs.declared.request.Question.{Question}
@@ -15,8 +14,8 @@ use Rattle.bhtable.specs.declared.session.Session.{Session}
 use Rattle.bhtable.specs.declared.session.Table.{Table}
 use Rattle.bhtable.specs.declared.stop.Stop.{Stop}
 use Rattle.bhtable.specs.declared.stop.Stop.TheVariants.{BadLine, NoMemory, InputFailed, OutputFailed}
-use Rattle.bhtable.proofs.Replying.{answered_out, replied_one, replied_out, replied_same}
-use Rattle.bhtable.proofs.Taking.{taken_all}
+use Rattle.bhtable.proofs.Replying.{answered_out, replied_one, replied_same}
+use Rattle.bhtable.proofs.Taking.{stopped_at, taken_all}
 
 -- a want of memory or a writer that fails isn't a line that can't be read
 pub at_line : (result : Result (Unit {0}) Stop) (P : Unit {0} → Type 0) (Q : Stop → Type 0) (table : Option ScriptTable) (line : List ℕ)
@@ -28,12 +27,20 @@ at_line (Err NoMemory) P Q table line left lack = (left, tt)
 at_line (Err InputFailed) P Q table line left lack = absurd lack
 at_line (Err OutputFailed) P Q table line left lack = (left, tt)
 
+-- a stop before the next answer
+stopped_before : (stop : Stop) (start output output2 : Option (List ℕ)) (session session2 : Session) (lines : List (List ℕ))
+    (table : Option ScriptTable) → HasReplied start output session.replies lines table
+    → IsLeftBy stop output session.replies output2 session2.replies [] → session2.calls.items ≡ []
+    → HasStopped stop start output2 session2 lines
+stopped_before stop start output output2 session session2 lines table replied left none =
+    stopped_at stop start output output2 session session2 lines lines [] [] [] table table (simp append-nil) replied (refl, refl) left none
+
 -- a line that is answered at once, where no call waits
 pub taken_one : (start output output2 : Option (List ℕ)) (session session2 : Session) (lines : List (List ℕ)) (line : List ℕ)
     (text : List ℕ) (after : Option ScriptTable) (result : Result (Unit {0}) Stop)
     → HasReplied start output session.replies lines (table_at_hand session.table)
     → session.calls.items ≡ [] → length line ≤ 4096 → IsAnswer (table_at_hand session.table) line text after
-    → IsPushed result (append_known output session.replies) (append_known output2 session2.replies) text
+    → IsPushed result output session.replies output2 session2.replies text
     → table_at_hand session2.table ≡ after → session2.calls.items ≡ session.calls.items
     → MatchResult result (λ _. HasTaken start output2 session2 (lines ++ line ∷ [])) (λ stop. HasStopped stop start output2 session2 lines)
 taken_one start output output2 session session2 lines line text after (Ok done) replied none short answer grown table calls =
@@ -41,24 +48,8 @@ taken_one start output output2 session session2 lines line text after (Ok done) 
     (rw table (replied_one start output output2 session.replies session2.replies lines line text (table_at_hand session.table) after replied
     short answer grown))
     (calls ∙ none)
-taken_one start output output2 session session2 lines line text after (Err (BadLine number)) replied none short answer never table calls =
-    absurd never
-taken_one start output output2 session session2 lines line text after (Err NoMemory) replied none short answer kept table calls = record {
-  first = lines;
-  others = [];
-  in_order = sym (append-nil lines);
-  kept = inr (
-    calls ∙ none,
-    (
-      table_at_hand session.table,
-      replied_same start output output2 session.replies session2.replies lines (table_at_hand session.table) replied kept,
-    ),
-  );
-}
-taken_one start output output2 session session2 lines line text after (Err InputFailed) replied none short answer never table calls =
-    absurd never
-taken_one start output output2 session session2 lines line text after (Err OutputFailed) replied none short answer unknown table calls =
-    calls ∙ none
+taken_one start output output2 session session2 lines line text after (Err stop) replied none short answer left table calls =
+    stopped_before stop start output output2 session session2 lines (table_at_hand session.table) replied left (calls ∙ none)
 
 -- where there is a table, an epoch leaves it as it is
 pub epoch_answered : (table : Option Table) (generation : FixedGeneration) → IsSome table
@@ -71,20 +62,18 @@ pub told_of : (table : Option Table) (at : Table) (question : Question) (reply :
     → Tells (table_of at) question reply → Answers (table_at_hand table) (Questions question) reply (table_at_hand table)
 told_of table at question reply there tells = rw there (tells, refl)
 
--- the text that waited is in the output
+-- the text that waited was written, as far as the writer took it
 pub wrote : (start output output2 : Option (List ℕ)) (session session2 : Session) (lines : List (List ℕ)) (result : Result (Unit {0}) Stop)
     → HasReplied start output session.replies lines (table_at_hand session.table) → session.calls.items ≡ []
-    → session2.calls.items ≡ session.calls.items → session2.table ≡ session.table
-    → OnOk result (session2.replies ≡ []) → OnOk result (Appends output output2 session.replies)
-    → IfErr result (λ stop. stop ≡ OutputFailed)
+    → session2.calls.items ≡ session.calls.items → session2.table ≡ session.table → session2.replies ≡ []
+    → IsPushed result output session.replies output2 session2.replies []
     → MatchResult result (λ _. HasAnswered lines start output2 [] × HasTaken start output2 session2 lines)
     (λ stop. HasStopped stop start output2 session2 lines)
-wrote start output output2 session session2 lines (Ok done) replied none calls table empty written failed = (
-  answered_out start output output2 session.replies lines (table_at_hand session.table) replied written,
-  taken_all start output2 session2 lines
-      (rw table (replied_out start output output2 session.replies session2.replies lines (table_at_hand session.table) replied written
-      empty))
-      (calls ∙ none),
-)
-wrote start output output2 session session2 lines (Err stop) replied none calls table empty written failed =
-    subst (λ (s : Stop). HasStopped s start output2 session2 lines) (sym failed) (calls ∙ none)
+wrote start output output2 session session2 lines (Ok done) replied none calls table empty written =
+    let now : HasReplied start output2 session2.replies lines (table_at_hand session2.table) =
+    rw table (replied_same start output output2 session.replies session2.replies lines (table_at_hand session.table) replied written) in (
+      answered_out start output2 lines (table_at_hand session2.table) (rw empty at now),
+      taken_all start output2 session2 lines now (calls ∙ none),
+    )
+wrote start output output2 session session2 lines (Err stop) replied none calls table empty left =
+    stopped_before stop start output output2 session session2 lines (table_at_hand session.table) replied left (calls ∙ none)

@@ -1,6 +1,6 @@
 -- What a script leaves in its output.
 use Rattle.std.specs.Prelude.{ℕ, ◌≡◌, ◌⊎◌, ◌+◌, List, [], ◌∷◌, ◌++◌, Option, None, IfSome, codes, length}
-use Rattle.std.specs.Io.KnownBytes.{Appends}
+use Rattle.std.specs.Io.KnownBytes.{Appends, append_known}
 use Rattle.bhtable.specs.Answers.{AreAnswers, IsUnreadable, ScriptTable}
 use Rattle.bhtable.specs.InputLines.{lines_of}
 use Rattle.bhtable.specs.Texts.{bad_line, line_of}
@@ -28,12 +28,25 @@ pub record HasBadLine (lines : List (List ℕ)) (old new : Option (List ℕ)) : 
   pub answered : HasAnswered first old new (bad_line (length first + 1))
   pub unreadable : IsUnreadable answered.table line
 
--- every line was answered at 0, every line before the one that is named at 2, and the first lines at 3
-abbrev pub IsOutputOf : List (List ℕ) → Option (List ℕ) → Option (List ℕ) → ℕ → Type 0
-IsOutputOf lines old new status =
+-- a whole output: every line was answered at 0, every line before the one that is named at 2, and the first lines at 3 and 4
+abbrev pub IsWhole : List (List ℕ) → Option (List ℕ) → Option (List ℕ) → ℕ → Type 0
+IsWhole lines old new status =
     ((status ≡ 0) × HasAnswered lines old new [])
     ⊎ ((status ≡ 2) × HasBadLine lines old new)
-    ⊎ ((status ≡ 3) × HasAnsweredSome lines old new (line_of (codes "no memory"))) ⊎ (status ≡ 4)
+    ⊎ ((status ≡ 3) × HasAnsweredSome lines old new (line_of (codes "no memory")))
+    ⊎ ((status ≡ 4) × HasAnsweredSome lines old new (line_of (codes "input failed")))
+
+-- the output grew by `written`, and with `rest` behind that it would be whole
+pub record HasBegun (lines : List (List ℕ)) (old new : Option (List ℕ)) : Type 0 where
+  pub written : List ℕ
+  pub rest : List ℕ
+  pub status : ℕ
+  pub grown : Appends old new written
+  pub whole : IsWhole lines old (append_known new rest) status
+
+-- the output is whole, or, where a write has failed, it is begun and the status is 4
+abbrev pub IsOutputOf : List (List ℕ) → Option (List ℕ) → Option (List ℕ) → ℕ → Type 0
+IsOutputOf lines old new status = IsWhole lines old new status ⊎ ((status ≡ 4) × HasBegun lines old new)
 
 -- an input, whose bytes may be known, was answered so, with this status
 abbrev pub IsServed : Option (List ℕ) → Option (List ℕ) → Option (List ℕ) → ℕ → Type 0

@@ -18,6 +18,7 @@ mod tests;
 mod text;
 mod window;
 mod words;
+mod writing;
 
 use crate::line::{Found, Lines};
 use crate::session::Session;
@@ -34,6 +35,10 @@ use std::process::ExitCode;
 ///
 /// The status is 0 at the end of the input; 2 after `bad line N`, where line N can't be read; 3
 /// after `no memory`; 4 after `input failed`, and where the output can't be written.
+///
+/// At 4 the output is the answers of the first lines and then `input failed`, or, where a write has
+/// failed, a beginning of what it would have been with any status. Nothing is written after a write
+/// that failed. At 3 no clause says that memory was really refused.
 pub fn serve<R: Read + Drop, W: Write>(alloc: Global, input: R, output: &mut W) -> u8
     ensures { IsServed (R.remaining input) (W.contents output.old) (W.contents output.new) result }
 {

@@ -1,11 +1,11 @@
 //! Replies on their way to a writer.
 ghost use Rattle.std.specs.Prelude.{◌≡◌, ◌-◌, ◌≤◌, ℕ, List, [], IfErr, IfOk, OnOk, length};
-ghost use Rattle.std.specs.Io.KnownBytes.{Appends, Keeps, append_known};
 ghost use Rattle.bhtable.specs.Layout.Replies.{ArePushed, IsPushed, IsTold};
 ghost use Rattle.bhtable.specs.Texts.{bad_line, line_of, text_of};
 
 use crate::stop::Stop;
 use crate::text::{append_bad_line, append_reply};
+use crate::writing::write_whole;
 use bucket_table::script::Reply;
 use std::alloc::{AllocError, Global};
 use std::io::Write;
@@ -44,8 +44,8 @@ impl Replies {
         replies: &[Reply<u64, u64>],
         output: &mut W,
     ) -> Result<(), Stop>
-        ensures { ArePushed result (append_known (W.contents output.old) self.old)
-            (append_known (W.contents output.new) self.new) replies.now }
+        ensures { ArePushed result (W.contents output.old) self.old (W.contents output.new) self.new
+            replies.now }
     {
         for reply in replies {
             self.push(reply, output)?;
@@ -59,8 +59,8 @@ impl Replies {
         reply: &Reply<u64, u64>,
         output: &mut W,
     ) -> Result<(), Stop>
-        ensures { IsPushed result (append_known (W.contents output.old) self.old)
-            (append_known (W.contents output.new) self.new) (line_of (text_of reply.now)) }
+        ensures { IsPushed result (W.contents output.old) self.old (W.contents output.new) self.new
+            (line_of (text_of reply.now)) }
     {
         self.make_room(output)?;
         let len = self.text.len();
@@ -73,8 +73,8 @@ impl Replies {
 
     /// Appends that a line can't be read, where that is the stop.
     pub(crate) fn push_stop<W: Write>(&mut self, stop: Stop, output: &mut W) -> Result<(), Stop>
-        ensures { IsTold stop result (append_known (W.contents output.old) self.old)
-            (append_known (W.contents output.new) self.new) }
+        ensures { IsTold stop result (W.contents output.old) self.old (W.contents output.new)
+            self.new }
     {
         match stop {
             Stop::BadLine(number) => self.push_bad_line(number, output),
@@ -84,8 +84,8 @@ impl Replies {
 
     // Appends that the line of this number can't be read.
     fn push_bad_line<W: Write>(&mut self, number: u64, output: &mut W) -> Result<(), Stop>
-        ensures { IsPushed result (append_known (W.contents output.old) self.old)
-            (append_known (W.contents output.new) self.new) (bad_line number) }
+        ensures { IsPushed result (W.contents output.old) self.old (W.contents output.new) self.new
+            (bad_line number) }
     {
         self.make_room(output)?;
         let len = self.text.len();
@@ -96,11 +96,11 @@ impl Replies {
         Ok(())
     }
 
-    /// Writes every reply out and flushes the writer.
+    /// Writes every reply out and flushes the writer. Where that fails, the replies are let go.
     pub(crate) fn write_out<W: Write>(&mut self, output: &mut W) -> Result<(), Stop>
-        ensures empty { OnOk result (self.new ≡ []) }
-        ensures written { OnOk result (Appends (W.contents output.old) (W.contents output.new)
-            self.old) }
+        ensures empty { self.new ≡ [] }
+        ensures written { IsPushed result (W.contents output.old) self.old (W.contents output.new)
+            self.new [] }
         ensures stop { IfErr result (λ stop. stop ≡ Stop.OutputFailed) }
     {
         if self.text.is_empty() {
@@ -113,8 +113,8 @@ impl Replies {
     // Room for a line more, which writing makes.
     fn make_room<W: Write>(&mut self, output: &mut W) -> Result<(), Stop>
         ensures room { OnOk result (length self.new ≤ TEXT_CAPACITY - REPLY_ROOM) }
-        ensures kept { OnOk result (Keeps (append_known (W.contents output.old) self.old)
-            (append_known (W.contents output.new) self.new)) }
+        ensures kept { IsPushed result (W.contents output.old) self.old (W.contents output.new)
+            self.new [] }
         ensures stop { IfErr result (λ stop. stop ≡ Stop.OutputFailed) }
     {
         if self.text.len() > TEXT_CAPACITY - REPLY_ROOM {
@@ -126,12 +126,12 @@ impl Replies {
     // What can't be written is let go.
     fn write_text<W: Write>(&mut self, output: &mut W) -> Result<(), Stop>
         ensures empty { self.new ≡ [] }
-        ensures written { OnOk result (Appends (W.contents output.old) (W.contents output.new)
-            self.old) }
+        ensures written { IsPushed result (W.contents output.old) self.old (W.contents output.new)
+            self.new [] }
         ensures stop { IfErr result (λ stop. stop ≡ Stop.OutputFailed) }
     {
-        let written = output.write_all(self.text.as_slice());
+        let written = write_whole(output, self.text.as_slice());
         self.text.clear();
-        written.map_err(|_| Stop::OutputFailed)
+        written
     }
 }

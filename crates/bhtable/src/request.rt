@@ -13,6 +13,7 @@ ghost use Rattle.bucket_table.specs.declared.script.generation.FixedGeneration.{
 
 use crate::meanings::meaning_of;
 use crate::words::Words;
+use bucket_table::hash_table::MAXIMUM_CAPACITY_LIMIT;
 use bucket_table::script::{Call, FixedGeneration, ScriptHash};
 
 /// A line that can't be read.
@@ -246,7 +247,7 @@ fn limits_of(minimum: usize, maximum: usize) -> Option<Limits>
         (limits.minimum ≡ minimum) × (limits.maximum ≡ maximum)) }
     ensures accepted { IsSome result ↔ AreLimits minimum maximum }
 {
-    if maximum < 64 || maximum > 1 << 63 || minimum > maximum {
+    if maximum < 64 || maximum > MAXIMUM_CAPACITY_LIMIT || minimum > maximum {
         return None;
     }
     if maximum.next_power_of_two() != maximum {

@@ -131,8 +131,7 @@ impl Session {
             Ok(()) => Ok(()),
             Err(stop) => self.replies.push_stop(stop, output).and(Err(stop)),
         };
-        self.replies.write_out(output)?;
-        ended
+        self.replies.write_out(output).and(ended)
     }
 
     // Puts a fresh table in the place of the one at hand.

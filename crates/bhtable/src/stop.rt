@@ -1,11 +1,11 @@
 //! Why a script ends before its input does: the last line of output, and the exit status.
-ghost use Rattle.std.specs.Prelude.{◌≡◌, ◌⊎◌, OnOk};
-ghost use Rattle.std.specs.Io.KnownBytes.{Appends};
-ghost use Rattle.bhtable.specs.Layout.Stops.{last_line_of, status_of};
+ghost use Rattle.std.specs.Prelude.{◌≡◌};
+ghost use Rattle.bhtable.specs.Layout.Growing.{IsWritten};
+ghost use Rattle.bhtable.specs.Layout.Stops.{HasLast, IsReported};
 ghost use Rattle.bhtable.specs.declared.stop.Stop.TheVariants.{NoMemory};
 
+use crate::writing::write_whole;
 use std::alloc::AllocError;
-use std::io;
 use std::io::Write;
 
 /// What ended a script.
@@ -24,37 +24,35 @@ pub(crate) enum Stop {
 impl Stop {
     /// Writes the last line, which for a line that can't be read stands among the replies already,
     /// and returns the status: that of the stop, or 4 where the line can't be written.
+    ///
+    /// An output that failed is written to no more.
     pub(crate) fn report<W: Write>(self, output: &mut W) -> u8
-        ensures { (result ≡ 4) ⊎ ((result ≡ status_of self)
-            × Appends (W.contents output.old) (W.contents output.new) (last_line_of self)) }
-    {
-        let written = match self {
-            Stop::NoMemory => write_line(output, b"no memory\n"),
-            Stop::InputFailed => write_line(output, b"input failed\n"),
-            Stop::BadLine(_) | Stop::OutputFailed => Ok(()),
-        };
-        match written {
-            Ok(()) => self.status(),
-            Err(_) => 4,
-        }
-    }
-
-    fn status(self) -> u8
-        ensures { result ≡ status_of self }
+        ensures { IsReported self result (W.contents output.old) (W.contents output.new) }
     {
         match self {
             Stop::BadLine(_) => 2,
-            Stop::NoMemory => 3,
-            Stop::InputFailed | Stop::OutputFailed => 4,
+            Stop::NoMemory => write_last(output, b"no memory\n", 3),
+            Stop::InputFailed => write_last(output, b"input failed\n", 4),
+            Stop::OutputFailed => 4,
         }
     }
 }
 
-fn write_line<W: Write>(output: &mut W, line: &[u8]) -> io::Result<()>
-    ensures { OnOk result (Appends (W.contents output.old) (W.contents output.new) line.now) }
+// Writes the last line and returns the status, which is 4 where the line can't be written.
+fn write_last<W: Write>(output: &mut W, line: &[u8], status: u8) -> u8
+    ensures { HasLast line.now status result (W.contents output.old) (W.contents output.new) }
 {
-    output.write_all(line)?;
-    output.flush()
+    match write_line(output, line) {
+        Ok(()) => status,
+        Err(_) => 4,
+    }
+}
+
+fn write_line<W: Write>(output: &mut W, line: &[u8]) -> Result<(), Stop>
+    ensures { IsWritten result (W.contents output.old) (W.contents output.new) line.now }
+{
+    write_whole(output, line)?;
+    output.flush().map_err(|_| Stop::OutputFailed)
 }
 
 impl From<AllocError> for Stop {

@@ -1,18 +1,33 @@
 -- Lists of equally long parts, and parts of which some buckets are made.
-use Rattle.std.proofs.Common.{ℕ, zero, suc, ◌+◌, ◌-◌, ◌*◌, ◌/◌, ◌%◌, ◌^◌, ◌<◌, ◌≡◌, List, [], ◌∷◌, ◌++◌, length, get_or, set, take, drop, replicate, inl, inr, refl, sym, ap, subst, ◌∙◌, arith}
+use Rattle.std.proofs.Common.{ℕ, zero, suc, Bool, true, false, ◌+◌, ◌-◌, ◌*◌, ◌/◌, ◌%◌, ◌^◌, ◌<◌, ◌≤◌, ◌≡◌, List, [], ◌∷◌, ◌++◌, length, get_or, set, take, drop, replicate, inl, inr, refl, sym, ap, subst, ◌∙◌, arith}
 use Rattle.std.specs.List.{All}
 use Rattle.std.proofs.Math.Nat.{add-mul, one-mul, mul_comm, mod-lt, div-add-mod}
 use Rattle.std.proofs.lemmas.Nat.{pow_pos, div_below}
 use Rattle.std.proofs.lemmas.Bool.{cases_lt}
-use Rattle.std.proofs.lemmas.List.{append_assoc, get_or-append_right, get_or_append_left, get_or_past, length-append, length-replicate, length-set, length-take-le, length_push, replicate-append-replicate, set-append_left, set-append_right, set-get_or, set_split}
+use Rattle.std.proofs.lemmas.List.{append-nil, append_assoc, get_or-append_right, get_or_append_left, get_or-replicate, length-append, length-replicate, length-set, length-take-le, length_push, replicate-append-replicate, set-append_left, set-append_right, set-get_or, set_split}
 use Rattle.std.proofs.lemmas.List.Concat.{flat_map-append}
 use Rattle.std.proofs.lemmas.List.Elements.{All-get_or, All-head, All-replicate, All-same, All-set, All-tail, All-take}
 use Rattle.bucket_slots.specs.ArrayView.{IsNewArray}
 use Rattle.bucket_slots.specs.BucketView.{BucketView, empty_bucket, flattened}
-use Rattle.bucket_slots.specs.Layout.ArrayParts.{AreParts, part_at, with_unmade}
+use Rattle.bucket_slots.specs.Layout.ArrayParts.{AreParts, part_at, unmade_bucket, with_unmade}
 use Rattle.bucket_slots.specs.Sizing.{IsLengthFor}
 
 module _ {A : Type 0} where
+  pub all_one : (xs : List A) (x d : A) → ((i : ℕ) → i < length xs → get_or xs i d ≡ x) → xs ≡ replicate (length xs) x
+  all_one [] x d each = refl
+  all_one (y ∷ xs) x d each =
+      ap (λ l. y ∷ l) (all_one xs x d (λ i below. each (suc i) (omega (arith, below))))
+      ∙ ap (λ z. z ∷ replicate (length xs) x) (each 0 (omega arith))
+
+  -- each element from a number on is one value, where that element is and each behind it
+  pub from_one_less : (xs : List A) (x d : A) (left : ℕ) → get_or xs left d ≡ x
+      → ((i : ℕ) → suc left ≤ i → i < length xs → get_or xs i d ≡ x)
+      → (i : ℕ) → left ≤ i → i < length xs → get_or xs i d ≡ x
+  from_one_less xs x d left here behind i from below = elim (cases_lt left i) [
+    | inl past ↦ behind i (omega (arith, past)) below
+    | inr upto ↦ let same : i ≡ left = omega (arith, from, upto) in rw same here
+  ]
+
   pub flattened-replicate : (n m : ℕ) (x : A) → flattened (replicate n (replicate m x)) ≡ replicate (n * m) x
   flattened-replicate zero m x = let none : 0 ≡ 0 * m = omega arith in ap (λ k. replicate k x) none
   flattened-replicate (suc n) m x =
@@ -69,37 +84,49 @@ abbrev Buckets : Type 0 → Type 0 → Type 0
 Buckets K V = List (BucketView K V)
 
 module _ {K V : Type 0} where
-  get_or-empties : (n i : ℕ) → get_or (replicate n (empty_bucket {K = K} {V = V})) i empty_bucket ≡ empty_bucket
-  get_or-empties zero i = refl
-  get_or-empties (suc n) zero = refl
-  get_or-empties (suc n) (suc i) = get_or-empties n i
+  -- where a bucket isn't made, a spare one is read
+  pub get_or-unmade : (made : Buckets K V) (len i : ℕ) (released : Bool) → length made ≤ i → i < length (with_unmade made len released)
+      → get_or (with_unmade made len released) i empty_bucket ≡ unmade_bucket released
+  get_or-unmade made len i released past below =
+      let spare : BucketView K V = unmade_bucket released in
+      let count : ℕ = len - length made in
+      let all = length-append made (replicate count spare) in
+      let within : i - length made < count = omega (arith, past, below, all, length-replicate count spare) in
+      get_or-append_right made (replicate count spare) (length made) i empty_bucket refl past
+      ∙ get_or-replicate count (i - length made) spare empty_bucket within
 
-  -- a bucket that isn't made reads as one past the end
-  pub get_or-part : (made : Buckets K V) (len i : ℕ) → get_or (with_unmade made len) i empty_bucket ≡ get_or made i empty_bucket
-  get_or-part made len i =
-      let rest = replicate (len - length made) (empty_bucket {K = K} {V = V}) in
-      elim (cases_lt i (length made)) [
-        | inl there ↦ get_or_append_left made rest empty_bucket i there
-        | inr past ↦
-            get_or-append_right made rest (length made) i empty_bucket refl past ∙ get_or-empties (len - length made) (i - length made)
-            ∙ sym (get_or_past made i empty_bucket past)
-      ]
+  -- where it is made, it is read
+  pub get_or-made : (made : Buckets K V) (len i : ℕ) (released : Bool) → i < length made
+      → get_or (with_unmade made len released) i empty_bucket ≡ get_or made i empty_bucket
+  get_or-made made len i released there = get_or_append_left made (replicate (len - length made) (unmade_bucket released)) empty_bucket i there
 
   -- one more bucket is made
-  pub made_one : (made : Buckets K V) (len : ℕ) → length made < len → with_unmade (made ++ empty_bucket ∷ []) len ≡ with_unmade made len
-  made_one made len less =
+  pub made_one : (made : Buckets K V) (len : ℕ) (released : Bool) → length made < len
+      → with_unmade (made ++ unmade_bucket released ∷ []) len released ≡ with_unmade made len released
+  made_one made len released less =
+      let spare : BucketView K V = unmade_bucket released in
       let left : ℕ = len - length made - 1 in
-      let count : len - length (made ++ empty_bucket ∷ []) ≡ left = omega (arith, length_push made (empty_bucket {K = K} {V = V})) in
+      let count : len - length (made ++ spare ∷ []) ≡ left = omega (arith, length_push made spare) in
       let back : suc left ≡ len - length made = omega arith in
-      ap (λ n. (made ++ empty_bucket ∷ []) ++ replicate n empty_bucket) count
-      ∙ append_assoc made (empty_bucket ∷ []) (replicate left empty_bucket)
-      ∙ ap (λ n. made ++ replicate n empty_bucket) back
+      ap (λ n. (made ++ spare ∷ []) ++ replicate n spare) count
+      ∙ append_assoc made (spare ∷ []) (replicate left spare)
+      ∙ ap (λ n. made ++ replicate n spare) back
 
-  pub set-part : (made : Buckets K V) (len i : ℕ) (bucket : BucketView K V) → i < length made
-      → with_unmade (set made i bucket) len ≡ set (with_unmade made len) i bucket
-  set-part made len i bucket below =
-      ap (λ n. set made i bucket ++ replicate (len - n) empty_bucket) (length-set made i bucket)
-      ∙ sym (set-append_left made (replicate (len - length made) empty_bucket) i bucket below)
+  pub set-part : (made : Buckets K V) (len i : ℕ) (released : Bool) (bucket : BucketView K V) → i < length made
+      → with_unmade (set made i bucket) len released ≡ set (with_unmade made len released) i bucket
+  set-part made len i released bucket below =
+      ap (λ n. set made i bucket ++ replicate (len - n) (unmade_bucket released)) (length-set made i bucket)
+      ∙ sym (set-append_left made (replicate (len - length made) (unmade_bucket released)) i bucket below)
+
+  -- a part whose buckets are all made and killed reads as one that is released
+  pub released_part : (made new : Buckets K V) (len new_len : ℕ) (released : Bool) → length made ≡ len
+      → made ≡ replicate (length made) (unmade_bucket true) → new ≡ [] → new_len ≡ len
+      → with_unmade new new_len true ≡ with_unmade made len released
+  released_part made new len new_len released all killed none same =
+      let left : 0 ≡ len - length made = omega (arith, all) in
+      let whole : new_len - 0 ≡ length made = omega (arith, all, same) in
+      ap (λ l. with_unmade l new_len true) none ∙ ap (λ n. replicate n (unmade_bucket true)) whole ∙ sym killed ∙ sym (append-nil made)
+      ∙ ap (λ n. made ++ replicate n (unmade_bucket released)) left
 
   -- the parts with another bucket in one of them
   abbrev parts_with : List (Buckets K V) → ℕ → ℕ → BucketView K V → List (Buckets K V)
@@ -164,7 +191,7 @@ module _ {K V : Type 0} where
       empty = new_view ∙ ap (λ n. replicate n empty_bucket) (sym new_len);
     }
 
-    pub new_parts : (spare : Buckets K V) → bits < 64 → spare ≡ empty_bucket ∷ [] → AreParts parts spare len bits
+    pub new_parts : (spare : Buckets K V) → bits < 64 → spare ≡ unmade_bucket false ∷ unmade_bucket true ∷ [] → AreParts parts spare len bits
     new_parts spare few empty =
         let part : Buckets K V = replicate part_len empty_bucket in
         let all_long = All-replicate (λ row. length row ≡ 2 ^ bits) count part (length-replicate part_len empty_bucket ∙ long) in

@@ -26,9 +26,11 @@ pub mod BucketMoving
 pub mod BucketRecency
 pub mod AheadAfterRemoval
 pub mod FreeEnds
+pub mod NoNewMarks
 pub mod BucketMarks
 pub mod CallerLemmas
 pub mod SearchCallerLemmas
+pub mod SpentBuckets
 pub mod MarkCallerLemmas
 pub mod RoomCallerLemmas
 pub mod RecencyCallerLemmas

@@ -3,7 +3,7 @@
 //! Model: the list of the buckets, in the order of the intervals of hashes that they are home to.
 //! Invariant (`IsArray`): the length is a power of two from 2 to 2^57, the stored offset shifts a
 //! hash to the index of its home, and the stored sample size is that of the length. The buckets
-//! stand in equally long parts, beside a spare empty one (`AreParts`).
+//! stand in equally long parts, beside a spare empty one and a spare killed one (`AreParts`).
 //!
 //! Ports scc's `src/hash_table/bucket_array.rs`. The buckets stand in vectors whose memory is asked
 //! for at once, and are made as they are lent for writing, where scc asks for raw memory that is
@@ -34,8 +34,8 @@ use crate::bucket::room::fits_in_memory;
 use crate::bucket::{AllocError, BUCKET_LEN, Bucket};
 use crate::data_block::DataBlock;
 use crate::lru::LruList;
-use part::{Part, bucket_in, spare_bucket};
-use sizing::MINIMUM_CAPACITY;
+use part::{Part, bucket_in, release_in, spare_buckets};
+use sizing::{LEAST_PART_BITS, MINIMUM_CAPACITY};
 pub use sizing::{MAXIMUM_SLOTS, full_sample_size_of, large_sample_size_of, small_sample_size_of};
 use std::alloc::Global;
 use std::marker::Model;
@@ -46,6 +46,7 @@ pub struct BucketArray<K, V, L: LruList, const TYPE: u8> {
     hash_offset: u32,
     sample_size: u8,
     part_bits: u32,
+    part_mask: usize,
     len: usize,
     parts: Vec<Part<K, V, L, TYPE>>,
     spare: Vec<Bucket<K, V, L, TYPE>>,
@@ -56,13 +57,15 @@ impl<K, V, L: LruList, const TYPE: u8> Model for BucketArray<K, V, L, TYPE> {
     ghost use Rattle.bucket_slots.specs.BucketView.{BucketView, flattened};
     ghost use Rattle.bucket_slots.specs.Layout.ArrayFields.{IsArray};
     ghost use Rattle.bucket_slots.specs.Layout.ArrayParts.{AreParts};
+    ghost use Rattle.std.specs.Prelude.{◌≡◌, ◌^◌, ◌-◌};
 
     ghost Value = { List (BucketView K V) };
 
     ghost view = { λ array. flattened array.parts.items };
 
     ghost invariant = { λ array. IsArray array.len array.hash_offset array.sample_size
-        × AreParts array.parts.items array.spare.items array.len array.part_bits };
+        × AreParts array.parts.items array.spare.items array.len array.part_bits
+        × (array.part_mask ≡ 2 ^ array.part_bits - 1) };
 }
 
 impl<K: Drop, V: Drop, L: LruList + Drop, const TYPE: u8> Drop for BucketArray<K, V, L, TYPE> {
@@ -71,6 +74,7 @@ impl<K: Drop, V: Drop, L: LruList + Drop, const TYPE: u8> Drop for BucketArray<K
             hash_offset: _,
             sample_size: _,
             part_bits: _,
+            part_mask: _,
             len: _,
             parts,
             spare,
@@ -104,16 +108,37 @@ impl<K: Drop, V: Drop, L: LruList + Drop, const TYPE: u8> BucketArray<K, V, L, T
         }
         let len = sizing::len_for(capacity);
         let (count, part_bits) = sizing::parts_for(len);
-        let parts = Part::alloc_all(alloc, count, 1 << part_bits)?;
-        let spare = spare_bucket(alloc)?;
+        let part_len: usize = 1 << part_bits;
+        let parts = Part::alloc_all(alloc, count, part_len)?;
+        let spare = spare_buckets(alloc)?;
         Ok(BucketArray {
             hash_offset: 64 - len.ilog2(),
             sample_size: large_sample_size_of(len) as u8,
             part_bits,
+            part_mask: part_len - 1,
             len,
             parts,
             spare,
         })
+    }
+}
+
+impl<K: Drop, V: Drop, L: LruList + Drop, const TYPE: u8> BucketArray<K, V, L, TYPE> {
+    /// Lets the buckets of the part around a bucket go, where every one is killed and holds nothing.
+    /// No bucket changes. An array whose parts are as short as can be goes at once, and stays here.
+    ///
+    /// Untouched memory takes the place of theirs; where it is refused, theirs is kept.
+    ///
+    /// O(1) where the last of them isn't killed, else O(buckets of the part). Own.
+    pub fn release_around(&mut self, index: usize)
+        requires { index < length self.old }
+        ensures { self.new ≡ self.old }
+    {
+        self.room();
+        if LEAST_PART_BITS < self.part_bits {
+            let (part, _offset) = sizing::place_of(index, self.part_bits, self.part_mask);
+            release_in(&mut self.parts, part);
+        }
     }
 }
 
@@ -143,6 +168,7 @@ impl<K, V, L: LruList, const TYPE: u8> BucketArray<K, V, L, TYPE> {
     /// Returns the index of a hash's home: the hash's upper bits.
     ///
     /// O(1), one shift. scc: `BucketArray::bucket_index`.
+    #[inline(always)]
     pub fn bucket_index(&self, hash: u64) -> usize
         ensures { IsHome (length self.now) hash result }
     {
@@ -190,17 +216,20 @@ impl<K, V, L: LruList, const TYPE: u8> BucketArray<K, V, L, TYPE> {
     /// Returns the bucket with an index.
     ///
     /// O(1). scc: `BucketArray::bucket`.
+    #[inline(always)]
     pub fn bucket(&self, index: usize) -> &Bucket<K, V, L, TYPE>
         requires { index < length self.now }
         ensures { result.now ≡ bucket_at self.now index }
     {
-        let (part, offset) = sizing::place_of(index, self.part_bits);
-        self.parts[part].bucket(offset, &self.spare[0])
+        self.room();
+        let (part, offset) = sizing::place_of(index, self.part_bits, self.part_mask);
+        self.parts[part].bucket(offset, &self.spare)
     }
 
     /// Lends the bucket with an index for writing. No other bucket changes.
     ///
     /// O(1), but O(buckets of its part) where the bucket is made. Takes no memory. Own.
+    #[inline(always)]
     pub fn bucket_mut(&mut self, index: usize) -> &mut Bucket<K, V, L, TYPE>
         requires { index < length self.old }
         ensures* writes_back { sem 𝓛
@@ -210,7 +239,7 @@ impl<K, V, L: LruList, const TYPE: u8> BucketArray<K, V, L, TYPE> {
         ensures bucket { result.now ≡ bucket_at self.old index }
     {
         self.room();
-        let (part, offset) = sizing::place_of(index, self.part_bits);
+        let (part, offset) = sizing::place_of(index, self.part_bits, self.part_mask);
         bucket_in(&mut self.parts, part, offset)
     }
 
@@ -274,6 +303,7 @@ impl<K, V, L: LruList, const TYPE: u8> BucketArray<K, V, L, TYPE> {
     /// slice's member, before it calls a method of one, and which lengths an array has.
     ///
     /// O(1). Own.
+    #[inline(always)]
     pub fn room(&self)
         ensures fits { BucketFits K.row V.row L.row TYPE.row
             (record { KEEPS = L.KEEPS; listed = L.listed; IsTail = L.IsTail }) L.Default }

@@ -9,17 +9,20 @@ use Rattle.std.proofs.lemmas.List.Elements.{Contains-append_right, filter_map-ap
 use Rattle.bucket_slots.specs.declared.bucket.TheConstants.{CACHE}
 use Rattle.bucket_slots.specs.ArrayView.{bucket_at}
 use Rattle.bucket_slots.specs.BucketLaws.{IsBucketOf}
-use Rattle.bucket_slots.specs.BucketView.{BucketView, entries_in, listed_pairs, pairs_in}
+use Rattle.bucket_slots.specs.BucketView.{BucketView, entries_in, listed_pairs, marks_in, pairs_in}
 use Rattle.bucket_slots.specs.Evicting.{slots_unlisted}
+use Rattle.bucket_slots.specs.Marking.{HasNoNewMark}
 use Rattle.bucket_slots.specs.Recency.{is_listed, order_and_zeros}
 use Rattle.bucket_slots.specs.Slots.{Slot, free, live, live_pair, live_pairs, marked, slot_at}
 use Rattle.bucket_slots.proofs.RecencyCallerLemmas.{listed_below}
 use Rattle.bucket_table.specs.Landings.{CarriesRecency, HasLanded, HaveLanded, ListsArrivals, arrivals, carried_to, is_own_of}
 use Rattle.bucket_table.specs.Landings.{landing_of, slot_there}
 use Rattle.bucket_table.specs.declared.hash_table.relocate.Landing.{Landing}
-use Rattle.bucket_table.specs.Relocation.{AreHome, KeepsEntries, MovesInto, entries_among, homed_len}
+use Rattle.bucket_table.specs.Moving.{CanMoveInto}
+use Rattle.bucket_table.specs.Relocation.{AreHome, KeepsEntries, MovesInto, entries_among, homed_len, marks_among}
 use Rattle.bucket_table.proofs.Arriving.{with_more}
 use Rattle.bucket_table.proofs.Landings.{none_left}
+use Rattle.bucket_table.proofs.MarksKept.{marks_alike}
 use Rattle.bucket_table.proofs.Relocating.{entries_alike}
 
 -- the bucket of a landing
@@ -145,7 +148,20 @@ module _ {K V : Type 0} where
     others = moved.others;
     alive = moved.alive;
     as_alive = moved.as_alive;
+    marks = moved.marks;
   }
+
+  -- and they can move as before
+  pub can_move_unlisted : (hash : K → ℕ) {start end : ℕ} {s t : BucketView K V} {c : List (BucketView K V)} → t ≡ slots_unlisted s
+      → CanMoveInto hash start end s c → CanMoveInto hash start end t c
+  can_move_unlisted hash t_is ready = rw t_is (record {
+    within = ready.within;
+    in_range = ready.in_range;
+    own_bytes = ready.own_bytes;
+    homes = ready.homes;
+    room = ready.room;
+    alive = ready.alive;
+  })
 
   -- the pairs of s landed in d, and their slots were listed in e
   module _ (kind : ℕ) (hash : K → ℕ) (s : BucketView K V) (c d e : List (BucketView K V)) (landings : List (Option Landing))
@@ -201,6 +217,8 @@ module _ {K V : Type 0} where
       others = λ i none. bucket_same i none ∙ moved.others i none;
       alive = λ i. ap (λ (b : BucketView K V). b.killed) (listed.each i) ∙ moved.alive i;
       as_alive = moved.as_alive;
+      marks = subst (λ (those : List ((K × V) × ℕ)). HasNoNewMark (marks_in s ++ marks_among c) (marks_in left ++ those))
+          (sym (marks_alike d e listed.len (λ j. ap marks_in (listed.each j)))) moved.marks;
     }
 
     pub homes_still : AreHome hash d → AreHome hash e

@@ -20,7 +20,6 @@ use Rattle.std.proofs.Common.{
   Ok,
   Err,
   IfOk,
-  IfSome,
   IsSome,
   List,
   [],
@@ -50,6 +49,7 @@ use Rattle.bucket_slots.proofs.CallerLemmas.{map-entries_in}
 use Rattle.bucket_table.specs.ArraysView.{AreArrays, ArePlaced, AreSourcesKilled, ArraysView, RehashView, old_buckets, pairs_of}
 use Rattle.bucket_table.specs.Cursors.{GoesOnFrom, HasNoneBetween, HasNoneFrom, IsFirstFrom, ReachesPast, bound_of}
 use Rattle.bucket_table.specs.LookingUp.{pairs_in_all}
+use Rattle.bucket_table.specs.declared.hash_table.Missing.{Missing}
 use Rattle.bucket_table.specs.Rehashing.{KeepsArrays}
 use Rattle.bucket_table.specs.Relocation.{IsEntryHome, buckets_of}
 use Rattle.bucket_table.specs.Sides.{bucket_on}
@@ -350,20 +350,18 @@ module _ {K V : Type 0} (hash : K → ℕ) where
         (omega (arith, less, a)) b) (pairs_of arrays) f.passed;
   }
 
-  pub goes_later : {E : Type 0} (r : Result (Option ℕ) E) (arrays : ArraysView K V) (low lower : ℕ)
+  pub goes_later : (r : Result ℕ Missing) (arrays : ArraysView K V) (low lower : ℕ)
       (at : Place) → lower ≤ low → GoesOnFrom hash lower r arrays at
       → GoesOnFrom hash low r arrays at
-  goes_later (Ok (Some index)) arrays low lower at less h = first_later arrays low lower index at less h
-  goes_later (Ok None) arrays low lower at less h = (from_later low lower less (pairs_of arrays) h.0, h.1)
-  goes_later (Err e) arrays low lower at less h = h
+  goes_later (Ok index) arrays low lower at less h = first_later arrays low lower index at less h
+  goes_later (Err e) arrays low lower at less h = record { null = h.null; none = λ nothing. from_later low lower less (pairs_of arrays) (h.none nothing) }
 
 module _ {K V : Type 0} where
-  pub reaches_on : {E : Type 0} (r : Result (Option ℕ) E) (from index low : ℕ)
+  pub reaches_on : (r : Result ℕ Missing) (from index low : ℕ)
       (old new : ArraysView K V) → bound_of from index < bound_of
       (length (buckets_of old.current)) (low + 1) → KeepsArrays old new
-      → IfOk r (λ found. IfSome found (λ at. low ≤ at)) → ReachesPast (bound_of from index) r new
-  reaches_on (Ok (Some at)) from index low old new past kept order = still_past from index (length (buckets_of old.current)) (length (buckets_of new.current)) low at past (sym (len_kept new.current old.current kept.current_len)) order
-  reaches_on (Ok None) from index low old new past kept order = tt
+      → IfOk r (λ found. low ≤ found) → ReachesPast (bound_of from index) r new
+  reaches_on (Ok at) from index low old new past kept order = still_past from index (length (buckets_of old.current)) (length (buckets_of new.current)) low at past (sym (len_kept new.current old.current kept.current_len)) order
   reaches_on (Err e) from index low old new past kept order = tt
 
 module _ {K V : Type 0} where

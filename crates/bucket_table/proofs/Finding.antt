@@ -1,10 +1,9 @@
 -- What finding a bucket for a writer, and preparing a home, leave of a table.
 use Rattle.std.proofs.Common.{ℕ, ◌≡◌, Bool, List, Option, Some, None, IsSome, is_some, Result, Ok, Err, IfOk, OnErr, option_map, length, refl, sym, ap, subst}
-use Rattle.std.proofs.lemmas.List.Sorted.{IsPermutation-refl}
 use Rattle.std.proofs.lemmas.Option.{none-some}
 use Rattle.bucket_slots.specs.BucketView.{BucketView}
 use Rattle.bucket_slots.specs.Homes.{IsHome}
-use Rattle.bucket_table.specs.ArraysView.{ArraysView, RehashView, TableView, entries_of}
+use Rattle.bucket_table.specs.ArraysView.{ArraysView, RehashView, TableView}
 use Rattle.bucket_table.specs.Finding.{FindsBucket, FindsNone, FindsReady, KeepsMap}
 use Rattle.bucket_table.specs.Preparing.{IsPrepared}
 use Rattle.bucket_table.specs.Refusing.{IsRefused}
@@ -12,12 +11,10 @@ use Rattle.bucket_table.specs.Rehashing.{KeepsArrays}
 use Rattle.bucket_table.specs.Sides.{buckets_on}
 use Rattle.bucket_table.specs.Units.{KeepsBag, WorksOneUnit}
 use Rattle.bucket_table.proofs.MapKept.{state_seen}
+use Rattle.bucket_table.proofs.UnitSteps.{kept_none}
 use Rattle.bucket_table.proofs.WriterSteps.{kept_prepared}
 
 module _ {K V : Type 0} where
-  arrays_same : (old : ArraysView K V) → KeepsArrays old old
-  arrays_same old = record { pairs = IsPermutation-refl (entries_of old); minimum = refl; maximum = refl; current_len = refl }
-
   -- it was refused beside an old array, or for the first one
   pub none_found : (old new : ArraysView K V) → (IsSome old.rehash → KeepsArrays old new)
       → WorksOneUnit old new.rehash
@@ -27,7 +24,7 @@ module _ {K V : Type 0} where
       kept_by : (rehash : Option (RehashView K V)) → old.rehash ≡ rehash → KeepsArrays old new
       kept_by (Some r) is = beside (ap (λ (o : Option (RehashView K V)). is_some o) is)
       kept_by None is = subst (λ (a : ArraysView K V). KeepsArrays old a) (sym (alone is).1)
-          (arrays_same old)
+          (kept_none old)
 
   -- an array that isn't there has no length
   none_kept : (was is : Option (List (BucketView K V))) → was ≡ None → option_map

@@ -9,12 +9,15 @@ use Rattle.std.specs.List.{All}
 use Rattle.std.specs.List.Sorted.{IsPermutation}
 use Rattle.bucket_slots.specs.ArrayView.{bucket_at}
 use Rattle.bucket_slots.specs.BucketView.{BucketView, empty_bucket, pairs_in}
+use Rattle.bucket_slots.specs.Marking.{HasNoNewMark}
+use Rattle.bucket_slots.proofs.MarkCallerLemmas.{no_new-refl}
 use Rattle.bucket_table.specs.ArraysView.{AreArrays, ArePlaced, ArraysView, IsRehash, RehashView, killed_flags}
 use Rattle.bucket_table.specs.Covered.{IsCovered}
 use Rattle.bucket_table.specs.Rehashing.{IsOldIndex, IsUnmoved, KeepsArrays, RelocatesAt}
-use Rattle.bucket_table.specs.Relocation.{AreTwoArrays, IsRelocated, KeepsEntries, entries_among}
+use Rattle.bucket_table.specs.Relocation.{AreTwoArrays, IsRelocated, KeepsEntries, entries_among, marks_among}
 use Rattle.bucket_table.specs.State.{TicketState}
 use Rattle.bucket_table.proofs.Covering.{covered_work}
+use Rattle.bucket_table.proofs.MarksKept.{marks_among-kept}
 use Rattle.bucket_table.proofs.Relocating.{entries_among-kept}
 use Rattle.bucket_table.proofs.Resizing.{length-killed_flags}
 
@@ -133,6 +136,7 @@ module _ {K V : Type 0} where
   kept_by : (minimum maximum : ℕ) (c l d m : List (BucketView K V)) (tickets : TicketState)
       → length d ≡ length c
       → IsPermutation (entries_among c ++ entries_among l) (entries_among d ++ entries_among m)
+      → HasNoNewMark (marks_among c ++ marks_among l) (marks_among d ++ marks_among m)
       → KeepsArrays (record {
         minimum = minimum;
         maximum = maximum;
@@ -141,8 +145,9 @@ module _ {K V : Type 0} where
             (record { buckets = l; tickets = tickets });
       })
       (record { minimum = minimum; maximum = maximum; current = Some d; rehash = Some (record { buckets = m; tickets = tickets }) })
-  kept_by minimum maximum c l d m tickets len moved = record {
+  kept_by minimum maximum c l d m tickets len moved marks = record {
     pairs = moved;
+    marks = marks;
     minimum = refl;
     maximum = refl;
     current_len = ap (λ (n : ℕ). Some n) len;
@@ -167,7 +172,7 @@ module _ {K V : Type 0} where
         moved.other_linked);
     is_killed = moved.killed;
     moved = moved;
-    kept = kept_by minimum maximum c l d m tickets moved.current_len moved.entries;
+    kept = kept_by minimum maximum c l d m tickets moved.current_len moved.entries moved.marks;
   }
   done_at (Err e) minimum maximum index c l d m tickets within moved = tt
 
@@ -187,7 +192,8 @@ module _ {K V : Type 0} where
     rehash_is = ap (λ (bs : List (BucketView K V)). Some
         (record { buckets = bs; tickets = tickets })) same;
     current_is = kept;
-    kept = kept_by minimum maximum c l d m tickets kept.len (rw (same, entries_among-kept c d kept) (IsPermutation-refl (entries_among c ++ entries_among l)));
+    kept = kept_by minimum maximum c l d m tickets kept.len (rw (same, entries_among-kept c d kept) (IsPermutation-refl (entries_among c ++ entries_among l)))
+        (rw (same, marks_among-kept c d kept) (no_new-refl (marks_among c ++ marks_among l)));
   }
 
   -- arrays that were opened

@@ -14,6 +14,7 @@ use Rattle.bucket_slots.proofs.RecencyCallerLemmas.{chain_kept, chain_put, free_
 use Rattle.bucket_slots.proofs.RecencyCallerLemmas.{own-slots_vacated, own_kept, own_put, own_vacated, was_free}
 use Rattle.bucket_table.specs.Landings.{AreListable, HaveLanded, IsListable, StandsInChain, landing_of, landings_with}
 use Rattle.bucket_table.specs.declared.hash_table.relocate.Landing.{Landing}
+use Rattle.bucket_table.specs.Moving.{MovesHome}
 use Rattle.bucket_table.specs.Relocation.{homed_len}
 use Rattle.bucket_table.proofs.Exchanges.{ChangesAt, changes_at}
 
@@ -269,27 +270,22 @@ module _ {K V : Type 0} where
           same_lists = lists_still;
         }
 
-  -- a move in the words of the calls: b is the bucket that is lent, d what it is then
-  pub landing_step : (hash : K → ℕ) (kind : ℕ) (s0 : BucketView K V) (c0 : List (BucketView K V)) (s t : BucketView K V)
-      (c : List (BucketView K V)) (landings said : List (Option Landing)) (from after to : Place) (h j : ℕ) (b d : BucketView K V)
-      → IsBucketOf kind b → AreLanding hash s0 c0 s c landings → (homed_len hash (length c0) j (pairs_in s0) ≡ 0 → ⊥) → j < length c
-      → b ≡ bucket_at c j → (p : K × V) → live_pair (slot_in s from) ≡ Some p → d ≡ slots_with b p (h % 256) → t ≡ slots_vacated s from
-      → after ≡ from → to ≡ place_for_next b → said ≡ landings_with landings after j to → AreLanding hash s0 c0 t (set c j d) said
-  landing_step hash kind s0 c0 s t c landings said from after to h j b d laws landing homed within b_is p here d_is t_is after_is to_is said_is =
-      let laws_here : IsBucketOf kind (bucket_at c j) = subst (IsBucketOf kind) b_is laws in
-      let next = place_for_next (bucket_at c j) in
-      let put = changes_at j (slots_with (bucket_at c j) p (h % 256)) c within in
-      let done = set c j (slots_with (bucket_at c j) p (h % 256)) in
-      let set_is : set c j d ≡ done =
-      ap (λ (x : BucketView K V). set c j x) (d_is ∙ ap (λ (x : BucketView K V). slots_with x p (h % 256)) b_is) in
-      let said_as : said ≡ landings_with landings from j next =
-      said_is ∙ ap (λ (x : Place). landings_with landings x j to) after_is
-      ∙ ap (λ (x : Place). landings_with landings from j x) (to_is ∙ ap place_for_next b_is) in
-      rw (t_is, set_is) (elim (is_said landings from j next) [
-        | inl both ↦
-            rw (said_as ∙ both.3)
-            (landed_own kind j c done p (h % 256) laws_here put hash s0 s c0 from landings landing here both.0 both.1 both.2 within homed)
-        | inr neither ↦ rw (said_as ∙ neither.1) (landed_elsewhere kind j c done p (h % 256) laws_here put hash s0 s c0 from landings landing here neither.0)
+  -- a move
+  pub landing_step : (hash : K → ℕ) {kind : ℕ} {s0 s t : BucketView K V} {c0 c d : List (BucketView K V)}
+      {landings said : List (Option Landing)} {at : Place} → AreLanding hash s0 c0 s c landings
+      → (one : MovesHome kind hash at s c landings t d said) → (homed_len hash (length c0) one.home (pairs_in s0) ≡ 0 → ⊥)
+      → AreLanding hash s0 c0 t d said
+  landing_step hash {kind} {s0} {s} {c0} {c} {landings} {at} landing one homed =
+      let j = one.home in
+      let b = one.number % 256 in
+      let done = set c j (slots_with (bucket_at c j) one.pair b) in
+      let put = changes_at j (slots_with (bucket_at c j) one.pair b) c one.way.home.within in
+      rw (one.vacated, one.placed) (elim (is_said landings at j (place_for_next (bucket_at c j))) [
+        | inl both ↦ rw (one.landed ∙ both.3)
+            (landed_own kind j c done one.pair b one.home_laws put hash s0 s c0 at landings landing one.here
+            both.0 both.1 both.2 one.way.home.within homed)
+        | inr neither ↦ rw (one.landed ∙ neither.1)
+            (landed_elsewhere kind j c done one.pair b one.home_laws put hash s0 s c0 at landings landing one.here neither.0)
       ])
 
   -- the pairs of a bucket that is empty have all moved

@@ -2,6 +2,7 @@
 use Rattle.std.proofs.Common.{
   ℕ,
   ◌<◌,
+  ◌≤◌,
   ◌≡◌,
   true,
   false,
@@ -24,10 +25,10 @@ use Rattle.bucket_slots.specs.Homes.{Meets}
 use Rattle.bucket_table.specs.Relocation.{AreTwoArrays, IsEntryHome}
 
 module _ {K V : Type 0} where
-  -- a current bucket whose sources are killed may hold any pairs of its own
+  -- a current bucket may hold any pairs of its own, where its sources are killed or targets needn't be empty
   pub law_after_change : (hash : K → ℕ) (c l : List (BucketView K V)) (index : ℕ)
       (b : BucketView K V) → AreTwoArrays hash c l → index < length c
-      → ((i : ℕ) → i < length l → Meets (length l) i (length c) index
+      → (length l ≤ length c → (i : ℕ) → i < length l → Meets (length l) i (length c) index
       → (bucket_at l i).killed ≡ true)
       → All (IsEntryHome hash (length c) index) (entries_in b) → b.killed ≡ false
       → AreTwoArrays hash (set c index b) l
@@ -52,7 +53,7 @@ module _ {K V : Type 0} where
           | inl same ↦
               let meets1 : Meets (length l) i (length c) j = subst
               (λ (n : ℕ). Meets (length l) i n j) len meets in
-              let gone : (bucket_at l i).killed ≡ true = dead i old_below
+              let gone : (bucket_at l i).killed ≡ true = dead (omega arith) i old_below
               (subst (λ (n : ℕ). Meets (length l) i (length c) n) same meets1) in
               absurd cc
           | inr apart ↦ rw (other j apart) (law.empty_targets (omega arith) i j old_below

@@ -51,11 +51,11 @@ use Rattle.bucket_slots.specs.ArrayView.{bucket_at}
 use Rattle.std.proofs.lemmas.List.Sorted.{IsPermutation-cons, IsPermutation-trans}
 use Rattle.bucket_table.specs.Sides.{arrays_with, bucket_of, buckets_on, with_bucket}
 use Rattle.bucket_table.proofs.MapSteps.{added, evicts, inserts, kept, marks, removes, taken, touches, written}
-use Rattle.bucket_table.proofs.SideChanges.{arrays_with-same, buckets_on-arrays_with}
+use Rattle.bucket_table.proofs.SideChanges.{IsChangeable, arrays_with-same, buckets_on-arrays_with, changeable_locked}
 
 module _ {K V H : Type 0} where
   -- what isn't the pairs stays, as the map is seen
-  state_is : (kind : ℕ) (s : TableView K V H) (side : Bool) (i : ℕ) (b : BucketView K V)
+  pub state_is : (kind : ℕ) (s : TableView K V H) (side : Bool) (i : ℕ) (b : BucketView K V)
       → state_of kind (with_bucket s side i b) ≡ record (state_of kind s)
       { pairs = pairs_of (arrays_with s.arrays side i b) }
   state_is kind s true i b = refl
@@ -78,6 +78,20 @@ module _ {K V H : Type 0} where
       → i < length (buckets_on t.arrays side) → bucket_of (with_bucket t side i c) side i ≡ c
   bucket_put t side i c within =
       rw (buckets_on-arrays_with t.arrays side i c) (get_or-set_same (buckets_on t.arrays side) i c empty_bucket within)
+
+  -- the bucket that was lent stands in the table as it was left
+  pub bucket_stands : (t s : TableView K V H) (side : Bool) (i : ℕ) (c : BucketView K V) → t ≡ s
+      → i < length (buckets_on s.arrays side) → c ≡ bucket_of (with_bucket t side i c) side i
+  bucket_stands t s side i c is within =
+      sym (bucket_put t side i c (subst (λ (z : TableView K V H). i < length (buckets_on z.arrays side)) (sym is) within))
+
+  -- how many live pairs it has left
+  pub left_put : (t s : TableView K V H) (side : Bool) (i n : ℕ) (c : BucketView K V) → t ≡ s
+      → i < length (buckets_on s.arrays side) → n ≡ length (pairs_in c)
+      → n ≡ length (pairs_in (bucket_at (buckets_on (arrays_with t.arrays side i c) side) i))
+  left_put t s side i n c is within count =
+      let inside = subst (λ (z : TableView K V H). i < length (buckets_on z.arrays side)) (sym is) within in
+      count ∙ ap (λ (b : BucketView K V). length (pairs_in b)) (sym (bucket_put t side i c inside))
 
   -- and with the same one
   table_same : (t s : TableView K V H) (side : Bool) (i : ℕ) (b c : BucketView K V) → t ≡ s
@@ -129,6 +143,9 @@ module _ {K V H : Type 0} (eq : K → K → Bool) (hash : H → K → ℕ) (laws
     (at : b ≡ bucket_of t side i) where
   locked' : IsLocked t.arrays side i
   locked' = subst (λ (z : TableView K V H). IsLocked z.arrays side i) (sym is) locked
+
+  held' : IsChangeable t.arrays side i
+  held' = changeable_locked t.arrays side i locked'
 
   sound_as : (d : BucketView K V) → d ≡ c → d.killed ≡ (bucket_of t side i).killed
       → IsOneMap eq (hash t.hasher) (arrays_with t.arrays side i d)
@@ -182,7 +199,7 @@ module _ {K V H : Type 0} (eq : K → K → Bool) (hash : H → K → ℕ) (laws
       (λ (z : TableView K V H). IsAbsent eq p.0 (pairs_of z.arrays)) (sym is) none in
       let d : BucketView K V = slots_after_insertion kind keeps (bucket_of t side i) p (h % 256) in
       let x = inserts t.arrays side i locked'.within kind keeps p (h % 256) in
-      let a = added eq laws (hash t.hasher) t.arrays side i one locked' p (h % 256) d x none' home'
+      let a = added eq laws (hash t.hasher) t.arrays side i one held' p (h % 256) d x none' home'
       (ap (λ n. n % 256) own') in
       let new : d ≡ c = ap (λ (z : BucketView K V). slots_after_insertion kind keeps z p (h % 256))
       (sym at) ∙ sym placed in
@@ -206,7 +223,7 @@ module _ {K V H : Type 0} (eq : K → K → Bool) (hash : H → K → ℕ) (laws
       let x = removes t.arrays side i locked'.within place p
       (subst (λ (z : BucketView K V). live_pair (slot_in z place) ≡ Some p) at here) in
       let d : BucketView K V = slots_without (bucket_of t side i) place in
-      let a = taken eq laws (hash t.hasher) t.arrays side i one locked' p x.0 d x.1 in
+      let a = taken eq laws (hash t.hasher) t.arrays side i one held' p x.0 d x.1 in
       let new : d ≡ c = ap (λ (z : BucketView K V). slots_without z place) (sym at) ∙ sym gone in
       record { sound = sound_as d new x.1.alive a.one_map; pairs = takes_as p d new a.pairs }
 
@@ -216,7 +233,7 @@ module _ {K V H : Type 0} (eq : K → K → Bool) (hash : H → K → ℕ) (laws
       let x = marks t.arrays side i locked'.within place epoch p
       (subst (λ (z : BucketView K V). live_pair (slot_in z place) ≡ Some p) at here) in
       let d : BucketView K V = slots_marked (bucket_of t side i) place epoch in
-      let a = taken eq laws (hash t.hasher) t.arrays side i one locked' p x.0 d x.1 in
+      let a = taken eq laws (hash t.hasher) t.arrays side i one held' p x.0 d x.1 in
       let new : d ≡ c = ap (λ (z : BucketView K V). slots_marked z place epoch) (sym at) ∙ sym gone
       in
       record { sound = sound_as d new x.1.alive a.one_map; pairs = takes_as p d new a.pairs }
@@ -229,7 +246,7 @@ module _ {K V H : Type 0} (eq : K → K → Bool) (hash : H → K → ℕ) (laws
       let x = evicts t.arrays side i locked'.within p (subst
       (λ (z : BucketView K V). live_pair (slot_at z.own (slot_to_evict z)) ≡ Some p) at here) in
       let d : BucketView K V = slots_evicted (bucket_of t side i) in
-      let a = taken eq laws (hash t.hasher) t.arrays side i one locked' p x.0 d x.1 in
+      let a = taken eq laws (hash t.hasher) t.arrays side i one held' p x.0 d x.1 in
       let new : d ≡ c = ap (λ (z : BucketView K V). slots_evicted z) (sym at) ∙ sym gone in
       record {
         sound = sound_as d new x.1.alive a.one_map;
@@ -243,7 +260,7 @@ module _ {K V H : Type 0} (eq : K → K → Bool) (hash : H → K → ℕ) (laws
   touched keeps place is_new =
       let x = touches t.arrays side i locked'.within keeps place in
       let d : BucketView K V = slots_touched keeps (bucket_of t side i) place in
-      let a = kept eq laws (hash t.hasher) t.arrays side i one locked' d x in
+      let a = kept eq laws (hash t.hasher) t.arrays side i one held' d x in
       let new : d ≡ c = ap (λ (z : BucketView K V). slots_touched keeps z place) (sym at) ∙ sym
       is_new in
       record {
@@ -259,7 +276,7 @@ module _ {K V H : Type 0} (eq : K → K → Bool) (hash : H → K → ℕ) (laws
       → c ≡ bucket_with_value b place value → Writes eq hash kind t s side i c p value
   wrote p place value here is_new =
       let d : BucketView K V = bucket_with_value (bucket_of t side i) place value in
-      let a = written eq laws (hash t.hasher) t.arrays side i one locked' p value place
+      let a = written eq laws (hash t.hasher) t.arrays side i one held' p value place
       (subst (λ (z : BucketView K V). live_pair (slot_in z place) ≡ Some p) at here) in
       let new : d ≡ c = ap (λ (z : BucketView K V). bucket_with_value z place value) (sym at) ∙ sym
       is_new in

@@ -47,11 +47,10 @@ use Rattle.bucket_slots.proofs.Entries.{rotated}
 use Rattle.bucket_slots.proofs.MarkCallerLemmas.{entries_in-slots_after_insertion, entries_in-slots_marked}
 use Rattle.bucket_slots.proofs.RoomCallerLemmas.{killed-bucket_with_value, killed-slots_after_insertion, killed-slots_marked, killed-slots_without}
 use Rattle.bucket_table.specs.ArraysView.{ArraysView, IsOneMap, RehashView, pairs_of}
-use Rattle.bucket_table.specs.Locking.{IsLocked}
 use Rattle.bucket_table.specs.LookingUp.{IsAbsent}
 use Rattle.bucket_table.specs.Relocation.{IsEntryHome}
 use Rattle.bucket_table.specs.Sides.{array_with, arrays_with, buckets_on, rehash_with}
-use Rattle.bucket_table.proofs.SideChanges.{Exchanges, buckets_on-arrays_with, homes_moved, homes_on, pairs_exchanged, placed_change}
+use Rattle.bucket_table.proofs.SideChanges.{Exchanges, IsChangeable, buckets_on-arrays_with, homes_moved, homes_on, pairs_exchanged, placed_after}
 
 module _ {K V : Type 0} (eq : K → K → Bool) (laws : IsEquivalence eq) where
   -- distinct keys, and one more
@@ -176,7 +175,7 @@ module _ {K V : Type 0} where
 
 module _ {K V : Type 0} (eq : K → K → Bool) (laws : IsEquivalence eq) (hash : K → ℕ)
     (a : ArraysView K V) (side : Bool) (i : ℕ) (one : IsOneMap eq hash a)
-    (locked : IsLocked a side i) where
+    (held : IsChangeable a side i) where
   -- all of the law but that keys are distinct
   one_map_after : (came out : List ((K × V) × ℕ)) (b : BucketView K V)
       → Exchanges a side i came out b → All (IsEntryHome hash (length (buckets_on a side)) i) came
@@ -184,7 +183,7 @@ module _ {K V : Type 0} (eq : K → K → Bool) (laws : IsEquivalence eq) (hash 
       → IsOneMap eq hash (arrays_with a side i b)
   one_map_after came out b x own distinct = record {
     distinct = distinct;
-    placed = placed_change hash a side i b one.placed locked (homes_moved hash (length (buckets_on a side)) i came out (bucket_at (buckets_on a side) i) b x.moved (homes_on hash a side i one.placed x.within) own) x.alive;
+    placed = placed_after hash a side i b one.placed held (homes_moved hash (length (buckets_on a side)) i came out (bucket_at (buckets_on a side) i) b x.moved (homes_on hash a side i one.placed x.within) own) x.alive;
   }
 
   pub record IsAdded (p : K × V) (b : BucketView K V) : Type 0 where
@@ -252,11 +251,11 @@ module _ {K V : Type 0} (eq : K → K → Bool) (laws : IsEquivalence eq) (hash 
       let P : (K × V) × ℕ → Type 0 = IsEntryHome hash (length (buckets_on a side)) i in
       let moved : IsPermutation (f ∷ entries_in old) (e ∷ entries_in new) =
       IsPermutation-trans _ _ _ (IsPermutation-cons f _ _ r.before_is) (IsPermutation-trans _ _ _ (rotated (f ∷ []) (e ∷ []) r.rest) (IsPermutation-cons e _ _ r.after_is)) in
-      let x : Exchanges a side i (f ∷ []) (e ∷ []) new = record { within = locked.within; moved = moved; alive = killed-bucket_with_value old at value } in
-      let all = All-permutation P (entries_in old) (e ∷ r.rest) r.before_is (homes_on hash a side i one.placed locked.within) in
+      let x : Exchanges a side i (f ∷ []) (e ∷ []) new = record { within = held.within; moved = moved; alive = killed-bucket_with_value old at value } in
+      let all = All-permutation P (entries_in old) (e ∷ r.rest) r.before_is (homes_on hash a side i one.placed held.within) in
       let first : P e = all 0 e (omega arith) in
       let own : P f = record { home = first.home; own_byte = first.own_byte } in
-      let apart = splits a side i new locked.within in
+      let apart = splits a side i new held.within in
       let others = pairs_of (without_bucket a side i) in
       let rest : List (K × V) = map pair r.rest ++ others in
       let before : IsPermutation (pairs_of a) (p ∷ rest) =

@@ -1,13 +1,15 @@
 -- The units that a cursor works as it passes buckets.
-use Rattle.std.proofs.Common.{ℕ, ◌+◌, ◌-◌, ◌^◌, ◌<◌, ◌≤◌, ◌≡◌, Bool, Option, Some, None, Result, Ok, Err, IsOk, length, refl, sym, subst, ◌∙◌, arith, inl, inr}
+use Rattle.std.proofs.Common.{ℕ, ◌+◌, ◌-◌, ◌^◌, ◌<◌, ◌≤◌, ◌≡◌, Bool, None, Result, Ok, Err, length, refl, sym, subst, ◌∙◌, arith, inl, inr}
 use Rattle.std.proofs.lemmas.Bool.{cases_lt}
 use Rattle.bucket_slots.specs.Homes.{IsInInterval, interval_width}
 use Rattle.bucket_slots.specs.Sizing.{IsLength}
 use Rattle.bucket_table.specs.ArraysView.{AreSourcesKilled, ArraysView}
-use Rattle.bucket_table.specs.Cursors.{AreKilledFor, Departs, IsPassed, Passes, bound_of}
+use Rattle.bucket_table.specs.Cursors.{AreKilledFor, Departs, Passes, bound_of, viewed}
 use Rattle.bucket_table.specs.Rehashing.{KeepsArrays}
 use Rattle.bucket_table.specs.Relocation.{buckets_of}
-use Rattle.bucket_table.specs.UnitRuns.{WorksUnits, steps_of}
+use Rattle.bucket_table.specs.UnitRuns.{WorksUnits}
+use Rattle.bucket_table.specs.declared.hash_table.Missing.{Missing}
+use Rattle.bucket_table.specs.declared.hash_table.Missing.TheVariants.{Nothing, Memory}
 use Rattle.bucket_table.specs.Sides.{buckets_on}
 use Rattle.bucket_table.proofs.Bounds.{all_hashes, wide}
 use Rattle.bucket_table.proofs.Preparing.{len_kept}
@@ -71,10 +73,10 @@ module _ {K V : Type 0} where
           alone = still_alone;
         }
 
-    pub passes_refused : {E : Type 0} (e : E) (len bound : ℕ) → len ≡ length (buckets_of before.current) → index < len
+    pub passes_refused : (len bound : ℕ) → len ≡ length (buckets_of before.current) → index < len
         → (before.rehash ≡ None → ⊥) → (0 < length (buckets_of old.current) → IsInInterval (length (buckets_of old.current)) start bound)
-        → Passes {E = E} (λ (i : ℕ). i) bound old (Err e) now
-    passes_refused e len bound is below never begins =
+        → Passes (λ (i : ℕ). i) bound old (Err Memory) now
+    passes_refused len bound is below never begins =
         let long = w.len in
         let order = w.order in
         let at : start + (index - start) ≡ index = omega (arith, order) in
@@ -86,7 +88,7 @@ module _ {K V : Type 0} where
           units = units_now;
           sources = subst (λ (n : ℕ). AreKilledFor now start n) (sym at) sources_now;
           alone = still_alone;
-          succeeds = λ none. absurd (alone_now never none);
+          succeeds = λ none _. alone_now never none;
         }
 
   -- an array that stands has hashes for each bucket
@@ -98,9 +100,9 @@ module _ {K V : Type 0} where
       begins (wide (length (buckets_of old.current)) (subst IsLength is (long (omega (arith, is, some)))))
 
   -- it stops at a bucket, or past the last one
-  pub passes_found : {E : Type 0} (old now : ArraysView K V) (start index bound : ℕ) → HasWorked old start (index + 1) now → start ≤ index
+  pub passes_found : (old now : ArraysView K V) (start index bound : ℕ) → HasWorked old start (index + 1) now → start ≤ index
       → (0 < length (buckets_of old.current) → IsInInterval (length (buckets_of old.current)) start bound)
-      → Passes {E = E} (λ (i : ℕ). i) bound old (Ok (Some index)) now
+      → Passes (λ (i : ℕ). i) bound old (Ok index) now
   passes_found old now start index bound w low begins =
       let at : start + (index + 1 - start) ≡ index + 1 = omega (arith, low) in
       record {
@@ -111,13 +113,13 @@ module _ {K V : Type 0} where
         units = w.units;
         sources = subst (λ (n : ℕ). AreKilledFor now start n) (sym at) w.sources;
         alone = w.alone;
-        succeeds = λ none. refl;
+        succeeds = λ none lacks. lacks;
       }
 
-  pub passes_all : {E : Type 0} (old now : ArraysView K V) (start index bound : ℕ) → HasWorked old start index now
+  pub passes_all : (old now : ArraysView K V) (start index bound : ℕ) → HasWorked old start index now
       → length (buckets_of now.current) ≤ index
       → (0 < length (buckets_of old.current) → IsInInterval (length (buckets_of old.current)) start bound)
-      → Passes {E = E} (λ (i : ℕ). i) bound old (Ok None) now
+      → Passes (λ (i : ℕ). i) bound old (Err Nothing) now
   passes_all old now start index bound w past begins =
       let order = w.order in
       let long = w.len in
@@ -133,45 +135,52 @@ module _ {K V : Type 0} where
         units = w.units;
         sources = subst (λ (n : ℕ). AreKilledFor now start n) (sym at) w.sources;
         alone = w.alone;
-        succeeds = λ none. refl;
+        succeeds = λ none lacks. cc;
       }
 
   -- where there is no array, or the hash is past all, none is passed
-  pub passes_nowhere : {E : Type 0} (arrays : ArraysView K V) (bound : ℕ) → length (buckets_of arrays.current) ≡ 0
-      → Passes {E = E} (λ (i : ℕ). i) bound arrays (Ok None) arrays
+  pub passes_nowhere : (arrays : ArraysView K V) (bound : ℕ) → length (buckets_of arrays.current) ≡ 0
+      → Passes (λ (i : ℕ). i) bound arrays (Err Nothing) arrays
   passes_nowhere arrays bound none = passes_all arrays arrays 0 0 bound (worked_none arrays 0) (omega (arith, none)) (λ some. absurd (omega (arith, none, some)))
 
-  pub passes_past : {E : Type 0} (arrays : ArraysView K V) (bound : ℕ) → bound ≡ 2 ^ 64
+  pub passes_past : (arrays : ArraysView K V) (bound : ℕ) → bound ≡ 2 ^ 64
       → (0 < length (buckets_of arrays.current) → IsLength (length (buckets_of arrays.current)))
-      → Passes {E = E} (λ (i : ℕ). i) bound arrays (Ok None) arrays
+      → Passes (λ (i : ℕ). i) bound arrays (Err Nothing) arrays
   passes_past arrays bound is long =
       let n : ℕ = length (buckets_of arrays.current) in
       passes_all arrays arrays n n bound (worked_none arrays n) (omega arith)
       (λ some. (omega (arith, all_hashes n (long some), is), omega (arith, all_hashes n (long some), is, wide n (long some))))
 
--- the same answer in another form
-module _ {K V A B E F : Type 0} (f : A → ℕ) (g : B → ℕ) (r : Result (Option A) E) (r' : Result (Option B) F)
-    (count : (len from passed : ℕ) → IsPassed f len from r passed → IsPassed g len from r' passed)
-    (steps : (passed : ℕ) → steps_of r passed ≡ steps_of r' passed) (ok : IsOk r → IsOk r') where
-  passes_as : (bound : ℕ) (old new : ArraysView K V) → Passes f bound old r new → Passes g bound old r' new
-  passes_as bound old new p = record {
+-- the same answer, with a view of what was found
+module _ {K V A B : Type 0} (f : A → B) (g : B → ℕ) where
+  passes_viewed : (r : Result A Missing) (bound : ℕ) (old new : ArraysView K V)
+      → Passes (λ (a : A). g (f a)) bound old r new → Passes g bound old (viewed f r) new
+  passes_viewed (Ok found) bound old new p = record {
     from = p.from;
     passed = p.passed;
     begins = p.begins;
-    count = count (length (buckets_of old.current)) p.from p.passed p.count;
-    units = subst (λ (n : ℕ). WorksUnits n old new.rehash) (steps p.passed) p.units;
+    count = p.count;
+    units = p.units;
     sources = p.sources;
     alone = p.alone;
-    succeeds = λ none. ok (p.succeeds none);
+    succeeds = p.succeeds;
+  }
+  passes_viewed (Err missing) bound old new p = record {
+    from = p.from;
+    passed = p.passed;
+    begins = p.begins;
+    count = p.count;
+    units = p.units;
+    sources = p.sources;
+    alone = p.alone;
+    succeeds = p.succeeds;
   }
 
-  pub passes_now : (bound : ℕ) (old new now : ArraysView K V) → now ≡ new → Passes f bound old r new → Passes g bound old r' now
-  passes_now bound old new now is p = rw is (passes_as bound old new p)
-
-  pub departs_as : (side : Bool) (index : ℕ) (old new : ArraysView K V) → Departs f side index old r new → Departs g side index old r' new
-  departs_as side index old new d = record {
+  pub departs_viewed : (r : Result A Missing) (side : Bool) (index : ℕ) (old new : ArraysView K V)
+      → Departs (λ (a : A). g (f a)) side index old r new → Departs g side index old (viewed f r) new
+  departs_viewed r side index old new d = record {
     between = d.between;
     asked = d.asked;
-    passes = passes_as (bound_of (length (buckets_on old side)) (index + 1)) d.between new d.passes;
+    passes = passes_viewed r (bound_of (length (buckets_on old side)) (index + 1)) d.between new d.passes;
     kept = d.kept;
   }

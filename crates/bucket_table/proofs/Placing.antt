@@ -38,14 +38,14 @@ module _ {K V : Type 0} where
     empty_targets = λ longer i j below. absurd (omega arith);
   }
 
-  same_at_start : (first after : Option (RehashView K V)) (answer : Option ℕ)
+  pub same_at_start : (first after : Option (RehashView K V)) (answer : Option ℕ)
       → StartsRehash first answer after → old_buckets after ≡ old_buckets first
   same_at_start None after answer starts = ap (λ (o : Option (RehashView K V)). old_buckets o)
       starts.1
   same_at_start (Some was) None answer starts = absurd starts
   same_at_start (Some was) (Some after) answer starts = starts.1
 
-  same_at_end : (first after : Option (RehashView K V)) (ticket : ℕ) (success : Bool)
+  pub same_at_end : (first after : Option (RehashView K V)) (ticket : ℕ) (success : Bool)
       (answer : Result Bool TicketError) → EndsRehash first ticket success answer after
       → (old_buckets after ≡ old_buckets first) ⊎ (old_buckets after ≡ [])
   same_at_end None after ticket success answer ends = inr

@@ -90,6 +90,7 @@ module _ {K V : Type 0} (IsTest : (K × V → Bool) → Type 0) where
         (λ entry. test entry.0 ≡ false) gone
     pub ahead : (test : K × V → Bool) → IsTest test → refused_len test (pairs_in now) ≡ refused_len
         test (pairs_ahead now at)
+    pub unchanged : count ≡ 0 → now ≡ old
 
   pub sets_out : (old : BucketView K V) (at : Place) → at ≡ null_place → IsRetaining old old at 0
   sets_out old at e = record {
@@ -99,6 +100,7 @@ module _ {K V : Type 0} (IsTest : (K × V → Bool) → Type 0) where
     counted = omega arith;
     refused = λ test means. tt;
     ahead = λ test means. ap (λ p. refused_len test (pairs_ahead old p)) (sym e);
+    unchanged = λ none. refl;
   }
 
   pub passes : (old now : BucketView K V) (at next : Place) (count : ℕ)
@@ -112,6 +114,7 @@ module _ {K V : Type 0} (IsTest : (K × V → Bool) → Type 0) where
     refused = r.refused;
     ahead = λ test means. r.ahead test means ∙ ap (refused_len test) m.ahead ∙ front_len test m.pair
         (pairs_ahead now next) (keeps test means);
+    unchanged = r.unchanged;
   }
 
   pub takes : (old now left : BucketView K V) (at next after : Place) (count more : ℕ)
@@ -137,6 +140,7 @@ module _ {K V : Type 0} (IsTest : (K × V → Bool) → Type 0) where
             let three = ap (refused_len test) same in
             let so_far = r.ahead test means in
             omega (arith, so_far, here, one, ahead, two, three);
+        unchanged = λ none. absurd (omega (arith, is, none));
       }
 
   pub retained : (old now : BucketView K V) (at : Place) (count : ℕ) → pairs_ahead now at ≡ []
@@ -151,6 +155,7 @@ module _ {K V : Type 0} (IsTest : (K × V → Bool) → Type 0) where
         let none = none_pass (refuses test) (pairs_in now) (nothing _ (r.ahead test means ∙ ap (refused_len test) e)) in
         each_implies (λ p. refuses test p ≡ false) (λ p. test p ≡ true)
         (λ p h. not-false (test p) h) (pairs_in now) none;
+    unchanged = r.unchanged;
   }
 
 module _ {K V : Type 0} (IsTest : (K × V → Bool) → Type 0) where

@@ -1,11 +1,9 @@
 -- The hasher, the capacities and the bag stay, one call after another.
-use Rattle.std.proofs.Common.{ℕ, ◌≡◌, ◌∙◌, Bool, false, ap, refl}
-use Rattle.bucket_slots.specs.BucketView.{BucketView}
+use Rattle.std.proofs.Common.{ℕ, ◌≡◌, ◌∙◌, Bool, ap, refl}
 use Rattle.bucket_table.specs.ArraysView.{ArraysView, TableView}
 use Rattle.bucket_table.specs.MapState.{KeepsPairs, state_of}
-use Rattle.bucket_table.specs.Retains.{Retains}
 use Rattle.bucket_table.specs.Settings.{KeepsSettings}
-use Rattle.bucket_table.specs.Sides.{arrays_with, bucket_on}
+use Rattle.bucket_table.specs.Sweeps.{RetainsAt}
 use Rattle.bucket_table.specs.Units.{KeepsBag, times_in}
 use Rattle.bucket_table.proofs.MapKept.{hasher_kept, maximum_kept, minimum_kept}
 use Rattle.bucket_table.proofs.Preparing.{bag_both, bag_same}
@@ -34,13 +32,11 @@ module _ {K V H : Type 0} where
   }
 
   -- a bucket that was swept
-  pub settings_swept : (IsTest : (K × V → Bool) → Type 0) (now visited : TableView K V H) (index taken : ℕ)
-      → visited.hasher ≡ now.hasher → ((left : BucketView K V)
-      × Retains IsTest (bucket_on now.arrays false index) left taken
-      × (visited.arrays ≡ arrays_with now.arrays false index left)) → KeepsSettings now visited
-  settings_swept IsTest now visited index taken same (left, retains, visited_is) = record {
+  pub settings_swept : {epoch : ℕ} (IsTest : (K × V → Bool) → Type 0) (now visited : TableView K V H) (index taken : ℕ)
+      → visited.hasher ≡ now.hasher → RetainsAt IsTest epoch now.arrays index taken visited.arrays → KeepsSettings now visited
+  settings_swept IsTest now visited index taken same r = record {
     hasher = same;
-    minimum = ap (λ (a : ArraysView K V). a.minimum) visited_is;
-    maximum = ap (λ (a : ArraysView K V). a.maximum) visited_is;
-    bag = λ unit. ap (λ (a : ArraysView K V). times_in unit a.rehash) visited_is;
+    minimum = ap (λ (a : ArraysView K V). a.minimum) r.new_is;
+    maximum = ap (λ (a : ArraysView K V). a.maximum) r.new_is;
+    bag = λ unit. ap (λ (a : ArraysView K V). times_in unit a.rehash) r.new_is;
   }

@@ -2,6 +2,7 @@
 use Rattle.std.proofs.Common.{
   ℕ,
   ◌<◌,
+  ◌≤◌,
   ◌≡◌,
   Bool,
   true,
@@ -31,14 +32,17 @@ use Rattle.std.proofs.Common.{
 }
 use Rattle.std.specs.List.{All}
 use Rattle.std.specs.List.Sorted.{IsPermutation}
-use Rattle.std.proofs.lemmas.Bool.{cases_eq, false≢true}
+use Rattle.std.proofs.lemmas.Bool.{cases_Bool, cases_eq, false≢true}
 use Rattle.std.proofs.lemmas.List.{map-append, map-set, set-get_or}
 use Rattle.std.proofs.lemmas.List.Elements.{All-append, All-set, All-tail}
-use Rattle.std.proofs.lemmas.List.Sorted.{All-permutation, IsPermutation-append_right, IsPermutation-map, IsPermutation-trans}
+use Rattle.std.proofs.lemmas.List.Sorted.{All-permutation, IsPermutation-append_right, IsPermutation-map, IsPermutation-trans, length_permutation}
 use Rattle.bucket_slots.specs.ArrayView.{bucket_at}
-use Rattle.bucket_slots.specs.BucketView.{BucketView, empty_bucket, entries_in, pairs_in}
+use Rattle.bucket_slots.specs.BucketView.{BucketView, Place, all_slots, empty_bucket, entries_in, pairs_in, slot_in}
 use Rattle.bucket_slots.specs.Homes.{Meets}
-use Rattle.bucket_slots.proofs.Entries.{regrouped, rotated}
+use Rattle.bucket_slots.specs.Removing.{slots_without}
+use Rattle.bucket_slots.specs.Slots.{live_pair}
+use Rattle.bucket_slots.proofs.CallerLemmas.{pairs_in-slots_without}
+use Rattle.bucket_slots.proofs.Entries.{live_pairs-all_free, regrouped, rotated}
 use Rattle.bucket_table.specs.ArraysView.{ArePlaced, AreSourcesKilled, ArraysView, IsRehash, RehashView, entries_of, killed_flags, old_buckets, pairs_of}
 use Rattle.bucket_table.specs.Covered.{IsCovered}
 use Rattle.bucket_table.specs.Locking.{IsLocked}
@@ -192,20 +196,64 @@ module _ {K V : Type 0} where
   homes_on hash a true i law within = law.homes.linked_home i within
   homes_on hash a false i law within = law.homes.current_home i within
 
+  -- a bucket whose pairs may change: an old one isn't killed, and a current one isn't a target that has to be empty
+  pub record IsChangeable (a : ArraysView K V) (side : Bool) (i : ℕ) : Type 0 where
+    pub within : i < length (buckets_on a side)
+    pub filled : side ≡ false → length (old_buckets a.rehash) ≤ length (buckets_of a.current) → AreSourcesKilled a i
+    pub alive : side ≡ true → (bucket_at (old_buckets a.rehash) i).killed ≡ false
+
+  pub changeable_locked : (a : ArraysView K V) (side : Bool) (i : ℕ) → IsLocked a side i → IsChangeable a side i
+  changeable_locked a side i locked = record { within = locked.within; filled = λ e longer. locked.killed e; alive = locked.alive }
+
+  no_pair : (b : BucketView K V) (at : Place) (p : K × V) → live_pair (slot_in b at) ≡ Some p → pairs_in b ≡ [] → ⊥
+  no_pair b at p here none =
+      let less = length_permutation (pairs_in b) (p ∷ pairs_in (slots_without b at)) (pairs_in-slots_without b at p here) in
+      let zero = ap (λ (ps : List (K × V)). length ps) none in
+      absurd (omega (arith, less, zero))
+
+  -- a bucket that has a pair is no empty target, and isn't killed
+  pub changeable_holding : (hash : K → ℕ) (a : ArraysView K V) (side : Bool) (i : ℕ) (at : Place) (p : K × V) → ArePlaced hash a
+      → i < length (buckets_on a side) → live_pair (slot_in (bucket_at (buckets_on a side) i) at) ≡ Some p → IsChangeable a side i
+  changeable_holding hash a true i at p law within there = record {
+    within = within;
+    filled = λ e. absurd (false≢true (sym e));
+    alive = λ e. elim (cases_Bool (bucket_at (old_buckets a.rehash) i).killed) [
+      | inl dead ↦ absurd (no_pair (bucket_at (old_buckets a.rehash) i) at p there (law.homes.killed_empty i within dead))
+      | inr live ↦ live
+    ];
+  }
+  changeable_holding hash a false i at p law within there = record {
+    within = within;
+    filled = λ e longer k below meets. elim (cases_Bool (bucket_at (old_buckets a.rehash) k).killed) [
+      | inl dead ↦ dead
+      | inr live ↦ absurd (no_pair (bucket_at (buckets_of a.current) i) at p there
+          (live_pairs-all_free (all_slots (bucket_at (buckets_of a.current) i)) (law.homes.empty_targets longer k i below within live meets).free))
+    ];
+    alive = λ e. absurd (false≢true e);
+  }
+
   -- the law stays
+  pub placed_after : (hash : K → ℕ) (a : ArraysView K V) (side : Bool) (i : ℕ) (b : BucketView K V)
+      → ArePlaced hash a → IsChangeable a side i
+      → All (IsEntryHome hash (length (buckets_on a side)) i) (entries_in b)
+      → b.killed ≡ (bucket_at (buckets_on a side) i).killed
+      → ArePlaced hash (arrays_with a side i b)
+  placed_after hash a true i b law held homes same = record {
+    homes = rw (old_buckets-rehash_with a.rehash i b) (old_after_change hash (buckets_of a.current) (old_buckets a.rehash) i b law.homes held.within homes same (same ∙ held.alive refl));
+    rehashed = rehashed_with a.rehash i b held.within same (same ∙ held.alive refl) law.rehashed;
+  }
+  placed_after hash a false i b law held homes same = record {
+    homes = rw (buckets_of-array_with a.current i b) (law_after_change hash (buckets_of a.current) (old_buckets a.rehash) i b law.homes held.within (held.filled refl) homes (same ∙ law.homes.alive i held.within));
+    rehashed = law.rehashed;
+  }
+
+  -- and where a locked bucket is another one
   pub placed_change : (hash : K → ℕ) (a : ArraysView K V) (side : Bool) (i : ℕ) (b : BucketView K V)
       → ArePlaced hash a → IsLocked a side i
       → All (IsEntryHome hash (length (buckets_on a side)) i) (entries_in b)
       → b.killed ≡ (bucket_at (buckets_on a side) i).killed
       → ArePlaced hash (arrays_with a side i b)
-  placed_change hash a true i b law locked homes same = record {
-    homes = rw (old_buckets-rehash_with a.rehash i b) (old_after_change hash (buckets_of a.current) (old_buckets a.rehash) i b law.homes locked.within homes same (same ∙ locked.alive refl));
-    rehashed = rehashed_with a.rehash i b locked.within same (same ∙ locked.alive refl) law.rehashed;
-  }
-  placed_change hash a false i b law locked homes same = record {
-    homes = rw (buckets_of-array_with a.current i b) (law_after_change hash (buckets_of a.current) (old_buckets a.rehash) i b law.homes locked.within (locked.killed refl) homes (same ∙ law.homes.alive i locked.within));
-    rehashed = law.rehashed;
-  }
+  placed_change hash a side i b law locked homes same = placed_after hash a side i b law (changeable_locked a side i locked) homes same
 
   -- what came in and what was there has its home there, so what is there has
   pub homes_moved : (hash : K → ℕ) (len i : ℕ) (came out : List ((K × V) × ℕ))

@@ -1,31 +1,5 @@
 -- Cursors, as the table sees them.
-use Rattle.std.proofs.Common.{
-  ℕ,
-  ◌+◌,
-  ◌≤◌,
-  ◌≡◌,
-  ◌≢◌,
-  Bool,
-  false,
-  Option,
-  Some,
-  None,
-  Result,
-  Ok,
-  Err,
-  List,
-  [],
-  ◌∷◌,
-  ◌++◌,
-  length,
-  map,
-  refl,
-  sym,
-  ap,
-  subst,
-  ◌∙◌,
-  arith,
-}
+use Rattle.std.proofs.Common.{ℕ, ◌≤◌, ◌≡◌, Bool, false, Result, Ok, Err, List, [], ◌∷◌, ◌++◌, length, map, refl, sym, ap, subst, ◌∙◌, arith}
 use Rattle.std.specs.Cmp.{IsEquivalence}
 use Rattle.std.specs.List.{All, IsDistinct}
 use Rattle.std.specs.List.Sorted.{IsPermutation}
@@ -34,21 +8,23 @@ use Rattle.std.proofs.lemmas.List.Sorted.{length_permutation, All-permutation, I
 use Rattle.std.proofs.lemmas.List.{append_assoc}
 use Rattle.std.proofs.lemmas.Map.Keys.{IsDistinct-IsPermutation, IsDistinct-tail}
 use Rattle.bucket_slots.specs.BucketView.{BucketView, Place, entries_in}
-use Rattle.bucket_slots.specs.Walking.{pairs_ahead}
 use Rattle.bucket_table.specs.ArraysView.{ArraysView, IsOneMap, TableView, entries_of, pairs_of}
 use Rattle.bucket_table.specs.Asking.{AsksShrinking, ResizesIf}
-use Rattle.bucket_table.specs.Cursors.{Departs, GoesOnFrom, HasNoneFrom, LeavesTo, Passes, Stays, bound_of}
+use Rattle.bucket_table.specs.Cursors.{GoesOnFrom, HasNoneFrom, Passes, SetsOut}
 use Rattle.bucket_table.specs.Locking.{IsLocked}
-use Rattle.bucket_table.specs.Optional.{IfNothing}
 use Rattle.bucket_table.specs.Rehashing.{KeepsArrays}
+use Rattle.bucket_table.specs.declared.hash_table.Missing.{Missing}
+use Rattle.bucket_table.specs.declared.hash_table.Missing.TheVariants.{Nothing}
 use Rattle.bucket_table.specs.Relocation.{IsEntryHome, buckets_of}
-use Rattle.bucket_table.specs.Retains.{Retains}
-use Rattle.bucket_table.specs.Sides.{arrays_with, bucket_on, buckets_on}
+use Rattle.bucket_table.specs.Sweeps.{RetainsAt}
+use Rattle.bucket_table.specs.Sides.{arrays_with, bucket_on}
+use Rattle.bucket_table.specs.Units.{KeepsBag}
 use Rattle.bucket_table.proofs.CursorSteps.{goes_later}
 use Rattle.bucket_table.proofs.Each.{each_back, map_append, nothing}
 use Rattle.bucket_table.proofs.HomeSplit.{splits}
 use Rattle.bucket_table.proofs.SideChanges.{placed_change}
-use Rattle.bucket_table.proofs.MapKept.{pairs_kept}
+use Rattle.bucket_table.proofs.MapKept.{pairs_kept, state_seen}
+use Rattle.bucket_table.proofs.WriterSteps.{kept_prepared}
 
 pub distinct_behind : {K : Type 0} (eq : K → K → Bool) (xs ys : List K) → IsDistinct eq (xs ++ ys)
     → IsDistinct eq ys
@@ -89,71 +65,40 @@ module _ {K V : Type 0} where
         }
 
 module _ {K V H : Type 0} where
-  pub goes_seen : {E : Type 0} (hash : H → K → ℕ) (t s : TableView K V H) (bound low : ℕ)
-      (r : Result (Option ℕ) E) (new : ArraysView K V) (at : Place) → t ≡ s → bound ≤ low
-      → GoesOnFrom (hash t.hasher) bound r new at → GoesOnFrom (hash s.hasher) low r new at
-  goes_seen hash t s bound low r new at is less h =
-      subst (λ (z : TableView K V H). GoesOnFrom (hash z.hasher) low r new at) is
-      (goes_later (hash t.hasher) r new low bound at less h)
-
-  pub leaves_seen : {E : Type 0} (hash : H → K → ℕ) (t s : TableView K V H) (side : Bool)
-      (index : ℕ) (from to : Place) (r : Result (Option (Bool × ℕ)) E) (new : ArraysView K V)
-      → t ≡ s
-      → (pairs_ahead (bucket_on t.arrays side index) from ≡ []
-      → LeavesTo (hash t.hasher) (bound_of (length (buckets_on t.arrays side)) (index + 1)) r new
-      to)
-      → pairs_ahead (bucket_on s.arrays side index) from ≡ []
-      → LeavesTo (hash s.hasher) (bound_of (length (buckets_on s.arrays side)) (index + 1)) r new
-      to
-  leaves_seen hash t s side index from to r new is h =
-      subst (λ (z : TableView K V H). pairs_ahead (bucket_on z.arrays side index) from ≡ []
-      → LeavesTo (hash z.hasher) (bound_of (length (buckets_on z.arrays side)) (index + 1)) r new
-      to) is h
-
-  pub passes_seen : {E : Type 0} (t s : TableView K V H) (r : Result (Option ℕ) E) (new : ArraysView K V) → t ≡ s
-      → Passes (λ i. i) 0 t.arrays r new → Passes (λ i. i) 0 s.arrays r new
-  passes_seen t s r new is p = subst (λ (z : TableView K V H). Passes (λ i. i) 0 z.arrays r new) is p
-
-  pub departs_seen : {E : Type 0} (t s : TableView K V H) (side : Bool) (index : ℕ) (from : Place)
-      (r : Result (Option (Bool × ℕ)) E) (new : ArraysView K V) → t ≡ s
-      → (pairs_ahead (bucket_on t.arrays side index) from ≡ []
-      → Departs (λ to. to.1) side index t.arrays r new)
-      → pairs_ahead (bucket_on s.arrays side index) from ≡ []
-      → Departs (λ to. to.1) side index s.arrays r new
-  departs_seen t s side index from r new is h =
-      subst (λ (z : TableView K V H). pairs_ahead (bucket_on z.arrays side index) from ≡ []
-      → Departs (λ to. to.1) side index z.arrays r new) is h
+  -- a cursor that sets out in the arrays sets out in the table
+  pub sets_out_seen : (kind : ℕ) (hash : H → K → ℕ) (t s : TableView K V H) (bound : ℕ) (r : Result ℕ Missing) (new : ArraysView K V) (at : Place)
+      → t ≡ s → bound ≤ 0 → KeepsArrays t.arrays new → KeepsBag t.arrays.rehash new.rehash
+      → GoesOnFrom (hash t.hasher) bound r new at → Passes (λ i. i) 0 t.arrays r new
+      → SetsOut kind hash s r at (record { hasher = t.hasher; arrays = new })
+  sets_out_seen kind hash t s bound r new at is less kept bag found passes =
+      let told : SetsOut kind hash t r at (record { hasher = t.hasher; arrays = new }) = record {
+        map = state_seen kind t t new refl (kept_prepared t.arrays new kept);
+        bag = bag;
+        marks = kept.marks;
+        found = goes_later (hash t.hasher) r new 0 bound at less found;
+        passes = passes;
+      } in
+      subst (λ (z : TableView K V H). SetsOut kind hash z r at (record { hasher = t.hasher; arrays = new })) is told
 
   -- a bucket of the table was gone through
-  pub left_of : (eq : K → K → Bool) → IsEquivalence eq → (hash : H → K → ℕ) (t s : TableView K V H)
+  pub left_of : {epoch : ℕ} (eq : K → K → Bool) → IsEquivalence eq → (hash : H → K → ℕ) (t s : TableView K V H)
       (index count : ℕ) (IsTest : (K × V → Bool) → Type 0) (new : ArraysView K V) → t ≡ s
       → IsOneMap eq (hash t.hasher) t.arrays → IsLocked s.arrays false index
-      → ((left : BucketView K V) × Retains IsTest (bucket_on t.arrays false index) left count
-      × (new ≡ arrays_with t.arrays false index left))
-      → IsOneMap eq (hash t.hasher) new
-  left_of eq laws hash t s index count IsTest new is one locked (left, retains, new_is) =
-      rw new_is (one_map_left eq laws (hash t.hasher) t.arrays index left retains.gone one
+      → RetainsAt IsTest epoch t.arrays index count new → IsOneMap eq (hash t.hasher) new
+  left_of eq laws hash t s index count IsTest new is one locked r =
+      rw r.new_is (one_map_left eq laws (hash t.hasher) t.arrays index r.left r.retains.gone one
       (subst (λ (z : TableView K V H). IsLocked z.arrays false index) (sym is) locked)
-      retains.parts retains.alive)
-
-  pub stays_seen : {E : Type 0} (t s : TableView K V H) (side : Bool) (index : ℕ) (from to : Place)
-      (r : Result (Option (Bool × ℕ)) E) (new : ArraysView K V) → t ≡ s
-      → (pairs_ahead (bucket_on t.arrays side index) from ≢ []
-      → Stays side index t.arrays from r new to) → pairs_ahead (bucket_on s.arrays side index)
-      from ≢ [] → Stays side index s.arrays from r new to
-  stays_seen t s side index from to r new is h =
-      subst (λ (z : TableView K V H). pairs_ahead (bucket_on z.arrays side index) from ≢ []
-      → Stays side index z.arrays from r new to) is h
+      r.retains.parts r.retains.alive)
 
   -- where a cursor finds nothing at all, there was nothing
-  pub nothing_seen : {E : Type 0} (hash : H → K → ℕ) (t s : TableView K V H) (bound : ℕ)
-      (r : Result (Option ℕ) E) (new : ArraysView K V) (at : Place) → t ≡ s → bound ≡ 0
+  pub nothing_seen : (hash : H → K → ℕ) (t s : TableView K V H) (bound : ℕ)
+      (r : Result ℕ Missing) (new : ArraysView K V) (at : Place) → t ≡ s → bound ≡ 0
       → KeepsArrays t.arrays new
-      → GoesOnFrom (hash t.hasher) bound r new at → IfNothing r (pairs_of s.arrays ≡ [])
-  nothing_seen hash t s bound (Ok (Some index)) new at is zero_bound kept h = tt
-  nothing_seen hash t s bound (Err e) new at is zero_bound kept h = tt
-  nothing_seen hash t s bound (Ok None) new at is zero_bound kept h =
-      let none = no_pair (hash t.hasher) bound (pairs_of new) zero_bound h.0 in
+      → GoesOnFrom (hash t.hasher) bound r new at → r ≡ Err Nothing → pairs_of s.arrays ≡ []
+  nothing_seen hash t s bound (Ok index) new at is zero_bound kept h found = absurd cc
+  nothing_seen hash t s bound (Err e) new at is zero_bound kept h found =
+      let nothing_there : e ≡ Nothing = cc in
+      let none = no_pair (hash t.hasher) bound (pairs_of new) zero_bound (h.none nothing_there) in
       let len = length_permutation _ _ (pairs_kept (entries_of t.arrays) (entries_of new) kept.pairs) in
       let no_len = ap (λ ps. length ps) none in
       subst (λ (z : TableView K V H). pairs_of z.arrays ≡ []) is

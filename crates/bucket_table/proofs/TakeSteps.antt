@@ -1,27 +1,9 @@
 -- A pair is taken out of a table, after its bucket was found.
-use Rattle.std.proofs.Common.{
-  ◌≡◌,
-  Bool,
-  true,
-  false,
-  Option,
-  Some,
-  None,
-  Result,
-  Ok,
-  Err,
-  List,
-  ◌∷◌,
-  sym,
-  ap,
-  subst,
-  ◌∙◌,
-}
+use Rattle.std.proofs.Common.{◌≡◌, Bool, true, false, Some, List, ◌∷◌, sym, ap, subst, ◌∙◌}
 use Rattle.std.proofs.lemmas.List.Sorted.{All-permutation, IsPermutation-sym, IsPermutation-trans}
 use Rattle.std.proofs.lemmas.Option.{same_Some}
 use Rattle.bucket_slots.specs.Slots.{Slot, live_pair}
 use Rattle.bucket_table.specs.LookingUp.{IsAbsent, IsThere}
-use Rattle.bucket_table.specs.Optional.{IfHeld}
 use Rattle.bucket_table.specs.MapState.{KeepsPairs, MapState, TakesPair}
 
 module _ {K V H : Type 0} where
@@ -39,25 +21,6 @@ module _ {K V H : Type 0} where
           d.pairs;
     }) keeps.others;
   }
-
--- what is held keeps the map of before another call too
-module _ {A E K V H : Type 0} where
-  pub held_on : (r : Result (Option A) E) (a b : MapState K V H) (now : A → MapState K V H)
-      → KeepsPairs a b → IfHeld r (λ held. KeepsPairs b (now held))
-      → IfHeld r (λ held. KeepsPairs a (now held))
-  held_on (Ok (Some held)) a b now first second = record {
-    pairs = IsPermutation-trans a.pairs b.pairs (now held).pairs first.pairs second.pairs;
-    others = second.others ∙ ap (λ (m : MapState K V H). record {
-      kind = m.kind;
-      hasher = m.hasher;
-      minimum = m.minimum;
-      maximum = m.maximum;
-      pairs =
-          (now held).pairs;
-    }) first.others;
-  }
-  held_on (Ok None) a b now first second = tt
-  held_on (Err refused) a b now first second = tt
 
 -- the pair that a search found is the one that was taken
 pub same_taken : {K V : Type 0} (eq : K → K → Bool) (k : K) (pairs : List (K × V)) (slot : Slot K V)

@@ -2,12 +2,14 @@
 use Rattle.std.proofs.Common.{ℕ, ◌<◌, ◌≡◌, Bool, true, false, Option, Some, None, List, length, option_map, set, refl, sym, ap, subst, ◌∙◌}
 use Rattle.std.proofs.lemmas.List.{length-map, map-set}
 use Rattle.std.proofs.lemmas.Option.{same_Some}
+use Rattle.bucket_slots.specs.ArrayView.{bucket_at}
 use Rattle.bucket_slots.specs.BucketView.{BucketView}
-use Rattle.bucket_table.specs.ArraysView.{ArraysView, RehashView, TableView, killed_flags}
+use Rattle.bucket_table.specs.ArraysView.{ArraysView, RehashView, TableView, killed_flags, old_buckets}
 use Rattle.bucket_table.specs.Rehashing.{IsOldIndex, RelocatesAt}
 use Rattle.bucket_table.specs.Sides.{rehash_with, with_bucket}
-use Rattle.bucket_table.specs.TicketCalls.{KeepsTickets, KillsBucket, rehash_state, tickets_of, times_handed}
+use Rattle.bucket_table.specs.TicketCalls.{HasAliveBucket, KeepsTickets, KillsBucket, rehash_state, tickets_of, times_handed}
 use Rattle.bucket_table.specs.Units.{KeepsBag, times_in}
+use Rattle.bucket_table.proofs.Resizing.{get_or-killed_flags, length-killed_flags}
 
 module _ {K V : Type 0} where
   times_same : (unit : ℕ) (o : Option (RehashView K V)) → times_handed unit
@@ -62,6 +64,20 @@ module _ {K V : Type 0} where
       subst (λ (o : Option (RehashView K V)). KillsBucket
       (option_map (λ (r : RehashView K V). rehash_state r) o) index (tickets_of new))
       (sym moved.rehash_was) (here, after)
+
+  -- an old bucket is refused that isn't killed
+  pub refuses_as : (index : ℕ) (old new : ArraysView K V) → IsOldIndex old index → new.rehash ≡ old.rehash
+      → (bucket_at (old_buckets old.rehash) index).killed ≡ false
+      → HasAliveBucket (tickets_of old) index × (tickets_of new ≡ tickets_of old)
+  refuses_as index old new (rehash, is, below) same alive =
+      let here : (bucket_at rehash.buckets index).killed ≡ false =
+      subst (λ (o : Option (RehashView K V)). (bucket_at (old_buckets o) index).killed ≡ false) is alive in
+      let flag = get_or-killed_flags rehash.buckets index below ∙ here in
+      let within : index < length (killed_flags rehash.buckets) = subst (λ n. index < n) (sym (length-killed_flags rehash.buckets)) below in (
+        subst (λ (o : Option (RehashView K V)). HasAliveBucket (option_map (λ (r : RehashView K V). rehash_state r) o) index)
+            (sym is) (within, flag),
+        ap (λ (o : Option (RehashView K V)). option_map (λ (r : RehashView K V). rehash_state r) o) same,
+      )
 
 module _ {K V H : Type 0} where
   -- a bucket of the table has changed

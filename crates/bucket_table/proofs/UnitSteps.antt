@@ -1,5 +1,5 @@
 -- What a unit's steps do, one after another.
-use Rattle.std.proofs.Common.{ℕ, ◌+◌, ◌*◌, ◌<◌, ◌≤◌, ◌≡◌, ◌≢◌, Bool, true, false, List, Option, Some, set, length, option_map, ⊎_elim, refl, sym, ap, subst, ◌∙◌, arith, get_or-set_other, get_or-set_same, length-set}
+use Rattle.std.proofs.Common.{ℕ, ◌+◌, ◌*◌, ◌<◌, ◌≤◌, ◌≡◌, ◌≢◌, ◌⊎◌, inl, Bool, true, false, List, [], Option, Some, Result, set, length, option_map, ⊎_elim, refl, sym, ap, subst, ◌∙◌, arith, get_or-set_other, get_or-set_same, length-set}
 use Rattle.std.proofs.lemmas.List.{length-map}
 use Rattle.std.proofs.lemmas.Bool.{cases_eq, false≢true}
 use Rattle.std.proofs.lemmas.List.Sorted.{IsPermutation-refl, IsPermutation-trans}
@@ -7,37 +7,69 @@ use Rattle.std.proofs.lemmas.Option.{same_Some}
 use Rattle.std.specs.List.Sorted.{IsPermutation}
 use Rattle.bucket_slots.specs.ArrayView.{bucket_at}
 use Rattle.bucket_slots.specs.BucketView.{BucketView, empty_bucket}
-use Rattle.bucket_table.specs.ArraysView.{ArraysView, RehashView, entries_of, killed_flags, old_buckets}
-use Rattle.bucket_table.specs.Rehashing.{IsOldIndex, IsOldRange, RelocatesAt, IsUnmoved, KeepsArrays}
+use Rattle.bucket_slots.proofs.MarkCallerLemmas.{no_new-refl, no_new-trans}
+use Rattle.bucket_table.specs.ArraysView.{ArraysView, RehashView, entries_of, killed_flags, marks_of, old_buckets}
+use Rattle.bucket_table.specs.Rehashing.{EndsRehash, IsOldIndex, IsOldRange, RelocatesAt, IsUnmoved, KeepsArrays, StartsRehash}
+use Rattle.bucket_table.specs.declared.tickets.TicketError.{TicketError}
 use Rattle.bucket_table.specs.Units.{IsEasyRange, IsEasyUnit, RelocatesTo, WorksRange, WorksSome}
+use Rattle.bucket_table.proofs.MarksKept.{marks_left}
+use Rattle.bucket_table.proofs.Placing.{same_at_end, same_at_start}
 use Rattle.bucket_table.proofs.Resizing.{get_or-killed_flags}
 
 module _ {K V : Type 0} where
   -- nothing was done
   pub kept_none : (arrays : ArraysView K V) → KeepsArrays arrays arrays
-  kept_none arrays = record { pairs = IsPermutation-refl (entries_of arrays); minimum = refl; maximum = refl; current_len = refl }
+  kept_none arrays = record {
+    pairs = IsPermutation-refl (entries_of arrays);
+    marks = no_new-refl (marks_of arrays);
+    minimum = refl;
+    maximum = refl;
+    current_len = refl;
+  }
 
   -- one after another
   pub kept_both : (first between last : ArraysView K V) → KeepsArrays first between
       → KeepsArrays between last → KeepsArrays first last
   kept_both first between last a b = record {
     pairs = IsPermutation-trans (entries_of first) (entries_of between) (entries_of last) a.pairs b.pairs;
+    marks = no_new-trans _ _ _ a.marks b.marks;
     minimum = b.minimum ∙ a.minimum;
     maximum = b.maximum ∙ a.maximum;
     current_len = b.current_len ∙ a.current_len;
   }
 
-  -- only the rehash changed, and no pair
-  pub kept_rehash : (old new : ArraysView K V) → new ≡ record old { rehash = new.rehash }
-      → entries_of new ≡ entries_of old → KeepsArrays old new
-  kept_rehash old new is same = record {
+  -- only the rehash changed, and no pair: the old array's buckets are the same, or gone
+  kept_rehash : (old new : ArraysView K V) → new ≡ record old { rehash = new.rehash } → entries_of new ≡ entries_of old
+      → (old_buckets new.rehash ≡ old_buckets old.rehash) ⊎ (old_buckets new.rehash ≡ []) → KeepsArrays old new
+  kept_rehash old new is same buckets = record {
     pairs = subst (λ (pairs : List ((K × V) × ℕ)). IsPermutation (entries_of old) pairs) (sym same)
         (IsPermutation-refl (entries_of old));
+    marks = marks_left old new (ap (λ (arrays : ArraysView K V). arrays.current) is) buckets;
     minimum = ap (λ (arrays : ArraysView K V). arrays.minimum) is;
     maximum = ap (λ (arrays : ArraysView K V). arrays.maximum) is;
     current_len = ap (λ (arrays : ArraysView K V). option_map
         (λ (buckets : List (BucketView K V)). length buckets) arrays.current) is;
   }
+
+  -- a ticket is handed out, or ends
+  pub kept_started : (old new : ArraysView K V) (answer : Option ℕ) → StartsRehash old.rehash answer new.rehash
+      → new ≡ record old { rehash = new.rehash } → entries_of new ≡ entries_of old → KeepsArrays old new
+  kept_started old new answer starts is same = kept_rehash old new is same (inl (same_at_start old.rehash new.rehash answer starts))
+
+  pub kept_ended : (old new : ArraysView K V) (ticket : ℕ) (success : Bool) (answer : Result Bool TicketError)
+      → EndsRehash old.rehash ticket success answer new.rehash
+      → new ≡ record old { rehash = new.rehash } → entries_of new ≡ entries_of old → KeepsArrays old new
+  kept_ended old new ticket success answer ends is same =
+      kept_rehash old new is same (same_at_end old.rehash new.rehash ticket success answer ends)
+
+  -- a unit: its ticket is handed out, its buckets are relocated, and it ends
+  pub kept_unit : (first middle worked last : ArraysView K V) (unit ticket : ℕ) (success : Bool) (answer : Result Bool TicketError)
+      → StartsRehash first.rehash (Some ticket) middle.rehash → middle ≡ record first { rehash = middle.rehash }
+      → entries_of middle ≡ entries_of first → WorksSome unit success middle worked → EndsRehash worked.rehash ticket success answer last.rehash
+      → last ≡ record worked { rehash = last.rehash } → entries_of last ≡ entries_of worked → KeepsArrays first last
+  kept_unit first middle worked last unit ticket success answer starts start_is start_same (was, is, some, killed, still) ends end_is end_same =
+      kept_both first middle last (kept_started first middle (Some ticket) starts start_is start_same)
+      (kept_both middle worked last some.kept (kept_ended worked last ticket success answer ends end_is end_same))
 
   -- no bucket was relocated yet
   pub range_none : (start : ℕ) (arrays : ArraysView K V) (was : RehashView K V)

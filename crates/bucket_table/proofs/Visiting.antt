@@ -250,6 +250,7 @@ module _ {S K V : Type 0} (step : S → BucketView K V → Bool → Bool → Buc
         begins = at;
         calls = w.walks.calls;
         walk = part.walk;
+        len = part.len;
         sources = subst (λ (n : ℕ). AreKilledFor ready from n) w.walks.reached
             (killed_wait table ready from index w.killed kept unit);
         units = walk_units step hash first now old table ready from index flag more w.walks unit;
@@ -275,6 +276,7 @@ module _ {S K V : Type 0} (step : S → BucketView K V → Bool → Bool → Buc
     begins = at;
     calls = w.walks.calls;
     walk = w.walks.part.walk;
+    len = w.walks.part.len;
     sources = subst (λ (n : ℕ). AreKilledFor table from n) w.walks.reached w.killed;
     units = w.walks.units;
     alone = w.walks.alone;

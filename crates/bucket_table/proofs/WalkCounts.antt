@@ -38,7 +38,8 @@ use Rattle.std.proofs.lemmas.Bool.{true≢false, cases_lt, false_from_ne_true, l
 use Rattle.std.proofs.lemmas.List.{append-nil}
 use Rattle.std.proofs.lemmas.List.Elements.{filter_agree}
 use Rattle.std.proofs.lemmas.List.Sorted.{IsPermutation-refl, length_permutation}
-use Rattle.bucket_slots.specs.BucketView.{BucketView, pairs_in}
+use Rattle.bucket_slots.specs.BucketView.{BucketView, marks_in, pairs_in}
+use Rattle.bucket_slots.specs.Marking.{MarksBy}
 use Rattle.bucket_slots.specs.Sizing.{IsLength}
 use Rattle.bucket_table.specs.ArraysView.{ArraysView, TableView, pairs_of}
 use Rattle.bucket_table.specs.Clearing.{ClearsAll, ClearsBelow}
@@ -211,18 +212,19 @@ module _ {K V : Type 0} where
   }
 
   pub empties_bucket : (IsTest : (K × V → Bool) → Type 0) (lent left : BucketView K V)
-      (count taken count_then : ℕ) (flag last : Bool)
-      → IsTest (λ pair. false)
+      (epoch count taken count_then : ℕ) (flag last : Bool)
+      → IsTest (λ pair. false) → MarksBy epoch (marks_in lent) (marks_in left)
       → Retains IsTest lent left taken → count_then ≡ min (count + taken) (2 ^ 64 - 1)
       → last ≡ (flag || nat_lt 0 taken)
-      → Empties count lent flag true left last count_then
-  empties_bucket IsTest lent left count taken count_then flag last means r is set =
+      → Empties epoch count lent flag true left last count_then
+  empties_bucket IsTest lent left epoch count taken count_then flag last means marks r is set =
       let none = retains_none IsTest lent left taken means r in
       let taken_is = none.1 in
       record {
         goes_on = refl;
         none_left = none.0;
         alive = r.alive;
+        marks = marks;
         count_is = omega (arith, is, taken_is);
         flag_is = set ∙ ap (λ (b : Bool). flag || b) (same_some taken (length (pairs_in lent))
             taken_is);
@@ -246,9 +248,9 @@ module _ {S K V : Type 0} (buckets pairs : S → ℕ) where
       (λ s t lent left flag more last call. call.0.pairs_are)
       hash old empty long fits a first now new fresh w
 
-module _ {S K V : Type 0} (count : S → ℕ) where
+module _ {S K V : Type 0} (epoch count : S → ℕ) where
   abbrev pub emptying : S → BucketView K V → Bool → Bool → BucketView K V → Bool → S → Type 0
-  emptying s lent flag more left last t = Empties (count s) lent flag more left last (count t)
+  emptying s lent flag more left last t = Empties (epoch s) (count s) lent flag more left last (count t)
 
   -- an emptier keeps to what a walk asks of its visitor
   pub keeps_emptied : KeepsBuckets emptying

@@ -6,9 +6,11 @@ use Rattle.std.proofs.lemmas.Option.{none-some}
 use Rattle.std.specs.List.Sorted.{IsPermutation}
 use Rattle.bucket_slots.specs.ArrayView.{IsNewArray, bucket_at}
 use Rattle.bucket_slots.specs.BucketView.{BucketView, pairs_in}
+use Rattle.bucket_slots.specs.Marking.{HasNoNewMark}
 use Rattle.bucket_slots.specs.Sampling.{StartsSampling}
 use Rattle.bucket_slots.specs.declared.bucket.TheConstants.{CACHE}
-use Rattle.bucket_table.specs.ArraysView.{ArraysView, RehashView, entries_of, old_buckets}
+use Rattle.bucket_slots.proofs.MarkCallerLemmas.{no_new-refl, no_new-trans}
+use Rattle.bucket_table.specs.ArraysView.{ArraysView, RehashView, entries_of, marks_of, old_buckets}
 use Rattle.bucket_table.specs.Asking.{AsksGrowth, ResizesIf}
 use Rattle.bucket_table.specs.Growing.{Grows, WriterAsksGrowth}
 use Rattle.bucket_table.specs.ArraysView.{ArePlaced}
@@ -24,6 +26,7 @@ use Rattle.bucket_table.specs.Units.{KeepsBag, WorksOneUnit, times_in}
 use Rattle.bucket_table.specs.declared.arrays.plan.Plan.{Plan}
 use Rattle.bucket_table.specs.declared.arrays.plan.Plan.TheVariants.{Keep, GiveUp, Resize}
 use Rattle.bucket_table.proofs.Quietly.{quietly}
+use Rattle.bucket_table.proofs.MarksKept.{marks_by_plan, marks_first, marks_grown}
 use Rattle.bucket_table.proofs.ResizeSteps.{grown, new_entries, new_homes}
 
 module _ {K V : Type 0} (kind hash : ℕ) (arrays : ArraysView K V) (index : ℕ)
@@ -170,11 +173,12 @@ module _ {K V : Type 0} where
       ∙ ap (λ (o : Option (List (BucketView K V))). entries_among (buckets_of o) ++ entries_among
       (old_buckets old.rehash)) (sym none)
 
-  pub kept_as : (old new : ArraysView K V) → entries_of new ≡ entries_of old
+  pub kept_as : (old new : ArraysView K V) → entries_of new ≡ entries_of old → HasNoNewMark (marks_of old) (marks_of new)
       → new.minimum ≡ old.minimum → new.maximum ≡ old.maximum → KeepsMap old new
-  kept_as old new same minimum maximum = record {
+  kept_as old new same marks minimum maximum = record {
     pairs = subst (λ (es : List ((K × V) × ℕ)). IsPermutation (entries_of old) es) (sym same)
         (IsPermutation-refl (entries_of old));
+    marks = marks;
     minimum = minimum;
     maximum = maximum;
   }
@@ -182,10 +186,10 @@ module _ {K V : Type 0} where
   pub kept_made : (old new : ArraysView K V) → MakesArray old new → KeepsMap old new
   kept_made old new h = elim (made old new h) [
     | inl same ↦ subst (λ (a : ArraysView K V). KeepsMap old a) (sym same.0)
-        (kept_as old old refl refl refl)
+        (kept_as old old refl (no_new-refl (marks_of old)) refl refl)
     | inr first ↦ subst (λ (a : ArraysView K V). KeepsMap old a) (sym first.2)
         (kept_as old (record old { current = Some first.0 })
-        (first_entries old first.0 first.1 first.3) refl refl)
+        (first_entries old first.0 first.1 first.3) (marks_first old.minimum old first.0 first.1) refl refl)
   ]
 
   not_none : (o : Option (List (BucketView K V))) → IsSome o → o ≡ None → ⊥
@@ -211,7 +215,7 @@ module _ {K V : Type 0} where
   ]
 
   pub kept_prepared : (old new : ArraysView K V) → KeepsArrays old new → KeepsMap old new
-  kept_prepared old new kept = record { pairs = kept.pairs; minimum = kept.minimum; maximum = kept.maximum }
+  kept_prepared old new kept = record { pairs = kept.pairs; marks = kept.marks; minimum = kept.minimum; maximum = kept.maximum }
 
   -- what stays through both
   pub kept_through : (moved : Bool) (old between new : ArraysView K V) → KeepsMap old between
@@ -221,6 +225,7 @@ module _ {K V : Type 0} where
       record {
         pairs = subst (λ (es : List ((K × V) × ℕ)). IsPermutation (entries_of old) es) (sym same)
             first.pairs;
+        marks = no_new-trans _ _ _ first.marks (marks_grown moved between new grows);
         minimum = limits.0 ∙ first.minimum;
         maximum = limits.1 ∙ first.maximum;
       }
@@ -297,10 +302,10 @@ module _ {K V : Type 0} where
       → KeepsMap old new × KeepsBag old.rehash new.rehash
   resize_keeps old new answer same (plan, is, done) =
       let limits = resize_limits plan old new answer done in
-      (kept_as old new same limits.0 limits.1, resize_bag plan old new answer done)
+      (kept_as old new same (marks_by_plan plan old new answer done) limits.0 limits.1, resize_bag plan old new answer done)
 
   pub kept_same : (old : ArraysView K V) → KeepsMap old old
-  kept_same old = kept_as old old refl refl refl
+  kept_same old = kept_as old old refl (no_new-refl (marks_of old)) refl refl
 
   pub none_from_len : (pairs : List (K × V)) → length pairs ≡ 0 → pairs ≡ []
   none_from_len [] e = refl
@@ -311,6 +316,7 @@ module _ {K V : Type 0} where
       → KeepsMap old new
   kept_maps old between new first second = record {
     pairs = IsPermutation-trans (entries_of old) (entries_of between) (entries_of new) first.pairs second.pairs;
+    marks = no_new-trans _ _ _ first.marks second.marks;
     minimum = second.minimum ∙ first.minimum;
     maximum = second.maximum ∙ first.maximum;
   }

@@ -5,7 +5,7 @@ use Rattle.bucket_slots.specs.ArrayView.{bucket_at}
 use Rattle.bucket_slots.specs.BucketView.{BucketView, pairs_in}
 use Rattle.bucket_slots.specs.Homes.{Meets}
 use Rattle.bucket_slots.specs.Sizing.{IsPowerIn}
-use Rattle.bucket_table.specs.Relocation.{AreTwoArrays, buckets_of, entries_among}
+use Rattle.bucket_table.specs.Relocation.{AreTwoArrays, buckets_of, entries_among, marks_among}
 use Rattle.bucket_table.specs.State.{TicketState}
 use Rattle.bucket_table.specs.Covered.{IsCovered, IsGoingOn}
 
@@ -29,6 +29,10 @@ old_buckets (Some rehash) = rehash.buckets
 -- the live pairs of the current array with their bytes, and then of the old one
 abbrev pub entries_of : {K V : Type 0} → ArraysView K V → List ((K × V) × ℕ)
 entries_of arrays = entries_among (buckets_of arrays.current) ++ entries_among (old_buckets arrays.rehash)
+
+-- the marked pairs of the current array with their epochs, and then of the old one
+abbrev pub marks_of : {K V : Type 0} → ArraysView K V → List ((K × V) × ℕ)
+marks_of arrays = marks_among (buckets_of arrays.current) ++ marks_among (old_buckets arrays.rehash)
 
 -- the map that the arrays are
 abbrev pub pairs_of : {K V : Type 0} → ArraysView K V → List (K × V)

@@ -1,5 +1,5 @@
 -- No unit of an old array is forgotten.
-use Rattle.std.specs.Prelude.{ℕ, ◌+◌, ◌*◌, ◌<◌, ◌≤◌, ◌≡◌, ◌⊎◌, Bool, true, false, List, [], length, replicate, slice_index_or, Option, Some, None}
+use Rattle.std.specs.Prelude.{ℕ, ◌+◌, ◌*◌, ◌<◌, ◌≤◌, ◌≡◌, ◌⊎◌, Bool, true, false, List, length, slice_index_or}
 use Rattle.std.specs.List.{Contains, All}
 use Rattle.bucket_table.specs.State.{TicketState}
 
@@ -24,12 +24,3 @@ pub record IsCovered (killed : List Bool) (state : TicketState) : Type 0 where
 -- while the old array stands, some unit is left to hand out or handed out
 abbrev pub IsGoingOn : TicketState → Type 0
 IsGoingOn state = (64 * state.position < state.len) ⊎ ((unit : ℕ) × Contains state.open_units unit)
-
--- what holds between two calls, with or without an old array
-abbrev pub IsRehash : Option RehashState → Type 0
-IsRehash None = Unit {0}
-IsRehash (Some state) = IsCovered state.killed state.tickets × IsGoingOn state.tickets
-
--- an old array when the rehash begins
-abbrev pub first_state : ℕ → RehashState
-first_state len = record { tickets = record { position = 0; open_units = []; len = len }; killed = replicate len false }

@@ -1,18 +1,24 @@
 -- Where a cursor stands, and what it has behind it.
-use Rattle.std.specs.Prelude.{ℕ, ◌+◌, ◌-◌, ◌*◌, ◌<◌, ◌≤◌, ◌≡◌, Bool, false, Option, Some, None, Result, Ok, Err, IsOk, List, [], ◌∷◌, length}
+use Rattle.std.specs.Prelude.{ℕ, ◌+◌, ◌-◌, ◌*◌, ◌<◌, ◌≤◌, ◌≡◌, ◌≢◌, Bool, false, Some, None, Result, Ok, Err, List, [], ◌∷◌, length}
 use Rattle.std.specs.List.{AllByRecursion}
 use Rattle.bucket_slots.specs.ArrayView.{bucket_at}
 use Rattle.bucket_slots.specs.BucketView.{Place, null_place, pairs_in, slot_in}
 use Rattle.bucket_slots.specs.Homes.{IsInInterval, Meets, interval_width}
+use Rattle.bucket_slots.specs.Marking.{HasNoNewMark}
 use Rattle.bucket_slots.specs.Slots.{live_pair}
 use Rattle.bucket_slots.specs.Walking.{MovesToNext, pairs_ahead}
-use Rattle.bucket_table.specs.ArraysView.{AreSourcesKilled, ArraysView, old_buckets, pairs_of}
+use Rattle.bucket_table.specs.ArraysView.{AreSourcesKilled, ArraysView, TableView, marks_of, old_buckets, pairs_of}
 use Rattle.bucket_table.specs.Asking.{AsksShrinking, ResizesIf}
 use Rattle.bucket_table.specs.Locking.{IsLocked}
+use Rattle.bucket_table.specs.MapState.{KeepsPairs, state_of}
 use Rattle.bucket_table.specs.Rehashing.{KeepsArrays}
 use Rattle.bucket_table.specs.Relocation.{buckets_of}
 use Rattle.bucket_table.specs.Sides.{bucket_on, buckets_on}
-use Rattle.bucket_table.specs.UnitRuns.{WorksUnits, steps_of}
+use Rattle.bucket_table.specs.UnitRuns.{WorksUnits}
+use Rattle.bucket_table.specs.Units.{KeepsBag}
+use Rattle.bucket_table.specs.Refusing.{LacksMemory}
+use Rattle.bucket_table.specs.declared.hash_table.Missing.{Missing}
+use Rattle.bucket_table.specs.declared.hash_table.Missing.TheVariants.{Nothing, Memory}
 
 -- no pair has a hash from one bound up to below another
 abbrev pub HasNoneBetween : {K V : Type 0} → (K → ℕ) → ℕ → ℕ → List (K × V) → Type 0
@@ -39,67 +45,102 @@ pub record IsFirstFrom {K V : Type 0} (hash : K → ℕ) (arrays : ArraysView K 
       → HasNoneFrom hash bound (pairs_in (bucket_at (old_buckets arrays.rehash) k))
   pub passed : HasNoneBetween hash bound (bound_of (length (buckets_of arrays.current)) index) (pairs_of arrays)
 
--- where a cursor stands that goes on from a hash: at the first live pair from there on, or nowhere where there is none
-abbrev pub GoesOnAt : {K V : Type 0} → (K → ℕ) → ℕ → Option ℕ → ArraysView K V → Place → Type 0
-GoesOnAt hash bound (Some index) arrays at = IsFirstFrom hash arrays bound index at
-GoesOnAt hash bound None arrays at = HasNoneFrom hash bound (pairs_of arrays) × (at ≡ null_place)
+-- a cursor that goes on from a hash finds no bucket: the pointer is null, and where that isn't for want of memory no live pair has a hash from there on
+pub record FindsNone {K V : Type 0} (hash : K → ℕ) (bound : ℕ) (missing : Missing) (arrays : ArraysView K V) (at : Place) : Type 0 where
+  pub null : at ≡ null_place
+  pub none : missing ≡ Nothing → HasNoneFrom hash bound (pairs_of arrays)
 
--- and what it answers
-abbrev pub GoesOnFrom : {K V E : Type 0} → (K → ℕ) → ℕ → Result (Option ℕ) E → ArraysView K V → Place → Type 0
-GoesOnFrom hash bound (Ok found) arrays at = GoesOnAt hash bound found arrays at
-GoesOnFrom hash bound (Err refused) arrays at = at ≡ null_place
+-- where a cursor stands that goes on from a hash: at the first live pair from there on, or nowhere
+abbrev pub GoesOnFrom : {K V : Type 0} → (K → ℕ) → ℕ → Result ℕ Missing → ArraysView K V → Place → Type 0
+GoesOnFrom hash bound (Ok index) arrays at = IsFirstFrom hash arrays bound index at
+GoesOnFrom hash bound (Err missing) arrays at = FindsNone hash bound missing arrays at
 
--- a current bucket that was found reaches past a hash
-abbrev pub ReachesAt : {K V : Type 0} → ℕ → Option ℕ → ArraysView K V → Type 0
-ReachesAt bound (Some index) arrays = bound < bound_of (length (buckets_of arrays.current)) (index + 1)
-ReachesAt bound None arrays = Unit {0}
+-- a current bucket reaches past a hash
+abbrev pub ReachesAt : {K V : Type 0} → ℕ → ℕ → ArraysView K V → Type 0
+ReachesAt bound index arrays = bound < bound_of (length (buckets_of arrays.current)) (index + 1)
 
-abbrev pub ReachesPast : {K V E : Type 0} → ℕ → Result (Option ℕ) E → ArraysView K V → Type 0
-ReachesPast bound (Ok found) arrays = ReachesAt bound found arrays
-ReachesPast bound (Err refused) arrays = Unit {0}
+-- and so does the one that is found, if any is
+abbrev pub ReachesPast : {K V : Type 0} → ℕ → Result ℕ Missing → ArraysView K V → Type 0
+ReachesPast bound (Ok index) arrays = ReachesAt bound index arrays
+ReachesPast bound (Err missing) arrays = Unit {0}
 
 -- a cursor leaves a bucket whose interval ends at a hash: it goes on from there, to a bucket that reaches past it
-abbrev pub Leaves : {K V E : Type 0} → (K → ℕ) → ℕ → Result (Option ℕ) E → ArraysView K V → Place → Type 0
+abbrev pub Leaves : {K V : Type 0} → (K → ℕ) → ℕ → Result ℕ Missing → ArraysView K V → Place → Type 0
 Leaves hash bound result arrays at = GoesOnFrom hash bound result arrays at × ReachesPast bound result arrays
 
 -- the same where the answer names the side too: a cursor always goes on in the current array
-abbrev pub LeavesTo : {K V E : Type 0} → (K → ℕ) → ℕ → Result (Option (Bool × ℕ)) E → ArraysView K V → Place → Type 0
-LeavesTo hash bound (Ok (Some to)) arrays at = (to.0 ≡ false) × IsFirstFrom hash arrays bound to.1 at × ReachesAt bound (Some to.1) arrays
-LeavesTo hash bound (Ok None) arrays at = HasNoneFrom hash bound (pairs_of arrays) × (at ≡ null_place)
-LeavesTo hash bound (Err refused) arrays at = at ≡ null_place
+abbrev pub LeavesTo : {K V : Type 0} → (K → ℕ) → ℕ → Result (Bool × ℕ) Missing → ArraysView K V → Place → Type 0
+LeavesTo hash bound (Ok to) arrays at = (to.0 ≡ false) × IsFirstFrom hash arrays bound to.1 at × ReachesAt bound to.1 arrays
+LeavesTo hash bound (Err missing) arrays at = FindsNone hash bound missing arrays at
 
 -- the sources of each current bucket from `start` up to below `end` are killed
 abbrev pub AreKilledFor : {K V : Type 0} → ArraysView K V → ℕ → ℕ → Type 0
 AreKilledFor arrays start end = (index : ℕ) → start ≤ index → index < end → AreSourcesKilled arrays index
 
+-- how many buckets are passed where none is found: all, and fewer for want of memory
+abbrev pub IsAllPassed : ℕ → ℕ → Missing → ℕ → Type 0
+IsAllPassed len from Nothing passed = passed ≡ len - from
+IsAllPassed len from Memory passed = passed < len - from
+
 -- how many buckets a cursor passes from `from` on: up to the one that it answers, or all, and fewer where it is refused
-abbrev pub IsPassed : {A E : Type 0} → (A → ℕ) → ℕ → ℕ → Result (Option A) E → ℕ → Type 0
-IsPassed index_of len from (Ok (Some found)) passed = from + passed ≡ index_of found + 1
-IsPassed index_of len from (Ok None) passed = passed ≡ len - from
-IsPassed index_of len from (Err refused) passed = passed < len - from
+abbrev pub IsPassed : {A : Type 0} → (A → ℕ) → ℕ → ℕ → Result A Missing → ℕ → Type 0
+IsPassed index_of len from (Ok found) passed = from + passed ≡ index_of found + 1
+IsPassed index_of len from (Err missing) passed = IsAllPassed len from missing passed
+
+-- the units that are worked: one before each bucket, and one more before the one for which memory is wanted
+abbrev pub units_missing : Missing → ℕ → ℕ
+units_missing Nothing passed = passed
+units_missing Memory passed = passed + 1
+
+abbrev pub units_passed : {A : Type 0} → Result A Missing → ℕ → ℕ
+units_passed (Ok found) passed = passed
+units_passed (Err missing) passed = units_missing missing passed
 
 -- a cursor passes current buckets, from the one whose interval has a hash on, or none where the hash is past all: before each a unit is worked,
 -- and its sources are killed then. Without an old array nothing changes, and it isn't refused
-pub record Passes {K V A E : Type 0} (index_of : A → ℕ) (bound : ℕ) (old : ArraysView K V) (result : Result (Option A) E) (new : ArraysView K V) : Type 0 where
+pub record Passes {K V A : Type 0} (index_of : A → ℕ) (bound : ℕ) (old : ArraysView K V) (result : Result A Missing) (new : ArraysView K V) : Type 0 where
   pub from : ℕ
   pub passed : ℕ
   pub begins : 0 < length (buckets_of old.current) → IsInInterval (length (buckets_of old.current)) from bound
   pub count : IsPassed index_of (length (buckets_of old.current)) from result passed
-  pub units : WorksUnits (steps_of result passed) old new.rehash
+  pub units : WorksUnits (units_passed result passed) old new.rehash
   pub sources : AreKilledFor new from (from + passed)
   pub alone : old.rehash ≡ None → new ≡ old
-  pub succeeds : old.rehash ≡ None → IsOk result
+  pub succeeds : old.rehash ≡ None → LacksMemory result → ⊥
 
 -- a bucket is left: where it has no live pair, and a shrinking is asked for near it, the arrays follow the plan or stay for want of memory; else they stay.
 -- Then the buckets past it are passed, which keeps the pairs and the length of the current array
-pub record Departs {K V A E : Type 0} (index_of : A → ℕ) (is_old : Bool) (index : ℕ) (old : ArraysView K V) (result : Result (Option A) E) (new : ArraysView K V) : Type 0 where
+pub record Departs {K V A : Type 0} (index_of : A → ℕ) (is_old : Bool) (index : ℕ) (old : ArraysView K V) (result : Result A Missing) (new : ArraysView K V) : Type 0 where
   pub between : ArraysView K V
   pub asked : ResizesIf ((pairs_in (bucket_on old is_old index) ≡ []) × AsksShrinking old index) old between
   pub passes : Passes index_of (bound_of (length (buckets_on old is_old)) (index + 1)) between result new
   pub kept : KeepsArrays between new
 
 -- a cursor stays in its bucket, of the old or of the current array, at the next live pair
-pub record Stays {K V E : Type 0} (is_old : Bool) (index : ℕ) (old : ArraysView K V) (from : Place) (result : Result (Option (Bool × ℕ)) E) (new : ArraysView K V) (to : Place) : Type 0 where
-  pub answer : result ≡ Ok (Some (is_old, index))
+pub record Stays {K V : Type 0} (is_old : Bool) (index : ℕ) (old : ArraysView K V) (from : Place) (result : Result (Bool × ℕ) Missing) (new : ArraysView K V) (to : Place) : Type 0 where
+  pub answer : result ≡ Ok (is_old, index)
   pub unchanged : new ≡ old
   pub moves : MovesToNext (bucket_on old is_old index) from to
+
+-- an answer, with a view of what was found
+abbrev pub viewed : {A B : Type 0} → (A → B) → Result A Missing → Result B Missing
+viewed view (Ok found) = Ok (view found)
+viewed view (Err missing) = Err missing
+
+-- a cursor sets out in a table: the map and the open tickets stay, no mark is new, and it goes on from the least hash
+pub record SetsOut {K V H : Type 0} (kind : ℕ) (hash : H → K → ℕ) (old : TableView K V H) (result : Result ℕ Missing) (at : Place) (new : TableView K V H) : Type 0 where
+  pub map : KeepsPairs (state_of kind old) (state_of kind new)
+  pub bag : KeepsBag old.arrays.rehash new.arrays.rehash
+  pub marks : HasNoNewMark (marks_of old.arrays) (marks_of new.arrays)
+  pub found : GoesOnFrom (hash old.hasher) 0 result new.arrays at
+  pub passes : Passes (λ index. index) 0 old.arrays result new.arrays
+
+-- a cursor advances in a table: the map and the open tickets stay, and no mark is new. Where a live pair is ahead in its bucket it stays there, else it leaves
+pub record Advances {K V H : Type 0} (kind : ℕ) (hash : H → K → ℕ) (old : TableView K V H) (is_old : Bool) (index : ℕ) (from : Place) (result : Result (Bool × ℕ) Missing) (to : Place) (new : TableView K V H) : Type 0 where
+  pub map : KeepsPairs (state_of kind old) (state_of kind new)
+  pub bag : KeepsBag old.arrays.rehash new.arrays.rehash
+  pub marks : HasNoNewMark (marks_of old.arrays) (marks_of new.arrays)
+  pub stays : pairs_ahead (bucket_on old.arrays is_old index) from ≢ [] → Stays is_old index old.arrays from result new.arrays to
+  pub leaves : pairs_ahead (bucket_on old.arrays is_old index) from ≡ []
+      → LeavesTo (hash old.hasher) (bound_of (length (buckets_on old.arrays is_old)) (index + 1)) result new.arrays to
+  pub departs : pairs_ahead (bucket_on old.arrays is_old index) from ≡ [] → Departs (λ to. to.1) is_old index old.arrays result new.arrays

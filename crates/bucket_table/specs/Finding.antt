@@ -2,7 +2,8 @@
 use Rattle.std.specs.Prelude.{ℕ, ◌≡◌, Bool, None, IsSome, length}
 use Rattle.std.specs.List.Sorted.{IsPermutation}
 use Rattle.bucket_slots.specs.Homes.{IsHome}
-use Rattle.bucket_table.specs.ArraysView.{AreSourcesKilled, ArraysView, TableView, entries_of}
+use Rattle.bucket_slots.specs.Marking.{HasNoNewMark}
+use Rattle.bucket_table.specs.ArraysView.{AreSourcesKilled, ArraysView, TableView, entries_of, marks_of}
 use Rattle.bucket_table.specs.Asking.{ResizesIf}
 use Rattle.bucket_table.specs.Growing.{Grows, WriterAsksGrowth}
 use Rattle.bucket_table.specs.MapState.{KeepsPairs, state_of}
@@ -11,9 +12,10 @@ use Rattle.bucket_table.specs.Resizes.{MakesArray}
 use Rattle.bucket_table.specs.Sides.{buckets_on}
 use Rattle.bucket_table.specs.Units.{KeepsBag, WorksOneUnit}
 
--- the pairs and the capacities stay
+-- the pairs and the capacities stay, and no mark is new
 pub record KeepsMap {K V : Type 0} (old new : ArraysView K V) : Type 0 where
   pub pairs : IsPermutation (entries_of old) (entries_of new)
+  pub marks : HasNoNewMark (marks_of old) (marks_of new)
   pub minimum : new.minimum ≡ old.minimum
   pub maximum : new.maximum ≡ old.maximum
 

@@ -3,7 +3,8 @@ use Rattle.std.specs.Prelude.{ℕ, ◌/◌, ◌<◌, ◌≤◌, ◌≡◌, Bool,
 use Rattle.std.specs.List.Sorted.{IsPermutation}
 use Rattle.bucket_slots.specs.ArrayView.{bucket_at}
 use Rattle.bucket_slots.specs.BucketView.{BucketView, pairs_in}
-use Rattle.bucket_table.specs.ArraysView.{ArraysView, RehashView, TableView, entries_of, killed_flags, old_buckets}
+use Rattle.bucket_slots.specs.Marking.{HasNoNewMark}
+use Rattle.bucket_table.specs.ArraysView.{ArraysView, RehashView, TableView, entries_of, killed_flags, marks_of, old_buckets}
 use Rattle.bucket_table.specs.Relocation.{IsRelocated, KeepsEntries, buckets_of}
 use Rattle.bucket_table.specs.Covered.{AreAllKilled, IsUnitKilled}
 use Rattle.bucket_table.specs.State.{TicketState}
@@ -39,9 +40,10 @@ EndsRehash before ticket success answer after = ⊥
 abbrev pub IsOldIndex : {K V : Type 0} → ArraysView K V → ℕ → Type 0
 IsOldIndex {K} {V} arrays index = (rehash : RehashView K V) × (arrays.rehash ≡ Some rehash) × (index < length rehash.buckets)
 
--- the pairs, the capacities and the length of the current array stay
+-- the pairs, the capacities and the length of the current array stay, and no mark is new
 pub record KeepsArrays {K V : Type 0} (old new : ArraysView K V) : Type 0 where
   pub pairs : IsPermutation (entries_of old) (entries_of new)
+  pub marks : HasNoNewMark (marks_of old) (marks_of new)
   pub minimum : new.minimum ≡ old.minimum
   pub maximum : new.maximum ≡ old.maximum
   pub current_len : option_map (λ buckets. length buckets) new.current ≡ option_map (λ buckets. length buckets) old.current

@@ -1,6 +1,6 @@
 -- The tickets of an old array and its killed buckets, as a machine that knows no pairs, and what each call
 -- does to it.
-use Rattle.std.specs.Prelude.{ℕ, ◌/◌, ◌<◌, ◌≡◌, Bool, true, false, Option, Some, None, Result, Ok, Err, length, option_map, slice_set}
+use Rattle.std.specs.Prelude.{ℕ, ◌/◌, ◌<◌, ◌≡◌, Bool, true, false, Option, Some, None, Result, Ok, Err, length, option_map, slice_index_or, slice_set}
 use Rattle.bucket_table.specs.ArraysView.{ArraysView, RehashView, killed_flags}
 use Rattle.bucket_table.specs.Covered.{AreAllKilled, IsUnitKilled, RehashState}
 use Rattle.bucket_table.specs.State.{TicketState}
@@ -31,6 +31,11 @@ StartsTicket (Some before) answer (Some after) = Starts before.tickets answer af
 abbrev pub HasOldBucket : Option RehashState → ℕ → Type 0
 HasOldBucket None index = ⊥
 HasOldBucket (Some state) index = index < length state.killed
+
+-- an old array stands and has this bucket, which isn't killed
+abbrev pub HasAliveBucket : Option RehashState → ℕ → Type 0
+HasAliveBucket None index = ⊥
+HasAliveBucket (Some state) index = (index < length state.killed) × (slice_index_or state.killed index false ≡ false)
 
 -- the old bucket is killed, and nothing else changes
 abbrev pub KillsBucket : Option RehashState → ℕ → Option RehashState → Type 0
@@ -69,7 +74,7 @@ module _ {K V : Type 0} where
   TicketStep before Start NoTicket after = StartsTicket before None after
   TicketStep before (Work index) Done after = KillsBucket before index after
   TicketStep before (Work index) NoWork after = (HasOldBucket before index → ⊥) × (after ≡ before)
-  TicketStep before (Work index) Refused after = HasOldBucket before index × (after ≡ before)
+  TicketStep before (Work index) Refused after = HasAliveBucket before index × (after ≡ before)
   TicketStep before (End ticket success) (Ended gone) after = EndsTicket before ticket success (Ok gone) after
   TicketStep before (End ticket success) (Fault error) after = EndsTicket before ticket success (Err error) after
   TicketStep before (Peek key) reply after = after ≡ before

@@ -82,7 +82,7 @@ VisitsAlone old index [] new = new ≡ old
 VisitsAlone old index (visit ∷ visits) new =
     (visit.lent ≡ bucket_on old false index) × VisitsAlone (arrays_with old false index visit.left) (index + 1) visits new
 
--- a walk by a visitor
+-- a walk by a visitor. Before its end the current array keeps its length, also beside an old array that goes
 pub record WalksBy {S A E K V : Type 0} (step : S → BucketView K V → Bool → Bool → BucketView K V → Bool → S → Type 0) (hash : K → ℕ) (expected start : ℕ)
     (first : S) (old : ArraysView K V) (result : Result A E) (now : S) (new : ArraysView K V) : Type 0 where
   pub from : ℕ
@@ -92,6 +92,7 @@ pub record WalksBy {S A E K V : Type 0} (step : S → BucketView K V → Bool �
   pub begins : BeginsAt (length (buckets_of old.current)) expected start from
   pub calls : AreCalls step first false visits now flag
   pub walk : IsWalk hash old from visits ended
+  pub len : length (buckets_of ended.current) ≡ length (buckets_of old.current)
   pub units : WorksUnits (steps_of result (length visits)) old ended.rehash
   pub sources : AreKilledFor ended from (from + length visits)
   pub within : 0 < length visits → from + length visits ≤ length (buckets_of old.current)

@@ -20,11 +20,13 @@ mod rehashing;
 mod relocating;
 mod resizing;
 mod sampling;
+mod searching;
 mod unit;
 
 use crate::tickets::Tickets;
 use bucket_slots::bucket_array::BucketArray;
 use bucket_slots::lru::LruList;
+pub(crate) use searching::Spot;
 use std::alloc::Global;
 use std::marker::Model;
 
@@ -119,6 +121,7 @@ impl<K, V, L: LruList, const TYPE: u8> Arrays<K, V, L, TYPE> {
     }
 
     /// Returns the number of buckets of the current array, and 0 where there is none.
+    #[inline(always)]
     pub(crate) fn len(&self) -> usize
         ensures none { result ≡ 0 → self.now.current ≡ None }
         ensures value { result ≡ length (buckets_of self.now.current) }
@@ -173,6 +176,7 @@ impl<K, V, L: LruList, const TYPE: u8> Arrays<K, V, L, TYPE> {
     }
 
     /// Returns the array of one side.
+    #[inline(always)]
     pub(crate) fn array_of(&self, is_old: bool) -> &BucketArray<K, V, L, TYPE>
         requires { 0 < length (buckets_on self.now is_old) }
         ensures { result.now ≡ buckets_on self.now is_old }
@@ -191,6 +195,7 @@ impl<K, V, L: LruList, const TYPE: u8> Arrays<K, V, L, TYPE> {
     }
 
     /// Returns the index of a hash's home in the current array.
+    #[inline(always)]
     pub(crate) fn home(&self, hash: u64) -> usize
         requires { 0 < length (buckets_of self.now.current) }
         ensures { IsHome (length (buckets_of self.now.current)) hash result }

@@ -14,6 +14,7 @@ ghost use Rattle.bucket_table.specs.ArraysView.{IsOneMap, pairs_of};
 ghost use Rattle.bucket_table.specs.State.{word_of};
 ghost use Rattle.bucket_table.specs.Relocation.{buckets_of};
 
+mod by_key;
 pub(crate) mod capacity;
 mod counting;
 mod cursor;
@@ -28,7 +29,8 @@ mod walks;
 mod write_access;
 
 use crate::arrays::Arrays;
-use crate::key_hash::KeyHash;
+pub use crate::key_hash::KeyHash;
+pub use crate::tickets::{REF_COUNT_BITS, REHASHING_UNIT_LEN, TicketError};
 use bucket_slots::bucket::BUCKET_LEN;
 use bucket_slots::bucket_array::BucketArray;
 use bucket_slots::lru::LruList;
@@ -41,13 +43,27 @@ pub use lookup::peek_arrays;
 use std::alloc::Global;
 use std::marker::Model;
 
-/// What a writer that makes no array doesn't get.
-#[derive(Clone, Copy, Debug, PartialEq, Eq, Drop)]
+/// The greatest capacity that a table can have, in slots. scc: `MAXIMUM_CAPACITY_LIMIT`.
+pub const MAXIMUM_CAPACITY_LIMIT: usize = 1 << 63;
+
+const _: () = prove!(MAXIMUM_CAPACITY_LIMIT == 9223372036854775808);
+
+/// Why no bucket is locked.
+#[derive(Drop)]
 pub enum Missing {
-    /// There is no array.
-    Array,
+    /// There is nothing to lock: no array, or no live pair further on.
+    Nothing,
     /// Want of memory.
     Memory,
+}
+
+/// Why a pair was not inserted; the pair comes back.
+#[derive(Drop)]
+pub enum NotInserted<K, V> {
+    /// An equal key is in the map.
+    Present(K, V),
+    /// Want of memory.
+    Memory(K, V),
 }
 
 /// A map from keys to values, in one array or two.

@@ -1,7 +1,8 @@
 //! Taking out of a bucket what a test refuses.
 ghost use Rattle.std.specs.Prelude.{◌≡◌, Bool, Some, IsTrue, ℕ, ◌∷◌};
 ghost use Rattle.std.specs.List.Sorted.{IsPermutation};
-ghost use Rattle.bucket_slots.specs.BucketView.{entries_in, slot_in};
+ghost use Rattle.bucket_slots.specs.BucketView.{entries_in, marks_in, slot_in};
+ghost use Rattle.bucket_slots.specs.Marking.{MarksBy};
 ghost use Rattle.bucket_slots.specs.Slots.{is_live, live_pair};
 ghost use Rattle.bucket_slots.specs.Walking.{pairs_ahead};
 ghost use Rattle.bucket_table.specs.Retains.{AnswersBy, Retains};
@@ -19,7 +20,9 @@ pub(crate) fn retain_in<
     const TYPE: u8,
 >(bucket: &mut Bucket<K, V, L, TYPE>, keep: &F, generation: &G) -> usize
     requires callable { F.IsAlwaysCallable keep.now }
-    ensures { Retains (AnswersBy (λ key value answer. F.post keep.now key value answer)) bucket.old bucket.new result }
+    ensures retained { Retains (AnswersBy (λ key value answer. F.post keep.now key value answer))
+        bucket.old bucket.new result }
+    ensures marks { MarksBy (G.epoch_of generation.now) (marks_in bucket.old) (marks_in bucket.new) }
 {
     let mut count: usize = 0;
     let mut at = EntryPtr::null();
@@ -43,6 +46,7 @@ pub(crate) fn take_at<K: Drop, V: Drop, L: LruList, G: Generation, const TYPE: u
     ensures taken { (pair : K × V) → (live_pair (slot_in bucket.old at.old) ≡ Some pair)
         → (byte : ℕ) × IsPermutation (entries_in bucket.old) ((pair, byte) ∷ entries_in bucket.new) }
     ensures pairs_ahead { pairs_ahead bucket.new at.new ≡ pairs_ahead bucket.old at.old }
+    ensures marks { MarksBy (G.epoch_of generation.now) (marks_in bucket.old) (marks_in bucket.new) }
 {
     if TYPE == INDEX {
         bucket.mark_removed(at, generation);

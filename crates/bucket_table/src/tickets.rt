@@ -7,17 +7,22 @@ ghost use Rattle.bucket_table.specs.Steps.{Starts, Ends, IsOver};
 use std::alloc::{AllocError, Global};
 use std::marker::Model;
 
-/// How many old buckets a unit has.
+/// How many old buckets a unit has. scc: `REHASHING_UNIT_LEN`.
 pub const REHASHING_UNIT_LEN: usize = 64;
 
-/// One more than the number of tickets that can be open at a time.
-pub const TICKET_STEP: usize = 2048;
+/// How many low bits of the rehash word count open tickets. scc: `REF_COUNT_BITS`.
+pub const REF_COUNT_BITS: u32 = 11;
+
+/// What a unit adds to the rehash word: one more than the number of tickets that can be open.
+pub const TICKET_STEP: usize = 1 << REF_COUNT_BITS;
 
 /// How many tickets can be open at a time.
-const MAXIMUM_OPEN: usize = 2047;
+const MAXIMUM_OPEN: usize = TICKET_STEP - 1;
+
+const _: () = prove!(REHASHING_UNIT_LEN == 64 && TICKET_STEP == 2048 && MAXIMUM_OPEN == 2047);
 
 /// Why a ticket can't be ended.
-#[derive(Clone, Copy, Debug, PartialEq, Drop)]
+#[derive(Drop)]
 pub enum TicketError {
     NotOpen,
     NotDone,

@@ -1,5 +1,5 @@
 //! Calls on one bucket that begin with a search for a key.
-ghost use Rattle.std.specs.Prelude.{◌≡◌, ◌≢◌, IfSome, IsTrue};
+ghost use Rattle.std.specs.Prelude.{◌≡◌, IfSome, IsTrue};
 ghost use Rattle.bucket_slots.specs.BucketView.{slot_in};
 ghost use Rattle.bucket_slots.specs.Slots.{is_live};
 
@@ -20,14 +20,16 @@ pub(crate) fn find<V, L: LruList, const TYPE: u8>(
     if at.is_valid() { Some(at) } else { None }
 }
 
-/// Takes out the pair of a key, and returns it with the pointer as the removal leaves it.
+/// Takes out the pair of a key, of another kind than an index, and returns it with the pointer as the
+/// removal leaves it.
 pub(crate) fn remove_at<V: Drop, L: LruList, const TYPE: u8>(
     bucket: &mut Bucket<u64, V, L, TYPE>,
     key: u64,
     hash: u64,
-) -> Option<((u64, V), EntryPtr<u64, V, TYPE>)>
-    requires not_index { TYPE ≢ INDEX }
-{
+) -> Option<((u64, V), EntryPtr<u64, V, TYPE>)> {
+    if TYPE == INDEX {
+        return None;
+    }
     let mut at = find(bucket, key, hash)?;
     let pair = bucket.remove(&mut at);
     Some((pair, at))
@@ -44,14 +46,15 @@ pub(crate) fn write_key<V: Drop, L: LruList, const TYPE: u8>(
     Some(mem::replace(bucket.entry_mut(&at).1, value))
 }
 
-/// Touches the pair of a key, and returns whether there is one.
+/// Touches the pair of a key in a cache, and returns whether there is one.
 pub(crate) fn touch_key<V, L: LruList, const TYPE: u8>(
     bucket: &mut Bucket<u64, V, L, TYPE>,
     key: u64,
     hash: u64,
-) -> bool
-    requires cache { TYPE ≡ CACHE }
-{
+) -> bool {
+    if TYPE != CACHE {
+        return false;
+    }
     let Some(at) = find(bucket, key, hash) else {
         return false;
     };
@@ -105,15 +108,16 @@ pub(crate) fn kill_empty<V: Drop, L: LruList, const TYPE: u8>(
     true
 }
 
-/// Marks the pair of a key as removed, and returns whether there was one.
+/// Marks the pair of a key as removed in an index, and returns whether there was one.
 pub(crate) fn mark_key<V, L: LruList, G: Generation, const TYPE: u8>(
     bucket: &mut Bucket<u64, V, L, TYPE>,
     key: u64,
     hash: u64,
     generation: &G,
-) -> bool
-    requires index { TYPE ≡ INDEX }
-{
+) -> bool {
+    if TYPE != INDEX {
+        return false;
+    }
     let Some(mut at) = find(bucket, key, hash) else {
         return false;
     };

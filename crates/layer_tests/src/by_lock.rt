@@ -1,14 +1,23 @@
 //! Calls on a table of numbers that lock a bucket, and what they answer of it.
-use crate::scripts::Table;
 use crate::steps::Spot;
-use bucket_slots::bucket::MAP;
+use bucket_slots::bucket::{Generation, MAP};
+use bucket_slots::lru::LruList;
+use bucket_table::hash_table::HashTable;
+use bucket_table::script::ScriptHash;
+
+/// A table of numbers.
+pub(crate) type Table<L, const TYPE: u8> = HashTable<u64, u64, ScriptHash, L, TYPE>;
 
 /// A map of numbers.
 pub(crate) type Map = Table<(), MAP>;
 
 /// Puts a new key as its own value in the bucket that a writer is given. Returns that bucket's
 /// index, and where the pair stands in it.
-pub(crate) fn put_at(table: &mut Map, key: u64) -> Option<(usize, Spot)> {
+pub(crate) fn put_at<L: LruList + Drop, G: Generation, const TYPE: u8>(
+    table: &mut Table<L, TYPE>,
+    key: u64,
+    generation: &G,
+) -> Option<(usize, Spot)> {
     let hash = table.hash(&key);
     let mut locked = match table.writer_sync(hash) {
         Ok(locked) => locked,
@@ -19,7 +28,7 @@ pub(crate) fn put_at(table: &mut Map, key: u64) -> Option<(usize, Spot)> {
         return None;
     }
     let index = locked.bucket_index();
-    match locked.insert(hash, (key, key), &()) {
+    match locked.insert(hash, (key, key), generation) {
         Ok(at) => Some((index, (at.block(), at.pos()))),
         Err(_) => None,
     }

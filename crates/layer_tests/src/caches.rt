@@ -10,11 +10,8 @@ use std::test::Fail;
 
 type Stage = crate::stage::Stage<DoublyLinkedList, CACHE>;
 
-// A cache that keeps no order.
-type Orderless = crate::stage::Stage<(), CACHE>;
-
 // Each key is its own value.
-const EVICTIONS: &[Story] = stories! {
+pub(crate) const EVICTIONS: &[Story] = stories! {
     // An own slot is free after the first, though the chain is not empty.
     "an eviction looks at own slots alone", 0:
         Values(1, 0), Use(0, 40), Evict(Some(0)), Len(39), Evict(None), Len(39);
@@ -23,7 +20,7 @@ const EVICTIONS: &[Story] = stories! {
         Len(31), Evict(None), Len(31);
 };
 
-const ORDERS: &[Story] = stories! {
+pub(crate) const ORDERS: &[Story] = stories! {
     "the order is taken, and nothing is listed then", 0:
         Values(1, 0), Use(0, 4), Touch(1, true), TakeOrder(&[1, 3, 2, 0]), TakeOrder(&[]),
         Fill(4, 32), Touch(2, true), TakeOrder(&[2]), Evict(Some(0)), Len(31);
@@ -43,30 +40,17 @@ const ORDERS: &[Story] = stories! {
         Fill(0, 31), PutOldest(31, (0, 31)), PutOldest(32, (1, 0)), TakeOrder(&[31]);
 };
 
-const NO_ORDER: &[Story] = stories! {
+pub(crate) const NO_ORDER: &[Story] = stories! {
     "nothing is listed", 0:
         Values(1, 0), PutOldest(0, (0, 0)), PutOldest(1, (0, 1)), Use(2, 32), TakeOrder(&[]),
         Touch(1, true), TakeOrder(&[]), Evict(Some(0)), Len(31);
 };
 
-#[test]
-fn buckets_of_a_cache_go_through_the_stories(rt: HostRuntime) -> Result<(), Fail> {
-    for story in EVICTIONS.iter().chain(ORDERS) {
-        let mut stage = Stage::new(rt.alloc());
-        stage.tell(&rt, story)?;
-    }
-    for story in NO_ORDER {
-        let mut stage = Orderless::new(rt.alloc());
-        stage.tell(&rt, story)?;
-    }
-    Ok(())
-}
-
 // One pair comes after another, up to twice the own slots; none is touched.
 #[test]
 fn untouched_pairs_are_evicted_at_slot_zero(rt: HostRuntime) -> Result<(), Fail> {
     let mut stage = Stage::new(rt.alloc());
-    stage.change(&rt, ("each key its own value", 0), Values(1, 0));
+    stage.change(&rt, ("each key its own value", 0), &Values(1, 0));
     let mut in_slot_zero = 0;
     for key in 0..64u64 {
         let row = ("one more untouched pair", key as usize);
@@ -75,9 +59,9 @@ fn untouched_pairs_are_evicted_at_slot_zero(rt: HostRuntime) -> Result<(), Fail>
         } else {
             (Some(in_slot_zero), 31, 0)
         };
-        stage.change(&rt, row, Evict(goes));
-        stage.change(&rt, row, Len(left));
-        stage.step(&rt, row, Put(key, (0, slot)))?;
+        stage.change(&rt, row, &Evict(goes));
+        stage.change(&rt, row, &Len(left));
+        stage.step(&rt, row, &Put(key, (0, slot)))?;
         if key >= 32 {
             in_slot_zero = key;
         }
@@ -97,6 +81,7 @@ fn a_bucket_that_is_empty_again_evicts_as_a_new_one(rt: HostRuntime) -> Result<(
             Evict(goes),
             Lacks(0, first),
             Drain(first, pairs),
+            Lacks(first, pairs),
             Evict(None),
             Len(0),
         ];
@@ -113,61 +98,33 @@ fn a_bucket_that_is_empty_again_evicts_as_a_new_one(rt: HostRuntime) -> Result<(
 // first.
 #[test]
 fn touched_pairs_are_evicted_in_the_order_of_their_touches(rt: HostRuntime) -> Result<(), Fail> {
-    for pairs in 0..64 {
+    for pairs in 0..64u64 {
         let mut stage = Stage::new(rt.alloc());
-        let mut plain = Vec::new(rt.alloc());
-        touch_all(&rt, &mut stage, &mut plain, pairs)?;
-    }
-    Ok(())
-}
-
-fn touch_all(
-    rt: &impl Abort,
-    stage: &mut Stage,
-    plain: &mut Vec<u64>,
-    pairs: u64,
-) -> Result<(), Fail> {
-    stage.change(rt, ("each key its own value", 0), Values(1, 0));
-    for key in 0..pairs {
-        let row = ("one more touched pair", key as usize);
-        let oldest = if key < 32 { None } else { plain.pop() };
-        stage.change(rt, row, Evict(oldest));
-        stage.step(rt, row, Use(key, key.wrapping_add(1)))?;
-        plain.insert(0, key)?;
-        if key >= 32 {
-            let Some(again) = stage.key_in((pairs % 32) as usize) else {
-                return Err("a free own slot".into());
-            };
-            stage.change(rt, row, Touch(again, true));
-            plain.retain(|other| *other != again);
-            plain.insert(0, again)?;
+        let mut plain: Vec<u64> = Vec::new(rt.alloc());
+        stage.change(&rt, ("each key its own value", 0), &Values(1, 0));
+        for key in 0..pairs {
+            let row = ("one more touched pair", key as usize);
+            let oldest = if key < 32 { None } else { plain.pop() };
+            stage.change(&rt, row, &Evict(oldest));
+            stage.step(&rt, row, &Use(key, key.wrapping_add(1)))?;
+            plain.insert(0, key)?;
+            if key >= 32 {
+                let Some(again) = stage.key_in((pairs % 32) as usize) else {
+                    return Err("a free own slot".into());
+                };
+                stage.change(&rt, row, &Touch(again, true));
+                plain.retain(|other| *other != again);
+                plain.insert(0, again)?;
+            }
+        }
+        if pairs < 32 {
+            stage.change(&rt, ("a free own slot", 0), &Evict(None));
+        } else {
+            check_same(&rt, plain.len(), 32, pairs);
+            evict_all(&rt, &mut stage, plain.as_slice())?;
         }
     }
-    if pairs < 32 {
-        stage.change(rt, ("a free own slot", 0), Evict(None));
-        return Ok(());
-    }
-    check_same(rt, plain.len(), 32, pairs);
-    for oldest in plain.iter().rev() {
-        replace(rt, stage, *oldest)?;
-    }
-    check_slot_zero(rt, stage);
     Ok(())
-}
-
-// Evicts a key from a bucket whose own slots are full. An untouched pair takes its place.
-fn replace(rt: &impl Abort, stage: &mut Stage, oldest: u64) -> Result<(), Fail> {
-    let row = ("the oldest goes", oldest as usize);
-    let comes = oldest.wrapping_add(1000);
-    stage.change(rt, row, Evict(Some(oldest)));
-    stage.step(rt, row, Fill(comes, comes.wrapping_add(1)))
-}
-
-// Evicts the key in slot 0 from full own slots, since no pair is listed any more.
-fn check_slot_zero(rt: &impl Abort, stage: &mut Stage) {
-    let in_slot_zero = stage.key_in(0);
-    check_same(rt, in_slot_zero.is_some(), true, "slot 0");
-    stage.change(rt, ("nothing is listed", 0), Evict(in_slot_zero));
 }
 
 // Every number of touched pairs, from which the first ones are removed in turn: the bucket is
@@ -177,25 +134,36 @@ fn a_removed_pair_leaves_the_others_in_their_order(rt: HostRuntime) -> Result<()
     for touched in 0..33u64 {
         for gone in 0..touched + 1 {
             let mut stage = Stage::new(rt.alloc());
-            check_rest(&rt, &mut stage, touched, gone)?;
+            let mut plain: Vec<u64> = Vec::new(rt.alloc());
+            let end = gone.wrapping_add(132).wrapping_sub(touched);
+            let steps = [
+                Values(1, 0),
+                Use(0, touched),
+                Drain(0, gone),
+                Fill(100, end),
+                Len(32),
+            ];
+            stage.play(&rt, "touched pairs go", &steps)?;
+            for key in gone..touched {
+                plain.insert(0, key)?;
+            }
+            evict_all(&rt, &mut stage, plain.as_slice())?;
         }
     }
     Ok(())
 }
 
-fn check_rest(rt: &impl Abort, stage: &mut Stage, touched: u64, gone: u64) -> Result<(), Fail> {
-    let end = gone.wrapping_add(132).wrapping_sub(touched);
-    let steps = [
-        Values(1, 0),
-        Use(0, touched),
-        Drain(0, gone),
-        Fill(100, end),
-        Len(32),
-    ];
-    stage.play(rt, "touched pairs go", &steps)?;
-    for oldest in gone..touched {
-        replace(rt, stage, oldest)?;
+// Evicts the listed keys, of which the newest comes first, from a bucket whose own slots are full: an
+// untouched pair takes the place of each. Then nothing is listed, and that of slot 0 goes.
+fn evict_all(rt: &impl Abort, stage: &mut Stage, listed: &[u64]) -> Result<(), Fail> {
+    for oldest in listed.iter().rev() {
+        let row = ("the oldest goes", *oldest as usize);
+        let comes = oldest.wrapping_add(1000);
+        stage.change(rt, row, &Evict(Some(*oldest)));
+        stage.step(rt, row, &Fill(comes, comes.wrapping_add(1)))?;
     }
-    check_slot_zero(rt, stage);
+    let in_slot_zero = stage.key_in(0);
+    check_same(rt, in_slot_zero.is_some(), true, "slot 0");
+    stage.change(rt, ("nothing is listed", 0), &Evict(in_slot_zero));
     Ok(())
 }

@@ -4,7 +4,7 @@ use crate::by_lock::Map;
 use crate::checks::check_same;
 use crate::tables::At;
 use bucket_slots::bucket::{EntryPtr, MAP};
-use bucket_table::hash_table::LockedBucket;
+use bucket_table::hash_table::{LockedBucket, Missing};
 use bucket_table::script::ScriptHash;
 use std::process::Abort;
 use std::test::Fail;
@@ -12,7 +12,6 @@ use std::test::Fail;
 type Locked<'a> = LockedBucket<'a, u64, u64, ScriptHash, (), MAP>;
 
 /// Keys that a cursor meets one after another in one bucket.
-#[derive(Clone, Copy)]
 pub(crate) struct Stop {
     /// The first key, and the first that isn't meant.
     pub(crate) keys: (u64, u64),
@@ -30,7 +29,7 @@ pub(crate) fn follow(
     stops: &[Stop],
 ) -> Result<(), Fail> {
     let mut at = EntryPtr::null();
-    let mut held = table.first_sync(&mut at)?;
+    let mut held = found(table.first_sync(&mut at))?;
     for stop in stops {
         held = go_over(rt, held, &mut at, row, stop)?;
     }
@@ -59,9 +58,18 @@ fn go_over<'a>(
             true,
             (row, key),
         );
-        held = locked.next_sync(at)?;
+        held = found(locked.next_sync(at))?;
     }
     Ok(held)
+}
+
+// The bucket that a cursor has found; none past the last pair.
+fn found(bucket: Result<Locked<'_>, Missing>) -> Result<Option<Locked<'_>>, Fail> {
+    match bucket {
+        Ok(locked) => Ok(Some(locked)),
+        Err(Missing::Nothing) => Ok(None),
+        Err(Missing::Memory) => Err("no memory".into()),
+    }
 }
 
 // Whether the cursor stands at the pair of a key, which it takes out where that is asked.

@@ -8,7 +8,6 @@ use std::string::String;
 use std::test::Fail;
 
 /// A call on a row, with its answer.
-#[derive(Clone, Copy)]
 enum Act {
     /// What stands at a place, in the row or past its end.
     See(usize, Option<(u64, u64)>),
@@ -58,7 +57,7 @@ fn a_row_keeps_lends_and_gives_back(rt: HostRuntime) {
 // Makes the calls one after another, and compares each answer.
 fn play<const LEN: usize>(rt: &impl Abort, block: &mut DataBlock<u64, u64, LEN>, acts: &[Act]) {
     for (row, act) in acts.iter().enumerate() {
-        check_act(rt, block, row, *act);
+        check_act(rt, block, row, act);
     }
 }
 
@@ -67,52 +66,52 @@ fn check_act<const LEN: usize>(
     rt: &impl Abort,
     block: &mut DataBlock<u64, u64, LEN>,
     row: usize,
-    act: Act,
+    act: &Act,
 ) {
     match act {
         See(pos, pair) => {
             let wanted = match pair {
-                Some((key, value)) => (Some(key), Some(value)),
+                Some((key, value)) => (Some(*key), Some(*value)),
                 None => (None, None),
             };
-            let found = (block.key(pos).copied(), block.val(pos).copied());
+            let found = (block.key(*pos).copied(), block.val(*pos).copied());
             check_same(rt, found, wanted, (LEN, row, "see"));
         }
         Fill(pos, pair, wanted) => {
-            let fills = pos < LEN && block.key(pos).is_none();
+            let fills = *pos < LEN && block.key(*pos).is_none();
             if fills {
-                block.write(pos, pair.0, pair.1);
+                block.write(*pos, pair.0, pair.1);
             }
-            check_same(rt, fills, wanted, (LEN, row, "fill"));
+            check_same(rt, fills, *wanted, (LEN, row, "fill"));
         }
         SetValue(pos, value, wanted) => {
-            let earlier = match block.val_mut(pos) {
-                Some(lent) => Some(mem::replace(lent, value)),
+            let earlier = match block.val_mut(*pos) {
+                Some(lent) => Some(mem::replace(lent, *value)),
                 None => None,
             };
-            check_same(rt, earlier, wanted, (LEN, row, "set value"));
+            check_same(rt, earlier, *wanted, (LEN, row, "set value"));
         }
         SetPair(pos, value, wanted) => {
-            let earlier = match block.pair_mut(pos) {
-                Some((key, lent)) => Some((*key, mem::replace(lent, value))),
+            let earlier = match block.pair_mut(*pos) {
+                Some((key, lent)) => Some((*key, mem::replace(lent, *value))),
                 None => None,
             };
-            check_same(rt, earlier, wanted, (LEN, row, "set pair"));
+            check_same(rt, earlier, *wanted, (LEN, row, "set pair"));
         }
         Take(pos, wanted) => {
-            let taken = if block.key(pos).is_none() {
+            let taken = if block.key(*pos).is_none() {
                 None
             } else {
-                Some(block.read(pos))
+                Some(block.read(*pos))
             };
-            check_same(rt, taken, wanted, (LEN, row, "take"));
+            check_same(rt, taken, *wanted, (LEN, row, "take"));
         }
         LetGo(pos, wanted) => {
-            let there = block.key(pos).is_some();
+            let there = block.key(*pos).is_some();
             if there {
-                block.drop_in_place(pos);
+                block.drop_in_place(*pos);
             }
-            check_same(rt, there, wanted, (LEN, row, "let go"));
+            check_same(rt, there, *wanted, (LEN, row, "let go"));
         }
     }
 }

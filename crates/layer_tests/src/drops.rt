@@ -19,7 +19,7 @@ fn insert_clone<const TYPE: u8>(
     bucket: &mut Counted<TYPE>,
     key: u64,
     counted: &Rc<i32>,
-    kept: Kept,
+    kept: &Kept,
 ) -> Result<(), Fail> {
     let value = counted.clone()?;
     bucket.insert(0, (key, value), &Answers::new(0, kept))?;
@@ -34,18 +34,12 @@ fn filled<const TYPE: u8>(
 ) -> Result<Counted<TYPE>, Fail> {
     let mut bucket = Counted::<TYPE>::new(alloc);
     for key in 0..keys {
-        insert_clone(&mut bucket, key, counted, Kept::All)?;
+        insert_clone(&mut bucket, key, counted, &Kept::All)?;
     }
     Ok(bucket)
 }
 
-// The value and its clones are this many.
-fn check_count(rt: &impl Abort, counted: &Rc<i32>, count: usize) {
-    check_same(rt, Rc::strong_count(counted), count, "clones");
-}
-
 /// What becomes of a bucket, and what is so then.
-#[derive(Clone, Copy)]
 enum Act {
     /// A key comes, with a clone and by a test of the marks.
     Put(u64, Kept),
@@ -55,6 +49,9 @@ enum Act {
     Reserve(usize),
     /// The pairs of these keys go.
     Take(&'static [u64]),
+    /// The pairs of all keys below a number go one after another, each value at once: from the first
+    /// key on, or backwards.
+    TakeAll(u64, bool),
     /// The pairs of these keys are marked.
     Mark(&'static [u64]),
     /// The pairs of keys are marked one after another, and the bucket isn't killed before.
@@ -83,6 +80,11 @@ const OF_MAPS: &[Story] = stories! {
     // Two free blocks stand behind the one of live pairs. It goes, and a pair comes to one of them.
     "free blocks hold no value", 33:
         Reserve(11), Count(34), Take(&[32]), Count(33), Put(50, Kept::All), Count(34);
+    // Of 50 blocks the last goes first, or the head each time.
+    "each removed value is dropped at once, in order", 232:
+        TakeAll(232, false), Len(0);
+    "each removed value is dropped at once, backwards", 232:
+        TakeAll(232, true), Len(0);
 };
 
 const OF_INDEXES: &[Story] = stories! {
@@ -113,13 +115,13 @@ fn each_value_is_dropped_once(rt: HostRuntime) -> Result<(), Fail> {
         let mut bucket = filled::<MAP>(rt.alloc(), story.1, &counted)?;
         play(&rt, &mut bucket, &counted, story)?;
         drop(bucket);
-        check_count(&rt, &counted, 1);
+        check_same(&rt, Rc::strong_count(&counted), 1, story.0);
     }
     for story in OF_INDEXES {
         let mut bucket = filled::<INDEX>(rt.alloc(), story.1, &counted)?;
         play(&rt, &mut bucket, &counted, story)?;
         drop(bucket);
-        check_count(&rt, &counted, 1);
+        check_same(&rt, Rc::strong_count(&counted), 1, story.0);
     }
     Ok(())
 }
@@ -132,35 +134,32 @@ fn play<const TYPE: u8>(
     (story, _, acts): &Story,
 ) -> Result<(), Fail> {
     for (row, act) in acts.iter().enumerate() {
-        match *act {
-            Put(key, kept) => insert_clone(bucket, key, counted, kept)?,
-            Write(keys) => write_clones(rt, bucket, keys, counted)?,
-            Reserve(slots) => bucket.reserve_slots(slots)?,
-            Count(count) => {
-                check_same(
-                    rt,
-                    Rc::strong_count(counted),
-                    count,
-                    ((*story, row), "count"),
-                );
+        let at = (*story, row);
+        match act {
+            Put(key, kept) => insert_clone(bucket, *key, counted, kept)?,
+            Write(keys) => {
+                for key in *keys {
+                    let old = write_key(bucket, *key, 0, counted.clone()?);
+                    check_same(rt, old.is_some(), true, (at, "write", *key));
+                }
             }
-            _ => change(rt, bucket, (story, row), *act),
+            Reserve(slots) => bucket.reserve_slots(*slots)?,
+            TakeAll(keys, backwards) => {
+                for gone in 0..*keys {
+                    let left = keys.wrapping_sub(gone);
+                    let key = if *backwards {
+                        left.wrapping_sub(1)
+                    } else {
+                        gone
+                    };
+                    let taken = remove_at(bucket, key, 0).is_some();
+                    let found = (taken, Rc::strong_count(counted));
+                    check_same(rt, found, (true, left as usize), (at, "take all", key));
+                }
+            }
+            Count(count) => check_same(rt, Rc::strong_count(counted), *count, (at, "count")),
+            _ => change(rt, bucket, at, act),
         }
-    }
-    Ok(())
-}
-
-// Writes a clone over the value of each key.
-fn write_clones<const TYPE: u8>(
-    rt: &impl Abort,
-    bucket: &mut Counted<TYPE>,
-    keys: &[u64],
-    counted: &Rc<i32>,
-) -> Result<(), Fail> {
-    for key in keys {
-        let value = counted.clone()?;
-        let old = write_key(bucket, *key, 0, value);
-        check_same(rt, old.is_some(), true, ("write", *key));
     }
     Ok(())
 }
@@ -170,117 +169,45 @@ fn change<const TYPE: u8>(
     rt: &impl Abort,
     bucket: &mut Counted<TYPE>,
     row: (&str, usize),
-    act: Act,
+    act: &Act,
 ) {
     match act {
         Take(keys) => {
-            for key in keys {
-                check_same(rt, take(bucket, *key), true, (row, "take", *key));
+            for key in *keys {
+                let taken = remove_at(bucket, *key, 0).is_some();
+                check_same(rt, taken, true, (row, "take", *key));
             }
         }
         Mark(keys) => {
-            for key in keys {
-                check_same(rt, mark(bucket, *key), true, (row, "mark", *key));
+            for key in *keys {
+                let marked = mark_key(bucket, *key, 0, &());
+                check_same(rt, marked, true, (row, "mark", *key));
             }
         }
         MarkUp(from, to) => {
-            for key in from..to {
-                let done = (kill_empty(bucket), mark(bucket, key));
+            for key in *from..*to {
+                let done = (kill_empty(bucket), mark_key(bucket, key, 0, &()));
                 check_same(rt, done, (false, true), (row, "mark up", key));
             }
         }
-        Clear(kept) => {
-            let clears = clear(bucket, kept);
-            check_same(rt, clears, true, (row, "clear"));
-        }
+        Clear(kept) => check_same(rt, clear(bucket, kept), true, (row, "clear")),
         Kill => check_kill(rt, bucket),
-        Len(len) => check_same(rt, bucket.len(), len, (row, "len")),
+        Len(len) => check_same(rt, bucket.len(), *len, (row, "len")),
         Own(slot) => {
-            let there = bucket.data_block().val(slot).is_some();
+            let there = bucket.data_block().val(*slot).is_some();
             check_same(rt, there, true, (row, "own"));
         }
         _ => check_same(rt, true, false, (row, "no act")),
     }
 }
 
-// Takes the pair of a key out of a bucket of another kind than an index, and drops it.
-fn take<const TYPE: u8>(bucket: &mut Counted<TYPE>, key: u64) -> bool {
-    TYPE != INDEX && remove_at(bucket, key, 0).is_some()
-}
-
-// Marks the pair of a key in a bucket of an index.
-fn mark<const TYPE: u8>(bucket: &mut Counted<TYPE>, key: u64) -> bool {
-    TYPE == INDEX && mark_key(bucket, key, 0, &())
-}
-
 // Clears a bucket of an index.
-fn clear<const TYPE: u8>(bucket: &mut Counted<TYPE>, kept: Kept) -> bool {
+fn clear<const TYPE: u8>(bucket: &mut Counted<TYPE>, kept: &Kept) -> bool {
     if TYPE != INDEX {
         return false;
     }
     bucket.clear_unreachable_entries(&Answers::new(0, kept));
     true
-}
-
-// Pairs of 50 blocks and of the own slots.
-const MANY: u64 = 232;
-
-// From the first pair on, so that the last block goes first; and from the last one back, so that the
-// head does each time.
-#[test]
-fn each_removed_value_is_dropped_at_once(rt: HostRuntime) -> Result<(), Fail> {
-    let counted = Rc::new(rt.alloc(), 0)?;
-    for backwards in [false, true] {
-        let mut bucket = filled::<MAP>(rt.alloc(), MANY, &counted)?;
-        take_all(&rt, &mut bucket, &counted, backwards);
-        check_same(&rt, bucket.len(), 0, backwards);
-    }
-    Ok(())
-}
-
-fn take_all(rt: &impl Abort, bucket: &mut Counted<MAP>, counted: &Rc<i32>, backwards: bool) {
-    for gone in 0..MANY {
-        let left = MANY - gone;
-        let key = if backwards { left - 1 } else { gone };
-        check_same(rt, take(bucket, key), true, (backwards, key));
-        check_count(rt, counted, left as usize);
-    }
-}
-
-// The blocks of the source stay, free, until it is killed.
-#[test]
-fn each_value_is_dropped_once_after_its_bucket_is_killed(rt: HostRuntime) -> Result<(), Fail> {
-    let counted = Rc::new(rt.alloc(), 0)?;
-    let mut source = filled::<MAP>(rt.alloc(), 41, &counted)?;
-    let mut target = Counted::<MAP>::new(rt.alloc());
-    for key in 0..41 {
-        check_move(&rt, &mut target, &mut source, key)?;
-    }
-    check_kill(&rt, &mut source);
-    check_same(
-        &rt,
-        (target.len(), target.is_killed()),
-        (41, false),
-        "target",
-    );
-    check_count(&rt, &counted, 42);
-    drop(source);
-    check_count(&rt, &counted, 42);
-    drop(target);
-    check_count(&rt, &counted, 1);
-    Ok(())
-}
-
-// Moves a pair from a bucket that isn't killed, since it has a pair.
-fn check_move(
-    rt: &impl Abort,
-    target: &mut Counted<MAP>,
-    source: &mut Counted<MAP>,
-    key: u64,
-) -> Result<(), Fail> {
-    check_same(rt, kill_empty(source), false, "killed with pairs");
-    check_same(rt, move_key(target, source, key, 0)?.is_some(), true, key);
-    Ok(())
 }
 
 // Kills a bucket without live pairs, which then finds nothing, and no second time.
@@ -296,18 +223,25 @@ fn check_kill<const TYPE: u8>(rt: &impl Abort, bucket: &mut Counted<TYPE>) {
     check_same(rt, kill_empty(bucket), false, "kills again");
 }
 
+// The blocks of the source stay, free, until it is killed.
 #[test]
-fn pairs_still_held_are_dropped_with_the_array(rt: HostRuntime) -> Result<(), Fail> {
+fn each_value_is_dropped_once_after_its_bucket_is_killed(rt: HostRuntime) -> Result<(), Fail> {
     let counted = Rc::new(rt.alloc(), 0)?;
-    let mut array = BucketArray::<u64, Rc<i32>, (), MAP>::alloc(rt.alloc(), 64)?;
-    for key in 0..40 {
-        let index = key as usize % 2;
-        assert!(rt; index < array.len());
-        insert_clone(array.bucket_mut(index), key, &counted, Kept::All)?;
+    let mut source = filled::<MAP>(rt.alloc(), 41, &counted)?;
+    let mut target = Counted::<MAP>::new(rt.alloc());
+    for key in 0..41 {
+        check_same(&rt, kill_empty(&mut source), false, "killed with pairs");
+        let moved = move_key(&mut target, &mut source, key, 0)?.is_some();
+        check_same(&rt, moved, true, key);
     }
-    check_count(&rt, &counted, 41);
-    drop(array);
-    check_count(&rt, &counted, 1);
+    check_kill(&rt, &mut source);
+    let found = (target.len(), target.is_killed());
+    check_same(&rt, found, (41, false), "target");
+    check_same(&rt, Rc::strong_count(&counted), 42, "moved");
+    drop(source);
+    check_same(&rt, Rc::strong_count(&counted), 42, "without the source");
+    drop(target);
+    check_same(&rt, Rc::strong_count(&counted), 1, "without the target");
     Ok(())
 }
 
@@ -326,27 +260,24 @@ fn pairs_in_a_few_parts_of_an_array_are_dropped_once(rt: HostRuntime) -> Result<
     let counted = Rc::new(rt.alloc(), 0)?;
     let untouched = BucketArray::<u64, Rc<i32>, (), MAP>::alloc(rt.alloc(), LENGTH * 32)?;
     let mut array = BucketArray::<u64, Rc<i32>, (), MAP>::alloc(rt.alloc(), LENGTH * 32)?;
-    check_same(
-        &rt,
-        (array.len(), untouched.len()),
-        (LENGTH, LENGTH),
-        "long",
-    );
-    for (index, keys) in TOUCHED {
-        for key in 0..keys {
-            assert!(rt; index < array.len());
-            insert_clone(array.bucket_mut(index), key, &counted, Kept::All)?;
+    let lengths = (array.len(), untouched.len());
+    check_same(&rt, lengths, (LENGTH, LENGTH), "long");
+    for (index, keys) in &TOUCHED {
+        for key in 0..*keys {
+            assert!(rt; *index < array.len());
+            insert_clone(array.bucket_mut(*index), key, &counted, &Kept::All)?;
         }
     }
-    check_count(&rt, &counted, 1 + PAIRS);
+    check_same(&rt, Rc::strong_count(&counted), 1 + PAIRS, "come");
     for key in 0..20 {
         assert!(rt; 300 < array.len());
-        check_same(&rt, take(array.bucket_mut(300), key), true, key);
+        let taken = remove_at(array.bucket_mut(300), key, 0).is_some();
+        check_same(&rt, taken, true, key);
     }
-    check_count(&rt, &counted, 1 + PAIRS - 20);
+    check_same(&rt, Rc::strong_count(&counted), 1 + PAIRS - 20, "go");
     drop(untouched);
-    check_count(&rt, &counted, 1 + PAIRS - 20);
+    check_same(&rt, Rc::strong_count(&counted), 1 + PAIRS - 20, "stay");
     drop(array);
-    check_count(&rt, &counted, 1);
+    check_same(&rt, Rc::strong_count(&counted), 1, "gone");
     Ok(())
 }

@@ -1,12 +1,7 @@
 //! One bucket of an index, or two: removed pairs stay in their slots, marked with an epoch, until
 //! a test lets them go.
 use crate::steps::Step::*;
-use crate::steps::{Kept, Step, Story, steps, stories};
-use bucket_slots::bucket::INDEX;
-use std::process::Abort;
-use std::test::Fail;
-
-type Stage = crate::stage::Stage<(), INDEX>;
+use crate::steps::{Kept, Step, Story, stories};
 
 // Epoch 0, and every mark is kept.
 const KEEP: Step = Now(0, Kept::All);
@@ -17,7 +12,7 @@ const LET_GO: Step = Now(0, Kept::None);
 // All own slots are occupied: the sum of 2^i over i from 0 to 31.
 const ALL_OWN: u32 = 4294967295;
 
-const INSERTIONS: &[Story] = stories! {
+pub(crate) const INSERTIONS: &[Story] = stories! {
     // What is let go with the first goes all at once.
     "marks that are kept send a pair to the chain", 32:
         Marks(&[0, 1, 2, 3]), Len(28), Find(0, None), Put(32, (1, 0)), LET_GO, Put(33, (0, 0)),
@@ -53,7 +48,7 @@ const INSERTIONS: &[Story] = stories! {
         Clear(ALL_OWN), LET_GO, Clear(2147483640), Lens(31, 37);
 };
 
-const RESERVATIONS: &[Story] = stories! {
+pub(crate) const RESERVATIONS: &[Story] = stories! {
     // Here 4 more than the 28 live pairs are 32, the own slots; and yet none of these is free. The
     // original compares those numbers and adds no block. The second reservation adds none, so that
     // key 36 makes a new head.
@@ -81,12 +76,12 @@ const RESERVATIONS: &[Story] = stories! {
         Values(0, 0), Reserve(72), Kill(true), Fill(0, 36), Put(36, (2, 0));
 };
 
-const CLEARINGS: &[Story] = stories! {
+pub(crate) const CLEARINGS: &[Story] = stories! {
     // The chain's first slot is taken.
     "a clearing that keeps every mark changes nothing", 33:
-        Find(32, Some((1, 0))), Marks(&[0, 1, 32]), Len(30), Clear(ALL_OWN), KeepAll(ALL_OWN),
-        Len(30), Clear(ALL_OWN), KeepAll(ALL_OWN), Len(30), Own(0, Some(0)), Own(1, Some(1)),
-        Own(2, Some(2)), Put(40, (1, 1));
+        Find(32, Some((1, 0))), Marks(&[0, 1, 32]), Len(30), Clear(ALL_OWN), Len(30),
+        Clear(ALL_OWN), Len(30), Own(0, Some(0)), Own(1, Some(1)), Own(2, Some(2)),
+        Put(40, (1, 1));
     // All own slots but 0 and 1 are occupied then, and the chain has gone.
     "a clearing that keeps no mark frees the marked slots", 33:
         Find(32, Some((1, 0))), Marks(&[0, 1, 32]), Len(30), LET_GO, Clear(4294967292), Len(30),
@@ -120,7 +115,7 @@ const CLEARINGS: &[Story] = stories! {
         Put(52, (1, 3)), Put(53, (2, 0)), Put(54, (2, 1));
 };
 
-const SEARCHES: &[Story] = stories! {
+pub(crate) const SEARCHES: &[Story] = stories! {
     // 263 has the low byte 7, and so has the mark.
     "a key that comes again is found behind its mark", 0:
         Under(7, 0), Fill(0, 3), Under(263, 0), Now(7, Kept::All), Marks(&[0]), Find(0, None),
@@ -130,140 +125,84 @@ const SEARCHES: &[Story] = stories! {
         MarkUp(0, 37, 0), Len(0), Lacks(0, 37), Next(None, (0, 32));
 };
 
-// On a bucket whose hashes have the low byte 7. The chain is [40], [36 to 39], [32 to 35], and the
-// only pair of its head is marked.
-const SEVEN_MARKED: &[Step] = steps! {
-    Fill(0, 41), Marks(&[0, 5, 31, 32, 35, 38, 40]), Len(34), Lacks(0, 1), Holds(1, 5), Lacks(5, 6),
-    Holds(6, 31), Lacks(31, 33), Holds(33, 35), Lacks(35, 36), Holds(36, 38), Lacks(38, 39),
-    Holds(39, 40), Lacks(40, 41), WalkUp(1, 5), WalkUp(6, 31), Walk(&[36, 37, 39, 33, 34]),
-    Next(None, (0, 32)), Next(Some(1), (0, 1))
+// The hashes have the low byte 7, and so has the mark, or another one. The chain is [40], [36 to 39],
+// [32 to 35], and the only pair of its head is marked.
+macro_rules! seven_marked {
+    ($($epoch:literal),+) => {
+        &[$((
+            "marked pairs are found and walked no more",
+            0,
+            &[
+                Under(263, 0), Now($epoch, Kept::All), Fill(0, 41),
+                Marks(&[0, 5, 31, 32, 35, 38, 40]), Len(34), Lacks(0, 1), Holds(1, 5), Lacks(5, 6),
+                Holds(6, 31), Lacks(31, 33), Holds(33, 35), Lacks(35, 36), Holds(36, 38),
+                Lacks(38, 39), Holds(39, 40), Lacks(40, 41), WalkUp(1, 5), WalkUp(6, 31),
+                Walk(&[36, 37, 39, 33, 34]), Next(None, (0, 32)), Next(Some(1), (0, 1)),
+            ],
+        )),+]
+    };
+}
+
+pub(crate) const SEVEN_MARKED: &[Story] = seven_marked!(7, 0, 6, 255);
+
+// Each slot has an epoch of its own, from a multiple of 32 on. What is left is the sum of 2^i over
+// each i below 32 that leaves the rest, since the divisors divide 32.
+macro_rules! by_rest {
+    ($($first:literal, $divisor:literal, $rest:literal => $left:literal);+) => {
+        &[$((
+            "the marks of a rest stay",
+            32,
+            &[
+                Now($first, Kept::All), MarkUp(0, 32, 1), Len(0),
+                Now(0, Kept::Rest($divisor, $rest)), Clear($left), Len(0),
+            ],
+        )),+]
+    };
+}
+
+pub(crate) const BY_REST: &[Story] = by_rest! {
+    0, 1, 0 => 4294967295; 0, 2, 0 => 1431655765; 96, 2, 1 => 2863311530; 128, 16, 0 => 65537;
+    192, 32, 31 => 2147483648; 224, 2, 1 => 2863311530; 224, 32, 31 => 2147483648;
+    32, 32, 32 => 0; 224, 1, 0 => 4294967295
 };
 
-#[test]
-fn buckets_of_an_index_go_through_the_stories(rt: HostRuntime) -> Result<(), Fail> {
-    for stories in [INSERTIONS, RESERVATIONS, CLEARINGS, SEARCHES] {
-        for story in stories {
-            let mut stage = Stage::new(rt.alloc());
-            stage.tell(&rt, story)?;
-        }
-    }
-    Ok(())
-}
-
-#[test]
-fn marked_pairs_are_found_and_walked_no_more(rt: HostRuntime) -> Result<(), Fail> {
-    // Epochs that are equal to the hashes' byte and that are not.
-    for epoch in [7, 0, 6, 255] {
-        let mut stage = Stage::new(rt.alloc());
-        stage.change(&rt, ("keys under one byte", 0), Under(263, 0));
-        stage.change(&rt, ("an epoch", epoch as usize), Now(epoch, Kept::All));
-        stage.play(&rt, "seven are marked", SEVEN_MARKED)?;
-    }
-    Ok(())
-}
-
-// Keys come, key i marked with the epoch i after the first.
-fn mark_from(rt: &impl Abort, stage: &mut Stage, first: u8, keys: u64) -> Result<(), Fail> {
-    let row = ("each key has an epoch of its own", first as usize);
-    stage.step(rt, row, Fill(0, keys))?;
-    stage.change(rt, row, Now(first, Kept::All));
-    stage.change(rt, row, MarkUp(0, keys, 1));
-    stage.change(rt, row, Len(0));
-    Ok(())
-}
-
-// A divisor and a rest, and the sum of 2^i over each i below 32 that leaves the rest. The divisors
-// divide 32, so that the sum is that of 32 epochs from each multiple of 32 on.
-const BY_REST: [(u8, u8, u32); 6] = [
-    (1, 0, 4294967295),
-    (2, 0, 1431655765),
-    (2, 1, 2863311530),
-    (16, 0, 65537),
-    (32, 31, 2147483648),
-    (32, 32, 0),
-];
-
-#[test]
-fn the_marks_of_a_rest_stay(rt: HostRuntime) -> Result<(), Fail> {
-    for (divisor, rest, occupancy) in &BY_REST {
-        for eighth in 0..8 {
-            let mut stage = Stage::new(rt.alloc());
-            mark_from(&rt, &mut stage, 32 * eighth, 32)?;
-            let row = ("marks of a rest", *divisor as usize);
-            stage.change(&rt, row, Now(0, Kept::Rest(*divisor, *rest)));
-            stage.change(&rt, row, Clear(*occupancy));
-            stage.change(&rt, row, Len(0));
-        }
-    }
-    Ok(())
-}
-
-#[test]
-fn each_mark_is_asked_for_on_its_own(rt: HostRuntime) -> Result<(), Fail> {
-    for eighth in 0..8 {
-        let mut stage = Stage::new(rt.alloc());
-        mark_from(&rt, &mut stage, 32 * eighth, 32)?;
-        check_squares(&rt, &mut stage, 32 * eighth);
-    }
-    Ok(())
-}
-
-// What is left has the bits of the slots that are kept, and these slots have their keys.
-fn check_squares(rt: &impl Abort, stage: &mut Stage, first: u8) {
-    let mut left = 0;
-    for slot in 0..32u8 {
-        let stays = Kept::Square.keeps(first.wrapping_add(slot));
-        left |= u32::from(stays) << u32::from(slot);
-    }
-    let row = ("marks by no rule of the bits", first as usize);
-    stage.change(rt, row, Now(0, Kept::Square));
-    stage.change(rt, row, Clear(left));
-    for slot in 0..32u8 {
-        let stays = Kept::Square.keeps(first.wrapping_add(slot));
-        let key = if stays { Some(u64::from(slot)) } else { None };
-        stage.change(rt, row, Own(slot as usize, key));
-    }
-}
-
 // Every slot is occupied then, by the pair that came and by 31 marked ones.
-#[test]
-fn an_insertion_goes_to_the_one_slot_whose_mark_goes(rt: HostRuntime) -> Result<(), Fail> {
-    for gone in 0..=255u8 {
-        let mut stage = Stage::new(rt.alloc());
-        check_gone(&rt, &mut stage, gone)?;
-    }
-    Ok(())
+macro_rules! gone {
+    ($($gone:literal),+) => {
+        &[$((
+            "an insertion goes to the one slot whose mark goes",
+            32,
+            &[
+                Now($gone / 32 * 32, Kept::All), MarkUp(0, 32, 1), Len(0),
+                Now(0, Kept::But($gone)), Put(40, (0, $gone % 32)), Len(1), Clear(ALL_OWN),
+            ],
+        )),+]
+    };
 }
 
-fn check_gone(rt: &impl Abort, stage: &mut Stage, gone: u8) -> Result<(), Fail> {
-    mark_from(rt, stage, gone / 32 * 32, 32)?;
-    let row = ("one mark goes", gone as usize);
-    stage.change(rt, row, Now(0, Kept::But(gone)));
-    stage.step(rt, row, Put(40, (0, gone as usize % 32)))?;
-    stage.change(rt, row, Len(1));
-    stage.change(rt, row, Clear(ALL_OWN));
-    Ok(())
-}
+pub(crate) const GONE: &[Story] = gone!(0, 1, 31, 32, 77, 100, 127, 128, 200, 254, 255);
 
 // Of 64 keys in a bucket of 32 own slots and eight blocks, those with an odd epoch are let go. The
 // pairs that come take the slots with an odd number, first those of the bucket's own.
-const ODD_EPOCHS: &[Step] = steps! {
-    Now(0, Kept::Rest(2, 0)), Clear(1431655765),
-    Put(70, (0, 1)), Put(71, (0, 3)), Put(72, (0, 5)), Put(73, (0, 7)), Put(74, (0, 9)),
-    Put(75, (0, 11)), Put(76, (0, 13)), Put(77, (0, 15)), Put(78, (0, 17)), Put(79, (0, 19)),
-    Put(80, (0, 21)), Put(81, (0, 23)), Put(82, (0, 25)), Put(83, (0, 27)), Put(84, (0, 29)),
-    Put(85, (0, 31)), Put(100, (1, 1)), Put(101, (1, 3)), Put(102, (2, 1)), Put(103, (2, 3)),
-    Put(104, (3, 1)), Put(105, (3, 3)), Put(106, (4, 1)), Put(107, (4, 3)), Put(108, (5, 1)),
-    Put(109, (5, 3)), Put(110, (6, 1)), Put(111, (6, 3)), Put(112, (7, 1)), Put(113, (7, 3)),
-    Put(114, (8, 1)), Put(115, (8, 3)), Len(32)
-};
-
-#[test]
-fn marks_in_the_chain_go_as_those_in_own_slots_do(rt: HostRuntime) -> Result<(), Fail> {
-    for quarter in 0..4 {
-        let mut stage = Stage::new(rt.alloc());
-        mark_from(&rt, &mut stage, 64 * quarter, 64)?;
-        stage.play(&rt, "the slots of odd epochs are free", ODD_EPOCHS)?;
-    }
-    Ok(())
+macro_rules! odd_epochs {
+    ($($first:literal),+) => {
+        &[$((
+            "marks in the chain go as those in own slots do",
+            64,
+            &[
+                Now($first, Kept::All), MarkUp(0, 64, 1), Len(0), Now(0, Kept::Rest(2, 0)),
+                Clear(1431655765), Put(70, (0, 1)), Put(71, (0, 3)), Put(72, (0, 5)),
+                Put(73, (0, 7)), Put(74, (0, 9)), Put(75, (0, 11)), Put(76, (0, 13)),
+                Put(77, (0, 15)), Put(78, (0, 17)), Put(79, (0, 19)), Put(80, (0, 21)),
+                Put(81, (0, 23)), Put(82, (0, 25)), Put(83, (0, 27)), Put(84, (0, 29)),
+                Put(85, (0, 31)), Put(100, (1, 1)), Put(101, (1, 3)), Put(102, (2, 1)),
+                Put(103, (2, 3)), Put(104, (3, 1)), Put(105, (3, 3)), Put(106, (4, 1)),
+                Put(107, (4, 3)), Put(108, (5, 1)), Put(109, (5, 3)), Put(110, (6, 1)),
+                Put(111, (6, 3)), Put(112, (7, 1)), Put(113, (7, 3)), Put(114, (8, 1)),
+                Put(115, (8, 3)), Len(32),
+            ],
+        )),+]
+    };
 }
+
+pub(crate) const ODD_EPOCHS: &[Story] = odd_epochs!(0, 64, 128, 192);

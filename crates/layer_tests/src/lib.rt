@@ -6,7 +6,7 @@
 #[cfg(test)]
 mod arrays;
 #[cfg(test)]
-mod beside_map;
+mod buckets;
 #[cfg(test)]
 mod by_key;
 #[cfg(test)]
@@ -23,11 +23,11 @@ mod cursors;
 mod data_blocks;
 #[cfg(test)]
 mod drops;
+#[cfg(test)]
+mod epochs;
 pub mod going_on;
 #[cfg(test)]
 mod growth;
-#[cfg(test)]
-mod hostile;
 #[cfg(test)]
 mod indexes;
 #[cfg(test)]
@@ -38,11 +38,7 @@ mod matching;
 mod pointers;
 pub mod probe;
 #[cfg(test)]
-mod probes;
-#[cfg(test)]
 mod recency_lists;
-#[cfg(test)]
-mod scripts;
 #[cfg(test)]
 mod sizes;
 #[cfg(test)]
@@ -52,7 +48,5 @@ mod steps;
 #[cfg(test)]
 mod tables;
 pub mod taking;
-#[cfg(test)]
-mod tickets;
 #[cfg(test)]
 mod walks;

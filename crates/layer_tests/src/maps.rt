@@ -1,14 +1,9 @@
 //! One bucket of a map, or two: where pairs go, what comes out, what a search and a walk find, and
 //! what moves from one to the other.
 use crate::steps::Step::*;
-use crate::steps::{Step, Story, stories};
-use bucket_slots::bucket::MAP;
-use std::process::Abort;
-use std::test::Fail;
+use crate::steps::{Story, stories};
 
-type Stage = crate::stage::Stage<(), MAP>;
-
-const PLACES: &[Story] = stories! {
+pub(crate) const PLACES: &[Story] = stories! {
     "a new bucket finds nothing", 0:
         Len(0), Killed(false), Lacks(0, 4), Free(0, 32);
     "a pair goes to the lowest free own slot", 32:
@@ -44,10 +39,10 @@ const PLACES: &[Story] = stories! {
         Len(0), Find(1, None), Take(1, None);
     "more keys than own slots come and go, all under one hash", 0:
         Values(0, 0), Fill(0, 34), Len(34), Holds(0, 34), Lacks(34, 68), Drain(0, 34), Len(0),
-        Next(None, (0, 32));
+        Lacks(0, 34), Next(None, (0, 32));
     "more keys than own slots come and go, under as many hashes", 0:
         Values(0, 0), Under(0, 31), Fill(0, 34), Len(34), Holds(0, 34), Lacks(34, 68),
-        Drain(0, 34), Len(0), Next(None, (0, 32));
+        Drain(0, 34), Len(0), Lacks(0, 34), Next(None, (0, 32));
     // No slot is free after ten pairs, so that the next makes a new head.
     "reserved slots take the pairs that come", 30:
         Reserve(10), Reserve(10), Len(30), Put(30, (0, 30)), Put(31, (0, 31)), Put(32, (1, 0)),
@@ -63,7 +58,7 @@ const PLACES: &[Story] = stories! {
         Values(0, 0), Reserve(72), Kill(true), Fill(0, 36), Put(36, (1, 0));
 };
 
-const WALKS: &[Story] = stories! {
+pub(crate) const WALKS: &[Story] = stories! {
     "a walk over one pair ends and starts anew", 1:
         Next(Some(0), (0, 0)), Next(None, (0, 32)), Next(Some(0), (0, 0));
     "a walk goes through the own slots and then from the head", 41:
@@ -81,7 +76,7 @@ const WALKS: &[Story] = stories! {
         Find(32, Some((1, 0))), Take(32, Some((0, 31))), Next(None, (0, 32));
 };
 
-const MOVES: &[Story] = stories! {
+pub(crate) const MOVES: &[Story] = stories! {
     // The slots of keys 0 to 43 are all occupied. What comes then takes the slots that were left,
     // and no block went.
     "a pair moves and leaves its slot free", 44:
@@ -116,115 +111,4 @@ macro_rules! written {
     };
 }
 
-const WRITTEN: &[Story] = written!(0, 3, 31, 32, 35, 36, 39, 40);
-
-#[test]
-fn buckets_of_a_map_go_through_the_stories(rt: HostRuntime) -> Result<(), Fail> {
-    for stories in [PLACES, WALKS, MOVES, WRITTEN] {
-        for story in stories {
-            let mut stage = Stage::new(rt.alloc());
-            stage.tell(&rt, story)?;
-        }
-    }
-    Ok(())
-}
-
-/// Which pairs a walk takes out of a bucket with a chain of full blocks: of one block those at the
-/// bits of a pattern, where the own slots count as eight blocks alike, and of the others all or
-/// none.
-#[derive(Clone, Copy)]
-struct Plan {
-    blocks: u64,
-    block: u64,
-    pattern: u64,
-    others: bool,
-}
-
-impl Plan {
-    fn takes(&self, key: u64) -> bool {
-        if self.block_of(key) != self.block {
-            return self.others;
-        }
-        self.pattern >> (key % 4) & 1 == 1
-    }
-
-    // The number of the block of a key: the last four keys stand in the head.
-    fn block_of(&self, key: u64) -> u64 {
-        if key < 32 {
-            return 0;
-        }
-        self.blocks.saturating_sub((key - 32) / 4)
-    }
-
-    // The key in a slot: the chain's blocks begin with the one that came last.
-    fn key_in(&self, slot: u64) -> u64 {
-        if slot < 32 {
-            return slot;
-        }
-        let behind = self.blocks.saturating_sub((slot - 32) / 4 + 1);
-        behind.wrapping_mul(4).wrapping_add(32 + slot % 4)
-    }
-
-    // The digits of a slot's row are the blocks, the block, the pattern, others or not, the slot.
-    fn row(&self, slot: u64) -> (&str, usize) {
-        let blocks = self.blocks.wrapping_mul(10).wrapping_add(self.block);
-        let pattern = blocks.wrapping_mul(100).wrapping_add(self.pattern);
-        let others = pattern
-            .wrapping_mul(10)
-            .wrapping_add(u64::from(self.others));
-        let row = others.wrapping_mul(100).wrapping_add(slot);
-        ("a walk that removes", row as usize)
-    }
-
-    // What is done with a key: a walk visits or removes it, a walk over what is left visits it or
-    // passes it by, and a search finds it or not.
-    fn step_with(&self, key: u64, round: u8) -> Step {
-        let next = key.wrapping_add(1);
-        match (round, self.takes(key)) {
-            (0, true) => TakeNext(key),
-            (1, true) => WalkUp(key, key),
-            (2, true) => Lacks(key, next),
-            (2, false) => Holds(key, next),
-            _ => WalkUp(key, next),
-        }
-    }
-}
-
-#[test]
-fn a_walk_that_removes_visits_each_pair_once(rt: HostRuntime) -> Result<(), Fail> {
-    for blocks in 0..6u64 {
-        // From each block in turn, the own slots among them; with all others, and with no other.
-        for block in 0..blocks + 1 {
-            for number in 0..32 {
-                let plan = Plan {
-                    blocks,
-                    block,
-                    pattern: number % 16,
-                    others: number >= 16,
-                };
-                let mut stage = Stage::new(rt.alloc());
-                check_plan(&rt, &mut stage, plan)?;
-            }
-        }
-    }
-    Ok(())
-}
-
-// Walks and removes; then walks over what is left; then looks for each key.
-fn check_plan(rt: &impl Abort, stage: &mut Stage, plan: Plan) -> Result<(), Fail> {
-    let keys = plan.blocks.wrapping_mul(4).wrapping_add(32);
-    stage.step(rt, ("a bucket of full blocks", 0), Fill(0, keys))?;
-    for round in 0..3 {
-        let mut left: usize = 0;
-        for slot in 0..keys {
-            let key = plan.key_in(slot);
-            stage.change(rt, plan.row(slot), plan.step_with(key, round));
-            left = left.wrapping_add(usize::from(!plan.takes(key)));
-        }
-        stage.change(rt, plan.row(keys), Len(left));
-        if round < 2 {
-            stage.change(rt, plan.row(keys), Next(None, (0, 32)));
-        }
-    }
-    Ok(())
-}
+pub(crate) const WRITTEN: &[Story] = written!(0, 3, 31, 32, 35, 36, 39, 40);

@@ -32,76 +32,29 @@ const PLACES: [u32; 7] = [
     0, 0xFFFFFFFF, 0x55555555, 0xAAAAAAAA, 0x49249249, 0x92492492, 0x24924924,
 ];
 
-// How many rows of each length are made.
-const MADE_ROWS: u64 = 200;
-
 #[test]
 fn sets_the_bit_of_each_equal_byte_of_a_block_and_of_a_whole_row(rt: HostRuntime) {
-    check_masks(&rt, &BLOCKS);
-    check_masks(&rt, &WHOLE_ROWS);
-}
-
-#[test]
-fn agrees_bit_by_bit_on_made_rows(rt: HostRuntime) {
-    for seed in 0..MADE_ROWS {
-        check_bits(&rt, seed, &made_row::<4>(seed));
-        check_bits(&rt, seed, &made_row::<32>(seed));
+    for (bytes, byte, mask) in &BLOCKS {
+        check_row(&rt, bytes, *byte, *mask);
     }
-}
-
-fn check_masks<const LEN: usize>(rt: &impl Abort, rows: &[([u8; LEN], u8, u32)])
-    requires { LEN ≤ 32 }
-{
-    for (bytes, byte, mask) in rows {
-        check_same(rt, match_partial_hash(bytes, *byte), *mask, (*bytes, *byte));
+    for (bytes, byte, mask) in &WHOLE_ROWS {
+        check_row(&rt, bytes, *byte, *mask);
     }
-}
-
-fn check_bits<const LEN: usize>(rt: &impl Abort, seed: u64, bytes: &[u8; LEN])
-    requires { LEN ≤ 32 }
-{
-    for byte in 0..6u8 {
-        let mask = match_partial_hash(bytes, byte);
-        for i in 0..32usize {
-            let wanted = match bytes.get(i) {
-                Some(own) => *own == byte,
-                None => false,
-            };
-            let bit = mask >> i as u32 & 1 == 1;
-            check_same(rt, bit, wanted, (seed, byte));
-        }
-    }
-}
-
-// Bytes of 0 to 4, so that each byte stands more than once in a row of 32.
-fn made_row<const LEN: usize>(seed: u64) -> [u8; LEN] {
-    let mut bytes = [0u8; LEN];
-    let mut state = seed;
-    for i in 0..LEN {
-        state = state
-            .wrapping_mul(6364136223846793005)
-            .wrapping_add(1442695040888963407);
-        bytes[i] = ((state >> 40) % 5) as u8;
-    }
-    bytes
 }
 
 #[test]
 fn agrees_with_a_loop_on_every_byte_at_each_place(rt: HostRuntime) {
     for byte in 0..=255u8 {
         for places in &PLACES {
-            check_places(&rt, byte, *places);
+            check_row(&rt, &row_with::<4>(byte, *places), byte, *places % 16);
+            check_row(&rt, &row_with::<32>(byte, *places), byte, *places);
         }
         for place in 0..32u32 {
-            check_places(&rt, byte, 1 << place);
+            let places = 1u32 << place;
+            check_row(&rt, &row_with::<4>(byte, places), byte, places % 16);
+            check_row(&rt, &row_with::<32>(byte, places), byte, places);
         }
     }
-}
-
-// The byte stands at these places of a block and of a whole row, and nowhere else.
-fn check_places(rt: &impl Abort, byte: u8, places: u32) {
-    check_row(rt, &row_with::<4>(byte, places), byte, places % 16);
-    check_row(rt, &row_with::<32>(byte, places), byte, places);
 }
 
 // The matcher, a loop and the places say the same.

@@ -7,7 +7,6 @@ use Act::*;
 use bucket_slots::lru::{DoublyLinkedList, LruList};
 use std::marker::Model;
 use std::process::Abort;
-use std::test::Fail;
 
 /// A list with its tail, as its owner keeps them.
 #[derive(Drop)]
@@ -25,7 +24,6 @@ impl<L: LruList> Model for Recent<L> {
 }
 
 /// A call on a list of slots below 32, with its answer.
-#[derive(Clone, Copy)]
 enum Act {
     /// This slot goes, and the tail is that then; or none goes.
     Evict(Option<(u8, u32)>),
@@ -49,35 +47,35 @@ impl<L: LruList> Recent<L> {
     // Makes the calls one after another, and compares each answer.
     fn play(&mut self, rt: &impl Abort, story: &str, acts: &[Act]) {
         for (row, act) in acts.iter().enumerate() {
-            self.act(rt, (story, row), *act);
+            self.act(rt, (story, row), act);
         }
     }
 
     // Makes a call, and compares its answer.
-    fn act(&mut self, rt: &impl Abort, row: (&str, usize), act: Act) {
+    fn act(&mut self, rt: &impl Abort, row: (&str, usize), act: &Act) {
         match act {
             Evict(wanted) => {
                 let found = self.list.evict(self.tail);
                 if let Some((_, tail)) = found {
                     self.tail = tail;
                 }
-                check_same(rt, found, wanted, (row, "evict", 0));
+                check_same(rt, found, *wanted, (row, "evict", 0));
             }
             Remove(slot, wanted) => {
-                assert!(rt; slot < 32);
-                let found = self.list.remove(self.tail, slot);
+                assert!(rt; *slot < 32);
+                let found = self.list.remove(self.tail, *slot);
                 self.tail = found.unwrap_or(self.tail);
-                check_same(rt, found, wanted, (row, "remove", slot));
+                check_same(rt, found, *wanted, (row, "remove", *slot));
             }
             Promote(slot, wanted) => {
-                assert!(rt; slot < 32);
-                let found = self.list.promote(self.tail, slot);
+                assert!(rt; *slot < 32);
+                let found = self.list.promote(self.tail, *slot);
                 self.tail = found.unwrap_or(self.tail);
-                check_same(rt, found, wanted, (row, "promote", slot));
+                check_same(rt, found, *wanted, (row, "promote", *slot));
             }
             Append(slot, wanted) => {
-                assert!(rt; slot < 32);
-                check_same(rt, self.append(slot), wanted, (row, "append", slot));
+                assert!(rt; *slot < 32);
+                check_same(rt, self.append(*slot), *wanted, (row, "append", *slot));
             }
         }
     }
@@ -94,67 +92,35 @@ impl<L: LruList> Recent<L> {
     }
 }
 
-const STORIES: [(&str, &[Act]); 8] = [
-    (
-        "the only slot is removed",
-        steps! {
-        Promote(5, Some(6)), Promote(5, None), Remove(5, Some(0)), Evict(None)
-    },
-    ),
-    (
-        "the oldest goes first",
-        steps! {
+const STORIES: &[(&str, &[Act])] = steps! {
+    ("the only slot is removed", steps! {
+        Promote(5, Some(6)), Promote(5, None), Remove(5, Some(0)), Evict(None) }),
+    ("the oldest goes first", steps! {
         Promote(1, Some(2)), Promote(2, Some(3)), Promote(3, Some(4)), Remove(3, Some(3)),
-        Promote(1, Some(2)), Evict(Some((2, 2))), Evict(Some((1, 0))), Evict(None)
-    },
-    ),
+        Promote(1, Some(2)), Evict(Some((2, 2))), Evict(Some((1, 0))), Evict(None) }),
     // Slot 3 has slot 0 on both sides.
-    (
-        "slot three is evicted",
-        steps! {
+    ("slot three is evicted", steps! {
         Promote(3, Some(4)), Promote(0, Some(1)), Evict(Some((3, 1))), Evict(Some((0, 0))),
-        Evict(None)
-    },
-    ),
-    (
-        "slot three is removed",
-        steps! {
+        Evict(None) }),
+    ("slot three is removed", steps! {
         Promote(3, Some(4)), Promote(0, Some(1)), Remove(3, None), Evict(Some((0, 0))),
-        Evict(None)
-    },
-    ),
+        Evict(None) }),
     // A slot that isn't listed, on an empty list and beside slot 0.
-    (
-        "nothing is removed",
-        steps! {
-        Remove(3, None), Promote(0, Some(1)), Remove(3, None), Evict(Some((0, 0))), Evict(None)
-    },
-    ),
-    (
-        "appended slots are older than all others",
-        steps! {
+    ("nothing is removed", steps! {
+        Remove(3, None), Promote(0, Some(1)), Remove(3, None), Evict(Some((0, 0))), Evict(None) }),
+    ("appended slots are older than all others", steps! {
         Append(5, Some(6)), Append(9, None), Promote(7, Some(8)), Append(0, None),
         Evict(Some((0, 8))), Evict(Some((9, 8))), Evict(Some((5, 8))), Evict(Some((7, 0))),
-        Evict(None)
-    },
-    ),
-    (
-        "a listed slot is appended",
-        steps! {
+        Evict(None) }),
+    ("a listed slot is appended", steps! {
         Promote(3, Some(4)), Append(3, Some(4)), Promote(31, Some(32)), Promote(30, Some(31)),
         Append(30, None), Append(31, None), Evict(Some((31, 4))), Remove(30, None),
-        Append(3, Some(4)), Evict(Some((3, 0))), Evict(None)
-    },
-    ),
+        Append(3, Some(4)), Evict(Some((3, 0))), Evict(None) }),
     // Slot 3 has slot 0 on both sides, at the other end.
-    (
-        "slot three is appended",
-        steps! {
+    ("slot three is appended", steps! {
         Append(0, Some(1)), Append(3, None), Remove(0, Some(4)), Append(0, None),
-        Evict(Some((0, 4))), Evict(Some((3, 0))), Evict(None)
-    },
-    ),
-];
+        Evict(Some((0, 4))), Evict(Some((3, 0))), Evict(None) })
+};
 
 const NOTHING_IS_KEPT: &[Act] = &[
     Promote(3, None),
@@ -169,7 +135,7 @@ const NOTHING_IS_KEPT: &[Act] = &[
 fn lists_answer_as_worked_out_by_hand(rt: HostRuntime) {
     // A list that is empty again answers as a new one.
     let mut used = Recent::<DoublyLinkedList>::new();
-    for (story, acts) in &STORIES {
+    for (story, acts) in STORIES {
         Recent::<DoublyLinkedList>::new().play(&rt, story, acts);
         used.play(&rt, story, acts);
         used.play(&rt, story, acts);
@@ -179,68 +145,4 @@ fn lists_answer_as_worked_out_by_hand(rt: HostRuntime) {
         "the list that keeps nothing stays empty",
         NOTHING_IS_KEPT,
     );
-}
-
-// At first among four slots, where the list is short and at times empty, then among all.
-#[test]
-fn agrees_with_a_plain_list_of_slots(rt: HostRuntime) -> Result<(), Fail> {
-    let mut recent = Recent::<DoublyLinkedList>::new();
-    let mut plain = Vec::new(rt.alloc());
-    let mut random = 1u32;
-    for step in 0..10_000usize {
-        random = random.wrapping_mul(1_664_525).wrapping_add(1_013_904_223);
-        let slots = if step < 5_000 { 4 } else { 32 };
-        let slot = ((random >> 16) % slots) as u8;
-        let act = match random >> 29 {
-            0 | 1 => Evict(plain_eviction(&mut plain)),
-            2 => Remove(slot, plain_removal(&mut plain, slot)),
-            3 => Append(slot, plain_appending(&mut plain, slot)?),
-            _ => Promote(slot, plain_touch(&mut plain, slot)?),
-        };
-        recent.act(&rt, ("beside a plain list", step), act);
-    }
-    Ok(())
-}
-
-// The newest slot + 1, of a plain list with the newest slot first.
-fn plain_tail(plain: &[u8]) -> u32 {
-    match plain.first() {
-        Some(newest) => u32::from(*newest) + 1,
-        None => 0,
-    }
-}
-
-fn plain_eviction(plain: &mut Vec<u8>) -> Option<(u8, u32)> {
-    let slot = plain.pop()?;
-    Some((slot, plain_tail(plain)))
-}
-
-fn plain_removal(plain: &mut Vec<u8>, slot: u8) -> Option<u32> {
-    let was_newest = plain.first() == Some(&slot);
-    plain.retain(|other| *other != slot);
-    if was_newest {
-        Some(plain_tail(plain))
-    } else {
-        None
-    }
-}
-
-fn plain_touch(plain: &mut Vec<u8>, slot: u8) -> Result<Option<u32>, Fail> {
-    if plain.first() == Some(&slot) {
-        return Ok(None);
-    }
-    plain_removal(plain, slot);
-    plain.insert(0, slot)?;
-    Ok(Some(plain_tail(plain)))
-}
-
-fn plain_appending(plain: &mut Vec<u8>, slot: u8) -> Result<Option<u32>, Fail> {
-    plain_removal(plain, slot);
-    let is_alone = plain.is_empty();
-    plain.push(slot)?;
-    Ok(if is_alone {
-        Some(plain_tail(plain))
-    } else {
-        None
-    })
 }

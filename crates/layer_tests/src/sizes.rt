@@ -25,7 +25,6 @@ const M: usize = 1 << 63;
 const MAX: usize = usize::MAX;
 
 /// A call, with its answer last.
-#[derive(Clone, Copy)]
 enum Size {
     /// The slots and the length of an array for a capacity; none where that is refused.
     Extent(usize, Option<(usize, usize)>),
@@ -96,14 +95,14 @@ const SIZES: &[Size] = steps! {
 #[test]
 fn sizes_are_those_of_the_rules(rt: HostRuntime) -> Result<(), AllocError> {
     for (row, size) in SIZES.iter().enumerate() {
-        check_size(&rt, rt.alloc(), row, *size)?;
+        check_size(&rt, rt.alloc(), row, size)?;
     }
     Ok(())
 }
 
 // Makes a call, and compares its answer.
-fn check_size(rt: &impl Abort, alloc: Global, row: usize, size: Size) -> Result<(), AllocError> {
-    match size {
+fn check_size(rt: &impl Abort, alloc: Global, row: usize, size: &Size) -> Result<(), AllocError> {
+    match *size {
         Extent(capacity, extent) => {
             let found = match Array::alloc(alloc, capacity) {
                 Ok(array) => Some((array.num_slots(), array.len())),
@@ -136,8 +135,8 @@ fn check_size(rt: &impl Abort, alloc: Global, row: usize, size: Size) -> Result<
 }
 
 // Makes a call that takes no memory, and compares its answer.
-fn check_reckoned(rt: &impl Abort, row: usize, size: Size) {
-    match size {
+fn check_reckoned(rt: &impl Abort, row: usize, size: &Size) {
+    match *size {
         Samples(len, samples) => {
             assert!(rt; len >= 2 && len <= 1 << 58);
             let power = power_up_to(rt, len, 1 << 58);

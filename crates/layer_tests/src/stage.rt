@@ -36,7 +36,7 @@ impl<L: LruList, const TYPE: u8> Stage<L, TYPE> {
             left: (0, 32),
             hash: (0, 0),
             values: (10, 0),
-            now: Answers::new(0, Kept::All),
+            now: Answers::new(0, &Kept::All),
         }
     }
 
@@ -46,7 +46,7 @@ impl<L: LruList, const TYPE: u8> Stage<L, TYPE> {
         rt: &impl Abort,
         (story, keys, steps): &Story,
     ) -> Result<(), Fail> {
-        self.step(rt, (story, 0), Fill(0, *keys))?;
+        self.step(rt, (story, 0), &Fill(0, *keys))?;
         self.play(rt, story, steps)
     }
 
@@ -58,7 +58,7 @@ impl<L: LruList, const TYPE: u8> Stage<L, TYPE> {
         steps: &[Step],
     ) -> Result<(), Fail> {
         for (row, step) in steps.iter().enumerate() {
-            self.step(rt, (story, row), *step)?;
+            self.step(rt, (story, row), step)?;
         }
         Ok(())
     }
@@ -73,25 +73,21 @@ impl<L: LruList, const TYPE: u8> Stage<L, TYPE> {
         &mut self,
         rt: &impl Abort,
         row: (&str, usize),
-        step: Step,
+        step: &Step,
     ) -> Result<(), Fail> {
         match step {
-            Fill(from, to) => self.fill(rt, row, from, to, false)?,
-            Use(from, to) => self.fill(rt, row, from, to, true)?,
-            Put(key, spot) => check_same(rt, self.put(key)?, spot, (row, "put", key)),
+            Fill(from, to) => self.fill(rt, row, (*from, *to), false)?,
+            Use(from, to) => self.fill(rt, row, (*from, *to), true)?,
+            Put(key, spot) => check_same(rt, self.put(*key)?, *spot, (row, "put", *key)),
             PutOldest(key, spot) => {
-                check_same(
-                    rt,
-                    self.put_oldest(key)?,
-                    Some(spot),
-                    (row, "put oldest", key),
-                );
+                let found = self.put_oldest(*key)?;
+                check_same(rt, found, Some(*spot), (row, "put oldest", *key));
             }
             Move(key, spot) => {
-                let found = self.bring(rt, row, key)?;
-                check_same(rt, found, spot, (row, "move", key));
+                let found = self.bring(rt, row, *key)?;
+                check_same(rt, found, *spot, (row, "move", *key));
             }
-            Reserve(slots) => self.bucket.reserve_slots(slots)?,
+            Reserve(slots) => self.bucket.reserve_slots(*slots)?,
             _ => self.change(rt, row, step),
         }
         Ok(())
@@ -128,14 +124,14 @@ impl<L: LruList, const TYPE: u8> Stage<L, TYPE> {
         &mut self,
         rt: &impl Abort,
         row: (&str, usize),
-        from: u64,
-        to: u64,
+        (from, to): (u64, u64),
         touches: bool,
     ) -> Result<(), Fail> {
         for key in from..to {
             let len = self.bucket.len().wrapping_add(1);
             let (_, pos) = self.put(key)?;
-            let touched = !touches || self.touch(key);
+            let hash = self.hash_of(key);
+            let touched = !touches || touch_key(&mut self.bucket, key, hash);
             let found = (pos < 32, self.bucket.len(), touched);
             check_same(rt, found, (true, len, true), (row, "fill", key));
         }
@@ -159,91 +155,63 @@ impl<L: LruList, const TYPE: u8> Stage<L, TYPE> {
     }
 
     /// Takes a step that asks for no memory, and compares what it finds.
-    pub(crate) fn change(&mut self, rt: &impl Abort, row: (&str, usize), step: Step) {
+    pub(crate) fn change(&mut self, rt: &impl Abort, row: (&str, usize), step: &Step) {
         match step {
-            Under(first, mask) => self.hash = (first, mask),
-            Values(times, plus) => self.values = (times, plus),
-            Now(epoch, kept) => self.now = Answers::new(epoch, kept),
+            Under(first, mask) => self.hash = (*first, *mask),
+            Values(times, plus) => self.values = (*times, *plus),
+            Now(epoch, kept) => self.now = Answers::new(*epoch, kept),
             Swap => mem::swap(&mut self.bucket, &mut self.other),
-            Take(key, spot) => check_same(rt, self.take(rt, row, key), spot, (row, "take", key)),
-            Drain(from, to) => self.drain(rt, row, from, to),
-            TakeNext(key) => {
-                let pair = Some((key, self.value_of(key)));
-                check_same(rt, self.take_next(), pair, (row, "take next", key));
+            Take(key, spot) => check_same(rt, self.take(rt, row, *key), *spot, (row, "take", *key)),
+            Drain(from, to) => {
+                for key in *from..*to {
+                    let goes = self.take(rt, row, key).is_some();
+                    check_same(rt, goes, true, (row, "drain", key));
+                }
             }
             Write(key, value, earlier) => {
-                check_same(rt, self.write(key, value), earlier, (row, "write", key));
+                let hash = self.hash_of(*key);
+                let found = write_key(&mut self.bucket, *key, hash, *value);
+                check_same(rt, found, *earlier, (row, "write", *key));
             }
-            Touch(key, there) => check_same(rt, self.touch(key), there, (row, "touch", key)),
+            Touch(key, there) => {
+                let hash = self.hash_of(*key);
+                let found = touch_key(&mut self.bucket, *key, hash);
+                check_same(rt, found, *there, (row, "touch", *key));
+            }
             Evict(key) => {
                 let pair = match key {
-                    Some(key) => Some((key, self.value_of(key))),
+                    Some(key) => Some((*key, self.value_of(*key))),
                     None => None,
                 };
                 check_same(rt, self.evict(), Some(pair), (row, "evict"));
             }
             TakeOrder(slots) => self.take_order(rt, row, slots),
-            Marks(keys) => self.mark_keys(rt, row, keys),
-            MarkUp(from, to, by) => self.mark_up(rt, row, from, to, by),
-            Clear(left) => check_same(rt, self.clear(false), Some(left), (row, "clear")),
-            KeepAll(left) => check_same(rt, self.clear(true), Some(left), (row, "keep all")),
-            Kill(kills) => check_same(rt, kill_empty(&mut self.bucket), kills, (row, "kill")),
-            Next(key, spot) => self.walk(rt, row, key, spot),
-            Walk(keys) => self.walk_keys(rt, row, keys),
-            WalkUp(from, to) => self.walk_up(rt, row, from, to),
-            _ => self.see(rt, row, step),
+            Marks(keys) => {
+                for key in *keys {
+                    let marked = (self.mark(*key), self.mark(*key));
+                    check_same(rt, marked, (true, false), (row, "mark", *key));
+                }
+            }
+            MarkUp(from, to, by) => {
+                for key in *from..*to {
+                    check_same(rt, self.mark(key), true, (row, "mark", key));
+                    self.now.epoch = self.now.epoch.wrapping_add(*by);
+                }
+            }
+            Clear(left) => check_same(rt, self.clear(), Some(*left), (row, "clear")),
+            Kill(kills) => check_same(rt, kill_empty(&mut self.bucket), *kills, (row, "kill")),
+            _ => self.walk(rt, row, step),
         }
     }
 
-    // Takes out the pair of a key, and returns the pointer as the removal leaves it.
-    fn remove(
-        &mut self,
-        rt: &impl Abort,
-        row: (&str, usize),
-        key: u64,
-    ) -> Option<EntryPtr<u64, u64, TYPE>> {
-        if TYPE == INDEX {
-            return None;
-        }
+    // Takes out the pair of a key, and returns where the removal leaves the walk's pointer.
+    fn take(&mut self, rt: &impl Abort, row: (&str, usize), key: u64) -> Option<Spot> {
         let hash = self.hash_of(key);
         let (pair, at) = remove_at(&mut self.bucket, key, hash)?;
         check_same(rt, pair, (key, self.value_of(key)), (row, "remove", key));
-        Some(at)
-    }
-
-    fn take(&mut self, rt: &impl Abort, row: (&str, usize), key: u64) -> Option<Spot> {
-        self.at = self.remove(rt, row, key)?;
-        Some((self.at.block(), self.at.pos()))
-    }
-
-    fn drain(&mut self, rt: &impl Abort, row: (&str, usize), from: u64, to: u64) {
-        for key in from..to {
-            let len = self.bucket.len().wrapping_sub(1);
-            let goes = self.remove(rt, row, key).is_some();
-            let stays = self.find(rt, row, key).is_some();
-            let found = (goes, self.bucket.len(), stays);
-            check_same(rt, found, (true, len, false), (row, "drain", key));
-        }
-    }
-
-    fn take_next(&mut self) -> Option<(u64, u64)> {
-        if TYPE == INDEX || !self.at.find_next(&self.bucket) {
-            return None;
-        }
-        Some(self.bucket.remove(&mut self.at))
-    }
-
-    fn write(&mut self, key: u64, value: u64) -> Option<u64> {
-        let hash = self.hash_of(key);
-        write_key(&mut self.bucket, key, hash, value)
-    }
-
-    fn touch(&mut self, key: u64) -> bool {
-        if TYPE != CACHE {
-            return false;
-        }
-        let hash = self.hash_of(key);
-        touch_key(&mut self.bucket, key, hash)
+        let spot = (at.block(), at.pos());
+        self.at = at;
+        Some(spot)
     }
 
     // The pair that an eviction takes out of a cache, if any.
@@ -265,37 +233,39 @@ impl<L: LruList, const TYPE: u8> Stage<L, TYPE> {
     }
 
     fn mark(&mut self, key: u64) -> bool {
-        if TYPE != INDEX {
-            return false;
-        }
         let hash = self.hash_of(key);
         mark_key(&mut self.bucket, key, hash, &self.now)
     }
 
-    fn mark_keys(&mut self, rt: &impl Abort, row: (&str, usize), keys: &[u64]) {
-        for key in keys {
-            let marked = (self.mark(*key), self.mark(*key));
-            check_same(rt, marked, (true, false), (row, "mark", *key));
-        }
-    }
-
-    fn mark_up(&mut self, rt: &impl Abort, row: (&str, usize), from: u64, to: u64, by: u8) {
-        for key in from..to {
-            check_same(rt, self.mark(key), true, (row, "mark", key));
-            self.now.epoch = self.now.epoch.wrapping_add(by);
-        }
-    }
-
-    // What a clearing of an index answers, by the test of now or by that which keeps all.
-    fn clear(&mut self, keeps_all: bool) -> Option<u32> {
+    // What a clearing of an index answers.
+    fn clear(&mut self) -> Option<u32> {
         if TYPE != INDEX {
             return None;
         }
-        Some(if keeps_all {
-            self.bucket.clear_unreachable_entries(&())
-        } else {
-            self.bucket.clear_unreachable_entries(&self.now)
-        })
+        Some(self.bucket.clear_unreachable_entries(&self.now))
+    }
+
+    // Takes a step of a walk.
+    fn walk(&mut self, rt: &impl Abort, row: (&str, usize), step: &Step) {
+        match step {
+            Next(key, spot) => {
+                let next = self.next();
+                let found = (next, self.at.is_valid(), self.at.block(), self.at.pos());
+                let wanted = (*key, key.is_some(), spot.0, spot.1);
+                check_same(rt, found, wanted, (row, "next"));
+            }
+            Walk(keys) => {
+                for key in *keys {
+                    check_same(rt, self.next(), Some(*key), (row, "walk", *key));
+                }
+            }
+            WalkUp(from, to) => {
+                for key in *from..*to {
+                    check_same(rt, self.next(), Some(key), (row, "walk", key));
+                }
+            }
+            _ => self.see(rt, row, step),
+        }
     }
 
     fn next(&mut self) -> Option<u64> {
@@ -305,74 +275,41 @@ impl<L: LruList, const TYPE: u8> Stage<L, TYPE> {
         Some(*self.at.key(&self.bucket))
     }
 
-    fn walk(&mut self, rt: &impl Abort, row: (&str, usize), key: Option<u64>, spot: Spot) {
-        let found = (
-            self.next(),
-            self.at.is_valid(),
-            self.at.block(),
-            self.at.pos(),
-        );
-        check_same(
-            rt,
-            found,
-            (key, key.is_some(), spot.0, spot.1),
-            (row, "next"),
-        );
-    }
-
-    fn walk_keys(&mut self, rt: &impl Abort, row: (&str, usize), keys: &[u64]) {
-        for key in keys {
-            check_same(rt, self.next(), Some(*key), (row, "walk", *key));
-        }
-    }
-
-    fn walk_up(&mut self, rt: &impl Abort, row: (&str, usize), from: u64, to: u64) {
-        for key in from..to {
-            check_same(rt, self.next(), Some(key), (row, "walk", key));
-        }
-    }
-
     // Takes a step that only looks.
-    fn see(&self, rt: &impl Abort, row: (&str, usize), step: Step) {
+    fn see(&self, rt: &impl Abort, row: (&str, usize), step: &Step) {
         match step {
-            Find(key, spot) => check_same(rt, self.find(rt, row, key), spot, (row, "find", key)),
-            Holds(from, to) => self.seek(rt, row, from, to, true),
-            Lacks(from, to) => self.seek(rt, row, from, to, false),
-            InOwn(from, to) => {
-                for key in from..to {
-                    let own = Some((0, key as usize));
-                    check_same(rt, self.find(rt, row, key), own, (row, "find", key));
+            Find(key, spot) => check_same(rt, self.find(rt, row, *key), *spot, (row, "find", *key)),
+            Holds(from, to) => {
+                for key in *from..*to {
+                    let there = self.find(rt, row, key).is_some();
+                    check_same(rt, there, true, (row, "holds", key));
                 }
             }
-            Own(slot, key) => self.own(rt, row, slot, key),
+            Lacks(from, to) => {
+                for key in *from..*to {
+                    check_same(rt, self.find(rt, row, key), None, (row, "lacks", key));
+                }
+            }
+            InOwn(from, to) => {
+                for key in *from..*to {
+                    let own = Some((0, key as usize));
+                    check_same(rt, self.find(rt, row, key), own, (row, "in own", key));
+                }
+            }
+            Own(slot, key) => self.own(rt, row, *slot, *key),
             Free(from, to) => {
-                for slot in from..to {
+                for slot in *from..*to {
                     self.own(rt, row, slot, None);
                 }
             }
-            Left(spot) => check_same(rt, self.left, spot, (row, "left")),
-            Len(len) => check_same(rt, self.bucket.len(), len, (row, "len")),
+            Left(spot) => check_same(rt, self.left, *spot, (row, "left")),
+            Len(len) => check_same(rt, self.bucket.len(), *len, (row, "len")),
             Lens(len, other) => {
-                check_same(
-                    rt,
-                    (self.bucket.len(), self.other.len()),
-                    (len, other),
-                    (row, "lens"),
-                );
+                let found = (self.bucket.len(), self.other.len());
+                check_same(rt, found, (*len, *other), (row, "lens"));
             }
-            Killed(killed) => check_same(rt, self.bucket.is_killed(), killed, (row, "killed")),
+            Killed(killed) => check_same(rt, self.bucket.is_killed(), *killed, (row, "killed")),
             _ => check_same(rt, true, false, (row, "no step")),
-        }
-    }
-
-    fn seek(&self, rt: &impl Abort, row: (&str, usize), from: u64, to: u64, there: bool) {
-        for key in from..to {
-            check_same(
-                rt,
-                self.find(rt, row, key).is_some(),
-                there,
-                (row, "find", key),
-            );
         }
     }
 

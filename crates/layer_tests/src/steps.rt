@@ -23,7 +23,7 @@ pub(crate) use steps;
 pub(crate) use stories;
 
 /// Which marks are kept.
-#[derive(Clone, Copy)]
+#[derive(Drop)]
 pub(crate) enum Kept {
     /// Every mark.
     All,
@@ -33,8 +33,6 @@ pub(crate) enum Kept {
     Rest(u8, u8),
     /// All but one.
     But(u8),
-    /// Those whose square leaves less than 5, divided by 11: no rule of the bits.
-    Square,
 }
 
 impl Kept {
@@ -45,14 +43,13 @@ impl Kept {
             Kept::None => false,
             Kept::Rest(divisor, rest) => divisor != 0 && mark % divisor == rest,
             Kept::But(gone) => mark != gone,
-            Kept::Square => u32::from(mark) * u32::from(mark) % 11 < 5,
         }
     }
 }
 
 /// A setting for the steps that follow, or a call with the answer that is wanted. Of two keys the
 /// second is the first that is not meant.
-#[derive(Clone, Copy)]
+#[derive(Drop)]
 pub(crate) enum Step {
     /// A key's hash from here on: a number, plus the bits of the key under a mask. At first 0.
     Under(u64, u64),
@@ -71,12 +68,10 @@ pub(crate) enum Step {
     Put(u64, Spot),
     /// A key comes as the oldest, and stands there.
     PutOldest(u64, Spot),
-    /// Keys go with their values, each with one pair fewer, and are found no more.
+    /// Keys go with their values.
     Drain(u64, u64),
     /// A key goes with its value, and leaves the walk's pointer there; or there is none.
     Take(u64, Option<Spot>),
-    /// The walk's next pair goes, which has this key.
-    TakeNext(u64),
     /// A key's value is written, and was the second.
     Write(u64, u64, Option<u64>),
     /// A key comes from the other bucket, where it is found no more, and stands at this place now.
@@ -89,8 +84,6 @@ pub(crate) enum Step {
     MarkUp(u64, u64, u8),
     /// A clearing answers these occupied own slots.
     Clear(u32),
-    /// The same, by the test that keeps every mark.
-    KeepAll(u32),
     /// A key is touched, if it is there.
     Touch(u64, bool),
     /// A pair goes, which has this key and its value; or none.
@@ -133,7 +126,8 @@ pub(crate) enum Step {
 pub(crate) struct Answers {
     /// The byte that marks a pair removed now.
     pub(crate) epoch: u8,
-    kept: [bool; 256],
+    /// Whether a mark is kept, for each.
+    pub(crate) kept: [bool; 256],
 }
 
 impl Generation for Answers {
@@ -154,7 +148,7 @@ impl Generation for Answers {
 
 impl Answers {
     /// Asks the rule for each mark.
-    pub(crate) fn new(epoch: u8, rule: Kept) -> Self {
+    pub(crate) fn new(epoch: u8, rule: &Kept) -> Self {
         let mut kept = [false; 256];
         for mark in 0..=255u8 {
             kept[mark as usize] = rule.keeps(mark);

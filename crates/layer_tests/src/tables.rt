@@ -5,12 +5,11 @@ ghost use Rattle.std.specs.Prelude.{◌≤◌};
 use crate::by_lock::{Map, home_of, index_of, place_of, put_at, reserved_index_of, take_at};
 use crate::checks::check_same;
 use crate::cursors::{Stop, follow};
-use crate::probes::asked_for;
-use crate::scripts::Row;
 use crate::steps::Spot;
 use crate::walks::{finish, strip};
-use bucket_table::hash_table::HashTable;
-use bucket_table::script::{Call, Reply, ScriptHash, run};
+use bucket_slots::bucket::EqProbe;
+use bucket_table::hash_table::{HashTable, MAXIMUM_CAPACITY_LIMIT};
+use bucket_table::script::ScriptHash;
 use std::alloc::Global;
 use std::process::Abort;
 use std::test::Fail;
@@ -26,15 +25,13 @@ pub(crate) struct Story {
     pub(crate) steps: &'static [Step],
 }
 
-/// A call with what it answers, or what is seen of the table.
+/// A call with what it answers, or what is seen of the table. Of two keys the second is the first
+/// that is not meant.
 pub(crate) enum Step {
-    /// A call of a script, and its reply.
-    Does(Call<u64, u64>, Reply<u64, u64>),
-    /// Calls with their replies, so many times over.
-    Rounds(usize, &'static [Row]),
     /// Keys are put, each as its own value.
     Puts(u64, u64),
-    /// Keys are removed, each with its own value.
+    /// Keys are removed, each with its own value, and where a bucket is left empty the table may
+    /// shrink.
     Takes(u64, u64),
     /// Old buckets are relocated.
     Works(usize, usize),
@@ -52,8 +49,18 @@ pub(crate) enum Step {
     Homes(u64, Option<(usize, usize)>),
     /// How many slots the current array has, and the rehash word.
     Sees(usize, Option<usize>),
-    /// The value under a key is this one, as a peek has it.
-    Holds(u64, u64),
+    /// A key has itself as its value, as a read has it, which moves pairs.
+    Reads(u64),
+    /// The same as a peek has it, which moves nothing.
+    Holds(u64),
+    /// How many pairs a count finds.
+    Counts(usize),
+    /// The least capacity is raised.
+    Raises(usize),
+    /// The next unit is handed out under this ticket.
+    Opens(usize),
+    /// A ticket of a unit that is done is ended, and the old array stays.
+    Ends(usize),
     /// Whether a look-up by a probe finds a key, and how many keys the probe is asked of.
     Asks(u64, bool, u64),
     /// The array that is there, or is made, has so many buckets.
@@ -78,8 +85,8 @@ pub(crate) fn tell(rt: &impl Abort, alloc: Global, stories: &[Story]) -> Result<
     for story in stories {
         assert!(rt; story.minimum <= 4096);
         let mut table = new_map(alloc, story.hasher, story.minimum);
-        play(rt, alloc, &mut table, story.name, story.start)?;
-        play(rt, alloc, &mut table, story.name, story.steps)?;
+        play(rt, &mut table, story.name, story.start)?;
+        play(rt, &mut table, story.name, story.steps)?;
     }
     Ok(())
 }
@@ -88,43 +95,44 @@ pub(crate) fn tell(rt: &impl Abort, alloc: Global, stories: &[Story]) -> Result<
 pub(crate) fn new_map(alloc: Global, hasher: ScriptHash, minimum: usize) -> Map
     requires { minimum ≤ 4096 }
 {
-    HashTable::new(alloc, hasher, minimum, 1 << 63)
+    HashTable::new(alloc, hasher, minimum, MAXIMUM_CAPACITY_LIMIT)
 }
 
 /// Takes one step after another.
 pub(crate) fn play(
     rt: &impl Abort,
-    alloc: Global,
     table: &mut Map,
     story: &'static str,
     steps: &[Step],
 ) -> Result<(), Fail> {
     for (row, step) in steps.iter().enumerate() {
-        take(rt, alloc, table, (story, row), step)?;
+        take(rt, table, (story, row), step)?;
     }
     Ok(())
 }
 
 // Takes a step, and compares what comes of it.
-fn take(rt: &impl Abort, alloc: Global, table: &mut Map, at: At, step: &Step) -> Result<(), Fail> {
+fn take(rt: &impl Abort, table: &mut Map, at: At, step: &Step) -> Result<(), Fail> {
     match step {
-        Step::Does(call, reply) => does(rt, alloc, table, at, (*call, *reply)),
-        Step::Rounds(times, rows) => rounds(rt, alloc, table, at, *times, rows),
-        Step::Puts(from, to) => puts(rt, alloc, table, at, *from, *to),
-        Step::Takes(from, to) => takes(rt, alloc, table, at, *from, *to),
-        Step::Works(from, to) => works(rt, alloc, table, at, *from, *to),
-        Step::Follows(stops) => follow(rt, table, at, stops),
-        _ => {
-            call(rt, table, at, step)?;
-            look(rt, table, at, step);
-            Ok(())
+        Step::Puts(from, to) => {
+            for key in *from..*to {
+                let done = table.insert_pair(key, key, &()).is_ok();
+                check_same(rt, done, true, (at, "puts", key));
+            }
         }
-    }
-}
-
-// Takes a step that needs no script, and may need memory.
-fn call(rt: &impl Abort, table: &mut Map, at: At, step: &Step) -> Result<(), Fail> {
-    match step {
+        Step::Takes(from, to) => {
+            for key in *from..*to {
+                check_same(rt, table.take(&key), Some((key, key)), (at, "takes", key));
+            }
+        }
+        Step::Works(from, to) => {
+            for index in *from..*to {
+                if !table.has_old_bucket(index) {
+                    return Err("no old bucket".into());
+                }
+                table.relocate_bucket_sync(index)?;
+            }
+        }
         Step::Makes(len) => check_same(rt, table.get_or_create_array()?.len(), *len, at),
         Step::Resizes(done) => check_same(rt, table.try_resize()?, *done, at),
         Step::Finishes(units) => check_same(rt, finish(table)?, Some(*units), at),
@@ -135,16 +143,17 @@ fn call(rt: &impl Abort, table: &mut Map, at: At, step: &Step) -> Result<(), Fai
         Step::Strips(first, second) => {
             check_same(rt, strip(table, (*first, *second))?, (true, true), at);
         }
-        _ => {}
+        Step::Follows(stops) => follow(rt, table, at, stops)?,
+        _ => lock(rt, table, at, step),
     }
     Ok(())
 }
 
-// Takes a step that needs neither a script nor memory of the test's own.
-fn look(rt: &impl Abort, table: &mut Map, at: At, step: &Step) {
+// Takes a step that locks a bucket, or calls on tickets.
+fn lock(rt: &impl Abort, table: &mut Map, at: At, step: &Step) {
     match step {
         Step::Lands(key, index, spot) => {
-            check_same(rt, put_at(table, *key), Some((*index, *spot)), at);
+            check_same(rt, put_at(table, *key, &()), Some((*index, *spot)), at);
         }
         Step::Leaves(key, spot) => check_same(rt, take_at(table, *key), Some(*spot), at),
         Step::Stands(key, spot) => check_same(rt, place_of(table, *key), Some(*spot), at),
@@ -153,85 +162,36 @@ fn look(rt: &impl Abort, table: &mut Map, at: At, step: &Step) {
             check_same(rt, reserved_index_of(table, *hash), Some(*index), at);
         }
         Step::Homes(key, home) => check_same(rt, home_of(table, *key), *home, at),
+        Step::Opens(ticket) => {
+            check_same(rt, table.start_incremental_rehash(), Some(*ticket), at);
+        }
+        Step::Ends(ticket) => {
+            let stays = matches!(table.end_incremental_rehash(*ticket, true), Ok(false));
+            check_same(rt, stays, true, at);
+        }
+        _ => look(rt, table, at, step),
+    }
+}
+
+// Takes a step that looks, or sets the least capacity.
+fn look(rt: &impl Abort, table: &mut Map, at: At, step: &Step) {
+    match step {
         Step::Sees(slots, word) => {
-            check_same(rt, table.num_slots(), *slots, at);
-            check_same(rt, table.rehashing_metadata(), *word, at);
+            let found = (table.num_slots(), table.rehashing_metadata());
+            check_same(rt, found, (*slots, *word), at);
         }
-        Step::Holds(key, value) => {
-            check_same(rt, table.peek_entry(key), Some((key, value)), at);
+        Step::Reads(key) => {
+            let found = table.reader_sync(key, |own: &u64, value: &u64| (*own, *value));
+            check_same(rt, found, Some((*key, *key)), at);
         }
+        Step::Holds(key) => check_same(rt, table.peek_entry(key), Some((key, key)), at),
+        Step::Counts(pairs) => check_same(rt, table.num_entries(), *pairs, at),
+        Step::Raises(by) => check_same(rt, table.reserve_capacity(*by), *by, at),
         Step::Asks(key, found, asked) => {
-            check_same(rt, asked_for(table, *key), (*found, *asked), at);
+            let mut probe = EqProbe::new(key);
+            let there = table.peek_entry_by(table.hash(key), &mut probe).is_some();
+            check_same(rt, (there, probe.asked()), (*found, *asked), at);
         }
-        _ => {}
+        _ => check_same(rt, true, false, (at, "no step")),
     }
-}
-
-// Does one call as a script.
-fn does(rt: &impl Abort, alloc: Global, table: &mut Map, at: At, row: Row) -> Result<(), Fail> {
-    let (call, reply) = row;
-    let mut calls = Vec::new(alloc);
-    calls.push(call)?;
-    let replies = run(alloc, table, calls, &())?;
-    check_same(rt, replies.get(0), Some(&reply), (at, call));
-    Ok(())
-}
-
-fn rounds(
-    rt: &impl Abort,
-    alloc: Global,
-    table: &mut Map,
-    at: At,
-    times: usize,
-    rows: &[Row],
-) -> Result<(), Fail> {
-    for _ in 0..times {
-        for row in rows {
-            does(rt, alloc, table, at, *row)?;
-        }
-    }
-    Ok(())
-}
-
-fn puts(
-    rt: &impl Abort,
-    alloc: Global,
-    table: &mut Map,
-    at: At,
-    from: u64,
-    to: u64,
-) -> Result<(), Fail> {
-    for key in from..to {
-        does(rt, alloc, table, at, (Call::Put(key, key), Reply::Done))?;
-    }
-    Ok(())
-}
-
-fn takes(
-    rt: &impl Abort,
-    alloc: Global,
-    table: &mut Map,
-    at: At,
-    from: u64,
-    to: u64,
-) -> Result<(), Fail> {
-    for key in from..to {
-        let reply = Reply::Pair(key, key);
-        does(rt, alloc, table, at, (Call::Remove(key), reply))?;
-    }
-    Ok(())
-}
-
-fn works(
-    rt: &impl Abort,
-    alloc: Global,
-    table: &mut Map,
-    at: At,
-    from: usize,
-    to: usize,
-) -> Result<(), Fail> {
-    for index in from..to {
-        does(rt, alloc, table, at, (Call::Work(index), Reply::Done))?;
-    }
-    Ok(())
 }

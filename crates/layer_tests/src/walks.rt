@@ -11,56 +11,36 @@ use crate::growth::DOUBLED;
 use crate::steps::steps;
 use crate::tables::Step::*;
 use crate::tables::{Step, Story, new_map, play, tell};
-use crate::tickets::TWO_UNITS;
 use bucket_slots::bucket::{AllocError, Bucket, MAP};
-use bucket_table::script::Call::*;
-use bucket_table::script::Reply::*;
 use bucket_table::script::ScriptHash;
 use bucket_table::tickets::TICKET_STEP;
-use std::alloc::Global;
-use std::process::Abort;
 use std::test::Fail;
 
 type Pairs = Bucket<u64, u64, (), MAP>;
 
-// A map of four buckets, the first with keys 0 to 31, and the third with the other seven.
-const SEVEN_BEHIND: &[Step] = steps! {
-    Puts(0, 31), Puts(128, 159), Puts(31, 32), Does(Read(0), Value(0)), Sees(128, None),
-    Takes(128, 152)
+// An old array of 128 buckets, two units, beside one of 256.
+const TWO_UNITS: &[Step] = steps! {
+    Puts(5, 6), Sees(4096, None), Raises(4096), Sees(8192, Some(0)), Holds(5)
 };
 
-// A map of 63 pairs that has just doubled to four buckets.
-fn doubled_map(rt: &impl Abort, alloc: Global) -> Result<Map, Fail> {
-    let mut table = new_map(alloc, ScriptHash::Spread, 0);
-    play(rt, alloc, &mut table, "a growth", DOUBLED)?;
-    Ok(table)
-}
-
-#[test]
-fn a_walk_sees_each_bucket_and_each_pair_once(rt: HostRuntime) -> Result<(), Fail> {
-    let mut table = doubled_map(&rt, rt.alloc())?;
-    let mut buckets: usize = 0;
-    let mut pairs: usize = 0;
-    let mut counts = |bucket: &Pairs| -> bool {
-        buckets = buckets.wrapping_add(1);
-        pairs = pairs.wrapping_add(bucket.len());
-        true
-    };
-    table.for_each_reader_sync(&mut counts)?;
-    check_same(&rt, (buckets, pairs), (4, 63), "a whole walk");
-    Ok(())
-}
+// A map of four buckets, the first with keys 0 to 31, and the third with the other seven.
+const SEVEN_BEHIND: &[Step] = steps! {
+    Puts(0, 31), Puts(128, 159), Puts(31, 32), Reads(0), Sees(128, None), Takes(128, 152)
+};
 
 #[test]
 fn a_walk_that_is_stopped_has_seen_one_bucket(rt: HostRuntime) -> Result<(), Fail> {
-    let mut table = doubled_map(&rt, rt.alloc())?;
+    let mut table = new_map(rt.alloc(), ScriptHash::Spread, 0);
+    play(&rt, &mut table, "a growth", DOUBLED)?;
+    let mut buckets: usize = 0;
     let mut pairs: usize = 0;
     let mut stops = |bucket: &Pairs| -> bool {
+        buckets = buckets.wrapping_add(1);
         pairs = pairs.wrapping_add(bucket.len());
         false
     };
     table.for_each_reader_sync(&mut stops)?;
-    check_same(&rt, pairs, 32, "the first bucket");
+    check_same(&rt, (buckets, pairs), (1, 32), "the first bucket");
     check_same(&rt, table.rehashing_metadata(), None, "its unit");
     Ok(())
 }
@@ -117,11 +97,11 @@ fn take_key(bucket: &mut Pairs, key: u64) -> bool
 const STORIES: &[Story] = steps! {
     Story { name: "a rehash is finished unit by unit", hasher: ScriptHash::Spread, minimum: 4096,
         start: TWO_UNITS, steps: steps! {
-            Finishes(2), Sees(8192, None), Finishes(0), Sees(8192, None), Holds(5, 50) } },
+            Finishes(2), Sees(8192, None), Finishes(0), Sees(8192, None), Holds(5) } },
     Story { name: "a unit that is done is finished no more", hasher: ScriptHash::Spread,
         minimum: 4096, start: TWO_UNITS, steps: steps! {
-            Does(Start, Ticket(0)), Works(0, 64), Does(End(0, true), Ended(false)),
-            Sees(8192, Some(2048)), Finishes(1), Sees(8192, None), Holds(5, 50) } },
+            Opens(0), Works(0, 64), Ends(0), Sees(8192, Some(2048)), Finishes(1),
+            Sees(8192, None), Holds(5) } },
     Story { name: "a look-up asks the keys with the byte in two homes",
         hasher: ScriptHash::Spread, minimum: 0, start: DOUBLED,
         steps: steps! { Asks(5, true, 1), Asks(40, false, 0), Sees(128, Some(0)) } },
@@ -140,13 +120,10 @@ const STORIES: &[Story] = steps! {
                 Stop { keys: (0, 32), bucket: (0, 128), takes: true },
                 Stop { keys: (152, 159), bucket: (1, 64), takes: false },
             ]),
-            Sees(64, None), Does(Count, Number(7)) } },
+            Sees(64, None), Counts(7) } },
     Story { name: "a sweep goes on over the shrink that it brings", hasher: ScriptHash::Spread,
         minimum: 0, start: SEVEN_BEHIND, steps: steps! {
-            Sweeps(128, 32), Sees(64, None), Does(Count, Number(7)), Holds(152, 152) } },
-    Story { name: "a walk counts each bucket and each pair, and a clearing leaves none",
-        hasher: ScriptHash::Spread, minimum: 0, start: DOUBLED, steps: steps! {
-            Does(Walk, Walked(4, 63)), Does(Clear, Cleared(63)), Sees(0, None) } }
+            Sweeps(128, 32), Sees(64, None), Counts(7), Holds(152) } }
 };
 
 #[test]

@@ -1,6 +1,5 @@
 //! Blocks of free slots, reserved and given up: with their bucket, by a kill, and by a clearing.
 use crate::by_key::{Counted, put_keys};
-use crate::refused;
 use bucket_slots::bucket::{INDEX, MAP};
 use std::io;
 use std::rc::Rc;
@@ -19,8 +18,8 @@ const KEYS: u64 = 37;
 /// The blocks go with their bucket, which has a few pairs.
 pub(crate) fn drop_them(rt: &HostRuntime) -> io::Result<()> {
     let counted = Rc::new(rt.alloc(), 0)?;
-    let bucket = reserved::<MAP>(rt)?;
-    let (bucket, block) = with_keys(bucket, &counted)?;
+    let mut bucket = reserved::<MAP>(rt)?;
+    let (block, _) = put_keys(&mut bucket, KEYS, &counted)?;
     print!(rt; "{BLOCKS} blocks reserved: the last of {KEYS} pairs is in block {block}; ")?;
     drop(bucket);
     println!(rt; "dropped: {} value is left", Rc::strong_count(&counted))
@@ -34,7 +33,7 @@ pub(crate) fn kill_them(rt: &HostRuntime) -> io::Result<()> {
         return Err(io::Error::from(io::ErrorKind::InvalidData));
     }
     bucket.kill();
-    let (_, block) = with_keys(bucket, &counted)?;
+    let (block, _) = put_keys(&mut bucket, KEYS, &counted)?;
     println!(rt; "{BLOCKS} blocks killed: the last of {KEYS} pairs is in block {block}")
 }
 
@@ -43,7 +42,7 @@ pub(crate) fn clear_them(rt: &HostRuntime) -> io::Result<()> {
     let counted = Rc::new(rt.alloc(), 0)?;
     let mut bucket = reserved::<INDEX>(rt)?;
     let taken = bucket.clear_unreachable_entries(&());
-    let (_, block) = with_keys(bucket, &counted)?;
+    let (block, _) = put_keys(&mut bucket, KEYS, &counted)?;
     print!(rt; "{BLOCKS} blocks cleared: {taken} own slots taken; ")?;
     println!(rt; "the last of {KEYS} pairs is in block {block}")
 }
@@ -53,15 +52,6 @@ fn reserved<const TYPE: u8>(rt: &HostRuntime) -> io::Result<Counted<TYPE>> {
     let mut bucket = Counted::<TYPE>::new(rt.alloc());
     match bucket.reserve_slots(SLOTS) {
         Ok(()) => Ok(bucket),
-        Err(_) => Err(refused()),
+        Err(_) => Err(io::Error::from(io::ErrorKind::OutOfMemory)),
     }
-}
-
-/// The bucket with the keys, and the block of the last.
-fn with_keys<const TYPE: u8>(
-    mut bucket: Counted<TYPE>,
-    counted: &Rc<u64>,
-) -> io::Result<(Counted<TYPE>, usize)> {
-    let (block, _) = put_keys(&mut bucket, KEYS, counted)?;
-    Ok((bucket, block))
 }

@@ -3,7 +3,6 @@ ghost use Rattle.std.specs.Prelude.{◌≢◌, IfSome, IsTrue};
 ghost use Rattle.bucket_slots.specs.BucketView.{slot_in};
 ghost use Rattle.bucket_slots.specs.Slots.{is_live};
 
-use crate::refused;
 use bucket_slots::bucket::{Bucket, EntryPtr, INDEX};
 use std::io;
 use std::rc::Rc;
@@ -24,7 +23,7 @@ pub(crate) fn put_keys<const TYPE: u8>(
     let mut last = (0, 0);
     for key in 0..keys {
         let Ok(at) = bucket.insert(HASH, (key, counted.clone()?), &()) else {
-            return Err(refused());
+            return Err(io::Error::from(io::ErrorKind::OutOfMemory));
         };
         last = (at.block(), at.pos());
     }

@@ -15,12 +15,5 @@ fn main(rt: HostRuntime) -> io::Result<()> {
     blocks::drop_them(&rt)?;
     blocks::kill_them(&rt)?;
     blocks::clear_them(&rt)?;
-    one_hash::remove_in_reverse(&rt)?;
-    one_hash::remove_in_order(&rt)?;
-    one_hash::drop_with_the_bucket(&rt)
-}
-
-/// The error of a run that found no memory.
-pub(crate) fn refused() -> io::Error {
-    io::Error::from(io::ErrorKind::OutOfMemory)
+    one_hash::come_and_go(&rt)
 }

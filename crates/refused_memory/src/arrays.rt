@@ -11,7 +11,11 @@ type Array = BucketArray<u64, u64, (), MAP>;
 // Capacities, and the slots of their arrays.
 const CAPACITIES: [(usize, usize); 3] = [(0, 64), (65, 128), (1000, 1024)];
 
-/// Makes an array for each capacity, and gives it up again.
+// A capacity whose array has 256 buckets, in four parts.
+const IN_PARTS: usize = 8192;
+
+/// Makes an array for each capacity, and gives it up again; and then one of several parts, and fills a
+/// bucket in each, which takes no more memory.
 pub(crate) fn arrays(alloc: Global) -> Outcome {
     for (capacity, slots) in CAPACITIES {
         let Ok(array) = Array::alloc(alloc, capacity) else {
@@ -21,14 +25,6 @@ pub(crate) fn arrays(alloc: Global) -> Outcome {
             return Outcome::Wrong;
         }
     }
-    array_in_parts(alloc)
-}
-
-// A capacity whose array has 256 buckets, in four parts.
-const IN_PARTS: usize = 8192;
-
-/// Makes an array of several parts, and fills a bucket in each, which takes no more memory.
-fn array_in_parts(alloc: Global) -> Outcome {
     let Ok(mut array) = Array::alloc(alloc, IN_PARTS) else {
         return Outcome::AsBefore;
     };

@@ -1,6 +1,4 @@
 //! What a map of few keys would have, kept in an array, which takes no memory.
-use bucket_table::script::{Call, Reply};
-
 /// How many keys there are: those below.
 pub(crate) const KEYS: u64 = 512;
 
@@ -51,40 +49,5 @@ impl Beside {
             self.set(key, None);
         }
         len.saturating_sub(self.len())
-    }
-
-    /// Whether the reply is one of the map's, which changes with it. A refused call changes nothing,
-    /// and what is said of tickets is not the map's.
-    pub(crate) fn follow(&mut self, call: Call<u64, u64>, reply: Reply<u64, u64>) -> bool {
-        if reply == Reply::Refused {
-            return matches!(call, Call::Put(..) | Call::Remove(_) | Call::Work(_));
-        }
-        match call {
-            Call::Put(key, value) => match self.value(key) {
-                Some(_) => reply == Reply::Present,
-                None => {
-                    self.set(key, Some(value));
-                    reply == Reply::Done
-                }
-            },
-            Call::Remove(key) => {
-                let wanted = match self.value(key) {
-                    Some(value) => Reply::Pair(key, value),
-                    None => Reply::Absent,
-                };
-                self.set(key, None);
-                reply == wanted
-            }
-            Call::Read(key) | Call::Peek(key) => match self.value(key) {
-                Some(value) => reply == Reply::Value(value),
-                None => reply == Reply::Absent,
-            },
-            Call::Count => reply == Reply::Number(self.len()),
-            Call::Reserve(asked) => reply == Reply::Number(asked),
-            Call::Start => matches!(reply, Reply::Ticket(_) | Reply::NoTicket),
-            Call::Work(_) => matches!(reply, Reply::Done | Reply::NoWork),
-            Call::End(..) => matches!(reply, Reply::Ended(_) | Reply::Fault(_)),
-            _ => false,
-        }
     }
 }

@@ -4,9 +4,10 @@ ghost use Rattle.bucket_table.specs.Finishing.{IsUnopened};
 
 use crate::beside::Beside;
 use bucket_slots::bucket::{Bucket, EntryPtr, MAP};
-use bucket_table::hash_table::{HashTable, LockedBucket};
-use bucket_table::script::ScriptHash;
+use bucket_table::hash_table::{HashTable, LockedBucket, Missing};
+use bucket_table::script::{Call, Reply, ScriptHash, run};
 use bucket_table::tickets::TICKET_STEP;
+use std::alloc::Global;
 
 /// A map of numbers.
 pub(crate) type Map = HashTable<u64, u64, ScriptHash, (), MAP>;
@@ -14,12 +15,14 @@ pub(crate) type Map = HashTable<u64, u64, ScriptHash, (), MAP>;
 type Pairs = Bucket<u64, u64, (), MAP>;
 
 /// What came of a call.
-#[derive(Clone, Copy)]
+#[derive(Drop)]
 pub(crate) enum Answer {
     /// What it must answer.
     Right,
-    /// What it must answer where a request was refused before.
-    Otherwise,
+    /// What is seen where a resize was left out.
+    Unresized,
+    /// What is seen where a unit was given up, or an old bucket stayed.
+    Unmoved,
     /// Want of memory, and what must be seen of it in the call's own result.
     Refused,
     /// Anything else.
@@ -58,13 +61,32 @@ pub(crate) fn put(table: &mut Map, beside: &mut Beside, key: u64) -> Answer {
     }
 }
 
+/// Runs a script, which puts a new key, reads it and takes it out. Refused, it has done nothing.
+pub(crate) fn run_calls(alloc: Global, table: &mut Map, key: u64) -> Answer {
+    let mut calls = Vec::new(alloc);
+    for call in [Call::Put(key, key), Call::Read(key), Call::Remove(key)] {
+        if calls.push(call).is_err() {
+            return Answer::Refused;
+        }
+    }
+    let Ok(replies) = run(alloc, table, calls, &()) else {
+        return Answer::Refused;
+    };
+    match replies.as_slice() {
+        [Reply::Done, Reply::Value(read), Reply::Pair(taken, value)] => {
+            right_if((*read, *taken, *value) == (key, key, key))
+        }
+        _ => Answer::Wrong,
+    }
+}
+
 /// Takes a key out, which may shrink the table.
 pub(crate) fn take_out(table: &mut Map, beside: &mut Beside, key: u64) -> Answer {
     let hash = table.hash(&key);
     let locked = match table.optional_writer_sync(hash) {
-        Ok(Some(locked)) => locked,
-        Ok(None) => return Answer::Wrong,
-        Err(_) => return Answer::Refused,
+        Ok(locked) => locked,
+        Err(Missing::Nothing) => return Answer::Wrong,
+        Err(Missing::Memory) => return Answer::Refused,
     };
     let mut at = locked.search(&key, hash);
     if !at.is_valid() {
@@ -135,6 +157,23 @@ pub(crate) fn old_bucket(table: &Map, index: usize) -> Option<(bool, usize)> {
     Some((bucket.is_killed(), bucket.len()))
 }
 
+/// Whether a key stands in an own slot of a bucket: of the old array, where one stands, else of the
+/// current one.
+pub(crate) fn stands(table: &Map, key: u64, index: usize, slot: usize) -> bool {
+    let array = match (table.linked_array(), table.array()) {
+        (Some(old), _) => old,
+        (None, Some(current)) => current,
+        (None, None) => return false,
+    };
+    array.room();
+    if index >= array.len() {
+        return false;
+    }
+    // The low byte of a hash is that of its key, and a bucket looks at no more.
+    let at = array.bucket(index).get_entry_ptr(&key, key);
+    at.is_valid() && (at.block(), at.pos()) == (0, slot)
+}
+
 /// Finishes the rehash, of which so many units are left.
 pub(crate) fn finish(table: &mut Map, units: usize) -> Answer {
     if has_open_ticket(table) {
@@ -190,17 +229,17 @@ pub(crate) fn visit(table: &mut Map, whole: Lent, refused: Lent) -> Answer {
 pub(crate) fn meet(table: &mut Map, first: u64, second: u64) -> Answer {
     let mut at = EntryPtr::null();
     let locked = match table.first_sync(&mut at) {
-        Ok(Some(locked)) => locked,
-        Ok(None) => return Answer::Wrong,
-        Err(_) => return refused_if(!at.is_valid()),
+        Ok(locked) => locked,
+        Err(Missing::Nothing) => return Answer::Wrong,
+        Err(Missing::Memory) => return refused_if(!at.is_valid()),
     };
     if !stands_at(&locked, &at, first) {
         return Answer::Wrong;
     }
     match locked.next_sync(&mut at) {
-        Ok(Some(locked)) => right_if(stands_at(&locked, &at, second)),
-        Ok(None) => Answer::Wrong,
-        Err(_) => refused_if(!at.is_valid()),
+        Ok(locked) => right_if(stands_at(&locked, &at, second)),
+        Err(Missing::Nothing) => Answer::Wrong,
+        Err(Missing::Memory) => refused_if(!at.is_valid()),
     }
 }
 

@@ -1,16 +1,17 @@
 //! What came of a part of the trial.
 
 /// What came of a part of the trial.
-#[derive(Clone, Copy)]
+#[derive(Drop)]
 pub(crate) enum Outcome {
     /// Every reply and every pair is the expected one.
     Done,
     /// A call was refused, and all pairs are as they were.
     AsBefore,
-    /// Every pair and every reply of the map is the expected one, though an array or a ticket isn't.
-    Otherwise,
-    /// The program had no memory for the list of calls, and all pairs are as they were.
-    NoScript,
+    /// A resize was left out, since one of its requests was refused. All else is as ever.
+    Unresized,
+    /// A request was refused to a look-up: a unit was given up, or an old bucket stayed, and the
+    /// pair was found all the same.
+    Unmoved,
     /// A reply or a pair isn't the expected one.
     Wrong,
 }
@@ -21,8 +22,8 @@ impl Outcome {
         match self {
             Outcome::Done => "done",
             Outcome::AsBefore => "as before",
-            Outcome::Otherwise => "otherwise",
-            Outcome::NoScript => "no script",
+            Outcome::Unresized => "not resized",
+            Outcome::Unmoved => "not moved",
             Outcome::Wrong => "wrong",
         }
     }
@@ -32,8 +33,8 @@ impl Outcome {
         match self {
             Outcome::Done | Outcome::Wrong => 0,
             Outcome::AsBefore => 10,
-            Outcome::NoScript => 11,
-            Outcome::Otherwise => 13,
+            Outcome::Unresized => 13,
+            Outcome::Unmoved => 14,
         }
     }
 }

@@ -1,6 +1,5 @@
 -- What a session holds of the lines that it took.
 use Rattle.std.specs.Prelude.{ℕ, ◌≡◌, ◌⊎◌, ◌+◌, ◌≤◌, List, [], ◌∷◌, ◌++◌, Option, None, Some, Result, Ok, Err, length}
-use Rattle.std.specs.Io.KnownBytes.{Appends, append_known}
 use Rattle.bucket_slots.specs.declared.bucket.TheConstants.{CACHE, INDEX, MAP}
 use Rattle.bucket_table.specs.ArraysView.{TableView}
 use Rattle.bucket_table.specs.MapState.{state_of}
@@ -11,6 +10,7 @@ use Rattle.bucket_table.specs.declared.script.call.Call.{Call}
 use Rattle.bucket_table.specs.declared.script.hashes.ScriptHash.{ScriptHash}
 use Rattle.bucket_table.specs.declared.script.reply.Reply.{Reply}
 use Rattle.bhtable.specs.Answers.{AreAnswers, IsUnreadable, ScriptStep, ScriptTable}
+use Rattle.bhtable.specs.Layout.Growing.{HasGrown}
 use Rattle.bhtable.specs.Requests.{Asks}
 use Rattle.bhtable.specs.Words.{parts_of}
 use Rattle.bhtable.specs.declared.request.Request.TheVariants.{Call as Calls}
@@ -52,7 +52,15 @@ pub record HasReplied (start output : Option (List ℕ)) (waiting : List ℕ) (l
     (table : Option ScriptTable) : Type 0 where
   pub text : List ℕ
   pub answers : AreAnswers None lines text table
-  pub written : Appends start (append_known output waiting) text
+  pub written : HasGrown start [] output waiting text
+
+-- the first of the lines are answered so
+pub record HasRepliedSome (start output : Option (List ℕ)) (waiting : List ℕ) (lines : List (List ℕ)) : Type 0 where
+  pub first : List (List ℕ)
+  pub others : List (List ℕ)
+  pub table : Option ScriptTable
+  pub in_order : lines ≡ first ++ others
+  pub replied : HasReplied start output waiting first table
 
 -- the first of these lines are answered, and the calls that the others ask for wait
 pub record HasTaken (start output : Option (List ℕ)) (session : Session) (lines : List (List ℕ)) : Type 0 where
@@ -83,12 +91,19 @@ pub record HasFoundBad (start output : Option (List ℕ)) (session : Session) (l
   pub taken : HasTaken start output session first
   pub unreadable : IsUnreadable (table_at_hand session.table) line
 
--- what is left of the lines that were taken after a stop; a writer that fails leaves nothing known
+-- the writer failed: no call waits and no reply, and what the output lacks of the answers of the first lines is lost
+pub record HasFailed (start output : Option (List ℕ)) (session : Session) (lines : List (List ℕ)) : Type 0 where
+  pub no_call : session.calls.items ≡ []
+  pub no_reply : session.replies ≡ []
+  pub lost : List ℕ
+  pub replied : HasRepliedSome start output lost lines
+
+-- what is left of the lines that were taken after a stop
 abbrev pub HasStopped : Stop → Option (List ℕ) → Option (List ℕ) → Session → List (List ℕ) → Type 0
 HasStopped (BadLine number) start output session lines = HasTaken start output session lines
 HasStopped NoMemory start output session lines = HasTakenSome start output session lines
 HasStopped InputFailed start output session lines = ⊥
-HasStopped OutputFailed start output session lines = session.calls.items ≡ []
+HasStopped OutputFailed start output session lines = HasFailed start output session lines
 
 -- a stop at a bad line comes at a line that can't be read
 abbrev pub IsBadAt : Stop → Option ScriptTable → List ℕ → Type 0
@@ -103,4 +118,4 @@ HasEnded (Ok done) start output session lines = HasTaken start output session li
 HasEnded (Err (BadLine number)) start output session lines = HasFoundBad start output session lines number
 HasEnded (Err NoMemory) start output session lines = HasTakenSome start output session lines
 HasEnded (Err InputFailed) start output session lines = HasTakenSome start output session lines
-HasEnded (Err OutputFailed) start output session lines = session.calls.items ≡ []
+HasEnded (Err OutputFailed) start output session lines = HasFailed start output session lines

@@ -1,6 +1,8 @@
 -- What is in the output when a script ends, also before its input does.
-use Rattle.std.specs.Prelude.{ℕ, ◌≡◌, List, [], Option, IfSome, codes}
-use Rattle.bhtable.specs.Outputs.{HasAnsweredSome, HasBadLine}
+use Rattle.std.specs.Prelude.{ℕ, ◌≡◌, ◌⊎◌, List, [], Option, IfSome, codes}
+use Rattle.std.specs.Io.KnownBytes.{Appends}
+use Rattle.bhtable.specs.Layout.Growing.{IsCutOff}
+use Rattle.bhtable.specs.Outputs.{HasAnsweredSome, HasBadLine, HasBegun}
 use Rattle.bhtable.specs.Texts.{line_of}
 use Rattle.bhtable.specs.declared.stop.Stop.{Stop}
 use Rattle.bhtable.specs.declared.stop.Stop.TheVariants.{BadLine, NoMemory, InputFailed, OutputFailed}
@@ -9,13 +11,6 @@ use Rattle.bhtable.specs.declared.stop.Stop.TheVariants.{BadLine, NoMemory, Inpu
 abbrev pub IsInput : Option (List ℕ) → List ℕ → Type 0
 IsInput known bytes = IfSome known (λ all. all ≡ bytes)
 
--- the status after a stop
-abbrev pub status_of : Stop → ℕ
-status_of (BadLine number) = 2
-status_of NoMemory = 3
-status_of InputFailed = 4
-status_of OutputFailed = 4
-
 -- there is no memory, or the output can't be written
 abbrev pub IsLack : Stop → Type 0
 IsLack (BadLine number) = ⊥
@@ -23,16 +18,20 @@ IsLack NoMemory = Unit {0}
 IsLack InputFailed = ⊥
 IsLack OutputFailed = Unit {0}
 
--- the output up to a stop, before a last line that tells of it; a writer that fails leaves nothing known
+-- the output up to a stop, before a last line that tells of it; a writer that failed has a beginning
 abbrev pub IsOutputUpTo : Stop → List (List ℕ) → Option (List ℕ) → Option (List ℕ) → Type 0
 IsOutputUpTo (BadLine number) lines old new = HasBadLine lines old new
 IsOutputUpTo NoMemory lines old new = HasAnsweredSome lines old new []
 IsOutputUpTo InputFailed lines old new = HasAnsweredSome lines old new []
-IsOutputUpTo OutputFailed lines old new = Unit {0}
+IsOutputUpTo OutputFailed lines old new = HasBegun lines old new
 
--- the last line that a stop adds to what is in the output already
-abbrev pub last_line_of : Stop → List ℕ
-last_line_of (BadLine number) = []
-last_line_of NoMemory = line_of (codes "no memory")
-last_line_of InputFailed = line_of (codes "input failed")
-last_line_of OutputFailed = []
+-- the line was written, with the status that it tells of, or a beginning of it, with status 4
+abbrev pub HasLast : List ℕ → ℕ → ℕ → Option (List ℕ) → Option (List ℕ) → Type 0
+HasLast line told status old new = ((status ≡ told) × Appends old new line) ⊎ ((status ≡ 4) × IsCutOff old new line)
+
+-- the status after a stop, and its last line; a bad line is told of already, and a writer that failed is written to no more
+abbrev pub IsReported : Stop → ℕ → Option (List ℕ) → Option (List ℕ) → Type 0
+IsReported (BadLine number) status old new = (status ≡ 2) × (new ≡ old)
+IsReported NoMemory status old new = HasLast (line_of (codes "no memory")) 3 status old new
+IsReported InputFailed status old new = HasLast (line_of (codes "input failed")) 4 status old new
+IsReported OutputFailed status old new = (status ≡ 4) × (new ≡ old)

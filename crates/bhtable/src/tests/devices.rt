@@ -35,71 +35,74 @@ impl Read for Pieces<'_> {
     }
 }
 
-#[test]
-fn reads_lines_that_come_in_pieces(rt: HostRuntime) -> Result<(), Fail> {
-    for piece_len in [1, 2, 3, 7, 20, 64] {
-        let input = Pieces {
-            rest: SCRIPT.as_bytes(),
-            piece_len,
-            reads_left: 1000,
-            fault: ErrorKind::Other,
-        };
-        check_text(&rt, rt.alloc(), input, REPLIES, 0)?;
-    }
-    Ok(())
-}
-
-#[test]
-fn repeats_a_read_that_is_interrupted(rt: HostRuntime) -> Result<(), Fail> {
-    for reads_left in 0..12usize {
-        let input = Pieces {
-            rest: SCRIPT.as_bytes(),
-            piece_len: 5,
-            reads_left,
-            fault: ErrorKind::Interrupted,
-        };
-        check_text(&rt, rt.alloc(), input, REPLIES, 0)?;
-    }
-    Ok(())
-}
-
-// The output where a reader of ten bytes at a time fails after this many reads.
-const INPUT_FAULTS: [(usize, &str); 5] = [
-    (0, "input failed\n"),
-    (1, "input failed\n"),
-    (2, "ok\ninput failed\n"),
-    (3, "ok\nok\ninput failed\n"),
-    (4, "ok\nok\nvalue 10\ninput failed\n"),
+// How many bytes a reader gives at a time, after how many reads it fails, how, what comes out then,
+// and the status.
+const READERS: [(usize, usize, ErrorKind, &str, u8); 23] = [
+    (1, 1000, ErrorKind::Other, REPLIES, 0),
+    (2, 1000, ErrorKind::Other, REPLIES, 0),
+    (3, 1000, ErrorKind::Other, REPLIES, 0),
+    (7, 1000, ErrorKind::Other, REPLIES, 0),
+    (20, 1000, ErrorKind::Other, REPLIES, 0),
+    (64, 1000, ErrorKind::Other, REPLIES, 0),
+    // A read that is interrupted is made again.
+    (5, 0, ErrorKind::Interrupted, REPLIES, 0),
+    (5, 1, ErrorKind::Interrupted, REPLIES, 0),
+    (5, 2, ErrorKind::Interrupted, REPLIES, 0),
+    (5, 3, ErrorKind::Interrupted, REPLIES, 0),
+    (5, 4, ErrorKind::Interrupted, REPLIES, 0),
+    (5, 5, ErrorKind::Interrupted, REPLIES, 0),
+    (5, 6, ErrorKind::Interrupted, REPLIES, 0),
+    (5, 7, ErrorKind::Interrupted, REPLIES, 0),
+    (5, 8, ErrorKind::Interrupted, REPLIES, 0),
+    (5, 9, ErrorKind::Interrupted, REPLIES, 0),
+    (5, 10, ErrorKind::Interrupted, REPLIES, 0),
+    (5, 11, ErrorKind::Interrupted, REPLIES, 0),
+    // What came before the input failed is answered.
+    (10, 0, ErrorKind::Other, "input failed\n", 4),
+    (10, 1, ErrorKind::Other, "input failed\n", 4),
+    (10, 2, ErrorKind::Other, "ok\ninput failed\n", 4),
+    (10, 3, ErrorKind::Other, "ok\nok\ninput failed\n", 4),
+    (
+        10,
+        4,
+        ErrorKind::Other,
+        "ok\nok\nvalue 10\ninput failed\n",
+        4,
+    ),
 ];
 
 #[test]
-fn answers_what_came_before_the_input_failed(rt: HostRuntime) -> Result<(), Fail> {
-    for (reads_left, text) in INPUT_FAULTS {
+fn lines_that_come_in_pieces_are_answered_until_the_input_fails(
+    rt: HostRuntime,
+) -> Result<(), Fail> {
+    for (row, (piece_len, reads_left, fault, text, status)) in READERS.iter().enumerate() {
         let input = Pieces {
             rest: SCRIPT.as_bytes(),
-            piece_len: 10,
-            reads_left,
-            fault: ErrorKind::Other,
+            piece_len: *piece_len,
+            reads_left: *reads_left,
+            fault: *fault,
         };
-        check_text(&rt, rt.alloc(), input, text, 4)?;
+        check_text(&rt, rt.alloc(), input, text, *status, row)?;
     }
     Ok(())
 }
 
-// Takes bytes a few at a time, and fails at one of its writes.
+// Takes bytes a few at a time, and fails at one of its writes alone.
 #[derive(Drop)]
 struct Sink<'a> {
     written: &'a mut Vec<u8>,
     piece_len: usize,
     writes_left: usize,
+    fault: ErrorKind,
 }
 
 impl Write for Sink<'_> {
     fn write(&mut self, buf: &[u8]) -> io::Result<usize> {
-        if self.writes_left == 0 {
-            return Err(io::Error::from(ErrorKind::StorageFull));
-        }
-        self.writes_left -= 1;
+        let Some(writes_left) = self.writes_left.checked_sub(1) else {
+            self.writes_left = usize::MAX;
+            return Err(io::Error::from(self.fault));
+        };
+        self.writes_left = writes_left;
         let count = self.piece_len.min(buf.len());
         self.written.extend_from_slice(&buf[..count])?;
         Ok(count)
@@ -123,32 +126,47 @@ const OUTPUT_FAULTS: [(usize, &str, u8); 6] = [
 #[test]
 fn ends_where_the_output_fails(rt: HostRuntime) -> Result<(), Fail> {
     for (writes_left, text, status) in OUTPUT_FAULTS {
-        check_fault(&rt, rt.alloc(), writes_left, text, status)?;
+        let fault = (writes_left, ErrorKind::StorageFull);
+        check_fault(&rt, rt.alloc(), fault, text, status)?;
     }
     Ok(())
 }
 
-// What is written before the fault, and the status then.
+#[test]
+fn repeats_a_write_that_is_interrupted(rt: HostRuntime) -> Result<(), Fail> {
+    for writes_left in 0..7usize {
+        let fault = (writes_left, ErrorKind::Interrupted);
+        check_fault(&rt, rt.alloc(), fault, "ok\nok\nvalue 10\nbad line 4\n", 2)?;
+    }
+    Ok(())
+}
+
+// What is written with a fault after this many writes, and the status then.
 fn check_fault(
     rt: &impl Abort,
     alloc: Global,
-    writes_left: usize,
+    fault: (usize, ErrorKind),
     text: &str,
     status: u8,
 ) -> Result<(), Fail> {
     let mut written = Vec::new(alloc);
-    let ended = serve_into(alloc, &mut written, writes_left);
+    let ended = serve_into(alloc, &mut written, fault);
     check_same(rt, ended, status, text);
     check_same(rt, std::str::from_utf8(written.as_slice())?, text, status);
     Ok(())
 }
 
 // Serves a script whose last line can't be read, to a writer that fails after these writes.
-fn serve_into(alloc: Global, written: &mut Vec<u8>, writes_left: usize) -> u8 {
+fn serve_into(
+    alloc: Global,
+    written: &mut Vec<u8>,
+    (writes_left, fault): (usize, ErrorKind),
+) -> u8 {
     let mut output = Sink {
         written,
         piece_len: 5,
         writes_left,
+        fault,
     };
     let script = b"new map id 0 64\nput 1 10\npeek 1\npoke 1\n";
     serve(alloc, script.as_slice(), &mut output)

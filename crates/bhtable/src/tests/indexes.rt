@@ -1,68 +1,43 @@
 //! What an index answers, and what epochs do to it.
-use super::{check_after_puts, check_text};
-use std::test::Fail;
+use super::Row::{Each, Say};
+use super::{Row, Story, rows};
 
-// How many keys are put, the lines after that, and their replies.
-const SCRIPTS: [(u8, (&str, &str)); 5] = [
-    // Removed pairs are gone at once, though their slots are marked with an epoch that is equal to
-    // their hash's byte; once marks go, their slots are taken again.
-    (
-        32,
-        (
-            "remove 0\nremove 1\nremove 2\nremove 3\npeek 0\nput 32 32\nepoch 0 drop\nput 33 33\ncount\n",
-            "pair 0 0\npair 1 1\npair 2 2\npair 3 3\nabsent\nok\nok\nok\n30\n",
-        ),
-    ),
-    // A key comes again beside its own mark, and goes again.
-    (
-        1,
-        (
-            "remove 0\nput 0 5\npeek 0\nremove 0\nremove 0\nhas\n",
-            "pair 0 0\nok\nvalue 5\npair 0 5\nabsent\nfalse\n",
-        ),
-    ),
-    // An epoch stays until the next, or until a fresh table.
-    (
-        2,
-        (
-            "epoch 255 keep\nremove 0\nepoch 007 drop\nread 1\nnew index id 0 64\ncount\n",
-            "ok\npair 0 0\nok\nvalue 1\nok\n0\n",
-        ),
-    ),
-    // A write reaches a live pair alone.
-    (
-        2,
-        (
-            "remove 1\nwrite 1 9\nwrite 0 8\nread 0\n",
-            "pair 1 1\nabsent\nold 0\nvalue 8\n",
-        ),
-    ),
-    // An index is no cache.
-    (1, ("touch 0\nevict 0\n", "wrong kind\nwrong kind\n")),
-];
+// One hash for all keys, and key 0 alone.
+const ONE_KEY: &[Row] = rows! { Say("new index zero 0 64\nput 0 0", "ok\nok") };
 
-#[test]
-fn an_index_answers_as_a_map_while_marks_come_and_go(rt: HostRuntime) -> Result<(), Fail> {
-    for (keys, lines) in &SCRIPTS {
-        check_after_puts(
-            &rt,
-            rt.alloc(),
-            "new index zero 0 9223372036854775808\n",
-            *keys,
-            *lines,
-        )?;
-    }
-    Ok(())
-}
-
-// An epoch changes nothing in a map or a cache.
-#[test]
-fn epochs_are_set_beside_any_table(rt: HostRuntime) -> Result<(), Fail> {
-    check_text(
-        &rt,
-        rt.alloc(),
-        b"new map id 0 64\nput 1 2\nepoch 3 drop\nremove 1\nnew cache id 0 64\nepoch 3 keep\ncount\n".as_slice(),
-        "ok\nok\nok\npair 1 2\nok\nok\n0\n",
-        0,
-    )
-}
+pub(super) const STORIES: &[Story] = rows! {
+    // Each slot of a removed pair is marked with an epoch that is equal to its hash's byte. Once the
+    // marks go, those slots are taken again.
+    ("removed keys are absent while their marks are kept and after", rows! { rows! {
+        Say("new index zero 0 9223372036854775808", "ok"), Each(0, 32, "put # #", "ok"),
+        Each(0, 4, "remove #", "pair # #"), Say("peek 0", "absent"), Say("read 3", "absent"),
+        Say("remove 0", "absent"), Say("write 1 5", "absent"), Say("count", "28"),
+        Say("put 32 32", "ok"), Say("peek 32", "value 32"), Say("count", "29"),
+        Say("epoch 0 drop", "ok"), Say("put 33 33", "ok"), Say("count", "30"),
+        Say("peek 0", "absent"), Say("peek 32", "value 32"), Say("put 0 40", "ok"),
+        Say("peek 0", "value 40") } }),
+    // Key 1 has the hash 1, so that epoch 1 is equal to its byte.
+    ("a key comes again beside its marks", rows! { rows! {
+        Say("new index id 0 64", "ok"),
+        Each(0, 40, "epoch 1 keep\nput 1 1#\nremove 1\nremove 1", "ok\nok\npair 1 1#\nabsent"),
+        Each(0, 40, "epoch # drop\nput 1 2#\nput 1 3\nwrite 1 3#\nremove 1\nhas",
+            "ok\nok\npresent\nold 2#\npair 1 3#\nfalse"),
+        Say("peek 1", "absent") } }),
+    ("an epoch stays until the next, or until a fresh table", rows! { ONE_KEY, rows! {
+        Say("put 1 1", "ok"), Say("epoch 255 keep", "ok"), Say("remove 0", "pair 0 0"),
+        Say("epoch 007 drop", "ok"), Say("read 1", "value 1"), Say("new index id 0 64", "ok"),
+        Say("count", "0") } }),
+    ("a write reaches a live pair alone", rows! { ONE_KEY, rows! {
+        Say("put 1 1", "ok"), Say("remove 1", "pair 1 1"), Say("write 1 9", "absent"),
+        Say("write 0 8", "old 0"), Say("read 0", "value 8") } }),
+    ("an index touches and evicts nothing", rows! { ONE_KEY, rows! {
+        Say("touch 0", "wrong kind"), Say("evict 0", "wrong kind"), Say("count", "1") } }),
+    ("a clearing marks every pair", rows! { ONE_KEY, rows! {
+        Each(1, 40, "put # #", "ok"), Say("remove 7", "pair 7 7"), Say("clear", "cleared 39"),
+        Say("count", "0"), Say("peek 0", "absent"), Say("put 0 1", "ok"),
+        Say("read 0", "value 1") } }),
+    ("an epoch changes nothing in a map or a cache", rows! { rows! {
+        Say("new map id 0 64", "ok"), Say("put 1 2", "ok"), Say("epoch 3 drop", "ok"),
+        Say("remove 1", "pair 1 2"), Say("new cache id 0 64", "ok"), Say("epoch 3 keep", "ok"),
+        Say("count", "0") } })
+};

@@ -1,20 +1,24 @@
 -- How an array's parts hold its buckets.
-use Rattle.std.specs.Prelude.{ℕ, ◌-◌, ◌^◌, ◌<◌, ◌≡◌, List, [], ◌∷◌, ◌++◌, length, replicate, slice_index_or}
+use Rattle.std.specs.Prelude.{ℕ, ◌-◌, ◌^◌, ◌<◌, ◌≡◌, Bool, false, true, List, [], ◌∷◌, ◌++◌, length, replicate, slice_index_or}
 use Rattle.std.specs.List.{All}
 use Rattle.bucket_slots.specs.BucketView.{BucketView, empty_bucket, flattened}
 
--- the buckets of a part of this length, where some are made and those behind them are empty
-abbrev pub with_unmade : {K V : Type 0} → List (BucketView K V) → ℕ → List (BucketView K V)
-with_unmade made len = made ++ replicate (len - length made) empty_bucket
+-- what a bucket that isn't made reads as: empty, and killed where its part was released
+abbrev pub unmade_bucket : {K V : Type 0} → Bool → BucketView K V
+unmade_bucket released = record empty_bucket { killed = released }
+
+-- the buckets of a part of this length, where some are made
+abbrev pub with_unmade : {K V : Type 0} → List (BucketView K V) → ℕ → Bool → List (BucketView K V)
+with_unmade made len released = made ++ replicate (len - length made) (unmade_bucket released)
 
 -- the buckets of a part; none past the last part
 abbrev pub part_at : {K V : Type 0} → List (List (BucketView K V)) → ℕ → List (BucketView K V)
 part_at parts i = slice_index_or parts i []
 
--- the parts have 2 ^ part_bits buckets each; the length of the array is stored, and there is a spare
--- empty bucket
+-- the parts have 2 ^ part_bits buckets each; the length of the array is stored, and there are a spare
+-- empty bucket and a spare killed one
 pub record AreParts {K V : Type 0} (parts : List (List (BucketView K V))) (spare : List (BucketView K V)) (len part_bits : ℕ) : Type 0 where
   pub long : All (λ part. length part ≡ 2 ^ part_bits) parts
   pub few_bits : part_bits < 64
   pub len_is : len ≡ length (flattened parts)
-  pub spare_is : spare ≡ empty_bucket ∷ []
+  pub spare_is : spare ≡ unmade_bucket false ∷ unmade_bucket true ∷ []

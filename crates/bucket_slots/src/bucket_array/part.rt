@@ -1,15 +1,16 @@
 //! A part of an array: a run of buckets, made as they are first lent for writing.
 //!
 //! Model: the list of its buckets, as many as its vector has room for. Those behind the made ones
-//! are empty, and making them takes no memory.
+//! are empty, and making them takes no memory. A part of which every bucket is killed and holds
+//! nothing is released: its buckets go, and those that aren't made are killed ones from then on.
 //!
 //! Own.
-ghost use Rattle.std.specs.Prelude.{◌≡◌, ◌<◌, ◌≤◌, ◌∷◌, [], IfOk, length, replicate, vec_capacity, vec_len};
+ghost use Rattle.std.specs.Prelude.{◌≡◌, ◌<◌, ◌≤◌, ◌∷◌, [], true, false, IfOk, length, replicate, vec_capacity, vec_len};
 ghost use Rattle.std.specs.Borrow.{sem};
 ghost use Rattle.bucket_slots.specs.ArrayRoom.{BucketFits};
 ghost use Rattle.bucket_slots.specs.ArrayView.{bucket_at};
 ghost use Rattle.bucket_slots.specs.BucketView.{empty_bucket};
-ghost use Rattle.bucket_slots.specs.Layout.ArrayParts.{part_at, with_unmade};
+ghost use Rattle.bucket_slots.specs.Layout.ArrayParts.{part_at, unmade_bucket, with_unmade};
 ghost use Rattle.bucket_slots.specs.Layout.PartLoans.{LendsBucketIn};
 
 use crate::bucket::room::fits_in_memory;
@@ -22,6 +23,7 @@ use std::mem::ManuallyDrop;
 /// A run of buckets, of which the first ones are made.
 pub(crate) struct Part<K, V, L: LruList, const TYPE: u8> {
     made: Vec<Bucket<K, V, L, TYPE>>,
+    released: bool,
 }
 
 impl<K, V, L: LruList, const TYPE: u8> Model for Part<K, V, L, TYPE> {
@@ -31,12 +33,12 @@ impl<K, V, L: LruList, const TYPE: u8> Model for Part<K, V, L, TYPE> {
 
     ghost Value = { List (BucketView K V) };
 
-    ghost view = { λ part. with_unmade part.made.items (vec_capacity part.made) };
+    ghost view = { λ part. with_unmade part.made.items (vec_capacity part.made) part.released };
 }
 
 impl<K: Drop, V: Drop, L: LruList + Drop, const TYPE: u8> Drop for Part<K, V, L, TYPE> {
     fn drop(self) {
-        let Part { made } = self;
+        let Part { made, released: _ } = self;
         if fits_in_memory::<Bucket<K, V, L, TYPE>>() {
             drop(made);
         } else {
@@ -59,23 +61,29 @@ impl<K, V, L: LruList, const TYPE: u8> Part<K, V, L, TYPE> {
         let Ok(made) = Vec::with_capacity(alloc, len) else {
             return Err(AllocError);
         };
-        Ok(Part { made })
+        Ok(Part {
+            made,
+            released: false,
+        })
     }
 
-    /// Returns the bucket with an offset, and the spare one where it isn't made.
+    /// Returns the bucket with an offset, and a spare one where it isn't made.
     #[inline(always)]
     pub(crate) fn bucket<'a>(
         &'a self,
         offset: usize,
-        spare: &'a Bucket<K, V, L, TYPE>,
+        spare: &'a Vec<Bucket<K, V, L, TYPE>>,
     ) -> &'a Bucket<K, V, L, TYPE>
-        requires { spare.now ≡ empty_bucket }
+        requires within { offset < length self.now }
+        requires spare { spare.now.items ≡ unmade_bucket false ∷ unmade_bucket true ∷ [] }
         ensures { result.now ≡ bucket_at self.now offset }
     {
         if offset < self.made.len() {
             &self.made[offset]
+        } else if self.released {
+            &spare[1]
         } else {
-            spare
+            &spare[0]
         }
     }
 
@@ -91,12 +99,31 @@ impl<K, V, L: LruList, const TYPE: u8> Part<K, V, L, TYPE> {
             self.entry offset result) }
         ensures bucket { result.now ≡ bucket_at self.old offset }
     {
-        make_to(&mut self.made, offset + 1);
+        make_to(&mut self.made, offset + 1, self.released);
         &mut self.made[offset]
     }
 }
 
 impl<K: Drop, V: Drop, L: LruList + Drop, const TYPE: u8> Part<K, V, L, TYPE> {
+    /// Lets the buckets go, where every one is killed and holds nothing. What is read stays.
+    ///
+    /// Untouched memory takes the place of theirs, so that a loan here still takes none. Where it
+    /// is refused, theirs is kept.
+    pub(crate) fn release(&mut self)
+        requires { BucketFits K.row V.row L.row TYPE.row
+            (record { KEEPS = L.KEEPS; listed = L.listed; IsTail = L.IsTail }) L.Default }
+        ensures { self.new ≡ self.old }
+    {
+        if self.made.len() == self.made.capacity() && are_spent(&self.made) {
+            let alloc = *self.made.allocator();
+            self.made.clear();
+            if let Ok(untouched) = Vec::with_capacity(alloc, self.made.capacity()) {
+                self.made = untouched;
+            }
+            self.released = true;
+        }
+    }
+
     /// Returns so many parts of this length.
     ///
     /// # Errors
@@ -121,35 +148,79 @@ impl<K: Drop, V: Drop, L: LruList + Drop, const TYPE: u8> Part<K, V, L, TYPE> {
     }
 }
 
-/// Returns one empty bucket, which stands for each one that isn't made.
+/// Returns an empty bucket and a killed one, which stand for each one that isn't made.
 ///
 /// # Errors
 ///
 /// Want of memory.
-pub(crate) fn spare_bucket<K, V, L: LruList, const TYPE: u8>(
+pub(crate) fn spare_buckets<K, V, L: LruList, const TYPE: u8>(
     alloc: Global,
 ) -> Result<Vec<Bucket<K, V, L, TYPE>>, AllocError>
-    ensures { IfOk result (λ spare. spare.items ≡ empty_bucket ∷ []) }
+    ensures { IfOk result
+        (λ spare. spare.items ≡ unmade_bucket false ∷ unmade_bucket true ∷ []) }
 {
-    let Ok(mut spare) = Vec::with_capacity(alloc, 1) else {
+    let Ok(mut spare) = Vec::with_capacity(alloc, 2) else {
         return Err(AllocError);
     };
     spare.push_reserved(Bucket::new(alloc));
+    spare.push_reserved(Bucket::empty(alloc, true));
     Ok(spare)
 }
 
-/// Makes buckets until there are so many. What is read of the part stays.
-fn make_to<K, V, L: LruList, const TYPE: u8>(made: &mut Vec<Bucket<K, V, L, TYPE>>, len: usize)
+/// Whether each bucket is killed and holds nothing. The last ones are looked at first, since they
+/// are killed last.
+fn are_spent<K, V, L: LruList, const TYPE: u8>(made: &Vec<Bucket<K, V, L, TYPE>>) -> bool
+    requires { BucketFits K.row V.row L.row TYPE.row
+        (record { KEEPS = L.KEEPS; listed = L.listed; IsTail = L.IsTail }) L.Default }
+    ensures { result ≡ true
+        → made.now.items ≡ replicate (length made.now.items) (unmade_bucket true) }
+{
+    let mut left = made.len();
+    while 0 < left {
+        left -= 1;
+        if !made[left].is_spent() {
+            return false;
+        }
+    }
+    true
+}
+
+/// Makes buckets until there are so many, where there are fewer. What is read of the part stays.
+#[inline(always)]
+fn make_to<K, V, L: LruList, const TYPE: u8>(
+    made: &mut Vec<Bucket<K, V, L, TYPE>>,
+    len: usize,
+    released: bool,
+)
     requires fits { BucketFits K.row V.row L.row TYPE.row
         (record { KEEPS = L.KEEPS; listed = L.listed; IsTail = L.IsTail }) L.Default }
     requires room { len ≤ vec_capacity made.old }
     ensures made { len ≤ vec_len made.new }
-    ensures same { with_unmade made.new.items (vec_capacity made.new)
-        ≡ with_unmade made.old.items (vec_capacity made.old) }
+    ensures same { with_unmade made.new.items (vec_capacity made.new) released
+        ≡ with_unmade made.old.items (vec_capacity made.old) released }
+{
+    if made.len() < len {
+        make_more(made, len, released);
+    }
+}
+
+/// Makes buckets until there are so many. What is read of the part stays.
+#[inline(never)]
+fn make_more<K, V, L: LruList, const TYPE: u8>(
+    made: &mut Vec<Bucket<K, V, L, TYPE>>,
+    len: usize,
+    released: bool,
+)
+    requires fits { BucketFits K.row V.row L.row TYPE.row
+        (record { KEEPS = L.KEEPS; listed = L.listed; IsTail = L.IsTail }) L.Default }
+    requires room { len ≤ vec_capacity made.old }
+    ensures made { len ≤ vec_len made.new }
+    ensures same { with_unmade made.new.items (vec_capacity made.new) released
+        ≡ with_unmade made.old.items (vec_capacity made.old) released }
 {
     let alloc = *made.allocator();
     while made.len() < len {
-        made.push_reserved(Bucket::new(alloc));
+        made.push_reserved(Bucket::empty(alloc, released));
     }
 }
 
@@ -172,4 +243,18 @@ pub(crate) fn bucket_in<K, V, L: LruList, const TYPE: u8>(
 {
     let lent = &mut parts[part];
     lent.bucket_mut(offset)
+}
+
+/// Lets the buckets of one of the parts go, where every one is killed and holds nothing. What is
+/// read of the parts stays.
+pub(crate) fn release_in<K: Drop, V: Drop, L: LruList + Drop, const TYPE: u8>(
+    parts: &mut Vec<Part<K, V, L, TYPE>>,
+    part: usize,
+)
+    requires fits { BucketFits K.row V.row L.row TYPE.row
+        (record { KEEPS = L.KEEPS; listed = L.listed; IsTail = L.IsTail }) L.Default }
+    requires within { part < vec_len parts.old }
+    ensures { parts.new.items ≡ parts.old.items }
+{
+    parts[part].release();
 }

@@ -3,7 +3,7 @@
 //!
 //! Ports the arithmetic of scc's `src/hash_table/bucket_array.rs`, and `HashTable`'s test whether
 //! and to what capacity it is resized.
-ghost use Rattle.std.specs.Prelude.{◌≡◌, ◌*◌, ◌/◌, ◌%◌, ◌^◌, ◌<◌, ◌≤◌, ◌↔◌, IsTrue};
+ghost use Rattle.std.specs.Prelude.{◌≡◌, ◌*◌, ◌-◌, ◌/◌, ◌%◌, ◌^◌, ◌<◌, ◌≤◌, ◌↔◌, IsTrue};
 ghost use Rattle.bucket_slots.specs.Sampling.{IsLargeSample, IsSmallSample, full_sample};
 ghost use Rattle.bucket_slots.specs.Sizing.{
   IsGrownCapacity,
@@ -28,7 +28,7 @@ pub const MAXIMUM_SLOTS: usize = 1 << 62;
 const MOST_PARTS_BITS: u32 = 8;
 
 /// The logarithm of the least length of a part, where the array has as many buckets.
-const LEAST_PART_BITS: u32 = 6;
+pub(crate) const LEAST_PART_BITS: u32 = 6;
 
 /// The greatest number of buckets that a full estimate looks at.
 const FULL_SAMPLE: usize = 128;
@@ -89,12 +89,13 @@ pub(crate) fn parts_for(len: usize) -> (usize, u32)
 
 /// Returns in which part a bucket stands, and at which offset.
 #[inline(always)]
-pub(crate) fn place_of(index: usize, part_bits: u32) -> (usize, usize)
-    requires { part_bits < 64 }
+pub(crate) fn place_of(index: usize, part_bits: u32, part_mask: usize) -> (usize, usize)
+    requires few_bits { part_bits < 64 }
+    requires mask { part_mask ≡ 2 ^ part_bits - 1 }
     ensures part { result.0 ≡ index / 2 ^ part_bits }
     ensures offset { result.1 ≡ index % 2 ^ part_bits }
 {
-    (index >> part_bits, index & ((1 << part_bits) - 1))
+    (index >> part_bits, index & part_mask)
 }
 
 /// Whether the slots are too full for a number of entries.

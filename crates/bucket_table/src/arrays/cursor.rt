@@ -1,7 +1,6 @@
 //! Cursors over the arrays.
 ghost use Rattle.std.specs.Prelude.{◌≡◌, ◌≢◌, Bool, ℕ, ◌<◌, ◌≤◌, ◌+◌, [], true, false, length, IfOk};
-ghost use Rattle.std.specs.Prelude.{Some};
-ghost use Rattle.std.specs.Prelude.{IfSome, IsOk, None, OnOk};
+ghost use Rattle.std.specs.Prelude.{IsOk, None, OnOk};
 ghost use Rattle.bucket_slots.specs.BucketView.{BucketView};
 ghost use Rattle.bucket_slots.specs.Homes.{IsInInterval, interval_width};
 ghost use Rattle.bucket_slots.specs.Sizing.{IsLength};
@@ -12,12 +11,14 @@ ghost use Rattle.bucket_table.specs.Cursors.{Passes, Stays, bound_of};
 ghost use Rattle.bucket_table.specs.Finding.{KeepsMap};
 ghost use Rattle.bucket_table.specs.Rehashing.{KeepsArrays};
 ghost use Rattle.bucket_table.specs.Relocation.{buckets_of};
-ghost use Rattle.bucket_table.specs.Retains.{AnswersBy, Retains};
+ghost use Rattle.bucket_table.specs.Retains.{AnswersBy};
 ghost use Rattle.bucket_table.specs.Sides.{arrays_with, bucket_on, buckets_on};
+ghost use Rattle.bucket_table.specs.Sweeps.{RetainsAt};
 ghost use Rattle.bucket_table.specs.UnitRuns.{WorksUnits};
 ghost use Rattle.bucket_table.specs.Units.{KeepsBag};
 
 use super::Arrays;
+use crate::hash_table::Missing;
 use crate::hash_table::capacity::from_index_to_range;
 use crate::key_hash::KeyHash;
 use crate::retain::retain_in;
@@ -65,20 +66,20 @@ impl<K: Eq + Drop, V: Drop, L: LruList + Drop, const TYPE: u8> Arrays<K, V, L, T
     ///
     /// # Errors
     ///
-    /// Want of memory: the pointer is null.
+    /// No live pair is there, or want of memory: the pointer is null.
     pub(crate) fn first_from<H: KeyHash<K>>(
         &mut self,
         hasher: &H,
         start: usize,
         at: &mut EntryPtr<K, V, TYPE>,
-    ) -> Result<Option<usize>, AllocError>
+    ) -> Result<usize, Missing>
         requires placed { ArePlaced (H.hash_of hasher.now) self.old }
         ensures placed { ArePlaced (H.hash_of hasher.now) self.new }
         ensures kept { KeepsArrays self.old self.new }
         ensures bag { KeepsBag self.old.rehash self.new.rehash }
         ensures found { GoesOnFrom (H.hash_of hasher.now)
             (bound_of (length (buckets_of self.old.current)) start) result self.new at.new }
-        ensures order { IfOk result (λ found. IfSome found (λ index. start ≤ index)) }
+        ensures order { IfOk result (λ found. start ≤ found) }
         ensures passes { (bound : ℕ)
             → (0 < interval_width (length (buckets_of self.old.current))
             → IsInInterval (length (buckets_of self.old.current)) start bound)
@@ -88,16 +89,16 @@ impl<K: Eq + Drop, V: Drop, L: LruList + Drop, const TYPE: u8> Arrays<K, V, L, T
         let mut index = start;
         while index < self.len() {
             let Ok(()) = self.prepare_at(hasher, index) else {
-                return Err(AllocError);
+                return Err(Missing::Memory);
             };
             self.room_of(false);
             if at.find_next(self.bucket_of(false, index)) {
-                return Ok(Some(index));
+                return Ok(index);
             }
             index += 1;
         }
         self.sound();
-        Ok(None)
+        Err(Missing::Nothing)
     }
 
     /// Moves a pointer to the first live pair past a bucket of an array of `len` buckets, and
@@ -105,14 +106,14 @@ impl<K: Eq + Drop, V: Drop, L: LruList + Drop, const TYPE: u8> Arrays<K, V, L, T
     ///
     /// # Errors
     ///
-    /// Want of memory: the pointer is null.
+    /// No live pair has a hash past the bucket's, or want of memory: the pointer is null.
     fn leave<H: KeyHash<K>>(
         &mut self,
         hasher: &H,
         index: usize,
         len: usize,
         at: &mut EntryPtr<K, V, TYPE>,
-    ) -> Result<Option<usize>, AllocError>
+    ) -> Result<usize, Missing>
         requires length { IsLength len }
         requires within { index < len }
         requires placed { ArePlaced (H.hash_of hasher.now) self.old }
@@ -128,10 +129,10 @@ impl<K: Eq + Drop, V: Drop, L: LruList + Drop, const TYPE: u8> Arrays<K, V, L, T
         self.sound();
         let now = self.len();
         if now == 0 {
-            return Ok(None);
+            return Err(Missing::Nothing);
         }
         if index + 1 == len {
-            return Ok(None);
+            return Err(Missing::Nothing);
         }
         self.first_from(hasher, scaled(len, now, index + 1), at)
     }
@@ -141,14 +142,14 @@ impl<K: Eq + Drop, V: Drop, L: LruList + Drop, const TYPE: u8> Arrays<K, V, L, T
     ///
     /// # Errors
     ///
-    /// Want of memory: the pointer is null.
+    /// No live pair has a hash past the bucket's, or want of memory: the pointer is null.
     pub(crate) fn pass<H: KeyHash<K>>(
         &mut self,
         hasher: &H,
         is_old: bool,
         index: usize,
         at: &mut EntryPtr<K, V, TYPE>,
-    ) -> Result<Option<usize>, AllocError>
+    ) -> Result<usize, Missing>
         requires within { index < length (buckets_on self.old is_old) }
         requires placed { ArePlaced (H.hash_of hasher.now) self.old }
         ensures placed { ArePlaced (H.hash_of hasher.now) self.new }
@@ -168,14 +169,14 @@ impl<K: Eq + Drop, V: Drop, L: LruList + Drop, const TYPE: u8> Arrays<K, V, L, T
     ///
     /// # Errors
     ///
-    /// Want of memory: the pointer is null.
+    /// No live pair has a hash past the bucket's, or want of memory: the pointer is null.
     pub(crate) fn advance<H: KeyHash<K>>(
         &mut self,
         hasher: &H,
         is_old: bool,
         index: usize,
         at: &mut EntryPtr<K, V, TYPE>,
-    ) -> Result<Option<(bool, usize)>, AllocError>
+    ) -> Result<(bool, usize), Missing>
         requires within { index < length (buckets_on self.old is_old) }
         requires placed { ArePlaced (H.hash_of hasher.now) self.old }
         ensures placed { ArePlaced (H.hash_of hasher.now) self.new }
@@ -191,12 +192,11 @@ impl<K: Eq + Drop, V: Drop, L: LruList + Drop, const TYPE: u8> Arrays<K, V, L, T
     {
         self.room_of(is_old);
         if at.find_next(self.bucket_of(is_old, index)) {
-            return Ok(Some((is_old, index)));
+            return Ok((is_old, index));
         }
         match self.pass(hasher, is_old, index, at) {
-            Ok(Some(next)) => Ok(Some((false, next))),
-            Ok(None) => Ok(None),
-            Err(refused) => Err(refused),
+            Ok(next) => Ok((false, next)),
+            Err(missing) => Err(missing),
         }
     }
 
@@ -229,10 +229,9 @@ impl<K: Eq + Drop, V: Drop, L: LruList + Drop, const TYPE: u8> Arrays<K, V, L, T
     ) -> usize
         requires within { index < length (buckets_of self.old.current) }
         requires callable { F.IsAlwaysCallable keep.now }
-        ensures retained { (left : BucketView K V)
-            × Retains (AnswersBy (λ key value answer. F.post keep.now key value answer))
-            (bucket_on self.old false index) left result
-            × (self.new ≡ arrays_with self.old false index left) }
+        ensures retained { RetainsAt
+            (AnswersBy (λ key value answer. F.post keep.now key value answer))
+            (G.epoch_of generation.now) self.old index result self.new }
     {
         self.room_of(false);
         retain_in(self.bucket_of_mut(false, index), keep, generation)

@@ -26,6 +26,7 @@ impl<K: Eq + Drop, V: Drop, L: LruList + Drop, const TYPE: u8> Arrays<K, V, L, T
     /// # Errors
     ///
     /// Want of memory for a first array, or a source isn't killed.
+    #[inline(always)]
     pub(crate) fn find<H: KeyHash<K>>(
         &mut self,
         hasher: &H,
@@ -50,6 +51,7 @@ impl<K: Eq + Drop, V: Drop, L: LruList + Drop, const TYPE: u8> Arrays<K, V, L, T
 
     /// Makes a first array where there is none; beside an old one works a unit, and moves the
     /// sources of the home of a hash.
+    #[inline(always)]
     fn make_ready<H: KeyHash<K>>(&mut self, hasher: &H, hash: u64) -> Result<(), AllocError>
         requires placed { ArePlaced (H.hash_of hasher.now) self.old }
         ensures placed { ArePlaced (H.hash_of hasher.now) self.new }
@@ -77,6 +79,7 @@ impl<K: Eq + Drop, V: Drop, L: LruList + Drop, const TYPE: u8> Arrays<K, V, L, T
 
     /// Resizes where the bucket that a writer was given asks for it. Returns whether its array has
     /// become the old one.
+    #[inline(always)]
     fn grow_at(&mut self, hash: u64, index: usize) -> bool
         requires within { index < length (buckets_of self.old.current) }
         ensures asked { ResizesIf (WriterAsksGrowth TYPE hash self.old index) self.old self.new }
@@ -96,6 +99,7 @@ impl<K: Eq + Drop, V: Drop, L: LruList + Drop, const TYPE: u8> Arrays<K, V, L, T
 
 impl<K, V, L: LruList, const TYPE: u8> Arrays<K, V, L, TYPE> {
     /// Returns whether a writer of a hash that was given a bucket looks into a growth.
+    #[inline(always)]
     fn writer_asks_growth(&self, hash: u64, index: usize) -> bool
         requires within { index < length (buckets_of self.now.current) }
         ensures { IsTrue result ↔ WriterAsksGrowth TYPE hash self.now index }

@@ -17,6 +17,7 @@ impl<K, V, L: LruList, const TYPE: u8> Arrays<K, V, L, TYPE> {
     ghost use Rattle.bucket_table.specs.ArraysLoan.{LendsBucketOn};
 
     /// Returns a bucket of the old or of the current array.
+    #[inline(always)]
     pub(crate) fn bucket_of(&self, is_old: bool, index: usize) -> &Bucket<K, V, L, TYPE>
         requires { index < length (buckets_on self.now is_old) }
         ensures { result.now ≡ bucket_at (buckets_on self.now is_old) index }
@@ -35,6 +36,7 @@ impl<K, V, L: LruList, const TYPE: u8> Arrays<K, V, L, TYPE> {
     }
 
     /// Lends that bucket for writing.
+    #[inline(always)]
     pub(crate) fn bucket_of_mut(&mut self, is_old: bool, index: usize) -> &mut Bucket<K, V, L, TYPE>
         requires { index < length (buckets_on self.old is_old) }
         ensures* writes_back { sem 𝓛
@@ -51,6 +53,7 @@ impl<K, V, L: LruList, const TYPE: u8> Arrays<K, V, L, TYPE> {
     }
 
     /// No work: a proof of generic code learns that a bucket fits in memory.
+    #[inline(always)]
     pub(crate) fn room_of(&self, is_old: bool)
         requires { 0 < length (buckets_on self.now is_old) }
         ensures { BucketFits K.row V.row L.row TYPE.row
@@ -74,6 +77,7 @@ impl<K, V, L: LruList, const TYPE: u8> Rehash<K, V, L, TYPE> {
     ghost use Rattle.bucket_table.specs.RehashLoan.{LendsRehashBucket};
 
     /// Lends a bucket of the old array for writing.
+    #[inline(always)]
     fn bucket_mut(&mut self, index: usize) -> &mut Bucket<K, V, L, TYPE>
         requires { index < length self.old.buckets }
         ensures* writes_back { sem 𝓛
@@ -87,6 +91,7 @@ impl<K, V, L: LruList, const TYPE: u8> Rehash<K, V, L, TYPE> {
 }
 
 /// Lends a bucket of the current array for writing.
+#[inline(always)]
 fn bucket_in<K, V, L: LruList, const TYPE: u8>(
     current: &mut Option<BucketArray<K, V, L, TYPE>>,
     index: usize,
@@ -105,6 +110,7 @@ fn bucket_in<K, V, L: LruList, const TYPE: u8>(
 }
 
 /// Lends a bucket of the old array for writing.
+#[inline(always)]
 fn old_bucket_in<K, V, L: LruList, const TYPE: u8>(
     rehash: &mut Option<Rehash<K, V, L, TYPE>>,
     index: usize,

@@ -18,6 +18,7 @@ impl<K: Drop, V: Drop, L: LruList + Drop, const TYPE: u8> Arrays<K, V, L, TYPE> 
     /// Resizes where the buckets near this index have few live slots.
     ///
     /// Want of memory leaves all as it was.
+    #[inline(never)]
     pub(crate) fn try_shrink(&mut self, index: usize)
         ensures asked { ResizesIf (AsksShrinking self.old index) self.old self.new }
         ensures kept { KeepsMap self.old self.new }
@@ -31,6 +32,7 @@ impl<K: Drop, V: Drop, L: LruList + Drop, const TYPE: u8> Arrays<K, V, L, TYPE> 
     }
 
     /// The same where a bucket has no live pair left.
+    #[inline(always)]
     pub(crate) fn shrink_emptied(&mut self, is_old: bool, index: usize)
         requires within { index < length (buckets_on self.old is_old) }
         ensures asked { ResizesIf ((pairs_in (bucket_at (buckets_on self.old is_old) index) ≡ []) × AsksShrinking self.old index)
@@ -40,7 +42,22 @@ impl<K: Drop, V: Drop, L: LruList + Drop, const TYPE: u8> Arrays<K, V, L, TYPE> 
         ensures placed { (hash : K → ℕ) → ArePlaced hash self.old → ArePlaced hash self.new }
     {
         self.room_of(is_old);
-        if self.bucket_of(is_old, index).len() != 0 {
+        let left = self.bucket_of(is_old, index).len();
+        self.shrink_left(is_old, index, left);
+    }
+
+    /// The same of a bucket that has so many live pairs left.
+    #[inline(always)]
+    pub(crate) fn shrink_left(&mut self, is_old: bool, index: usize, left: usize)
+        requires within { index < length (buckets_on self.old is_old) }
+        requires left { left ≡ length (pairs_in (bucket_at (buckets_on self.old is_old) index)) }
+        ensures asked { ResizesIf ((pairs_in (bucket_at (buckets_on self.old is_old) index) ≡ []) × AsksShrinking self.old index)
+            self.old self.new }
+        ensures kept { KeepsMap self.old self.new }
+        ensures bag { KeepsBag self.old.rehash self.new.rehash }
+        ensures placed { (hash : K → ℕ) → ArePlaced hash self.old → ArePlaced hash self.new }
+    {
+        if left != 0 {
             return;
         }
         self.try_shrink(index);
@@ -48,6 +65,7 @@ impl<K: Drop, V: Drop, L: LruList + Drop, const TYPE: u8> Arrays<K, V, L, TYPE> 
 }
 
 impl<K, V, L: LruList, const TYPE: u8> Arrays<K, V, L, TYPE> {
+    #[inline(never)]
     pub(crate) fn asks_growth(&self, index: usize) -> bool
         ensures { IsTrue result ↔ AsksGrowth self.now index }
     {

@@ -30,6 +30,7 @@ impl<K, V, L: LruList, const TYPE: u8> Arrays<K, V, L, TYPE> {
     }
 
     /// Returns the old array.
+    #[inline(always)]
     fn old_array(&self) -> Option<&BucketArray<K, V, L, TYPE>>
         ensures { lent_buckets result ≡ old_buckets self.now.rehash }
     {

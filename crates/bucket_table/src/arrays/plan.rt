@@ -11,7 +11,7 @@ use bucket_slots::bucket_array::BucketArray;
 use bucket_slots::lru::LruList;
 
 /// What a resize does.
-#[derive(Clone, Copy, Debug, PartialEq, Drop)]
+#[derive(Drop)]
 pub enum Plan {
     /// Nothing.
     Keep,

@@ -20,6 +20,7 @@ impl<K: Eq + Drop, V: Drop, L: LruList + Drop, const TYPE: u8> Arrays<K, V, L, T
     /// # Errors
     ///
     /// Want of memory: a source isn't killed.
+    #[inline(never)]
     pub(crate) fn prepare<H: KeyHash<K>>(
         &mut self,
         hasher: &H,

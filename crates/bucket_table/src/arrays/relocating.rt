@@ -1,5 +1,5 @@
 //! Old buckets that move on to the current array.
-ghost use Rattle.std.specs.Prelude.{◌≡◌, ◌<◌, ◌≤◌, ℕ, true, Some, IsOk, OnOk, OnErr, length};
+ghost use Rattle.std.specs.Prelude.{false, ◌≡◌, ◌<◌, ◌≤◌, ℕ, true, Some, IsOk, OnOk, OnErr, length};
 ghost use Rattle.bucket_slots.specs.ArrayView.{bucket_at};
 ghost use Rattle.bucket_table.specs.ArraysView.{ArePlaced, RehashView, old_buckets};
 ghost use Rattle.bucket_table.specs.Landings.{CarriesRecency};
@@ -34,6 +34,8 @@ impl<K: Eq + Drop, V: Drop, L: LruList + Drop, const TYPE: u8> Arrays<K, V, L, T
             (buckets_of self.old.current) (buckets_of self.new.current)) }
         ensures refused { OnErr result (IsUnmoved self.old self.new) }
         ensures succeeds { IsEasyMove index self.old → IsOk result }
+        ensures alive { OnErr result
+            ((bucket_at (old_buckets self.old.rehash) index).killed ≡ false) }
     {
         let Some(current) = &mut self.current else {
             unreachable!()

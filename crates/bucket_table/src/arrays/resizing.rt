@@ -35,6 +35,7 @@ impl<K: Drop, V: Drop, L: LruList + Drop, const TYPE: u8> Arrays<K, V, L, TYPE> 
     /// # Errors
     ///
     /// Want of memory: all is as it was.
+    #[inline(never)]
     pub(crate) fn try_resize(&mut self) -> Result<bool, AllocError>
         ensures plan { ResizesByPlan self.old result self.new }
         ensures same_entries { entries_of self.new ≡ entries_of self.old }
@@ -58,6 +59,7 @@ impl<K: Drop, V: Drop, L: LruList + Drop, const TYPE: u8> Arrays<K, V, L, TYPE> 
     /// # Errors
     ///
     /// Want of memory: there is still none.
+    #[inline(always)]
     pub(crate) fn make_array(&mut self) -> Result<(), AllocError>
         ensures made { OnOk result (MakesArray self.old self.new) }
         ensures unchanged { OnErr result ((self.old.current ≡ None) × (self.new ≡ self.old)) }
@@ -65,6 +67,20 @@ impl<K: Drop, V: Drop, L: LruList + Drop, const TYPE: u8> Arrays<K, V, L, TYPE> 
         if self.current.is_some() {
             return Ok(());
         }
+        self.make_first_array()
+    }
+
+    /// Makes an empty array for the minimum.
+    ///
+    /// # Errors
+    ///
+    /// Want of memory: there is still none.
+    #[inline(never)]
+    fn make_first_array(&mut self) -> Result<(), AllocError>
+        requires { self.old.current ≡ None }
+        ensures made { OnOk result (MakesArray self.old self.new) }
+        ensures unchanged { OnErr result (self.new ≡ self.old) }
+    {
         let Ok(fresh) = BucketArray::alloc(self.alloc, self.minimum) else {
             return Err(AllocError);
         };

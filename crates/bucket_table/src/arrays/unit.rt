@@ -49,6 +49,19 @@ impl<K: Eq + Drop, V: Drop, L: LruList + Drop, const TYPE: u8> Arrays<K, V, L, T
         let len = self.old_len();
         let start = unit * REHASHING_UNIT_LEN;
         let end = (start + REHASHING_UNIT_LEN).min(len);
-        self.relocate_range(hasher, start, end)
+        let success = self.relocate_range(hasher, start, end);
+        self.release_old(start);
+        success
+    }
+
+    /// Lets the old buckets around one go, where they are killed and hold nothing.
+    fn release_old(&mut self, index: usize)
+        requires { IsOldIndex self.old index }
+        ensures { self.new ≡ self.old }
+    {
+        let Some(rehash) = &mut self.rehash else {
+            unreachable!()
+        };
+        rehash.array.release_around(index);
     }
 }

@@ -1,22 +1,25 @@
 //! Cursors over a table, and what they sweep.
-ghost use Rattle.std.specs.Prelude.{◌≡◌, ◌≢◌, ◌<◌, ◌+◌, [], ℕ, Bool, Some, None, false, length, IfOk, IsOk};
-ghost use Rattle.std.specs.Prelude.{OnErr};
-ghost use Rattle.bucket_slots.specs.BucketView.{BucketView, null_place};
+ghost use Rattle.std.specs.Prelude.{◌≡◌, ◌≢◌, ◌<◌, ◌+◌, [], ℕ, Bool, None, Ok, Err, false, length, IfOk, IsOk, OnErr};
+ghost use Rattle.std.specs.Borrow.{RestsIfErr, sem};
+ghost use Rattle.bucket_slots.specs.BucketView.{null_place, pairs_in};
+ghost use Rattle.bucket_slots.specs.Marking.{HasNoNewMark, MarksBy};
 ghost use Rattle.bucket_slots.specs.Sizing.{IsLength};
-ghost use Rattle.bucket_slots.specs.Walking.{MovesToNext, pairs_ahead};
-ghost use Rattle.bucket_table.specs.ArraysView.{IsOneMap, pairs_of};
-ghost use Rattle.bucket_table.specs.Cursors.{Departs, GoesOnFrom, HasNoneFrom, IsFirstFrom, Leaves};
-ghost use Rattle.bucket_table.specs.Cursors.{LeavesTo, Passes, ReachesAt, Stays, bound_of};
+ghost use Rattle.bucket_slots.specs.Walking.{pairs_ahead};
+ghost use Rattle.bucket_table.specs.ArraysView.{marks_of, pairs_of};
+ghost use Rattle.bucket_table.specs.Asking.{AsksShrinking};
+ghost use Rattle.bucket_table.specs.Cursors.{Advances, Departs, HasNoneFrom, Leaves, SetsOut, bound_of, viewed};
 ghost use Rattle.bucket_table.specs.Locking.{IsLocked};
 ghost use Rattle.bucket_table.specs.MapState.{KeepsPairs, state_of};
-ghost use Rattle.bucket_table.specs.Optional.{IfHeld, IfNotHeld, IfNothing, IsHeld};
+ghost use Rattle.bucket_table.specs.Refusing.{LacksMemory};
 ghost use Rattle.bucket_table.specs.Relocation.{buckets_of};
-ghost use Rattle.bucket_table.specs.Retains.{AnswersBy, IsSwept, IsSweptBelow, Retains};
+ghost use Rattle.bucket_table.specs.Retains.{AnswersBy, IsSwept, IsSweptBelow};
 ghost use Rattle.bucket_table.specs.Settings.{KeepsSettings};
-ghost use Rattle.bucket_table.specs.Sides.{arrays_with, bucket_on, buckets_on};
+ghost use Rattle.bucket_table.specs.Sides.{bucket_on, buckets_on};
+ghost use Rattle.bucket_table.specs.Sweeps.{RetainsAt, Sweeps, why_over};
+ghost use Rattle.bucket_table.specs.TableRow.{table_row};
 ghost use Rattle.bucket_table.specs.Units.{KeepsBag};
 
-use crate::hash_table::{HashTable, LockedBucket};
+use crate::hash_table::{HashTable, LockedBucket, Missing};
 use crate::key_hash::KeyHash;
 use bucket_slots::bucket::{AllocError, EntryPtr, Generation};
 use bucket_slots::lru::LruList;
@@ -28,61 +31,6 @@ impl<K: Eq + Drop, V: Drop, H: KeyHash<K>, L: LruList + Drop, const TYPE: u8> Ha
     L,
     TYPE,
 > {
-    /// Moves a pointer to the first live pair, and returns that pair's current bucket; `None`, and
-    /// a null pointer, where the map is empty.
-    ///
-    /// Before each bucket that it passes a unit of the old array is worked, and the bucket's old
-    /// pairs come.
-    ///
-    /// # Errors
-    ///
-    /// Want of memory beside an old array: the pointer is null.
-    ///
-    /// O(buckets passed, and pairs that move). Own.
-    pub fn first(&mut self, at: &mut EntryPtr<K, V, TYPE>) -> Result<Option<usize>, AllocError>
-        ensures map { KeepsPairs (state_of TYPE self.old) (state_of TYPE self.new) }
-        ensures bag { KeepsBag self.old.arrays.rehash self.new.arrays.rehash }
-        ensures found { GoesOnFrom (H.hash_of self.old.hasher) 0 result self.new.arrays at.new }
-        ensures passes { Passes (λ index. index) 0 self.old.arrays result self.new.arrays }
-        ensures none { IfNothing result (pairs_of self.old.arrays ≡ []) }
-    {
-        self.arrays.first_from(&self.hasher, 0, at)
-    }
-
-    /// Moves a pointer from where it is in a bucket to the next live pair, and returns whether that
-    /// pair's bucket is one of the old array, and its index; `None`, and a null pointer, where no
-    /// live pair has a hash past the bucket's.
-    ///
-    /// A bucket that is left without a live pair may be followed by a resize. Before each bucket
-    /// that is passed then a unit of the old array is worked, and the bucket's old pairs come. A
-    /// pair may be met again.
-    ///
-    /// # Errors
-    ///
-    /// Want of memory beside an old array: the pointer is null.
-    ///
-    /// O(buckets passed, and pairs that move). Own.
-    pub fn advance(
-        &mut self,
-        is_old: bool,
-        index: usize,
-        at: &mut EntryPtr<K, V, TYPE>,
-    ) -> Result<Option<(bool, usize)>, AllocError>
-        requires within { index < length (buckets_on self.old.arrays is_old) }
-        ensures map { KeepsPairs (state_of TYPE self.old) (state_of TYPE self.new) }
-        ensures bag { KeepsBag self.old.arrays.rehash self.new.arrays.rehash }
-        ensures stays { pairs_ahead (bucket_on self.old.arrays is_old index) at.old ≢ []
-            → Stays is_old index self.old.arrays at.old result self.new.arrays at.new }
-        ensures leaves { pairs_ahead (bucket_on self.old.arrays is_old index) at.old ≡ []
-            → LeavesTo (H.hash_of self.old.hasher) (bound_of
-            (length (buckets_on self.old.arrays is_old)) (index + 1)) result self.new.arrays
-            at.new }
-        ensures departs { pairs_ahead (bucket_on self.old.arrays is_old index) at.old ≡ []
-            → Departs (λ to. to.1) is_old index self.old.arrays result self.new.arrays }
-    {
-        self.arrays.advance(&self.hasher, is_old, index, at)
-    }
-
     /// Takes out each pair that `keep` refuses, or marks it in an index. Returns how many,
     /// saturating.
     ///
@@ -102,6 +50,12 @@ impl<K: Eq + Drop, V: Drop, H: KeyHash<K>, L: LruList + Drop, const TYPE: u8> Ha
         ensures swept { IfOk result (λ count. (test : K × V → Bool)
             → AnswersBy (λ key value answer. F.post keep.now key value answer) test
             → IsSwept test (pairs_of self.old.arrays) (pairs_of self.new.arrays) count) }
+        ensures arrays { Sweeps (AnswersBy (λ key value answer. F.post keep.now key value answer))
+            (G.epoch_of generation.now) self.old.arrays
+            (record { place = Err (why_over result); arrays = self.new.arrays }) }
+        ensures marks { MarksBy (G.epoch_of generation.now) (marks_of self.old.arrays)
+            (marks_of self.new.arrays) }
+        ensures unchanged { self.old.arrays.rehash ≡ None → result ≡ Ok 0 → self.new ≡ self.old }
         ensures refused { OnErr result ((bound : ℕ) × ((test : K × V → Bool)
             → AnswersBy (λ key value answer. F.post keep.now key value answer) test
             → IsSweptBelow (H.hash_of self.old.hasher) bound test (pairs_of self.old.arrays)
@@ -109,29 +63,38 @@ impl<K: Eq + Drop, V: Drop, H: KeyHash<K>, L: LruList + Drop, const TYPE: u8> Ha
     {
         let mut count: usize = 0;
         let mut at = EntryPtr::null();
-        let mut place = self.first(&mut at)?;
-        while let Some(index) = place {
+        let mut place = self.first(&mut at);
+        while let Ok(index) = place {
             self.sound();
             let taken = self.retain_at(index, keep, generation);
             count = count.saturating_add(taken);
-            place = self.pass(index, &mut at)?;
+            place = self.pass(index, &mut at);
         }
-        Ok(count)
+        match place {
+            Err(Missing::Memory) => Err(AllocError),
+            _ => Ok(count),
+        }
+    }
+
+    /// Moves a pointer to the first live pair, and returns that pair's current bucket.
+    fn first(&mut self, at: &mut EntryPtr<K, V, TYPE>) -> Result<usize, Missing>
+        ensures sets_out { SetsOut TYPE H.hash_of self.old result at.new self.new }
+        ensures none { result ≡ Err Missing.Nothing → pairs_of self.old.arrays ≡ [] }
+    {
+        self.arrays.first_from(&self.hasher, 0, at)
     }
 
     /// Moves a pointer to the first live pair past a current bucket, and returns that pair's
     /// current bucket.
-    fn pass(
-        &mut self,
-        index: usize,
-        at: &mut EntryPtr<K, V, TYPE>,
-    ) -> Result<Option<usize>, AllocError>
+    fn pass(&mut self, index: usize, at: &mut EntryPtr<K, V, TYPE>) -> Result<usize, Missing>
         requires within { index < length (buckets_of self.old.arrays.current) }
         ensures map { KeepsPairs (state_of TYPE self.old) (state_of TYPE self.new) }
         ensures bag { KeepsBag self.old.arrays.rehash self.new.arrays.rehash }
         ensures leaves { Leaves (H.hash_of self.old.hasher)
             (bound_of (length (buckets_of self.old.arrays.current)) (index + 1)) result
             self.new.arrays at.new }
+        ensures departs { Departs (λ to. to) false index self.old.arrays result self.new.arrays }
+        ensures marks { HasNoNewMark (marks_of self.old.arrays) (marks_of self.new.arrays) }
     {
         self.arrays.pass(&self.hasher, false, index, at)
     }
@@ -146,47 +109,44 @@ impl<K: Eq + Drop, V: Drop, H: KeyHash<K>, L: LruList + Drop, const TYPE: u8> Ha
         requires locked { IsLocked self.old.arrays false index }
         requires callable { F.IsAlwaysCallable keep.now }
         ensures hasher { self.new.hasher ≡ self.old.hasher }
-        ensures retained { (left : BucketView K V)
-            × Retains (AnswersBy (λ key value answer. F.post keep.now key value answer))
-            (bucket_on self.old.arrays false index) left result
-            × (self.new.arrays ≡ arrays_with self.old.arrays false index left) }
+        ensures retained { RetainsAt
+            (AnswersBy (λ key value answer. F.post keep.now key value answer))
+            (G.epoch_of generation.now) self.old.arrays index result self.new.arrays }
     {
         self.arrays.retain_at(index, keep, generation)
     }
 
-    /// Moves a pointer to the first live pair, and locks that pair's bucket. Returns `None`, and
-    /// leaves a null pointer, where the map is empty.
+    /// Moves a pointer to the first live pair, and locks that pair's bucket.
     ///
-    /// What the table is after `None` and after a refusal stands at `first`, by which this works.
+    /// Before each bucket that it passes a unit of the old array is worked, and the bucket's old
+    /// pairs come.
     ///
     /// # Errors
     ///
-    /// Want of memory beside an old array: the pointer is null.
+    /// The map is empty, or want of memory beside an old array: the pointer is null.
     ///
     /// O(buckets passed, and pairs that move). Own.
     pub fn first_sync(
         &mut self,
         at: &mut EntryPtr<K, V, TYPE>,
-    ) -> Result<Option<LockedBucket<'_, K, V, H, L, TYPE>>, AllocError>
-        ensures same_table { IfHeld result (λ locked. locked.table.ghost_name
+    ) -> Result<LockedBucket<'_, K, V, H, L, TYPE>, Missing>
+        ensures* rests { sem 𝓛 (RestsIfErr
+            (table_row K.row V.row H.row L.row TYPE.row K.PartialEq H.KeyHash
+            (record { KEEPS = L.KEEPS; listed = L.listed; IsTail = L.IsTail }) L.Default)
+            self.entry (λ locked. locked.table.ghost_name) result
+            (SetsOut TYPE H.hash_of self.old (viewed (λ locked. locked.index) result) at.new)) }
+        ensures same_table { IfOk result (λ locked. locked.table.ghost_name
             ≡ self.entry.ghost_name) }
-        ensures map { IfHeld result (λ locked. KeepsPairs (state_of TYPE self.old)
-            (state_of TYPE locked.table.now)) }
-        ensures bag { IfHeld result (λ locked. KeepsBag self.old.arrays.rehash
-            locked.table.now.arrays.rehash) }
-        ensures side { IfHeld result (λ locked. locked.is_old ≡ false) }
-        ensures found { IfHeld result (λ locked.
-            IsFirstFrom (H.hash_of self.old.hasher) locked.table.now.arrays 0 locked.index at.new) }
-        ensures passes { IfHeld result (λ locked. Passes (λ locked. locked.index) 0 self.old.arrays
-            result locked.table.now.arrays) }
-        ensures none { IfNothing result (pairs_of self.old.arrays ≡ []) }
-        ensures null { IfNotHeld result (at.new ≡ null_place) }
-        ensures succeeds { self.old.arrays.rehash ≡ None → IsOk result }
+        ensures sets_out { IfOk result (λ locked. SetsOut TYPE H.hash_of self.old
+            (viewed (λ locked. locked.index) result) at.new locked.table.now) }
+        ensures side { IfOk result (λ locked. locked.is_old ≡ false) }
+        ensures none { result ≡ Err Missing.Nothing → pairs_of self.old.arrays ≡ [] }
+        ensures null { OnErr result (at.new ≡ null_place) }
+        ensures succeeds { self.old.arrays.rehash ≡ None → LacksMemory result → ⊥ }
     {
         match self.first(at) {
-            Ok(Some(index)) => Ok(Some(self.lock(false, index))),
-            Ok(None) => Ok(None),
-            Err(refused) => Err(refused),
+            Ok(index) => Ok(self.lock(false, index)),
+            Err(missing) => Err(missing),
         }
     }
 }
@@ -200,8 +160,7 @@ impl<'a, K: Eq + Drop, V: Drop, H: KeyHash<K>, L: LruList + Drop, const TYPE: u8
     TYPE,
 > {
     /// Moves a pointer from where it is in the bucket to the next live pair, and locks that pair's
-    /// bucket. Returns `None`, and leaves a null pointer, where no live pair has a hash past the
-    /// bucket's.
+    /// bucket.
     ///
     /// A bucket that is left without a live pair may be followed by a resize. Before each bucket
     /// that is passed then a unit of the old array is worked, and the bucket's old pairs come. A
@@ -209,41 +168,33 @@ impl<'a, K: Eq + Drop, V: Drop, H: KeyHash<K>, L: LruList + Drop, const TYPE: u8
     ///
     /// # Errors
     ///
-    /// Want of memory beside an old array: the pointer is null, and no bucket is locked.
+    /// No live pair has a hash past the bucket's, or want of memory beside an old array: the
+    /// pointer is null, and no bucket is locked.
     ///
     /// O(buckets passed, and pairs that move). scc: `LockedBucket::next_sync`.
-    pub fn next_sync(self, at: &mut EntryPtr<K, V, TYPE>) -> Result<Option<Self>, AllocError>
-        ensures same_table { IfHeld result (λ locked. locked.table.ghost_name
+    pub fn next_sync(self, at: &mut EntryPtr<K, V, TYPE>) -> Result<Self, Missing>
+        ensures* rests { sem 𝓛 (RestsIfErr
+            (table_row K.row V.row H.row L.row TYPE.row K.PartialEq H.KeyHash
+            (record { KEEPS = L.KEEPS; listed = L.listed; IsTail = L.IsTail }) L.Default)
+            self.entry.table (λ locked. locked.table.ghost_name) result
+            (Advances TYPE H.hash_of self.entry.table.now self.entry.is_old self.entry.index at.old
+            (viewed (λ locked. (locked.is_old, locked.index)) result) at.new)) }
+        ensures same_table { IfOk result (λ locked. locked.table.ghost_name
             ≡ self.entry.table.ghost_name) }
-        ensures map { IfHeld result (λ locked. KeepsPairs (state_of TYPE self.entry.table.now)
-            (state_of TYPE locked.table.now)) }
-        ensures bag { IfHeld result (λ locked. KeepsBag self.entry.table.now.arrays.rehash
-            locked.table.now.arrays.rehash) }
-        ensures stays { pairs_ahead (bucket_on self.entry.table.now.arrays self.entry.is_old
-            self.entry.index) at.old ≢ []
-            → IfHeld result (λ locked. (locked.table.now.arrays ≡ self.entry.table.now.arrays)
-            × (locked.is_old ≡ self.entry.is_old) × (locked.index ≡ self.entry.index)
-            × MovesToNext (bucket_on self.entry.table.now.arrays self.entry.is_old self.entry.index)
-            at.old at.new) }
-        ensures leaves { pairs_ahead (bucket_on self.entry.table.now.arrays self.entry.is_old
-            self.entry.index) at.old ≡ []
-            → IfHeld result (λ locked. (locked.is_old ≡ false)
-            × IsFirstFrom (H.hash_of self.entry.table.now.hasher) locked.table.now.arrays
-            (bound_of (length (buckets_on self.entry.table.now.arrays self.entry.is_old))
-            (self.entry.index + 1)) locked.index at.new
-            × ReachesAt (bound_of (length (buckets_on self.entry.table.now.arrays
-            self.entry.is_old)) (self.entry.index + 1))
-            (Some locked.index) locked.table.now.arrays) }
-        ensures departs { pairs_ahead (bucket_on self.entry.table.now.arrays self.entry.is_old
-            self.entry.index) at.old ≡ []
-            → IfHeld result (λ locked. Departs (λ locked. locked.index) self.entry.is_old
-            self.entry.index self.entry.table.now.arrays result locked.table.now.arrays) }
+        ensures advances { IfOk result (λ locked. Advances TYPE H.hash_of self.entry.table.now
+            self.entry.is_old self.entry.index at.old
+            (viewed (λ locked. (locked.is_old, locked.index)) result) at.new locked.table.now) }
         ensures held { pairs_ahead (bucket_on self.entry.table.now.arrays self.entry.is_old
-            self.entry.index) at.old ≢ [] → IsHeld result }
-        ensures none { IfNothing result (HasNoneFrom (H.hash_of self.entry.table.now.hasher)
+            self.entry.index) at.old ≢ [] → IsOk result }
+        ensures none { result ≡ Err Missing.Nothing
+            → HasNoneFrom (H.hash_of self.entry.table.now.hasher)
             (bound_of (length (buckets_on self.entry.table.now.arrays self.entry.is_old))
-            (self.entry.index + 1)) (pairs_of self.entry.table.now.arrays)) }
-        ensures null { IfNotHeld result (at.new ≡ null_place) }
+            (self.entry.index + 1)) (pairs_of self.entry.table.now.arrays) }
+        ensures null { OnErr result (at.new ≡ null_place) }
+        ensures succeeds { self.entry.table.now.arrays.rehash ≡ None
+            → (pairs_in (bucket_on self.entry.table.now.arrays self.entry.is_old self.entry.index)
+            ≡ [] → AsksShrinking self.entry.table.now.arrays self.entry.index → ⊥)
+            → LacksMemory result → ⊥ }
     {
         let LockedBucket {
             table,
@@ -251,13 +202,12 @@ impl<'a, K: Eq + Drop, V: Drop, H: KeyHash<K>, L: LruList + Drop, const TYPE: u8
             index,
         } = self;
         match table.arrays.advance(&table.hasher, is_old, index, at) {
-            Ok(Some((is_old, index))) => Ok(Some(LockedBucket {
+            Ok((is_old, index)) => Ok(LockedBucket {
                 table,
                 is_old,
                 index,
-            })),
-            Ok(None) => Ok(None),
-            Err(refused) => Err(refused),
+            }),
+            Err(missing) => Err(missing),
         }
     }
 }

@@ -5,15 +5,16 @@
 //! isn't killed, and then every current bucket is free throughout.
 //!
 //! Ports `LockedBucket` of scc's `src/hash_table.rs`.
-ghost use Rattle.std.specs.Prelude.{◌≡◌, ◌≢◌, ◌%◌, ◌↔◌, Some, None, Contains, IsNone, IsTrue, OnOk, OnErr, IfErr, IfSome, IfNone, OnSome, length};
+ghost use Rattle.std.specs.Prelude.{◌≡◌, ◌≢◌, ◌%◌, ◌↔◌, Some, None, Contains, IsNone, IsTrue, OnOk, OnErr, IfErr, IfOk, IfSome, IfNone, OnSome, length};
 ghost use Rattle.std.specs.Borrow.{sem};
-ghost use Rattle.bucket_slots.specs.BucketView.{first_place, slot_in};
+ghost use Rattle.bucket_slots.specs.BucketView.{first_place, null_place, slot_in};
 ghost use Rattle.bucket_slots.specs.Clearing.{slots_after_insertion, slots_for_insertion};
 ghost use Rattle.bucket_slots.specs.Evicting.{slots_evicted, slots_touched};
 ghost use Rattle.bucket_slots.specs.Homes.{IsHome};
 ghost use Rattle.bucket_slots.specs.Marking.{slots_marked};
+ghost use Rattle.bucket_slots.specs.Placing.{place_for_next};
 ghost use Rattle.bucket_slots.specs.Removing.{slots_without};
-ghost use Rattle.bucket_slots.specs.Slots.{free, is_free, is_live, live_pair};
+ghost use Rattle.bucket_slots.specs.Slots.{free, is_free, is_live, live, live_pair};
 ghost use Rattle.bucket_slots.specs.Walking.{pairs_ahead};
 ghost use Rattle.bucket_table.specs.ArraysView.{pairs_of};
 ghost use Rattle.bucket_table.specs.Units.{KeepsBag};
@@ -73,6 +74,7 @@ impl<'a, K: Eq, V, H: KeyHash<K>, L: LruList, const TYPE: u8> LockedBucket<'a, K
     /// has none.
     ///
     /// O(slots of the bucket). scc: `LockedBucket::search`.
+    #[inline(always)]
     pub fn search(&self, key: &K, hash: u64) -> EntryPtr<K, V, TYPE>
         requires own_hash { hash ≡ H.hash_of self.now.table.now.hasher key.now }
         requires home { IsHome
@@ -84,6 +86,7 @@ impl<'a, K: Eq, V, H: KeyHash<K>, L: LruList, const TYPE: u8> LockedBucket<'a, K
             × IsThere K.eq key.now (pairs_of self.now.table.now.arrays) pair }
         ensures absent { result.pos ≡ 32 → IsAbsent K.eq key.now
             (pairs_of self.now.table.now.arrays) }
+        ensures null { result.pos ≡ 32 → result ≡ null_place }
     {
         let table = &*self.table;
         table.arrays.room_of(self.is_old);
@@ -241,6 +244,7 @@ impl<'a, K: Eq + Drop, V: Drop, H: KeyHash<K>, L: LruList, const TYPE: u8> Locke
     /// Want of memory: the pair comes back and the table is as it was. A free slot rules it out.
     ///
     /// O(slots of the bucket). scc: `LockedBucket::insert`.
+    #[inline(always)]
     pub fn insert<G: Generation>(
         &mut self,
         hash: u64,
@@ -263,6 +267,12 @@ impl<'a, K: Eq + Drop, V: Drop, H: KeyHash<K>, L: LruList, const TYPE: u8> Locke
             (bucket_of self.old.table.now self.old.is_old self.old.index) pair (hash % 256))) }
         ensures pair_returned { IfErr result (λ back. back ≡ pair) }
         ensures unchanged { OnErr result (self.new.table.now ≡ self.old.table.now) }
+        ensures place { IfOk result (λ at. at ≡ place_for_next
+            (slots_for_insertion TYPE (G.keeps generation.now)
+            (bucket_of self.old.table.now self.old.is_old self.old.index))) }
+        ensures names { IfOk result (λ at. slot_in
+            (bucket_of self.new.table.now self.new.is_old self.new.index) at
+            ≡ live pair (hash % 256)) }
         ensures no_free_slot { OnErr result (first_place is_free
             (slots_for_insertion TYPE (G.keeps generation.now)
             (bucket_of self.old.table.now self.old.is_old self.old.index)) ≡ None) }

@@ -1,16 +1,17 @@
 //! Pairs that move from an old bucket to their homes in the current array.
 //!
 //! Ports `relocate_bucket` of scc's `src/hash_table.rs`.
-ghost use Rattle.std.specs.Prelude.{◌≡◌, ◌+◌, ◌<◌, ◌≤◌, [], ℕ, Some, None, true, false, length, IsOk, OnErr, OnOk, slice_index};
+ghost use Rattle.std.specs.Prelude.{◌≡◌, ◌+◌, ◌<◌, ◌≤◌, [], ℕ, Some, None, true, false, length, IsOk, IsTrue, OnErr, OnOk, slice_index};
 ghost use Rattle.std.specs.List.{All};
 ghost use Rattle.bucket_slots.specs.ArrayView.{bucket_at};
-ghost use Rattle.bucket_slots.specs.BucketView.{entries_in, pairs_in, slot_in};
+ghost use Rattle.bucket_slots.specs.BucketView.{pairs_in, slot_in};
 ghost use Rattle.bucket_slots.specs.Homes.{IsInRange};
 ghost use Rattle.bucket_slots.specs.Recency.{IsRecencyOrder};
 ghost use Rattle.bucket_slots.specs.Reserving.{free_len_in};
-ghost use Rattle.bucket_slots.specs.Slots.{is_free, live_pair};
+ghost use Rattle.bucket_slots.specs.Slots.{is_free, is_live, live_pair};
 ghost use Rattle.bucket_table.specs.Landings.{AreListable, CarriesRecency, HaveLanded, ListsArrivals, landing_of, landings_with};
-ghost use Rattle.bucket_table.specs.Relocation.{AreHome, AreTwoArrays, HasOwnByte, HasRoomFor, IsRelocated, IsWay, KeepsEntries, KeepsOthers, MovesInto, home_of, homed_len};
+ghost use Rattle.bucket_table.specs.Moving.{CanMoveInto, MovesHome};
+ghost use Rattle.bucket_table.specs.Relocation.{AreHome, AreTwoArrays, HasRoomFor, IsRelocated, IsWay, KeepsEntries, KeepsOthers, MovesInto, home_of, homed_len};
 
 use crate::hash_table::capacity::from_index_to_range;
 use crate::key_hash::KeyHash;
@@ -56,16 +57,16 @@ pub(crate) fn relocate<K: Eq + Drop, V: Drop, H: KeyHash<K>, L: LruList, const T
         → IsOk result }
     ensures recency { OnOk result
         (CarriesRecency (bucket_at linked.old index) current.old current.new) }
+    ensures alive { OnErr result ((bucket_at linked.old index).killed ≡ false) }
 {
     current.room();
     let from = linked.len();
     let to = current.len();
     let (start, end) = from_index_to_range(from, to, index);
-    let source = linked.bucket_mut(index);
-    source.sound();
-    if source.is_killed() {
+    if linked.bucket(index).is_killed() {
         return Ok(());
     }
+    let source = linked.bucket_mut(index);
     if to < from || BUCKET_LEN < source.len() {
         if let Err(refused) = reserve_targets(alloc, hasher, current, source, start, end) {
             return Err(refused);
@@ -170,14 +171,7 @@ fn carry_pairs<K: Eq + Drop, V: Drop, H: KeyHash<K>, L: LruList, const TYPE: u8>
     start: usize,
     end: usize,
 )
-    requires within { end ≤ length current.old }
-    requires in_range { All
-        (λ pair. IsInRange start end (home_of (length current.old) (H.hash_of hasher.now pair.0)))
-        (pairs_in source.old) }
-    requires own_bytes { All (HasOwnByte (H.hash_of hasher.now)) (entries_in source.old) }
-    requires homes { AreHome (H.hash_of hasher.now) current.old }
-    requires room { HasRoomFor (H.hash_of hasher.now) current.old (pairs_in source.old) }
-    requires alive { (j : ℕ) → j < length current.old → (bucket_at current.old j).killed ≡ false }
+    requires { CanMoveInto (H.hash_of hasher.now) start end source.old current.old }
     ensures moved { MovesInto (H.hash_of hasher.now) source.old current.old source.new current.new }
     ensures homes { AreHome (H.hash_of hasher.now) current.new }
     ensures emptied { pairs_in source.new ≡ [] }
@@ -205,35 +199,54 @@ fn move_pairs<K: Eq + Drop, V: Drop, H: KeyHash<K>, L: LruList, const TYPE: u8>(
     end: usize,
     landings: &mut [Option<Landing>],
 )
-    requires within { end ≤ length current.old }
-    requires in_range { All
-        (λ pair. IsInRange start end (home_of (length current.old) (H.hash_of hasher.now pair.0)))
-        (pairs_in source.old) }
-    requires own_bytes { All (HasOwnByte (H.hash_of hasher.now)) (entries_in source.old) }
-    requires homes { AreHome (H.hash_of hasher.now) current.old }
-    requires room { HasRoomFor (H.hash_of hasher.now) current.old (pairs_in source.old) }
-    requires alive { (j : ℕ) → j < length current.old → (bucket_at current.old j).killed ≡ false }
+    requires ready { CanMoveInto (H.hash_of hasher.now) start end source.old current.old }
     requires unsaid { (slot : ℕ) → landing_of landings.old slot ≡ None }
     ensures moved { MovesInto (H.hash_of hasher.now) source.old current.old source.new current.new }
     ensures homes { AreHome (H.hash_of hasher.now) current.new }
     ensures emptied { pairs_in source.new ≡ [] }
-    ensures landed { HaveLanded (H.hash_of hasher.now) source.old current.old current.new landings.new }
+    ensures landed { HaveLanded (H.hash_of hasher.now) source.old current.old
+        current.new landings.new }
 {
     let mut at = EntryPtr::null();
-    'pairs: while at.find_next(source) {
-        source.sound();
-        let (home, hash) = way_of(hasher, current, source, &at, start, end);
-        let target = current.bucket_mut(home);
-        target.sound();
-        let Ok(to) = target.extract_from(hash, source, &mut at) else {
-            unreachable!()
-        };
-        say_landing(landings, &at, home, &to);
+    'own: while at.find_next_here(source) {
+        move_pair(hasher, current, source, &mut at, start, end, landings);
     }
+    'pairs: while at.find_next(source) {
+        move_pair(hasher, current, source, &mut at, start, end, landings);
+    }
+}
+
+/// Moves the pair that a pointer stands at to its home, and says in `landings` where it landed. The
+/// pointer stays.
+#[inline(always)]
+fn move_pair<K: Eq + Drop, V: Drop, H: KeyHash<K>, L: LruList, const TYPE: u8>(
+    hasher: &H,
+    current: &mut BucketArray<K, V, L, TYPE>,
+    source: &mut Bucket<K, V, L, TYPE>,
+    at: &mut EntryPtr<K, V, TYPE>,
+    start: usize,
+    end: usize,
+    landings: &mut [Option<Landing>],
+)
+    requires ready { CanMoveInto (H.hash_of hasher.now) start end source.old current.old }
+    requires live_slot { IsTrue (is_live (slot_in source.old at.old)) }
+    ensures moved { MovesHome TYPE (H.hash_of hasher.now) at.old source.old current.old landings.old
+        source.new current.new landings.new }
+    ensures pointer { at.new ≡ at.old }
+{
+    source.sound();
+    let (home, hash) = way_of(hasher, current, source, at, start, end);
+    let target = current.bucket_mut(home);
+    target.sound();
+    let Ok(to) = target.extract_from(hash, source, at) else {
+        unreachable!()
+    };
+    say_landing(landings, at, home, &to);
 }
 
 /// Says of a pair that moved from an own slot to one of bucket `home` where it landed, where there
 /// is room for it.
+#[inline(always)]
 fn say_landing<K, V, const TYPE: u8>(
     landings: &mut [Option<Landing>],
     from: &EntryPtr<K, V, TYPE>,
@@ -274,6 +287,7 @@ fn append_arrivals<K: Eq + Drop, V: Drop, L: LruList, const TYPE: u8>(
 
 /// Where the pair of a slot goes in an array: the index of its home, and a number with its byte.
 /// Where `start` is its one target, the stored byte is enough; else its key is hashed anew.
+#[inline(always)]
 fn way_of<K: Eq, V, H: KeyHash<K>, L: LruList, const TYPE: u8>(
     hasher: &H,
     current: &BucketArray<K, V, L, TYPE>,
@@ -282,12 +296,8 @@ fn way_of<K: Eq, V, H: KeyHash<K>, L: LruList, const TYPE: u8>(
     start: usize,
     end: usize,
 ) -> (usize, u64)
+    requires ready { CanMoveInto (H.hash_of hasher.now) start end source.now current.now }
     requires occupied { is_free (slot_in source.now at.now) ≡ false }
-    requires within { end ≤ length current.now }
-    requires in_range { All
-        (λ pair. IsInRange start end (home_of (length current.now) (H.hash_of hasher.now pair.0)))
-        (pairs_in source.now) }
-    requires own_bytes { All (HasOwnByte (H.hash_of hasher.now)) (entries_in source.now) }
     ensures { (pair : K × V) → live_pair (slot_in source.now at.now) ≡ Some pair
         → IsWay (H.hash_of hasher.now) (length current.now) pair result.0 result.1 }
 {

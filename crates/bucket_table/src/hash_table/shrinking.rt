@@ -7,7 +7,7 @@
 ghost use Rattle.std.specs.Prelude.{◌≡◌, ◌≢◌, Some, IsTrue};
 ghost use Rattle.bucket_slots.specs.BucketView.{slot_in};
 ghost use Rattle.bucket_slots.specs.Marking.{slots_marked};
-ghost use Rattle.bucket_slots.specs.Removing.{slots_without};
+ghost use Rattle.bucket_slots.specs.Removing.{place_after, slots_without};
 ghost use Rattle.bucket_slots.specs.Slots.{is_live, live_pair};
 ghost use Rattle.bucket_table.specs.Asking.{AsksShrinking, RemovesAndShrinks, ResizesIf};
 ghost use Rattle.bucket_table.specs.Units.{KeepsBag};
@@ -52,6 +52,7 @@ impl<'a, K: Eq + Drop, V: Drop, H: KeyHash<K>, L: LruList + Drop, const TYPE: u8
     /// table where few slots near it are live. Returns the pair, and gives the table back.
     ///
     /// May take memory, and is never refused. O(buckets). scc: `LockedBucket::remove`.
+    #[inline(always)]
     pub fn remove(
         self,
         at: &mut EntryPtr<K, V, TYPE>,
@@ -71,6 +72,8 @@ impl<'a, K: Eq + Drop, V: Drop, H: KeyHash<K>, L: LruList + Drop, const TYPE: u8
             (slots_without
             (bucket_of self.entry.table.now self.entry.is_old self.entry.index) at.old)
             result.1.now.arrays }
+        ensures place { at.new ≡ place_after
+            (bucket_of self.entry.table.now self.entry.is_old self.entry.index) at.old }
     {
         let LockedBucket {
             table,
@@ -78,8 +81,10 @@ impl<'a, K: Eq + Drop, V: Drop, H: KeyHash<K>, L: LruList + Drop, const TYPE: u8
             index,
         } = self;
         table.arrays.room_of(is_old);
-        let pair = table.arrays.bucket_of_mut(is_old, index).remove(at);
-        table.arrays.shrink_emptied(is_old, index);
+        let bucket = table.arrays.bucket_of_mut(is_old, index);
+        let pair = bucket.remove(at);
+        let left = bucket.len();
+        table.arrays.shrink_left(is_old, index, left);
         (pair, table)
     }
 
@@ -108,6 +113,7 @@ impl<'a, K: Eq + Drop, V: Drop, H: KeyHash<K>, L: LruList + Drop, const TYPE: u8
             (bucket_of self.entry.table.now self.entry.is_old self.entry.index) at.old
             (G.epoch_of generation.now))
             result.now.arrays }
+        ensures pointer { at.new ≡ at.old }
     {
         let LockedBucket {
             table,

@@ -6,7 +6,7 @@
 //!
 //! Ports `start_incremental_rehash`, `relocate_bucket` and `end_incremental_rehash` of scc's
 //! `src/hash_table.rs`.
-ghost use Rattle.std.specs.Prelude.{◌↔◌, ◌<◌, None, IsTrue, OnOk, OnErr, IsOk};
+ghost use Rattle.std.specs.Prelude.{◌↔◌, ◌≡◌, false, ◌<◌, None, IsTrue, OnOk, OnErr, IsOk};
 ghost use Rattle.bucket_slots.specs.ArrayView.{bucket_at};
 ghost use Rattle.bucket_table.specs.ArraysView.{RehashView, old_buckets};
 ghost use Rattle.bucket_table.specs.Carrying.{CarriesPairs};
@@ -77,6 +77,8 @@ impl<K: Eq + Drop, V: Drop, H: KeyHash<K>, L: LruList + Drop, const TYPE: u8> Ha
             (buckets_of self.old.arrays.current) (buckets_of self.new.arrays.current)) }
         ensures refused { OnErr result (IsUnmoved self.old.arrays self.new.arrays) }
         ensures succeeds { IsEasyMove index self.old.arrays → IsOk result }
+        ensures alive { OnErr result
+            ((bucket_at (old_buckets self.old.arrays.rehash) index).killed ≡ false) }
     {
         self.arrays.relocate(&self.hasher, index)
     }

@@ -15,7 +15,6 @@ ghost use Rattle.bucket_table.specs.Free.{HasNoFreeHome, IsFreeHome};
 ghost use Rattle.bucket_table.specs.Refusing.{IsGivenFor, IsRefused};
 ghost use Rattle.bucket_table.specs.TableRow.{table_row};
 ghost use Rattle.bucket_table.specs.Locking.{IsLocked};
-ghost use Rattle.bucket_table.specs.Optional.{IfHeld, IsHeldFor};
 ghost use Rattle.bucket_table.specs.Preparing.{AnswersFor, IsPrepared, IsReady, Prepares};
 ghost use Rattle.bucket_table.specs.Relocation.{buckets_of};
 ghost use Rattle.bucket_table.specs.Sides.{buckets_on};
@@ -66,6 +65,7 @@ impl<K: Eq + Drop, V: Drop, H: KeyHash<K>, L: LruList + Drop, const TYPE: u8> Ha
     /// killed.
     ///
     /// O(slots of a unit, of the sources and of their targets; buckets that a resize makes). Own.
+    #[inline(always)]
     pub fn find(&mut self, hash: u64) -> Result<(bool, usize), AllocError>
         ensures found { IfOk result (λ found.
             FindsBucket TYPE hash self.old found.0 found.1 self.new) }
@@ -78,6 +78,7 @@ impl<K: Eq + Drop, V: Drop, H: KeyHash<K>, L: LruList + Drop, const TYPE: u8> Ha
     /// Locks a bucket of the old or of the current array.
     ///
     /// O(1). Own.
+    #[inline(always)]
     pub fn lock(&mut self, is_old: bool, index: usize) -> LockedBucket<'_, K, V, H, L, TYPE>
         requires { IsLocked self.old.arrays is_old index }
         ensures same_table { result.table.ghost_name ≡ self.entry.ghost_name }
@@ -120,6 +121,7 @@ impl<K: Eq + Drop, V: Drop, H: KeyHash<K>, L: LruList + Drop, const TYPE: u8> Ha
     ///
     /// O(slots of a unit, of the sources and of their targets; buckets that a resize makes). scc:
     /// `HashTable::writer_sync`.
+    #[inline(always)]
     pub fn writer_sync(
         &mut self,
         hash: u64,
@@ -167,37 +169,6 @@ impl<K: Eq + Drop, V: Drop, H: KeyHash<K>, L: LruList + Drop, const TYPE: u8> Ha
         self.writer_sync(hash)
     }
 
-    /// Works a unit, moves the sources of the home of a hash, and locks that home. Returns `None`
-    /// exactly where there is no array.
-    ///
-    /// What the table is after `None` and after a refusal stands at `prepare`, by which this works.
-    ///
-    /// # Errors
-    ///
-    /// Want of memory beside an old array: a source of the home isn't killed.
-    ///
-    /// O(slots of a unit, of the sources and of their targets). scc:
-    /// `HashTable::optional_writer_sync`.
-    pub fn optional_writer_sync(
-        &mut self,
-        hash: u64,
-    ) -> Result<Option<LockedBucket<'_, K, V, H, L, TYPE>>, AllocError>
-        ensures same_table { IfHeld result (λ locked. locked.table.ghost_name
-            ≡ self.entry.ghost_name) }
-        ensures prepared { IfHeld result (λ locked. IsPrepared TYPE self.old locked.table.now) }
-        ensures side { IfHeld result (λ locked. locked.is_old ≡ false) }
-        ensures home { IfHeld result (λ locked.
-            IsHome (length (buckets_of locked.table.now.arrays.current)) hash locked.index) }
-        ensures answer { IsHeldFor result self.old.arrays }
-        ensures succeeds { self.old.arrays.rehash ≡ None → IsOk result }
-    {
-        match self.prepare(hash) {
-            Ok(true) => Ok(Some(self.lock_home(hash))),
-            Ok(false) => Ok(None),
-            Err(refused) => Err(refused),
-        }
-    }
-
     /// Works a unit, moves the sources of the home of a hash, and locks that home.
     ///
     /// # Errors
@@ -205,9 +176,9 @@ impl<K: Eq + Drop, V: Drop, H: KeyHash<K>, L: LruList + Drop, const TYPE: u8> Ha
     /// There is no array, and so no pair; or want of memory beside an old array: a source of the
     /// home isn't killed.
     ///
-    /// O(slots of a unit, of the sources and of their targets). Own: `optional_writer_sync` with a
-    /// clause for each refusal.
-    pub fn locked_or_missing(
+    /// O(slots of a unit, of the sources and of their targets). scc:
+    /// `HashTable::optional_writer_sync`.
+    pub fn optional_writer_sync(
         &mut self,
         hash: u64,
     ) -> Result<LockedBucket<'_, K, V, H, L, TYPE>, Missing>
@@ -222,11 +193,11 @@ impl<K: Eq + Drop, V: Drop, H: KeyHash<K>, L: LruList + Drop, const TYPE: u8> Ha
         ensures answer { IsGivenFor result self.old.arrays }
         ensures home { IfOk result (λ locked.
             IsHome (length (buckets_on locked.table.now.arrays locked.is_old)) hash locked.index) }
-        ensures empty { result ≡ Err Missing.Array → pairs_of self.old.arrays ≡ [] }
+        ensures empty { result ≡ Err Missing.Nothing → pairs_of self.old.arrays ≡ [] }
     {
         match self.prepare(hash) {
             Ok(true) => Ok(self.lock_home(hash)),
-            Ok(false) => Err(Missing::Array),
+            Ok(false) => Err(Missing::Nothing),
             Err(_) => Err(Missing::Memory),
         }
     }

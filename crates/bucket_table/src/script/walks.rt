@@ -48,7 +48,8 @@ impl<'a, K: Drop, V: Drop, L: LruList, G: Generation, const TYPE: u8> Visit<Buck
     ghost may_visit = { λ _. Unit {0} };
 
     ghost visits = { λ emptier lent flag more left last after.
-        Empties emptier.count lent flag more left last after.count };
+        Empties (G.epoch_of emptier.generation.now) emptier.count lent flag more left last
+        after.count };
 
     fn visit(&mut self, bucket: &mut Bucket<K, V, L, TYPE>, flag: &mut bool) -> bool {
         let keep = |_key: &K, _value: &V| false;

@@ -1,12 +1,15 @@
 use Rattle.std.proofs.Common.{length}
+use Rattle.bucket_slots.specs.BucketView.{marks_in}
+use Rattle.bucket_slots.specs.Marking.{MarksBy}
 use Rattle.bucket_slots.specs.Walking.{pairs_ahead}
 use Rattle.bucket_table.specs.Retains.{AnswersBy}
 use Rattle.bucket_table.proofs.Retaining.{IsRetaining}
 use Rattle.bucket_table.proofs.retain.retain_in.Given as goal
 
 abbrev pub invariant-loop-at : goal.invariant-loop-at
-invariant-loop-at g l = IsRetaining (AnswersBy (λ key value answer. goal.F-post g l.keep key value
-    answer)) l.fn.bucket l.bucket l.at l.count
+invariant-loop-at g l =
+    IsRetaining (AnswersBy (λ key value answer. goal.F-post g l.keep key value answer)) l.fn.bucket l.bucket l.at l.count
+    × MarksBy (g.G.Generation.epoch_of l.generation) (marks_in l.fn.bucket) (marks_in l.bucket)
 
 abbrev pub decreases-loop-at : goal.decreases-loop-at
 decreases-loop-at g l = length (pairs_ahead l.bucket l.at)

@@ -1,9 +1,10 @@
 use Rattle.std.proofs.Common.{◌∙◌, ◌∷◌, ap, subst, sym}
 use Rattle.std.specs.List.Sorted.{IsPermutation}
-use Rattle.bucket_slots.specs.BucketView.{entries_in}
+use Rattle.bucket_slots.specs.BucketView.{entries_in, marks_in}
 use Rattle.bucket_slots.proofs.CallerLemmas.{entries_in-slots_without}
-use Rattle.bucket_slots.proofs.MarkCallerLemmas.{entries_in-slots_marked}
+use Rattle.bucket_slots.proofs.MarkCallerLemmas.{by-no_new, by-one, entries_in-slots_marked, marks_in-slots_marked, marks_in-slots_without}
 use Rattle.bucket_slots.proofs.RoomCallerLemmas.{killed-slots_marked, killed-slots_without}
+use Rattle.bucket_table.proofs.LockedSteps.{pair_there}
 use Rattle.bucket_table.proofs.retain.take_at.Goals as goal
 
 pub returns-then-this-eq-INDEX-clause-alive : goal.returns-then-this-eq-INDEX-clause-alive
@@ -31,3 +32,14 @@ returns-clause-taken g c =
       subst (λ b. IsPermutation (entries_in c.args.bucket.now)
           ((pair, moved.0) ∷ entries_in b)) (sym c.remove.ensures.slots) moved.1,
     )
+
+pub returns-then-this-eq-INDEX-clause-marks : goal.returns-then-this-eq-INDEX-clause-marks
+returns-then-this-eq-INDEX-clause-marks g c =
+    let epoch = g.G.Generation.epoch_of c.args.generation.now in
+    let there = pair_there c.args.bucket.now c.args.at.now c.requires.live_slot in
+    rw c.mark_removed.ensures.slots
+    (by-one epoch there.0 (marks_in c.args.bucket.now) _ (marks_in-slots_marked c.args.bucket.now c.args.at.now epoch there.0 there.1))
+
+pub returns-clause-marks : goal.returns-clause-marks
+returns-clause-marks g c =
+    rw c.remove.ensures.slots (by-no_new _ (marks_in c.args.bucket.now) _ (marks_in-slots_without c.args.bucket.now c.args.at.now))

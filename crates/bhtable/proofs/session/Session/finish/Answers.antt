@@ -1,7 +1,8 @@
 use Rattle.std.proofs.Common.{◌≡◌, ◌∙◌, Ok, Err, sym}
 use Rattle.std.specs.Result.{result_and}
+use Rattle.bhtable.proofs.Closing.{IsReady, ready}
 use Rattle.bhtable.proofs.Ending.{IsAnswered, IsReplied, ended_answered}
-use Rattle.bhtable.proofs.Outputs.{all_out, stop_out}
+use Rattle.bhtable.proofs.Outputs.{ready_written}
 use Rattle.bhtable.proofs.session.Session.finish.Goals as goal
 use Rattle.bhtable.proofs.session.Session.finish.Goals.{in-Ok, in-Err}
 
@@ -16,15 +17,15 @@ returns g c start lines left =
     } in
     let replied : IsReplied (result_and c.answer.result c.args.ended) start output c.answer.new.self.replies lines =
     ended_answered c.answer.result c.args.ended start _ output c.args.self c.answer.new.self lines step left in
-    let written = c.in_ok-write_out.ensures.written in
+    let made : IsReady c.match-and.ended start (g.W.Write.contents c.match-and.output) c.match-and.self.replies lines =
     elim c.match-and.branch [
       | in-Ok w ↦
           let ended : result_and c.answer.result c.args.ended ≡ Ok w.in-Ok.field-0 = sym c.and.ensures ∙ w.in-Ok.is in
-          rw w.ended-is (all_out start output _ c.answer.new.self.replies lines (rw ended at replied)
-          (rw (w.output-is, w.self-is) at written))
+          rw (w.ended-is, w.output-is, w.self-is) (rw ended at replied)
       | in-Err w ↦
           let ended : result_and c.answer.result c.args.ended ≡ Err w.in-Err.stop = sym c.and.ensures ∙ w.in-Err.is in
-          rw (w.ended-is, w.and-ended.ensures) (stop_out w.in-Err.stop w.push_stop.result start output _ _
-          c.answer.new.self.replies w.push_stop.new.self lines (rw ended at replied) w.push_stop.ensures
-          (rw (w.output-is, w.self-is) at written))
-    ]
+          rw (w.ended-is, w.and-ended.ensures, w.output-is, w.self-is) (ready w.in-Err.stop w.push_stop.result start output _
+          c.answer.new.self.replies w.push_stop.new.self lines (rw ended at replied) w.push_stop.ensures)
+    ] in
+    rw c.and-2.ensures (ready_written c.write_out.result c.match-and.ended start _ _ c.match-and.self.replies c.write_out.new.self lines
+    made c.write_out.ensures.empty c.write_out.ensures.written c.write_out.ensures.stop)

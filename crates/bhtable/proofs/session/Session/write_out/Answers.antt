@@ -14,4 +14,4 @@ returns-clause-taken g c start lines taken =
       replies = c.write_out.new.self;
     } in
     wrote start _ _ c.answer.new.self session lines c.write_out.result answered.1 answered.0 refl refl
-    c.write_out.ensures.empty c.write_out.ensures.written c.write_out.ensures.stop
+    c.write_out.ensures.empty c.write_out.ensures.written

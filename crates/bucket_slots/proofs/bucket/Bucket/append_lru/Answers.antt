@@ -1,5 +1,6 @@
 use Rattle.std.proofs.Common.{arith, sym, ◌∙◌, ◌≡◌}
 use Rattle.bucket_slots.proofs.BucketRecency.{IsBucket-appended, slots_appended-chain, slots_appended-own}
+use Rattle.bucket_slots.proofs.ChangedSlots.{live_inside}
 use Rattle.bucket_slots.proofs.bucket.Bucket.append_lru.Goals as goal
 
 pub invariant_of-self : goal.invariant_of-self
@@ -19,3 +20,20 @@ returns-then-block-eq0 g c =
 pub returns-else-block-eq0 : goal.returns-else-block-eq0
 returns-else-block-eq0 g c =
     slots_appended-chain g.L.LruList.KEEPS c.args.self.now c.args.at.now (λ own. c.if-block-eq0.false (c.block.ensures ∙ own))
+
+pub overflow_cast-pos : goal.overflow_cast-pos
+overflow_cast-pos g c =
+    let own : c.args.at.now.block ≡ 0 = omega arith in
+    let alive = rw (← c.self.view_is, own, ← c.pos.ensures) at c.requires.live_slot in
+    omega (arith, c.self.invariant.1.own_long, live_inside c.self.inside.own _ alive)
+
+pub make_oldest-self-inside-requires-clause-own_slot : goal.make_oldest-self-inside-requires-clause-own_slot
+make_oldest-self-inside-requires-clause-own_slot g c =
+    let own : c.args.at.now.block ≡ 0 = omega arith in
+    let alive = rw (← c.self.view_is, own, ← c.pos.ensures) at c.requires.live_slot in
+    omega (arith, c.self.invariant.1.own_long, live_inside c.self.inside.own _ alive)
+
+pub make_oldest-self-inside-requires-clause-not_listed : goal.make_oldest-self-inside-requires-clause-not_listed
+make_oldest-self-inside-requires-clause-not_listed g c =
+    let own : c.args.at.now.block ≡ 0 = omega arith in
+    rw (← c.self.view_is, ← c.pos.ensures) at (c.requires.not_listed own)

@@ -1,4 +1,4 @@
-use Rattle.std.proofs.Common.{sym, ◌%◌}
+use Rattle.std.proofs.Common.{arith, sym, ◌%◌}
 use Rattle.bucket_slots.specs.Searching.{is_wanted}
 use Rattle.bucket_slots.proofs.FirstPlaces.{first_chain, first_own, found_in_chain, none_wanted}
 use Rattle.bucket_slots.proofs.bucket.Bucket.find_by.Goals as goal
@@ -22,3 +22,12 @@ returns-clause-place g c =
 pub returns-clause-pair : goal.returns-clause-pair
 returns-clause-pair g c =
     found_in_chain _ _ c.args.self.now c.find_by-2.result c.self.view_is c.find_by-2.ensures.place c.find_by-2.ensures.pair
+
+pub find_by-requires : goal.find_by-requires
+find_by-requires g c = omega arith
+
+pub find_by-requires-2 : goal.find_by-requires-2
+find_by-requires-2 g c = omega arith
+
+pub returns-in-Some-clause-pair : goal.returns-in-Some-clause-pair
+returns-in-Some-clause-pair g c = rw (c.at.ensures, ← c.self.view_is) c.in-Some.ensures.pair

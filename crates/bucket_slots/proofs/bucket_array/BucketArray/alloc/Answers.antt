@@ -27,6 +27,7 @@ invariant_of-result g c =
         sampled = c.large_sample_size_of.ensures;
       },
       new_parts _ _ _ _ _ (shifted_one _ cut.bits) cut.whole c.in_ok-parts.ensures _ cut.bits c.in_ok-spare.ensures,
+      ap (λ (n : ℕ). n - 1) (shifted_one _ cut.bits),
     )
 
 pub returns : goal.returns

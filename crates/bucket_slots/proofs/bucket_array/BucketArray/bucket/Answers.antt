@@ -1,4 +1,4 @@
-use Rattle.std.proofs.Common.{◌∙◌, [], ap, arith, get_or}
+use Rattle.std.proofs.Common.{◌∙◌, ◌<◌, [], ap, arith, get_or, length, rules}
 use Rattle.std.proofs.lemmas.List.{get_or_read}
 use Rattle.bucket_slots.specs.BucketView.{empty_bucket}
 use Rattle.bucket_slots.proofs.ArrayParts.{place_is}
@@ -9,6 +9,14 @@ index-requires g c =
     let at = c.place_of-part.ensures in
     let place = place_is _ _ _ _ c.self.invariant.1 _ _ _ _ c.self.view_is c.requires at.part at.offset in
     omega (arith, c.self.inside.parts.ok.0, place.within)
+
+pub bucket-requires : goal.bucket-requires
+bucket-requires g c =
+    let at = c.place_of-part.ensures in
+    let place = place_is _ _ _ _ c.self.invariant.1 _ _ _ _ c.self.view_is c.requires at.part at.offset in
+    let here = get_or_read c.self.inside.parts.items c.place_of-part.result.0 c.index.result.now place.within c.index.ensures [] in
+    let inside : c.place_of-part.result.1 < length c.index.result.now = rw here place.inside in
+    (search rules, (c.room.ensures.fits, (inside, c.self.invariant.1.spare_is)))
 
 pub returns : goal.returns
 returns g c =

@@ -1,8 +1,7 @@
-use Rattle.std.proofs.Common.{◌-◌, ◌∙◌, ℕ, ap, bit_and}
+use Rattle.std.proofs.Common.{◌∙◌, ℕ, ap, bit_and}
 use Rattle.std.proofs.lemmas.Nat.{and_mask}
-use Rattle.bucket_slots.proofs.PowersOfTwo.{shifted_one}
 use Rattle.bucket_slots.proofs.bucket_array.sizing.place_of.Goals as goal
 
 pub returns-clause-offset : goal.returns-clause-offset
 returns-clause-offset c =
-    ap (λ (n : ℕ). bit_and c.args.index (n - 1)) (shifted_one c.args.part_bits c.requires) ∙ and_mask c.args.index c.args.part_bits
+    ap (λ (n : ℕ). bit_and c.args.index n) c.requires.mask ∙ and_mask c.args.index c.args.part_bits

@@ -1,6 +1,6 @@
-use Rattle.std.proofs.Common.{Err, None, Ok, Some, false, refl}
+use Rattle.std.proofs.Common.{Err, Ok, false, refl}
 use Rattle.bucket_table.proofs.CursorSteps.{moves_in, none_ahead, some_ahead}
-use Rattle.bucket_table.proofs.PassingUnits.{departs_as}
+use Rattle.bucket_table.proofs.PassingUnits.{departs_viewed}
 use Rattle.bucket_table.proofs.arrays.Arrays.advance.Goals as goal
 
 pub returns-then-find_next-clause-stays : goal.returns-then-find_next-clause-stays
@@ -15,12 +15,8 @@ returns-then-find_next-clause-leaves g c = λ none. absurd
     (some_ahead _ _ _ _ c.bucket_of.ensures (c.find_next.ensures.ahead c.if-find_next.true)
     none)
 
-pub returns-in-Ok-Some-clause-stays : goal.returns-in-Ok-Some-clause-stays
-returns-in-Ok-Some-clause-stays g c = λ some. absurd (some
-    (none_ahead _ _ _ _ c.bucket_of.ensures (c.find_next.ensures.end c.if-find_next.false)))
-
-pub returns-in-Ok-None-clause-stays : goal.returns-in-Ok-None-clause-stays
-returns-in-Ok-None-clause-stays g c = λ some. absurd (some
+pub returns-in-Ok-clause-stays : goal.returns-in-Ok-clause-stays
+returns-in-Ok-clause-stays g c = λ some. absurd (some
     (none_ahead _ _ _ _ c.bucket_of.ensures (c.find_next.ensures.end c.if-find_next.false)))
 
 pub returns-in-Err-clause-stays : goal.returns-in-Err-clause-stays
@@ -32,16 +28,10 @@ returns-then-find_next-clause-departs g c = λ none. absurd
     (some_ahead _ _ _ _ c.bucket_of.ensures (c.find_next.ensures.ahead c.if-find_next.true)
     none)
 
-pub returns-in-Ok-Some-clause-departs : goal.returns-in-Ok-Some-clause-departs
-returns-in-Ok-Some-clause-departs g c = λ none.
-    departs_as (λ i. i) (λ to. to.1) (Ok (Some c.in-Ok-Some.next)) (Ok (Some (false, c.in-Ok-Some.next))) (λ len from passed h. h) (λ passed. refl) (λ ok. ok) c.args.is_old c.args.index c.args.self.now c.pass.new.self
-    (rw c.in-Ok-Some.field-0-is at c.in-Ok-Some.ensures.departs)
-
-pub returns-in-Ok-None-clause-departs : goal.returns-in-Ok-None-clause-departs
-returns-in-Ok-None-clause-departs g c = λ none.
-    departs_as (λ i. i) (λ to. to.1) (Ok None) (Ok None) (λ len from passed h. h) (λ passed. refl) (λ ok. ok) c.args.is_old c.args.index c.args.self.now c.pass.new.self
-    (rw c.in-Ok-None.field-0-is at c.in-Ok-None.ensures.departs)
+pub returns-in-Ok-clause-departs : goal.returns-in-Ok-clause-departs
+returns-in-Ok-clause-departs g c = λ none.
+    departs_viewed (λ next. (false, next)) (λ to. to.1) (Ok c.in-Ok.next) c.args.is_old c.args.index c.args.self.now c.pass.new.self c.in-Ok.ensures.departs
 
 pub returns-in-Err-clause-departs : goal.returns-in-Err-clause-departs
 returns-in-Err-clause-departs g c = λ none.
-    departs_as (λ i. i) (λ to. to.1) (Err c.in-Err.refused) (Err c.in-Err.refused) (λ len from passed h. h) (λ passed. refl) (λ ok. ok) c.args.is_old c.args.index c.args.self.now c.pass.new.self c.in-Err.ensures.departs
+    departs_viewed (λ next. (false, next)) (λ to. to.1) (Err c.in-Err.missing) c.args.is_old c.args.index c.args.self.now c.pass.new.self c.in-Err.ensures.departs

@@ -3,6 +3,7 @@ use Rattle.std.proofs.lemmas.Option.{none-some}
 use Rattle.bucket_table.proofs.CountSteps.{none_started}
 use Rattle.bucket_table.proofs.FinishingUnits.{finishes, unit_finished}
 use Rattle.bucket_table.proofs.Placing.{placed_end, placed_start}
+use Rattle.bucket_table.proofs.UnitSteps.{kept_unit}
 use Rattle.bucket_table.proofs.UnitWork.{handed}
 use Rattle.bucket_table.proofs.arrays.Arrays.finish_unit.Goals as goal
 
@@ -47,3 +48,19 @@ returns-then-success-clause-alone g c = λ alone.
 pub returns-else-success-clause-alone : goal.returns-else-success-clause-alone
 returns-else-success-clause-alone g c = λ alone.
     absurd (none-some c.in-Some.ticket (sym (none_started c.args.self.now c.start_incremental_rehash.new.self (Some c.in-Some.ticket) c.in-Some.ensures.rehash c.in-Some.ensures.others alone).0))
+
+pub returns-then-success-clause-kept : goal.returns-then-success-clause-kept
+returns-then-success-clause-kept g c =
+    let start = c.in-Some.ensures in
+    let end = c.end_incremental_rehash.ensures in
+    kept_unit c.args.self.now c.start_incremental_rehash.new.self c.relocate_unit-success.new.self c.end_incremental_rehash.new.self _ c.in-Some.ticket
+    c.relocate_unit-success.result c.end_incremental_rehash.result start.rehash start.others start.same_pairs c.relocate_unit-success.ensures.worked
+    end.rehash end.others end.same_pairs
+
+pub returns-else-success-clause-kept : goal.returns-else-success-clause-kept
+returns-else-success-clause-kept g c =
+    let start = c.in-Some.ensures in
+    let end = c.end_incremental_rehash.ensures in
+    kept_unit c.args.self.now c.start_incremental_rehash.new.self c.relocate_unit-success.new.self c.end_incremental_rehash.new.self _ c.in-Some.ticket
+    c.relocate_unit-success.result c.end_incremental_rehash.result start.rehash start.others start.same_pairs c.relocate_unit-success.ensures.worked
+    end.rehash end.others end.same_pairs

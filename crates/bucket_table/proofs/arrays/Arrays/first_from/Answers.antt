@@ -49,7 +49,7 @@ loop-index-init g c = (
 
 pub returns-in_default-clause-passes : goal.returns-in_default-clause-passes
 returns-in_default-clause-passes g c = λ bound begins.
-    passes_refused c.args.self.now c.loop-index.self c.prepare_at.new.self c.args.start c.loop-index.index c.loop-index.invariant.1 c.prepare_at.ensures.kept c.prepare_at.ensures.units c.prepare_at.ensures.alone _ c.len.result bound c.len.ensures.value (search rules) (λ none. absurd (search rules)) (begins_wide c.args.self.now c.len.result c.args.start bound (c.len.ensures.value ∙ c.loop-index.invariant.1.len) c.len.ensures.power begins)
+    passes_refused c.args.self.now c.loop-index.self c.prepare_at.new.self c.args.start c.loop-index.index c.loop-index.invariant.1 c.prepare_at.ensures.kept c.prepare_at.ensures.units c.prepare_at.ensures.alone c.len.result bound c.len.ensures.value (search rules) (λ none. search rules) (begins_wide c.args.self.now c.len.result c.args.start bound (c.len.ensures.value ∙ c.loop-index.invariant.1.len) c.len.ensures.power begins)
 
 pub returns-then-find_next-clause-passes : goal.returns-then-find_next-clause-passes
 returns-then-find_next-clause-passes g c = λ bound begins.
@@ -62,11 +62,11 @@ returns-clause-passes g c = λ bound begins.
     passes_all c.args.self.now c.loop-index.self c.args.start c.loop-index.index bound c.loop-index.invariant.1 (omega (arith, c.loop-index-test.false, c.len.ensures.value)) (begins_wide c.args.self.now c.len.result c.args.start bound (c.len.ensures.value ∙ c.loop-index.invariant.1.len) c.len.ensures.power begins)
 
 pub returns-clause-found : goal.returns-clause-found
-returns-clause-found g c = (
-  ends (g.H.KeyHash.hash_of c.args.hasher.now) c.args.self.now c.loop-index.self c.args.start c.loop-index.index c.loop-index.at c.loop-index.invariant.0 (g.met.H.KeyHash.fits c.args.hasher.now) c.sound.ensures
+returns-clause-found g c = record {
+  none = λ nothing. ends (g.H.KeyHash.hash_of c.args.hasher.now) c.args.self.now c.loop-index.self c.args.start c.loop-index.index c.loop-index.at c.loop-index.invariant.0 (g.met.H.KeyHash.fits c.args.hasher.now) c.sound.ensures
       (λ e. c.len.ensures.none (omega (arith, e, c.len.ensures.value)))
       (λ some. subst IsLength c.len.ensures.value (c.len.ensures.power
       (omega (arith, some, c.len.ensures.value)))) (omega
-      (arith, c.loop-index-test.false, c.len.ensures.value)),
-  c.loop-index.invariant.0.null,
-)
+      (arith, c.loop-index-test.false, c.len.ensures.value));
+  null = c.loop-index.invariant.0.null;
+}

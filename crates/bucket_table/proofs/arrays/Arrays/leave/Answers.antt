@@ -9,17 +9,17 @@ use Rattle.bucket_table.proofs.PassingUnits.{passes_nowhere, passes_past}
 use Rattle.bucket_table.proofs.arrays.Arrays.leave.Goals as goal
 
 pub returns-then-now-eq0-clause-found : goal.returns-then-now-eq0-clause-found
-returns-then-now-eq0-clause-found g c = (
-  subst (HasNoneFrom (g.H.KeyHash.hash_of c.args.hasher.now) (bound_of c.args.len (c.args.index + 1))) (sym (no_map c.args.self.now c.sound.ensures (c.len-now.ensures.none c.if-now-eq0.true))) tt,
-  c.null.ensures,
-)
+returns-then-now-eq0-clause-found g c = record {
+  none = λ nothing. subst (HasNoneFrom (g.H.KeyHash.hash_of c.args.hasher.now) (bound_of c.args.len (c.args.index + 1))) (sym (no_map c.args.self.now c.sound.ensures (c.len-now.ensures.none c.if-now-eq0.true))) tt;
+  null = c.null.ensures;
+}
 
 pub returns-then-index-len-clause-found : goal.returns-then-index-len-clause-found
 returns-then-index-len-clause-found g c =
     let top : 2 ^ 64 ≤ bound_of c.args.len (c.args.index + 1) = subst
     (λ (n : ℕ). 2 ^ 64 ≤ bound_of c.args.len n) (sym c.if-index-len.true)
     (omega (arith, all_hashes c.args.len c.requires.length)) in
-    (none_past (g.H.KeyHash.hash_of c.args.hasher.now) _ top (g.met.H.KeyHash.fits c.args.hasher.now) (pairs_of c.args.self.now), c.null.ensures)
+    record { none = λ nothing. none_past (g.H.KeyHash.hash_of c.args.hasher.now) _ top (g.met.H.KeyHash.fits c.args.hasher.now) (pairs_of c.args.self.now); null = c.null.ensures }
 
 pub returns-clause-found : goal.returns-clause-found
 returns-clause-found g c =

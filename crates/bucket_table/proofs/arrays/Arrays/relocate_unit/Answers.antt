@@ -19,10 +19,11 @@ overflow_add-start g c =
 
 pub returns-clause-worked : goal.returns-clause-worked
 returns-clause-worked g c =
-    unit_worked (c.args.unit * 64) c.min-end.result c.args.unit _ _ _ c.relocate_range.ensures.worked (mul_comm c.args.unit 64)
-    (λ i high within. omega (arith, c.min-end.ensures, c.old_len-len.ensures.value))
+    rw c.release_old.ensures
+    (unit_worked (c.args.unit * 64) c.min-end.result c.args.unit _ _ _ c.relocate_range-success.ensures.worked (mul_comm c.args.unit 64)
+    (λ i high within. omega (arith, c.min-end.ensures, c.old_len-len.ensures.value)))
 
 pub returns-clause-succeeds : goal.returns-clause-succeeds
 returns-clause-succeeds g c = λ was is easy.
-    c.relocate_range.ensures.succeeds was is
+    c.relocate_range-success.ensures.succeeds was is
     (unit_easy (c.args.unit * 64) c.min-end.result c.args.unit c.args.self.now was easy (mul_comm c.args.unit 64) (omega (arith, c.min-end.ensures)))

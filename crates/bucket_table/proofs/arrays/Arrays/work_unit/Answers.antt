@@ -4,6 +4,7 @@ use Rattle.std.proofs.lemmas.Option.{none-some}
 use Rattle.bucket_table.proofs.Placing.{placed_end, placed_start}
 use Rattle.bucket_table.proofs.StayingKilled.{killed_both, killed_ended, killed_some, killed_started}
 use Rattle.bucket_table.proofs.OneUnit.{handed_runs, none_runs}
+use Rattle.bucket_table.proofs.UnitSteps.{kept_unit}
 use Rattle.bucket_table.proofs.UnitWork.{easy_handed, handed, unit_bag}
 use Rattle.bucket_table.proofs.arrays.Arrays.work_unit.Goals as goal
 
@@ -52,3 +53,11 @@ returns-clause-units g c =
     handed_runs c.args.self.now c.start_incremental_rehash.new.self c.relocate_unit-success.new.self c.end_incremental_rehash.new.self.rehash c.in-Some.ticket c.relocate_unit-success.result c.end_incremental_rehash.result
     c.requires.placed.rehashed h (ap (λ a. a.current) c.in-Some.ensures.others) c.relocate_unit-success.ensures.worked c.relocate_unit-success.ensures.spends
     (λ easy. c.relocate_unit-success.ensures.succeeds h.started h.middle_is easy) c.end_incremental_rehash.ensures.rehash
+
+pub returns-clause-kept : goal.returns-clause-kept
+returns-clause-kept g c =
+    let start = c.in-Some.ensures in
+    let end = c.end_incremental_rehash.ensures in
+    kept_unit c.args.self.now c.start_incremental_rehash.new.self c.relocate_unit-success.new.self c.end_incremental_rehash.new.self _ c.in-Some.ticket
+    c.relocate_unit-success.result c.end_incremental_rehash.result start.rehash start.others start.same_pairs c.relocate_unit-success.ensures.worked
+    end.rehash end.others end.same_pairs

@@ -1,6 +1,8 @@
+use Rattle.std.proofs.Common.{subst}
+use Rattle.bucket_table.specs.Rehashing.{KeepsArrays}
 use Rattle.bucket_table.proofs.MapKept.{one_map_kept, state_seen}
 use Rattle.bucket_table.proofs.Placing.{placed_end}
-use Rattle.bucket_table.proofs.UnitSteps.{kept_rehash}
+use Rattle.bucket_table.proofs.UnitSteps.{kept_ended}
 use Rattle.bucket_table.proofs.WriterSteps.{kept_prepared}
 use Rattle.bucket_table.proofs.hash_table.HashTable.end_incremental_rehash.Goals as goal
 
@@ -8,8 +10,17 @@ pub invariant_of-self : goal.invariant_of-self
 invariant_of-self g c =
     let e = c.end_incremental_rehash.ensures in
     one_map_kept g.K.PartialEq.eq g.met.K.Eq.laws (g.H.KeyHash.hash_of c.self.inside.hasher) c.self.inside.arrays c.end_incremental_rehash.new.self c.self.invariant
-    (kept_rehash c.self.inside.arrays c.end_incremental_rehash.new.self e.others e.same_pairs)
+    (kept_ended c.self.inside.arrays c.end_incremental_rehash.new.self c.args.ticket c.args.success c.end_incremental_rehash.result e.rehash e.others e.same_pairs)
     (placed_end (g.H.KeyHash.hash_of c.self.inside.hasher) c.self.inside.arrays c.end_incremental_rehash.new.self c.args.ticket c.args.success c.end_incremental_rehash.result c.self.invariant.placed e.rehash e.others)
 
 pub returns-clause-map : goal.returns-clause-map
-returns-clause-map g c = state_seen g.row.TYPE _ c.args.self.now c.end_incremental_rehash.new.self c.self.view_is (kept_prepared _ c.end_incremental_rehash.new.self (kept_rehash c.self.inside.arrays c.end_incremental_rehash.new.self c.end_incremental_rehash.ensures.others c.end_incremental_rehash.ensures.same_pairs))
+returns-clause-map g c =
+    let e = c.end_incremental_rehash.ensures in
+    let kept = kept_ended c.self.inside.arrays c.end_incremental_rehash.new.self c.args.ticket c.args.success c.end_incremental_rehash.result e.rehash e.others e.same_pairs in
+    state_seen g.row.TYPE _ c.args.self.now c.end_incremental_rehash.new.self c.self.view_is (kept_prepared _ c.end_incremental_rehash.new.self kept)
+
+pub returns-clause-kept : goal.returns-clause-kept
+returns-clause-kept g c =
+    let e = c.end_incremental_rehash.ensures in
+    let kept = kept_ended c.self.inside.arrays c.end_incremental_rehash.new.self c.args.ticket c.args.success c.end_incremental_rehash.result e.rehash e.others e.same_pairs in
+    subst (λ t. KeepsArrays t.arrays c.end_incremental_rehash.new.self) c.self.view_is kept

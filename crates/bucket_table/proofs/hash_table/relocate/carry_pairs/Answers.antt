@@ -1,14 +1,13 @@
 use Rattle.std.proofs.Common.{rules, subst, sym, ◌∙◌, refl}
 use Rattle.bucket_table.specs.Relocation.{MovesInto}
-use Rattle.bucket_table.proofs.Carried.{carried_over, carries_unlisted, is_cache, is_kept, moves_unlisted, order_back}
+use Rattle.bucket_table.proofs.Carried.{can_move_unlisted, carried_over, carries_unlisted, is_cache, is_kept, moves_unlisted, order_back}
 use Rattle.bucket_table.proofs.Landings.{none_said}
 use Rattle.bucket_table.proofs.hash_table.relocate.carry_pairs.Goals as goal
 
 pub move_pairs-requires : goal.move_pairs-requires
 move_pairs-requires g c =
-    let taken = c.take_lru-len.ensures.bucket in
-    let m = c.requires in
-    (search rules, (search rules, (m.within, (rw taken m.in_range, (rw taken m.own_bytes, (m.homes, (rw taken m.room, (m.alive, λ slot. refl))))))))
+    let ready = can_move_unlisted (g.H.KeyHash.hash_of c.args.hasher.now) c.take_lru-len.ensures.bucket c.requires in
+    (search rules, (search rules, (ready, λ slot. refl)))
 
 pub returns-then-len-eq0-clause-moved : goal.returns-then-len-eq0-clause-moved
 returns-then-len-eq0-clause-moved g c =
@@ -24,9 +23,8 @@ returns-then-len-eq0-clause-recency g c =
 
 pub move_pairs-requires-2 : goal.move_pairs-requires-2
 move_pairs-requires-2 g c =
-    let taken = c.take_lru-len.ensures.bucket in
-    let m = c.requires in
-    (search rules, (search rules, (m.within, (rw taken m.in_range, (rw taken m.own_bytes, (m.homes, (rw taken m.room, (m.alive, none_said 32))))))))
+    let ready = can_move_unlisted (g.H.KeyHash.hash_of c.args.hasher.now) c.take_lru-len.ensures.bucket c.requires in
+    (search rules, (search rules, (ready, none_said 32)))
 
 pub append_arrivals-requires : goal.append_arrivals-requires
 append_arrivals-requires g c =
@@ -43,29 +41,12 @@ append_arrivals-requires g c =
       ),
     )
 
-pub returns-clause-moved : goal.returns-clause-moved
-returns-clause-moved g c =
+pub returns : goal.returns
+returns g c =
     let hash = g.H.KeyHash.hash_of c.args.hasher.now in
     let taken = c.take_lru-len.ensures in
     let m = c.move_pairs-2 in
-    (carried_over g.row.TYPE hash c.args.source.now c.take_lru-len.new.self m.new.source c.args.current.now m.new.current
+    let carried = carried_over g.row.TYPE hash c.args.source.now c.take_lru-len.new.self m.new.source c.args.current.now m.new.current
     c.append_arrivals.new.current m.new.landings c.take_lru-len.result.0 c.take_lru-len.result.1 c.sound.ensures m.auto.landings
-    taken.bucket taken.slots taken.number m.ensures.landed m.ensures.moved m.ensures.homes c.append_arrivals.ensures).moved
-
-pub returns-clause-homes : goal.returns-clause-homes
-returns-clause-homes g c =
-    let hash = g.H.KeyHash.hash_of c.args.hasher.now in
-    let taken = c.take_lru-len.ensures in
-    let m = c.move_pairs-2 in
-    (carried_over g.row.TYPE hash c.args.source.now c.take_lru-len.new.self m.new.source c.args.current.now m.new.current
-    c.append_arrivals.new.current m.new.landings c.take_lru-len.result.0 c.take_lru-len.result.1 c.sound.ensures m.auto.landings
-    taken.bucket taken.slots taken.number m.ensures.landed m.ensures.moved m.ensures.homes c.append_arrivals.ensures).homes
-
-pub returns-clause-recency : goal.returns-clause-recency
-returns-clause-recency g c =
-    let hash = g.H.KeyHash.hash_of c.args.hasher.now in
-    let taken = c.take_lru-len.ensures in
-    let m = c.move_pairs-2 in
-    (carried_over g.row.TYPE hash c.args.source.now c.take_lru-len.new.self m.new.source c.args.current.now m.new.current
-    c.append_arrivals.new.current m.new.landings c.take_lru-len.result.0 c.take_lru-len.result.1 c.sound.ensures m.auto.landings
-    taken.bucket taken.slots taken.number m.ensures.landed m.ensures.moved m.ensures.homes c.append_arrivals.ensures).recency
+    taken.bucket taken.slots taken.number m.ensures.landed m.ensures.moved m.ensures.homes c.append_arrivals.ensures in
+    record { moved = carried.moved; homes = carried.homes; emptied = m.ensures.emptied; recency = carried.recency }

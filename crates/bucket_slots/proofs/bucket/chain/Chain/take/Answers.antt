@@ -74,3 +74,12 @@ returns g c =
       rows = taken_rows rows now _ _ c.args.block c.args.pos c.self.view_is within c.walk-link.ensures.rest c.take_first-pair.ensures.rows;
       place = c.at-2.ensures ∙ place_behind_previous rows c.args.block c.args.pos c.self.inside.len c.self.invariant.counted (gone ∙ c.if-not-gone.false) (omega (arith, c.if-block-len.false, c.get-len.ensures)) ∙ moved;
     }
+
+pub walk-link-requires-clause-within : goal.walk-link-requires-clause-within
+walk-link-requires-clause-within g c = omega (arith, ap length c.self.view_is, c.requires.within)
+
+pub walk-link-requires-clause-reached : goal.walk-link-requires-clause-reached
+walk-link-requires-clause-reached g c = omega (arith, ap length c.self.view_is, c.requires.within, c.self.invariant.chain.few)
+
+pub overflow_add-block : goal.overflow_add-block
+overflow_add-block g c = omega (arith, ap length c.self.view_is, c.requires.within, c.self.invariant.chain.few)

@@ -1,4 +1,4 @@
-use Rattle.std.proofs.Common.{◌≡◌, ◌-◌, ◌∙◌, ap, arith, replicate, vec_capacity}
+use Rattle.std.proofs.Common.{◌≡◌, ◌-◌, ◌∙◌, ap, arith, false, replicate, vec_capacity}
 use Rattle.bucket_slots.specs.BucketView.{empty_bucket}
 use Rattle.bucket_slots.specs.Layout.ArrayParts.{with_unmade}
 use Rattle.bucket_slots.proofs.bucket_array.part.Part.alloc.Goals as goal
@@ -7,4 +7,4 @@ pub returns : goal.returns
 returns g c =
     let made = c.in-Ok.made in
     let all : vec_capacity made - 0 ≡ c.args.len = omega (arith, c.in-Ok.ensures.exact) in
-    ap (λ items. with_unmade items (vec_capacity made)) c.in-Ok.ensures.items ∙ ap (λ n. replicate n empty_bucket) all
+    ap (λ items. with_unmade items (vec_capacity made) false) c.in-Ok.ensures.items ∙ ap (λ n. replicate n empty_bucket) all

@@ -1,7 +1,8 @@
 use Rattle.std.proofs.Common.{◌<◌, ◌∙◌, ap, arith, get_or, set, length, refl, sym, vec_capacity}
+use Rattle.std.proofs.lemmas.Grind.{common_steps}
 use Rattle.std.proofs.lemmas.List.{get_or_read}
 use Rattle.bucket_slots.specs.BucketView.{empty_bucket}
-use Rattle.bucket_slots.proofs.ArrayParts.{get_or-part, set-part}
+use Rattle.bucket_slots.proofs.ArrayParts.{get_or-made, set-part}
 use Rattle.bucket_slots.proofs.bucket_array.part.Part.bucket_mut.Goals as goal
 
 pub returns : goal.returns
@@ -10,10 +11,17 @@ returns g c =
     let at = c.args.offset in
     let same = c.make_to.ensures.same ∙ c.self.view_is in
     let there : at < length made.items = omega (arith, made.ok.0, c.make_to.ensures.made) in (
-      (refl, λ w. set-part made.items (vec_capacity made) at w there ∙ ap (λ buckets. set buckets at w) same),
+      (refl, λ w. set-part made.items (vec_capacity made) at c.self.inside.released w there ∙ ap (λ buckets. set buckets at w) same),
       record {
         writes_back = tt;
         bucket = get_or_read made.items at c.index_mut.result.now there c.index_mut.ensures.value empty_bucket
-            ∙ sym (get_or-part made.items (vec_capacity made) at) ∙ ap (λ buckets. get_or buckets at empty_bucket) same;
+            ∙ sym (get_or-made made.items (vec_capacity made) at c.self.inside.released there) ∙ ap (λ buckets. get_or buckets at empty_bucket) same;
       },
     )
+
+pub make_to-requires : goal.make_to-requires
+make_to-requires g c =
+    (c.requires.fits, (c.requires.fits, grind (arith, common_steps, ap length c.self.view_is, c.requires.within, c.self.inside.made.ok)))
+
+pub index_mut-requires : goal.index_mut-requires
+index_mut-requires g c = omega (arith, c.make_to.ensures.made)

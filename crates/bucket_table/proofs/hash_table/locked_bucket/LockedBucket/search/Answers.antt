@@ -1,4 +1,5 @@
-use Rattle.std.proofs.Common.{sym, ◌∙◌}
+use Rattle.std.proofs.Common.{ap, sym, ◌∙◌}
+use Rattle.bucket_slots.specs.BucketView.{place_or_null}
 use Rattle.bucket_table.proofs.LookUps.{lent_seen, one_seen, searched_absent, searched_found}
 use Rattle.bucket_table.proofs.hash_table.locked_bucket.LockedBucket.search.Goals as goal
 
@@ -20,3 +21,6 @@ returns-clause-absent g c =
     (λ key equal. g.met.H.KeyHash.alike o.table.now.hasher key c.args.key.now equal ∙ sym
     c.requires.own_hash) o.table.now.arrays o.is_old
     c.bucket_of.result.now o.index one.placed o.locked c.requires.home lent (c.get_entry_ptr.ensures.absent null)
+
+pub returns-clause-null : goal.returns-clause-null
+returns-clause-null g c = λ null. c.get_entry_ptr.ensures.place ∙ ap place_or_null (c.get_entry_ptr.ensures.absent null)

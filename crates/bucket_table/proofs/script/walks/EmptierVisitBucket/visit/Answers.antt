@@ -4,6 +4,6 @@ use Rattle.bucket_table.proofs.script.walks.EmptierVisitBucket.visit.Goals as go
 
 pub returns-clause-visited : goal.returns-clause-visited
 returns-clause-visited g c =
-    empties_bucket _ c.args.bucket.now c.retain_in-taken.new.bucket _ c.retain_in-taken.result _ _ _
-    (λ key value answer k. search rules)
-    c.retain_in-taken.ensures (search rules) (search rules)
+    empties_bucket _ c.args.bucket.now c.retain_in-taken.new.bucket _ _ c.retain_in-taken.result _ _ _
+    (λ key value answer k. search rules) c.retain_in-taken.ensures.marks
+    c.retain_in-taken.ensures.retained (search rules) (search rules)

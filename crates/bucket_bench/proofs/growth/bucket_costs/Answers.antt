@@ -1,5 +1,0 @@
-use Rattle.std.proofs.Common.{rules, refl}
-use Rattle.bucket_bench.proofs.growth.bucket_costs.Goals as goal
-
-pub new-table-requires : goal.new-table-requires
-new-table-requires g c = (search rules, ((6, refl), search rules))

@@ -1,0 +1,11 @@
+use Rattle.std.proofs.Common.{sym, ◌∙◌}
+use Rattle.bucket_slots.proofs.NextPlaces.{steps_here}
+use Rattle.bucket_slots.proofs.bucket.Bucket.next_here.Goals as goal
+
+pub returns-in-Some : goal.returns-in-Some
+returns-in-Some g c =
+    let from = rw c.pos.ensures at c.position_after-from.ensures in
+    let here = rw c.block-block.ensures at (sym c.next_in_block.ensures ∙ c.in-Some.is) in
+    let is_new = rw c.block-block.ensures at c.at.ensures in
+    (steps_here _ _ c.args.at.now _ c.self.view_is c.self.invariant.1.own_long c.sound.ensures
+    from.near from.past _ _ here is_new).1

@@ -1,0 +1,13 @@
+use Rattle.std.proofs.Common.{◌≡◌, ◌<◌, ◌≤◌, ℕ, length, true, get_or, vec_len}
+use Rattle.bucket_slots.specs.BucketView.{empty_bucket}
+use Rattle.bucket_slots.specs.Layout.ArrayParts.{unmade_bucket}
+use Rattle.bucket_slots.proofs.bucket_array.part.are_spent.Given as goal
+
+abbrev pub invariant-loop-left : goal.invariant-loop-left
+invariant-loop-left g l = record {
+  within : l.left ≤ vec_len l.made;
+  spent : (i : ℕ) → l.left ≤ i → i < length l.made.items → get_or l.made.items i empty_bucket ≡ unmade_bucket true;
+}
+
+abbrev pub decreases-loop-left : goal.decreases-loop-left
+decreases-loop-left g l = l.left

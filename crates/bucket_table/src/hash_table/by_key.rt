@@ -1,0 +1,306 @@
+//! Calls by key. What changes a pair that is there is never refused: it finds its pair on either
+//! side, so the pairs needn't have moved.
+//!
+//! Own.
+ghost use Rattle.std.specs.Prelude.{◌≡◌, ◌≢◌, ◌%◌, ◌<◌, IfSome, IfNone, IsTrue, Some, is_ok, is_some, length};
+ghost use Rattle.std.specs.Borrow.{Bor};
+ghost use Rattle.bucket_slots.specs.BucketView.{bucket_with_value, slot_in};
+ghost use Rattle.bucket_slots.specs.Clearing.{slots_after_insertion};
+ghost use Rattle.bucket_slots.specs.Evicting.{slots_touched};
+ghost use Rattle.bucket_slots.specs.Marking.{MarksBy, slots_marked};
+ghost use Rattle.bucket_slots.specs.Removing.{slots_without};
+ghost use Rattle.bucket_slots.specs.Slots.{is_live, live_pair};
+ghost use Rattle.bucket_table.specs.ArraysView.{marks_of, pairs_of};
+ghost use Rattle.bucket_table.specs.Asking.{RemovesAndShrinks};
+ghost use Rattle.bucket_table.specs.ByKey.{ChangesAt, FindsThen, PreparesThen, ShrinksAt, StandsAt};
+ghost use Rattle.bucket_table.specs.ByKey.{Inserts, Marks, Swaps, Takes, Touches};
+ghost use Rattle.bucket_table.specs.LookingUp.{IsAbsent};
+ghost use Rattle.bucket_table.specs.MapState.{ChangesValue, KeepsPairs, TakesPair, state_of};
+ghost use Rattle.bucket_table.specs.Sides.{bucket_of, buckets_on, with_bucket};
+ghost use Rattle.bucket_table.specs.Units.{KeepsBag};
+
+use crate::arrays::Spot;
+use crate::hash_table::{HashTable, NotInserted};
+use crate::key_hash::KeyHash;
+use bucket_slots::bucket::{CACHE, Generation, INDEX};
+use bucket_slots::lru::LruList;
+use std::mem;
+
+impl<K: Eq + Drop, V: Drop, H: KeyHash<K>, L: LruList + Drop, const TYPE: u8> HashTable<
+    K,
+    V,
+    H,
+    L,
+    TYPE,
+> {
+    /// Takes out the pair whose key is equal, and returns it. `None` exactly where the map has
+    /// none.
+    ///
+    /// Beside an old array it works one unit first, and moves the sources of the hash's home. May
+    /// take memory, and is never refused: without it a pair is taken from the old array. Where no
+    /// live pair is left in the bucket, the table may shrink.
+    ///
+    /// O(slots of a unit, of the sources and of their targets; buckets where it shrinks). Own.
+    pub fn take(&mut self, key: &K) -> Option<(K, V)>
+        requires not_index { TYPE ≢ INDEX }
+        ensures map { Takes K.eq key.now (state_of TYPE self.old) result (state_of TYPE self.new) }
+        ensures bag { KeepsBag self.old.arrays.rehash self.new.arrays.rehash }
+        ensures arrays { PreparesThen TYPE self.old (λ between.
+            ShrinksAt slots_without (is_some result) between self.new) }
+    {
+        let hash = self.hash(key);
+        let _ = self.prepare(hash);
+        match self.spot_of(key, hash) {
+            Some(spot) => Some(self.take_at(spot)),
+            None => None,
+        }
+    }
+
+    /// Hands the pair of an index whose key is equal to `reader`, marks it, and returns the reader's
+    /// answer: the map is without it. `None` exactly where the map has none.
+    ///
+    /// Beside an old array it works one unit first, and moves the sources of the hash's home. May
+    /// take memory, and is never refused: without it a pair is marked in the old array. Where no
+    /// live pair is left in the bucket, the table may shrink.
+    ///
+    /// O(slots of a unit, of the sources and of their targets; buckets where it shrinks). Own.
+    pub fn mark<R, F: FnOnce(&K, &V) -> R, G: Generation>(
+        &mut self,
+        key: &K,
+        generation: &G,
+        reader: F,
+    ) -> Option<R>
+        requires index { TYPE ≡ INDEX }
+        requires callable { (own : Bor K) (value : Bor V) → F.pre reader own value }
+        ensures map { Marks K.eq key.now (λ own value answer. F.post reader own value answer)
+            (state_of TYPE self.old) result (state_of TYPE self.new) }
+        ensures bag { KeepsBag self.old.arrays.rehash self.new.arrays.rehash }
+        ensures arrays { PreparesThen TYPE self.old (λ between.
+            ShrinksAt (λ bucket at. slots_marked bucket at (G.epoch_of generation.now))
+            (is_some result) between self.new) }
+        ensures marks { MarksBy (G.epoch_of generation.now) (marks_of self.old.arrays)
+            (marks_of self.new.arrays) }
+    {
+        let hash = self.hash(key);
+        let _ = self.prepare(hash);
+        match self.spot_of(key, hash) {
+            Some(spot) => {
+                let answer = self.read_at(&spot, reader);
+                self.mark_at(spot, generation);
+                Some(answer)
+            }
+            None => None,
+        }
+    }
+
+    /// Makes the pair of a cache whose key is equal the one of its bucket touched last; a slot of the
+    /// chain isn't listed. Returns whether there is one.
+    ///
+    /// Beside an old array it works one unit first, and moves the sources of the hash's home. May
+    /// take memory, and is never refused: without it a pair is touched in the old array.
+    ///
+    /// O(slots of a unit, of the sources and of their targets). Own.
+    pub fn touch(&mut self, key: &K) -> bool
+        requires cache { TYPE ≡ CACHE }
+        ensures map { Touches K.eq key.now (state_of TYPE self.old) result
+            (state_of TYPE self.new) }
+        ensures bag { KeepsBag self.old.arrays.rehash self.new.arrays.rehash }
+        ensures arrays { PreparesThen TYPE self.old (λ between.
+            ChangesAt (slots_touched L.KEEPS) result between self.new) }
+    {
+        let hash = self.hash(key);
+        let _ = self.prepare(hash);
+        match self.spot_of(key, hash) {
+            Some(spot) => {
+                self.touch_at(&spot);
+                true
+            }
+            None => false,
+        }
+    }
+
+    /// Writes the value beside the key that is equal, and returns the earlier one.
+    ///
+    /// Beside an old array it works one unit first, and moves the sources of the hash's home. May
+    /// take memory, and is never refused: without it the value is written in the old array.
+    ///
+    /// # Errors
+    ///
+    /// The map has no such key: the value comes back.
+    ///
+    /// O(slots of a unit, of the sources and of their targets). Own.
+    pub fn swap(&mut self, key: &K, value: V) -> Result<V, V>
+        ensures map { Swaps K.eq key.now value (state_of TYPE self.old) result
+            (state_of TYPE self.new) }
+        ensures bag { KeepsBag self.old.arrays.rehash self.new.arrays.rehash }
+        ensures arrays { PreparesThen TYPE self.old (λ between.
+            ChangesAt (λ bucket at. bucket_with_value bucket at value) (is_ok result) between
+            self.new) }
+    {
+        let hash = self.hash(key);
+        let _ = self.prepare(hash);
+        match self.spot_of(key, hash) {
+            Some(spot) => Ok(self.swap_at(&spot, value)),
+            None => Err(value),
+        }
+    }
+
+    /// Inserts a pair whose key the map hasn't.
+    ///
+    /// # Errors
+    ///
+    /// An equal key is there, or want of memory: the pair comes back.
+    ///
+    /// O(slots of a unit, of the sources and of their targets; buckets that a resize makes). Own.
+    pub fn insert_pair<G: Generation>(
+        &mut self,
+        key: K,
+        value: V,
+        generation: &G,
+    ) -> Result<(), NotInserted<K, V>>
+        ensures map { Inserts K.eq key value (state_of TYPE self.old) result
+            (state_of TYPE self.new) }
+        ensures bag { KeepsBag self.old.arrays.rehash self.new.arrays.rehash }
+        ensures arrays { FindsThen TYPE (H.hash_of self.old.hasher key)
+            (λ bucket. slots_after_insertion TYPE (G.keeps generation.now) bucket (key, value)
+            (H.hash_of self.old.hasher key % 256)) self.old result self.new }
+    {
+        let hash = self.hash(&key);
+        let mut locked = match self.writer_sync(hash) {
+            Ok(locked) => locked,
+            Err(_) => return Err(NotInserted::Memory(key, value)),
+        };
+        let at = locked.search(&key, hash);
+        if at.is_valid() {
+            return Err(NotInserted::Present(key, value));
+        }
+        match locked.insert(hash, (key, value), generation) {
+            Ok(_) => Ok(()),
+            Err((key, value)) => Err(NotInserted::Memory(key, value)),
+        }
+    }
+
+    /// Takes the pair out of a live slot.
+    fn take_at(&mut self, spot: Spot<K, V, TYPE>) -> (K, V)
+        requires not_index { TYPE ≢ INDEX }
+        requires within { spot.index < length (buckets_on self.old.arrays spot.is_old) }
+        requires live_slot { IsTrue (is_live
+            (slot_in (bucket_of self.old spot.is_old spot.index) spot.at)) }
+        ensures pair { live_pair (slot_in (bucket_of self.old spot.is_old spot.index) spot.at)
+            ≡ Some result }
+        ensures map { TakesPair (state_of TYPE self.old) result (state_of TYPE self.new) }
+        ensures bag { KeepsBag self.old.arrays.rehash self.new.arrays.rehash }
+        ensures arrays { RemovesAndShrinks self.old.arrays spot.is_old spot.index
+            (slots_without (bucket_of self.old spot.is_old spot.index) spot.at) self.new.arrays }
+    {
+        let Spot {
+            is_old,
+            index,
+            mut at,
+        } = spot;
+        self.arrays.room_of(is_old);
+        let pair = self.arrays.bucket_of_mut(is_old, index).remove(&mut at);
+        self.arrays.shrink_emptied(is_old, index);
+        pair
+    }
+
+    /// Marks the pair in a live slot.
+    fn mark_at<G: Generation>(&mut self, spot: Spot<K, V, TYPE>, generation: &G)
+        requires index { TYPE ≡ INDEX }
+        requires within { spot.index < length (buckets_on self.old.arrays spot.is_old) }
+        requires live_slot { IsTrue (is_live
+            (slot_in (bucket_of self.old spot.is_old spot.index) spot.at)) }
+        ensures map { (pair : K × V)
+            → (live_pair (slot_in (bucket_of self.old spot.is_old spot.index) spot.at) ≡ Some pair)
+            → TakesPair (state_of TYPE self.old) pair (state_of TYPE self.new) }
+        ensures bag { KeepsBag self.old.arrays.rehash self.new.arrays.rehash }
+        ensures arrays { RemovesAndShrinks self.old.arrays spot.is_old spot.index
+            (slots_marked (bucket_of self.old spot.is_old spot.index) spot.at
+            (G.epoch_of generation.now)) self.new.arrays }
+        ensures marks { MarksBy (G.epoch_of generation.now) (marks_of self.old.arrays)
+            (marks_of self.new.arrays) }
+    {
+        let Spot {
+            is_old,
+            index,
+            mut at,
+        } = spot;
+        self.arrays.room_of(is_old);
+        self.arrays
+            .bucket_of_mut(is_old, index)
+            .mark_removed(&mut at, generation);
+        self.arrays.shrink_emptied(is_old, index);
+    }
+
+    /// Touches the pair in a live slot.
+    fn touch_at(&mut self, spot: &Spot<K, V, TYPE>)
+        requires cache { TYPE ≡ CACHE }
+        requires within { spot.now.index < length (buckets_on self.old.arrays spot.now.is_old) }
+        requires live_slot { IsTrue (is_live
+            (slot_in (bucket_of self.old spot.now.is_old spot.now.index) spot.now.at)) }
+        ensures map { KeepsPairs (state_of TYPE self.old) (state_of TYPE self.new) }
+        ensures bag { KeepsBag self.old.arrays.rehash self.new.arrays.rehash }
+        ensures table { self.new ≡ with_bucket self.old spot.now.is_old spot.now.index
+            (slots_touched L.KEEPS (bucket_of self.old spot.now.is_old spot.now.index)
+            spot.now.at) }
+    {
+        let is_old = spot.is_old;
+        let index = spot.index;
+        self.arrays.room_of(is_old);
+        self.arrays
+            .bucket_of_mut(is_old, index)
+            .update_lru_tail(&spot.at);
+    }
+
+    /// Writes a value into a live slot, and returns the earlier one.
+    fn swap_at(&mut self, spot: &Spot<K, V, TYPE>, value: V) -> V
+        requires within { spot.now.index < length (buckets_on self.old.arrays spot.now.is_old) }
+        requires live_slot { IsTrue (is_live
+            (slot_in (bucket_of self.old spot.now.is_old spot.now.index) spot.now.at)) }
+        ensures map { (found : K)
+            × (live_pair (slot_in (bucket_of self.old spot.now.is_old spot.now.index) spot.now.at)
+            ≡ Some (found, result))
+            × ChangesValue (state_of TYPE self.old) (found, result) value (state_of TYPE self.new) }
+        ensures bag { KeepsBag self.old.arrays.rehash self.new.arrays.rehash }
+        ensures table { self.new ≡ with_bucket self.old spot.now.is_old spot.now.index
+            (bucket_with_value (bucket_of self.old spot.now.is_old spot.now.index) spot.now.at
+            value) }
+    {
+        let is_old = spot.is_old;
+        let index = spot.index;
+        self.arrays.room_of(is_old);
+        let bucket = self.arrays.bucket_of_mut(is_old, index);
+        mem::replace(bucket.entry_mut(&spot.at).1, value)
+    }
+}
+
+impl<K: Eq, V, H: KeyHash<K>, L: LruList, const TYPE: u8> HashTable<K, V, H, L, TYPE> {
+    /// Returns the live slot with an equal key, on either side; `None` where the map has none.
+    fn spot_of(&self, key: &K, hash: u64) -> Option<Spot<K, V, TYPE>>
+        requires own_hash { hash ≡ H.hash_of self.now.hasher key.now }
+        ensures found { IfSome result (λ spot.
+            StandsAt K.eq key.now self.now.arrays spot.is_old spot.index spot.at) }
+        ensures absent { IfNone result (IsAbsent K.eq key.now (pairs_of self.now.arrays)) }
+    {
+        match self.arrays.search_on(true, key, hash) {
+            Some(spot) => Some(spot),
+            None => self.arrays.search_on(false, key, hash),
+        }
+    }
+    /// Hands the pair in a live slot to a reader.
+    fn read_at<R, F: FnOnce(&K, &V) -> R>(&self, spot: &Spot<K, V, TYPE>, reader: F) -> R
+        requires within { spot.now.index < length (buckets_on self.now.arrays spot.now.is_old) }
+        requires live_slot { IsTrue (is_live
+            (slot_in (bucket_of self.now spot.now.is_old spot.now.index) spot.now.at)) }
+        requires callable { (own : Bor K) (value : Bor V) → F.pre reader own value }
+        ensures { (own : Bor K) × (value : Bor V)
+            × (live_pair (slot_in (bucket_of self.now spot.now.is_old spot.now.index) spot.now.at)
+            ≡ Some (own.now, value.now)) × F.post reader own value result }
+    {
+        self.arrays.room_of(spot.is_old);
+        let bucket = self.arrays.bucket_of(spot.is_old, spot.index);
+        let key = spot.at.key(bucket);
+        let value = spot.at.val(bucket);
+        reader(key, value)
+    }
+}

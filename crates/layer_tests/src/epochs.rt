@@ -1,0 +1,124 @@
+//! Calls on a table of an index that mark pairs as removed: each mark is the epoch of its call.
+use crate::by_lock::{Table, put_at};
+use crate::checks::check_same;
+use crate::steps::{Answers, Kept, Spot, steps};
+use Step::*;
+use bucket_slots::bucket::INDEX;
+use bucket_table::hash_table::HashTable;
+use bucket_table::script::{Call, Reply, ScriptHash, run};
+use std::alloc::Global;
+use std::process::Abort;
+use std::test::Fail;
+
+type Index = Table<(), INDEX>;
+
+/// A name, and what happens on an index whose keys 0 to 31 fill the own slots of one bucket, each
+/// in the slot of its number.
+type Story = (&'static str, &'static [Step]);
+
+/// A setting for the steps that follow, or a call with the answer that is wanted.
+enum Step {
+    /// The epoch from here on, and which marks are kept. At first it is 0, and all are.
+    Now(u8, Kept),
+    /// A sweep marks the pairs of keys below a number, and so many.
+    Sweeps(u64, usize),
+    /// A script clears the table of so many pairs.
+    Clears(usize),
+    /// A script removes a key, which is its own value.
+    Removes(u64),
+    /// A new key is put, and stands there.
+    Puts(u64, Spot),
+}
+
+// The mark 5 alone is kept.
+const FIVE: Kept = Kept::Rest(255, 5);
+
+const STORIES: &[Story] = steps! {
+    // The last two steps let the mark 5 alone go.
+    ("a sweep marks with its epoch", steps! {
+        Now(5, Kept::All), Sweeps(4, 4), Now(0, FIVE), Puts(32, (1, 0)), Now(0, Kept::But(5)),
+        Puts(33, (0, 0)) }),
+    ("marks of another epoch than that of a sweep go", steps! {
+        Now(7, Kept::All), Sweeps(4, 4), Now(0, FIVE), Puts(32, (0, 0)) }),
+    ("a clearing marks with its epoch", steps! {
+        Now(5, Kept::All), Clears(32), Now(0, FIVE), Puts(32, (1, 0)),
+        Now(0, Kept::But(5)), Puts(33, (0, 0)) }),
+    ("marks of another epoch than that of a clearing go", steps! {
+        Now(7, Kept::All), Clears(32), Now(0, FIVE), Puts(32, (0, 0)) }),
+    ("a removal marks with its epoch", steps! {
+        Now(5, Kept::All), Removes(0), Removes(9), Now(0, FIVE), Puts(32, (1, 0)),
+        Now(0, Kept::But(5)), Puts(33, (0, 0)), Puts(34, (0, 9)) }),
+    ("marks of another epoch than that of a removal go", steps! {
+        Now(7, Kept::All), Removes(0), Now(5, Kept::All), Removes(9), Now(0, FIVE),
+        Puts(32, (0, 0)), Puts(33, (1, 0)) })
+};
+
+#[test]
+fn calls_on_an_index_mark_with_their_epoch(rt: HostRuntime) -> Result<(), Fail> {
+    for (name, steps) in STORIES {
+        let mut table = new_index(rt.alloc());
+        for key in 0..32 {
+            let found = put_at(&mut table, key, &());
+            check_same(&rt, found, Some((0, (0, key as usize))), (*name, key));
+        }
+        play(&rt, rt.alloc(), &mut table, name, steps)?;
+    }
+    Ok(())
+}
+
+// An index with no pair, of 64 slots and no more.
+fn new_index(alloc: Global) -> Index {
+    HashTable::new(alloc, ScriptHash::Zero, 64, 64)
+}
+
+// Takes one step after another, and compares what comes of it.
+fn play(
+    rt: &impl Abort,
+    alloc: Global,
+    table: &mut Index,
+    story: &'static str,
+    steps: &[Step],
+) -> Result<(), Fail> {
+    let mut now = Answers::new(0, &Kept::All);
+    for (row, step) in steps.iter().enumerate() {
+        match step {
+            Now(epoch, kept) => now = Answers::new(*epoch, kept),
+            Sweeps(from, taken) => {
+                let keep = |key: &u64, _value: &u64| *key >= *from;
+                check_same(rt, table.sweep(&keep, &now)?, *taken, (story, row));
+            }
+            Clears(pairs) => {
+                let reply = reply_to(alloc, table, Call::Clear, &now)?;
+                let cleared = matches!(reply, Some(Reply::Cleared(taken)) if taken == *pairs);
+                check_same(rt, cleared, true, (story, row));
+            }
+            Removes(key) => {
+                let reply = reply_to(alloc, table, Call::Remove(*key), &now)?;
+                let removed = matches!(reply, Some(Reply::Pair(own, _)) if own == *key);
+                check_same(rt, removed, true, (story, row));
+            }
+            Puts(key, spot) => {
+                check_same(
+                    rt,
+                    put_at(table, *key, &now),
+                    Some((0, *spot)),
+                    (story, row),
+                );
+            }
+        }
+    }
+    Ok(())
+}
+
+// Does one call as a script.
+fn reply_to(
+    alloc: Global,
+    table: &mut Index,
+    call: Call<u64, u64>,
+    now: &Answers,
+) -> Result<Option<Reply<u64, u64>>, Fail> {
+    let mut calls = Vec::new(alloc);
+    calls.push(call)?;
+    let mut replies = run(alloc, table, calls, now)?;
+    Ok(replies.pop())
+}

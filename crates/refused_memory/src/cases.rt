@@ -1,0 +1,272 @@
+//! The cases of calls on tables, each with what a refused request makes of it.
+use crate::by_call::Lent;
+use crate::outcome::Outcome;
+use bucket_table::script::ScriptHash;
+
+/// What happens on a new map.
+pub(crate) struct Case {
+    pub(crate) hasher: ScriptHash,
+    /// How the table comes to be. A refusal here ends the case.
+    pub(crate) start: &'static [Step],
+    /// The calls that are meant.
+    pub(crate) steps: &'static [Step],
+    /// What any request of theirs makes of the case, where it is refused.
+    pub(crate) refused: Outcome,
+}
+
+/// Slots of the current array, and the rehash word.
+pub(crate) type Seen = (usize, Option<usize>);
+
+/// A call, or what is seen of the table.
+#[derive(Drop)]
+pub(crate) enum Step {
+    /// Keys are put, each as its own value.
+    Puts(u64, u64),
+    /// Keys are taken out.
+    Takes(u64, u64),
+    /// A new key is put.
+    Put(u64),
+    /// A key is taken out.
+    Take(u64),
+    /// A script is run, which puts a new key, reads it and takes it out.
+    Runs(u64),
+    /// The least capacity is raised, which is never refused.
+    Raises(usize),
+    /// A ticket is handed out, which is never refused.
+    Opens(usize),
+    /// The array that is there, or is made, has so many buckets.
+    Makes(usize),
+    /// The writer's bucket of a hash has this index.
+    Locks(u64, usize),
+    /// The same by the other name of the call.
+    Reserves(u64, usize),
+    /// A resize is asked for, and comes or doesn't.
+    Resizes(bool),
+    /// A key is found, which is never refused.
+    Reads(u64),
+    /// An old bucket is relocated, which has so many pairs.
+    Relocates(usize, usize),
+    /// So many units are left, and worked.
+    Finishes(usize),
+    /// A walk for reading lends so much, and so much before a refusal.
+    Walks(Lent, Lent),
+    /// A walk for writing does.
+    Visits(Lent, Lent),
+    /// A cursor meets these keys.
+    Meets(u64, u64),
+    /// Keys below the first are swept away, and before a refusal those below the second.
+    Sweeps(u64, u64),
+    /// What is seen.
+    Sees(Seen),
+    /// What is seen after a resize, and what where one of its requests was refused.
+    Resized(Seen, Seen),
+    /// What is seen after a unit, and what where its request was refused.
+    Worked(Seen, Seen),
+    /// A key stands in a bucket of the array that was the current one when it came, in an own slot.
+    Stands(u64, usize, usize),
+    /// An old bucket is killed, if an old array still stands.
+    IsKilled(usize),
+    /// An old bucket is killed. Where a request for room was refused, it has so many pairs.
+    Moved(usize, usize),
+}
+
+use Step::*;
+
+// A bucket of 40 pairs moves from an array of two buckets to one of 128: for that it counts what
+// comes to each of its targets, in a list.
+const FORTY_IN_ONE: &[Step] = &[
+    Raises(1),
+    Puts(128, 168),
+    Raises(4095),
+    Resized((4096, Some(0)), (64, None)),
+];
+
+// An array of 16 buckets has shrunk to four, and its only unit is handed out. Old buckets 8 to 10
+// have keys 128 to 167, which all go to bucket 2: 32 to its own slots, so that bucket 10 needs room
+// first.
+const THREE_TO_ONE: &[Step] = &[
+    Raises(1),
+    Puts(128, 228),
+    Puts(0, 32),
+    Resized((512, Some(0)), (64, None)),
+    Takes(192, 228),
+    Takes(168, 192),
+    Takes(0, 16),
+    Takes(16, 32),
+    Resized((128, Some(0)), (512, None)),
+    Opens(0),
+    Sees((128, Some(2049))),
+];
+
+// The same with a key in bucket 0.
+const FIVE_BEFORE_THREE: &[Step] = &[
+    Raises(1),
+    Puts(128, 228),
+    Puts(0, 32),
+    Resized((512, Some(0)), (64, None)),
+    Takes(192, 228),
+    Takes(168, 192),
+    Takes(0, 5),
+    Takes(6, 32),
+    Resized((128, Some(0)), (512, None)),
+    Opens(0),
+    Sees((128, Some(2049))),
+];
+
+// The hash of key 160.
+const OF_160: u64 = 160 << 56 | 160;
+
+pub(crate) const CASES: [Case; 20] = [
+    // The script asks for its replies alone.
+    Case {
+        hasher: ScriptHash::Id,
+        start: &[Puts(0, 3)],
+        steps: &[Runs(3), Sees((64, None))],
+        refused: Outcome::AsBefore,
+    },
+    Case {
+        hasher: ScriptHash::Id,
+        start: &[],
+        steps: &[Makes(2), Sees((64, None)), Makes(2)],
+        refused: Outcome::AsBefore,
+    },
+    Case {
+        hasher: ScriptHash::Id,
+        start: &[],
+        steps: &[Locks(0, 0), Sees((64, None))],
+        refused: Outcome::AsBefore,
+    },
+    Case {
+        hasher: ScriptHash::Id,
+        start: &[],
+        steps: &[Reserves(0, 0), Sees((64, None))],
+        refused: Outcome::AsBefore,
+    },
+    // The pair beyond the own slots needs a block.
+    Case {
+        hasher: ScriptHash::Zero,
+        start: &[Puts(0, 32)],
+        steps: &[Put(32), Sees((64, None))],
+        refused: Outcome::AsBefore,
+    },
+    // The last put takes the last own slot of the first bucket. All its requests are those of the
+    // doubling that it starts, which is left out where one is refused.
+    Case {
+        hasher: ScriptHash::Spread,
+        start: &[Puts(0, 31), Puts(128, 159), Sees((64, None))],
+        steps: &[
+            Put(31),
+            Resized((128, Some(0)), (64, None)),
+            Stands(31, 0, 31),
+        ],
+        refused: Outcome::Unresized,
+    },
+    Case {
+        hasher: ScriptHash::Spread,
+        start: &[Puts(128, 228), Sees((64, None))],
+        steps: &[Resizes(true), Sees((256, Some(0))), Resizes(false)],
+        refused: Outcome::AsBefore,
+    },
+    // The first read asks for its unit's list alone. Where that is refused the unit is given up, and
+    // then the bucket itself moves.
+    Case {
+        hasher: ScriptHash::Spread,
+        start: FORTY_IN_ONE,
+        steps: &[
+            Reads(128),
+            Worked((4096, None), (4096, Some(0))),
+            IsKilled(1),
+            Reads(128),
+            Sees((4096, None)),
+        ],
+        refused: Outcome::Unmoved,
+    },
+    Case {
+        hasher: ScriptHash::Spread,
+        start: FORTY_IN_ONE,
+        steps: &[Finishes(1), Sees((4096, None)), Finishes(0)],
+        refused: Outcome::AsBefore,
+    },
+    Case {
+        hasher: ScriptHash::Spread,
+        start: FORTY_IN_ONE,
+        steps: &[Relocates(1, 40), Sees((4096, Some(0)))],
+        refused: Outcome::AsBefore,
+    },
+    // The first read asks for the blocks of the eight pairs in bucket 10 alone. Where one is refused
+    // they stay, and the look-up asks both buckets.
+    Case {
+        hasher: ScriptHash::Spread,
+        start: THREE_TO_ONE,
+        steps: &[
+            Reads(160),
+            Moved(10, 8),
+            Sees((128, Some(2049))),
+            Reads(160),
+            IsKilled(10),
+        ],
+        refused: Outcome::Unmoved,
+    },
+    Case {
+        hasher: ScriptHash::Spread,
+        start: THREE_TO_ONE,
+        steps: &[Put(170), IsKilled(10), Sees((128, Some(2049)))],
+        refused: Outcome::AsBefore,
+    },
+    Case {
+        hasher: ScriptHash::Spread,
+        start: THREE_TO_ONE,
+        steps: &[Take(160), IsKilled(10), Sees((128, Some(2049)))],
+        refused: Outcome::AsBefore,
+    },
+    Case {
+        hasher: ScriptHash::Spread,
+        start: THREE_TO_ONE,
+        steps: &[Locks(OF_160, 2), IsKilled(10), Sees((128, Some(2049)))],
+        refused: Outcome::AsBefore,
+    },
+    Case {
+        hasher: ScriptHash::Spread,
+        start: THREE_TO_ONE,
+        steps: &[Reserves(OF_160, 2), IsKilled(10), Sees((128, Some(2049)))],
+        refused: Outcome::AsBefore,
+    },
+    Case {
+        hasher: ScriptHash::Spread,
+        start: THREE_TO_ONE,
+        steps: &[
+            Walks((4, 40), (2, 0)),
+            IsKilled(10),
+            Sees((128, Some(2049))),
+        ],
+        refused: Outcome::AsBefore,
+    },
+    Case {
+        hasher: ScriptHash::Spread,
+        start: THREE_TO_ONE,
+        steps: &[
+            Visits((4, 40), (2, 0)),
+            IsKilled(10),
+            Sees((128, Some(2049))),
+        ],
+        refused: Outcome::AsBefore,
+    },
+    Case {
+        hasher: ScriptHash::Spread,
+        start: THREE_TO_ONE,
+        steps: &[Meets(128, 129), IsKilled(10), Sees((128, Some(2049)))],
+        refused: Outcome::AsBefore,
+    },
+    Case {
+        hasher: ScriptHash::Spread,
+        start: FIVE_BEFORE_THREE,
+        steps: &[Meets(5, 128), IsKilled(10), Sees((128, Some(2049)))],
+        refused: Outcome::AsBefore,
+    },
+    Case {
+        hasher: ScriptHash::Spread,
+        start: FIVE_BEFORE_THREE,
+        steps: &[Sweeps(136, 128), IsKilled(10), Sees((128, Some(2049)))],
+        refused: Outcome::AsBefore,
+    },
+];
