@@ -95,6 +95,14 @@ module _ {K V : Type 0} where
       get_or-append_right made (replicate count spare) (length made) i empty_bucket refl past
       ∙ get_or-replicate count (i - length made) spare empty_bucket within
 
+  -- and so it is of the part t, which is made of these
+  pub spare_read : (made : Buckets K V) (len i : ℕ) (released killed : Bool) {t : Buckets K V} {bucket : BucketView K V}
+      → with_unmade made len released ≡ t → released ≡ killed → length made ≤ i → i < length t → bucket ≡ unmade_bucket killed
+      → bucket ≡ get_or t i empty_bucket
+  spare_read made len i released killed is same past below spare =
+      spare ∙ ap unmade_bucket (sym same) ∙ sym (get_or-unmade made len i released past (rw is below))
+      ∙ ap (λ l. get_or l i empty_bucket) is
+
   -- where it is made, it is read
   pub get_or-made : (made : Buckets K V) (len i : ℕ) (released : Bool) → i < length made
       → get_or (with_unmade made len released) i empty_bucket ≡ get_or made i empty_bucket

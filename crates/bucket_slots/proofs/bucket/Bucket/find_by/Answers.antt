@@ -1,6 +1,6 @@
 use Rattle.std.proofs.Common.{arith, sym, ◌%◌}
 use Rattle.bucket_slots.specs.Searching.{is_wanted}
-use Rattle.bucket_slots.proofs.FirstPlaces.{first_chain, first_own, found_in_chain, none_wanted}
+use Rattle.bucket_slots.proofs.FirstPlaces.{first_chain, first_own, found_in_chain, matching_len-parts, none_wanted}
 use Rattle.bucket_slots.proofs.bucket.Bucket.find_by.Goals as goal
 
 pub returns-then-self-eq0-clause-place : goal.returns-then-self-eq0-clause-place
@@ -31,3 +31,13 @@ find_by-requires-2 g c = omega arith
 
 pub returns-in-Some-clause-pair : goal.returns-in-Some-clause-pair
 returns-in-Some-clause-pair g c = rw (c.at.ensures, ← c.self.view_is) c.in-Some.ensures.pair
+
+pub returns-in-Some-clause-few : goal.returns-in-Some-clause-few
+returns-in-Some-clause-few g c =
+    let both = matching_len-parts (c.args.hash % 256) _ _ c.self.view_is in
+    omega (arith, both, c.in-Some.ensures.few)
+
+pub returns-clause-few : goal.returns-clause-few
+returns-clause-few g c =
+    let both = matching_len-parts (c.args.hash % 256) _ _ c.self.view_is in
+    omega (arith, both, c.find_by.ensures.few, c.find_by-2.ensures.few)

@@ -1,4 +1,4 @@
-use Rattle.std.proofs.Common.{arith, ap, ◌∙◌, ◌+◌, ◌≤◌, ◌≡◌, ◌^◌, ◌++◌, length}
+use Rattle.std.proofs.Common.{arith, ap, refl, ◌∙◌, ◌+◌, ◌≤◌, ◌≡◌, ◌^◌, ◌++◌, length}
 use Rattle.bucket_slots.proofs.ChainRows.{IsCounted-append}
 use Rattle.bucket_slots.proofs.bucket.chain.Chain.append.Goals as goal
 
@@ -42,3 +42,8 @@ append-requires-clause-few g c =
       c.get-made.ensures,
       c.if-made-gt0.true,
     )
+
+pub invariant_of-more : goal.invariant_of-more
+invariant_of-more g c =
+    rw (c.replace.ensures.after, c.new.ensures, c.set-then-made-gt0.ensures)
+    (record { chain = record { long = λ i below. absurd (omega arith); few = omega arith }; counted = refl })

@@ -35,3 +35,11 @@ returns g c =
     let all : c.loop-at.passed ≡ length rows = omega (arith, ap length none, c.loop-at.invariant.within) in
     let whole = ap (λ n. take n rows) all ∙ take-length rows in
     c.loop-at.invariant.kept ∙ ap (λ l. c.loop-at.passed - suffix_len all_free l) whole ∙ ap (λ n. n - suffix_len all_free rows) all
+
+pub overflow_add-passed : goal.overflow_add-passed
+overflow_add-passed g c = omega (arith, c.loop-at.invariant.within, c.self.invariant.chain.few, ap length c.self.view_is)
+
+pub loop-at-smaller : goal.loop-at-smaller
+loop-at-smaller g c =
+    let some = length-some c.loop-at.at.now c.at.inside.first c.in-Some.block c.at.view_is c.in-Some.is in
+    omega (arith, ap length some, ap (λ block. length block.next) c.deref-in-Some.ensures)

@@ -59,3 +59,6 @@ returns-clause-place g c =
     let left : IsLeft (has_byte c.args.byte) (λ slot. want slot ≡ false) free c.args.self.now c.loop-left.left =
     c.loop-left.invariant.left in
     sym (position-none_left (has_byte c.args.byte) want free c.args.self.now (rw c.loop-left-test.false at left))
+
+pub loop-left-smaller : goal.loop-left-smaller
+loop-left-smaller g c = c.without_bit-left.ensures.less c.lowest_bit-pos.ensures.set

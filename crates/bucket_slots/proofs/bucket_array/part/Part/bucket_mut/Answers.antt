@@ -25,3 +25,7 @@ make_to-requires g c =
 
 pub index_mut-requires : goal.index_mut-requires
 index_mut-requires g c = omega (arith, c.make_to.ensures.made)
+
+pub overflow_add-offset : goal.overflow_add-offset
+overflow_add-offset g c =
+    record { fits = grind (arith, common_steps, ap length c.self.view_is, c.requires.within, c.self.inside.made.ok) }
