@@ -1,14 +1,14 @@
 -- Slots that are listed one after another behind those that their buckets list.
-use Rattle.std.proofs.Common.{ℕ, ◌+◌, ◌<◌, ◌≡◌, ◌==◌, inl, inr, Bool, true, false, Option, Some, None, List, [], ◌∷◌, ◌++◌, length, get_or, set, take}
-use Rattle.std.proofs.Common.{refl, sym, ap, ◌∙◌, append-nil, append_assoc, arith}
-use Rattle.std.proofs.lemmas.Bool.{cases_eq, eq-eqb, ne_eqb, or_from, or_parts, false≢true}
+use Rattle.bucket_table.proofs.Words.{ℕ, ◌+◌, ◌<◌, ◌≡◌, ◌==◌, inl, inr, Bool, true, false, Option, Some, None, List, [], ◌∷◌, ◌++◌, length}
+use Rattle.bucket_table.proofs.Words.{get_or, set, take, refl, sym, ap, ◌∙◌, append-nil, arith, cases_eq, eq-eqb, false≢true, bucket_at}
+use Rattle.bucket_table.proofs.Words.{BucketView, is_listed}
+use Rattle.std.proofs.Common.{append_assoc}
+use Rattle.std.proofs.lemmas.Bool.{ne_eqb, or_from, or_parts}
 use Rattle.std.proofs.lemmas.List.{take_more}
 use Rattle.std.proofs.lemmas.List.Concat.{flat_map-append}
 use Rattle.std.proofs.lemmas.List.Folds.{list_any-append}
-use Rattle.bucket_slots.specs.ArrayView.{bucket_at}
-use Rattle.bucket_slots.specs.BucketView.{BucketView}
 use Rattle.bucket_slots.specs.Evicting.{slots_appended}
-use Rattle.bucket_slots.specs.Recency.{IsRecencyOrder, is_listed}
+use Rattle.bucket_slots.specs.Recency.{IsRecencyOrder}
 use Rattle.bucket_slots.proofs.RecencyCallerLemmas.{next_is_new}
 use Rattle.bucket_table.specs.Landings.{AreListable, IsListable, ListsArrivals, arrivals, landing_of, slot_there}
 use Rattle.bucket_table.specs.declared.hash_table.relocate.Landing.{Landing}

@@ -1,8 +1,6 @@
 -- When a resize is looked into, by what the code reads.
-use Rattle.std.proofs.Common.{ℕ, ◌<◌, ◌≡◌, ◌↔◌, false, List, Option, Some, None, is_some, refl, sym, subst, ◌∙◌}
-use Rattle.std.proofs.lemmas.Bool.{false≢true}
-use Rattle.std.proofs.lemmas.Option.{same_Some}
-use Rattle.bucket_slots.specs.BucketView.{BucketView}
+use Rattle.bucket_table.proofs.Words.{ℕ, ◌<◌, ◌≡◌, ◌↔◌, false, List, Option, Some, None, is_some, refl, sym, subst, ◌∙◌, false≢true}
+use Rattle.bucket_table.proofs.Words.{same_Some, BucketView}
 use Rattle.bucket_table.specs.ArraysView.{ArraysView}
 use Rattle.bucket_table.specs.Asking.{AsksGrowth, AsksShrinking}
 use Rattle.bucket_table.specs.ResizePlan.{slots_of}

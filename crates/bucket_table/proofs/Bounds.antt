@@ -1,33 +1,9 @@
 -- Bounds on hashes, and where the buckets of an array begin.
-use Rattle.std.proofs.Common.{
-  ℕ,
-  ◌+◌,
-  ◌-◌,
-  ◌*◌,
-  ◌/◌,
-  ◌^◌,
-  ◌<◌,
-  ◌≤◌,
-  ◌≡◌,
-  ◌↔◌,
-  ◌&&◌,
-  Bool,
-  true,
-  false,
-  nat_le,
-  nat_lt,
-  sym,
-  ap,
-  subst,
-  ◌∙◌,
-  arith,
-  inl,
-  inr,
-}
-use Rattle.std.proofs.Math.Nat.{add-mul, div-mul-le_self, lt-div-mul-add, mul-le-mul_right, mul_comm, one-mul}
-use Rattle.std.proofs.lemmas.Bool.{and_from, and_parts, cases_lt, false_from_ne_true, le-leb, leb-true, lt-ltb, ltb-true}
-use Rattle.bucket_slots.specs.Homes.{IsInInterval, IsInRange, Meets, interval_width}
-use Rattle.bucket_slots.specs.Sizing.{IsLength}
+use Rattle.bucket_table.proofs.Words.{ℕ, ◌+◌, ◌-◌, ◌*◌, ◌/◌, ◌^◌, ◌<◌, ◌≤◌, ◌≡◌, ◌↔◌, ◌&&◌, Bool, true, false, nat_le, nat_lt, sym, ap}
+use Rattle.bucket_table.proofs.Words.{subst, ◌∙◌, arith, inl, inr, mul-le-mul_right, and_from, cases_lt, false_from_ne_true, le-leb}
+use Rattle.bucket_table.proofs.Words.{leb-true, lt-ltb, ltb-true, IsInInterval, IsInRange, Meets, interval_width, IsLength}
+use Rattle.std.proofs.Math.Nat.{add-mul, div-mul-le_self, lt-div-mul-add, mul_comm, one-mul}
+use Rattle.std.proofs.lemmas.Bool.{and_parts}
 use Rattle.bucket_slots.proofs.PowersOfTwo.{exponent_le, power_parts, power_quotient}
 use Rattle.bucket_table.specs.Cursors.{bound_of}
 

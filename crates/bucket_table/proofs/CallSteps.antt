@@ -1,38 +1,8 @@
 -- What a call of a script does to the map, after the calls of the table that it makes.
-use Rattle.std.proofs.Common.{
-  ℕ,
-  ◌<◌,
-  ◌≡◌,
-  ◌↔◌,
-  IsTrue,
-  ◌-◌,
-  ◌^◌,
-  ◌++◌,
-  Bool,
-  false,
-  Option,
-  Some,
-  None,
-  Result,
-  Ok,
-  IsSome,
-  List,
-  [],
-  ◌∷◌,
-  length,
-  map,
-  min,
-  refl,
-  sym,
-  ap,
-  subst,
-  ◌∙◌,
-  arith,
-}
-use Rattle.std.proofs.lemmas.List.Sorted.{Contains-permutation, IsPermutation-cons, IsPermutation-refl, IsPermutation-sym, IsPermutation-trans, length_permutation}
-use Rattle.std.proofs.lemmas.Option.{none-some}
-use Rattle.bucket_slots.specs.BucketView.{BucketView}
-use Rattle.bucket_table.specs.ArraysView.{ArraysView, RehashView, TableView, old_buckets, pairs_of}
+use Rattle.bucket_table.proofs.Words.{ℕ, ◌<◌, ◌≡◌, ◌↔◌, IsTrue, ◌-◌, ◌^◌, ◌++◌, Bool, false, Option, Some, None, Result, Ok, IsSome, List}
+use Rattle.bucket_table.proofs.Words.{[], ◌∷◌, length, map, min, refl, sym, ap, subst, ◌∙◌, arith, Contains-permutation, IsPermutation-cons}
+use Rattle.bucket_table.proofs.Words.{IsPermutation-refl, IsPermutation-sym, IsPermutation-trans, length_permutation, none-some, BucketView}
+use Rattle.bucket_table.specs.ArraysView.{ArraysView, RehashView, old_buckets, pairs_of}
 use Rattle.bucket_table.specs.Counting.{counted_to}
 use Rattle.bucket_table.specs.LookingUp.{IsAbsent, IsThere}
 use Rattle.bucket_table.specs.MapState.{AddsPair, ChangesValue, KeepsPairs, MapState}
@@ -126,14 +96,9 @@ module _ {K V : Type 0} where
       ap (λ (es : List ((K × V) × ℕ)). map (λ (e : (K × V) × ℕ). e.0) es)
       (gone new.current new.rehash none beside)
 
-module _ {K V H : Type 0} where
+module _ {K V : Type 0} where
   -- without a current bucket there is no pair
-  pub empty_seen : (t s : TableView K V H) (len : ℕ) → t ≡ s
-      → len ≡ length (buckets_of t.arrays.current) → (len ≡ 0 → t.arrays.current ≡ None)
-      → (IsSome t.arrays.rehash → IsSome t.arrays.current)
-      → length (buckets_of s.arrays.current) ≡ 0 → pairs_of s.arrays ≡ []
-  empty_seen t s len is long none beside =
-      subst (λ (z : TableView K V H). length (buckets_of z.arrays.current) ≡ 0
-      → pairs_of z.arrays ≡ []) is (λ empty.
-      ap (λ (es : List ((K × V) × ℕ)). map (λ (e : (K × V) × ℕ). e.0) es)
-      (gone t.arrays.current t.arrays.rehash (none (long ∙ empty)) beside))
+  pub empty_here : (a : ArraysView K V) (len : ℕ) → len ≡ length (buckets_of a.current) → (len ≡ 0 → a.current ≡ None)
+      → (IsSome a.rehash → IsSome a.current) → length (buckets_of a.current) ≡ 0 → pairs_of a ≡ []
+  empty_here a len long none beside empty =
+      ap (λ (es : List ((K × V) × ℕ)). map (λ (e : (K × V) × ℕ). e.0) es) (gone a.current a.rehash (none (long ∙ empty)) beside)

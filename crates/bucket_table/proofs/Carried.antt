@@ -1,22 +1,19 @@
 -- Recency that was carried: what the targets list once the pairs of a bucket have landed and their slots were listed.
-use Rattle.std.proofs.Common.{ℕ, ◌-◌, ◌<◌, ◌≡◌, ◌==◌, if◌then◌else◌, inl, inr, Bool, true, false, Option, Some, None, List, [], ◌∷◌, ◌++◌, length, map}
-use Rattle.std.proofs.Common.{replicate, take, refl, sym, ap, subst, ◌∙◌, append-nil, arith, suc, zero, IsPermutation, Contains}
+use Rattle.bucket_table.proofs.Words.{ℕ, ◌-◌, ◌<◌, ◌≡◌, ◌==◌, if◌then◌else◌, inl, inr, Bool, true, false, Option, Some, None, List, [], ◌∷◌}
+use Rattle.bucket_table.proofs.Words.{◌++◌, length, map, replicate, take, refl, sym, ap, subst, ◌∙◌, append-nil, arith, suc, zero}
+use Rattle.bucket_table.proofs.Words.{cases_Bool, cases_eq, false≢true, map-append, nil_from_length, Contains-append_right, CACHE}
+use Rattle.bucket_table.proofs.Words.{bucket_at, IsBucketOf, BucketView, entries_in, listed_pairs, marks_in, pairs_in, HasNoNewMark}
+use Rattle.bucket_table.proofs.Words.{is_listed, Slot, free, live, live_pair, live_pairs, marked, slot_at}
+use Rattle.std.proofs.Common.{IsPermutation, Contains}
 use Rattle.std.specs.List.{filter}
 use Rattle.std.proofs.Math.Seq.{take-append_seam}
-use Rattle.std.proofs.lemmas.Bool.{cases_Bool, cases_eq, eqb-true, false≢true}
-use Rattle.std.proofs.lemmas.List.{map-append, nil_from_length}
-use Rattle.std.proofs.lemmas.List.Elements.{Contains-append_right, filter_map-append}
-use Rattle.bucket_slots.specs.declared.bucket.TheConstants.{CACHE}
-use Rattle.bucket_slots.specs.ArrayView.{bucket_at}
-use Rattle.bucket_slots.specs.BucketLaws.{IsBucketOf}
-use Rattle.bucket_slots.specs.BucketView.{BucketView, entries_in, listed_pairs, marks_in, pairs_in}
+use Rattle.std.proofs.lemmas.Bool.{eqb-true}
+use Rattle.std.proofs.lemmas.List.Elements.{filter_map-append}
 use Rattle.bucket_slots.specs.Evicting.{slots_unlisted}
-use Rattle.bucket_slots.specs.Marking.{HasNoNewMark}
-use Rattle.bucket_slots.specs.Recency.{is_listed, order_and_zeros}
-use Rattle.bucket_slots.specs.Slots.{Slot, free, live, live_pair, live_pairs, marked, slot_at}
+use Rattle.bucket_slots.specs.Recency.{order_and_zeros}
 use Rattle.bucket_slots.proofs.RecencyCallerLemmas.{listed_below}
-use Rattle.bucket_table.specs.Landings.{CarriesRecency, HasLanded, HaveLanded, ListsArrivals, arrivals, carried_to, is_own_of}
-use Rattle.bucket_table.specs.Landings.{landing_of, slot_there}
+use Rattle.bucket_table.specs.Landings.{CarriesRecency, HasLanded, HaveLanded, ListsArrivals, arrivals, carried_to, is_own_of, landing_of}
+use Rattle.bucket_table.specs.Landings.{slot_there}
 use Rattle.bucket_table.specs.declared.hash_table.relocate.Landing.{Landing}
 use Rattle.bucket_table.specs.Moving.{CanMoveInto}
 use Rattle.bucket_table.specs.Relocation.{AreHome, KeepsEntries, MovesInto, entries_among, homed_len, marks_among}

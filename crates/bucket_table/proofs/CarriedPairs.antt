@@ -1,20 +1,18 @@
 -- Recency that was carried, by keys: which of a bucket's listed pairs stand in own slots of a target, where no two keys are equal.
-use Rattle.std.proofs.Common.{ℕ, ◌+◌, ◌<◌, ◌≡◌, ◌==◌, inl, inr, Bool, true, false, if◌then◌else◌, Option, Some, None, Result, Ok, Err, OnOk, List, []}
-use Rattle.std.proofs.Common.{◌∷◌, ◌++◌, length, map, get_or, set, refl, sym, ap, subst, ◌∙◌, append-nil, append_assoc, arith, suc, zero}
-use Rattle.std.proofs.Common.{Contains, IsPermutation}
-use Rattle.std.specs.Cmp.{IsEquivalence}
-use Rattle.std.specs.List.{IsDistinct, filter}
-use Rattle.std.proofs.lemmas.Bool.{cases_Bool, cases_eq, cases_lt, eq-eqb, eqb-true, eqb-false, or_left, or_right}
-use Rattle.std.proofs.lemmas.List.{get_or-append-add, get_or_default, get_or-map, get_or_past, get_or-set_other, length-append, length-map, map-append}
-use Rattle.std.proofs.lemmas.List.Elements.{Contains-append_left, Contains-append_right, filter_map-append}
+use Rattle.bucket_table.proofs.Words.{ℕ, ◌+◌, ◌<◌, ◌≡◌, ◌==◌, inl, inr, Bool, true, false, if◌then◌else◌, Option, Some, None, Result, Ok}
+use Rattle.bucket_table.proofs.Words.{Err, OnOk, List, [], ◌∷◌, ◌++◌, length, map, get_or, set, refl, sym, ap, subst, ◌∙◌, append-nil}
+use Rattle.bucket_table.proofs.Words.{arith, suc, zero, IsEquivalence, IsDistinct, cases_Bool, cases_eq, cases_lt, eq-eqb, get_or-map}
+use Rattle.bucket_table.proofs.Words.{length-append, length-map, map-append, Contains-append_left, Contains-append_right}
+use Rattle.bucket_table.proofs.Words.{IsPermutation-append_left, IsPermutation-map, IsPermutation-refl, IsDistinct-IsPermutation, bucket_at}
+use Rattle.bucket_table.proofs.Words.{BucketView, empty_bucket, entries_in, flattened, listed_pairs, pairs_in, is_listed, Slot, free, live}
+use Rattle.bucket_table.proofs.Words.{live_pair, live_pairs, marked, slot_at, map-entries_in}
+use Rattle.std.proofs.Common.{append_assoc, Contains, IsPermutation}
+use Rattle.std.specs.List.{filter}
+use Rattle.std.proofs.lemmas.Bool.{eqb-true, eqb-false, or_left, or_right}
+use Rattle.std.proofs.lemmas.List.{get_or-append-add, get_or_default, get_or_past, get_or-set_other}
+use Rattle.std.proofs.lemmas.List.Elements.{filter_map-append}
 use Rattle.std.proofs.lemmas.List.Folds.{list_any_at, list_any_none}
-use Rattle.std.proofs.lemmas.List.Sorted.{IsPermutation-append_left, IsPermutation-map, IsPermutation-refl}
-use Rattle.std.proofs.lemmas.Map.Keys.{IsDistinct-IsPermutation, apart_from_distinct}
-use Rattle.bucket_slots.specs.ArrayView.{bucket_at}
-use Rattle.bucket_slots.specs.BucketView.{BucketView, empty_bucket, entries_in, flattened, listed_pairs, pairs_in}
-use Rattle.bucket_slots.specs.Recency.{is_listed}
-use Rattle.bucket_slots.specs.Slots.{Slot, free, live, live_pair, live_pairs, marked, slot_at}
-use Rattle.bucket_slots.proofs.CallerLemmas.{map-entries_in}
+use Rattle.std.proofs.lemmas.Map.Keys.{apart_from_distinct}
 use Rattle.bucket_table.specs.ArraysView.{ArraysView, IsOneMap, old_buckets}
 use Rattle.bucket_table.specs.Carrying.{CarriesPairs, has_own_key}
 use Rattle.bucket_table.specs.Landings.{CarriesRecency, HasLanded, StandsInChain, is_own_of}

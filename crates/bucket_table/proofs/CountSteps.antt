@@ -1,48 +1,9 @@
 -- Counts of pairs, bucket by bucket, and what a table without pairs drops.
-use Rattle.std.proofs.Common.{
-  ℕ,
-  zero,
-  suc,
-  ◌+◌,
-  ◌*◌,
-  ◌/◌,
-  ◌-◌,
-  ◌^◌,
-  ◌<◌,
-  ◌≡◌,
-  Bool,
-  List,
-  [],
-  ◌∷◌,
-  Option,
-  Some,
-  None,
-  Result,
-  Ok,
-  Err,
-  get_or,
-  length,
-  map,
-  min,
-  sum,
-  take,
-  refl,
-  sym,
-  ap,
-  subst,
-  ◌∙◌,
-  arith,
-  length-append,
-  zero-mul,
-}
-use Rattle.std.proofs.lemmas.List.Sums.{sum_by-cons}
-use Rattle.std.specs.List.{All}
-use Rattle.std.proofs.lemmas.List.{length-map}
-use Rattle.bucket_slots.specs.ArrayView.{bucket_at}
-use Rattle.bucket_slots.specs.BucketView.{BucketView, entries_in, pairs_in}
+use Rattle.bucket_table.proofs.Words.{ℕ, zero, suc, ◌+◌, ◌*◌, ◌/◌, ◌-◌, ◌^◌, ◌<◌, ◌≡◌, Bool, List, [], ◌∷◌, Option, Some, None, Result, Ok}
+use Rattle.bucket_table.proofs.Words.{Err, get_or, length, map, min, take, refl, sym, ap, subst, ◌∙◌, arith, sum_by-cons, All, length-map}
+use Rattle.bucket_table.proofs.Words.{bucket_at, BucketView, entries_in, pairs_in, IsPermutation, length_permutation, length-entries_in}
+use Rattle.std.proofs.Common.{sum, length-append, zero-mul}
 use Rattle.bucket_table.specs.ArraysView.{ArraysView, RehashView, TableView, entries_of, old_buckets, pairs_of}
-use Rattle.std.specs.List.Sorted.{IsPermutation}
-use Rattle.std.proofs.lemmas.List.Sorted.{length_permutation}
 use Rattle.bucket_table.specs.Counting.{counted_to}
 use Rattle.bucket_table.specs.Finding.{KeepsMap}
 use Rattle.bucket_table.specs.Rehashing.{StartsRehash}
@@ -52,7 +13,6 @@ use Rattle.bucket_table.specs.Sampling.{counted, estimate, live_counts}
 use Rattle.bucket_table.specs.declared.arrays.plan.Plan.{Plan}
 use Rattle.bucket_table.specs.declared.arrays.plan.Plan.TheVariants.{Keep, GiveUp, Resize}
 use Rattle.bucket_table.proofs.Plans.{plan_code}
-use Rattle.bucket_slots.proofs.CallerLemmas.{length-entries_in}
 
 pub none_counted : {A : Type 0} (xs : List A) → length xs ≡ 0 → xs ≡ []
 none_counted [] e = refl
@@ -180,12 +140,8 @@ module _ {K V : Type 0} where
       empty
 
 module _ {K V H : Type 0} where
-  pub kept_alone : (t s : TableView K V H) (new : ArraysView K V) → t ≡ s
-      → (t.arrays.rehash ≡ None → (entries_of t.arrays ≡ [] → ⊥) → new ≡ t.arrays)
-      → s.arrays.rehash ≡ None → (pairs_of s.arrays ≡ [] → ⊥)
-      → record { hasher = t.hasher; arrays = new } ≡ s
-  kept_alone t s new is same alone some =
-      let alone' = subst (λ (z : TableView K V H). z.arrays.rehash ≡ None) (sym is) alone in
-      let some' : entries_of t.arrays ≡ [] → ⊥ = λ empty. some
-      (subst (λ (z : TableView K V H). pairs_of z.arrays ≡ []) is (no_pairs_of t.arrays empty)) in
-      ap (λ (a : ArraysView K V). record { hasher = t.hasher; arrays = a }) (same alone' some') ∙ is
+  pub kept_alone : (hasher : H) (a new : ArraysView K V) → (a.rehash ≡ None → (entries_of a ≡ [] → ⊥) → new ≡ a)
+      → a.rehash ≡ None → (pairs_of a ≡ [] → ⊥)
+      → ◌≡◌ {A = TableView K V H} (record { hasher = hasher; arrays = new }) (record { hasher = hasher; arrays = a })
+  kept_alone hasher a new same alone some =
+      ap (λ (b : ArraysView K V). record { hasher = hasher; arrays = b }) (same alone (λ empty. some (no_pairs_of a empty)))

@@ -1,39 +1,10 @@
 -- Starting, working and ending keep every unit covered.
-use Rattle.std.proofs.Common.{
-  ◌≡◌,
-  ◌≢◌,
-  ℕ,
-  ◌*◌,
-  ◌/◌,
-  ◌<◌,
-  ◌≤◌,
-  ◌⊎◌,
-  Bool,
-  true,
-  false,
-  List,
-  [],
-  ◌∷◌,
-  length,
-  get_or,
-  set,
-  inl,
-  inr,
-  ⊎_elim,
-  refl,
-  sym,
-  subst,
-  ◌∙◌,
-  arith,
-  get_or-set_other,
-  get_or-set_same,
-  length-set,
-}
-use Rattle.std.proofs.lemmas.Bool.{cases_lt, cases_eq, false≢true}
-use Rattle.std.proofs.lemmas.List.Sorted.{Contains-permutation, All-permutation}
-use Rattle.std.proofs.lemmas.List.Elements.{Contains-append_left, Contains-append_right, Contains-append_cases, Contains-push_cases, Contains-get_or, All-cons, All-tail, All-head}
-use Rattle.std.proofs.Math.Nat.{div-lt_iff_lt-mul}
-use Rattle.std.specs.List.{Contains, All}
+use Rattle.bucket_table.proofs.Words.{◌≡◌, ◌≢◌, ℕ, ◌*◌, ◌/◌, ◌<◌, ◌≤◌, ◌⊎◌, Bool, true, false, List, [], ◌∷◌, length, get_or, set, inl, inr}
+use Rattle.bucket_table.proofs.Words.{⊎_elim, refl, sym, subst, ◌∙◌, arith, get_or-set_other, length-set, cases_lt, cases_eq, false≢true}
+use Rattle.bucket_table.proofs.Words.{Contains-permutation, All-permutation, Contains-append_left, Contains-append_right, All-cons}
+use Rattle.bucket_table.proofs.Words.{All-tail, All-head, div-lt_iff_lt-mul, Contains, All}
+use Rattle.std.proofs.Common.{get_or-set_same}
+use Rattle.std.proofs.lemmas.List.Elements.{Contains-append_cases, Contains-push_cases, Contains-get_or}
 use Rattle.std.specs.Prelude.{Ok}
 use Rattle.bucket_table.specs.State.{TicketState}
 use Rattle.bucket_table.specs.Steps.{HandsOut, Closes, Ends, IsOver, position_after}

@@ -1,59 +1,18 @@
 -- A cursor passes empty buckets.
-use Rattle.std.proofs.Common.{
-  ℕ,
-  zero,
-  suc,
-  ◌+◌,
-  ◌*◌,
-  ◌^◌,
-  ◌<◌,
-  ◌≤◌,
-  ◌≡◌,
-  ◌↔◌,
-  ◌⊎◌,
-  true,
-  false,
-  Option,
-  Some,
-  None,
-  Result,
-  Ok,
-  Err,
-  IfOk,
-  IsSome,
-  List,
-  [],
-  ◌∷◌,
-  ◌++◌,
-  length,
-  refl,
-  sym,
-  ap,
-  subst,
-  ◌∙◌,
-  arith,
-  inl,
-  inr,
-}
-use Rattle.std.specs.List.{All, AllByRecursion}
-use Rattle.std.proofs.Math.Nat.{mul-le-mul_right}
-use Rattle.std.proofs.lemmas.Bool.{cases_Bool, cases_lt, false≢true, true≢false}
-use Rattle.std.proofs.lemmas.List.Elements.{recursion_from_All}
-use Rattle.std.proofs.lemmas.List.Sorted.{length_permutation}
-use Rattle.bucket_slots.specs.ArrayView.{bucket_at}
-use Rattle.bucket_slots.specs.BucketView.{BucketView, Place, entries_in, null_place, pairs_in}
-use Rattle.bucket_slots.specs.Homes.{IsInInterval, IsInRange, Meets, interval_width}
-use Rattle.bucket_slots.specs.Sizing.{IsLength}
-use Rattle.bucket_slots.specs.Walking.{IsEnd, MovesToNext, pairs_ahead}
-use Rattle.bucket_slots.proofs.CallerLemmas.{map-entries_in}
+use Rattle.bucket_table.proofs.Words.{ℕ, zero, suc, ◌+◌, ◌*◌, ◌^◌, ◌<◌, ◌≤◌, ◌≡◌, ◌↔◌, ◌⊎◌, true, false, Option, Some, None, Result, Ok}
+use Rattle.bucket_table.proofs.Words.{Err, IfOk, IsSome, List, [], ◌∷◌, ◌++◌, length, refl, sym, ap, subst, ◌∙◌, arith, inl, inr, All}
+use Rattle.bucket_table.proofs.Words.{AllByRecursion, mul-le-mul_right, cases_Bool, cases_lt, false≢true, true≢false, recursion_from_All}
+use Rattle.bucket_table.proofs.Words.{length_permutation, bucket_at, BucketView, Place, entries_in, null_place, pairs_in, IsInInterval}
+use Rattle.bucket_table.proofs.Words.{IsInRange, Meets, interval_width, IsLength, MovesToNext, pairs_ahead, map-entries_in}
+use Rattle.bucket_slots.specs.Walking.{IsEnd}
 use Rattle.bucket_table.specs.ArraysView.{AreArrays, ArePlaced, AreSourcesKilled, ArraysView, RehashView, old_buckets, pairs_of}
-use Rattle.bucket_table.specs.Cursors.{GoesOnFrom, HasNoneBetween, HasNoneFrom, IsFirstFrom, ReachesPast, bound_of}
+use Rattle.bucket_table.specs.Cursors.{IsFoundFrom, HasNoneBetween, HasNoneFrom, IsFirstFrom, ReachesPast, bound_of}
 use Rattle.bucket_table.specs.LookingUp.{pairs_in_all}
 use Rattle.bucket_table.specs.declared.hash_table.Missing.{Missing}
 use Rattle.bucket_table.specs.Rehashing.{KeepsArrays}
 use Rattle.bucket_table.specs.Relocation.{IsEntryHome, buckets_of}
 use Rattle.bucket_table.specs.Sides.{bucket_on}
-use Rattle.bucket_table.specs.Units.{KeepsBag, WorksRange}
+use Rattle.bucket_table.specs.Units.{KeepsOpenTickets, WorksRange}
 use Rattle.bucket_table.proofs.Bounds.{all_hashes, is_in, is_inside, next_multiple, still_past, wide}
 use Rattle.bucket_table.proofs.Each.{all_permuted, each_back, each_both, each_front, each_implies, each_map, none_pass, nothing}
 use Rattle.bucket_table.proofs.HomeSplit.{splits, taken_there}
@@ -171,7 +130,7 @@ module _ {K V : Type 0} (hash : K → ℕ) where
   pub record HasPassed (old : ArraysView K V) (start index : ℕ) (now : ArraysView K V) (at : Place) : Type 0 where
     pub placed : ArePlaced hash now
     pub kept : KeepsArrays old now
-    pub bag : KeepsBag old.rehash now.rehash
+    pub bag : KeepsOpenTickets old.rehash now.rehash
     pub order : start ≤ index
     pub null : at ≡ null_place
     pub none : HasNoneBetween hash (bound_of (length (buckets_of old.current)) start) (bound_of (length (buckets_of old.current)) index) (pairs_of now)
@@ -195,7 +154,7 @@ module _ {K V : Type 0} (hash : K → ℕ) where
 
   pub waits : (old now next : ArraysView K V) (start index : ℕ) (at : Place)
       → HasPassed old start index now at
-      → ArePlaced hash next → KeepsArrays now next → KeepsBag now.rehash next.rehash
+      → ArePlaced hash next → KeepsArrays now next → KeepsOpenTickets now.rehash next.rehash
       → HasPassed old start index next at
   waits old now next start index at p law kept bag = record {
     placed = law;
@@ -300,7 +259,7 @@ module _ {K V : Type 0} (hash : K → ℕ) where
   -- a bucket was prepared, and its first pair is found
   pub stops_at : (old before now : ArraysView K V) (start index len : ℕ) (at next : Place)
       (b : BucketView K V) → HasPassed hash old start index before at
-      → ArePlaced hash now → KeepsArrays before now → KeepsBag before.rehash now.rehash
+      → ArePlaced hash now → KeepsArrays before now → KeepsOpenTickets before.rehash now.rehash
       → len ≡ length (buckets_of before.current) → index < len → (0 < len → IsLength len)
       → AreSourcesKilled now index → b ≡ bucket_on now false index → MovesToNext b at next
       → IsFirstFrom hash now (bound_of (length (buckets_of old.current)) start) index next
@@ -314,7 +273,7 @@ module _ {K V : Type 0} (hash : K → ℕ) where
   -- or it has none
   pub passes_at : (old before now : ArraysView K V) (start index len : ℕ) (at next : Place)
       (b : BucketView K V) → HasPassed hash old start index before at
-      → ArePlaced hash now → KeepsArrays before now → KeepsBag before.rehash now.rehash
+      → ArePlaced hash now → KeepsArrays before now → KeepsOpenTickets before.rehash now.rehash
       → len ≡ length (buckets_of before.current) → index < len
       → AreSourcesKilled now index → b ≡ bucket_on now false index → IsEnd b at next
       → HasPassed hash old start (index + 1) now next
@@ -351,8 +310,8 @@ module _ {K V : Type 0} (hash : K → ℕ) where
   }
 
   pub goes_later : (r : Result ℕ Missing) (arrays : ArraysView K V) (low lower : ℕ)
-      (at : Place) → lower ≤ low → GoesOnFrom hash lower r arrays at
-      → GoesOnFrom hash low r arrays at
+      (at : Place) → lower ≤ low → IsFoundFrom hash lower r arrays at
+      → IsFoundFrom hash low r arrays at
   goes_later (Ok index) arrays low lower at less h = first_later arrays low lower index at less h
   goes_later (Err e) arrays low lower at less h = record { null = h.null; none = λ nothing. from_later low lower less (pairs_of arrays) (h.none nothing) }
 

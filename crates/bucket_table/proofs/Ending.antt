@@ -1,34 +1,7 @@
 -- What starting and ending a ticket leave of a table's arrays.
-use Rattle.std.proofs.Common.{
-  ℕ,
-  ◌*◌,
-  ◌/◌,
-  ◌≡◌,
-  ◌++◌,
-  ◌↔◌,
-  Bool,
-  true,
-  false,
-  IsTrue,
-  List,
-  [],
-  Option,
-  Some,
-  None,
-  Result,
-  Ok,
-  Err,
-  IfSome,
-  IsSome,
-  refl,
-  sym,
-  ap,
-  subst,
-  ◌∙◌,
-  arith,
-}
-use Rattle.bucket_slots.specs.BucketView.{BucketView}
-use Rattle.bucket_table.specs.ArraysView.{AreArrays, IsRehash, RehashView, killed_flags, old_buckets}
+use Rattle.bucket_table.proofs.Words.{ℕ, ◌*◌, ◌/◌, ◌≡◌, ◌++◌, ◌↔◌, Bool, true, false, IsTrue, List, [], Option, Some, None, Result, Ok, Err}
+use Rattle.bucket_table.proofs.Words.{IfSome, IsSome, refl, sym, ap, subst, ◌∙◌, arith, BucketView}
+use Rattle.bucket_table.specs.ArraysView.{AreArrays, LosesNoUnit, RehashView, killed_flags, old_buckets}
 use Rattle.bucket_table.specs.Relocation.{buckets_of, entries_among}
 use Rattle.bucket_table.specs.Covered.{AreAllKilled, IsUnitKilled}
 use Rattle.bucket_table.specs.Rehashing.{EndsBy, EndsRehash, StartsRehash}
@@ -91,7 +64,7 @@ module _ {K V : Type 0} where
 
   ended : (was : RehashView K V) (after : TicketState) (ticket : ℕ) (success : Bool)
       → EndsBy was ticket success (Ok false) after
-      → IsRehash was → IsRehash (record { buckets = was.buckets; tickets = after })
+      → LosesNoUnit was → LosesNoUnit (record { buckets = was.buckets; tickets = after })
   ended was after ticket success (unit, is, done, closes, goes) kept = record {
     covered = covered_end (killed_flags was.buckets) was.tickets after unit success closes
         (λ e. subst (λ (u : ℕ). IsUnitKilled (killed_flags was.buckets) u) (unit_of ticket unit is)
@@ -102,23 +75,23 @@ module _ {K V : Type 0} where
 
   -- an old array after one start, and after one end
   pub rehashed_start : (first after : Option (RehashView K V)) (answer : Option ℕ)
-      → StartsRehash first answer after → IfSome first IsRehash → IfSome after IsRehash
+      → StartsRehash first answer after → IfSome first LosesNoUnit → IfSome after LosesNoUnit
   rehashed_start None after answer starts kept = rw starts.1 tt
   rehashed_start (Some was) None answer starts kept = tt
   rehashed_start (Some was) (Some next) answer starts kept =
-      subst (λ (bs : List (BucketView K V)). IsRehash (record
+      subst (λ (bs : List (BucketView K V)). LosesNoUnit (record
       { buckets = bs; tickets = next.tickets })) (sym starts.1)
       (started was.buckets was.tickets next.tickets answer starts.0 kept)
 
   pub rehashed_end : (first after : Option (RehashView K V)) (ticket : ℕ) (success : Bool)
       (answer : Result Bool TicketError) → EndsRehash first ticket success answer after
-      → IfSome first IsRehash → IfSome after IsRehash
+      → IfSome first LosesNoUnit → IfSome after LosesNoUnit
   rehashed_end None after ticket success answer ends kept = rw ends.1 tt
   rehashed_end (Some was) after ticket success (Err error) ends kept = rw ends.1 kept
   rehashed_end (Some was) None ticket success (Ok gone) ends kept = tt
   rehashed_end (Some was) (Some next) ticket success (Ok true) ends kept = absurd ends
   rehashed_end (Some was) (Some next) ticket success (Ok false) ends kept =
-      subst (λ (bs : List (BucketView K V)). IsRehash (record
+      subst (λ (bs : List (BucketView K V)). LosesNoUnit (record
       { buckets = bs; tickets = next.tickets })) (sym ends.1)
       (ended was next.tickets ticket success ends.0 kept)
 
@@ -146,7 +119,7 @@ module _ {K V : Type 0} where
       (ends_still, ap (λ (r : RehashView K V). Some r) whole)
 
   gone_of : (was : RehashView K V) (last : TicketState) (ticket : ℕ) (success : Bool)
-      → EndsBy was ticket success (Ok true) last → IsRehash was
+      → EndsBy was ticket success (Ok true) last → LosesNoUnit was
       → AreAllKilled (killed_flags was.buckets)
   gone_of was last ticket success (unit, is, done, closes, goes) kept =
       let covered = covered_end (killed_flags was.buckets) was.tickets last unit success closes
@@ -155,22 +128,22 @@ module _ {K V : Type 0} where
       all_killed (killed_flags was.buckets) last covered (goes.0 refl).1
 
   pub goes : (now after : Option (RehashView K V)) (was : RehashView K V) (last : TicketState) (ticket : ℕ) (success : Bool)
-      → now ≡ Some was → after ≡ None → IfSome now IsRehash
+      → now ≡ Some was → after ≡ None → IfSome now LosesNoUnit
       → EndsBy was ticket success (Ok true) last → EndsRehash now ticket success (Ok true) after
   goes now after was last ticket success is gone kept ends =
       let all = gone_of was last ticket success ends (subst
-      (λ (o : Option (RehashView K V)). IfSome o IsRehash) is kept) in
+      (λ (o : Option (RehashView K V)). IfSome o LosesNoUnit) is kept) in
       subst (λ (o : Option (RehashView K V)). EndsRehash o ticket success (Ok true) after) (sym is)
       (subst (λ (o : Option (RehashView K V)). EndsRehash (Some was) ticket success (Ok true) o)
       (sym gone) ((last, ends), all))
 
   pub goes_pairs : (current : Option (List (BucketView K V))) (now after : Option (RehashView K V)) (was : RehashView K V) (last : TicketState) (ticket : ℕ) (success : Bool)
-      → now ≡ Some was → after ≡ None → IfSome now IsRehash
+      → now ≡ Some was → after ≡ None → IfSome now LosesNoUnit
       → EndsBy was ticket success (Ok true) last
       → entries_among (buckets_of current) ++ entries_among (old_buckets after) ≡ entries_among
       (buckets_of current) ++ entries_among (old_buckets now)
   goes_pairs current now after was last ticket success is gone kept ends =
-      let rehash = subst (λ (o : Option (RehashView K V)). IfSome o IsRehash) is kept in
+      let rehash = subst (λ (o : Option (RehashView K V)). IfSome o LosesNoUnit) is kept in
       let all = gone_of was last ticket success ends rehash in
       let none : entries_among was.buckets ≡ [] = no_pairs was.buckets all rehash.emptied in
       ap (λ (pairs : List ((K × V) × ℕ)). entries_among (buckets_of current) ++ pairs)

@@ -1,16 +1,14 @@
 -- What finding a bucket for a writer, and preparing a home, leave of a table.
-use Rattle.std.proofs.Common.{ℕ, ◌≡◌, Bool, List, Option, Some, None, IsSome, is_some, Result, Ok, Err, IfOk, OnErr, option_map, length, refl, sym, ap, subst}
-use Rattle.std.proofs.lemmas.Option.{none-some}
-use Rattle.bucket_slots.specs.BucketView.{BucketView}
-use Rattle.bucket_slots.specs.Homes.{IsHome}
+use Rattle.bucket_table.proofs.Words.{ℕ, ◌≡◌, Bool, List, Option, Some, None, IsSome, is_some, Result, Ok, Err, IfOk, OnErr, option_map}
+use Rattle.bucket_table.proofs.Words.{length, refl, sym, ap, subst, none-some, BucketView, IsHome}
 use Rattle.bucket_table.specs.ArraysView.{ArraysView, RehashView, TableView}
-use Rattle.bucket_table.specs.Finding.{FindsBucket, FindsNone, FindsReady, KeepsMap}
+use Rattle.bucket_table.specs.Finding.{FindsBucket, FindsNone, ReadiesThenGrows, KeepsMap}
 use Rattle.bucket_table.specs.Preparing.{IsPrepared}
 use Rattle.bucket_table.specs.Refusing.{IsRefused}
 use Rattle.bucket_table.specs.Rehashing.{KeepsArrays}
 use Rattle.bucket_table.specs.Sides.{buckets_on}
-use Rattle.bucket_table.specs.Units.{KeepsBag, WorksOneUnit}
-use Rattle.bucket_table.proofs.MapKept.{state_seen}
+use Rattle.bucket_table.specs.Units.{KeepsOpenTickets, WorksOneUnit}
+use Rattle.bucket_table.proofs.MapKept.{state_found}
 use Rattle.bucket_table.proofs.UnitSteps.{kept_none}
 use Rattle.bucket_table.proofs.WriterSteps.{kept_prepared}
 
@@ -34,45 +32,31 @@ module _ {K V : Type 0} where
   none_kept None (Some buckets) gone same = absurd (none-some (length buckets) (sym same))
   none_kept (Some before) (Some buckets) gone same = absurd (none-some before (sym gone))
 
--- the table, seen as its parts
-module _ {K V H : Type 0} (kind : ℕ) (t s : TableView K V H) (new : ArraysView K V) (is : t ≡ s)
-    (bag : KeepsBag t.arrays.rehash new.rehash) where
-  pub prepared_seen : KeepsArrays t.arrays new → WorksOneUnit t.arrays new.rehash
-      → (t.arrays.rehash ≡ None → new ≡ t.arrays)
-      → IsPrepared kind s (record { hasher = t.hasher; arrays = new })
-  prepared_seen kept unit alone =
-      subst (λ (z : TableView K V H). IsPrepared kind z (record { hasher = t.hasher; arrays = new }))
-      is (record {
-        map = state_seen kind t t new refl (kept_prepared t.arrays new kept);
-        kept = kept;
-        bag = bag;
-        unit = unit;
-        alone = λ none. ap (λ (a : ArraysView K V). record { hasher = t.hasher; arrays = a })
-            (alone none);
-      })
+-- what becomes of the arrays becomes of the table
+module _ {K V H : Type 0} (kind : ℕ) (hasher : H) (a new : ArraysView K V) (bag : KeepsOpenTickets a.rehash new.rehash) where
+  abbrev over : ArraysView K V → TableView K V H
+  over b = record { hasher = hasher; arrays = b }
 
-  pub refused_seen : {A E : Type 0} (result : Result A E) → OnErr result (FindsNone t.arrays new)
-      → OnErr result (IsRefused kind s (record { hasher = t.hasher; arrays = new }))
-  refused_seen (Ok x) none = tt
-  refused_seen (Err e) none = record {
-    prepared = prepared_seen none.kept none.unit (λ gone. (none.alone gone).1);
-    alone = subst (λ (z : TableView K V H). z.arrays.rehash ≡ None → z.arrays.current ≡ None) is
-        (λ gone. (none.alone gone).0);
-    no_array = subst (λ (z : TableView K V H). z.arrays.current ≡ None → new.current ≡ None) is
-        (λ gone. none_kept t.arrays.current new.current gone none.kept.current_len);
+  pub prepared : KeepsArrays a new → WorksOneUnit a new.rehash → (a.rehash ≡ None → new ≡ a) → IsPrepared kind (over a) (over new)
+  prepared kept unit alone = record {
+    map = state_found kind hasher a new (kept_prepared a new kept);
+    kept = kept;
+    bag = bag;
+    unit = unit;
+    alone = λ none. ap (λ (b : ArraysView K V). over b) (alone none);
   }
 
-  pub found_seen : {E : Type 0} (hash : ℕ) (result : Result (Bool × ℕ) E) → KeepsMap t.arrays new
+  pub refused : {A E : Type 0} (result : Result A E) → OnErr result (FindsNone a new) → OnErr result (IsRefused kind (over a) (over new))
+  refused (Ok x) none = tt
+  refused (Err e) none = record {
+    prepared = prepared none.kept none.unit (λ gone. (none.alone gone).1);
+    alone = λ gone. (none.alone gone).0;
+    no_array = λ gone. none_kept a.current new.current gone none.kept.current_len;
+  }
+
+  pub found : {E : Type 0} (hash : ℕ) (result : Result (Bool × ℕ) E) → KeepsMap a new
       → IfOk result (λ found. IsHome (length (buckets_on new found.0)) hash found.1)
-      → IfOk result (λ found. FindsReady kind hash t.arrays found.0 found.1 new)
-      → IfOk result (λ found. FindsBucket kind hash s found.0 found.1
-      (record { hasher = t.hasher; arrays = new }))
-  found_seen hash (Ok found) kept home ready =
-      subst (λ (z : TableView K V H). FindsBucket kind hash z found.0 found.1
-      (record { hasher = t.hasher; arrays = new })) is (record {
-        map = state_seen kind t t new refl kept;
-        bag = bag;
-        home = home;
-        found = ready;
-      })
-  found_seen hash (Err e) kept home ready = tt
+      → IfOk result (λ found. ReadiesThenGrows kind hash a found.0 found.1 new)
+      → IfOk result (λ found. FindsBucket kind hash (over a) found.0 found.1 (over new))
+  found hash (Ok at) kept home ready = record { map = state_found kind hasher a new kept; bag = bag; home = home; found = ready }
+  found hash (Err e) kept home ready = tt

@@ -1,9 +1,7 @@
 -- A unit of a rehash that no one else works at.
-use Rattle.std.proofs.Common.{ℕ, ◌+◌, ◌*◌, ◌/◌, ◌≤◌, ◌≡◌, Bool, true, false, List, [], Option, Some, None, Result, Ok, Err, IfSome, length, refl, sym, ap, subst, ◌∙◌, arith}
-use Rattle.std.proofs.lemmas.List.Sorted.{length_permutation}
-use Rattle.std.proofs.lemmas.Option.{same_Some}
-use Rattle.bucket_slots.specs.BucketView.{BucketView}
-use Rattle.bucket_table.specs.ArraysView.{ArraysView, IsRehash, RehashView, killed_flags, old_buckets}
+use Rattle.bucket_table.proofs.Words.{ℕ, ◌+◌, ◌*◌, ◌/◌, ◌≤◌, ◌≡◌, Bool, true, false, List, [], Option, Some, None, Result, Ok, Err, IfSome}
+use Rattle.bucket_table.proofs.Words.{length, refl, sym, ap, subst, ◌∙◌, arith, length_permutation, same_Some, BucketView}
+use Rattle.bucket_table.specs.ArraysView.{ArraysView, LosesNoUnit, RehashView, killed_flags, old_buckets}
 use Rattle.bucket_table.specs.Covered.{IsUnitKilled}
 use Rattle.bucket_table.specs.Finishing.{FinishesOne, IsUnopened, units_left}
 use Rattle.bucket_table.specs.Rehashing.{EndsRehash}
@@ -71,12 +69,12 @@ module _ {K V : Type 0} where
   unopened_at first was is none = subst (λ (o : Option (RehashView K V)). IsUnopened o) is none
 
   kept_at : (first : Option (RehashView K V)) (was : RehashView K V) → first ≡ Some was
-      → IfSome first IsRehash → IsRehash was
-  kept_at first was is kept = subst (λ (o : Option (RehashView K V)). IfSome o IsRehash) is kept
+      → IfSome first LosesNoUnit → LosesNoUnit was
+  kept_at first was is kept = subst (λ (o : Option (RehashView K V)). IfSome o LosesNoUnit) is kept
 
   -- a whole unit
   pub unit_finished : (first middle last : Option (RehashView K V)) (old_worked new_worked : ArraysView K V) (ticket : ℕ) (success : Bool) (answer : Result Bool TicketError)
-      → IfSome first IsRehash → IsUnopened first → (h : Handed first middle ticket)
+      → IfSome first LosesNoUnit → IsUnopened first → (h : Handed first middle ticket)
       → old_worked.rehash ≡ middle → WorksSome (ticket / 2048) success old_worked new_worked
       → EndsRehash new_worked.rehash ticket success answer last → IsFinished h.was success last
   unit_finished first middle last old_worked new_worked ticket success answer kept none h old_is (was, is, some, killed, still) ends =

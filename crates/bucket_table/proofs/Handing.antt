@@ -1,31 +1,10 @@
 -- What one start and one end of a ticket do to the list of open units.
-use Rattle.std.proofs.Common.{
-  ◌≡◌,
-  ℕ,
-  ◌+◌,
-  ◌*◌,
-  ◌<◌,
-  Bool,
-  true,
-  false,
-  List,
-  [],
-  ◌∷◌,
-  ◌++◌,
-  length,
-  get_or,
-  sym,
-  ap,
-  subst,
-  ◌∙◌,
-}
-use Rattle.std.proofs.lemmas.List.Sorted.{IsPermutation-to_front, IsPermutation-swap_remove, IsPermutation-sym}
-use Rattle.std.proofs.lemmas.Bool.{false≢true}
+use Rattle.bucket_table.proofs.Words.{◌≡◌, ℕ, ◌+◌, ◌*◌, ◌<◌, Bool, true, false, List, [], ◌∷◌, ◌++◌, length, get_or, sym, ap, subst, ◌∙◌}
+use Rattle.bucket_table.proofs.Words.{IsPermutation-sym, false≢true, IsPermutation, Contains}
+use Rattle.std.proofs.lemmas.List.Sorted.{IsPermutation-to_front, IsPermutation-swap_remove}
 use Rattle.std.specs.List.{swap_remove}
-use Rattle.std.specs.List.Sorted.{IsPermutation}
 use Rattle.bucket_table.specs.State.{TicketState, IsOpen}
 use Rattle.std.proofs.lemmas.List.{get_or_read}
-use Rattle.std.specs.List.{Contains}
 use Rattle.std.specs.Prelude.{slice_index, Ok, IsTrue, ◌↔◌}
 use Rattle.bucket_table.specs.Steps.{HandsOut, Closes, Ends, IsOver, position_after}
 

@@ -1,41 +1,11 @@
 -- All pairs of two arrays, split into those of one current bucket and those elsewhere.
-use Rattle.std.proofs.Common.{
-  ℕ,
-  zero,
-  suc,
-  ◌<◌,
-  ◌≡◌,
-  Bool,
-  true,
-  false,
-  not,
-  List,
-  [],
-  ◌∷◌,
-  ◌++◌,
-  length,
-  map,
-  set,
-  filter,
-  refl,
-  sym,
-  ap,
-  subst,
-  ◌∙◌,
-  arith,
-  inl,
-  inr,
-}
-use Rattle.std.specs.List.{AllByRecursion}
-use Rattle.std.specs.List.Sorted.{IsPermutation}
-use Rattle.std.proofs.lemmas.Bool.{cases_Bool, not_from_false, not_from_true}
-use Rattle.std.proofs.lemmas.List.{append_assoc, append-nil, get_or-set_same, length-set}
-use Rattle.std.proofs.lemmas.List.Elements.{filter-append, recursion_from_All}
-use Rattle.std.proofs.lemmas.List.Sorted.{IsPermutation-refl, IsPermutation-sym, IsPermutation-trans, IsPermutation-append_left, IsPermutation-append_right, IsPermutation-map}
-use Rattle.bucket_slots.specs.ArrayView.{bucket_at}
-use Rattle.bucket_slots.specs.BucketView.{BucketView, empty_bucket, entries_in, pairs_in}
-use Rattle.bucket_slots.specs.Homes.{IsInInterval}
-use Rattle.bucket_slots.proofs.CallerLemmas.{map-entries_in}
+use Rattle.bucket_table.proofs.Words.{ℕ, zero, suc, ◌<◌, ◌≡◌, Bool, true, false, not, List, [], ◌∷◌, ◌++◌, length, map, set, filter, refl}
+use Rattle.bucket_table.proofs.Words.{sym, ap, subst, ◌∙◌, arith, inl, inr, AllByRecursion, IsPermutation, cases_Bool, not_from_false}
+use Rattle.bucket_table.proofs.Words.{not_from_true, append_assoc, get_or-set_same, filter-append, recursion_from_All, IsPermutation-refl}
+use Rattle.bucket_table.proofs.Words.{IsPermutation-sym, IsPermutation-trans, IsPermutation-append_left, IsPermutation-append_right}
+use Rattle.bucket_table.proofs.Words.{IsPermutation-map, bucket_at, BucketView, empty_bucket, entries_in, pairs_in, IsInInterval}
+use Rattle.bucket_table.proofs.Words.{map-entries_in}
+use Rattle.std.proofs.lemmas.List.{append-nil, length-set}
 use Rattle.bucket_table.specs.ArraysView.{ArePlaced, AreSourcesKilled, ArraysView, entries_of, old_buckets, pairs_of}
 use Rattle.bucket_table.specs.Relocation.{IsEntryHome, buckets_of, entries_among}
 use Rattle.bucket_table.specs.Sides.{arrays_with, bucket_on}

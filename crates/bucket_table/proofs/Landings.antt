@@ -1,15 +1,12 @@
 -- Where the pairs of a bucket's own slots land while they move one after another to their homes.
-use Rattle.std.proofs.Common.{ℕ, ◌<◌, ◌≡◌, ◌%◌, ◌⊎◌, inl, inr, true, Option, Some, None, List, [], length, length-set, replicate, set, suc, zero, refl, sym, ap, subst, ◌∙◌, arith}
-use Rattle.std.proofs.lemmas.Bool.{cases_eq, cases_lt, eq-eqb, ne_eqb, false≢true}
-use Rattle.std.proofs.lemmas.List.{get_or-set_other, get_or-set_same, set_past}
-use Rattle.std.proofs.lemmas.List.Sorted.{length_permutation}
-use Rattle.bucket_slots.specs.ArrayView.{bucket_at}
-use Rattle.bucket_slots.specs.BucketLaws.{IsBucketOf}
-use Rattle.bucket_slots.specs.BucketView.{BucketView, Place, listed_pairs, pairs_in, slot_in}
-use Rattle.bucket_slots.specs.Moving.{slots_vacated}
+use Rattle.bucket_table.proofs.Words.{ℕ, ◌<◌, ◌≡◌, ◌%◌, ◌⊎◌, inl, inr, true, Option, Some, None, List, [], length, length-set, replicate}
+use Rattle.bucket_table.proofs.Words.{set, suc, zero, refl, sym, ap, subst, ◌∙◌, arith, cases_eq, cases_lt, eq-eqb, false≢true}
+use Rattle.bucket_table.proofs.Words.{get_or-set_same, length_permutation, bucket_at, IsBucketOf, BucketView, Place, listed_pairs, pairs_in}
+use Rattle.bucket_table.proofs.Words.{slot_in, slots_vacated, is_live, live_pair, slot_at, live_from_pair, live_not_free}
+use Rattle.bucket_table.proofs.Words.{pairs_in-slots_vacated}
+use Rattle.std.proofs.lemmas.Bool.{ne_eqb}
+use Rattle.std.proofs.lemmas.List.{get_or-set_other, set_past}
 use Rattle.bucket_slots.specs.Placing.{place_for_next, slots_with}
-use Rattle.bucket_slots.specs.Slots.{is_live, live_pair, slot_at}
-use Rattle.bucket_slots.proofs.CallerLemmas.{live_from_pair, live_not_free, pairs_in-slots_vacated}
 use Rattle.bucket_slots.proofs.RecencyCallerLemmas.{chain_kept, chain_put, free_unlisted, listed-slots_with, listed_pairs-slots_with}
 use Rattle.bucket_slots.proofs.RecencyCallerLemmas.{own-slots_vacated, own_kept, own_put, own_vacated, was_free}
 use Rattle.bucket_table.specs.Landings.{AreListable, HaveLanded, IsListable, StandsInChain, landing_of, landings_with}

@@ -1,51 +1,10 @@
 -- How many pairs a walk is lent, and which it isn't.
-use Rattle.std.proofs.Common.{
-  ℕ,
-  ◌+◌,
-  ◌^◌,
-  ◌<◌,
-  ◌≤◌,
-  ◌≡◌,
-  Bool,
-  true,
-  false,
-  not,
-  ◌&&◌,
-  List,
-  [],
-  ◌∷◌,
-  length,
-  filter,
-  refl,
-  sym,
-  ap,
-  subst,
-  ◌∙◌,
-  arith,
-  inl,
-  inr,
-  nat_le,
-}
-use Rattle.std.proofs.Math.Nat.{mul-le-mul_right}
-use Rattle.std.proofs.lemmas.Bool.{
-  true≢false,
-  cases_Bool,
-  cases_lt,
-  and_from,
-  and_left,
-  and_right,
-  leb-true,
-  le-leb,
-  lt-leb,
-  not_from_false,
-  not_from_true,
-}
-use Rattle.std.proofs.lemmas.List.Elements.{filter_agree}
+use Rattle.bucket_table.proofs.Words.{ℕ, ◌+◌, ◌^◌, ◌<◌, ◌≤◌, ◌≡◌, Bool, true, false, not, ◌&&◌, List, [], ◌∷◌, length, filter, refl, sym}
+use Rattle.bucket_table.proofs.Words.{ap, subst, ◌∙◌, arith, inl, inr, nat_le, mul-le-mul_right, true≢false, cases_Bool, cases_lt, and_from}
+use Rattle.bucket_table.proofs.Words.{leb-true, le-leb, not_from_false, not_from_true, filter_agree, length_permutation, BucketView}
+use Rattle.bucket_table.proofs.Words.{pairs_in, interval_width, IsLength}
+use Rattle.std.proofs.lemmas.Bool.{and_left, and_right, lt-leb}
 use Rattle.std.proofs.lemmas.List.Filters.{length-filter_both}
-use Rattle.std.proofs.lemmas.List.Sorted.{length_permutation}
-use Rattle.bucket_slots.specs.BucketView.{BucketView, pairs_in}
-use Rattle.bucket_slots.specs.Homes.{interval_width}
-use Rattle.bucket_slots.specs.Sizing.{IsLength}
 use Rattle.bucket_table.specs.Cursors.{bound_of}
 use Rattle.bucket_table.specs.Visits.{Visited}
 use Rattle.bucket_table.specs.Walks.{AreLent, has_home_in}

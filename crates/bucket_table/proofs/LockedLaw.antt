@@ -1,27 +1,7 @@
 -- A locked bucket may change, and what is known of it is a fact that has one proof.
-use Rattle.std.proofs.Common.{
-  ℕ,
-  ◌<◌,
-  ◌≤◌,
-  ◌≡◌,
-  true,
-  false,
-  List,
-  length,
-  set,
-  subst,
-  arith,
-  inl,
-  inr,
-  get_or-set_other,
-  get_or-set_same,
-  length-set,
-}
-use Rattle.std.proofs.lemmas.Bool.{cases_eq}
-use Rattle.std.specs.List.{All}
-use Rattle.bucket_slots.specs.ArrayView.{bucket_at}
-use Rattle.bucket_slots.specs.BucketView.{BucketView, empty_bucket, entries_in}
-use Rattle.bucket_slots.specs.Homes.{Meets}
+use Rattle.bucket_table.proofs.Words.{ℕ, ◌<◌, ◌≤◌, ◌≡◌, true, false, List, length, set, subst, arith, inl, inr, get_or-set_other}
+use Rattle.bucket_table.proofs.Words.{length-set, cases_eq, All, bucket_at, BucketView, empty_bucket, entries_in, Meets}
+use Rattle.std.proofs.Common.{get_or-set_same}
 use Rattle.bucket_table.specs.Relocation.{AreTwoArrays, IsEntryHome}
 
 module _ {K V : Type 0} where

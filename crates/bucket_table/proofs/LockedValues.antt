@@ -1,5 +1,5 @@
 -- A borrowed bucket with another table behind it.
-use Rattle.std.proofs.Common.{ℕ, ◌≡◌, Bool, ap, subst}
+use Rattle.bucket_table.proofs.Words.{ℕ, ◌≡◌, Bool, ap, subst}
 use Rattle.std.proofs.Props.{props}
 use Rattle.std.specs.declared.cmp.PartialEq as equals
 use Rattle.std.specs.declared.default.Default as default

@@ -1,10 +1,7 @@
 -- The map of two arrays, where the pairs of a bucket move on.
-use Rattle.std.proofs.Common.{ℕ, ◌≡◌, ap, ◌∙◌, subst, Bool, None, Result, Ok, Err, OnOk, OnErr, List, map, arith}
-use Rattle.std.specs.Cmp.{IsEquivalence}
+use Rattle.bucket_table.proofs.Words.{ℕ, ◌≡◌, refl, ap, ◌∙◌, Bool, None, Result, Ok, Err, OnOk, OnErr, List, map, arith, IsEquivalence}
+use Rattle.bucket_table.proofs.Words.{IsPermutation, IsPermutation-map, IsDistinct-IsPermutation}
 use Rattle.std.specs.List.{IsDistinct}
-use Rattle.std.specs.List.Sorted.{IsPermutation}
-use Rattle.std.proofs.lemmas.List.Sorted.{IsPermutation-map}
-use Rattle.std.proofs.lemmas.Map.Keys.{IsDistinct-IsPermutation}
 use Rattle.bucket_table.specs.ArraysView.{ArePlaced, ArraysView, IsOneMap, TableView, entries_of, pairs_of}
 use Rattle.bucket_table.specs.Finding.{KeepsMap}
 use Rattle.bucket_table.specs.MapState.{KeepsPairs, MapState, state_of}
@@ -36,32 +33,6 @@ module _ {K V : Type 0} where
       → OnOk r (RelocatesAt index old new) → OnErr r (IsUnmoved old new) → KeepsArrays old new
   kept_of (Ok x) index old new done refused = done.kept
   kept_of (Err e) index old new done refused = refused.kept
-
-module _ {K V H : Type 0} where
-  -- what a call that keeps the pairs and the capacities leaves of the map
-  pub state_seen : (kind : ℕ) (t s : TableView K V H) (new : ArraysView K V) → t ≡ s
-      → KeepsMap t.arrays new → KeepsPairs (state_of kind s)
-      (state_of kind (record { hasher = t.hasher; arrays = new }))
-  state_seen kind t s new is kept =
-      subst (λ (z : TableView K V H). KeepsPairs (state_of kind z)
-      (state_of kind (record { hasher = t.hasher; arrays = new }))) is (record {
-        pairs = pairs_kept (entries_of t.arrays) (entries_of new) kept.pairs;
-        others = ap (λ (n : ℕ). record {
-          kind = kind;
-          hasher = t.hasher;
-          minimum = n;
-          maximum =
-              new.maximum;
-          pairs = pairs_of new;
-        }) kept.minimum
-            ∙ ap (λ (n : ℕ). record {
-              kind = kind;
-              hasher = t.hasher;
-              minimum = t.arrays.minimum;
-              maximum = n;
-              pairs = pairs_of new;
-            }) kept.maximum;
-      })
 
 module _ {K V H : Type 0} where
   -- what stays beside the pairs
@@ -114,31 +85,18 @@ module _ {K V H : Type 0} (kind : ℕ) (t s : TableView K V H) (hasher : s.hashe
   pub others_than_pairs : s.arrays.minimum ≡ t.arrays.minimum → s.arrays.maximum ≡ t.arrays.maximum
       → state_of kind s ≡ record (state_of kind t) { pairs = pairs_of s.arrays }
   others_than_pairs minimum maximum =
-      ap (λ (h : H). record {
-        kind = kind;
-        hasher = h;
-        minimum = s.arrays.minimum;
-        maximum =
-            s.arrays.maximum;
-        pairs = pairs_of s.arrays;
-      }) hasher
-      ∙ ap (λ (n : ℕ). record {
-        kind = kind;
-        hasher = t.hasher;
-        minimum = n;
-        maximum =
-            s.arrays.maximum;
-        pairs = pairs_of s.arrays;
-      }) minimum
-      ∙ ap (λ (n : ℕ). record {
-        kind = kind;
-        hasher = t.hasher;
-        minimum = t.arrays.minimum;
-        maximum
-            = n;
-        pairs = pairs_of s.arrays;
-      }) maximum
+      ap (λ (h : H). record { kind = kind; hasher = h; minimum = s.arrays.minimum; maximum = s.arrays.maximum; pairs = pairs_of s.arrays }) hasher
+      ∙ ap (λ (n : ℕ). record { kind = kind; hasher = t.hasher; minimum = n; maximum = s.arrays.maximum; pairs = pairs_of s.arrays }) minimum
+      ∙ ap (λ (n : ℕ). record { kind = kind; hasher = t.hasher; minimum = t.arrays.minimum; maximum = n; pairs = pairs_of s.arrays }) maximum
 
   -- a table keeps its map
   pub state_kept : KeepsArrays t.arrays s.arrays → KeepsPairs (state_of kind t) (state_of kind s)
   state_kept kept = record { pairs = map_kept t.arrays s.arrays kept; others = others_than_pairs kept.minimum kept.maximum }
+
+-- the same, from arrays that keep the pairs and the capacities
+pub state_found : {K V H : Type 0} (kind : ℕ) (hasher : H) (a b : ArraysView K V) → KeepsMap a b
+    → KeepsPairs (state_of kind (record { hasher = hasher; arrays = a })) (state_of kind (record { hasher = hasher; arrays = b }))
+state_found kind hasher a b kept = record {
+  pairs = pairs_kept (entries_of a) (entries_of b) kept.pairs;
+  others = others_than_pairs kind (record { hasher = hasher; arrays = a }) (record { hasher = hasher; arrays = b }) refl kept.minimum kept.maximum;
+}

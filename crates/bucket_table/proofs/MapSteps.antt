@@ -1,56 +1,29 @@
 -- The law of one map, and the map itself, where one bucket of one side changes.
-use Rattle.std.proofs.Common.{
-  ℕ,
-  ◌<◌,
-  ◌≡◌,
-  ◌%◌,
-  Bool,
-  true,
-  false,
-  Option,
-  Some,
-  None,
-  List,
-  [],
-  ◌∷◌,
-  ◌++◌,
-  length,
-  map,
-  set,
-  get_or,
-  refl,
-  sym,
-  ap,
-  subst,
-  ◌∙◌,
-  arith,
-  append-nil,
-  length-set,
-}
-use Rattle.std.specs.Cmp.{IsEquivalence}
-use Rattle.std.specs.List.{All, IsDistinct}
-use Rattle.std.specs.List.Sorted.{IsPermutation}
-use Rattle.std.proofs.lemmas.List.{get_or-set_same, set-set}
-use Rattle.std.proofs.lemmas.List.Elements.{All-cons, All-nil, All-map, recursion_from_All}
-use Rattle.std.proofs.lemmas.List.Sorted.{All-permutation, IsPermutation-append_left, IsPermutation-cons, IsPermutation-map, IsPermutation-refl, IsPermutation-trans}
-use Rattle.std.proofs.lemmas.Map.Keys.{IsDistinct-cons, IsDistinct-tail, IsDistinct-IsPermutation}
-use Rattle.bucket_slots.specs.ArrayView.{bucket_at}
-use Rattle.bucket_slots.specs.BucketView.{BucketView, Place, bucket_with_value, empty_bucket, entries_in, pairs_in, slot_in}
-use Rattle.bucket_slots.specs.Clearing.{slots_after_insertion}
-use Rattle.bucket_slots.specs.Evicting.{slot_to_evict, slots_evicted, slots_touched}
-use Rattle.bucket_slots.specs.Homes.{IsHome}
-use Rattle.bucket_slots.specs.Marking.{slots_marked}
-use Rattle.bucket_slots.specs.Removing.{slots_without}
-use Rattle.bucket_slots.specs.Slots.{live_pair, slot_at}
-use Rattle.bucket_slots.proofs.CallerLemmas.{entries_in-slots_without, map-entries_in, entries_in-slots_evicted, rewritten}
-use Rattle.bucket_slots.proofs.Entries.{rotated}
+use Rattle.std.proofs.Common.{OnSome}
+use Rattle.bucket_table.proofs.Words.{ℕ, ◌<◌, ◌≡◌, ◌%◌, Bool, true, false, Option, Some, None, List, [], ◌∷◌, ◌++◌, length, map, set}
+use Rattle.bucket_table.proofs.Words.{IfNone, IfSome, Result, Ok, Err, OnOk, OnErr}
+use Rattle.bucket_table.proofs.Words.{get_or, refl, sym, ap, subst, ◌∙◌, arith, append-nil, length-set, IsEquivalence, All, IsDistinct}
+use Rattle.bucket_table.proofs.Words.{IsPermutation, get_or-set_same, All-cons, All-nil, All-map, recursion_from_All, All-permutation}
+use Rattle.bucket_table.proofs.Words.{IsPermutation-append_left, IsPermutation-cons, IsPermutation-map, IsPermutation-refl}
+use Rattle.bucket_table.proofs.Words.{IsPermutation-trans, IsDistinct-IsPermutation, bucket_at, BucketView, Place, bucket_with_value}
+use Rattle.bucket_table.proofs.Words.{empty_bucket, entries_in, pairs_in, slot_in, slots_after_insertion, slots_touched, IsHome}
+use Rattle.bucket_table.proofs.Words.{slots_marked, slots_without, live_pair, slot_at, map-entries_in, rotated}
+use Rattle.std.proofs.lemmas.List.{set-set}
+use Rattle.std.proofs.lemmas.Map.Keys.{IsDistinct-cons, IsDistinct-tail}
+use Rattle.bucket_slots.specs.Evicting.{slot_to_evict, slots_evicted}
+use Rattle.bucket_slots.proofs.CallerLemmas.{entries_in-slots_without, entries_in-slots_evicted, rewritten}
 use Rattle.bucket_slots.proofs.MarkCallerLemmas.{entries_in-slots_after_insertion, entries_in-slots_marked}
-use Rattle.bucket_slots.proofs.RoomCallerLemmas.{killed-bucket_with_value, killed-slots_after_insertion, killed-slots_marked, killed-slots_without}
+use Rattle.bucket_slots.proofs.RoomCallerLemmas.{killed-bucket_with_value, killed-slots_after_insertion, killed-slots_marked}
+use Rattle.bucket_slots.proofs.RoomCallerLemmas.{killed-slots_without}
 use Rattle.bucket_table.specs.ArraysView.{ArraysView, IsOneMap, RehashView, pairs_of}
+use Rattle.bucket_table.specs.LockedLaws.{locked_change}
+use Rattle.bucket_table.specs.Locking.{IsLocked}
+use Rattle.bucket_table.specs.MapState.{AddsPair, ChangesValue, KeepsPairs, MapState, TakesPair, state_of}
 use Rattle.bucket_table.specs.LookingUp.{IsAbsent}
 use Rattle.bucket_table.specs.Relocation.{IsEntryHome}
 use Rattle.bucket_table.specs.Sides.{array_with, arrays_with, buckets_on, rehash_with}
-use Rattle.bucket_table.proofs.SideChanges.{Exchanges, IsChangeable, buckets_on-arrays_with, homes_moved, homes_on, pairs_exchanged, placed_after}
+use Rattle.bucket_table.proofs.SideChanges.{Exchanges, IsChangeable, arrays_with-same, buckets_on-arrays_with, homes_moved, homes_on, pairs_exchanged}
+use Rattle.bucket_table.proofs.SideChanges.{placed_after}
 
 module _ {K V : Type 0} (eq : K → K → Bool) (laws : IsEquivalence eq) where
   -- distinct keys, and one more
@@ -173,86 +146,112 @@ module _ {K V : Type 0} where
             come));
       }
 
-module _ {K V : Type 0} (eq : K → K → Bool) (laws : IsEquivalence eq) (hash : K → ℕ)
-    (a : ArraysView K V) (side : Bool) (i : ℕ) (one : IsOneMap eq hash a)
-    (held : IsChangeable a side i) where
-  -- all of the law but that keys are distinct
-  one_map_after : (came out : List ((K × V) × ℕ)) (b : BucketView K V)
-      → Exchanges a side i came out b → All (IsEntryHome hash (length (buckets_on a side)) i) came
+module _ {K V H : Type 0} where
+  -- what isn't the pairs stays
+  state_is : (kind : ℕ) (hasher : H) (a : ArraysView K V) (side : Bool) (i : ℕ) (b : BucketView K V)
+      → state_of kind (record { hasher = hasher; arrays = arrays_with a side i b })
+      ≡ record (state_of kind (record { hasher = hasher; arrays = a })) { pairs = pairs_of (arrays_with a side i b) }
+  state_is kind hasher a true i b = refl
+  state_is kind hasher a false i b = refl
+
+module _ {K V H : Type 0} {eq : K → K → Bool} (laws : IsEquivalence eq) (hash : H → K → ℕ) (kind : ℕ) {hasher : H}
+    {a : ArraysView K V} (side : Bool) (i : ℕ) (one : IsOneMap eq (hash hasher) a) (held : IsChangeable a side i) where
+  abbrev was : BucketView K V
+  was = bucket_at (buckets_on a side) i
+
+  abbrev state : ArraysView K V → MapState K V H
+  state b = state_of kind (record { hasher = hasher; arrays = b })
+
+  abbrev IsAtHome : (K × V) × ℕ → Type 0
+  IsAtHome e = IsEntryHome (hash hasher) (length (buckets_on a side)) i e
+
+  -- with another bucket the arrays are one map, which has changed so; and a bucket that was locked may be
+  pub record Leaves (Changes : MapState K V H → Type 0) (b : BucketView K V) : Type 0 where
+    pub one_map : IsOneMap eq (hash hasher) (arrays_with a side i b)
+    pub map : Changes (state (arrays_with a side i b))
+    pub within : i < length (buckets_on (arrays_with a side i b) side)
+    pub locked : IsLocked a side i → IsLocked (arrays_with a side i b) side i
+
+  leaves : (Changes : MapState K V H → Type 0) (came out : List ((K × V) × ℕ)) (b : BucketView K V)
+      → Exchanges a side i came out b → All IsAtHome came
       → IsDistinct eq (map (λ (p : K × V). p.0) (pairs_of (arrays_with a side i b)))
-      → IsOneMap eq hash (arrays_with a side i b)
-  one_map_after came out b x own distinct = record {
-    distinct = distinct;
-    placed = placed_after hash a side i b one.placed held (homes_moved hash (length (buckets_on a side)) i came out (bucket_at (buckets_on a side) i) b x.moved (homes_on hash a side i one.placed x.within) own) x.alive;
+      → Changes (state (arrays_with a side i b)) → Leaves Changes b
+  leaves Changes came out b x own distinct changed = record {
+    one_map = record {
+      distinct = distinct;
+      placed = placed_after (hash hasher) a side i b one.placed held (homes_moved (hash hasher) (length (buckets_on a side)) i came out was b x.moved (homes_on (hash hasher) a side i one.placed x.within) own) x.alive;
+    };
+    map = changed;
+    within = rw (buckets_on-arrays_with a side i b, length-set) x.within;
+    locked = λ locked. locked_change a side i b locked x.alive;
   }
 
-  pub record IsAdded (p : K × V) (b : BucketView K V) : Type 0 where
-    pub one_map : IsOneMap eq hash (arrays_with a side i b)
-    pub pairs : IsPermutation (p ∷ pairs_of a) (pairs_of (arrays_with a side i b))
-
   -- one entry more
-  pub added : (p : K × V) (byte : ℕ) (b : BucketView K V) → Exchanges a side i ((p, byte) ∷ []) [] b
-      → IsAbsent eq p.0 (pairs_of a)
-      → IsHome (length (buckets_on a side)) (hash p.0) i → byte ≡ hash p.0 % 256 → IsAdded p b
-  added p byte b x none home own =
-      let P : (K × V) × ℕ → Type 0 = IsEntryHome hash (length (buckets_on a side)) i in
-      let pairs : IsPermutation (p ∷ pairs_of a) (pairs_of (arrays_with a side i b)) = pairs_exchanged a side i ((p, byte) ∷ []) [] b x.within x.moved in
-      let here : P (p, byte) = record { home = home; own_byte = own } in
-      record {
-        one_map = one_map_after ((p, byte) ∷ []) [] b x (All-cons P (p, byte) [] here (All-nil P)) (distinct_added eq laws (pairs_of a) _ p one.distinct none pairs);
-        pairs = pairs;
-      }
-
-  pub record IsTaken (p : K × V) (b : BucketView K V) : Type 0 where
-    pub one_map : IsOneMap eq hash (arrays_with a side i b)
-    pub pairs : IsPermutation (pairs_of a) (p ∷ pairs_of (arrays_with a side i b))
+  pub inserted : (keeps : ℕ → Bool) (p : K × V) (h : ℕ) → h ≡ hash hasher p.0 → IsHome (length (buckets_on a side)) h i
+      → IsAbsent eq p.0 (pairs_of a) → Leaves (AddsPair (state a) p) (slots_after_insertion kind keeps was p (h % 256))
+  inserted keeps p h own home none =
+      let x = inserts a side i held.within kind keeps p (h % 256) in
+      let b = slots_after_insertion kind keeps was p (h % 256) in
+      let pairs : IsPermutation (p ∷ pairs_of a) (pairs_of (arrays_with a side i b)) = pairs_exchanged a side i ((p, h % 256) ∷ []) [] b x.within x.moved in
+      let here : IsAtHome (p, h % 256) = record { home = subst (λ n. IsHome (length (buckets_on a side)) n i) own home; own_byte = ap (λ n. n % 256) own } in
+      leaves _ ((p, h % 256) ∷ []) [] b x (All-cons IsAtHome (p, h % 256) [] here (All-nil IsAtHome)) (distinct_added eq laws (pairs_of a) _ p one.distinct none pairs)
+      (record { pairs = pairs; others = state_is kind hasher a side i b })
 
   -- one entry less
-  pub taken : (p : K × V) (byte : ℕ) (b : BucketView K V) → Exchanges a side i [] ((p, byte) ∷ []) b
-      → IsTaken p b
+  taken : (p : K × V) (byte : ℕ) (b : BucketView K V) → Exchanges a side i [] ((p, byte) ∷ []) b → Leaves (TakesPair (state a) p) b
   taken p byte b x =
       let pairs : IsPermutation (pairs_of a) (p ∷ pairs_of (arrays_with a side i b)) = pairs_exchanged a side i [] ((p, byte) ∷ []) b x.within x.moved in
-      record {
-        one_map = one_map_after [] ((p, byte) ∷ []) b x (All-nil _) (distinct_taken eq laws (pairs_of a) _ p one.distinct pairs);
-        pairs = pairs;
-      }
+      leaves _ [] ((p, byte) ∷ []) b x (All-nil _) (distinct_taken eq laws (pairs_of a) _ p one.distinct pairs)
+      (record { pairs = pairs; others = state_is kind hasher a side i b })
 
-  pub record IsKept (b : BucketView K V) : Type 0 where
-    pub one_map : IsOneMap eq hash (arrays_with a side i b)
-    pub pairs : IsPermutation (pairs_of a) (pairs_of (arrays_with a side i b))
+  pub removed : (p : K × V) (at : Place) → live_pair (slot_in was at) ≡ Some p → Leaves (TakesPair (state a) p) (slots_without was at)
+  removed p at here = let x = removes a side i held.within at p here in taken p x.0 _ x.1
+
+  pub marked : (p : K × V) (at : Place) (epoch : ℕ) → live_pair (slot_in was at) ≡ Some p → Leaves (TakesPair (state a) p) (slots_marked was at epoch)
+  marked p at epoch here = let x = marks a side i held.within at epoch p here in taken p x.0 _ x.1
+
+  -- the same bucket
+  unchanged : (Changes : MapState K V H → Type 0) → Changes (state a) → Leaves Changes was
+  unchanged Changes same =
+      let x : Exchanges a side i [] [] was = record { within = held.within; moved = IsPermutation-refl (entries_in was); alive = refl } in
+      let again = arrays_with-same a side i in
+      leaves Changes [] [] was x (All-nil _) (rw again one.distinct) (rw again same)
+
+  pub evicted : (r : Option (K × V)) (b : BucketView K V) → IfSome r (λ p. live_pair (slot_at was.own (slot_to_evict was)) ≡ Some p)
+      → OnSome r (b ≡ slots_evicted was) → IfNone r (b ≡ was) → Leaves (λ new. IfSome r (λ p. TakesPair (state a) p new)) b
+  evicted None b here gone same = rw same (unchanged _ tt)
+  evicted (Some p) b here gone same = let x = evicts a side i held.within p here in rw gone (taken p x.0 _ x.1)
+
+  pub inserted_or : {A E : Type 0} (r : Result A E) (b : BucketView K V) (keeps : ℕ → Bool) (p : K × V) (h : ℕ) → h ≡ hash hasher p.0
+      → IsHome (length (buckets_on a side)) h i → IsAbsent eq p.0 (pairs_of a) → OnOk r (b ≡ slots_after_insertion kind keeps was p (h % 256))
+      → OnErr r (b ≡ was) → Leaves (λ new. OnOk r (AddsPair (state a) p new)) b
+  inserted_or (Ok place) b keeps p h own home none placed same = rw placed (inserted keeps p h own home none)
+  inserted_or (Err back) b keeps p h own home none placed same = rw same (unchanged _ tt)
 
   -- the same entries
-  pub kept : (b : BucketView K V) → Exchanges a side i [] [] b → IsKept b
-  kept b x =
+  pub touched : (keeps : Bool) (at : Place) → Leaves (KeepsPairs (state a)) (slots_touched keeps was at)
+  touched keeps at =
+      let x = touches a side i held.within keeps at in
+      let b = slots_touched keeps was at in
       let pairs : IsPermutation (pairs_of a) (pairs_of (arrays_with a side i b)) = pairs_exchanged a side i [] [] b x.within x.moved in
-      record {
-        one_map = one_map_after [] [] b x (All-nil _) (distinct_kept eq laws (pairs_of a) _ one.distinct pairs);
-        pairs = pairs;
-      }
+      leaves _ [] [] b x (All-nil _) (distinct_kept eq laws (pairs_of a) _ one.distinct pairs)
+      (record { pairs = pairs; others = state_is kind hasher a side i b })
 
   -- another value beside one key
-  pub record IsWritten (p : K × V) (value : V) (b : BucketView K V) : Type 0 where
-    pub one_map : IsOneMap eq hash (arrays_with a side i b)
-    pub alive : b.killed ≡ (bucket_at (buckets_on a side) i).killed
-    pub rest : List (K × V)
-    pub before : IsPermutation (pairs_of a) (p ∷ rest)
-    pub after : IsPermutation ((p.0, value) ∷ rest) (pairs_of (arrays_with a side i b))
-
-  pub written : (p : K × V) (value : V) (at : Place) → live_pair
-      (slot_in (bucket_at (buckets_on a side) i) at) ≡ Some p
-      → IsWritten p value (bucket_with_value (bucket_at (buckets_on a side) i) at value)
-  written p value at here =
-      let old = bucket_at (buckets_on a side) i in
+  pub wrote : (p : K × V) (value : V) (at : Place) → live_pair (slot_in was at) ≡ Some p
+      → Leaves (ChangesValue (state a) p value) (bucket_with_value was at value)
+  wrote p value at here =
+      let old = was in
       let new = bucket_with_value old at value in
       let r = rewritten old at p value here in
       let pair : (K × V) × ℕ → K × V = λ e. e.0 in
       let e : (K × V) × ℕ = (p, r.byte) in
       let f : (K × V) × ℕ = ((p.0, value), r.byte) in
-      let P : (K × V) × ℕ → Type 0 = IsEntryHome hash (length (buckets_on a side)) i in
+      let P : (K × V) × ℕ → Type 0 = IsAtHome in
       let moved : IsPermutation (f ∷ entries_in old) (e ∷ entries_in new) =
       IsPermutation-trans _ _ _ (IsPermutation-cons f _ _ r.before_is) (IsPermutation-trans _ _ _ (rotated (f ∷ []) (e ∷ []) r.rest) (IsPermutation-cons e _ _ r.after_is)) in
       let x : Exchanges a side i (f ∷ []) (e ∷ []) new = record { within = held.within; moved = moved; alive = killed-bucket_with_value old at value } in
-      let all = All-permutation P (entries_in old) (e ∷ r.rest) r.before_is (homes_on hash a side i one.placed held.within) in
+      let all = All-permutation P (entries_in old) (e ∷ r.rest) r.before_is (homes_on (hash hasher) a side i one.placed held.within) in
       let first : P e = all 0 e (omega arith) in
       let own : P f = record { home = first.home; own_byte = first.own_byte } in
       let apart = splits a side i new held.within in
@@ -264,10 +263,5 @@ module _ {K V : Type 0} (eq : K → K → Bool) (laws : IsEquivalence eq) (hash 
       IsPermutation-trans _ _ _ (IsPermutation-append_left others ((p.0, value) ∷ map pair r.rest) (pairs_in new) (rw (← map-entries_in new) (IsPermutation-map pair (f ∷ r.rest) (entries_in new) r.after_is))) apart.after in
       let keys : IsDistinct eq (map (λ (q : K × V). q.0) ((p.0, value) ∷ rest)) = distinct_kept eq
       laws (pairs_of a) (p ∷ rest) one.distinct before in
-      record {
-        one_map = one_map_after (f ∷ []) (e ∷ []) new x (All-cons P f [] own (All-nil P)) (distinct_kept eq laws ((p.0, value) ∷ rest) _ keys after);
-        alive = x.alive;
-        rest = rest;
-        before = before;
-        after = after;
-      }
+      leaves _ (f ∷ []) (e ∷ []) new x (All-cons P f [] own (All-nil P)) (distinct_kept eq laws ((p.0, value) ∷ rest) _ keys after)
+      (record { rest = rest; before_is = before; after_is = after; others = state_is kind hasher a side i new })

@@ -1,11 +1,9 @@
 -- Marks of arrays: that none is new where a bucket changes, where a bucket's pairs move on, and where an array comes or goes.
-use Rattle.std.proofs.Common.{ℕ, ◌≡◌, ◌⊎◌, inl, inr, Bool, true, false, Option, None, Some, Result, Ok, Err, List, [], ◌∷◌, ◌++◌, length, replicate, set}
-use Rattle.std.proofs.Common.{refl, ap, subst, ◌∙◌, arith, suc, zero}
-use Rattle.bucket_slots.specs.ArrayView.{IsNewArray, bucket_at}
-use Rattle.bucket_slots.specs.BucketView.{BucketView, empty_bucket, marks_in}
-use Rattle.bucket_slots.specs.Marking.{HasNoNewMark, MarksBy}
-use Rattle.bucket_slots.proofs.MarkCallerLemmas.{by-append, by-no_new, by-set, no_new-append, no_new-at, no_new-both, no_new-front, no_new-none, no_new-refl}
-use Rattle.bucket_slots.proofs.MarkCallerLemmas.{no_new-rest, no_new-same, no_new-set, no_new-trans}
+use Rattle.bucket_table.proofs.Words.{ℕ, ◌≡◌, ◌⊎◌, inl, inr, Bool, true, false, Option, None, Some, Result, Ok, Err, List, [], ◌∷◌, ◌++◌}
+use Rattle.bucket_table.proofs.Words.{length, replicate, set, refl, ap, subst, ◌∙◌, arith, suc, zero, IsNewArray, bucket_at, BucketView}
+use Rattle.bucket_table.proofs.Words.{empty_bucket, marks_in, HasNoNewMark, MarksBy, by-no_new, no_new-refl, no_new-trans}
+use Rattle.bucket_slots.proofs.MarkCallerLemmas.{by-append, by-set, no_new-append, no_new-at, no_new-both, no_new-front, no_new-none}
+use Rattle.bucket_slots.proofs.MarkCallerLemmas.{no_new-rest, no_new-same, no_new-set}
 use Rattle.bucket_table.specs.ArraysView.{ArraysView, RehashView, marks_of, old_buckets}
 use Rattle.bucket_table.specs.Growing.{Grows}
 use Rattle.bucket_table.specs.Relocation.{KeepsEntries, buckets_of, marks_among}

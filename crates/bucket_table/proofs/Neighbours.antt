@@ -1,30 +1,10 @@
 -- Whether the buckets near an index are crowded or deserted, by sums that saturate.
-use Rattle.std.proofs.Common.{
-  ℕ,
-  ◌+◌,
-  ◌*◌,
-  ◌/◌,
-  ◌-◌,
-  ◌%◌,
-  ◌^◌,
-  ◌<◌,
-  ◌≤◌,
-  ◌≡◌,
-  List,
-  length,
-  min,
-  ⊎_elim,
-  sym,
-  subst,
-  arith,
-}
+use Rattle.bucket_table.proofs.Words.{ℕ, ◌+◌, ◌*◌, ◌/◌, ◌-◌, ◌%◌, ◌^◌, ◌<◌, ◌≤◌, ◌≡◌, List, length, min, ⊎_elim, sym, subst, arith}
+use Rattle.bucket_table.proofs.Words.{cases_lt, IsLeastPowerOfTwo, bucket_at, BucketView}
 use Rattle.std.proofs.Math.Nat.{mod-lt}
-use Rattle.std.proofs.lemmas.Bool.{cases_lt}
 use Rattle.bucket_slots.specs.Sampling.{IsSmallSample}
-use Rattle.bucket_slots.specs.Sizing.{IsLeastPowerOfTwo, IsTooEmpty, IsTooFull}
+use Rattle.bucket_slots.specs.Sizing.{IsTooEmpty, IsTooFull}
 use Rattle.bucket_slots.proofs.PowersOfTwo.{exponent_is_one, least_is_one}
-use Rattle.bucket_slots.specs.ArrayView.{bucket_at}
-use Rattle.bucket_slots.specs.BucketView.{BucketView}
 use Rattle.bucket_table.specs.Sampling.{IsCrowded, IsDeserted, counted, live_counts, live_len}
 use Rattle.bucket_table.proofs.Samples.{counted_more, get_or-live_counts, length-live_counts, small_within}
 use Rattle.bucket_table.proofs.PlanIsOne.{large_is_one}

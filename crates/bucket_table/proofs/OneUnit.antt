@@ -1,18 +1,15 @@
 -- A unit inside a call, as a run of one step.
-use Rattle.std.proofs.Common.{ℕ, ◌+◌, ◌*◌, ◌/◌, ◌<◌, ◌≤◌, ◌≡◌, Bool, true, false, List, Option, Some, None, Result, Ok, Err, IfSome, length, refl, sym, ap, subst, ◌∙◌, arith, inl, inr}
-use Rattle.std.proofs.lemmas.Bool.{cases_Bool, cases_eq}
-use Rattle.std.proofs.lemmas.List.Sorted.{length_permutation}
-use Rattle.std.proofs.lemmas.Option.{none-some, same_Some}
-use Rattle.bucket_slots.specs.ArrayView.{bucket_at}
-use Rattle.bucket_slots.specs.BucketView.{BucketView}
-use Rattle.bucket_table.specs.ArraysView.{ArraysView, IsRehash, RehashView, killed_flags, old_buckets}
+use Rattle.bucket_table.proofs.Words.{ℕ, ◌+◌, ◌*◌, ◌/◌, ◌<◌, ◌≤◌, ◌≡◌, Bool, true, false, List, Option, Some, None, Result, Ok, Err, IfSome}
+use Rattle.bucket_table.proofs.Words.{length, refl, sym, ap, subst, ◌∙◌, arith, inl, inr, cases_Bool, cases_eq, length_permutation}
+use Rattle.bucket_table.proofs.Words.{none-some, same_Some, bucket_at, BucketView}
+use Rattle.bucket_table.specs.ArraysView.{ArraysView, LosesNoUnit, RehashView, killed_flags, old_buckets}
 use Rattle.bucket_table.specs.Covered.{IsUnitKilled}
 use Rattle.bucket_table.specs.Rehashing.{EndsRehash, StartsRehash}
 use Rattle.bucket_table.specs.Relocation.{buckets_of}
 use Rattle.bucket_table.specs.State.{TicketState}
 use Rattle.bucket_table.specs.Steps.{HandsOut, position_after}
-use Rattle.bucket_table.specs.UnitRuns.{AreEasyUnits, RunsFrom, SpendsSome, WorksUnits}
-use Rattle.bucket_table.specs.Units.{IsEasyUnit, WorksSome}
+use Rattle.bucket_table.specs.UnitRuns.{UnitsNeedNoMemory, RunsFrom, SpendsSome, WorksUnits}
+use Rattle.bucket_table.specs.Units.{NeedsNoMemory, WorksSome}
 use Rattle.bucket_table.specs.declared.tickets.TicketError.{TicketError}
 use Rattle.bucket_table.proofs.Resizing.{get_or-killed_flags, length-killed_flags}
 use Rattle.bucket_table.proofs.UnitEnds.{never_refused}
@@ -24,7 +21,7 @@ module _ {K V : Type 0} where
       → HandsOut was.tickets ticket started.tickets → is.tickets ≡ started.tickets
       → length is.buckets ≡ length was.buckets → SpendsSome was.buckets is.buckets
       → (success ≡ true → IsUnitKilled (killed_flags is.buckets) (ticket / 2048))
-      → (AreEasyUnits 1 arrays was → success ≡ true)
+      → (UnitsNeedNoMemory 1 arrays was → success ≡ true)
       → EndsRehash (Some is) ticket success answer after → RunsFrom 1 arrays (Some was) after
   unit_runs arrays was started is None ticket success answer h same len spends killed easy ends = tt
   unit_runs arrays was started is (Some last) ticket success (Err error) h same len spends killed easy ends = absurd (never_refused was started is (Some last) ticket success error h same killed ends)
@@ -62,7 +59,7 @@ module _ {K V : Type 0} where
         most = between.1;
         worked = λ count few easy_ones. elim (cases_eq count 1) [
           | inl one ↦
-              let ok = easy (subst (λ (n : ℕ). AreEasyUnits n arrays was) one easy_ones) in
+              let ok = easy (subst (λ (n : ℕ). UnitsNeedNoMemory n arrays was) one easy_ones) in
               let m = moved ok in
               record {
                 position = inl (omega (arith, m, one));
@@ -77,11 +74,11 @@ module _ {K V : Type 0} where
         ];
       }
 
-  easy_unit : (arrays : ArraysView K V) (was : RehashView K V) → AreEasyUnits 1 arrays was
-      → 64 * was.tickets.position < length was.buckets → IsEasyUnit was.tickets.position arrays was
+  easy_unit : (arrays : ArraysView K V) (was : RehashView K V) → UnitsNeedNoMemory 1 arrays was
+      → 64 * was.tickets.position < length was.buckets → NeedsNoMemory was.tickets.position arrays was
   easy_unit arrays was easy left = go arrays.current refl
     where
-      go : (current : Option (List (BucketView K V))) → arrays.current ≡ current → IsEasyUnit was.tickets.position arrays was
+      go : (current : Option (List (BucketView K V))) → arrays.current ≡ current → NeedsNoMemory was.tickets.position arrays was
       go None is =
           let none = ap (λ (o : Option (List (BucketView K V))). length (buckets_of o)) is in
           let shorter = easy.no_shorter in
@@ -98,9 +95,9 @@ module _ {K V : Type 0} where
 
   -- and so in a call
   pub handed_runs : (old middle worked : ArraysView K V) (last : Option (RehashView K V)) (ticket : ℕ) (success : Bool) (answer : Result Bool TicketError)
-      → IfSome old.rehash IsRehash → (h : Handed old.rehash middle.rehash ticket) → middle.current ≡ old.current
+      → IfSome old.rehash LosesNoUnit → (h : Handed old.rehash middle.rehash ticket) → middle.current ≡ old.current
       → WorksSome (ticket / 2048) success middle worked → SpendsSome (old_buckets middle.rehash) (old_buckets worked.rehash)
-      → (IsEasyUnit (ticket / 2048) middle h.started → success ≡ true)
+      → (NeedsNoMemory (ticket / 2048) middle h.started → success ≡ true)
       → EndsRehash worked.rehash ticket success answer last → WorksUnits 1 old last
   handed_runs old middle worked last ticket success answer kept h same (was, is, some, killed, still) spends easy ends =
       let from : was ≡ h.started = same_Some _ _ (sym some.rehash_was ∙ h.middle_is) in
@@ -111,15 +108,15 @@ module _ {K V : Type 0} where
       let worked_is : old_buckets worked.rehash ≡ is.buckets = ap (λ (o : Option (RehashView K V)). old_buckets o) some.rehash_is in
       let spent : SpendsSome h.was.buckets is.buckets = subst (λ (bs : List (BucketView K V)). SpendsSome bs is.buckets) middle_was
       (subst (λ (bs : List (BucketView K V)). SpendsSome (old_buckets middle.rehash) bs) worked_is spends) in
-      let long = tickets_len h.was (subst (λ (o : Option (RehashView K V)). IfSome o IsRehash) h.first_is kept) in
+      let long = tickets_len h.was (subst (λ (o : Option (RehashView K V)). IfSome o LosesNoUnit) h.first_is kept) in
       let left = h.hands_out.is_left in
-      let easy_now : AreEasyUnits 1 old h.was → success ≡ true = λ e. easy (easy_handed old middle ticket h.was h same h.first_is (easy_unit old h.was e (omega (arith, left, long)))) in
+      let easy_now : UnitsNeedNoMemory 1 old h.was → success ≡ true = λ e. easy (easy_handed old middle ticket h.was h same h.first_is (easy_unit old h.was e (omega (arith, left, long)))) in
       subst (λ (o : Option (RehashView K V)). RunsFrom 1 old o last) (sym h.first_is)
       (unit_runs old h.was h.started is last ticket success answer h.hands_out tickets len spent killed easy_now
       (subst (λ (o : Option (RehashView K V)). EndsRehash o ticket success answer last) some.rehash_is ends))
 
   -- no unit could be handed out
-  pub none_runs : (arrays : ArraysView K V) (was after : Option (RehashView K V)) → IfSome was IsRehash
+  pub none_runs : (arrays : ArraysView K V) (was after : Option (RehashView K V)) → IfSome was LosesNoUnit
       → StartsRehash was None after → RunsFrom 1 arrays was after
   none_runs arrays was None kept starts = tt
   none_runs arrays None (Some a) kept starts = absurd (none-some a (sym starts.1))

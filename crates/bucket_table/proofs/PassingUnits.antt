@@ -1,10 +1,8 @@
 -- The units that a cursor works as it passes buckets.
-use Rattle.std.proofs.Common.{ℕ, ◌+◌, ◌-◌, ◌^◌, ◌<◌, ◌≤◌, ◌≡◌, Bool, None, Result, Ok, Err, length, refl, sym, subst, ◌∙◌, arith, inl, inr}
-use Rattle.std.proofs.lemmas.Bool.{cases_lt}
-use Rattle.bucket_slots.specs.Homes.{IsInInterval, interval_width}
-use Rattle.bucket_slots.specs.Sizing.{IsLength}
+use Rattle.bucket_table.proofs.Words.{ℕ, ◌+◌, ◌-◌, ◌^◌, ◌<◌, ◌≤◌, ◌≡◌, Bool, None, Result, Ok, Err, length, refl, sym, subst, ◌∙◌, arith}
+use Rattle.bucket_table.proofs.Words.{inl, inr, cases_lt, IsInInterval, interval_width, IsLength}
 use Rattle.bucket_table.specs.ArraysView.{AreSourcesKilled, ArraysView}
-use Rattle.bucket_table.specs.Cursors.{AreKilledFor, Departs, Passes, bound_of, viewed}
+use Rattle.bucket_table.specs.Cursors.{AreKilledFor, ShrinksThenPasses, Passes, bound_of, viewed}
 use Rattle.bucket_table.specs.Rehashing.{KeepsArrays}
 use Rattle.bucket_table.specs.Relocation.{buckets_of}
 use Rattle.bucket_table.specs.UnitRuns.{WorksUnits}
@@ -177,7 +175,7 @@ module _ {K V A B : Type 0} (f : A → B) (g : B → ℕ) where
   }
 
   pub departs_viewed : (r : Result A Missing) (side : Bool) (index : ℕ) (old new : ArraysView K V)
-      → Departs (λ (a : A). g (f a)) side index old r new → Departs g side index old (viewed f r) new
+      → ShrinksThenPasses (λ (a : A). g (f a)) side index old r new → ShrinksThenPasses g side index old (viewed f r) new
   departs_viewed r side index old new d = record {
     between = d.between;
     asked = d.asked;

@@ -1,26 +1,6 @@
 -- What the calls of a rehash leave of the law of two arrays.
-use Rattle.std.proofs.Common.{
-  ℕ,
-  ◌≡◌,
-  ◌⊎◌,
-  Bool,
-  true,
-  false,
-  List,
-  [],
-  Option,
-  Some,
-  None,
-  Result,
-  Ok,
-  Err,
-  inl,
-  inr,
-  refl,
-  ap,
-  arith,
-}
-use Rattle.bucket_slots.specs.BucketView.{BucketView}
+use Rattle.bucket_table.proofs.Words.{ℕ, ◌≡◌, ◌⊎◌, Bool, true, false, List, [], Option, Some, None, Result, Ok, Err, inl, inr, refl, ap}
+use Rattle.bucket_table.proofs.Words.{arith, BucketView}
 use Rattle.bucket_table.specs.ArraysView.{ArePlaced, ArraysView, RehashView, old_buckets}
 use Rattle.bucket_table.specs.Rehashing.{EndsRehash, StartsRehash}
 use Rattle.bucket_table.specs.Relocation.{AreTwoArrays, buckets_of}

@@ -1,27 +1,10 @@
 -- What the code of a plan computes, in the words of the plan.
-use Rattle.std.proofs.Common.{
-  ℕ,
-  ◌+◌,
-  ◌*◌,
-  ◌/◌,
-  ◌-◌,
-  ◌<◌,
-  ◌≤◌,
-  ◌≡◌,
-  List,
-  length,
-  refl,
-  sym,
-  ap,
-  subst,
-  ◌∙◌,
-  arith,
-}
+use Rattle.bucket_table.proofs.Words.{ℕ, ◌+◌, ◌*◌, ◌/◌, ◌-◌, ◌<◌, ◌≤◌, ◌≡◌, List, length, refl, sym, ap, subst, ◌∙◌, arith, BucketView}
+use Rattle.bucket_table.proofs.Words.{IsLargeSample, IsOptimalCapacity}
 use Rattle.std.proofs.lemmas.Nat.{pow-add}
 use Rattle.std.specs.Int.{IsPowerOfTwo}
-use Rattle.bucket_slots.specs.BucketView.{BucketView}
-use Rattle.bucket_slots.specs.Sampling.{IsLargeSample, full_sample}
-use Rattle.bucket_slots.specs.Sizing.{IsOptimalCapacity, IsPowerIn}
+use Rattle.bucket_slots.specs.Sampling.{full_sample}
+use Rattle.bucket_slots.specs.Sizing.{IsPowerIn}
 use Rattle.bucket_table.specs.ResizePlan.{IsPlanTo, middle_estimate, slots_of}
 use Rattle.bucket_table.specs.Sampling.{estimate, live_counts}
 use Rattle.bucket_table.specs.declared.arrays.plan.Plan.TheVariants.{Keep, Resize}

@@ -1,33 +1,9 @@
 -- There is one plan for an array.
-use Rattle.std.proofs.Common.{
-  ℕ,
-  ◌*◌,
-  ◌/◌,
-  ◌<◌,
-  ◌≤◌,
-  ◌≡◌,
-  ◌⊎◌,
-  List,
-  [],
-  ◌∷◌,
-  length,
-  max,
-  min,
-  inl,
-  inr,
-  ⊎_elim,
-  refl,
-  sym,
-  ap,
-  subst,
-  ◌∙◌,
-  arith,
-}
-use Rattle.std.specs.List.{All}
-use Rattle.std.proofs.lemmas.Bool.{cases_eq, cases_lt}
-use Rattle.std.proofs.lemmas.List.Elements.{All-cons, All-head, All-tail}
-use Rattle.bucket_slots.specs.Sampling.{IsLargeSample}
-use Rattle.bucket_slots.specs.Sizing.{IsGrownCapacity, IsLeastDoubling, IsLeastPowerOfTwo, IsOptimalCapacity}
+use Rattle.bucket_table.proofs.Words.{ℕ, ◌*◌, ◌/◌, ◌<◌, ◌≤◌, ◌≡◌, ◌⊎◌, List, [], ◌∷◌, length, min, inl, inr, ⊎_elim, refl, sym, ap, subst}
+use Rattle.bucket_table.proofs.Words.{◌∙◌, arith, All, cases_eq, cases_lt, All-cons, All-head, All-tail, IsLargeSample, IsLeastPowerOfTwo}
+use Rattle.bucket_table.proofs.Words.{IsOptimalCapacity}
+use Rattle.std.proofs.Common.{max}
+use Rattle.bucket_slots.specs.Sizing.{IsGrownCapacity, IsLeastDoubling}
 use Rattle.bucket_slots.proofs.PowersOfTwo.{exponent_is_one, least_is_one}
 use Rattle.bucket_table.specs.ResizePlan.{IsPlan, IsPlanTo, first_estimate, last_estimate, middle_estimate, slots_of}
 use Rattle.bucket_table.specs.declared.arrays.plan.Plan.{Plan}

@@ -1,8 +1,7 @@
 -- The plan of a resize: there is one, and the capacity that it asks for fits.
-use Rattle.std.proofs.Common.{ℕ, ◌+◌, ◌*◌, ◌/◌, ◌<◌, ◌≤◌, ⊎_elim, arith}
+use Rattle.bucket_table.proofs.Words.{ℕ, ◌+◌, ◌*◌, ◌/◌, ◌<◌, ◌≤◌, ⊎_elim, arith, cases_lt, IsOptimalCapacity}
 use Rattle.std.specs.Int.{IsPowerOfTwo}
-use Rattle.std.proofs.lemmas.Bool.{cases_lt}
-use Rattle.bucket_slots.specs.Sizing.{IsLengthFor, IsOptimalCapacity}
+use Rattle.bucket_slots.specs.Sizing.{IsLengthFor}
 use Rattle.bucket_table.specs.declared.arrays.plan.Plan.{Plan}
 use Rattle.bucket_table.specs.declared.arrays.plan.Plan.TheVariants.{Keep, GiveUp, Resize}
 

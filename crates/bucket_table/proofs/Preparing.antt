@@ -1,23 +1,20 @@
 -- What moving the sources of a home leaves.
-use Rattle.std.proofs.Common.{ℕ, ◌<◌, ◌≡◌, ◌↔◌, Bool, true, List, Option, Some, None, option_map, length, refl, sym, ap, subst, ◌∙◌, arith}
-use Rattle.std.proofs.lemmas.Option.{none-some, same_Some}
-use Rattle.bucket_slots.specs.ArrayView.{bucket_at}
-use Rattle.bucket_slots.specs.BucketView.{BucketView}
-use Rattle.bucket_slots.specs.Homes.{IsHome, IsInRange, Meets}
+use Rattle.bucket_table.proofs.Words.{ℕ, ◌<◌, ◌≡◌, ◌↔◌, Bool, true, List, Option, Some, None, option_map, length, refl, sym, ap, subst, ◌∙◌}
+use Rattle.bucket_table.proofs.Words.{arith, none-some, same_Some, bucket_at, BucketView, IsHome, IsInRange, Meets}
 use Rattle.bucket_table.specs.ArraysView.{ArraysView, RehashView, killed_flags, old_buckets}
 use Rattle.bucket_table.specs.Preparing.{IsReady}
 use Rattle.bucket_table.specs.Rehashing.{KeepsArrays}
 use Rattle.bucket_table.specs.Relocation.{buckets_of}
 use Rattle.bucket_table.specs.State.{TicketState}
-use Rattle.bucket_table.specs.Units.{KeepsBag, KeepsRehash, WorksRange, WorksUnit}
+use Rattle.bucket_table.specs.Units.{KeepsOpenTickets, KeepsRehash, WorksRange, WorksUnit}
 use Rattle.bucket_table.proofs.Resizing.{get_or-killed_flags, length-killed_flags}
 
 module _ {K V : Type 0} where
   -- the bag stays through both
-  pub bag_both : (a b c : Option (RehashView K V)) → KeepsBag a b → KeepsBag b c → KeepsBag a c
+  pub bag_both : (a b c : Option (RehashView K V)) → KeepsOpenTickets a b → KeepsOpenTickets b c → KeepsOpenTickets a c
   bag_both a b c first second = λ unit. second unit ∙ first unit
 
-  pub bag_same : (a : Option (RehashView K V)) → KeepsBag a a
+  pub bag_same : (a : Option (RehashView K V)) → KeepsOpenTickets a a
   bag_same a = λ unit. refl
 
   pub kept_worked : (start end : ℕ) (success : Bool) (old new : ArraysView K V)

@@ -1,7 +1,5 @@
 -- A bucket that is read is as if it came back the same.
-use Rattle.std.proofs.Common.{ℕ, ◌<◌, ◌≡◌, Bool, false, [], length, refl, sym, subst}
-use Rattle.std.proofs.lemmas.List.Sorted.{IsPermutation-refl}
-use Rattle.bucket_slots.specs.BucketView.{BucketView}
+use Rattle.bucket_table.proofs.Words.{ℕ, ◌<◌, ◌≡◌, Bool, false, [], length, refl, sym, subst, IsPermutation-refl, BucketView}
 use Rattle.bucket_table.specs.ArraysView.{ArraysView, TableView}
 use Rattle.bucket_table.specs.Locking.{IsLocked}
 use Rattle.bucket_table.specs.Relocation.{buckets_of}

@@ -1,13 +1,11 @@
 -- A raised minimum, a resize and a first array keep the map.
-use Rattle.std.proofs.Common.{ℕ, ◌+◌, ◌-◌, ◌≡◌, Bool, IsSome, Result, sym, ap, subst, ◌∙◌}
-use Rattle.std.specs.Cmp.{IsEquivalence}
+use Rattle.bucket_table.proofs.Words.{ℕ, ◌+◌, ◌-◌, ◌≡◌, Bool, IsSome, sym, ap, subst, ◌∙◌, IsEquivalence}
 use Rattle.bucket_table.specs.ArraysView.{ArePlaced, ArraysView, IsOneMap, TableView, entries_of, pairs_of}
 use Rattle.bucket_table.specs.Finding.{KeepsMap}
-use Rattle.bucket_table.specs.MapState.{KeepsPairs, LowersMinimum, RaisesMinimum, state_of}
-use Rattle.bucket_table.specs.Resizes.{MakesArray, Releases, Reserves, ResizesByPlan, with_minimum}
-use Rattle.bucket_table.specs.Units.{KeepsBag}
-use Rattle.bucket_table.proofs.MapKept.{one_map_found, pairs_kept, state_seen}
-use Rattle.bucket_table.proofs.WriterSteps.{kept_made, placed_beside, resize_keeps}
+use Rattle.bucket_table.specs.MapState.{LowersMinimum, RaisesMinimum, state_of}
+use Rattle.bucket_table.specs.Resizes.{MakesArray, Releases, Reserves, with_minimum}
+use Rattle.bucket_table.proofs.MapKept.{one_map_found, pairs_kept}
+use Rattle.bucket_table.proofs.WriterSteps.{kept_made, placed_beside}
 
 module _ {K V : Type 0} where
   -- the law says nothing of the minimum
@@ -34,19 +32,6 @@ module _ {K V : Type 0} where
       one_map_found eq laws hash old new one (kept_made old new made) (placed_beside hash old new made beside one.placed)
 
 module _ {K V H : Type 0} where
-  -- what a resize leaves of the map and of the bag
-  pub resized_seen : {E : Type 0} (kind : ℕ) (t s : TableView K V H) (new : ArraysView K V)
-      (answer : Result Bool E) → t ≡ s → entries_of new ≡ entries_of t.arrays
-      → ResizesByPlan t.arrays answer new
-      → KeepsPairs (state_of kind s) (state_of kind (record { hasher = t.hasher; arrays = new }))
-      × KeepsBag s.arrays.rehash new.rehash
-  resized_seen kind t s new answer is same done =
-      let keeps = resize_keeps t.arrays new answer same done in (
-        state_seen kind t s new is keeps.0,
-        subst (λ (z : TableView K V H). KeepsBag z.arrays.rehash
-            new.rehash) is keeps.1,
-      )
-
   -- a resize after the minimum was set changes no other part of the map
   settled : (kind least : ℕ) (t : TableView K V H) (new : ArraysView K V) → KeepsMap (with_minimum t.arrays least) new
       → state_of kind (record { hasher = t.hasher; arrays = new })
@@ -55,26 +40,22 @@ module _ {K V H : Type 0} where
       ap (λ (n : ℕ). record { kind = kind; hasher = t.hasher; minimum = n; maximum = new.maximum; pairs = pairs_of new }) kept.minimum
       ∙ ap (λ (n : ℕ). record { kind = kind; hasher = t.hasher; minimum = least; maximum = n; pairs = pairs_of new }) kept.maximum
 
-  pub raised_seen : (kind additional answer : ℕ) (t s : TableView K V H) (new : ArraysView K V)
-      → t ≡ s → Reserves additional t.arrays answer new
-      → KeepsMap (with_minimum t.arrays (t.arrays.minimum + answer)) new
-      → RaisesMinimum additional (state_of kind s) answer (state_of kind (record { hasher = t.hasher; arrays = new }))
-  raised_seen kind additional answer t s new is reserves kept =
-      subst (λ (z : TableView K V H). RaisesMinimum additional (state_of kind z) answer (state_of kind (record { hasher = t.hasher; arrays = new }))) is (record {
-        too_much = λ much. (reserves.too_much much).0;
-        raised = λ fits. (reserves.raised fits).0;
-        pairs = pairs_kept (entries_of t.arrays) (entries_of new) kept.pairs;
-        others = settled kind (t.arrays.minimum + answer) t new kept;
-      })
+  pub raises : (kind additional answer : ℕ) (hasher : H) (a new : ArraysView K V) → Reserves additional a answer new
+      → KeepsMap (with_minimum a (a.minimum + answer)) new
+      → RaisesMinimum additional (state_of kind (record { hasher = hasher; arrays = a })) answer (state_of kind (record { hasher = hasher; arrays = new }))
+  raises kind additional answer hasher a new reserves kept = record {
+    too_much = λ much. (reserves.too_much much).0;
+    raised = λ fits. (reserves.raised fits).0;
+    pairs = pairs_kept (entries_of a) (entries_of new) kept.pairs;
+    others = settled kind (a.minimum + answer) (record { hasher = hasher; arrays = a }) new kept;
+  }
 
-  pub lowered_seen : (kind released answer : ℕ) (t s : TableView K V H) (new : ArraysView K V)
-      → t ≡ s → Releases released t.arrays answer new
-      → KeepsMap (with_minimum t.arrays (t.arrays.minimum - answer)) new
-      → LowersMinimum released (state_of kind s) answer (state_of kind (record { hasher = t.hasher; arrays = new }))
-  lowered_seen kind released answer t s new is releases kept =
-      subst (λ (z : TableView K V H). LowersMinimum released (state_of kind z) answer (state_of kind (record { hasher = t.hasher; arrays = new }))) is (record {
-        too_much = λ much. (releases.too_much much).0;
-        lowered = λ fits. (releases.lowered fits).0;
-        pairs = pairs_kept (entries_of t.arrays) (entries_of new) kept.pairs;
-        others = settled kind (t.arrays.minimum - answer) t new kept;
-      })
+  pub lowers : (kind released answer : ℕ) (hasher : H) (a new : ArraysView K V) → Releases released a answer new
+      → KeepsMap (with_minimum a (a.minimum - answer)) new
+      → LowersMinimum released (state_of kind (record { hasher = hasher; arrays = a })) answer (state_of kind (record { hasher = hasher; arrays = new }))
+  lowers kind released answer hasher a new releases kept = record {
+    too_much = λ much. (releases.too_much much).0;
+    lowered = λ fits. (releases.lowered fits).0;
+    pairs = pairs_kept (entries_of a) (entries_of new) kept.pairs;
+    others = settled kind (a.minimum - answer) (record { hasher = hasher; arrays = a }) new kept;
+  }

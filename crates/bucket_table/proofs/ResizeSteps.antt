@@ -1,49 +1,12 @@
 -- What a resize leaves keeps what arrays keep, their law and their pairs.
-use Rattle.std.proofs.Common.{
-  ℕ,
-  zero,
-  suc,
-  ◌*◌,
-  ◌/◌,
-  ◌<◌,
-  ◌≤◌,
-  ◌≡◌,
-  ◌++◌,
-  Bool,
-  true,
-  false,
-  List,
-  [],
-  ◌∷◌,
-  Option,
-  Some,
-  None,
-  Result,
-  Ok,
-  Err,
-  IsSome,
-  MatchResult,
-  get_or,
-  length,
-  replicate,
-  inl,
-  inr,
-  ⊎_elim,
-  refl,
-  sym,
-  ap,
-  subst,
-  ◌∙◌,
-  arith,
-}
-use Rattle.std.proofs.lemmas.Bool.{cases_eq, cases_lt, false≢true}
+use Rattle.bucket_table.proofs.Words.{ℕ, zero, suc, ◌*◌, ◌/◌, ◌<◌, ◌≤◌, ◌≡◌, ◌++◌, Bool, true, false, List, [], ◌∷◌, Option, Some, None}
+use Rattle.bucket_table.proofs.Words.{Result, Ok, Err, IsSome, get_or, length, replicate, inl, inr, ⊎_elim, refl, sym, ap, subst, ◌∙◌}
+use Rattle.bucket_table.proofs.Words.{arith, cases_eq, cases_lt, false≢true, All-nil, All, IsNewArray, bucket_at, BucketView, empty_bucket}
+use Rattle.bucket_table.proofs.Words.{entries_in, pairs_in}
+use Rattle.std.proofs.Common.{MatchResult}
 use Rattle.std.proofs.lemmas.List.{append-nil, get_or-replicate}
-use Rattle.std.proofs.lemmas.List.Elements.{All-nil}
 use Rattle.std.proofs.lemmas.Nat.{pow_pos}
-use Rattle.std.specs.List.{All}
-use Rattle.bucket_slots.specs.ArrayView.{IsNewArray, bucket_at}
-use Rattle.bucket_slots.specs.BucketView.{BucketView, empty_bucket, entries_in, pairs_in}
-use Rattle.bucket_table.specs.ArraysView.{AreArrays, ArePlaced, ArraysView, IsRehash, RehashView, entries_of, old_buckets}
+use Rattle.bucket_table.specs.ArraysView.{AreArrays, ArePlaced, ArraysView, LosesNoUnit, RehashView, entries_of, old_buckets}
 use Rattle.bucket_table.specs.Growing.{Grows}
 use Rattle.bucket_table.specs.Locking.{IsLocked}
 use Rattle.bucket_table.specs.Relocation.{AreTwoArrays, IsEntryHome, IsVacant, buckets_of, entries_among}
@@ -194,7 +157,7 @@ module _ {K V : Type 0} where
   -- an old array whose rehash begins
   begun : (buckets : List (BucketView K V)) → 0 < length buckets
       → ((i : ℕ) → i < length buckets → (bucket_at buckets i).killed ≡ false)
-      → IsRehash (new_rehash buckets)
+      → LosesNoUnit (new_rehash buckets)
   begun buckets some alive = record {
     covered = record {
       same_len = length-killed_flags buckets;

@@ -1,33 +1,8 @@
 -- What arrays keep.
-use Rattle.std.proofs.Common.{
-  ℕ,
-  suc,
-  ◌<◌,
-  ◌≡◌,
-  true,
-  false,
-  List,
-  [],
-  ◌∷◌,
-  Option,
-  Some,
-  None,
-  get_or,
-  length,
-  map,
-  refl,
-  sym,
-  ap,
-  subst,
-  ◌∙◌,
-  arith,
-}
-use Rattle.std.proofs.lemmas.List.{length-map, get_or-map}
-use Rattle.std.specs.List.{All}
-use Rattle.bucket_slots.specs.ArrayView.{bucket_at}
-use Rattle.bucket_slots.specs.BucketView.{BucketView, empty_bucket, entries_in, pairs_in}
-use Rattle.bucket_slots.proofs.CallerLemmas.{map-entries_in}
-use Rattle.bucket_table.specs.ArraysView.{IsRehash, killed_flags}
+use Rattle.bucket_table.proofs.Words.{ℕ, suc, ◌<◌, ◌≡◌, true, false, List, [], ◌∷◌, Option, Some, None, get_or, length, map, refl, sym, ap}
+use Rattle.bucket_table.proofs.Words.{subst, ◌∙◌, arith, length-map, get_or-map, All, bucket_at, BucketView, empty_bucket, entries_in}
+use Rattle.bucket_table.proofs.Words.{pairs_in, map-entries_in}
+use Rattle.bucket_table.specs.ArraysView.{LosesNoUnit, killed_flags}
 use Rattle.bucket_table.specs.Covered.{AreAllKilled}
 use Rattle.bucket_table.specs.Relocation.{entries_among}
 use Rattle.bucket_table.specs.State.{TicketState}
@@ -68,9 +43,9 @@ module _ {K V : Type 0} where
   -- a unit handed out keeps every unit covered
   pub started : (buckets : List (BucketView K V)) (before after : TicketState) (answer : Option ℕ)
       → Starts before answer after
-      → IsRehash (record { buckets = buckets; tickets = before })
-      → IsRehash (record { buckets = buckets; tickets = after })
-  started buckets before after None starts kept = subst (λ (t : TicketState). IsRehash
+      → LosesNoUnit (record { buckets = buckets; tickets = before })
+      → LosesNoUnit (record { buckets = buckets; tickets = after })
+  started buckets before after None starts kept = subst (λ (t : TicketState). LosesNoUnit
       (record { buckets = buckets; tickets = t })) (sym starts.1) kept
   started buckets before after (Some ticket) starts kept = record {
     covered = covered_start (killed_flags buckets) before after ticket starts kept.covered;

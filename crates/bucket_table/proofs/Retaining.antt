@@ -1,40 +1,12 @@
 -- A bucket is gone through by a pointer, and what a test refuses is taken out.
-use Rattle.std.proofs.Common.{
-  ℕ,
-  ◌+◌,
-  ◌-◌,
-  ◌^◌,
-  ◌≡◌,
-  Bool,
-  true,
-  false,
-  cond,
-  not,
-  Some,
-  List,
-  [],
-  ◌∷◌,
-  ◌++◌,
-  length,
-  filter,
-  map,
-  min,
-  refl,
-  sym,
-  ap,
-  ◌∙◌,
-  arith,
-}
-use Rattle.std.specs.List.{AllByRecursion}
-use Rattle.std.specs.List.Sorted.{IsPermutation}
+use Rattle.bucket_table.proofs.Words.{ℕ, ◌+◌, ◌-◌, ◌^◌, ◌≡◌, Bool, true, false, cond, not, Some, List, [], ◌∷◌, ◌++◌, length, filter, map}
+use Rattle.bucket_table.proofs.Words.{min, refl, sym, ap, ◌∙◌, arith, AllByRecursion, IsPermutation, not_from_false, not_from_true}
+use Rattle.bucket_table.proofs.Words.{length-append, length-map, IsPermutation-refl, IsPermutation-trans, IsPermutation-append_right}
+use Rattle.bucket_table.proofs.Words.{IsPermutation-map, length_permutation, BucketView, Place, entries_in, null_place, pairs_in, slot_in}
+use Rattle.bucket_table.proofs.Words.{is_live, pair_of, MovesToNext, pairs_ahead, live_from_pair, map-entries_in, read_apart}
 use Rattle.std.specs.Option.{option_map}
-use Rattle.std.proofs.lemmas.Bool.{not-false, not_from_false, not_from_true}
-use Rattle.std.proofs.lemmas.List.{length-append, length-map}
-use Rattle.std.proofs.lemmas.List.Sorted.{IsPermutation-refl, IsPermutation-trans, IsPermutation-append_right, IsPermutation-map, IsPermutation-middle, length_permutation}
-use Rattle.bucket_slots.specs.BucketView.{BucketView, Place, entries_in, null_place, pairs_in, slot_in}
-use Rattle.bucket_slots.specs.Slots.{is_live, pair_of}
-use Rattle.bucket_slots.specs.Walking.{MovesToNext, pairs_ahead}
-use Rattle.bucket_slots.proofs.CallerLemmas.{live_from_pair, map-entries_in, read_apart}
+use Rattle.std.proofs.lemmas.Bool.{not-false}
+use Rattle.std.proofs.lemmas.List.Sorted.{IsPermutation-middle}
 use Rattle.bucket_table.specs.Retains.{Retains}
 use Rattle.bucket_table.proofs.Each.{each_implies, map_append, none_pass, nothing}
 use Rattle.bucket_table.proofs.Filters.{IsPermutation-filter}

@@ -1,31 +1,12 @@
 -- Sums over samples of buckets, and that samples are within an array.
-use Rattle.std.proofs.Common.{
-  ℕ,
-  zero,
-  suc,
-  ◌+◌,
-  ◌*◌,
-  ◌^◌,
-  ◌<◌,
-  ◌≤◌,
-  ◌≡◌,
-  List,
-  drop,
-  get_or,
-  length,
-  refl,
-  ap,
-  ◌∙◌,
-  arith,
-}
+use Rattle.bucket_table.proofs.Words.{ℕ, zero, suc, ◌+◌, ◌*◌, ◌^◌, ◌<◌, ◌≤◌, ◌≡◌, List, get_or, length, refl, ap, ◌∙◌, arith, get_or-map}
+use Rattle.bucket_table.proofs.Words.{length-map, bucket_at, BucketView, empty_bucket, IsLargeSample, IsLeastPowerOfTwo}
+use Rattle.std.proofs.Common.{drop}
 use Rattle.std.proofs.Math.Nat.{pow-suc}
-use Rattle.std.proofs.lemmas.List.{get_or-drop, get_or-map, length-drop, length-map}
+use Rattle.std.proofs.lemmas.List.{get_or-drop, length-drop}
 use Rattle.std.proofs.lemmas.List.Sums.{sum_by_more}
 use Rattle.std.proofs.lemmas.Nat.{pow_pos}
-use Rattle.bucket_slots.specs.ArrayView.{bucket_at}
-use Rattle.bucket_slots.specs.BucketView.{BucketView, empty_bucket}
-use Rattle.bucket_slots.specs.Sampling.{IsLargeSample, IsSmallSample}
-use Rattle.bucket_slots.specs.Sizing.{IsLeastPowerOfTwo}
+use Rattle.bucket_slots.specs.Sampling.{IsSmallSample}
 use Rattle.bucket_slots.proofs.PowersOfTwo.{exponent_le}
 use Rattle.bucket_table.specs.Sampling.{counted, live_counts, live_len}
 

@@ -1,10 +1,10 @@
 -- The hasher, the capacities and the bag stay, one call after another.
-use Rattle.std.proofs.Common.{ℕ, ◌≡◌, ◌∙◌, Bool, ap, refl}
+use Rattle.bucket_table.proofs.Words.{ℕ, ◌≡◌, ◌∙◌, Bool, ap, refl}
 use Rattle.bucket_table.specs.ArraysView.{ArraysView, TableView}
 use Rattle.bucket_table.specs.MapState.{KeepsPairs, state_of}
 use Rattle.bucket_table.specs.Settings.{KeepsSettings}
 use Rattle.bucket_table.specs.Sweeps.{RetainsAt}
-use Rattle.bucket_table.specs.Units.{KeepsBag, times_in}
+use Rattle.bucket_table.specs.Units.{KeepsOpenTickets, times_in}
 use Rattle.bucket_table.proofs.MapKept.{hasher_kept, maximum_kept, minimum_kept}
 use Rattle.bucket_table.proofs.Preparing.{bag_both, bag_same}
 
@@ -23,7 +23,7 @@ module _ {K V H : Type 0} where
 
   -- a call that keeps the map and the bag
   pub settings_kept : (kind : ℕ) (old new : TableView K V H) → KeepsPairs (state_of kind old) (state_of kind new)
-      → KeepsBag old.arrays.rehash new.arrays.rehash → KeepsSettings old new
+      → KeepsOpenTickets old.arrays.rehash new.arrays.rehash → KeepsSettings old new
   settings_kept kind old new kept bag = record {
     hasher = hasher_kept _ _ kept;
     minimum = minimum_kept _ _ kept;

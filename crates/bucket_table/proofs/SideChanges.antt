@@ -1,49 +1,17 @@
 -- The law of two arrays, and all their pairs, where one bucket of one of them changes.
-use Rattle.std.proofs.Common.{
-  ℕ,
-  ◌<◌,
-  ◌≤◌,
-  ◌≡◌,
-  Bool,
-  true,
-  false,
-  List,
-  [],
-  ◌∷◌,
-  ◌++◌,
-  Option,
-  Some,
-  None,
-  IfSome,
-  length,
-  map,
-  set,
-  refl,
-  sym,
-  ap,
-  subst,
-  ◌∙◌,
-  arith,
-  inl,
-  inr,
-  length-set,
-  get_or-set_other,
-  get_or-set_same,
-}
-use Rattle.std.specs.List.{All}
-use Rattle.std.specs.List.Sorted.{IsPermutation}
-use Rattle.std.proofs.lemmas.Bool.{cases_Bool, cases_eq, false≢true}
-use Rattle.std.proofs.lemmas.List.{map-append, map-set, set-get_or}
-use Rattle.std.proofs.lemmas.List.Elements.{All-append, All-set, All-tail}
-use Rattle.std.proofs.lemmas.List.Sorted.{All-permutation, IsPermutation-append_right, IsPermutation-map, IsPermutation-trans, length_permutation}
-use Rattle.bucket_slots.specs.ArrayView.{bucket_at}
-use Rattle.bucket_slots.specs.BucketView.{BucketView, Place, all_slots, empty_bucket, entries_in, pairs_in, slot_in}
-use Rattle.bucket_slots.specs.Homes.{Meets}
-use Rattle.bucket_slots.specs.Removing.{slots_without}
-use Rattle.bucket_slots.specs.Slots.{live_pair}
+use Rattle.bucket_table.proofs.Words.{ℕ, ◌<◌, ◌≤◌, ◌≡◌, Bool, true, false, List, [], ◌∷◌, ◌++◌, Option, Some, None, IfSome, length, map}
+use Rattle.bucket_table.proofs.Words.{set, refl, sym, ap, subst, ◌∙◌, arith, inl, inr, length-set, get_or-set_other, All, IsPermutation}
+use Rattle.bucket_table.proofs.Words.{cases_Bool, cases_eq, false≢true, map-append, map-set, All-tail, All-permutation}
+use Rattle.bucket_table.proofs.Words.{IsPermutation-append_right, IsPermutation-map, IsPermutation-trans, length_permutation, bucket_at}
+use Rattle.bucket_table.proofs.Words.{BucketView, Place, all_slots, empty_bucket, entries_in, pairs_in, slot_in, Meets, slots_without}
+use Rattle.bucket_table.proofs.Words.{live_pair, rotated}
+use Rattle.std.proofs.Common.{get_or-set_same}
+use Rattle.std.proofs.lemmas.List.{set-get_or}
+use Rattle.std.proofs.lemmas.List.Elements.{All-append, All-set}
 use Rattle.bucket_slots.proofs.CallerLemmas.{pairs_in-slots_without}
-use Rattle.bucket_slots.proofs.Entries.{live_pairs-all_free, regrouped, rotated}
-use Rattle.bucket_table.specs.ArraysView.{ArePlaced, AreSourcesKilled, ArraysView, IsRehash, RehashView, entries_of, killed_flags, old_buckets, pairs_of}
+use Rattle.bucket_slots.proofs.Entries.{live_pairs-all_free, regrouped}
+use Rattle.bucket_table.specs.ArraysView.{ArePlaced, AreSourcesKilled, ArraysView, LosesNoUnit, RehashView, entries_of, killed_flags}
+use Rattle.bucket_table.specs.ArraysView.{old_buckets, pairs_of}
 use Rattle.bucket_table.specs.Covered.{IsCovered}
 use Rattle.bucket_table.specs.Locking.{IsLocked}
 use Rattle.bucket_table.specs.LockedLaws.{buckets_of-array_with, old_buckets-rehash_with}
@@ -142,7 +110,7 @@ module _ {K V : Type 0} where
 
   rehashed_with : (rehash : Option (RehashView K V)) (i : ℕ) (b : BucketView K V)
       → i < length (old_buckets rehash) → b.killed ≡ (bucket_at (old_buckets rehash) i).killed
-      → b.killed ≡ false → IfSome rehash IsRehash → IfSome (rehash_with rehash i b) IsRehash
+      → b.killed ≡ false → IfSome rehash LosesNoUnit → IfSome (rehash_with rehash i b) LosesNoUnit
   rehashed_with None i b within same alive kept = tt
   rehashed_with (Some r) i b within same alive kept = record {
     covered = subst (λ (flags : List Bool). IsCovered flags r.tickets)

@@ -1,8 +1,6 @@
 -- Old buckets whose pairs move on.
-use Rattle.std.proofs.Common.{ℕ, ◌≤◌, ◌≡◌, true, List, Option, length, sym, ap, subst, ◌∙◌, arith, inl, inr, refl}
-use Rattle.std.proofs.lemmas.Bool.{cases_eq}
-use Rattle.bucket_slots.specs.ArrayView.{bucket_at}
-use Rattle.bucket_slots.specs.BucketView.{BucketView, pairs_in}
+use Rattle.bucket_table.proofs.Words.{ℕ, ◌≤◌, ◌≡◌, true, List, Option, length, sym, ap, subst, ◌∙◌, arith, inl, inr, refl, cases_eq}
+use Rattle.bucket_table.proofs.Words.{bucket_at, BucketView, pairs_in}
 use Rattle.bucket_table.specs.ArraysView.{ArraysView, RehashView, old_buckets}
 use Rattle.bucket_table.specs.Rehashing.{IsUnmoved, RelocatesAt}
 use Rattle.bucket_table.specs.UnitRuns.{IsSpent, SpendsSome}

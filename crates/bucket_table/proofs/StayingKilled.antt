@@ -1,30 +1,6 @@
 -- Old buckets that are killed stay so.
-use Rattle.std.proofs.Common.{
-  ℕ,
-  ◌<◌,
-  ◌≡◌,
-  Bool,
-  true,
-  false,
-  List,
-  Option,
-  Some,
-  None,
-  Result,
-  Ok,
-  Err,
-  length,
-  refl,
-  sym,
-  ap,
-  subst,
-  ◌∙◌,
-  arith,
-}
-use Rattle.std.proofs.lemmas.Option.{none-some}
-use Rattle.bucket_slots.specs.ArrayView.{bucket_at}
-use Rattle.bucket_slots.specs.BucketView.{BucketView}
-use Rattle.bucket_slots.specs.Homes.{Meets}
+use Rattle.bucket_table.proofs.Words.{ℕ, ◌<◌, ◌≡◌, Bool, true, false, List, Option, Some, None, Result, Ok, Err, length, refl, sym, ap}
+use Rattle.bucket_table.proofs.Words.{subst, ◌∙◌, arith, none-some, bucket_at, BucketView, Meets}
 use Rattle.bucket_table.specs.ArraysView.{AreSourcesKilled, ArraysView, RehashView, old_buckets}
 use Rattle.bucket_table.specs.Rehashing.{EndsRehash, StartsRehash}
 use Rattle.bucket_table.specs.Relocation.{buckets_of}

@@ -1,14 +1,10 @@
 -- A cursor sweeps a table.
-use Rattle.std.proofs.Common.{ℕ, ◌+◌, ◌-◌, ◌^◌, ◌<◌, ◌≤◌, ◌≡◌, ◌≢◌, Bool, false, None, Result, Ok, Err, List, [], ◌∷◌, ◌++◌, length, min, refl, sym, ap, subst, ◌∙◌, arith}
-use Rattle.std.specs.List.Sorted.{IsPermutation}
+use Rattle.bucket_table.proofs.Words.{ℕ, ◌+◌, ◌-◌, ◌^◌, ◌<◌, ◌≤◌, ◌≡◌, ◌≢◌, Bool, false, None, Result, Ok, Err, List, [], ◌∷◌, ◌++◌, length}
+use Rattle.bucket_table.proofs.Words.{min, refl, sym, ap, subst, ◌∙◌, arith, IsPermutation, BucketView, Place, pairs_in, HasNoNewMark}
+use Rattle.bucket_table.proofs.Words.{MarksBy, IsLength, by-no_new, by-trans, pairs_ahead}
 use Rattle.std.proofs.lemmas.List.{length-set}
-use Rattle.bucket_slots.specs.BucketView.{BucketView, Place, pairs_in}
-use Rattle.bucket_slots.specs.Marking.{HasNoNewMark, MarksBy}
-use Rattle.bucket_slots.specs.Sizing.{IsLength}
-use Rattle.bucket_slots.proofs.MarkCallerLemmas.{by-no_new, by-trans}
-use Rattle.bucket_slots.specs.Walking.{pairs_ahead}
 use Rattle.bucket_table.specs.ArraysView.{ArePlaced, ArraysView, TableView, marks_of, pairs_of}
-use Rattle.bucket_table.specs.Cursors.{Departs, GoesOnFrom, Leaves, ReachesPast, SetsOut, bound_of}
+use Rattle.bucket_table.specs.Cursors.{ShrinksThenPasses, IsFoundFrom, Leaves, ReachesPast, SetsOut, bound_of}
 use Rattle.bucket_table.specs.LockedLaws.{buckets_of-array_with}
 use Rattle.bucket_table.specs.Locking.{IsLocked}
 use Rattle.bucket_table.specs.MapState.{KeepsPairs, state_of}
@@ -17,7 +13,7 @@ use Rattle.bucket_table.specs.Retains.{IsSwept, IsSweptBelow}
 use Rattle.bucket_table.specs.Settings.{KeepsSettings}
 use Rattle.bucket_table.specs.Sides.{arrays_with, bucket_on}
 use Rattle.bucket_table.specs.Sweeps.{RetainsAt, SweepState, Sweeps, SweepsAt}
-use Rattle.bucket_table.specs.Units.{KeepsBag}
+use Rattle.bucket_table.specs.Units.{KeepsOpenTickets}
 use Rattle.bucket_table.specs.declared.hash_table.Missing.{Missing}
 use Rattle.bucket_table.specs.declared.hash_table.Missing.TheVariants.{Nothing, Memory}
 use Rattle.bucket_table.proofs.Bounds.{bound_fits}
@@ -53,7 +49,7 @@ module _ {K V : Type 0} (IsTest : (K × V → Bool) → Type 0) (hash : K → �
   -- a sweep that has come to a bound goes on where a cursor does
   sweep_goes : (old now next : ArraysView K V) (count high : ℕ) (found : Result ℕ Missing) (at : Place)
       → IsSweeping IsTest hash (pairs_of old) (pairs_of now) high high count
-      → IsPermutation (pairs_of now) (pairs_of next) → GoesOnFrom hash high found next at
+      → IsPermutation (pairs_of now) (pairs_of next) → IsFoundFrom hash high found next at
       → ReachesPast high found next → SweepsOn old next count found
   sweep_goes old now next count high (Ok index) at s kept goes past = (
     goes.locked,
@@ -71,7 +67,7 @@ module _ {K V : Type 0} (IsTest : (K × V → Bool) → Type 0) (hash : K → �
 
   -- it sets out at the first live pair
   sweep_sets_out : (old next : ArraysView K V) (found : Result ℕ Missing) (at : Place)
-      → IsPermutation (pairs_of old) (pairs_of next) → GoesOnFrom hash 0 found next at
+      → IsPermutation (pairs_of old) (pairs_of next) → IsFoundFrom hash 0 found next at
       → SweepsOn old next 0 found
   sweep_sets_out old next (Ok index) at kept goes = (
     goes.locked,
@@ -114,12 +110,12 @@ module _ {K V H : Type 0} where
       → IsSweeping IsTest (hash old.hasher) (pairs_of old.arrays) (pairs_of visited.arrays)
       (bound_of len (index + 1)) (bound_of len (index + 1)) count
       → IsPermutation (pairs_of visited.arrays) (pairs_of next)
-      → GoesOnFrom (hash visited.hasher) (bound_of (length (buckets_of visited.arrays.current))
+      → IsFoundFrom (hash visited.hasher) (bound_of (length (buckets_of visited.arrays.current))
       (index + 1)) found next at
       → ReachesPast (bound_of (length (buckets_of visited.arrays.current)) (index + 1)) found next
       → SweepsOn IsTest (hash old.hasher) old.arrays next count found
   goes_seen_by IsTest hash old visited next index count len found at same long s kept goes past =
-      let goes' = subst (λ (h : H). GoesOnFrom (hash h) (bound_of
+      let goes' = subst (λ (h : H). IsFoundFrom (hash h) (bound_of
       (length (buckets_of visited.arrays.current)) (index + 1)) found next at) same goes in
       let s' = subst (λ (n : ℕ). IsSweeping IsTest (hash old.hasher) (pairs_of old.arrays)
       (pairs_of visited.arrays) (bound_of n (index + 1)) (bound_of n (index + 1)) count)
@@ -130,7 +126,7 @@ module _ {K V : Type 0} (IsTest : (K × V → Bool) → Type 0) where
   -- a sweep's course so far, and one bucket more
   course_more : {epoch : ℕ} (old now visited next : ArraysView K V) (index count : ℕ) (here place : Result ℕ Missing)
       → here ≡ Ok index → Sweeps IsTest epoch old (record { place = here; arrays = now })
-      → RetainsAt IsTest epoch now index count visited → Departs (λ to. to) false index visited place next
+      → RetainsAt IsTest epoch now index count visited → ShrinksThenPasses (λ to. to) false index visited place next
       → Sweeps IsTest epoch old (record { place = place; arrays = next })
   course_more {epoch = epoch} old now visited next index count here place is s retained departs =
       let before : SweepState K V = record { place = here; arrays = now } in
@@ -146,7 +142,7 @@ module _ {K V : Type 0} (IsTest : (K × V → Bool) → Type 0) where
 
   -- without an old array nothing changes as long as no pair is refused
   course_alone : {epoch : ℕ} (now visited next : ArraysView K V) (index taken : ℕ) (place : Result ℕ Missing)
-      → pairs_in (bucket_on now false index) ≢ [] → RetainsAt IsTest epoch now index taken visited → Departs (λ to. to) false index visited place next
+      → pairs_in (bucket_on now false index) ≢ [] → RetainsAt IsTest epoch now index taken visited → ShrinksThenPasses (λ to. to) false index visited place next
       → now.rehash ≡ None → taken ≡ 0 → next ≡ now
   course_alone now visited next index taken place some r d alone none =
       let same : visited ≡ now = r.new_is ∙ ap (λ (b : BucketView K V). arrays_with now false index b) (r.retains.unchanged none) ∙ arrays_with-same now false index in
@@ -184,10 +180,10 @@ module _ {K V H : Type 0} (IsTest : (K × V → Bool) → Type 0) (hash : H → 
   pub stands_next : (now visited next : TableView K V H) (count taken more index : ℕ) (here place : Result ℕ Missing) (at : Place)
       → SweepStands now count here → here ≡ Ok index → ArePlaced (hash now.hasher) now.arrays
       → visited.hasher ≡ now.hasher → RetainsAt IsTest epoch now.arrays index taken visited.arrays → more ≡ min (count + taken) (2 ^ 64 - 1)
-      → KeepsPairs (state_of kind visited) (state_of kind next) → KeepsBag visited.arrays.rehash next.arrays.rehash
+      → KeepsPairs (state_of kind visited) (state_of kind next) → KeepsOpenTickets visited.arrays.rehash next.arrays.rehash
       → Leaves (hash visited.hasher) (bound_of (length (buckets_of visited.arrays.current)) (index + 1)) place next.arrays at
       → HasNoNewMark (marks_of visited.arrays) (marks_of next.arrays)
-      → Departs (λ to. to) false index visited.arrays place next.arrays → SweepStands next more place
+      → ShrinksThenPasses (λ to. to) false index visited.arrays place next.arrays → SweepStands next more place
   stands_next now visited next count taken more index here place at s is law same retained counted kept bag leaves none_new departs =
       let law' = subst (λ (h : H). ArePlaced (hash h) now.arrays) s.settings.hasher law in
       let seen = settings_both old now visited s.settings (settings_swept IsTest now visited index taken same retained) in

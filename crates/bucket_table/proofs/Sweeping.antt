@@ -1,53 +1,14 @@
 -- A map is swept by hashes: what a test refuses below a bound is gone.
-use Rattle.std.proofs.Common.{
-  ℕ,
-  ◌+◌,
-  ◌-◌,
-  ◌^◌,
-  ◌<◌,
-  ◌≤◌,
-  ◌≡◌,
-  ◌||◌,
-  Bool,
-  true,
-  false,
-  not,
-  List,
-  [],
-  ◌∷◌,
-  ◌++◌,
-  length,
-  filter,
-  map,
-  min,
-  nat_le,
-  refl,
-  sym,
-  ap,
-  subst,
-  ◌∙◌,
-  arith,
-  inl,
-  inr,
-}
-use Rattle.std.specs.List.{AllByRecursion}
-use Rattle.std.specs.List.Sorted.{IsPermutation}
-use Rattle.std.proofs.lemmas.Bool.{
-  cases_lt,
-  false_from_ne_true,
-  le-leb,
-  leb-true,
-  not_from_false,
-  not_from_true,
-  or_from,
-  or_left,
-  or_right,
-  true≢false,
-}
-use Rattle.std.proofs.lemmas.List.{append_assoc, append-nil, length-append, length-map}
-use Rattle.std.proofs.lemmas.List.Elements.{filter-append, filter_passes, recursion_from_All}
-use Rattle.std.proofs.lemmas.List.Sorted.{IsPermutation-refl, IsPermutation-trans, IsPermutation-append_left, IsPermutation-append_right, IsPermutation-filter_both, length_permutation}
-use Rattle.bucket_slots.specs.BucketView.{BucketView, pairs_in}
+use Rattle.bucket_table.proofs.Words.{ℕ, ◌+◌, ◌-◌, ◌^◌, ◌<◌, ◌≤◌, ◌≡◌, Bool, true, false, not, List, [], ◌∷◌, ◌++◌, length, filter, map}
+use Rattle.bucket_table.proofs.Words.{min, nat_le, refl, sym, ap, subst, ◌∙◌, arith, inl, inr, AllByRecursion, IsPermutation, cases_lt}
+use Rattle.bucket_table.proofs.Words.{false_from_ne_true, le-leb, leb-true, not_from_false, not_from_true, true≢false, append_assoc}
+use Rattle.bucket_table.proofs.Words.{length-append, length-map, filter-append, recursion_from_All, IsPermutation-refl, IsPermutation-trans}
+use Rattle.bucket_table.proofs.Words.{IsPermutation-append_left, IsPermutation-append_right, length_permutation, BucketView, pairs_in}
+use Rattle.std.proofs.Common.{◌||◌}
+use Rattle.std.proofs.lemmas.Bool.{or_from, or_left, or_right}
+use Rattle.std.proofs.lemmas.List.{append-nil}
+use Rattle.std.proofs.lemmas.List.Elements.{filter_passes}
+use Rattle.std.proofs.lemmas.List.Sorted.{IsPermutation-filter_both}
 use Rattle.bucket_table.specs.Cursors.{HasNoneBetween, HasNoneFrom, bound_of}
 use Rattle.bucket_table.specs.Retains.{IsSwept, IsSweptBelow, Retains}
 use Rattle.bucket_table.proofs.Bounds.{bounds, is_in, is_inside}

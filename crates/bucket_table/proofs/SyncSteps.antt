@@ -1,42 +1,17 @@
 -- A locked bucket that is left for the next one.
-use Rattle.std.proofs.Common.{
-  ℕ,
-  Bool,
-  ◌+◌,
-  ◌<◌,
-  ◌≡◌,
-  ◌≢◌,
-  None,
-  Result,
-  Ok,
-  Err,
-  List,
-  [],
-  ◌∷◌,
-  ◌⊎◌,
-  length,
-  inl,
-  inr,
-  refl,
-  sym,
-  ap,
-  subst,
-  ◌∙◌,
-}
-use Rattle.bucket_slots.specs.BucketView.{Place, null_place, pairs_in}
-use Rattle.bucket_slots.specs.Walking.{pairs_ahead}
+use Rattle.bucket_table.proofs.Words.{ℕ, Bool, ◌+◌, ◌<◌, ◌≡◌, ◌≢◌, None, Result, Ok, Err, List, [], ◌∷◌, ◌⊎◌, length, inl, inr, refl, sym}
+use Rattle.bucket_table.proofs.Words.{ap, subst, ◌∙◌, Place, null_place, pairs_in, pairs_ahead, IsPermutation-sym}
 use Rattle.bucket_table.specs.ArraysView.{ArraysView, TableView, pairs_of}
 use Rattle.bucket_table.specs.Asking.{AsksShrinking}
-use Rattle.bucket_table.specs.Cursors.{Advances, Departs, HasNoneFrom, LeavesTo, Stays, bound_of}
+use Rattle.bucket_table.specs.Cursors.{Advances, ShrinksThenPasses, HasNoneFrom, LeavesTo, Stays, bound_of}
 use Rattle.bucket_table.specs.Finding.{KeepsMap}
 use Rattle.bucket_table.specs.Locking.{IsLocked}
 use Rattle.bucket_table.specs.Sides.{bucket_on, buckets_on}
-use Rattle.bucket_table.specs.Units.{KeepsBag}
+use Rattle.bucket_table.specs.Units.{KeepsOpenTickets}
 use Rattle.bucket_table.specs.declared.hash_table.Missing.{Missing}
 use Rattle.bucket_table.specs.declared.hash_table.Missing.TheVariants.{Nothing, Memory}
-use Rattle.std.proofs.lemmas.List.Sorted.{IsPermutation-sym}
 use Rattle.bucket_table.proofs.Each.{all_permuted}
-use Rattle.bucket_table.proofs.MapKept.{state_seen}
+use Rattle.bucket_table.proofs.MapKept.{state_found}
 
 some_or_none : {A : Type 0} (xs : List A) → (xs ≡ []) ⊎ (xs ≢ [])
 some_or_none [] = inl refl
@@ -44,23 +19,21 @@ some_or_none (x ∷ xs) = inr (λ e. cc)
 
 module _ {K V H : Type 0} (kind : ℕ) (hash : H → K → ℕ) (side : Bool) (index : ℕ) (from to : Place) where
   -- what a cursor does in the arrays is what it does in the table
-  pub advances_seen : (t s : TableView K V H) (r : Result (Bool × ℕ) Missing) (new : ArraysView K V) → t ≡ s
-      → KeepsMap t.arrays new → KeepsBag t.arrays.rehash new.rehash
-      → (pairs_ahead (bucket_on t.arrays side index) from ≢ [] → Stays side index t.arrays from r new to)
-      → (pairs_ahead (bucket_on t.arrays side index) from ≡ []
-      → LeavesTo (hash t.hasher) (bound_of (length (buckets_on t.arrays side)) (index + 1)) r new to)
-      → (pairs_ahead (bucket_on t.arrays side index) from ≡ [] → Departs (λ to. to.1) side index t.arrays r new)
-      → Advances kind hash s side index from r to (record { hasher = t.hasher; arrays = new })
-  advances_seen t s r new is kept bag stays leaves departs =
-      let told : Advances kind hash t side index from r to (record { hasher = t.hasher; arrays = new }) = record {
-        map = state_seen kind t t new refl kept;
-        bag = bag;
-        marks = kept.marks;
-        stays = stays;
-        leaves = leaves;
-        departs = departs;
-      } in
-      subst (λ (z : TableView K V H). Advances kind hash z side index from r to (record { hasher = t.hasher; arrays = new })) is told
+  pub advances : (hasher : H) (a : ArraysView K V) (r : Result (Bool × ℕ) Missing) (new : ArraysView K V)
+      → KeepsMap a new → KeepsOpenTickets a.rehash new.rehash
+      → (pairs_ahead (bucket_on a side index) from ≢ [] → Stays side index a from r new to)
+      → (pairs_ahead (bucket_on a side index) from ≡ []
+      → LeavesTo (hash hasher) (bound_of (length (buckets_on a side)) (index + 1)) r new to)
+      → (pairs_ahead (bucket_on a side index) from ≡ [] → ShrinksThenPasses (λ to. to.1) side index a r new)
+      → Advances kind hash (record { hasher = hasher; arrays = a }) side index from r to (record { hasher = hasher; arrays = new })
+  advances hasher a r new kept bag stays leaves departs = record {
+    map = state_found kind hasher a new kept;
+    bag = bag;
+    marks = kept.marks;
+    stays = stays;
+    leaves = leaves;
+    departs = departs;
+  }
 
   -- the next bucket is locked
   pub next_locked : (old new : TableView K V H) (found : Bool × ℕ) → IsLocked old.arrays side index

@@ -1,16 +1,12 @@
 -- Cursors, as the table sees them.
-use Rattle.std.proofs.Common.{ℕ, ◌≤◌, ◌≡◌, Bool, false, Result, Ok, Err, List, [], ◌∷◌, ◌++◌, length, map, refl, sym, ap, subst, ◌∙◌, arith}
-use Rattle.std.specs.Cmp.{IsEquivalence}
-use Rattle.std.specs.List.{All, IsDistinct}
-use Rattle.std.specs.List.Sorted.{IsPermutation}
-use Rattle.std.proofs.lemmas.List.Elements.{All-from_recursion, recursion_from_All}
-use Rattle.std.proofs.lemmas.List.Sorted.{length_permutation, All-permutation, IsPermutation-map, IsPermutation-append_left, IsPermutation-append_right, IsPermutation-sym, IsPermutation-trans}
-use Rattle.std.proofs.lemmas.List.{append_assoc}
-use Rattle.std.proofs.lemmas.Map.Keys.{IsDistinct-IsPermutation, IsDistinct-tail}
-use Rattle.bucket_slots.specs.BucketView.{BucketView, Place, entries_in}
-use Rattle.bucket_table.specs.ArraysView.{ArraysView, IsOneMap, TableView, entries_of, pairs_of}
-use Rattle.bucket_table.specs.Asking.{AsksShrinking, ResizesIf}
-use Rattle.bucket_table.specs.Cursors.{GoesOnFrom, HasNoneFrom, Passes, SetsOut}
+use Rattle.bucket_table.proofs.Words.{ℕ, ◌≤◌, ◌≡◌, Bool, false, Result, Ok, Err, List, [], ◌∷◌, ◌++◌, length, map, refl, ap, subst}
+use Rattle.bucket_table.proofs.Words.{◌∙◌, arith, IsEquivalence, All, IsDistinct, IsPermutation, All-from_recursion, recursion_from_All}
+use Rattle.bucket_table.proofs.Words.{length_permutation, All-permutation, IsPermutation-map, IsPermutation-append_left}
+use Rattle.bucket_table.proofs.Words.{IsPermutation-append_right, IsPermutation-sym, IsPermutation-trans, append_assoc}
+use Rattle.bucket_table.proofs.Words.{IsDistinct-IsPermutation, BucketView, Place, entries_in}
+use Rattle.std.proofs.lemmas.Map.Keys.{IsDistinct-tail}
+use Rattle.bucket_table.specs.ArraysView.{ArraysView, IsOneMap, entries_of, pairs_of}
+use Rattle.bucket_table.specs.Cursors.{IsFoundFrom, HasNoneFrom, Passes, SetsOut}
 use Rattle.bucket_table.specs.Locking.{IsLocked}
 use Rattle.bucket_table.specs.Rehashing.{KeepsArrays}
 use Rattle.bucket_table.specs.declared.hash_table.Missing.{Missing}
@@ -18,12 +14,12 @@ use Rattle.bucket_table.specs.declared.hash_table.Missing.TheVariants.{Nothing}
 use Rattle.bucket_table.specs.Relocation.{IsEntryHome, buckets_of}
 use Rattle.bucket_table.specs.Sweeps.{RetainsAt}
 use Rattle.bucket_table.specs.Sides.{arrays_with, bucket_on}
-use Rattle.bucket_table.specs.Units.{KeepsBag}
+use Rattle.bucket_table.specs.Units.{KeepsOpenTickets}
 use Rattle.bucket_table.proofs.CursorSteps.{goes_later}
 use Rattle.bucket_table.proofs.Each.{each_back, map_append, nothing}
 use Rattle.bucket_table.proofs.HomeSplit.{splits}
 use Rattle.bucket_table.proofs.SideChanges.{placed_change}
-use Rattle.bucket_table.proofs.MapKept.{pairs_kept, state_seen}
+use Rattle.bucket_table.proofs.MapKept.{pairs_kept, state_found}
 use Rattle.bucket_table.proofs.WriterSteps.{kept_prepared}
 
 pub distinct_behind : {K : Type 0} (eq : K → K → Bool) (xs ys : List K) → IsDistinct eq (xs ++ ys)
@@ -66,51 +62,37 @@ module _ {K V : Type 0} where
 
 module _ {K V H : Type 0} where
   -- a cursor that sets out in the arrays sets out in the table
-  pub sets_out_seen : (kind : ℕ) (hash : H → K → ℕ) (t s : TableView K V H) (bound : ℕ) (r : Result ℕ Missing) (new : ArraysView K V) (at : Place)
-      → t ≡ s → bound ≤ 0 → KeepsArrays t.arrays new → KeepsBag t.arrays.rehash new.rehash
-      → GoesOnFrom (hash t.hasher) bound r new at → Passes (λ i. i) 0 t.arrays r new
-      → SetsOut kind hash s r at (record { hasher = t.hasher; arrays = new })
-  sets_out_seen kind hash t s bound r new at is less kept bag found passes =
-      let told : SetsOut kind hash t r at (record { hasher = t.hasher; arrays = new }) = record {
-        map = state_seen kind t t new refl (kept_prepared t.arrays new kept);
-        bag = bag;
-        marks = kept.marks;
-        found = goes_later (hash t.hasher) r new 0 bound at less found;
-        passes = passes;
-      } in
-      subst (λ (z : TableView K V H). SetsOut kind hash z r at (record { hasher = t.hasher; arrays = new })) is told
+  pub sets_out : (kind : ℕ) (hash : H → K → ℕ) (hasher : H) (a : ArraysView K V) (bound : ℕ) (r : Result ℕ Missing) (new : ArraysView K V) (at : Place)
+      → bound ≤ 0 → KeepsArrays a new → KeepsOpenTickets a.rehash new.rehash
+      → IsFoundFrom (hash hasher) bound r new at → Passes (λ i. i) 0 a r new
+      → SetsOut kind hash (record { hasher = hasher; arrays = a }) r at (record { hasher = hasher; arrays = new })
+  sets_out kind hash hasher a bound r new at less kept bag found passes = record {
+    map = state_found kind hasher a new (kept_prepared a new kept);
+    bag = bag;
+    marks = kept.marks;
+    found = goes_later (hash hasher) r new 0 bound at less found;
+    passes = passes;
+  }
 
+module _ {K V : Type 0} where
   -- a bucket of the table was gone through
-  pub left_of : {epoch : ℕ} (eq : K → K → Bool) → IsEquivalence eq → (hash : H → K → ℕ) (t s : TableView K V H)
-      (index count : ℕ) (IsTest : (K × V → Bool) → Type 0) (new : ArraysView K V) → t ≡ s
-      → IsOneMap eq (hash t.hasher) t.arrays → IsLocked s.arrays false index
-      → RetainsAt IsTest epoch t.arrays index count new → IsOneMap eq (hash t.hasher) new
-  left_of eq laws hash t s index count IsTest new is one locked r =
-      rw r.new_is (one_map_left eq laws (hash t.hasher) t.arrays index r.left r.retains.gone one
-      (subst (λ (z : TableView K V H). IsLocked z.arrays false index) (sym is) locked)
-      r.retains.parts r.retains.alive)
+  pub left_of : {epoch : ℕ} (eq : K → K → Bool) → IsEquivalence eq → (hash : K → ℕ) (a : ArraysView K V)
+      (index count : ℕ) (IsTest : (K × V → Bool) → Type 0) (new : ArraysView K V)
+      → IsOneMap eq hash a → IsLocked a false index → RetainsAt IsTest epoch a index count new → IsOneMap eq hash new
+  left_of eq laws hash a index count IsTest new one locked r =
+      rw r.new_is (one_map_left eq laws hash a index r.left r.retains.gone one locked r.retains.parts r.retains.alive)
+
+  no_pair : (hash : K → ℕ) (bound : ℕ) (ps : List (K × V)) → bound ≡ 0 → HasNoneFrom hash bound ps → ps ≡ []
+  no_pair hash bound [] e h = refl
+  no_pair hash bound (p ∷ ps) e h = absurd (let less = h.0 in omega (arith, e, less))
 
   -- where a cursor finds nothing at all, there was nothing
-  pub nothing_seen : (hash : H → K → ℕ) (t s : TableView K V H) (bound : ℕ)
-      (r : Result ℕ Missing) (new : ArraysView K V) (at : Place) → t ≡ s → bound ≡ 0
-      → KeepsArrays t.arrays new
-      → GoesOnFrom (hash t.hasher) bound r new at → r ≡ Err Nothing → pairs_of s.arrays ≡ []
-  nothing_seen hash t s bound (Ok index) new at is zero_bound kept h found = absurd cc
-  nothing_seen hash t s bound (Err e) new at is zero_bound kept h found =
-      let nothing_there : e ≡ Nothing = cc in
-      let none = no_pair (hash t.hasher) bound (pairs_of new) zero_bound (h.none nothing_there) in
-      let len = length_permutation _ _ (pairs_kept (entries_of t.arrays) (entries_of new) kept.pairs) in
+  pub nothing_there : (hash : K → ℕ) (a : ArraysView K V) (bound : ℕ) (r : Result ℕ Missing) (new : ArraysView K V) (at : Place)
+      → bound ≡ 0 → KeepsArrays a new → IsFoundFrom hash bound r new at → r ≡ Err Nothing → pairs_of a ≡ []
+  nothing_there hash a bound (Ok index) new at zero_bound kept h found = absurd cc
+  nothing_there hash a bound (Err e) new at zero_bound kept h found =
+      let nothing_left : e ≡ Nothing = cc in
+      let none = no_pair hash bound (pairs_of new) zero_bound (h.none nothing_left) in
+      let len = length_permutation _ _ (pairs_kept (entries_of a) (entries_of new) kept.pairs) in
       let no_len = ap (λ ps. length ps) none in
-      subst (λ (z : TableView K V H). pairs_of z.arrays ≡ []) is
-      (nothing (pairs_of t.arrays) (omega (arith, len, no_len)))
-    where
-      no_pair : (hash : K → ℕ) (bound : ℕ) (ps : List (K × V)) → bound ≡ 0
-          → HasNoneFrom hash bound ps → ps ≡ []
-      no_pair hash bound [] e h = refl
-      no_pair hash bound (p ∷ ps) e h = absurd (let less = h.0 in omega (arith, e, less))
-
-  pub resized_seen : (t s : TableView K V H) (index : ℕ) (new : ArraysView K V) → t ≡ s
-      → ResizesIf (AsksShrinking t.arrays index) t.arrays new
-      → ResizesIf (AsksShrinking s.arrays index) s.arrays new
-  resized_seen t s index new is h = subst (λ (z : TableView K V H). ResizesIf
-      (AsksShrinking z.arrays index) z.arrays new) is h
+      nothing (pairs_of a) (omega (arith, len, no_len))

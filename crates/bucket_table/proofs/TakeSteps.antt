@@ -1,8 +1,6 @@
 -- A pair is taken out of a table, after its bucket was found.
-use Rattle.std.proofs.Common.{◌≡◌, Bool, true, false, Some, List, ◌∷◌, sym, ap, subst, ◌∙◌}
-use Rattle.std.proofs.lemmas.List.Sorted.{All-permutation, IsPermutation-sym, IsPermutation-trans}
-use Rattle.std.proofs.lemmas.Option.{same_Some}
-use Rattle.bucket_slots.specs.Slots.{Slot, live_pair}
+use Rattle.bucket_table.proofs.Words.{◌≡◌, Bool, true, false, Some, List, ◌∷◌, sym, ap, subst, ◌∙◌, All-permutation, IsPermutation-sym}
+use Rattle.bucket_table.proofs.Words.{IsPermutation-trans, same_Some, Slot, live_pair}
 use Rattle.bucket_table.specs.LookingUp.{IsAbsent, IsThere}
 use Rattle.bucket_table.specs.MapState.{KeepsPairs, MapState, TakesPair}
 

@@ -1,43 +1,15 @@
 -- What starting, working and ending one ticket does to the bag and the position.
-use Rattle.std.proofs.Common.{
-  ℕ,
-  ◌/◌,
-  ◌≡◌,
-  ◌==◌,
-  Bool,
-  true,
-  false,
-  List,
-  [],
-  ◌∷◌,
-  Option,
-  Some,
-  None,
-  Result,
-  Ok,
-  Err,
-  cond,
-  refl,
-  sym,
-  ap,
-  subst,
-  ◌∙◌,
-  arith,
-  count_by,
-  sum_by,
-}
+use Rattle.bucket_table.proofs.Words.{ℕ, ◌/◌, ◌≡◌, ◌==◌, Bool, true, false, List, [], ◌∷◌, Option, Some, None, Result, Ok, Err, cond, refl}
+use Rattle.bucket_table.proofs.Words.{sym, ap, subst, ◌∙◌, arith, Contains-permutation, sum_by-cons, Contains, IsPermutation, BucketView}
+use Rattle.std.proofs.Common.{count_by, sum_by}
 use Rattle.std.proofs.lemmas.List.Elements.{Contains-get_or}
-use Rattle.std.proofs.lemmas.List.Sorted.{Contains-permutation, sum_by-IsPermutation}
-use Rattle.std.proofs.lemmas.List.Sums.{sum_by-cons}
-use Rattle.std.specs.List.{Contains}
-use Rattle.std.specs.List.Sorted.{IsPermutation}
-use Rattle.bucket_slots.specs.BucketView.{BucketView}
+use Rattle.std.proofs.lemmas.List.Sorted.{sum_by-IsPermutation}
 use Rattle.bucket_table.specs.ArraysView.{RehashView, killed_flags}
 use Rattle.bucket_table.specs.Covered.{IsUnitKilled}
 use Rattle.bucket_table.specs.Rehashing.{EndsRehash}
 use Rattle.bucket_table.specs.State.{TicketState}
 use Rattle.bucket_table.specs.Steps.{HandsOut, position_after}
-use Rattle.bucket_table.specs.Units.{KeepsBag, WorksUnit}
+use Rattle.bucket_table.specs.Units.{KeepsOpenTickets, WorksUnit}
 use Rattle.bucket_table.specs.declared.tickets.TicketError.{TicketError}
 use Rattle.bucket_table.specs.declared.tickets.TicketError.TheVariants.{NotOpen, NotDone}
 
@@ -72,7 +44,7 @@ module _ {K V : Type 0} where
       → HandsOut was.tickets ticket started.tickets → is.tickets ≡ started.tickets
       → (success ≡ true → IsUnitKilled (killed_flags is.buckets) (ticket / 2048))
       → EndsRehash (Some is) ticket success answer after
-      → KeepsBag (Some was) after × (success ≡ true → WorksUnit was after)
+      → KeepsOpenTickets (Some was) after × (success ≡ true → WorksUnit was after)
   unit_ended was started is after ticket success (Err error) h same killed ends = absurd (never_refused was started is after ticket success error h same killed ends)
   unit_ended was started is None ticket success (Ok true) h same killed ends =
       let (last, by) = ends.0 in

@@ -1,12 +1,10 @@
 -- Steps that each may work a unit, one after another.
-use Rattle.std.proofs.Common.{ℕ, ◌+◌, ◌*◌, ◌-◌, ◌≡◌, Bool, true, Option, Some, None, length, refl, sym, ap, subst, ◌∙◌, arith, inl, inr}
-use Rattle.std.proofs.lemmas.Bool.{cases_lt}
-use Rattle.std.proofs.lemmas.Option.{none-some}
-use Rattle.bucket_slots.specs.ArrayView.{bucket_at}
+use Rattle.bucket_table.proofs.Words.{ℕ, ◌+◌, ◌*◌, ◌-◌, ◌≡◌, Bool, true, Option, Some, None, length, refl, sym, ap, subst, ◌∙◌, arith, inl}
+use Rattle.bucket_table.proofs.Words.{inr, cases_lt, none-some, bucket_at}
 use Rattle.bucket_table.specs.ArraysView.{ArraysView, RehashView, old_buckets}
 use Rattle.bucket_table.specs.Relocation.{buckets_of}
 use Rattle.bucket_table.specs.State.{TicketState}
-use Rattle.bucket_table.specs.UnitRuns.{RunsFrom, SpendsSome, StandsOn, WorksUnits}
+use Rattle.bucket_table.specs.UnitRuns.{RunsFrom, SpendsSome, HasWorkedUnits, WorksUnits}
 use Rattle.bucket_table.specs.Units.{KeepsKilled, WorksRange}
 use Rattle.bucket_table.proofs.Spending.{spends_both, spends_few, spends_killed, spends_same}
 
@@ -14,7 +12,7 @@ module _ {K V : Type 0} where
   -- no step
   stands : (arrays : ArraysView K V) (was is : RehashView K V) → length is.buckets ≡ length
       was.buckets → SpendsSome was.buckets is.buckets → is.tickets ≡ was.tickets
-      → StandsOn 0 arrays was is
+      → HasWorkedUnits 0 arrays was is
   stands arrays was is len spends same =
       let at : is.tickets.position ≡ was.tickets.position = ap (λ (t : TicketState). t.position)
       same in
@@ -54,7 +52,7 @@ module _ {K V : Type 0} where
   -- one run after another
   runs_both : (first second : ℕ) (old mid : ArraysView K V) (was is last : RehashView K V)
       → length (buckets_of mid.current) ≡ length (buckets_of old.current)
-      → StandsOn first old was is → StandsOn second mid is last → StandsOn (first + second) old was last
+      → HasWorkedUnits first old was is → HasWorkedUnits second mid is last → HasWorkedUnits (first + second) old was last
   runs_both first second old mid was is last same_len a b =
       let p : ℕ = was.tickets.position in
       let q : ℕ = is.tickets.position in

@@ -1,17 +1,13 @@
 -- What a unit's steps do, one after another.
-use Rattle.std.proofs.Common.{ℕ, ◌+◌, ◌*◌, ◌<◌, ◌≤◌, ◌≡◌, ◌≢◌, ◌⊎◌, inl, Bool, true, false, List, [], Option, Some, Result, set, length, option_map, ⊎_elim, refl, sym, ap, subst, ◌∙◌, arith, get_or-set_other, get_or-set_same, length-set}
-use Rattle.std.proofs.lemmas.List.{length-map}
-use Rattle.std.proofs.lemmas.Bool.{cases_eq, false≢true}
-use Rattle.std.proofs.lemmas.List.Sorted.{IsPermutation-refl, IsPermutation-trans}
-use Rattle.std.proofs.lemmas.Option.{same_Some}
-use Rattle.std.specs.List.Sorted.{IsPermutation}
-use Rattle.bucket_slots.specs.ArrayView.{bucket_at}
-use Rattle.bucket_slots.specs.BucketView.{BucketView, empty_bucket}
-use Rattle.bucket_slots.proofs.MarkCallerLemmas.{no_new-refl, no_new-trans}
+use Rattle.bucket_table.proofs.Words.{ℕ, ◌+◌, ◌*◌, ◌<◌, ◌≤◌, ◌≡◌, ◌≢◌, ◌⊎◌, inl, Bool, true, false, List, [], Option, Some, Result, set}
+use Rattle.bucket_table.proofs.Words.{length, option_map, ⊎_elim, refl, sym, ap, subst, ◌∙◌, arith, get_or-set_other, length-set}
+use Rattle.bucket_table.proofs.Words.{length-map, cases_eq, false≢true, IsPermutation-refl, IsPermutation-trans, same_Some, IsPermutation}
+use Rattle.bucket_table.proofs.Words.{bucket_at, BucketView, empty_bucket, no_new-refl, no_new-trans}
+use Rattle.std.proofs.Common.{get_or-set_same}
 use Rattle.bucket_table.specs.ArraysView.{ArraysView, RehashView, entries_of, killed_flags, marks_of, old_buckets}
 use Rattle.bucket_table.specs.Rehashing.{EndsRehash, IsOldIndex, IsOldRange, RelocatesAt, IsUnmoved, KeepsArrays, StartsRehash}
 use Rattle.bucket_table.specs.declared.tickets.TicketError.{TicketError}
-use Rattle.bucket_table.specs.Units.{IsEasyRange, IsEasyUnit, RelocatesTo, WorksRange, WorksSome}
+use Rattle.bucket_table.specs.Units.{RangeNeedsNoMemory, NeedsNoMemory, RelocatesTo, WorksRange, WorksSome}
 use Rattle.bucket_table.proofs.MarksKept.{marks_left}
 use Rattle.bucket_table.proofs.Placing.{same_at_end, same_at_start}
 use Rattle.bucket_table.proofs.Resizing.{get_or-killed_flags}
@@ -201,8 +197,8 @@ module _ {K V : Type 0} where
 
   -- an easy unit is an easy range
   pub unit_easy : (start end unit : ℕ) (arrays : ArraysView K V) (was : RehashView K V)
-      → IsEasyUnit unit arrays was → start ≡ 64 * unit → end ≤ 64 * unit + 64
-      → IsEasyRange start end arrays was
+      → NeedsNoMemory unit arrays was → start ≡ 64 * unit → end ≤ 64 * unit + 64
+      → RangeNeedsNoMemory start end arrays was
   unit_easy start end unit arrays was easy start_is end_is = record {
     buckets = easy.buckets;
     current_is = easy.current_is;

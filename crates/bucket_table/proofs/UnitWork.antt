@@ -1,19 +1,17 @@
 -- A whole unit: a ticket is handed out, its buckets are relocated, and it is ended.
-use Rattle.std.proofs.Common.{ℕ, ◌*◌, ◌/◌, ◌<◌, ◌≤◌, ◌≡◌, Bool, true, List, Option, Some, None, Result, IfSome, length, refl, sym, ap, subst, ◌∙◌, arith}
-use Rattle.std.proofs.lemmas.Option.{none-some, same_Some}
-use Rattle.bucket_slots.specs.ArrayView.{bucket_at}
-use Rattle.bucket_slots.specs.BucketView.{BucketView, pairs_in}
-use Rattle.bucket_table.specs.ArraysView.{ArraysView, IsRehash, RehashView}
+use Rattle.bucket_table.proofs.Words.{ℕ, ◌*◌, ◌/◌, ◌<◌, ◌≤◌, ◌≡◌, Bool, true, List, Option, Some, None, Result, IfSome, length, refl, sym}
+use Rattle.bucket_table.proofs.Words.{ap, subst, ◌∙◌, arith, none-some, same_Some, bucket_at, BucketView, pairs_in}
+use Rattle.bucket_table.specs.ArraysView.{ArraysView, LosesNoUnit, RehashView}
 use Rattle.bucket_table.specs.Rehashing.{EndsRehash, StartsRehash}
 use Rattle.bucket_table.specs.Steps.{HandsOut}
-use Rattle.bucket_table.specs.Units.{IsEasyUnit, KeepsBag, WorksSome, WorksUnit}
+use Rattle.bucket_table.specs.Units.{NeedsNoMemory, KeepsOpenTickets, WorksSome, WorksUnit}
 use Rattle.bucket_table.specs.declared.tickets.TicketError.{TicketError}
 use Rattle.bucket_table.proofs.Resizing.{length-killed_flags}
 use Rattle.bucket_table.proofs.UnitEnds.{unit_ended}
 
 module _ {K V : Type 0} where
   -- an old array and its tickets speak of the same buckets
-  pub tickets_len : (rehash : RehashView K V) → IsRehash rehash
+  pub tickets_len : (rehash : RehashView K V) → LosesNoUnit rehash
       → rehash.tickets.len ≡ length rehash.buckets
   tickets_len rehash kept = sym kept.covered.same_len ∙ length-killed_flags rehash.buckets
 
@@ -27,7 +25,7 @@ module _ {K V : Type 0} where
     pub same_buckets : started.buckets ≡ was.buckets
     pub within : 64 * (ticket / 2048) < length started.buckets
 
-  pub handed : (first middle : Option (RehashView K V)) (ticket : ℕ) → IfSome first IsRehash
+  pub handed : (first middle : Option (RehashView K V)) (ticket : ℕ) → IfSome first LosesNoUnit
       → StartsRehash first (Some ticket) middle → Handed first middle ticket
   handed None middle ticket kept starts = absurd (none-some ticket (sym starts.0))
   handed (Some was) None ticket kept starts = absurd starts
@@ -46,7 +44,7 @@ module _ {K V : Type 0} where
       → Handed first middle ticket → old_worked.rehash ≡ middle
       → WorksSome (ticket / 2048) success old_worked new_worked → new_worked.rehash ≡ worked
       → EndsRehash worked ticket success answer last
-      → KeepsBag first last × ((was : RehashView K V) → first ≡ Some was → success ≡ true
+      → KeepsOpenTickets first last × ((was : RehashView K V) → first ≡ Some was → success ≡ true
       → WorksUnit was last)
   unit_bag first middle worked last old_worked new_worked ticket success answer h old_is (was, is, some, killed, still) new_is ends =
       let from : was ≡ h.started = same_Some _ _ (sym some.rehash_was ∙ old_is ∙ h.middle_is) in
@@ -55,7 +53,7 @@ module _ {K V : Type 0} where
       let ended = unit_ended h.was h.started is last ticket success answer h.hands_out tickets
       killed (subst (λ (o : Option (RehashView K V)). EndsRehash o ticket success answer last)
       (sym new_is ∙ some.rehash_is) ends) in (
-        subst (λ (o : Option (RehashView K V)). KeepsBag o last) (sym h.first_is) ended.0,
+        subst (λ (o : Option (RehashView K V)). KeepsOpenTickets o last) (sym h.first_is) ended.0,
         λ r first_is done. subst (λ (v : RehashView K V). WorksUnit v last)
             (same_Some _ _ (sym h.first_is ∙ first_is)) (ended.1 done),
       )
@@ -63,8 +61,8 @@ module _ {K V : Type 0} where
   -- a unit that is easy stays so once its ticket is handed out
   pub easy_handed : (old new : ArraysView K V) (ticket : ℕ) (was : RehashView K V)
       (h : Handed old.rehash new.rehash ticket) → new.current ≡ old.current
-      → old.rehash ≡ Some was → IsEasyUnit was.tickets.position old was
-      → IsEasyUnit (ticket / 2048) new h.started
+      → old.rehash ≡ Some was → NeedsNoMemory was.tickets.position old was
+      → NeedsNoMemory (ticket / 2048) new h.started
   easy_handed old new ticket was h same_current first_is easy =
       let same : h.was ≡ was = same_Some _ _ (sym h.first_is ∙ first_is) in
       let buckets : h.started.buckets ≡ was.buckets = h.same_buckets ∙ ap

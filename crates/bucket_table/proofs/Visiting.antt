@@ -1,45 +1,10 @@
 -- A current bucket is lent, and comes back with some of its keys.
-use Rattle.std.proofs.Common.{
-  ℕ,
-  ◌+◌,
-  ◌<◌,
-  ◌≤◌,
-  ◌≡◌,
-  ◌%◌,
-  Bool,
-  true,
-  false,
-  None,
-  Ok,
-  Err,
-  List,
-  [],
-  ◌∷◌,
-  ◌++◌,
-  length,
-  map,
-  refl,
-  sym,
-  ap,
-  subst,
-  ◌∙◌,
-  arith,
-  inl,
-  inr,
-  length-set,
-}
-use Rattle.std.specs.Cmp.{IsEquivalence}
-use Rattle.std.specs.List.{All, AllByRecursion, IsDistinct}
-use Rattle.std.specs.List.Sorted.{IsPermutation}
-use Rattle.std.proofs.lemmas.Bool.{cases_Bool, cases_lt}
-use Rattle.std.proofs.lemmas.List.{append_assoc}
-use Rattle.std.proofs.lemmas.List.Elements.{All-from_recursion, recursion_from_All}
-use Rattle.std.proofs.lemmas.List.Sorted.{IsPermutation-append_left, IsPermutation-append_right, IsPermutation-map, IsPermutation-sym, IsPermutation-trans}
-use Rattle.std.proofs.lemmas.Map.Keys.{IsDistinct-IsPermutation}
-use Rattle.bucket_slots.specs.ArrayView.{bucket_at}
-use Rattle.bucket_slots.specs.BucketView.{BucketView, entries_in}
-use Rattle.bucket_slots.specs.Homes.{IsHome, Meets}
-use Rattle.bucket_slots.proofs.CallerLemmas.{map-entries_in}
+use Rattle.bucket_table.proofs.Words.{ℕ, ◌+◌, ◌<◌, ◌≤◌, ◌≡◌, ◌%◌, Bool, true, false, None, Ok, Err, List, [], ◌∷◌, ◌++◌, length, map, refl}
+use Rattle.bucket_table.proofs.Words.{sym, ap, subst, ◌∙◌, arith, inl, inr, length-set, IsEquivalence, All, AllByRecursion, IsDistinct}
+use Rattle.bucket_table.proofs.Words.{IsPermutation, cases_Bool, cases_lt, append_assoc, All-from_recursion, recursion_from_All}
+use Rattle.bucket_table.proofs.Words.{IsPermutation-append_left, IsPermutation-append_right, IsPermutation-map, IsPermutation-sym}
+use Rattle.bucket_table.proofs.Words.{IsPermutation-trans, IsDistinct-IsPermutation, bucket_at, BucketView, entries_in, IsHome, Meets}
+use Rattle.bucket_table.proofs.Words.{map-entries_in}
 use Rattle.bucket_table.specs.ArraysView.{AreSourcesKilled, ArraysView, IsOneMap, TableView, entries_of, old_buckets}
 use Rattle.bucket_table.specs.Asking.{AsksShrinking, ResizesIf}
 use Rattle.bucket_table.specs.Cursors.{AreKilledFor}
@@ -50,7 +15,7 @@ use Rattle.bucket_table.specs.Relocation.{IsEntryHome, buckets_of}
 use Rattle.bucket_table.specs.Settings.{KeepsSettings}
 use Rattle.bucket_table.specs.Sides.{arrays_with, bucket_on}
 use Rattle.bucket_table.specs.UnitRuns.{WorksUnits}
-use Rattle.bucket_table.specs.Units.{KeepsBag}
+use Rattle.bucket_table.specs.Units.{KeepsOpenTickets}
 use Rattle.bucket_table.specs.Walks.{BeginsAt, EndsWell, IsKeptBy, IsVisitOf, KeepsBuckets, WalksBy, has_home_in, keys_in}
 use Rattle.bucket_table.proofs.Bounds.{is_in}
 use Rattle.bucket_table.proofs.Each.{all_permuted, each_back, each_implies, each_map, each_unmap, map_append}
@@ -165,7 +130,7 @@ module _ {S K V : Type 0} (step : S → BucketView K V → Bool → Bool → Buc
     pub walks : WalksOn step hash first now old from index flag more table
     pub killed : AreKilledFor table from index
     pub within : from < index → index ≤ length (buckets_of old.current)
-    pub bag : KeepsBag old.rehash table.rehash
+    pub bag : KeepsOpenTickets old.rehash table.rehash
     pub minimum : table.minimum ≡ old.minimum
     pub maximum : table.maximum ≡ old.maximum
 
@@ -180,7 +145,7 @@ module _ {S K V : Type 0} (step : S → BucketView K V → Bool → Bool → Buc
       → (first now next : S) (old table ready new : ArraysView K V) (from index : ℕ)
       (flag last more : Bool)
       → WalkStands first now old from index flag true table → KeepsArrays table ready
-      → KeepsBag table.rehash ready.rehash → WorksUnits 1 table ready.rehash → (table.rehash ≡ None → ready ≡ table)
+      → KeepsOpenTickets table.rehash ready.rehash → WorksUnits 1 table ready.rehash → (table.rehash ≡ None → ready ≡ table)
       → IsOneMap eq hash ready → IsLocked ready false index → KeepsBuckets step
       → IsLentAt S step ready index now flag more last next new
       → WalkStands first next old from (index + 1) last more new

@@ -1,9 +1,6 @@
 -- Where a walk begins.
-use Rattle.std.proofs.Common.{ℕ, ◌*◌, ◌/◌, ◌^◌, ◌<◌, ◌≤◌, ◌≡◌, ◌↔◌, refl, arith, inl, inr}
-use Rattle.std.proofs.Math.Nat.{div-lt_iff_lt-mul}
-use Rattle.std.proofs.lemmas.Bool.{cases_lt}
-use Rattle.bucket_slots.specs.Homes.{IsInRange, Meets, interval_width}
-use Rattle.bucket_slots.specs.Sizing.{IsLength}
+use Rattle.bucket_table.proofs.Words.{ℕ, ◌*◌, ◌/◌, ◌^◌, ◌<◌, ◌≤◌, ◌≡◌, ◌↔◌, refl, arith, inl, inr, div-lt_iff_lt-mul, cases_lt, IsInRange}
+use Rattle.bucket_table.proofs.Words.{Meets, interval_width, IsLength}
 use Rattle.bucket_table.specs.Walks.{BeginsAt}
 use Rattle.bucket_table.proofs.Bounds.{begins_early, begins_late, wide}
 

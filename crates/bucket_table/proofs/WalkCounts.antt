@@ -1,46 +1,10 @@
 -- What a script's walk counts, and what its clearing leaves.
-use Rattle.std.proofs.Common.{
-  ℕ,
-  ◌+◌,
-  ◌-◌,
-  ◌^◌,
-  ◌<◌,
-  ◌≤◌,
-  ◌≡◌,
-  Bool,
-  true,
-  false,
-  not,
-  Ok,
-  Err,
-  List,
-  [],
-  ◌∷◌,
-  ◌++◌,
-  length,
-  filter,
-  map,
-  min,
-  refl,
-  sym,
-  ap,
-  subst,
-  ◌∙◌,
-  arith,
-  inl,
-  inr,
-  nat_le,
-  nat_lt,
-  ◌||◌,
-}
-use Rattle.std.specs.List.Sorted.{IsPermutation}
-use Rattle.std.proofs.lemmas.Bool.{true≢false, cases_lt, false_from_ne_true, lt-ltb, ltb-true}
+use Rattle.bucket_table.proofs.Words.{ℕ, ◌+◌, ◌-◌, ◌^◌, ◌<◌, ◌≤◌, ◌≡◌, Bool, true, false, not, Ok, Err, List, [], ◌∷◌, ◌++◌, length, filter}
+use Rattle.bucket_table.proofs.Words.{map, min, refl, sym, ap, subst, ◌∙◌, arith, inl, inr, nat_le, nat_lt, IsPermutation, true≢false}
+use Rattle.bucket_table.proofs.Words.{cases_lt, false_from_ne_true, lt-ltb, ltb-true, filter_agree, IsPermutation-refl, length_permutation}
+use Rattle.bucket_table.proofs.Words.{BucketView, marks_in, pairs_in, MarksBy, IsLength}
+use Rattle.std.proofs.Common.{◌||◌}
 use Rattle.std.proofs.lemmas.List.{append-nil}
-use Rattle.std.proofs.lemmas.List.Elements.{filter_agree}
-use Rattle.std.proofs.lemmas.List.Sorted.{IsPermutation-refl, length_permutation}
-use Rattle.bucket_slots.specs.BucketView.{BucketView, marks_in, pairs_in}
-use Rattle.bucket_slots.specs.Marking.{MarksBy}
-use Rattle.bucket_slots.specs.Sizing.{IsLength}
 use Rattle.bucket_table.specs.ArraysView.{ArraysView, TableView, pairs_of}
 use Rattle.bucket_table.specs.Clearing.{ClearsAll, ClearsBelow}
 use Rattle.bucket_table.specs.Counting.{counted_to}

@@ -1,41 +1,11 @@
 -- A walk goes on by one bucket.
-use Rattle.std.proofs.Common.{
-  ℕ,
-  ◌+◌,
-  ◌*◌,
-  ◌<◌,
-  ◌≤◌,
-  ◌≡◌,
-  Bool,
-  true,
-  false,
-  not,
-  nat_le,
-  nat_lt,
-  ◌&&◌,
-  List,
-  [],
-  ◌∷◌,
-  ◌++◌,
-  None,
-  length,
-  filter,
-  refl,
-  sym,
-  ap,
-  subst,
-  ◌∙◌,
-  arith,
-  inl,
-  inr,
-}
-use Rattle.std.specs.List.{AllByRecursion}
-use Rattle.std.specs.List.Sorted.{IsPermutation}
-use Rattle.std.proofs.lemmas.List.{append_assoc, append-nil, length_push}
-use Rattle.std.proofs.lemmas.List.Elements.{filter-append, filter_agree}
-use Rattle.std.proofs.lemmas.List.Sorted.{IsPermutation-refl, IsPermutation-trans, IsPermutation-append_right}
-use Rattle.bucket_slots.specs.BucketView.{BucketView, pairs_in}
-use Rattle.bucket_slots.specs.Homes.{interval_width}
+use Rattle.bucket_table.proofs.Words.{ℕ, ◌+◌, ◌*◌, ◌<◌, ◌≤◌, ◌≡◌, Bool, true, false, not, nat_le, nat_lt, ◌&&◌, List, [], ◌∷◌, ◌++◌, None}
+use Rattle.bucket_table.proofs.Words.{length, filter, refl, sym, ap, subst, ◌∙◌, arith, inl, inr, AllByRecursion, IsPermutation}
+use Rattle.bucket_table.proofs.Words.{append_assoc, filter-append, filter_agree, IsPermutation-refl, IsPermutation-trans}
+use Rattle.bucket_table.proofs.Words.{IsPermutation-append_right, BucketView, pairs_in, interval_width, mul-le-mul_right, true≢false}
+use Rattle.bucket_table.proofs.Words.{and_from, cases_Bool, cases_lt, false_from_ne_true, le-leb, leb-true, lt-ltb, ltb-true}
+use Rattle.bucket_table.proofs.Words.{not_from_false, not_from_true}
+use Rattle.std.proofs.lemmas.List.{append-nil, length_push}
 use Rattle.bucket_table.specs.ArraysView.{ArraysView, pairs_of}
 use Rattle.bucket_table.specs.Relocation.{buckets_of}
 use Rattle.bucket_table.specs.Visits.{AreCalls, HasStopped, Visited}
@@ -43,23 +13,7 @@ use Rattle.bucket_table.specs.Sides.{arrays_with, bucket_on}
 use Rattle.bucket_table.specs.UnitRuns.{WorksUnits}
 use Rattle.bucket_table.specs.Walks.{AreLent, IsVisitOf, IsWalk, VisitsAlone, has_home_in, pairs_left}
 use Rattle.bucket_table.proofs.Filters.{IsPermutation-filter, filter_all, filter_filter, filter_none}
-use Rattle.std.proofs.Math.Nat.{mul-le-mul_right}
-use Rattle.std.proofs.lemmas.Bool.{
-  true≢false,
-  and_from,
-  and_left,
-  and_parts,
-  and_right,
-  cases_Bool,
-  cases_lt,
-  false_from_ne_true,
-  le-leb,
-  leb-true,
-  lt-ltb,
-  ltb-true,
-  not_from_false,
-  not_from_true,
-}
+use Rattle.std.proofs.lemmas.Bool.{and_left, and_parts, and_right}
 use Rattle.bucket_table.proofs.Bounds.{next_multiple}
 use Rattle.bucket_table.proofs.Each.{each, each_append, each_implies, to_front}
 use Rattle.bucket_table.proofs.UnitRuns.{no_units, units_alone, units_both}

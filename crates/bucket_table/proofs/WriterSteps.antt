@@ -1,20 +1,13 @@
 -- When a writer looks into a growth, by what the code reads; and what finding its bucket leaves.
-use Rattle.std.proofs.Common.{IsSome, ◌∷◌, ◌⊎◌, ℕ, ◌*◌, ◌<◌, ◌≤◌, ◌≡◌, ◌↔◌, ◌++◌, Bool, true, false, IsTrue, List, [], Option, Some, None, Result, Ok, Err, MatchResult, length, inl, inr, refl, sym, ap, subst, ◌∙◌, arith}
-use Rattle.std.proofs.lemmas.Bool.{false≢true}
-use Rattle.std.proofs.lemmas.List.Sorted.{IsPermutation-refl, IsPermutation-trans}
-use Rattle.std.proofs.lemmas.Option.{none-some}
-use Rattle.std.specs.List.Sorted.{IsPermutation}
-use Rattle.bucket_slots.specs.ArrayView.{IsNewArray, bucket_at}
-use Rattle.bucket_slots.specs.BucketView.{BucketView, pairs_in}
-use Rattle.bucket_slots.specs.Marking.{HasNoNewMark}
+use Rattle.bucket_table.proofs.Words.{IsSome, ◌∷◌, ◌⊎◌, ℕ, ◌*◌, ◌<◌, ◌≤◌, ◌≡◌, ◌↔◌, ◌++◌, Bool, true, false, IsTrue, List, [], Option, Some}
+use Rattle.bucket_table.proofs.Words.{None, Result, Ok, Err, length, inl, inr, refl, sym, ap, subst, ◌∙◌, arith, false≢true}
+use Rattle.bucket_table.proofs.Words.{IsPermutation-refl, IsPermutation-trans, none-some, IsPermutation, IsNewArray, bucket_at, BucketView}
+use Rattle.bucket_table.proofs.Words.{pairs_in, HasNoNewMark, CACHE, no_new-refl, no_new-trans, IsHome}
+use Rattle.std.proofs.Common.{MatchResult}
 use Rattle.bucket_slots.specs.Sampling.{StartsSampling}
-use Rattle.bucket_slots.specs.declared.bucket.TheConstants.{CACHE}
-use Rattle.bucket_slots.proofs.MarkCallerLemmas.{no_new-refl, no_new-trans}
-use Rattle.bucket_table.specs.ArraysView.{ArraysView, RehashView, entries_of, marks_of, old_buckets}
+use Rattle.bucket_table.specs.ArraysView.{ArraysView, RehashView, entries_of, marks_of, old_buckets, ArePlaced}
 use Rattle.bucket_table.specs.Asking.{AsksGrowth, ResizesIf}
 use Rattle.bucket_table.specs.Growing.{Grows, WriterAsksGrowth}
-use Rattle.bucket_table.specs.ArraysView.{ArePlaced}
-use Rattle.bucket_slots.specs.Homes.{IsHome}
 use Rattle.bucket_table.specs.Finding.{KeepsMap}
 use Rattle.bucket_table.specs.Locking.{IsLocked}
 use Rattle.bucket_table.specs.Preparing.{IsReady}
@@ -22,10 +15,10 @@ use Rattle.bucket_table.specs.Relocation.{buckets_of, entries_among}
 use Rattle.bucket_table.specs.Rehashing.{KeepsArrays}
 use Rattle.bucket_table.specs.Resizes.{IsPlanOf, MakesArray, MakesFrom, Resizes}
 use Rattle.bucket_table.specs.Sides.{buckets_on}
-use Rattle.bucket_table.specs.Units.{KeepsBag, WorksOneUnit, times_in}
+use Rattle.bucket_table.specs.Units.{KeepsOpenTickets, WorksOneUnit, times_in}
 use Rattle.bucket_table.specs.declared.arrays.plan.Plan.{Plan}
 use Rattle.bucket_table.specs.declared.arrays.plan.Plan.TheVariants.{Keep, GiveUp, Resize}
-use Rattle.bucket_table.proofs.Quietly.{quietly}
+use Rattle.bucket_table.proofs.MayResizes.{quietly}
 use Rattle.bucket_table.proofs.MarksKept.{marks_by_plan, marks_first, marks_grown}
 use Rattle.bucket_table.proofs.ResizeSteps.{grown, new_entries, new_homes}
 
@@ -110,7 +103,7 @@ module _ {K V : Type 0} where
 
   -- what stays through a growth
   pub bag_grown : (moved : Bool) (old new : ArraysView K V) → Grows moved old new
-      → old.rehash ≡ None → KeepsBag old.rehash new.rehash
+      → old.rehash ≡ None → KeepsOpenTickets old.rehash new.rehash
   bag_grown true old new (capacity, r) alone = λ unit.
       ap (λ (a : ArraysView K V). times_in unit a.rehash) r.new_is ∙ sym
       (ap (λ (o : Option (RehashView K V)). times_in unit o) alone)
@@ -233,7 +226,7 @@ module _ {K V : Type 0} where
   -- a growth is done only where no old array stands
   pub bag_through : (moved : Bool) (index : ℕ) (kind hash : ℕ) (old new : ArraysView K V)
       → Grows moved old new → ResizesIf (WriterAsksGrowth kind hash old index) old new
-      → KeepsBag old.rehash new.rehash
+      → KeepsOpenTickets old.rehash new.rehash
   bag_through false index kind hash old new same asked = λ unit. ap
       (λ (a : ArraysView K V). times_in unit a.rehash) same
   bag_through true index kind hash old new (capacity, r) asked = bag_grown true old new (capacity, r) r.alone
@@ -283,7 +276,7 @@ module _ {K V : Type 0} where
       (ap (λ (a : ArraysView K V). a.minimum) h, ap (λ (a : ArraysView K V). a.maximum) h)
 
   resize_bag : {E : Type 0} (plan : Plan) (old new : ArraysView K V) (answer : Result Bool E)
-      → Resizes plan old answer new → KeepsBag old.rehash new.rehash
+      → Resizes plan old answer new → KeepsOpenTickets old.rehash new.rehash
   resize_bag Keep old new (Ok moved) h = λ unit. ap (λ (a : ArraysView K V). times_in unit a.rehash)
       h.1
   resize_bag Keep old new (Err refused) h = absurd h
@@ -299,7 +292,7 @@ module _ {K V : Type 0} where
   pub resize_keeps : {E : Type 0} (old new : ArraysView K V) (answer : Result Bool E)
       → entries_of new ≡ entries_of old → (plan : Plan) × IsPlanOf old plan
       × Resizes plan old answer new
-      → KeepsMap old new × KeepsBag old.rehash new.rehash
+      → KeepsMap old new × KeepsOpenTickets old.rehash new.rehash
   resize_keeps old new answer same (plan, is, done) =
       let limits = resize_limits plan old new answer done in
       (kept_as old new same (marks_by_plan plan old new answer done) limits.0 limits.1, resize_bag plan old new answer done)

@@ -43,7 +43,7 @@ abbrev pub killed_flags : {K V : Type 0} → List (BucketView K V) → List Bool
 killed_flags buckets = map (λ bucket. bucket.killed) buckets
 
 -- no unit of the old array is forgotten, and a killed bucket has no live pair
-pub record IsRehash {K V : Type 0} (rehash : RehashView K V) : Type 0 where
+pub record LosesNoUnit {K V : Type 0} (rehash : RehashView K V) : Type 0 where
   pub covered : IsCovered (killed_flags rehash.buckets) rehash.tickets
   pub going_on : IsGoingOn rehash.tickets
   pub emptied : All (λ bucket. bucket.killed ≡ true → pairs_in bucket ≡ []) rehash.buckets
@@ -59,7 +59,7 @@ pub record AreArrays {K V : Type 0} (arrays : ArraysView K V) : Type 0 where
 -- each live pair of both arrays stands in its home, targets are empty, and no unit is forgotten
 pub record ArePlaced {K V : Type 0} (hash : K → ℕ) (arrays : ArraysView K V) : Type 0 where
   pub homes : AreTwoArrays hash (buckets_of arrays.current) (old_buckets arrays.rehash)
-  pub rehashed : IfSome arrays.rehash IsRehash
+  pub rehashed : IfSome arrays.rehash LosesNoUnit
 
 -- the arrays are one map
 pub record IsOneMap {K V : Type 0} (eq : K → K → Bool) (hash : K → ℕ) (arrays : ArraysView K V) : Type 0 where

@@ -15,7 +15,7 @@ use Rattle.bucket_table.specs.Rehashing.{KeepsArrays}
 use Rattle.bucket_table.specs.Relocation.{buckets_of}
 use Rattle.bucket_table.specs.Sides.{bucket_on, buckets_on}
 use Rattle.bucket_table.specs.UnitRuns.{WorksUnits}
-use Rattle.bucket_table.specs.Units.{KeepsBag}
+use Rattle.bucket_table.specs.Units.{KeepsOpenTickets}
 use Rattle.bucket_table.specs.Refusing.{LacksMemory}
 use Rattle.bucket_table.specs.declared.hash_table.Missing.{Missing}
 use Rattle.bucket_table.specs.declared.hash_table.Missing.TheVariants.{Nothing, Memory}
@@ -51,9 +51,9 @@ pub record FindsNone {K V : Type 0} (hash : K → ℕ) (bound : ℕ) (missing : 
   pub none : missing ≡ Nothing → HasNoneFrom hash bound (pairs_of arrays)
 
 -- where a cursor stands that goes on from a hash: at the first live pair from there on, or nowhere
-abbrev pub GoesOnFrom : {K V : Type 0} → (K → ℕ) → ℕ → Result ℕ Missing → ArraysView K V → Place → Type 0
-GoesOnFrom hash bound (Ok index) arrays at = IsFirstFrom hash arrays bound index at
-GoesOnFrom hash bound (Err missing) arrays at = FindsNone hash bound missing arrays at
+abbrev pub IsFoundFrom : {K V : Type 0} → (K → ℕ) → ℕ → Result ℕ Missing → ArraysView K V → Place → Type 0
+IsFoundFrom hash bound (Ok index) arrays at = IsFirstFrom hash arrays bound index at
+IsFoundFrom hash bound (Err missing) arrays at = FindsNone hash bound missing arrays at
 
 -- a current bucket reaches past a hash
 abbrev pub ReachesAt : {K V : Type 0} → ℕ → ℕ → ArraysView K V → Type 0
@@ -66,7 +66,7 @@ ReachesPast bound (Err missing) arrays = Unit {0}
 
 -- a cursor leaves a bucket whose interval ends at a hash: it goes on from there, to a bucket that reaches past it
 abbrev pub Leaves : {K V : Type 0} → (K → ℕ) → ℕ → Result ℕ Missing → ArraysView K V → Place → Type 0
-Leaves hash bound result arrays at = GoesOnFrom hash bound result arrays at × ReachesPast bound result arrays
+Leaves hash bound result arrays at = IsFoundFrom hash bound result arrays at × ReachesPast bound result arrays
 
 -- the same where the answer names the side too: a cursor always goes on in the current array
 abbrev pub LeavesTo : {K V : Type 0} → (K → ℕ) → ℕ → Result (Bool × ℕ) Missing → ArraysView K V → Place → Type 0
@@ -110,7 +110,7 @@ pub record Passes {K V A : Type 0} (index_of : A → ℕ) (bound : ℕ) (old : A
 
 -- a bucket is left: where it has no live pair, and a shrinking is asked for near it, the arrays follow the plan or stay for want of memory; else they stay.
 -- Then the buckets past it are passed, which keeps the pairs and the length of the current array
-pub record Departs {K V A : Type 0} (index_of : A → ℕ) (is_old : Bool) (index : ℕ) (old : ArraysView K V) (result : Result A Missing) (new : ArraysView K V) : Type 0 where
+pub record ShrinksThenPasses {K V A : Type 0} (index_of : A → ℕ) (is_old : Bool) (index : ℕ) (old : ArraysView K V) (result : Result A Missing) (new : ArraysView K V) : Type 0 where
   pub between : ArraysView K V
   pub asked : ResizesIf ((pairs_in (bucket_on old is_old index) ≡ []) × AsksShrinking old index) old between
   pub passes : Passes index_of (bound_of (length (buckets_on old is_old)) (index + 1)) between result new
@@ -130,17 +130,17 @@ viewed view (Err missing) = Err missing
 -- a cursor sets out in a table: the map and the open tickets stay, no mark is new, and it goes on from the least hash
 pub record SetsOut {K V H : Type 0} (kind : ℕ) (hash : H → K → ℕ) (old : TableView K V H) (result : Result ℕ Missing) (at : Place) (new : TableView K V H) : Type 0 where
   pub map : KeepsPairs (state_of kind old) (state_of kind new)
-  pub bag : KeepsBag old.arrays.rehash new.arrays.rehash
+  pub bag : KeepsOpenTickets old.arrays.rehash new.arrays.rehash
   pub marks : HasNoNewMark (marks_of old.arrays) (marks_of new.arrays)
-  pub found : GoesOnFrom (hash old.hasher) 0 result new.arrays at
+  pub found : IsFoundFrom (hash old.hasher) 0 result new.arrays at
   pub passes : Passes (λ index. index) 0 old.arrays result new.arrays
 
 -- a cursor advances in a table: the map and the open tickets stay, and no mark is new. Where a live pair is ahead in its bucket it stays there, else it leaves
 pub record Advances {K V H : Type 0} (kind : ℕ) (hash : H → K → ℕ) (old : TableView K V H) (is_old : Bool) (index : ℕ) (from : Place) (result : Result (Bool × ℕ) Missing) (to : Place) (new : TableView K V H) : Type 0 where
   pub map : KeepsPairs (state_of kind old) (state_of kind new)
-  pub bag : KeepsBag old.arrays.rehash new.arrays.rehash
+  pub bag : KeepsOpenTickets old.arrays.rehash new.arrays.rehash
   pub marks : HasNoNewMark (marks_of old.arrays) (marks_of new.arrays)
   pub stays : pairs_ahead (bucket_on old.arrays is_old index) from ≢ [] → Stays is_old index old.arrays from result new.arrays to
   pub leaves : pairs_ahead (bucket_on old.arrays is_old index) from ≡ []
       → LeavesTo (hash old.hasher) (bound_of (length (buckets_on old.arrays is_old)) (index + 1)) result new.arrays to
-  pub departs : pairs_ahead (bucket_on old.arrays is_old index) from ≡ [] → Departs (λ to. to.1) is_old index old.arrays result new.arrays
+  pub departs : pairs_ahead (bucket_on old.arrays is_old index) from ≡ [] → ShrinksThenPasses (λ to. to.1) is_old index old.arrays result new.arrays

@@ -10,7 +10,7 @@ use Rattle.bucket_table.specs.MapState.{KeepsPairs, state_of}
 use Rattle.bucket_table.specs.Rehashing.{KeepsArrays}
 use Rattle.bucket_table.specs.Resizes.{MakesArray}
 use Rattle.bucket_table.specs.Sides.{buckets_on}
-use Rattle.bucket_table.specs.Units.{KeepsBag, WorksOneUnit}
+use Rattle.bucket_table.specs.Units.{KeepsOpenTickets, WorksOneUnit}
 
 -- the pairs and the capacities stay, and no mark is new
 pub record KeepsMap {K V : Type 0} (old new : ArraysView K V) : Type 0 where
@@ -29,8 +29,8 @@ pub record MakesReady {K V : Type 0} (old : ArraysView K V) (index : ℕ) (new :
 
 -- and then they may grow: the answer says whether a growth was done, and it is done only where the bucket asks for it;
 -- a caller that needs it unfolds it, since the search of one that doesn't would go through all of it
-unfoldable pub FindsReady : {K V : Type 0} → ℕ → ℕ → ArraysView K V → Bool → ℕ → ArraysView K V → Type 0
-FindsReady {K} {V} kind hash old is_old index new =
+unfoldable pub ReadiesThenGrows : {K V : Type 0} → ℕ → ℕ → ArraysView K V → Bool → ℕ → ArraysView K V → Type 0
+ReadiesThenGrows {K} {V} kind hash old is_old index new =
     (between : ArraysView K V) × MakesReady old index between
     × ResizesIf (WriterAsksGrowth kind hash between index) between new × Grows is_old between new
 
@@ -43,6 +43,6 @@ pub record FindsNone {K V : Type 0} (old new : ArraysView K V) : Type 0 where
 -- a hash's home in the array of its side is found for a writer; the map and the bag of tickets stay
 pub record FindsBucket {K V H : Type 0} (kind hash : ℕ) (old : TableView K V H) (is_old : Bool) (index : ℕ) (new : TableView K V H) : Type 0 where
   pub map : KeepsPairs (state_of kind old) (state_of kind new)
-  pub bag : KeepsBag old.arrays.rehash new.arrays.rehash
+  pub bag : KeepsOpenTickets old.arrays.rehash new.arrays.rehash
   pub home : IsHome (length (buckets_on new.arrays is_old)) hash index
-  pub found : FindsReady kind hash old.arrays is_old index new.arrays
+  pub found : ReadiesThenGrows kind hash old.arrays is_old index new.arrays

@@ -7,13 +7,13 @@ use Rattle.bucket_table.specs.Relocation.{buckets_of}
 use Rattle.bucket_table.specs.Sides.{bucket_on}
 
 -- no old array stands, and where it is asked the hash's home has fewer than 32 live pairs
-pub record IsFreeHome {K V : Type 0} (is_checked : Bool) (arrays : ArraysView K V) (hash index : ℕ) : Type 0 where
+pub record MayLockAtOnce {K V : Type 0} (is_checked : Bool) (arrays : ArraysView K V) (hash index : ℕ) : Type 0 where
   pub alone : arrays.rehash ≡ None
   pub home : IsHome (length (buckets_of arrays.current)) hash index
   pub few : is_checked ≡ true → length (pairs_in (bucket_on arrays false index)) < 32
 
 -- there is no array, or an old one stands, or it is asked and the hash's home has 32 live pairs or more
-abbrev pub HasNoFreeHome : {K V : Type 0} → Bool → ArraysView K V → ℕ → Type 0
-HasNoFreeHome is_checked arrays hash =
+abbrev pub MayNotLockAtOnce : {K V : Type 0} → Bool → ArraysView K V → ℕ → Type 0
+MayNotLockAtOnce is_checked arrays hash =
     (arrays.current ≡ None) ⊎ (IsSome arrays.rehash
     ⊎ ((is_checked ≡ true) × ((index : ℕ) × IsHome (length (buckets_of arrays.current)) hash index × (32 ≤ length (pairs_in (bucket_on arrays false index))))))

@@ -5,7 +5,7 @@ use Rattle.bucket_table.specs.ArraysView.{AreSourcesKilled, ArraysView, TableVie
 use Rattle.bucket_table.specs.MapState.{KeepsPairs, state_of}
 use Rattle.bucket_table.specs.Rehashing.{KeepsArrays}
 use Rattle.bucket_table.specs.Relocation.{buckets_of}
-use Rattle.bucket_table.specs.Units.{KeepsBag, WorksOneUnit}
+use Rattle.bucket_table.specs.Units.{KeepsOpenTickets, WorksOneUnit}
 
 -- a current array stands, and each source of a hash's home is killed
 pub record IsReady {K V : Type 0} (arrays : ArraysView K V) (hash : ℕ) : Type 0 where
@@ -17,7 +17,7 @@ pub record IsReady {K V : Type 0} (arrays : ArraysView K V) (hash : ℕ) : Type 
 pub record IsPrepared {K V H : Type 0} (kind : ℕ) (old after : TableView K V H) : Type 0 where
   pub map : KeepsPairs (state_of kind old) (state_of kind after)
   pub kept : KeepsArrays old.arrays after.arrays
-  pub bag : KeepsBag old.arrays.rehash after.arrays.rehash
+  pub bag : KeepsOpenTickets old.arrays.rehash after.arrays.rehash
   pub unit : WorksOneUnit old.arrays after.arrays.rehash
   pub alone : old.arrays.rehash ≡ None → after ≡ old
 

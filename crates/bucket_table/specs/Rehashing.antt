@@ -65,7 +65,7 @@ pub record IsUnmoved {K V : Type 0} (old new : ArraysView K V) : Type 0 where
   pub kept : KeepsArrays old new
 
 -- the current array isn't shorter, and the old bucket has no more than 32 live pairs
-pub record IsEasyMove {K V : Type 0} (index : ℕ) (arrays : ArraysView K V) : Type 0 where
+pub record MoveNeedsNoMemory {K V : Type 0} (index : ℕ) (arrays : ArraysView K V) : Type 0 where
   pub was : RehashView K V
   pub buckets : List (BucketView K V)
   pub rehash_is : arrays.rehash ≡ Some was

@@ -4,7 +4,7 @@ use Rattle.bucket_slots.specs.BucketView.{BucketView, marks_in}
 use Rattle.bucket_slots.specs.Marking.{MarksBy}
 use Rattle.bucket_slots.specs.declared.bucket.AllocError.{AllocError}
 use Rattle.bucket_table.specs.ArraysView.{ArraysView}
-use Rattle.bucket_table.specs.Cursors.{Departs, Passes}
+use Rattle.bucket_table.specs.Cursors.{ShrinksThenPasses, Passes}
 use Rattle.bucket_table.specs.Retains.{Retains}
 use Rattle.bucket_table.specs.Runs.{Run}
 use Rattle.bucket_table.specs.Sides.{arrays_with, bucket_on}
@@ -30,7 +30,7 @@ pub record SweepsAt {K V : Type 0} (IsTest : (K × V → Bool) → Type 0) (epoc
   pub visited : ArraysView K V
   pub count : ℕ
   pub retained : RetainsAt IsTest epoch old.arrays index count visited
-  pub departs : Departs (λ to. to) false index visited place new.arrays
+  pub departs : ShrinksThenPasses (λ to. to) false index visited place new.arrays
 
 -- a cursor sets out, and goes from one bucket that is swept to the next
 pub record Sweeps {K V : Type 0} (IsTest : (K × V → Bool) → Type 0) (epoch : ℕ) (old : ArraysView K V) (last : SweepState K V) : Type 0 where

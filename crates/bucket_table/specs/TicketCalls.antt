@@ -1,6 +1,6 @@
 -- The tickets of an old array and its killed buckets, as a machine that knows no pairs, and what each call
 -- does to it.
-use Rattle.std.specs.Prelude.{ℕ, ◌/◌, ◌<◌, ◌≡◌, Bool, true, false, Option, Some, None, Result, Ok, Err, length, option_map, slice_index_or, slice_set}
+use Rattle.std.specs.Prelude.{ℕ, ◌/◌, ◌<◌, ◌≡◌, ◌⊎◌, Bool, true, false, Option, Some, None, Result, Ok, Err, length, option_map, slice_index_or, slice_set}
 use Rattle.bucket_table.specs.ArraysView.{ArraysView, RehashView, killed_flags}
 use Rattle.bucket_table.specs.Covered.{AreAllKilled, IsUnitKilled, RehashState}
 use Rattle.bucket_table.specs.State.{TicketState}
@@ -9,7 +9,7 @@ use Rattle.bucket_table.specs.Units.{times_open}
 use Rattle.bucket_table.specs.declared.tickets.TicketError.{TicketError}
 use Rattle.bucket_table.specs.declared.tickets.TicketError.TheVariants.{NotOpen}
 use Rattle.bucket_table.specs.declared.script.call.Call.{Call}
-use Rattle.bucket_table.specs.declared.script.call.Call.TheVariants.{Put, Write, Read, Peek, Remove, Touch, Evict, Count, Has, Reserve, Release, Start, Work, End, Walk, Clear}
+use Rattle.bucket_table.specs.declared.script.call.Call.TheVariants.{Peek, Start, Work, End}
 use Rattle.bucket_table.specs.declared.script.reply.Reply.{Reply}
 use Rattle.bucket_table.specs.declared.script.reply.Reply.TheVariants.{Done, Ticket, NoTicket, NoWork, Ended, Fault, Refused}
 
@@ -67,30 +67,28 @@ pub record KeepsTickets (before after : Option RehashState) : Type 0 where
   pub times : (unit : ℕ) → times_handed unit after ≡ times_handed unit before
 
 module _ {K V : Type 0} where
+  -- the reply to a start
+  abbrev pub start_reply : Option ℕ → Reply K V
+  start_reply None = NoTicket
+  start_reply (Some ticket) = Ticket ticket
+
+  -- the reply to an end
+  abbrev pub end_reply : Result Bool TicketError → Reply K V
+  end_reply (Ok gone) = Ended gone
+  end_reply (Err error) = Fault error
+
   -- From the tickets `before` the call may have this reply, and `after` are the tickets after it. A call that isn't
   -- of the rehash may work at it, end it or begin one, and opens and closes no ticket.
   abbrev pub TicketStep : Option RehashState → Call K V → Reply K V → Option RehashState → Type 0
-  TicketStep before Start (Ticket ticket) after = StartsTicket before (Some ticket) after
-  TicketStep before Start NoTicket after = StartsTicket before None after
-  TicketStep before (Work index) Done after = KillsBucket before index after
-  TicketStep before (Work index) NoWork after = (HasOldBucket before index → ⊥) × (after ≡ before)
-  TicketStep before (Work index) Refused after = HasAliveBucket before index × (after ≡ before)
-  TicketStep before (End ticket success) (Ended gone) after = EndsTicket before ticket success (Ok gone) after
-  TicketStep before (End ticket success) (Fault error) after = EndsTicket before ticket success (Err error) after
+  TicketStep before Start reply after = (answer : Option ℕ) × (reply ≡ start_reply answer) × StartsTicket before answer after
+  TicketStep before (Work index) reply after =
+      ((reply ≡ Done) × KillsBucket before index after)
+      ⊎ (((reply ≡ NoWork) × (HasOldBucket before index → ⊥) × (after ≡ before))
+      ⊎ ((reply ≡ Refused) × HasAliveBucket before index × (after ≡ before)))
+  TicketStep before (End ticket success) reply after =
+      (answer : Result Bool TicketError) × (reply ≡ end_reply answer) × EndsTicket before ticket success answer after
   TicketStep before (Peek key) reply after = after ≡ before
-  TicketStep before (Put key value) reply after = KeepsTickets before after
-  TicketStep before (Write key value) reply after = KeepsTickets before after
-  TicketStep before (Read key) reply after = KeepsTickets before after
-  TicketStep before (Remove key) reply after = KeepsTickets before after
-  TicketStep before (Touch key) reply after = KeepsTickets before after
-  TicketStep before (Evict key) reply after = KeepsTickets before after
-  TicketStep before Count reply after = KeepsTickets before after
-  TicketStep before Has reply after = KeepsTickets before after
-  TicketStep before (Reserve additional) reply after = KeepsTickets before after
-  TicketStep before (Release released) reply after = KeepsTickets before after
-  TicketStep before Walk reply after = KeepsTickets before after
-  TicketStep before Clear reply after = KeepsTickets before after
-  TicketStep before call reply after = ⊥
+  TicketStep before call reply after = KeepsTickets before after
 
   -- the call is one of the rehash, or moves nothing
   abbrev pub IsTicketCall : Call K V → Type 0

@@ -24,7 +24,7 @@ pub record RelocatesRange {K V : Type 0} (start end : ℕ) (old new : ArraysView
   pub still : (i : ℕ) → (bucket_at was.buckets i).killed ≡ true → (bucket_at is.buckets i).killed ≡ true
 
 -- each old bucket of the unit has no more than 32 live pairs, and the current array isn't shorter
-pub record IsEasyUnit {K V : Type 0} (unit : ℕ) (arrays : ArraysView K V) (was : RehashView K V) : Type 0 where
+pub record NeedsNoMemory {K V : Type 0} (unit : ℕ) (arrays : ArraysView K V) (was : RehashView K V) : Type 0 where
   pub buckets : List (BucketView K V)
   pub current_is : arrays.current ≡ Some buckets
   pub no_shorter : length was.buckets ≤ length buckets
@@ -45,7 +45,7 @@ WorksUnit was (Some is) =
 -- that unit is worked
 abbrev pub WorksOneUnit : {K V : Type 0} → ArraysView K V → Option (RehashView K V) → Type 0
 WorksOneUnit {K} {V} old after =
-    (was : RehashView K V) → old.rehash ≡ Some was → IsUnitReady was → IsEasyUnit was.tickets.position old was → WorksUnit was after
+    (was : RehashView K V) → old.rehash ≡ Some was → IsUnitReady was → NeedsNoMemory was.tickets.position old was → WorksUnit was after
 
 -- how often a unit is open
 abbrev pub times_open : ℕ → TicketState → ℕ
@@ -57,8 +57,8 @@ times_in unit None = 0
 times_in unit (Some rehash) = times_open unit rehash.tickets
 
 -- the bag of open units is as it was, and empty where no old array stands
-abbrev pub KeepsBag : {K V : Type 0} → Option (RehashView K V) → Option (RehashView K V) → Type 0
-KeepsBag old new = (unit : ℕ) → times_in unit new ≡ times_in unit old
+abbrev pub KeepsOpenTickets : {K V : Type 0} → Option (RehashView K V) → Option (RehashView K V) → Type 0
+KeepsOpenTickets old new = (unit : ℕ) → times_in unit new ≡ times_in unit old
 
 -- the old array stands, and its buckets from `start` up to below `end` were relocated
 abbrev pub RelocatesTo : {K V : Type 0} → ℕ → ℕ → ArraysView K V → ArraysView K V → Type 0
@@ -78,7 +78,7 @@ WorksRange {K} {V} start end success old new =
     × ((i : ℕ) → (bucket_at was.buckets i).killed ≡ true → (bucket_at is.buckets i).killed ≡ true)
 
 -- each of these old buckets has no more than 32 live pairs, and the current array isn't shorter
-pub record IsEasyRange {K V : Type 0} (start end : ℕ) (arrays : ArraysView K V) (was : RehashView K V) : Type 0 where
+pub record RangeNeedsNoMemory {K V : Type 0} (start end : ℕ) (arrays : ArraysView K V) (was : RehashView K V) : Type 0 where
   pub buckets : List (BucketView K V)
   pub current_is : arrays.current ≡ Some buckets
   pub no_shorter : length was.buckets ≤ length buckets

@@ -5,7 +5,7 @@ ghost use Rattle.bucket_table.specs.Asking.{ResizesIf};
 ghost use Rattle.bucket_table.specs.Counting.{CountsAndResizes, counted_to};
 ghost use Rattle.bucket_table.specs.Finding.{KeepsMap};
 ghost use Rattle.bucket_table.specs.Relocation.{buckets_of, entries_among};
-ghost use Rattle.bucket_table.specs.Units.{IsEasyUnit, IsUnitReady, KeepsBag, WorksUnit};
+ghost use Rattle.bucket_table.specs.Units.{NeedsNoMemory, IsUnitReady, KeepsOpenTickets, WorksUnit};
 
 use super::Arrays;
 use crate::key_hash::KeyHash;
@@ -19,12 +19,12 @@ impl<K: Eq + Drop, V: Drop, L: LruList + Drop, const TYPE: u8> Arrays<K, V, L, T
         requires placed { ArePlaced (H.hash_of hasher.now) self.old }
         ensures placed { ArePlaced (H.hash_of hasher.now) self.new }
         ensures kept { KeepsMap self.old self.new }
-        ensures bag { KeepsBag self.old.rehash self.new.rehash }
+        ensures bag { KeepsOpenTickets self.old.rehash self.new.rehash }
         ensures count { result ≡ counted_to (entries_of self.old) }
         ensures unit { (was : RehashView K V)
             → (self.old.rehash ≡ Some was)
             → IsUnitReady was
-            → IsEasyUnit was.tickets.position self.old was
+            → NeedsNoMemory was.tickets.position self.old was
             → WorksUnit was self.new.rehash }
         ensures arrays { CountsAndResizes self.old self.new }
         ensures alone { self.old.rehash ≡ None → (entries_of self.old ≡ [] → ⊥) → self.new ≡ self.old }

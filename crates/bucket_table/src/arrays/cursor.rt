@@ -6,7 +6,7 @@ ghost use Rattle.bucket_slots.specs.Homes.{IsInInterval, interval_width};
 ghost use Rattle.bucket_slots.specs.Sizing.{IsLength};
 ghost use Rattle.bucket_slots.specs.Walking.{pairs_ahead};
 ghost use Rattle.bucket_table.specs.ArraysView.{ArePlaced, AreSourcesKilled};
-ghost use Rattle.bucket_table.specs.Cursors.{Departs, GoesOnFrom, Leaves, LeavesTo, ReachesPast};
+ghost use Rattle.bucket_table.specs.Cursors.{ShrinksThenPasses, IsFoundFrom, Leaves, LeavesTo, ReachesPast};
 ghost use Rattle.bucket_table.specs.Cursors.{Passes, Stays, bound_of};
 ghost use Rattle.bucket_table.specs.Finding.{KeepsMap};
 ghost use Rattle.bucket_table.specs.Rehashing.{KeepsArrays};
@@ -15,7 +15,7 @@ ghost use Rattle.bucket_table.specs.Retains.{AnswersBy};
 ghost use Rattle.bucket_table.specs.Sides.{arrays_with, bucket_on, buckets_on};
 ghost use Rattle.bucket_table.specs.Sweeps.{RetainsAt};
 ghost use Rattle.bucket_table.specs.UnitRuns.{WorksUnits};
-ghost use Rattle.bucket_table.specs.Units.{KeepsBag};
+ghost use Rattle.bucket_table.specs.Units.{KeepsOpenTickets};
 
 use super::Arrays;
 use crate::hash_table::Missing;
@@ -41,7 +41,7 @@ impl<K: Eq + Drop, V: Drop, L: LruList + Drop, const TYPE: u8> Arrays<K, V, L, T
         requires placed { ArePlaced (H.hash_of hasher.now) self.old }
         ensures placed { ArePlaced (H.hash_of hasher.now) self.new }
         ensures kept { KeepsArrays self.old self.new }
-        ensures bag { KeepsBag self.old.rehash self.new.rehash }
+        ensures bag { KeepsOpenTickets self.old.rehash self.new.rehash }
         ensures ready { OnOk result (AreSourcesKilled self.new index) }
         ensures units { WorksUnits 1 self.old self.new.rehash }
         ensures alone { self.old.rehash ≡ None → self.new ≡ self.old }
@@ -76,8 +76,8 @@ impl<K: Eq + Drop, V: Drop, L: LruList + Drop, const TYPE: u8> Arrays<K, V, L, T
         requires placed { ArePlaced (H.hash_of hasher.now) self.old }
         ensures placed { ArePlaced (H.hash_of hasher.now) self.new }
         ensures kept { KeepsArrays self.old self.new }
-        ensures bag { KeepsBag self.old.rehash self.new.rehash }
-        ensures found { GoesOnFrom (H.hash_of hasher.now)
+        ensures bag { KeepsOpenTickets self.old.rehash self.new.rehash }
+        ensures found { IsFoundFrom (H.hash_of hasher.now)
             (bound_of (length (buckets_of self.old.current)) start) result self.new at.new }
         ensures order { IfOk result (λ found. start ≤ found) }
         ensures passes { (bound : ℕ)
@@ -107,7 +107,7 @@ impl<K: Eq + Drop, V: Drop, L: LruList + Drop, const TYPE: u8> Arrays<K, V, L, T
     /// # Errors
     ///
     /// No live pair has a hash past the bucket's, or want of memory: the pointer is null.
-    fn leave<H: KeyHash<K>>(
+    fn first_past<H: KeyHash<K>>(
         &mut self,
         hasher: &H,
         index: usize,
@@ -119,8 +119,8 @@ impl<K: Eq + Drop, V: Drop, L: LruList + Drop, const TYPE: u8> Arrays<K, V, L, T
         requires placed { ArePlaced (H.hash_of hasher.now) self.old }
         ensures placed { ArePlaced (H.hash_of hasher.now) self.new }
         ensures kept { KeepsArrays self.old self.new }
-        ensures bag { KeepsBag self.old.rehash self.new.rehash }
-        ensures found { GoesOnFrom (H.hash_of hasher.now) (bound_of len (index + 1)) result self.new
+        ensures bag { KeepsOpenTickets self.old.rehash self.new.rehash }
+        ensures found { IsFoundFrom (H.hash_of hasher.now) (bound_of len (index + 1)) result self.new
             at.new }
         ensures reaches { ReachesPast (bound_of len (index + 1)) result self.new }
         ensures passes { Passes (λ index. index) (bound_of len (index + 1)) self.old result self.new }
@@ -143,7 +143,7 @@ impl<K: Eq + Drop, V: Drop, L: LruList + Drop, const TYPE: u8> Arrays<K, V, L, T
     /// # Errors
     ///
     /// No live pair has a hash past the bucket's, or want of memory: the pointer is null.
-    pub(crate) fn pass<H: KeyHash<K>>(
+    pub(crate) fn first_past_bucket<H: KeyHash<K>>(
         &mut self,
         hasher: &H,
         is_old: bool,
@@ -154,14 +154,14 @@ impl<K: Eq + Drop, V: Drop, L: LruList + Drop, const TYPE: u8> Arrays<K, V, L, T
         requires placed { ArePlaced (H.hash_of hasher.now) self.old }
         ensures placed { ArePlaced (H.hash_of hasher.now) self.new }
         ensures kept { KeepsMap self.old self.new }
-        ensures bag { KeepsBag self.old.rehash self.new.rehash }
+        ensures bag { KeepsOpenTickets self.old.rehash self.new.rehash }
         ensures leaves { Leaves (H.hash_of hasher.now) (bound_of
             (length (buckets_on self.old is_old)) (index + 1)) result self.new at.new }
-        ensures departs { Departs (λ index. index) is_old index self.old result self.new }
+        ensures departs { ShrinksThenPasses (λ index. index) is_old index self.old result self.new }
     {
         let len = self.len_on(is_old);
         self.shrink_emptied(is_old, index);
-        self.leave(hasher, index, len, at)
+        self.first_past(hasher, index, len, at)
     }
 
     /// Moves a pointer from where it is in a bucket to the next live pair. Returns whether that
@@ -181,20 +181,20 @@ impl<K: Eq + Drop, V: Drop, L: LruList + Drop, const TYPE: u8> Arrays<K, V, L, T
         requires placed { ArePlaced (H.hash_of hasher.now) self.old }
         ensures placed { ArePlaced (H.hash_of hasher.now) self.new }
         ensures kept { KeepsMap self.old self.new }
-        ensures bag { KeepsBag self.old.rehash self.new.rehash }
+        ensures bag { KeepsOpenTickets self.old.rehash self.new.rehash }
         ensures stays { pairs_ahead (bucket_on self.old is_old index) at.old ≢ []
             → Stays is_old index self.old at.old result self.new at.new }
         ensures leaves { pairs_ahead (bucket_on self.old is_old index) at.old ≡ []
             → LeavesTo (H.hash_of hasher.now) (bound_of (length (buckets_on self.old is_old))
             (index + 1)) result self.new at.new }
         ensures departs { pairs_ahead (bucket_on self.old is_old index) at.old ≡ []
-            → Departs (λ to. to.1) is_old index self.old result self.new }
+            → ShrinksThenPasses (λ to. to.1) is_old index self.old result self.new }
     {
         self.room_of(is_old);
         if at.find_next(self.bucket_of(is_old, index)) {
             return Ok((is_old, index));
         }
-        match self.pass(hasher, is_old, index, at) {
+        match self.first_past_bucket(hasher, is_old, index, at) {
             Ok(next) => Ok((false, next)),
             Err(missing) => Err(missing),
         }

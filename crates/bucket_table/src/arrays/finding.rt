@@ -3,8 +3,8 @@ ghost use Rattle.std.specs.Prelude.{◌≡◌, ◌<◌, ◌≤◌, ◌↔◌, Bo
 ghost use Rattle.bucket_slots.specs.Homes.{IsHome};
 ghost use Rattle.bucket_table.specs.ArraysView.{ArePlaced, entries_of};
 ghost use Rattle.bucket_table.specs.Asking.{ResizesIf};
-ghost use Rattle.bucket_table.specs.Finding.{FindsNone, FindsReady, KeepsMap};
-ghost use Rattle.bucket_table.specs.Free.{HasNoFreeHome, IsFreeHome};
+ghost use Rattle.bucket_table.specs.Finding.{FindsNone, ReadiesThenGrows, KeepsMap};
+ghost use Rattle.bucket_table.specs.Free.{MayNotLockAtOnce, MayLockAtOnce};
 ghost use Rattle.bucket_table.specs.Growing.{Grows, WriterAsksGrowth};
 ghost use Rattle.bucket_table.specs.Locking.{IsLocked};
 ghost use Rattle.bucket_table.specs.Preparing.{IsReady};
@@ -12,7 +12,7 @@ ghost use Rattle.bucket_table.specs.Rehashing.{KeepsArrays};
 ghost use Rattle.bucket_table.specs.Relocation.{buckets_of};
 ghost use Rattle.bucket_table.specs.Resizes.{MakesArray};
 ghost use Rattle.bucket_table.specs.Sides.{buckets_on};
-ghost use Rattle.bucket_table.specs.Units.{KeepsBag, WorksOneUnit};
+ghost use Rattle.bucket_table.specs.Units.{KeepsOpenTickets, WorksOneUnit};
 
 use super::Arrays;
 use crate::key_hash::KeyHash;
@@ -35,13 +35,13 @@ impl<K: Eq + Drop, V: Drop, L: LruList + Drop, const TYPE: u8> Arrays<K, V, L, T
         requires placed { ArePlaced (H.hash_of hasher.now) self.old }
         ensures placed { ArePlaced (H.hash_of hasher.now) self.new }
         ensures kept { KeepsMap self.old self.new }
-        ensures bag { KeepsBag self.old.rehash self.new.rehash }
+        ensures bag { KeepsOpenTickets self.old.rehash self.new.rehash }
         ensures locked { IfOk result (λ found. IsLocked self.new found.0 found.1) }
         ensures home { IfOk result (λ found. IsHome (length (buckets_on self.new found.0)) hash found.1) }
-        ensures finds { IfOk result (λ found. FindsReady TYPE hash self.old found.0 found.1 self.new) }
+        ensures finds { IfOk result (λ found. ReadiesThenGrows TYPE hash self.old found.0 found.1 self.new) }
         ensures refused { OnErr result (FindsNone self.old self.new) }
     {
-        let Ok(()) = self.make_ready(hasher, hash) else {
+        let Ok(()) = self.fetch_or_make(hasher, hash) else {
             return Err(AllocError);
         };
         let index = self.home(hash);
@@ -52,11 +52,11 @@ impl<K: Eq + Drop, V: Drop, L: LruList + Drop, const TYPE: u8> Arrays<K, V, L, T
     /// Makes a first array where there is none; beside an old one works a unit, and moves the
     /// sources of the home of a hash.
     #[inline(always)]
-    fn make_ready<H: KeyHash<K>>(&mut self, hasher: &H, hash: u64) -> Result<(), AllocError>
+    fn fetch_or_make<H: KeyHash<K>>(&mut self, hasher: &H, hash: u64) -> Result<(), AllocError>
         requires placed { ArePlaced (H.hash_of hasher.now) self.old }
         ensures placed { ArePlaced (H.hash_of hasher.now) self.new }
         ensures kept { KeepsMap self.old self.new }
-        ensures bag { KeepsBag self.old.rehash self.new.rehash }
+        ensures bag { KeepsOpenTickets self.old.rehash self.new.rehash }
         ensures ready { OnOk result (IsReady self.new hash) }
         ensures unit { WorksOneUnit self.old self.new.rehash }
         ensures beside { IsSome self.old.rehash → KeepsArrays self.old self.new }
@@ -65,7 +65,7 @@ impl<K: Eq + Drop, V: Drop, L: LruList + Drop, const TYPE: u8> Arrays<K, V, L, T
     {
         self.sound();
         if self.rehash.is_some() {
-            return match self.prepare(hasher, hash) {
+            return match self.fetch_home(hasher, hash) {
                 Ok(_) => Ok(()),
                 Err(refused) => Err(refused),
             };
@@ -124,9 +124,9 @@ impl<K, V, L: LruList, const TYPE: u8> Arrays<K, V, L, TYPE> {
 impl<K, V, L: LruList, const TYPE: u8> Arrays<K, V, L, TYPE> {
     /// Returns the index of a hash's home in the current array, where it may be locked at once.
     pub(crate) fn free_home(&self, hash: u64, is_checked: bool) -> Option<usize>
-        ensures free { IfSome result (λ index. IsFreeHome is_checked self.now hash index) }
+        ensures free { IfSome result (λ index. MayLockAtOnce is_checked self.now hash index) }
         ensures within { IfSome result (λ index. index < length (buckets_of self.now.current)) }
-        ensures none { IfNone result (HasNoFreeHome is_checked self.now hash) }
+        ensures none { IfNone result (MayNotLockAtOnce is_checked self.now hash) }
     {
         if self.rehash.is_some() {
             return None;

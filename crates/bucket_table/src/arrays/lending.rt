@@ -3,7 +3,7 @@ ghost use Rattle.std.specs.Prelude.{◌≡◌, ◌<◌, Bool, length};
 ghost use Rattle.std.specs.Borrow.{sem};
 ghost use Rattle.bucket_slots.specs.ArrayRoom.{BucketFits};
 ghost use Rattle.bucket_slots.specs.ArrayView.{bucket_at};
-ghost use Rattle.bucket_table.specs.Arrays.{LendsBucketOf, LendsOldBucketOf};
+ghost use Rattle.bucket_table.specs.OptionLoans.{LendsBucketOf, LendsOldBucketOf};
 ghost use Rattle.bucket_table.specs.ArraysView.{old_buckets};
 ghost use Rattle.bucket_table.specs.Relocation.{buckets_of};
 ghost use Rattle.bucket_table.specs.Sides.{buckets_on};

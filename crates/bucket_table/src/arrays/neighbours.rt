@@ -4,7 +4,7 @@ ghost use Rattle.bucket_table.specs.Sampling.{IsCrowded, IsDeserted, live_counts
 ghost use Rattle.bucket_table.specs.ArraysView.{ArePlaced};
 ghost use Rattle.bucket_table.specs.Finding.{KeepsMap};
 ghost use Rattle.bucket_table.specs.Sides.{buckets_on};
-ghost use Rattle.bucket_table.specs.Units.{KeepsBag};
+ghost use Rattle.bucket_table.specs.Units.{KeepsOpenTickets};
 ghost use Rattle.bucket_slots.specs.ArrayView.{bucket_at};
 ghost use Rattle.bucket_slots.specs.BucketView.{pairs_in};
 ghost use Rattle.bucket_table.specs.Asking.{AsksGrowth, AsksShrinking, ResizesIf};
@@ -22,7 +22,7 @@ impl<K: Drop, V: Drop, L: LruList + Drop, const TYPE: u8> Arrays<K, V, L, TYPE> 
     pub(crate) fn try_shrink(&mut self, index: usize)
         ensures asked { ResizesIf (AsksShrinking self.old index) self.old self.new }
         ensures kept { KeepsMap self.old self.new }
-        ensures bag { KeepsBag self.old.rehash self.new.rehash }
+        ensures bag { KeepsOpenTickets self.old.rehash self.new.rehash }
         ensures placed { (hash : K → ℕ) → ArePlaced hash self.old → ArePlaced hash self.new }
     {
         if !self.asks_shrinking(index) {
@@ -38,7 +38,7 @@ impl<K: Drop, V: Drop, L: LruList + Drop, const TYPE: u8> Arrays<K, V, L, TYPE> 
         ensures asked { ResizesIf ((pairs_in (bucket_at (buckets_on self.old is_old) index) ≡ []) × AsksShrinking self.old index)
             self.old self.new }
         ensures kept { KeepsMap self.old self.new }
-        ensures bag { KeepsBag self.old.rehash self.new.rehash }
+        ensures bag { KeepsOpenTickets self.old.rehash self.new.rehash }
         ensures placed { (hash : K → ℕ) → ArePlaced hash self.old → ArePlaced hash self.new }
     {
         self.room_of(is_old);
@@ -54,7 +54,7 @@ impl<K: Drop, V: Drop, L: LruList + Drop, const TYPE: u8> Arrays<K, V, L, TYPE> 
         ensures asked { ResizesIf ((pairs_in (bucket_at (buckets_on self.old is_old) index) ≡ []) × AsksShrinking self.old index)
             self.old self.new }
         ensures kept { KeepsMap self.old self.new }
-        ensures bag { KeepsBag self.old.rehash self.new.rehash }
+        ensures bag { KeepsOpenTickets self.old.rehash self.new.rehash }
         ensures placed { (hash : K → ℕ) → ArePlaced hash self.old → ArePlaced hash self.new }
     {
         if left != 0 {

@@ -5,7 +5,7 @@ ghost use Rattle.bucket_table.specs.ArraysView.{ArePlaced, RehashView};
 ghost use Rattle.bucket_table.specs.Preparing.{AnswersFor, IsReady, Prepares};
 ghost use Rattle.bucket_table.specs.Rehashing.{KeepsArrays};
 ghost use Rattle.bucket_table.specs.Relocation.{buckets_of};
-ghost use Rattle.bucket_table.specs.Units.{IsEasyUnit, IsUnitReady, KeepsBag, KeepsRehash, WorksUnit};
+ghost use Rattle.bucket_table.specs.Units.{NeedsNoMemory, IsUnitReady, KeepsOpenTickets, KeepsRehash, WorksUnit};
 
 use super::Arrays;
 use crate::hash_table::capacity::from_index_to_range;
@@ -21,7 +21,7 @@ impl<K: Eq + Drop, V: Drop, L: LruList + Drop, const TYPE: u8> Arrays<K, V, L, T
     ///
     /// Want of memory: a source isn't killed.
     #[inline(never)]
-    pub(crate) fn prepare<H: KeyHash<K>>(
+    pub(crate) fn fetch_home<H: KeyHash<K>>(
         &mut self,
         hasher: &H,
         hash: u64,
@@ -29,12 +29,12 @@ impl<K: Eq + Drop, V: Drop, L: LruList + Drop, const TYPE: u8> Arrays<K, V, L, T
         requires placed { ArePlaced (H.hash_of hasher.now) self.old }
         ensures placed { ArePlaced (H.hash_of hasher.now) self.new }
         ensures kept { KeepsArrays self.old self.new }
-        ensures bag { KeepsBag self.old.rehash self.new.rehash }
+        ensures bag { KeepsOpenTickets self.old.rehash self.new.rehash }
         ensures ready { Prepares self.new hash result }
         ensures unit { (was : RehashView K V)
             → (self.old.rehash ≡ Some was)
             → IsUnitReady was
-            → IsEasyUnit was.tickets.position self.old was
+            → NeedsNoMemory was.tickets.position self.old was
             → WorksUnit was self.new.rehash }
         ensures alone { self.old.rehash ≡ None → self.new ≡ self.old }
         ensures answer { AnswersFor result self.old }
@@ -44,7 +44,7 @@ impl<K: Eq + Drop, V: Drop, L: LruList + Drop, const TYPE: u8> Arrays<K, V, L, T
         if self.len() == 0 {
             return Ok(false);
         }
-        if self.dedup(hasher, hash) {
+        if self.move_sources(hasher, hash) {
             Ok(true)
         } else {
             Err(AllocError)
@@ -52,13 +52,13 @@ impl<K: Eq + Drop, V: Drop, L: LruList + Drop, const TYPE: u8> Arrays<K, V, L, T
     }
 
     /// Moves the sources of the home of a hash. Returns whether no memory was refused.
-    fn dedup<H: KeyHash<K>>(&mut self, hasher: &H, hash: u64) -> bool
+    fn move_sources<H: KeyHash<K>>(&mut self, hasher: &H, hash: u64) -> bool
         requires stands { 0 < length (buckets_of self.old.current) }
         requires placed { ArePlaced (H.hash_of hasher.now) self.old }
         ensures placed { ArePlaced (H.hash_of hasher.now) self.new }
         ensures kept { KeepsArrays self.old self.new }
         ensures rehash { KeepsRehash self.old.rehash self.new.rehash }
-        ensures bag { KeepsBag self.old.rehash self.new.rehash }
+        ensures bag { KeepsOpenTickets self.old.rehash self.new.rehash }
         ensures ready { result ≡ true → IsReady self.new hash }
         ensures alone { self.old.rehash ≡ None → self.new ≡ self.old }
         ensures succeeds { self.old.rehash ≡ None → result ≡ true }

@@ -1,6 +1,6 @@
 //! The tickets of a rehash over real arrays, and a unit of it inside a call.
 ghost use Rattle.std.specs.Prelude.{◌≡◌, ◌^◌, ◌<◌, ◌↔◌, IfSome, IsTrue, option_map};
-ghost use Rattle.bucket_table.specs.ArraysView.{IsRehash, entries_of, killed_flags};
+ghost use Rattle.bucket_table.specs.ArraysView.{LosesNoUnit, entries_of, killed_flags};
 ghost use Rattle.bucket_table.specs.Covered.{IsUnitKilled};
 ghost use Rattle.bucket_table.specs.Rehashing.{EndsRehash, StartsRehash};
 ghost use Rattle.bucket_table.specs.State.{word_of};
@@ -42,7 +42,7 @@ impl<K: Drop, V: Drop, L: LruList + Drop, const TYPE: u8> Arrays<K, V, L, TYPE> 
         ticket: usize,
         success: bool,
     ) -> Result<bool, TicketError>
-        requires { IfSome self.old.rehash IsRehash }
+        requires { IfSome self.old.rehash LosesNoUnit }
         ensures rehash { EndsRehash self.old.rehash ticket success result self.new.rehash }
         ensures others { self.new ≡ record self.old { rehash = self.new.rehash } }
         ensures same_pairs { entries_of self.new ≡ entries_of self.old }

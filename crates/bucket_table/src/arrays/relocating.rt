@@ -3,10 +3,10 @@ ghost use Rattle.std.specs.Prelude.{false, ◌≡◌, ◌<◌, ◌≤◌, ℕ, t
 ghost use Rattle.bucket_slots.specs.ArrayView.{bucket_at};
 ghost use Rattle.bucket_table.specs.ArraysView.{ArePlaced, RehashView, old_buckets};
 ghost use Rattle.bucket_table.specs.Landings.{CarriesRecency};
-ghost use Rattle.bucket_table.specs.Rehashing.{IsEasyMove, IsOldIndex, IsOldRange, IsUnmoved, RelocatesAt};
+ghost use Rattle.bucket_table.specs.Rehashing.{MoveNeedsNoMemory, IsOldIndex, IsOldRange, IsUnmoved, RelocatesAt};
 ghost use Rattle.bucket_table.specs.Relocation.{buckets_of};
 ghost use Rattle.bucket_table.specs.UnitRuns.{SpendsSome};
-ghost use Rattle.bucket_table.specs.Units.{IsEasyRange, WorksRange};
+ghost use Rattle.bucket_table.specs.Units.{RangeNeedsNoMemory, WorksRange};
 
 use super::Arrays;
 use crate::hash_table::relocate::relocate;
@@ -33,7 +33,7 @@ impl<K: Eq + Drop, V: Drop, L: LruList + Drop, const TYPE: u8> Arrays<K, V, L, T
         ensures recency { OnOk result (CarriesRecency (bucket_at (old_buckets self.old.rehash) index)
             (buckets_of self.old.current) (buckets_of self.new.current)) }
         ensures refused { OnErr result (IsUnmoved self.old self.new) }
-        ensures succeeds { IsEasyMove index self.old → IsOk result }
+        ensures succeeds { MoveNeedsNoMemory index self.old → IsOk result }
         ensures alive { OnErr result
             ((bucket_at (old_buckets self.old.rehash) index).killed ≡ false) }
     {
@@ -62,7 +62,7 @@ impl<K: Eq + Drop, V: Drop, L: LruList + Drop, const TYPE: u8> Arrays<K, V, L, T
         ensures spends { SpendsSome (old_buckets self.old.rehash) (old_buckets self.new.rehash) }
         ensures succeeds { (was : RehashView K V)
             → (self.old.rehash ≡ Some was)
-            → IsEasyRange start end self.old was
+            → RangeNeedsNoMemory start end self.old was
             → result ≡ true }
     {
         'buckets: for index in start..end {

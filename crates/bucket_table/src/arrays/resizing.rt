@@ -4,7 +4,7 @@ ghost use Rattle.bucket_table.specs.ArraysView.{ArePlaced, entries_of};
 ghost use Rattle.bucket_table.specs.Finding.{KeepsMap};
 ghost use Rattle.bucket_table.specs.ResizePlan.{IsCapacityWithin};
 ghost use Rattle.bucket_table.specs.Resizes.{IsPlanOf, IsResized, MakesArray, Releases, Reserves, ResizesByPlan, Settles, with_minimum};
-ghost use Rattle.bucket_table.specs.Units.{KeepsBag};
+ghost use Rattle.bucket_table.specs.Units.{KeepsOpenTickets};
 
 use super::plan::{Plan, plan_of};
 use super::{Arrays, Rehash};
@@ -95,7 +95,7 @@ impl<K: Drop, V: Drop, L: LruList + Drop, const TYPE: u8> Arrays<K, V, L, TYPE> 
     pub(crate) fn reserve_capacity(&mut self, additional: usize) -> usize
         ensures reserved { Reserves additional self.old result self.new }
         ensures kept { KeepsMap (with_minimum self.old (self.old.minimum + result)) self.new }
-        ensures bag { KeepsBag self.old.rehash self.new.rehash }
+        ensures bag { KeepsOpenTickets self.old.rehash self.new.rehash }
         ensures placed { (hash : K → ℕ) → ArePlaced hash self.old → ArePlaced hash self.new }
     {
         self.sound();
@@ -113,7 +113,7 @@ impl<K: Drop, V: Drop, L: LruList + Drop, const TYPE: u8> Arrays<K, V, L, TYPE> 
     pub(crate) fn release_capacity(&mut self, released: usize) -> usize
         ensures released { Releases released self.old result self.new }
         ensures kept { KeepsMap (with_minimum self.old (self.old.minimum - result)) self.new }
-        ensures bag { KeepsBag self.old.rehash self.new.rehash }
+        ensures bag { KeepsOpenTickets self.old.rehash self.new.rehash }
         ensures placed { (hash : K → ℕ) → ArePlaced hash self.old → ArePlaced hash self.new }
     {
         self.sound();
@@ -129,7 +129,7 @@ impl<K: Drop, V: Drop, L: LruList + Drop, const TYPE: u8> Arrays<K, V, L, TYPE> 
         requires { minimum ≤ self.old.maximum }
         ensures settled { Settles minimum self.old self.new }
         ensures kept { KeepsMap (with_minimum self.old minimum) self.new }
-        ensures bag { KeepsBag self.old.rehash self.new.rehash }
+        ensures bag { KeepsOpenTickets self.old.rehash self.new.rehash }
         ensures placed { (hash : K → ℕ) → ArePlaced hash self.old → ArePlaced hash self.new }
     {
         self.minimum = minimum;

@@ -3,7 +3,7 @@ ghost use Rattle.std.specs.Prelude.{◌≡◌, ◌*◌, true, None, Some};
 ghost use Rattle.bucket_table.specs.ArraysView.{ArePlaced, RehashView, old_buckets};
 ghost use Rattle.bucket_table.specs.Rehashing.{IsOldIndex, KeepsArrays};
 ghost use Rattle.bucket_table.specs.UnitRuns.{SpendsSome, WorksUnits};
-ghost use Rattle.bucket_table.specs.Units.{IsEasyUnit, IsUnitReady, KeepsBag, KeepsKilled, WorksSome, WorksUnit};
+ghost use Rattle.bucket_table.specs.Units.{NeedsNoMemory, IsUnitReady, KeepsOpenTickets, KeepsKilled, WorksSome, WorksUnit};
 
 use super::Arrays;
 use crate::key_hash::KeyHash;
@@ -16,12 +16,12 @@ impl<K: Eq + Drop, V: Drop, L: LruList + Drop, const TYPE: u8> Arrays<K, V, L, T
         requires placed { ArePlaced (H.hash_of hasher.now) self.old }
         ensures placed { ArePlaced (H.hash_of hasher.now) self.new }
         ensures kept { KeepsArrays self.old self.new }
-        ensures bag { KeepsBag self.old.rehash self.new.rehash }
+        ensures bag { KeepsOpenTickets self.old.rehash self.new.rehash }
         ensures still { KeepsKilled self.old.rehash self.new.rehash }
         ensures unit { (was : RehashView K V)
             → (self.old.rehash ≡ Some was)
             → IsUnitReady was
-            → IsEasyUnit was.tickets.position self.old was
+            → NeedsNoMemory was.tickets.position self.old was
             → WorksUnit was self.new.rehash }
         ensures units { WorksUnits 1 self.old self.new.rehash }
         ensures alone { self.old.rehash ≡ None → self.new ≡ self.old }
@@ -43,7 +43,7 @@ impl<K: Eq + Drop, V: Drop, L: LruList + Drop, const TYPE: u8> Arrays<K, V, L, T
         ensures spends { SpendsSome (old_buckets self.old.rehash) (old_buckets self.new.rehash) }
         ensures succeeds { (was : RehashView K V)
             → (self.old.rehash ≡ Some was)
-            → IsEasyUnit unit self.old was
+            → NeedsNoMemory unit self.old was
             → result ≡ true }
     {
         let len = self.old_len();

@@ -8,7 +8,7 @@ ghost use Rattle.std.specs.Prelude.{◌≡◌, ◌↔◌, ◌<◌, [], None, IsT
 ghost use Rattle.bucket_table.specs.ArraysView.{pairs_of};
 ghost use Rattle.bucket_table.specs.Counting.{CountsAndResizes, counted_to};
 ghost use Rattle.bucket_table.specs.MapState.{KeepsPairs, state_of};
-ghost use Rattle.bucket_table.specs.Units.{KeepsBag, WorksOneUnit};
+ghost use Rattle.bucket_table.specs.Units.{KeepsOpenTickets, WorksOneUnit};
 
 use crate::hash_table::HashTable;
 use crate::key_hash::KeyHash;
@@ -31,7 +31,7 @@ impl<K: Eq + Drop, V: Drop, H: KeyHash<K>, L: LruList + Drop, const TYPE: u8> Ha
     pub fn num_entries(&mut self) -> usize
         ensures count { result ≡ counted_to (pairs_of self.new.arrays) }
         ensures map { KeepsPairs (state_of TYPE self.old) (state_of TYPE self.new) }
-        ensures bag { KeepsBag self.old.arrays.rehash self.new.arrays.rehash }
+        ensures bag { KeepsOpenTickets self.old.arrays.rehash self.new.arrays.rehash }
         ensures unit { WorksOneUnit self.old.arrays self.new.arrays.rehash }
         ensures arrays { CountsAndResizes self.old.arrays self.new.arrays }
         ensures alone { self.old.arrays.rehash ≡ None → (pairs_of self.old.arrays ≡ [] → ⊥)
@@ -48,7 +48,7 @@ impl<K: Eq + Drop, V: Drop, H: KeyHash<K>, L: LruList + Drop, const TYPE: u8> Ha
     pub fn has_entry(&mut self) -> bool
         ensures has { IsTrue result ↔ (0 < length (pairs_of self.new.arrays)) }
         ensures map { KeepsPairs (state_of TYPE self.old) (state_of TYPE self.new) }
-        ensures bag { KeepsBag self.old.arrays.rehash self.new.arrays.rehash }
+        ensures bag { KeepsOpenTickets self.old.arrays.rehash self.new.arrays.rehash }
         ensures unit { WorksOneUnit self.old.arrays self.new.arrays.rehash }
         ensures arrays { CountsAndResizes self.old.arrays self.new.arrays }
         ensures alone { self.old.arrays.rehash ≡ None → (pairs_of self.old.arrays ≡ [] → ⊥)

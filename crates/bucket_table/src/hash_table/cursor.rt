@@ -7,7 +7,7 @@ ghost use Rattle.bucket_slots.specs.Sizing.{IsLength};
 ghost use Rattle.bucket_slots.specs.Walking.{pairs_ahead};
 ghost use Rattle.bucket_table.specs.ArraysView.{marks_of, pairs_of};
 ghost use Rattle.bucket_table.specs.Asking.{AsksShrinking};
-ghost use Rattle.bucket_table.specs.Cursors.{Advances, Departs, HasNoneFrom, Leaves, SetsOut, bound_of, viewed};
+ghost use Rattle.bucket_table.specs.Cursors.{Advances, ShrinksThenPasses, HasNoneFrom, Leaves, SetsOut, bound_of, viewed};
 ghost use Rattle.bucket_table.specs.Locking.{IsLocked};
 ghost use Rattle.bucket_table.specs.MapState.{KeepsPairs, state_of};
 ghost use Rattle.bucket_table.specs.Refusing.{LacksMemory};
@@ -17,7 +17,7 @@ ghost use Rattle.bucket_table.specs.Settings.{KeepsSettings};
 ghost use Rattle.bucket_table.specs.Sides.{bucket_on, buckets_on};
 ghost use Rattle.bucket_table.specs.Sweeps.{RetainsAt, Sweeps, why_over};
 ghost use Rattle.bucket_table.specs.TableRow.{table_row};
-ghost use Rattle.bucket_table.specs.Units.{KeepsBag};
+ghost use Rattle.bucket_table.specs.Units.{KeepsOpenTickets};
 
 use crate::hash_table::{HashTable, LockedBucket, Missing};
 use crate::key_hash::KeyHash;
@@ -68,7 +68,7 @@ impl<K: Eq + Drop, V: Drop, H: KeyHash<K>, L: LruList + Drop, const TYPE: u8> Ha
             self.sound();
             let taken = self.retain_at(index, keep, generation);
             count = count.saturating_add(taken);
-            place = self.pass(index, &mut at);
+            place = self.first_past_bucket(index, &mut at);
         }
         match place {
             Err(Missing::Memory) => Err(AllocError),
@@ -86,17 +86,22 @@ impl<K: Eq + Drop, V: Drop, H: KeyHash<K>, L: LruList + Drop, const TYPE: u8> Ha
 
     /// Moves a pointer to the first live pair past a current bucket, and returns that pair's
     /// current bucket.
-    fn pass(&mut self, index: usize, at: &mut EntryPtr<K, V, TYPE>) -> Result<usize, Missing>
+    fn first_past_bucket(
+        &mut self,
+        index: usize,
+        at: &mut EntryPtr<K, V, TYPE>,
+    ) -> Result<usize, Missing>
         requires within { index < length (buckets_of self.old.arrays.current) }
         ensures map { KeepsPairs (state_of TYPE self.old) (state_of TYPE self.new) }
-        ensures bag { KeepsBag self.old.arrays.rehash self.new.arrays.rehash }
+        ensures bag { KeepsOpenTickets self.old.arrays.rehash self.new.arrays.rehash }
         ensures leaves { Leaves (H.hash_of self.old.hasher)
             (bound_of (length (buckets_of self.old.arrays.current)) (index + 1)) result
             self.new.arrays at.new }
-        ensures departs { Departs (λ to. to) false index self.old.arrays result self.new.arrays }
+        ensures departs { ShrinksThenPasses (λ to. to) false index self.old.arrays result self.new.arrays }
         ensures marks { HasNoNewMark (marks_of self.old.arrays) (marks_of self.new.arrays) }
     {
-        self.arrays.pass(&self.hasher, false, index, at)
+        self.arrays
+            .first_past_bucket(&self.hasher, false, index, at)
     }
 
     /// Takes out of a current bucket each pair that `keep` refuses. Returns how many.

@@ -17,7 +17,7 @@ ghost use Rattle.bucket_slots.specs.Removing.{slots_without};
 ghost use Rattle.bucket_slots.specs.Slots.{free, is_free, is_live, live, live_pair};
 ghost use Rattle.bucket_slots.specs.Walking.{pairs_ahead};
 ghost use Rattle.bucket_table.specs.ArraysView.{pairs_of};
-ghost use Rattle.bucket_table.specs.Units.{KeepsBag};
+ghost use Rattle.bucket_table.specs.Units.{KeepsOpenTickets};
 ghost use Rattle.bucket_table.specs.Locking.{IsLocked};
 ghost use Rattle.bucket_table.specs.LookingUp.{IsAbsent, IsThere};
 ghost use Rattle.bucket_table.specs.MapState.{AddsPair, ChangesValue, KeepsPairs, TakesPair, state_of};
@@ -128,7 +128,7 @@ impl<'a, K: Eq, V, H: KeyHash<K>, L: LruList, const TYPE: u8> LockedBucket<'a, K
         ensures map { (value : V) → ChangesValue (state_of TYPE self.old.table.now)
             (result.0.now, result.1.now) value (state_of TYPE
             (table_with_value self.old at.now value)) }
-        ensures bag { (value : V) → KeepsBag self.old.table.now.arrays.rehash
+        ensures bag { (value : V) → KeepsOpenTickets self.old.table.now.arrays.rehash
             (table_with_value self.old at.now value).arrays.rehash }
     {
         let is_old = self.is_old;
@@ -151,7 +151,7 @@ impl<'a, K: Eq, V, H: KeyHash<K>, L: LruList, const TYPE: u8> LockedBucket<'a, K
         ensures same_index { self.new.index ≡ self.old.index }
         ensures map { KeepsPairs (state_of TYPE self.old.table.now)
             (state_of TYPE self.new.table.now) }
-        ensures bag { KeepsBag self.old.table.now.arrays.rehash self.new.table.now.arrays.rehash }
+        ensures bag { KeepsOpenTickets self.old.table.now.arrays.rehash self.new.table.now.arrays.rehash }
         ensures table { self.new.table.now
             ≡ with_bucket self.old.table.now self.old.is_old self.old.index
             (slots_touched L.KEEPS
@@ -179,7 +179,7 @@ impl<'a, K: Eq, V, H: KeyHash<K>, L: LruList, const TYPE: u8> LockedBucket<'a, K
         ensures map { IfSome result
             (λ pair. TakesPair (state_of TYPE self.old.table.now) pair
             (state_of TYPE self.new.table.now)) }
-        ensures bag { KeepsBag self.old.table.now.arrays.rehash self.new.table.now.arrays.rehash }
+        ensures bag { KeepsOpenTickets self.old.table.now.arrays.rehash self.new.table.now.arrays.rehash }
         ensures table { OnSome result (self.new.table.now
             ≡ with_bucket self.old.table.now self.old.is_old self.old.index
             (slots_evicted (bucket_of self.old.table.now self.old.is_old self.old.index))) }
@@ -209,7 +209,7 @@ impl<'a, K: Eq, V, H: KeyHash<K>, L: LruList, const TYPE: u8> LockedBucket<'a, K
             (slot_in (bucket_of self.old.table.now self.old.is_old self.old.index) at.old)
             ≡ Some pair)
             × TakesPair (state_of TYPE self.old.table.now) pair (state_of TYPE self.new.table.now) }
-        ensures bag { KeepsBag self.old.table.now.arrays.rehash self.new.table.now.arrays.rehash }
+        ensures bag { KeepsOpenTickets self.old.table.now.arrays.rehash self.new.table.now.arrays.rehash }
         ensures table { self.new.table.now
             ≡ with_bucket self.old.table.now self.old.is_old self.old.index
             (slots_marked (bucket_of self.old.table.now self.old.is_old self.old.index) at.old
@@ -260,7 +260,7 @@ impl<'a, K: Eq + Drop, V: Drop, H: KeyHash<K>, L: LruList, const TYPE: u8> Locke
         ensures same_index { self.new.index ≡ self.old.index }
         ensures map { OnOk result (AddsPair (state_of TYPE self.old.table.now) pair
             (state_of TYPE self.new.table.now)) }
-        ensures bag { KeepsBag self.old.table.now.arrays.rehash self.new.table.now.arrays.rehash }
+        ensures bag { KeepsOpenTickets self.old.table.now.arrays.rehash self.new.table.now.arrays.rehash }
         ensures table { OnOk result (self.new.table.now
             ≡ with_bucket self.old.table.now self.old.is_old self.old.index
             (slots_after_insertion TYPE (G.keeps generation.now)
@@ -302,7 +302,7 @@ impl<'a, K: Eq + Drop, V: Drop, H: KeyHash<K>, L: LruList, const TYPE: u8> Locke
             ≡ Some result }
         ensures map { TakesPair (state_of TYPE self.old.table.now) result
             (state_of TYPE self.new.table.now) }
-        ensures bag { KeepsBag self.old.table.now.arrays.rehash self.new.table.now.arrays.rehash }
+        ensures bag { KeepsOpenTickets self.old.table.now.arrays.rehash self.new.table.now.arrays.rehash }
         ensures table { self.new.table.now
             ≡ with_bucket self.old.table.now self.old.is_old self.old.index
             (slots_without (bucket_of self.old.table.now self.old.is_old self.old.index) at.old) }

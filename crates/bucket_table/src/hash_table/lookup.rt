@@ -82,7 +82,7 @@ impl<K: Eq + Drop, V: Drop, H: KeyHash<K>, L: LruList + Drop, const TYPE: u8> Ha
         ensures prepared { IsPrepared TYPE self.old self.new }
     {
         let hash = self.hasher.hash_one(key);
-        let _ = self.prepare(hash);
+        let _ = self.fetch_home(hash);
         match self.peek_entry(key) {
             Some((own, value)) => Some(reader(own, value)),
             None => None,

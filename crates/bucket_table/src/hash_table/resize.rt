@@ -8,7 +8,7 @@
 ghost use Rattle.std.specs.Borrow.{sem};
 ghost use Rattle.bucket_table.specs.MapState.{KeepsPairs, LowersMinimum, RaisesMinimum, state_of};
 ghost use Rattle.bucket_table.specs.Resizes.{Releases, Reserves, ResizesByPlan};
-ghost use Rattle.bucket_table.specs.Units.{KeepsBag};
+ghost use Rattle.bucket_table.specs.Units.{KeepsOpenTickets};
 
 use crate::hash_table::HashTable;
 use crate::key_hash::KeyHash;
@@ -63,7 +63,7 @@ impl<K: Eq + Drop, V: Drop, H: KeyHash<K>, L: LruList + Drop, const TYPE: u8> Ha
     pub fn try_resize(&mut self) -> Result<bool, AllocError>
         ensures plan { ResizesByPlan self.old.arrays result self.new.arrays }
         ensures map { KeepsPairs (state_of TYPE self.old) (state_of TYPE self.new) }
-        ensures bag { KeepsBag self.old.arrays.rehash self.new.arrays.rehash }
+        ensures bag { KeepsOpenTickets self.old.arrays.rehash self.new.arrays.rehash }
     {
         self.arrays.try_resize()
     }
@@ -79,7 +79,7 @@ impl<K: Eq + Drop, V: Drop, H: KeyHash<K>, L: LruList + Drop, const TYPE: u8> Ha
     pub fn reserve_capacity(&mut self, additional: usize) -> usize
         ensures arrays { Reserves additional self.old.arrays result self.new.arrays }
         ensures map { RaisesMinimum additional (state_of TYPE self.old) result (state_of TYPE self.new) }
-        ensures bag { KeepsBag self.old.arrays.rehash self.new.arrays.rehash }
+        ensures bag { KeepsOpenTickets self.old.arrays.rehash self.new.arrays.rehash }
     {
         self.arrays.reserve_capacity(additional)
     }
@@ -94,7 +94,7 @@ impl<K: Eq + Drop, V: Drop, H: KeyHash<K>, L: LruList + Drop, const TYPE: u8> Ha
     pub fn release_capacity(&mut self, released: usize) -> usize
         ensures arrays { Releases released self.old.arrays result self.new.arrays }
         ensures map { LowersMinimum released (state_of TYPE self.old) result (state_of TYPE self.new) }
-        ensures bag { KeepsBag self.old.arrays.rehash self.new.arrays.rehash }
+        ensures bag { KeepsOpenTickets self.old.arrays.rehash self.new.arrays.rehash }
     {
         self.arrays.release_capacity(released)
     }

@@ -1,7 +1,7 @@
 //! Tickets of a rehash: units of the old array handed out, worked and ended, call by call.
 //!
 //! Model: `TableView`; a ticket is an entry of the old array's bag of open units.
-//! Invariant: the table's, `IsOneMap`, whose `IsRehash` says that no unit is forgotten: each one
+//! Invariant: the table's, `IsOneMap`, whose `LosesNoUnit` says that no unit is forgotten: each one
 //! below the position is killed or open.
 //!
 //! Ports `start_incremental_rehash`, `relocate_bucket` and `end_incremental_rehash` of scc's
@@ -10,7 +10,7 @@ ghost use Rattle.std.specs.Prelude.{◌↔◌, ◌≡◌, false, ◌<◌, None, 
 ghost use Rattle.bucket_slots.specs.ArrayView.{bucket_at};
 ghost use Rattle.bucket_table.specs.ArraysView.{RehashView, old_buckets};
 ghost use Rattle.bucket_table.specs.Carrying.{CarriesPairs};
-ghost use Rattle.bucket_table.specs.Rehashing.{ChangesRehash, EndsRehash, IsEasyMove, IsOldIndex, IsUnmoved, KeepsArrays, RelocatesAt, StartsRehash};
+ghost use Rattle.bucket_table.specs.Rehashing.{ChangesRehash, EndsRehash, MoveNeedsNoMemory, IsOldIndex, IsUnmoved, KeepsArrays, RelocatesAt, StartsRehash};
 ghost use Rattle.bucket_table.specs.Relocation.{buckets_of};
 ghost use Rattle.bucket_table.specs.MapState.{KeepsPairs, state_of};
 
@@ -76,7 +76,7 @@ impl<K: Eq + Drop, V: Drop, H: KeyHash<K>, L: LruList + Drop, const TYPE: u8> Ha
             (CarriesPairs K.eq (bucket_at (old_buckets self.old.arrays.rehash) index)
             (buckets_of self.old.arrays.current) (buckets_of self.new.arrays.current)) }
         ensures refused { OnErr result (IsUnmoved self.old.arrays self.new.arrays) }
-        ensures succeeds { IsEasyMove index self.old.arrays → IsOk result }
+        ensures succeeds { MoveNeedsNoMemory index self.old.arrays → IsOk result }
         ensures alive { OnErr result
             ((bucket_at (old_buckets self.old.arrays.rehash) index).killed ≡ false) }
     {

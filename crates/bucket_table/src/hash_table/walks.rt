@@ -14,7 +14,7 @@ ghost use Rattle.bucket_table.specs.Relocation.{buckets_of};
 ghost use Rattle.bucket_table.specs.Settings.{KeepsSettings};
 ghost use Rattle.bucket_table.specs.Sides.{arrays_with, bucket_on};
 ghost use Rattle.bucket_table.specs.UnitRuns.{WorksUnits};
-ghost use Rattle.bucket_table.specs.Units.{KeepsBag};
+ghost use Rattle.bucket_table.specs.Units.{KeepsOpenTickets};
 ghost use Rattle.bucket_table.specs.Visits.{reading};
 ghost use Rattle.bucket_table.specs.Walks.{BeginsAt, KeepsBuckets, WalksBy};
 
@@ -102,7 +102,7 @@ impl<K: Eq + Drop, V: Drop, H: KeyHash<K>, L: LruList + Drop, const TYPE: u8> Ha
         ensures map { KeepsPairs (state_of TYPE self.old) (state_of TYPE self.new) }
         ensures hasher { self.new.hasher ≡ self.old.hasher }
         ensures kept { KeepsArrays self.old.arrays self.new.arrays }
-        ensures bag { KeepsBag self.old.arrays.rehash self.new.arrays.rehash }
+        ensures bag { KeepsOpenTickets self.old.arrays.rehash self.new.arrays.rehash }
         ensures alone { self.old.arrays.rehash ≡ None → self.new ≡ self.old }
         ensures succeeds { self.old.arrays.rehash ≡ None → IsOk result }
     {
@@ -141,7 +141,7 @@ impl<K: Eq + Drop, V: Drop, H: KeyHash<K>, L: LruList + Drop, const TYPE: u8> Ha
         requires within { index < length (buckets_of self.old.arrays.current) }
         ensures hasher { self.new.hasher ≡ self.old.hasher }
         ensures kept { KeepsArrays self.old.arrays self.new.arrays }
-        ensures bag { KeepsBag self.old.arrays.rehash self.new.arrays.rehash }
+        ensures bag { KeepsOpenTickets self.old.arrays.rehash self.new.arrays.rehash }
         ensures ready { OnOk result (AreSourcesKilled self.new.arrays index) }
         ensures units { WorksUnits 1 self.old.arrays self.new.arrays.rehash }
         ensures alone { self.old.arrays.rehash ≡ None → self.new.arrays ≡ self.old.arrays }
@@ -174,7 +174,7 @@ impl<K: Eq + Drop, V: Drop, H: KeyHash<K>, L: LruList + Drop, const TYPE: u8> Ha
     fn shrink(&mut self)
         ensures hasher { self.new.hasher ≡ self.old.hasher }
         ensures kept { KeepsMap self.old.arrays self.new.arrays }
-        ensures bag { KeepsBag self.old.arrays.rehash self.new.arrays.rehash }
+        ensures bag { KeepsOpenTickets self.old.arrays.rehash self.new.arrays.rehash }
         ensures resized { ResizesIf (AsksShrinking self.old.arrays 0) self.old.arrays
             self.new.arrays }
     {

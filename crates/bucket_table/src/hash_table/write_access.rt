@@ -11,7 +11,7 @@ ghost use Rattle.std.specs.Borrow.{RestsIfErr, RestsIfNone, sem};
 ghost use Rattle.bucket_slots.specs.Homes.{IsHome};
 ghost use Rattle.bucket_table.specs.ArraysView.{pairs_of};
 ghost use Rattle.bucket_table.specs.Finding.{FindsBucket};
-ghost use Rattle.bucket_table.specs.Free.{HasNoFreeHome, IsFreeHome};
+ghost use Rattle.bucket_table.specs.Free.{MayNotLockAtOnce, MayLockAtOnce};
 ghost use Rattle.bucket_table.specs.Refusing.{IsGivenFor, IsRefused};
 ghost use Rattle.bucket_table.specs.TableRow.{table_row};
 ghost use Rattle.bucket_table.specs.Locking.{IsLocked};
@@ -40,14 +40,14 @@ impl<K: Eq + Drop, V: Drop, H: KeyHash<K>, L: LruList + Drop, const TYPE: u8> Ha
     ///
     /// O(slots of a unit, of the sources and of their targets). scc:
     /// `HashTable::dedup_bucket_sync`, `incremental_rehash_sync`.
-    pub fn prepare(&mut self, hash: u64) -> Result<bool, AllocError>
+    pub fn fetch_home(&mut self, hash: u64) -> Result<bool, AllocError>
         ensures prepared { IsPrepared TYPE self.old self.new }
         ensures ready { Prepares self.new.arrays hash result }
         ensures succeeds { self.old.arrays.rehash ≡ None → IsOk result }
         ensures answer { AnswersFor result self.old.arrays }
         ensures empty { result ≡ Ok false → pairs_of self.new.arrays ≡ [] }
     {
-        let is_ready = self.arrays.prepare(&self.hasher, hash);
+        let is_ready = self.arrays.fetch_home(&self.hasher, hash);
         self.arrays.sound();
         is_ready
     }
@@ -195,7 +195,7 @@ impl<K: Eq + Drop, V: Drop, H: KeyHash<K>, L: LruList + Drop, const TYPE: u8> Ha
             IsHome (length (buckets_on locked.table.now.arrays locked.is_old)) hash locked.index) }
         ensures empty { result ≡ Err Missing.Nothing → pairs_of self.old.arrays ≡ [] }
     {
-        match self.prepare(hash) {
+        match self.fetch_home(hash) {
             Ok(true) => Ok(self.lock_home(hash)),
             Ok(false) => Err(Missing::Nothing),
             Err(_) => Err(Missing::Memory),
@@ -219,8 +219,8 @@ impl<K: Eq + Drop, V: Drop, H: KeyHash<K>, L: LruList + Drop, const TYPE: u8> Ha
         ensures unchanged { IfSome result (λ locked. locked.table.now ≡ self.old) }
         ensures side { IfSome result (λ locked. locked.is_old ≡ false) }
         ensures free { IfSome result (λ locked.
-            IsFreeHome CHECK_SIZE self.old.arrays hash locked.index) }
-        ensures none { IfNone result (HasNoFreeHome CHECK_SIZE self.old.arrays hash) }
+            MayLockAtOnce CHECK_SIZE self.old.arrays hash locked.index) }
+        ensures none { IfNone result (MayNotLockAtOnce CHECK_SIZE self.old.arrays hash) }
     {
         match self.arrays.free_home(hash, CHECK_SIZE) {
             Some(index) => Some(self.lock(false, index)),

@@ -1,9 +1,6 @@
-use Rattle.std.proofs.Common.{◌≡◌, ◌∙◌, true, false, length, rules, sym, ap, arith}
-use Rattle.bucket_slots.specs.BucketView.{marks_in, slot_in}
-use Rattle.bucket_slots.proofs.CallerLemmas.{live_not_free}
-use Rattle.bucket_slots.proofs.MarkCallerLemmas.{by-no_new, by-trans, no_new-refl}
-use Rattle.bucket_table.proofs.Retaining.{next_live}
-use Rattle.bucket_table.proofs.Retaining.{passes, retained, same_pair, sets_out, takes}
+use Rattle.bucket_table.proofs.Words.{◌≡◌, ◌∙◌, true, false, length, rules, sym, ap, arith, marks_in, slot_in, live_not_free, by-no_new}
+use Rattle.bucket_table.proofs.Words.{by-trans, no_new-refl}
+use Rattle.bucket_table.proofs.Retaining.{next_live, passes, retained, same_pair, sets_out, takes}
 use Rattle.bucket_table.proofs.retain.retain_in.Goals as goal
 
 pub loop-at-init : goal.loop-at-init

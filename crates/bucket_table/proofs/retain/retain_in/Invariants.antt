@@ -1,7 +1,4 @@
-use Rattle.std.proofs.Common.{length}
-use Rattle.bucket_slots.specs.BucketView.{marks_in}
-use Rattle.bucket_slots.specs.Marking.{MarksBy}
-use Rattle.bucket_slots.specs.Walking.{pairs_ahead}
+use Rattle.bucket_table.proofs.Words.{length, marks_in, MarksBy, pairs_ahead}
 use Rattle.bucket_table.specs.Retains.{AnswersBy}
 use Rattle.bucket_table.proofs.Retaining.{IsRetaining}
 use Rattle.bucket_table.proofs.retain.retain_in.Given as goal

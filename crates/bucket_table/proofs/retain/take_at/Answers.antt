@@ -1,8 +1,6 @@
-use Rattle.std.proofs.Common.{◌∙◌, ◌∷◌, ap, subst, sym}
-use Rattle.std.specs.List.Sorted.{IsPermutation}
-use Rattle.bucket_slots.specs.BucketView.{entries_in, marks_in}
+use Rattle.bucket_table.proofs.Words.{◌∙◌, ◌∷◌, ap, subst, sym, IsPermutation, entries_in, marks_in, by-no_new}
 use Rattle.bucket_slots.proofs.CallerLemmas.{entries_in-slots_without}
-use Rattle.bucket_slots.proofs.MarkCallerLemmas.{by-no_new, by-one, entries_in-slots_marked, marks_in-slots_marked, marks_in-slots_without}
+use Rattle.bucket_slots.proofs.MarkCallerLemmas.{by-one, entries_in-slots_marked, marks_in-slots_marked, marks_in-slots_without}
 use Rattle.bucket_slots.proofs.RoomCallerLemmas.{killed-slots_marked, killed-slots_without}
 use Rattle.bucket_table.proofs.LockedSteps.{pair_there}
 use Rattle.bucket_table.proofs.retain.take_at.Goals as goal

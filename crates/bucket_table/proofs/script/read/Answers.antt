@@ -1,4 +1,4 @@
-use Rattle.std.proofs.Common.{rules, subst, sym, ◌≡◌}
+use Rattle.bucket_table.proofs.Words.{rules, subst, sym, ◌≡◌}
 use Rattle.bucket_table.specs.ArraysView.{pairs_of}
 use Rattle.bucket_table.specs.LookingUp.{IsThere}
 use Rattle.bucket_table.proofs.CallSteps.{there_before}

@@ -1,4 +1,4 @@
-use Rattle.std.proofs.Common.{is_some, sym, ap, ◌∙◌}
+use Rattle.bucket_table.proofs.Words.{is_some, sym, ap, ◌∙◌}
 use Rattle.bucket_table.proofs.AskSteps.{grows}
 use Rattle.bucket_table.proofs.arrays.Arrays.asks_growth.Goals as goal
 

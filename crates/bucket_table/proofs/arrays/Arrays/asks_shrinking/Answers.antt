@@ -1,4 +1,4 @@
-use Rattle.std.proofs.Common.{◌<◌, is_some, sym, ap, ◌∙◌, arith}
+use Rattle.bucket_table.proofs.Words.{◌<◌, is_some, sym, ap, ◌∙◌, arith}
 use Rattle.bucket_table.specs.ResizePlan.{slots_of}
 use Rattle.bucket_table.specs.Sampling.{live_counts}
 use Rattle.bucket_table.proofs.AskSteps.{shrinks}

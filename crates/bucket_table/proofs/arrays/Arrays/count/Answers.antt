@@ -1,4 +1,5 @@
-use Rattle.std.proofs.Common.{arith, length-append}
+use Rattle.bucket_table.proofs.Words.{arith}
+use Rattle.std.proofs.Common.{length-append}
 use Rattle.bucket_table.specs.ArraysView.{old_buckets}
 use Rattle.bucket_table.specs.Relocation.{buckets_of, entries_among}
 use Rattle.bucket_table.proofs.arrays.Arrays.count.Goals as goal

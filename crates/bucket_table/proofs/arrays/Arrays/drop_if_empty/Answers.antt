@@ -1,6 +1,6 @@
-use Rattle.std.proofs.Common.{sym, ap, ◌∙◌}
+use Rattle.bucket_table.proofs.Words.{sym, ap, ◌∙◌}
 use Rattle.bucket_table.proofs.CountSteps.{dropped}
-use Rattle.bucket_table.proofs.Quietly.{quietly}
+use Rattle.bucket_table.proofs.MayResizes.{quietly}
 use Rattle.bucket_table.proofs.WriterSteps.{resize_keeps}
 use Rattle.bucket_table.proofs.arrays.Arrays.drop_if_empty.Goals as goal
 

@@ -1,5 +1,5 @@
-use Rattle.std.proofs.Common.{Bool, true, false, IsTrue, Ok, Err, subst, sym, ap, ◌∙◌, IfSome}
-use Rattle.bucket_table.specs.ArraysView.{IsRehash, entries_of}
+use Rattle.bucket_table.proofs.Words.{Bool, true, false, IsTrue, Ok, Err, subst, sym, ap, ◌∙◌, IfSome}
+use Rattle.bucket_table.specs.ArraysView.{LosesNoUnit, entries_of}
 use Rattle.bucket_table.specs.Steps.{Ends}
 use Rattle.bucket_table.proofs.Ending.{ends_by, goes, goes_pairs, refused, stays, with_rehash}
 use Rattle.bucket_table.proofs.arrays.Arrays.end_incremental_rehash.Goals as goal
@@ -35,7 +35,7 @@ returns-in-Ok-true-clause-rehash g c =
     c.in-Ok-true.ensures in
     rw (← now) (goes c.self.inside.rehash c.take.new.self c.in-Some.rehash c.end.new.self
     c.args.ticket c.args.success stood c.take.ensures.after
-    (subst (λ a. IfSome a.rehash IsRehash) (sym c.self.view_is) c.requires)
+    (subst (λ a. IfSome a.rehash LosesNoUnit) (sym c.self.view_is) c.requires)
     (ends_by c.in-Some.rehash c.rehash.inside.tickets c.end.new.self c.args.ticket c.args.success c.is_unit_killed-is_done.result (Ok true) tickets (rw (← buckets) c.is_unit_killed-is_done.ensures) ends))
 
 pub returns-in-Ok-true-clause-same_pairs : goal.returns-in-Ok-true-clause-same_pairs
@@ -48,7 +48,7 @@ returns-in-Ok-true-clause-same_pairs g c =
     c.in-Ok-true.ensures in
     goes_pairs c.self.inside.current c.self.inside.rehash c.take.new.self c.in-Some.rehash
     c.end.new.self c.args.ticket c.args.success stood c.take.ensures.after
-    (subst (λ a. IfSome a.rehash IsRehash) (sym c.self.view_is) c.requires)
+    (subst (λ a. IfSome a.rehash LosesNoUnit) (sym c.self.view_is) c.requires)
     (ends_by c.in-Some.rehash c.rehash.inside.tickets c.end.new.self c.args.ticket c.args.success c.is_unit_killed-is_done.result (Ok true) tickets (rw (← buckets) c.is_unit_killed-is_done.ensures) ends)
     ∙ ap (λ a. entries_of a) c.self.view_is
 

@@ -1,4 +1,4 @@
-use Rattle.std.proofs.Common.{◌∙◌, ◌≡◌, Ok, ap, arith, refl}
+use Rattle.bucket_table.proofs.Words.{◌∙◌, ◌≡◌, Ok, ap, arith, refl}
 use Rattle.bucket_table.proofs.FinishingUnits.{all_done, few_left, none_left, one_more}
 use Rattle.bucket_table.proofs.UnitSteps.{kept_both, kept_none}
 use Rattle.bucket_table.proofs.arrays.Arrays.finish_rehash.Goals as goal

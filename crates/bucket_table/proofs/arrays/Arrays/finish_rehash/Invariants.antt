@@ -1,4 +1,4 @@
-use Rattle.std.proofs.Common.{◌+◌, ◌≡◌, None}
+use Rattle.bucket_table.proofs.Words.{◌+◌, ◌≡◌, None}
 use Rattle.bucket_table.specs.ArraysView.{ArePlaced}
 use Rattle.bucket_table.specs.Finishing.{IsUnopened, units_left}
 use Rattle.bucket_table.specs.Rehashing.{KeepsArrays}

@@ -1,5 +1,4 @@
-use Rattle.std.proofs.Common.{Some, refl, rules, sym}
-use Rattle.std.proofs.lemmas.Option.{none-some}
+use Rattle.bucket_table.proofs.Words.{Some, refl, rules, sym, none-some}
 use Rattle.bucket_table.proofs.CountSteps.{none_started}
 use Rattle.bucket_table.proofs.FinishingUnits.{finishes, unit_finished}
 use Rattle.bucket_table.proofs.Placing.{placed_end, placed_start}

@@ -1,5 +1,4 @@
-use Rattle.std.proofs.Common.{◌∙◌, rules, arith, subst, ◌<◌}
-use Rattle.bucket_slots.specs.Sizing.{IsLength}
+use Rattle.bucket_table.proofs.Words.{◌∙◌, rules, arith, subst, ◌<◌, IsLength}
 use Rattle.bucket_table.proofs.CursorSteps.{ends, passes_at, sets_out, still_within, stops_at}
 use Rattle.bucket_table.proofs.PassingUnits.{begins_wide, passes_all, passes_found, passes_refused, worked_more, worked_none}
 use Rattle.bucket_table.proofs.Preparing.{bag_both, len_kept}

@@ -1,9 +1,8 @@
-use Rattle.std.proofs.Common.{ℕ, ◌<◌, ◌≤◌, ◌∙◌, inr, is_some, length, sym, ap, subst}
-use Rattle.std.proofs.lemmas.Bool.{false≢true}
-use Rattle.bucket_slots.specs.BucketView.{pairs_in}
+use Rattle.bucket_table.proofs.Words.{ℕ, ◌<◌, ◌≤◌, ◌∙◌, inr, is_some, length, sym, ap, subst, false≢true, pairs_in}
 use Rattle.bucket_table.proofs.AskSteps.{none_of}
 use Rattle.bucket_table.proofs.arrays.Arrays.free_home.Goals as goal
-use Rattle.bucket_table.proofs.arrays.Arrays.free_home.Goals.{else-is_checked-via-then-is_checked+else-len-ge-BUCKET_LEN, else-is_checked-via-else-is_checked}
+use Rattle.bucket_table.proofs.arrays.Arrays.free_home.Goals.{else-is_checked-via-then-is_checked+else-len-ge-BUCKET_LEN}
+use Rattle.bucket_table.proofs.arrays.Arrays.free_home.Goals.{else-is_checked-via-else-is_checked}
 
 pub returns-then-len-ge-BUCKET_LEN-clause-none : goal.returns-then-len-ge-BUCKET_LEN-clause-none
 returns-then-len-ge-BUCKET_LEN-clause-none g c =

@@ -1,5 +1,4 @@
-use Rattle.std.proofs.Common.{refl, sym, ◌∙◌}
-use Rattle.std.proofs.lemmas.Bool.{false≢true}
+use Rattle.bucket_table.proofs.Words.{refl, sym, ◌∙◌, false≢true}
 use Rattle.bucket_table.proofs.WriterSteps.{grown_err, grown_ok}
 use Rattle.bucket_table.proofs.arrays.Arrays.grow_at.Goals as goal
 

@@ -1,4 +1,4 @@
-use Rattle.std.proofs.Common.{Bool, subst}
+use Rattle.bucket_table.proofs.Words.{Bool, subst}
 use Rattle.bucket_table.specs.Units.{WorksRange}
 use Rattle.bucket_table.proofs.CursorSteps.{sources_worked}
 use Rattle.bucket_table.proofs.Preparing.{kept_worked, len_kept}

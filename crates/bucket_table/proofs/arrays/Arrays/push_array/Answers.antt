@@ -1,4 +1,4 @@
-use Rattle.std.proofs.Common.{◌≤◌, ℕ, sym, ap, subst}
+use Rattle.bucket_table.proofs.Words.{◌≤◌, ℕ, sym, ap, subst}
 use Rattle.bucket_table.proofs.ResizeSteps.{resized}
 use Rattle.bucket_table.proofs.arrays.Arrays.push_array.Goals as goal
 

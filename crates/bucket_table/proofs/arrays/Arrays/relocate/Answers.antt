@@ -1,9 +1,8 @@
-use Rattle.std.proofs.Common.{arith, refl, subst, sym, OnOk}
-use Rattle.bucket_slots.specs.ArrayView.{bucket_at}
+use Rattle.bucket_table.proofs.Words.{arith, refl, subst, sym, OnOk, bucket_at}
 use Rattle.bucket_table.specs.ArraysView.{AreArrays, ArePlaced, old_buckets}
 use Rattle.bucket_table.specs.Landings.{CarriesRecency}
 use Rattle.bucket_table.specs.Relocation.{buckets_of}
-use Rattle.bucket_table.proofs.Joining.{arrays_after, done_seen, inside, opened, placed_after, refused_seen}
+use Rattle.bucket_table.proofs.MovesInArrays.{arrays_after, done_seen, inside, opened, placed_after, refused_seen}
 use Rattle.bucket_table.proofs.arrays.Arrays.relocate.Goals as goal
 
 pub invariant_of-self : goal.invariant_of-self

@@ -1,4 +1,4 @@
-use Rattle.std.proofs.Common.{◌<◌, arith}
+use Rattle.bucket_table.proofs.Words.{◌<◌, arith}
 use Rattle.bucket_table.specs.ArraysView.{old_buckets}
 use Rattle.bucket_table.proofs.Spending.{spends_both, spends_none, spends_one, spends_same}
 use Rattle.bucket_table.proofs.UnitSteps.{old_inside, range_more, range_none, some_refused, some_worked}

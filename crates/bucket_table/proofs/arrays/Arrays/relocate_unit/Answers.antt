@@ -1,4 +1,5 @@
-use Rattle.std.proofs.Common.{◌≡◌, ◌*◌, length, ap, ◌∙◌, arith, mul_comm}
+use Rattle.bucket_table.proofs.Words.{◌≡◌, ◌*◌, length, ap, ◌∙◌, arith}
+use Rattle.std.proofs.Common.{mul_comm}
 use Rattle.bucket_table.specs.ArraysView.{old_buckets}
 use Rattle.bucket_table.proofs.UnitSteps.{unit_easy, unit_worked}
 use Rattle.bucket_table.proofs.arrays.Arrays.relocate_unit.Goals as goal

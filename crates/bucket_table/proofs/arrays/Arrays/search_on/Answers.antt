@@ -1,4 +1,4 @@
-use Rattle.std.proofs.Common.{◌%◌}
+use Rattle.bucket_table.proofs.Words.{◌%◌}
 use Rattle.bucket_table.proofs.KeySteps.{none_at_home, stands_found}
 use Rattle.bucket_table.proofs.LookUps.{null_is}
 use Rattle.bucket_table.proofs.arrays.Arrays.search_on.Goals as goal

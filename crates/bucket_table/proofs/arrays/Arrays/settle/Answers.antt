@@ -1,4 +1,4 @@
-use Rattle.std.proofs.Common.{subst}
+use Rattle.bucket_table.proofs.Words.{subst}
 use Rattle.bucket_table.specs.Finding.{KeepsMap}
 use Rattle.bucket_table.specs.Resizes.{with_minimum}
 use Rattle.bucket_table.proofs.ReserveSteps.{placed_raised}

@@ -1,5 +1,4 @@
-use Rattle.std.proofs.Common.{length, ap, arith, ◌∙◌}
-use Rattle.bucket_slots.specs.BucketView.{pairs_in}
+use Rattle.bucket_table.proofs.Words.{length, ap, arith, ◌∙◌, pairs_in}
 use Rattle.bucket_table.proofs.arrays.Arrays.shrink_emptied.Goals as goal
 
 pub shrink_left-requires : goal.shrink_left-requires

@@ -1,4 +1,4 @@
-use Rattle.std.proofs.Common.{length, refl, ap, sym, ◌∙◌}
+use Rattle.bucket_table.proofs.Words.{length, refl, ap, sym, ◌∙◌}
 use Rattle.bucket_table.proofs.WriterSteps.{kept_same, none_from_len}
 use Rattle.bucket_table.proofs.arrays.Arrays.shrink_left.Goals as goal
 

@@ -1,4 +1,4 @@
-use Rattle.std.proofs.Common.{ℕ, Ok, true, refl, arith}
+use Rattle.bucket_table.proofs.Words.{ℕ, Ok, true, refl, arith}
 use Rattle.bucket_table.specs.declared.arrays.plan.Plan.TheVariants.{GiveUp, Resize}
 use Rattle.bucket_table.proofs.ResizeSteps.{placed_by, resize_needs, same_entries}
 use Rattle.bucket_table.proofs.arrays.Arrays.try_resize.Goals as goal

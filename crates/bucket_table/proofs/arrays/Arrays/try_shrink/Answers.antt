@@ -1,6 +1,5 @@
-use Rattle.std.proofs.Common.{refl, sym, ◌∙◌}
-use Rattle.std.proofs.lemmas.Bool.{false≢true}
-use Rattle.bucket_table.proofs.Quietly.{quietly}
+use Rattle.bucket_table.proofs.Words.{refl, sym, ◌∙◌, false≢true}
+use Rattle.bucket_table.proofs.MayResizes.{quietly}
 use Rattle.bucket_table.proofs.WriterSteps.{kept_same, resize_keeps}
 use Rattle.bucket_table.proofs.arrays.Arrays.try_shrink.Goals as goal
 

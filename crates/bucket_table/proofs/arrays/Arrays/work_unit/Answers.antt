@@ -1,6 +1,5 @@
-use Rattle.std.proofs.Common.{Some, refl, ap, rules, sym}
+use Rattle.bucket_table.proofs.Words.{Some, refl, ap, rules, sym, none-some}
 use Rattle.bucket_table.proofs.CountSteps.{none_started}
-use Rattle.std.proofs.lemmas.Option.{none-some}
 use Rattle.bucket_table.proofs.Placing.{placed_end, placed_start}
 use Rattle.bucket_table.proofs.StayingKilled.{killed_both, killed_ended, killed_some, killed_started}
 use Rattle.bucket_table.proofs.OneUnit.{handed_runs, none_runs}

@@ -1,9 +1,8 @@
-use Rattle.std.proofs.Common.{◌*◌, ◌≡◌, length, sym, ap, ◌∙◌}
-use Rattle.std.proofs.lemmas.Bool.{false≢true}
-use Rattle.bucket_slots.specs.declared.bucket.TheConstants.{CACHE}
+use Rattle.bucket_table.proofs.Words.{◌*◌, ◌≡◌, length, sym, ap, ◌∙◌, false≢true, CACHE}
 use Rattle.bucket_table.proofs.WriterSteps.{asks_by, not_full, not_sampled}
 use Rattle.bucket_table.proofs.arrays.Arrays.writer_asks_growth.Goals as goal
-use Rattle.bucket_table.proofs.arrays.Arrays.writer_asks_growth.Goals.{else-this-eq-CACHE-via-then-this-eq-CACHE+else-num_slots-self, else-this-eq-CACHE-via-else-this-eq-CACHE}
+use Rattle.bucket_table.proofs.arrays.Arrays.writer_asks_growth.Goals.{else-this-eq-CACHE-via-then-this-eq-CACHE+else-num_slots-self}
+use Rattle.bucket_table.proofs.arrays.Arrays.writer_asks_growth.Goals.{else-this-eq-CACHE-via-else-this-eq-CACHE}
 
 pub returns-then-len : goal.returns-then-len
 returns-then-len g c =

@@ -1,4 +1,4 @@
-use Rattle.std.proofs.Common.{◌<◌, ap, ◌∙◌, arith, length}
+use Rattle.bucket_table.proofs.Words.{◌<◌, ap, ◌∙◌, arith, length}
 use Rattle.std.proofs.lemmas.List.{take_all}
 use Rattle.bucket_table.specs.Counting.{counted_to}
 use Rattle.bucket_table.specs.Relocation.{entries_among}

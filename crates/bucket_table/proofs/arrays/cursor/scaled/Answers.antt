@@ -1,4 +1,4 @@
-use Rattle.std.proofs.Common.{ℕ, ◌+◌, ◌<◌, subst}
+use Rattle.bucket_table.proofs.Words.{ℕ, ◌+◌, ◌<◌, subst}
 use Rattle.bucket_table.specs.Cursors.{bound_of}
 use Rattle.bucket_table.proofs.Bounds.{begins_early, begins_late, next_bound, wide}
 use Rattle.bucket_table.proofs.arrays.cursor.scaled.Goals as goal

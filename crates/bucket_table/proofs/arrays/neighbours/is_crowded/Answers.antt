@@ -1,5 +1,4 @@
-use Rattle.std.proofs.Common.{◌<◌, ◌≤◌, ◌+◌, ◌%◌, ◌^◌, length, refl, sym, ap, ◌∙◌, arith, rules}
-use Rattle.std.proofs.lemmas.Bool.{false≢true}
+use Rattle.bucket_table.proofs.Words.{◌<◌, ◌≤◌, ◌+◌, ◌%◌, ◌^◌, length, refl, sym, ap, ◌∙◌, arith, rules, false≢true}
 use Rattle.bucket_table.specs.Sampling.{live_counts, live_len}
 use Rattle.bucket_table.proofs.Samples.{small_within}
 use Rattle.bucket_table.proofs.Neighbours.{crowded, neighbour_within, not_crowded, not_full_more, small_counts, summed_more}

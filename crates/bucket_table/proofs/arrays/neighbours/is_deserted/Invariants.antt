@@ -1,4 +1,4 @@
-use Rattle.std.proofs.Common.{ℕ, ◌≡◌, ◌≤◌, ◌*◌, ◌-◌, ◌^◌, min}
+use Rattle.bucket_table.proofs.Words.{ℕ, ◌≡◌, ◌≤◌, ◌*◌, ◌-◌, ◌^◌, min}
 use Rattle.bucket_slots.specs.Sizing.{IsTooEmpty}
 use Rattle.bucket_table.specs.Sampling.{counted, live_counts}
 use Rattle.bucket_table.proofs.arrays.neighbours.is_deserted.Given as goal

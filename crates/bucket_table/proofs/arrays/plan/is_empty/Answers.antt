@@ -1,5 +1,5 @@
-use Rattle.std.proofs.Common.{◌<◌, length, refl, sym, ap, ◌∙◌, arith, below_more}
-use Rattle.std.proofs.lemmas.Bool.{false≢true}
+use Rattle.bucket_table.proofs.Words.{◌<◌, length, refl, sym, ap, ◌∙◌, arith, false≢true}
+use Rattle.std.proofs.Common.{below_more}
 use Rattle.bucket_table.specs.Sampling.{live_counts, live_len}
 use Rattle.bucket_table.proofs.Samples.{get_or-live_counts, length-live_counts}
 use Rattle.bucket_table.proofs.arrays.plan.is_empty.Goals as goal

@@ -1,4 +1,4 @@
-use Rattle.std.proofs.Common.{ℕ, ◌≡◌, ◌<◌, get_or}
+use Rattle.bucket_table.proofs.Words.{ℕ, ◌≡◌, ◌<◌, get_or}
 use Rattle.bucket_table.specs.Sampling.{live_counts}
 use Rattle.bucket_table.proofs.arrays.plan.is_empty.Given as goal
 

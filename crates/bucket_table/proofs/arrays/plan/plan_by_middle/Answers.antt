@@ -1,4 +1,4 @@
-use Rattle.std.proofs.Common.{ℕ, ◌*◌, ◌<◌, sym, ap, ◌∙◌, arith}
+use Rattle.bucket_table.proofs.Words.{ℕ, ◌*◌, ◌<◌, sym, ap, ◌∙◌, arith}
 use Rattle.bucket_table.specs.ResizePlan.{slots_of}
 use Rattle.bucket_table.specs.Sampling.{live_counts}
 use Rattle.bucket_table.proofs.PlanBounds.{given_up, middle_is, optimal_at, shrunk, slots_are, slots_in}

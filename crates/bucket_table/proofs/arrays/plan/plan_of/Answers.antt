@@ -1,4 +1,4 @@
-use Rattle.std.proofs.Common.{arith}
+use Rattle.bucket_table.proofs.Words.{arith}
 use Rattle.bucket_table.proofs.Samples.{large_within}
 use Rattle.bucket_table.proofs.arrays.plan.plan_of.Goals as goal
 

@@ -1,22 +1,5 @@
-use Rattle.std.proofs.Common.{
-  ℕ,
-  ◌≡◌,
-  ◌<◌,
-  ◌≤◌,
-  ◌*◌,
-  ◌+◌,
-  true,
-  false,
-  length,
-  sym,
-  ap,
-  subst,
-  ◌∙◌,
-  arith,
-  ⊎_elim,
-  get_or,
-}
-use Rattle.std.proofs.lemmas.Bool.{cases_lt, false≢true}
+use Rattle.bucket_table.proofs.Words.{ℕ, ◌≡◌, ◌<◌, ◌≤◌, ◌*◌, ◌+◌, true, false, length, sym, ap, subst, ◌∙◌, arith, ⊎_elim, get_or, cases_lt}
+use Rattle.bucket_table.proofs.Words.{false≢true}
 use Rattle.bucket_table.specs.ArraysView.{killed_flags}
 use Rattle.bucket_table.proofs.Resizing.{get_or-killed_flags, length-killed_flags}
 use Rattle.bucket_table.proofs.arrays.rehashing.is_unit_killed.Goals as goal

@@ -1,4 +1,4 @@
-use Rattle.std.proofs.Common.{◌≡◌, ◌<◌, ◌≤◌, ℕ, get_or, true, false}
+use Rattle.bucket_table.proofs.Words.{◌≡◌, ◌<◌, ◌≤◌, ℕ, get_or, true, false}
 use Rattle.bucket_table.specs.ArraysView.{killed_flags}
 use Rattle.bucket_table.proofs.arrays.rehashing.is_unit_killed.Given as goal
 

@@ -1,4 +1,4 @@
-use Rattle.std.proofs.Common.{◌<◌, ◌+◌, ap, ◌∙◌, arith, length}
+use Rattle.bucket_table.proofs.Words.{◌<◌, ◌+◌, ap, ◌∙◌, arith, length}
 use Rattle.bucket_table.specs.Sampling.{live_counts, live_len}
 use Rattle.bucket_table.proofs.Samples.{counted_more, get_or-live_counts, length-live_counts}
 use Rattle.bucket_table.proofs.arrays.sampling.sample.Goals as goal

@@ -1,4 +1,4 @@
-use Rattle.std.proofs.Common.{◌≡◌, ◌-◌, ◌^◌, min}
+use Rattle.bucket_table.proofs.Words.{◌≡◌, ◌-◌, ◌^◌, min}
 use Rattle.bucket_table.specs.Sampling.{counted, live_counts}
 use Rattle.bucket_table.proofs.arrays.sampling.sample.Given as goal
 

@@ -1,4 +1,4 @@
-use Rattle.bucket_table.proofs.MapKept.{one_map_kept, state_seen}
+use Rattle.bucket_table.proofs.MapKept.{one_map_kept, state_found}
 use Rattle.bucket_table.proofs.WriterSteps.{kept_prepared}
 use Rattle.bucket_table.proofs.hash_table.HashTable.finish_rehash.Goals as goal
 
@@ -7,4 +7,4 @@ invariant_of-self g c =
     one_map_kept g.K.PartialEq.eq g.met.K.Eq.laws (g.H.KeyHash.hash_of c.self.inside.hasher) c.self.inside.arrays c.finish_rehash.new.self c.self.invariant c.finish_rehash.ensures.kept c.finish_rehash.ensures.placed
 
 pub returns-clause-map : goal.returns-clause-map
-returns-clause-map g c = state_seen g.row.TYPE _ c.args.self.now c.finish_rehash.new.self c.self.view_is (kept_prepared _ c.finish_rehash.new.self c.finish_rehash.ensures.kept)
+returns-clause-map g c = rw (← c.self.view_is) (state_found g.row.TYPE _ _ c.finish_rehash.new.self (kept_prepared _ c.finish_rehash.new.self c.finish_rehash.ensures.kept))

@@ -1,6 +1,6 @@
-use Rattle.std.proofs.Common.{arith}
+use Rattle.bucket_table.proofs.Words.{arith}
 use Rattle.bucket_table.proofs.MapKept.{one_map_kept}
-use Rattle.bucket_table.proofs.TableCursor.{nothing_seen, sets_out_seen}
+use Rattle.bucket_table.proofs.TableCursor.{nothing_there, sets_out}
 use Rattle.bucket_table.proofs.hash_table.HashTable.first.Goals as goal
 
 pub invariant_of-self : goal.invariant_of-self
@@ -9,8 +9,8 @@ invariant_of-self g c =
 
 pub returns-clause-sets_out : goal.returns-clause-sets_out
 returns-clause-sets_out g c =
-    sets_out_seen g.row.TYPE g.H.KeyHash.hash_of _ c.args.self.now _ c.first_from.result c.first_from.new.self c.first_from.new.at c.self.view_is (omega arith) c.first_from.ensures.kept c.first_from.ensures.bag c.first_from.ensures.found
-    (c.first_from.ensures.passes 0 (λ wide. (omega arith, omega (arith, wide))))
+    rw (← c.self.view_is) (sets_out g.row.TYPE g.H.KeyHash.hash_of _ _ _ c.first_from.result c.first_from.new.self c.first_from.new.at (omega arith) c.first_from.ensures.kept c.first_from.ensures.bag c.first_from.ensures.found
+    (c.first_from.ensures.passes 0 (λ wide. (omega arith, omega (arith, wide)))))
 
 pub returns-clause-none : goal.returns-clause-none
-returns-clause-none g c = nothing_seen g.H.KeyHash.hash_of _ c.args.self.now _ c.first_from.result c.first_from.new.self c.first_from.new.at c.self.view_is (omega arith) c.first_from.ensures.kept c.first_from.ensures.found
+returns-clause-none g c = rw (← c.self.view_is) (nothing_there _ _ _ c.first_from.result c.first_from.new.self c.first_from.new.at (omega arith) c.first_from.ensures.kept c.first_from.ensures.found)

@@ -1,9 +1,10 @@
-use Rattle.std.proofs.Common.{◌∙◌, false, refl, rules, subst}
+use Rattle.bucket_table.proofs.Words.{◌∙◌, false, refl, rules, subst}
 use Rattle.bucket_table.specs.ArraysView.{IsOneMap}
 use Rattle.bucket_table.specs.Visits.{reading}
 use Rattle.bucket_table.proofs.ReadSteps.{bucket_seen, keeps_read, read_at, within_seen}
 use Rattle.bucket_table.proofs.UnitSteps.{kept_both, kept_none}
-use Rattle.bucket_table.proofs.Visiting.{WalkStands, locked_seen, over_seen, same_parts, stands_first, stands_next, walk_ended, walk_refused, walks_alone}
+use Rattle.bucket_table.proofs.Visiting.{WalkStands, locked_seen, over_seen, same_parts, stands_first, stands_next, walk_ended}
+use Rattle.bucket_table.proofs.Visiting.{walk_refused, walks_alone}
 use Rattle.bucket_table.proofs.WalkBegins.{begins_as_given}
 use Rattle.bucket_table.proofs.MapKept.{state_kept}
 use Rattle.bucket_table.proofs.hash_table.HashTable.for_each_reader_sync.Goals as goal

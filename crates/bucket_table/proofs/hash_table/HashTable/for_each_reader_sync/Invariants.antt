@@ -1,4 +1,4 @@
-use Rattle.std.proofs.Common.{◌-◌, ◌≡◌, None, false, length}
+use Rattle.bucket_table.proofs.Words.{◌-◌, ◌≡◌, None, false, length}
 use Rattle.bucket_table.specs.Rehashing.{KeepsArrays}
 use Rattle.bucket_table.specs.Relocation.{buckets_of}
 use Rattle.bucket_table.specs.Visits.{reading}

@@ -1,7 +1,8 @@
-use Rattle.std.proofs.Common.{◌∙◌, refl, rules, subst}
+use Rattle.bucket_table.proofs.Words.{◌∙◌, refl, rules, subst}
 use Rattle.bucket_table.specs.ArraysView.{IsOneMap}
 use Rattle.bucket_table.proofs.SettingsKept.{settings_same}
-use Rattle.bucket_table.proofs.Visiting.{WalkStands, begins_seen, locked_seen, over_seen, settings_walked, shrunk_at_end, stands_first, stands_next, unshrunk, walk_ended, walk_refused, walks_alone}
+use Rattle.bucket_table.proofs.Visiting.{WalkStands, begins_seen, locked_seen, over_seen, settings_walked, shrunk_at_end, stands_first}
+use Rattle.bucket_table.proofs.Visiting.{stands_next, unshrunk, walk_ended, walk_refused, walks_alone}
 use Rattle.bucket_table.proofs.hash_table.HashTable.for_each_writer_sync.Goals as goal
 use Rattle.bucket_table.proofs.hash_table.HashTable.for_each_writer_sync.Goals.{then-loop-more-test+else-index-len, else-loop-more-test}
 

@@ -1,4 +1,4 @@
-use Rattle.std.proofs.Common.{◌-◌, ◌≡◌, length}
+use Rattle.bucket_table.proofs.Words.{◌-◌, ◌≡◌, length}
 use Rattle.bucket_table.specs.Relocation.{buckets_of}
 use Rattle.bucket_table.proofs.Visiting.{WalkStands}
 use Rattle.bucket_table.proofs.hash_table.HashTable.for_each_writer_sync.Given as goal

@@ -1,5 +1,4 @@
-use Rattle.std.proofs.Common.{arith}
-use Rattle.std.proofs.lemmas.Grind.{common_steps}
+use Rattle.bucket_table.proofs.Words.{arith, common_steps}
 use Rattle.bucket_table.proofs.hash_table.HashTable.has_entry.Goals as goal
 
 pub returns-clause-has : goal.returns-clause-has

@@ -1,5 +1,4 @@
-use Rattle.std.proofs.Common.{ℕ, ◌≡◌, ◌%◌, ap, refl, rules, subst, sym, ◌∙◌}
-use Rattle.bucket_slots.specs.Clearing.{slots_after_insertion}
+use Rattle.bucket_table.proofs.Words.{ℕ, ◌≡◌, ◌%◌, ap, refl, rules, subst, sym, ◌∙◌, slots_after_insertion}
 use Rattle.bucket_table.specs.Finding.{FindsBucket}
 use Rattle.bucket_table.specs.Sides.{bucket_of, with_bucket}
 use Rattle.bucket_table.proofs.CallSteps.{then_added, there_before}

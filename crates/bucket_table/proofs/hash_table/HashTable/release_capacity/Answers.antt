@@ -1,4 +1,4 @@
-use Rattle.bucket_table.proofs.ReserveSteps.{one_map_raised, lowered_seen}
+use Rattle.bucket_table.proofs.ReserveSteps.{one_map_raised, lowers}
 use Rattle.bucket_table.proofs.hash_table.HashTable.release_capacity.Goals as goal
 
 pub invariant_of-self : goal.invariant_of-self
@@ -9,4 +9,4 @@ invariant_of-self g c =
 
 pub returns-clause-map : goal.returns-clause-map
 returns-clause-map g c =
-    lowered_seen g.row.TYPE c.args.released c.release_capacity.result _ c.args.self.now c.release_capacity.new.self c.self.view_is c.release_capacity.ensures.released c.release_capacity.ensures.kept
+    rw (← c.self.view_is) (lowers g.row.TYPE c.args.released c.release_capacity.result _ _ c.release_capacity.new.self c.release_capacity.ensures.released c.release_capacity.ensures.kept)

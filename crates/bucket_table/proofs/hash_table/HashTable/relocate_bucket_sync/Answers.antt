@@ -1,5 +1,5 @@
 use Rattle.bucket_table.proofs.CarriedPairs.{carried_still}
-use Rattle.bucket_table.proofs.MapKept.{kept_of, one_map_kept, state_seen}
+use Rattle.bucket_table.proofs.MapKept.{kept_of, one_map_kept, state_found}
 use Rattle.bucket_table.proofs.WriterSteps.{kept_prepared}
 use Rattle.bucket_table.proofs.hash_table.HashTable.relocate_bucket_sync.Goals as goal
 
@@ -10,7 +10,7 @@ invariant_of-self g c =
     (kept_of c.relocate.result c.args.index c.self.inside.arrays c.relocate.new.self e.done e.refused) e.placed
 
 pub returns-clause-map : goal.returns-clause-map
-returns-clause-map g c = state_seen g.row.TYPE _ c.args.self.now c.relocate.new.self c.self.view_is (kept_prepared _ c.relocate.new.self (kept_of c.relocate.result c.args.index c.self.inside.arrays c.relocate.new.self c.relocate.ensures.done c.relocate.ensures.refused))
+returns-clause-map g c = rw (← c.self.view_is) (state_found g.row.TYPE _ _ c.relocate.new.self (kept_prepared _ c.relocate.new.self (kept_of c.relocate.result c.args.index c.self.inside.arrays c.relocate.new.self c.relocate.ensures.done c.relocate.ensures.refused)))
 
 pub returns-clause-recency : goal.returns-clause-recency
 returns-clause-recency g c =

@@ -1,4 +1,4 @@
-use Rattle.bucket_table.proofs.ReserveSteps.{one_map_raised, raised_seen}
+use Rattle.bucket_table.proofs.ReserveSteps.{one_map_raised, raises}
 use Rattle.bucket_table.proofs.hash_table.HashTable.reserve_capacity.Goals as goal
 
 pub invariant_of-self : goal.invariant_of-self
@@ -9,4 +9,4 @@ invariant_of-self g c =
 
 pub returns-clause-map : goal.returns-clause-map
 returns-clause-map g c =
-    raised_seen g.row.TYPE c.args.additional c.reserve_capacity.result _ c.args.self.now c.reserve_capacity.new.self c.self.view_is c.reserve_capacity.ensures.reserved c.reserve_capacity.ensures.kept
+    rw (← c.self.view_is) (raises g.row.TYPE c.args.additional c.reserve_capacity.result _ _ c.reserve_capacity.new.self c.reserve_capacity.ensures.reserved c.reserve_capacity.ensures.kept)

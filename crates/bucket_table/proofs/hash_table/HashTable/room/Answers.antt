@@ -1,4 +1,4 @@
-use Rattle.std.proofs.Common.{◌<◌, length, rules, subst, sym}
+use Rattle.bucket_table.proofs.Words.{◌<◌, length, rules, subst, sym}
 use Rattle.bucket_table.specs.ArraysView.{TableView}
 use Rattle.bucket_table.specs.Relocation.{buckets_of}
 use Rattle.bucket_table.proofs.hash_table.HashTable.room.Goals as goal

@@ -1,6 +1,4 @@
-use Rattle.std.proofs.Common.{subst}
-use Rattle.bucket_table.specs.Rehashing.{KeepsArrays}
-use Rattle.bucket_table.proofs.MapKept.{one_map_kept, state_seen}
+use Rattle.bucket_table.proofs.MapKept.{one_map_kept, state_found}
 use Rattle.bucket_table.proofs.Placing.{placed_start}
 use Rattle.bucket_table.proofs.UnitSteps.{kept_started}
 use Rattle.bucket_table.proofs.WriterSteps.{kept_prepared}
@@ -17,10 +15,10 @@ pub returns-clause-map : goal.returns-clause-map
 returns-clause-map g c =
     let e = c.start_incremental_rehash.ensures in
     let kept = kept_started c.self.inside.arrays c.start_incremental_rehash.new.self c.start_incremental_rehash.result e.rehash e.others e.same_pairs in
-    state_seen g.row.TYPE _ c.args.self.now c.start_incremental_rehash.new.self c.self.view_is (kept_prepared _ c.start_incremental_rehash.new.self kept)
+    rw (← c.self.view_is) (state_found g.row.TYPE _ _ c.start_incremental_rehash.new.self (kept_prepared _ c.start_incremental_rehash.new.self kept))
 
 pub returns-clause-kept : goal.returns-clause-kept
 returns-clause-kept g c =
     let e = c.start_incremental_rehash.ensures in
     let kept = kept_started c.self.inside.arrays c.start_incremental_rehash.new.self c.start_incremental_rehash.result e.rehash e.others e.same_pairs in
-    subst (λ t. KeepsArrays t.arrays c.start_incremental_rehash.new.self) c.self.view_is kept
+    rw (← c.self.view_is) kept

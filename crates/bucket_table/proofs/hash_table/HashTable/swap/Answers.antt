@@ -1,4 +1,4 @@
-use Rattle.std.proofs.Common.{refl}
+use Rattle.bucket_table.proofs.Words.{refl}
 use Rattle.bucket_table.specs.MapState.{state_of}
 use Rattle.bucket_table.proofs.CallSteps.{then_changed}
 use Rattle.bucket_table.proofs.TakeSteps.{absent_before, same_taken}
@@ -6,25 +6,25 @@ use Rattle.bucket_table.proofs.hash_table.HashTable.swap.Goals as goal
 
 pub returns-in-Some-clause-map : goal.returns-in-Some-clause-map
 returns-in-Some-clause-map g c =
-    let keeps = c.prepare.ensures.prepared.map in
+    let keeps = c.fetch_home.ensures.prepared.map in
     let stands = c.in-Some.ensures.found in
     let wrote = c.swap_at.ensures.map in (
       wrote.0,
       same_taken g.K.PartialEq.eq c.args.key.now _ _ stands.pair (wrote.0, c.swap_at.result) stands.slot stands.there wrote.1,
-      then_changed (state_of g.row.TYPE c.args.self.now) (state_of g.row.TYPE c.prepare.new.self) (state_of g.row.TYPE c.swap_at.new.self) (wrote.0, c.swap_at.result) c.args.value keeps wrote.2,
+      then_changed (state_of g.row.TYPE c.args.self.now) (state_of g.row.TYPE c.fetch_home.new.self) (state_of g.row.TYPE c.swap_at.new.self) (wrote.0, c.swap_at.result) c.args.value keeps wrote.2,
     )
 
 pub returns-in-None-clause-map : goal.returns-in-None-clause-map
 returns-in-None-clause-map g c =
-    let keeps = c.prepare.ensures.prepared.map in
-    (refl, absent_before g.K.PartialEq.eq c.args.key.now (state_of g.row.TYPE c.args.self.now) (state_of g.row.TYPE c.prepare.new.self) keeps c.in-None.ensures.absent, keeps)
+    let keeps = c.fetch_home.ensures.prepared.map in
+    (refl, absent_before g.K.PartialEq.eq c.args.key.now (state_of g.row.TYPE c.args.self.now) (state_of g.row.TYPE c.fetch_home.new.self) keeps c.in-None.ensures.absent, keeps)
 
 pub returns-in-Some-clause-arrays : goal.returns-in-Some-clause-arrays
 returns-in-Some-clause-arrays g c = record {
-  between = c.prepare.new.self;
-  prepared = c.prepare.ensures.prepared;
+  between = c.fetch_home.new.self;
+  prepared = c.fetch_home.ensures.prepared;
   done = (c.in-Some.spot.is_old, c.in-Some.spot.index, c.in-Some.spot.at, c.swap_at.ensures.table);
 }
 
 pub returns-in-None-clause-arrays : goal.returns-in-None-clause-arrays
-returns-in-None-clause-arrays g c = record { between = c.prepare.new.self; prepared = c.prepare.ensures.prepared; done = refl }
+returns-in-None-clause-arrays g c = record { between = c.fetch_home.new.self; prepared = c.fetch_home.ensures.prepared; done = refl }

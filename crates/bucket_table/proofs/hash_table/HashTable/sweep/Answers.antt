@@ -1,4 +1,4 @@
-use Rattle.std.proofs.Common.{rules}
+use Rattle.bucket_table.proofs.Words.{rules}
 use Rattle.bucket_table.proofs.SweepSteps.{fewer_hashes, stands_first, stands_next}
 use Rattle.bucket_table.proofs.hash_table.HashTable.sweep.Goals as goal
 
@@ -7,10 +7,10 @@ loop-place-init g c = stands_first _ g.H.KeyHash.hash_of g.row.TYPE _ c.args.sel
 
 pub loop-place-preserved : goal.loop-place-preserved
 loop-place-preserved g c =
-    stands_next _ g.H.KeyHash.hash_of g.row.TYPE _ c.args.self.now c.loop-place.self c.retain_at-taken.new.self c.pass-place.new.self c.loop-place.count c.retain_at-taken.result c.saturating_add-count.result c.in-Ok.index c.loop-place.place c.pass-place.result c.pass-place.new.at
-    c.loop-place.invariant c.in-Ok.is c.sound.ensures.one_map.placed c.retain_at-taken.ensures.hasher c.retain_at-taken.ensures.retained (search rules) c.pass-place.ensures.map c.pass-place.ensures.bag c.pass-place.ensures.leaves c.pass-place.ensures.marks c.pass-place.ensures.departs
+    stands_next _ g.H.KeyHash.hash_of g.row.TYPE _ c.args.self.now c.loop-place.self c.retain_at-taken.new.self c.first_past_bucket-place.new.self c.loop-place.count c.retain_at-taken.result c.saturating_add-count.result c.in-Ok.index c.loop-place.place c.first_past_bucket-place.result c.first_past_bucket-place.new.at
+    c.loop-place.invariant c.in-Ok.is c.sound.ensures.one_map.placed c.retain_at-taken.ensures.hasher c.retain_at-taken.ensures.retained (search rules) c.first_past_bucket-place.ensures.map c.first_past_bucket-place.ensures.bag c.first_past_bucket-place.ensures.leaves c.first_past_bucket-place.ensures.marks c.first_past_bucket-place.ensures.departs
 
 pub loop-place-smaller : goal.loop-place-smaller
 loop-place-smaller g c =
-    fewer_hashes _ g.H.KeyHash.hash_of g.row.TYPE _ c.args.self.now c.loop-place.self c.retain_at-taken.new.self.arrays c.pass-place.new.self.arrays c.loop-place.count c.retain_at-taken.result c.in-Ok.index c.loop-place.place c.pass-place.result
-    c.loop-place.invariant c.in-Ok.is c.sound.ensures.long c.retain_at-taken.ensures.retained c.pass-place.ensures.leaves.1
+    fewer_hashes _ g.H.KeyHash.hash_of g.row.TYPE _ c.args.self.now c.loop-place.self c.retain_at-taken.new.self.arrays c.first_past_bucket-place.new.self.arrays c.loop-place.count c.retain_at-taken.result c.in-Ok.index c.loop-place.place c.first_past_bucket-place.result
+    c.loop-place.invariant c.in-Ok.is c.sound.ensures.long c.retain_at-taken.ensures.retained c.first_past_bucket-place.ensures.leaves.1

@@ -1,5 +1,4 @@
-use Rattle.bucket_table.proofs.MapKept.{one_map_found}
-use Rattle.bucket_table.proofs.ReserveSteps.{resized_seen}
+use Rattle.bucket_table.proofs.MapKept.{one_map_found, state_found}
 use Rattle.bucket_table.proofs.WriterSteps.{resize_keeps}
 use Rattle.bucket_table.proofs.hash_table.HashTable.try_resize.Goals as goal
 
@@ -13,9 +12,9 @@ invariant_of-self g c =
 pub returns-clause-map : goal.returns-clause-map
 returns-clause-map g c =
     let e = c.try_resize.ensures in
-    (resized_seen g.row.TYPE _ c.args.self.now c.try_resize.new.self c.try_resize.result c.self.view_is e.same_entries e.plan).0
+    rw (← c.self.view_is) (state_found g.row.TYPE _ _ c.try_resize.new.self (resize_keeps c.self.inside.arrays c.try_resize.new.self c.try_resize.result e.same_entries e.plan).0)
 
 pub returns-clause-bag : goal.returns-clause-bag
 returns-clause-bag g c =
     let e = c.try_resize.ensures in
-    (resized_seen g.row.TYPE _ c.args.self.now c.try_resize.new.self c.try_resize.result c.self.view_is e.same_entries e.plan).1
+    rw (← c.self.view_is) (resize_keeps c.self.inside.arrays c.try_resize.new.self c.try_resize.result e.same_entries e.plan).1

@@ -1,4 +1,4 @@
-use Rattle.std.proofs.Common.{◌∙◌}
+use Rattle.bucket_table.proofs.Words.{◌∙◌}
 use Rattle.bucket_table.proofs.LookUps.{home_bucket-is}
 use Rattle.bucket_table.proofs.hash_table.lookup.peek_home.Goals as goal
 

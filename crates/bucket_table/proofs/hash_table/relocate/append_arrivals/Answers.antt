@@ -1,5 +1,4 @@
-use Rattle.std.proofs.Common.{rules, arith, ap, ◌∙◌, ◌<◌, length, refl}
-use Rattle.bucket_slots.specs.BucketView.{Place}
+use Rattle.bucket_table.proofs.Words.{rules, arith, ap, ◌∙◌, ◌<◌, length, refl, Place}
 use Rattle.bucket_slots.specs.Evicting.{slots_appended}
 use Rattle.bucket_table.proofs.Arriving.{arriving_first, arriving_none, arriving_some, listable_now}
 use Rattle.bucket_table.proofs.hash_table.relocate.append_arrivals.Goals as goal

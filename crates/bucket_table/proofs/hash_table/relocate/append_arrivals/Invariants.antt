@@ -1,4 +1,4 @@
-use Rattle.std.proofs.Common.{take}
+use Rattle.bucket_table.proofs.Words.{take}
 use Rattle.bucket_table.specs.Landings.{ListsArrivals}
 use Rattle.bucket_table.proofs.hash_table.relocate.append_arrivals.Given as goal
 

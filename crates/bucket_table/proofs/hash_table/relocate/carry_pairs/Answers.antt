@@ -1,4 +1,4 @@
-use Rattle.std.proofs.Common.{rules, subst, sym, ◌∙◌, refl}
+use Rattle.bucket_table.proofs.Words.{rules, subst, sym, ◌∙◌, refl}
 use Rattle.bucket_table.specs.Relocation.{MovesInto}
 use Rattle.bucket_table.proofs.Carried.{can_move_unlisted, carried_over, carries_unlisted, is_cache, is_kept, moves_unlisted, order_back}
 use Rattle.bucket_table.proofs.Landings.{none_said}

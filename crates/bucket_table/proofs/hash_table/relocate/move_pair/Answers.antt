@@ -1,6 +1,5 @@
-use Rattle.std.proofs.Common.{rules, ap, slice_set}
-use Rattle.bucket_slots.specs.BucketView.{slot_in}
-use Rattle.bucket_slots.proofs.CallerLemmas.{live_not_free}
+use Rattle.bucket_table.proofs.Words.{rules, ap, slot_in, live_not_free}
+use Rattle.std.proofs.Common.{slice_set}
 use Rattle.bucket_slots.proofs.RoomCallerLemmas.{refused_full}
 use Rattle.bucket_table.proofs.LockedSteps.{pair_there}
 use Rattle.bucket_table.proofs.MovingPairs.{home_has_room}

@@ -1,4 +1,4 @@
-use Rattle.std.proofs.Common.{rules}
+use Rattle.bucket_table.proofs.Words.{rules}
 use Rattle.bucket_table.proofs.WalkBegins.{begins_as_given, begins_in, begins_nowhere}
 use Rattle.bucket_table.proofs.hash_table.walks.first_index.Goals as goal
 

@@ -1,4 +1,4 @@
-use Rattle.std.proofs.Common.{arith, refl}
+use Rattle.bucket_table.proofs.Words.{arith, refl}
 use Rattle.bucket_table.specs.ArraysView.{pairs_of}
 use Rattle.bucket_table.proofs.TicketSteps.{tickets_kept}
 use Rattle.bucket_table.proofs.WalkCounts.{clears_all, clears_below, emptied, emptied_below, keeps_emptied, none_counted}

@@ -1,4 +1,4 @@
-use Rattle.std.proofs.Common.{arith, refl}
+use Rattle.bucket_table.proofs.Words.{arith, refl}
 use Rattle.bucket_table.specs.ArraysView.{pairs_of}
 use Rattle.bucket_table.specs.MapState.{state_of}
 use Rattle.bucket_table.proofs.CallSteps.{kept}

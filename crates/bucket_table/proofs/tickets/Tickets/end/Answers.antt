@@ -1,4 +1,4 @@
-use Rattle.std.proofs.Common.{Bool, ap, ◌∙◌, sym, refl, rules}
+use Rattle.bucket_table.proofs.Words.{Bool, ap, ◌∙◌, sym, refl, rules}
 use Rattle.bucket_table.specs.Layout.{state_of}
 use Rattle.bucket_table.specs.Steps.{position_after}
 use Rattle.bucket_table.proofs.Handing.{ended, not_open, never_over}

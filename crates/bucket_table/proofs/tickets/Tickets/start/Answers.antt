@@ -1,4 +1,5 @@
-use Rattle.std.proofs.Common.{◌<◌, ◌*◌, length, ℕ, refl, arith, rules, mul_comm}
+use Rattle.bucket_table.proofs.Words.{◌<◌, ◌*◌, length, ℕ, refl, arith, rules}
+use Rattle.std.proofs.Common.{mul_comm}
 use Rattle.bucket_table.specs.Layout.{state_of}
 use Rattle.bucket_table.proofs.Handing.{handed_out}
 use Rattle.bucket_table.proofs.tickets.Tickets.start.Goals as goal

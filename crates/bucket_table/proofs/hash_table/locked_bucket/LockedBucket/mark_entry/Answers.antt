@@ -1,57 +1,47 @@
-use Rattle.std.proofs.Common.{Some, ap, subst, ◌≡◌, ◌∙◌}
-use Rattle.bucket_slots.specs.BucketView.{BucketView, slot_in}
-use Rattle.bucket_slots.specs.Marking.{slots_marked}
-use Rattle.bucket_slots.specs.Slots.{is_live, live_pair}
-use Rattle.bucket_table.proofs.LockedSteps.{ahead_is, bag_changed, bucket_is, marked, pair_there, table_is}
+use Rattle.bucket_table.proofs.Words.{ap, arith, refl, ◌∙◌, bucket_at, pairs_ahead}
+use Rattle.bucket_table.specs.Sides.{buckets_on}
+use Rattle.bucket_table.proofs.LockedSteps.{bag_with, pair_there, put_there}
+use Rattle.bucket_table.proofs.MapSteps.{marked}
+use Rattle.bucket_table.proofs.SideChanges.{changeable_locked}
 use Rattle.bucket_table.proofs.hash_table.locked_bucket.LockedBucket.mark_entry.Goals as goal
+
+pub bucket_of_mut-requires : goal.bucket_of_mut-requires
+bucket_of_mut-requires g c = (omega arith, (c.room_of.ensures, rw (← c.table.view_is) at c.args.self.now.locked.within))
+
+pub mark_removed-requires : goal.mark_removed-requires
+mark_removed-requires g c =
+    (c.room_of.ensures, (omega arith, (c.requires.index, rw c.bucket_of_mut.ensures.bucket (rw (← c.table.view_is) at c.requires.live_slot))))
 
 pub invariant_of-table : goal.invariant_of-table
 invariant_of-table g c =
     let o = c.args.self.now in
-    let lent = bucket_is _ o.table.now o.is_old o.index c.bucket_of_mut.result.now c.table.view_is c.bucket_of_mut.ensures.bucket in
-    let live = ap (λ (z : BucketView g.row.K.Denot g.row.V.Denot). is_live
-    (slot_in z c.args.at.now)) lent ∙ c.requires.live_slot in
-    let there = pair_there c.bucket_of_mut.result.now c.args.at.now live in
-    (marked g.K.PartialEq.eq g.H.KeyHash.hash_of g.met.K.Eq.laws g.row.TYPE _ o.table.now o.is_old o.index c.bucket_of_mut.result.now _ c.table.view_is c.table.invariant o.locked c.bucket_of_mut.ensures.bucket there.0 c.args.at.now (g.G.Generation.epoch_of c.args.generation.now) there.1 c.mark_removed.ensures.slots).sound.one_map
+    let locked = rw (← c.table.view_is) at o.locked in
+    let there = pair_there (bucket_at (buckets_on c.table.inside.arrays o.is_old) o.index) c.args.at.now (rw (← c.table.view_is) at c.requires.live_slot) in
+    rw (c.mark_removed.ensures.slots, c.bucket_of_mut.ensures.bucket) (marked g.met.K.Eq.laws g.H.KeyHash.hash_of g.row.TYPE o.is_old o.index c.table.invariant (changeable_locked _ _ _ locked) there.0 c.args.at.now (g.G.Generation.epoch_of c.args.generation.now) there.1).one_map
 
 pub invariant_of-self : goal.invariant_of-self
 invariant_of-self g c =
     let o = c.args.self.now in
-    let lent = bucket_is _ o.table.now o.is_old o.index c.bucket_of_mut.result.now c.table.view_is c.bucket_of_mut.ensures.bucket in
-    let live = ap (λ (z : BucketView g.row.K.Denot g.row.V.Denot). is_live
-    (slot_in z c.args.at.now)) lent ∙ c.requires.live_slot in
-    let there = pair_there c.bucket_of_mut.result.now c.args.at.now live in
-    record { locked = (marked g.K.PartialEq.eq g.H.KeyHash.hash_of g.met.K.Eq.laws g.row.TYPE _ o.table.now o.is_old o.index c.bucket_of_mut.result.now _ c.table.view_is c.table.invariant o.locked c.bucket_of_mut.ensures.bucket there.0 c.args.at.now (g.G.Generation.epoch_of c.args.generation.now) there.1 c.mark_removed.ensures.slots).sound.locked }
+    let locked = rw (← c.table.view_is) at o.locked in
+    let there = pair_there (bucket_at (buckets_on c.table.inside.arrays o.is_old) o.index) c.args.at.now (rw (← c.table.view_is) at c.requires.live_slot) in
+    record { locked = rw (c.mark_removed.ensures.slots, c.bucket_of_mut.ensures.bucket) ((marked g.met.K.Eq.laws g.H.KeyHash.hash_of g.row.TYPE o.is_old o.index c.table.invariant (changeable_locked _ _ _ locked) there.0 c.args.at.now (g.G.Generation.epoch_of c.args.generation.now) there.1).locked locked) }
 
 pub returns-clause-map : goal.returns-clause-map
 returns-clause-map g c =
     let o = c.args.self.now in
-    let lent = bucket_is _ o.table.now o.is_old o.index c.bucket_of_mut.result.now c.table.view_is c.bucket_of_mut.ensures.bucket in
-    let live = ap (λ (z : BucketView g.row.K.Denot g.row.V.Denot). is_live
-    (slot_in z c.args.at.now)) lent ∙ c.requires.live_slot in
-    let there = pair_there c.bucket_of_mut.result.now c.args.at.now live in (
-      there.0,
-      subst (λ (z : BucketView g.row.K.Denot g.row.V.Denot). live_pair
-          (slot_in z c.args.at.now) ≡ Some there.0) lent there.1,
-      (marked g.K.PartialEq.eq g.H.KeyHash.hash_of g.met.K.Eq.laws g.row.TYPE _ o.table.now
-          o.is_old o.index c.bucket_of_mut.result.now _ c.table.view_is c.table.invariant o.locked
-          c.bucket_of_mut.ensures.bucket there.0 c.args.at.now
-          (g.G.Generation.epoch_of c.args.generation.now) there.1 c.mark_removed.ensures.slots).pairs,
-    )
+    let locked = rw (← c.table.view_is) at o.locked in
+    let there = pair_there (bucket_at (buckets_on c.table.inside.arrays o.is_old) o.index) c.args.at.now (rw (← c.table.view_is) at c.requires.live_slot) in
+    (there.0, rw (← c.table.view_is) there.1, rw (← c.table.view_is, c.mark_removed.ensures.slots, c.bucket_of_mut.ensures.bucket) (marked g.met.K.Eq.laws g.H.KeyHash.hash_of g.row.TYPE o.is_old o.index c.table.invariant (changeable_locked _ _ _ locked) there.0 c.args.at.now (g.G.Generation.epoch_of c.args.generation.now) there.1).map)
 
 pub returns-clause-table : goal.returns-clause-table
-returns-clause-table g c =
-    let o = c.args.self.now in
-    table_is _ o.table.now o.is_old o.index c.bucket_of_mut.result.now _
-    (λ b. slots_marked b c.args.at.now (g.G.Generation.epoch_of c.args.generation.now))
-    c.table.view_is c.bucket_of_mut.ensures.bucket c.mark_removed.ensures.slots
+returns-clause-table g c = rw (← c.table.view_is, c.mark_removed.ensures.slots, c.bucket_of_mut.ensures.bucket) refl
 
 pub returns-clause-pairs_ahead : goal.returns-clause-pairs_ahead
 returns-clause-pairs_ahead g c =
     let o = c.args.self.now in
-    ahead_is g.K.PartialEq.eq g.H.KeyHash.hash_of g.met.K.Eq.laws g.row.TYPE _ o.table.now o.is_old o.index c.bucket_of_mut.result.now c.mark_removed.new.self c.table.view_is c.table.invariant o.locked c.bucket_of_mut.ensures.bucket c.mark_removed.new.at c.args.at.now c.mark_removed.ensures.pairs_ahead
+    let within = rw (← c.table.view_is) at o.locked.within in
+    rw (← c.table.view_is, put_there c.table.inside.arrays o.is_old o.index c.mark_removed.new.self within)
+    (c.mark_removed.ensures.pairs_ahead ∙ ap (λ b. pairs_ahead b c.args.at.now) c.bucket_of_mut.ensures.bucket)
 
 pub returns-clause-bag : goal.returns-clause-bag
-returns-clause-bag g c =
-    let o = c.args.self.now in
-    bag_changed _ o.table.now o.is_old o.index c.mark_removed.new.self c.table.view_is
+returns-clause-bag g c = rw (← c.table.view_is) (bag_with _ c.args.self.now.is_old c.args.self.now.index _)

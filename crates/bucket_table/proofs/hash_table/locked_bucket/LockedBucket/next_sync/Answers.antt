@@ -1,6 +1,6 @@
-use Rattle.std.proofs.Common.{Err, Ok, refl}
+use Rattle.bucket_table.proofs.Words.{Err, Ok, refl}
 use Rattle.bucket_table.proofs.MapKept.{one_map_found}
-use Rattle.bucket_table.proofs.SyncSteps.{advances_seen, next_locked, none_before, none_null, not_held, refused_beside}
+use Rattle.bucket_table.proofs.SyncSteps.{advances, next_locked, none_before, none_null, not_held, refused_beside}
 use Rattle.bucket_table.proofs.hash_table.locked_bucket.LockedBucket.next_sync.Goals as goal
 
 pub invariant_of-table : goal.invariant_of-table
@@ -15,14 +15,14 @@ pub invariant_of-self : goal.invariant_of-self
 invariant_of-self g c =
     let o = c.args.self in
     let e = c.in-Ok.ensures in
-    let a = advances_seen g.row.TYPE g.H.KeyHash.hash_of o.is_old o.index c.args.at.now c.advance.new.at _ o.table.now (Ok (c.in-Ok.is_old, c.in-Ok.index)) c.advance.new.self c.table.view_is e.kept e.bag e.stays e.leaves e.departs in
+    let a = rw c.table.view_is at (advances g.row.TYPE g.H.KeyHash.hash_of o.is_old o.index c.args.at.now c.advance.new.at c.table.inside.hasher c.table.inside.arrays (Ok (c.in-Ok.is_old, c.in-Ok.index)) c.advance.new.self e.kept e.bag e.stays e.leaves e.departs) in
     record { locked = next_locked g.row.TYPE g.H.KeyHash.hash_of o.is_old o.index c.args.at.now c.advance.new.at o.table.now _ (c.in-Ok.is_old, c.in-Ok.index) o.locked a }
 
 pub returns-in-Ok : goal.returns-in-Ok
 returns-in-Ok g c =
     let o = c.args.self in
     let e = c.in-Ok.ensures in
-    let a = advances_seen g.row.TYPE g.H.KeyHash.hash_of o.is_old o.index c.args.at.now c.advance.new.at _ o.table.now (Ok (c.in-Ok.is_old, c.in-Ok.index)) c.advance.new.self c.table.view_is e.kept e.bag e.stays e.leaves e.departs in (
+    let a = rw c.table.view_is at (advances g.row.TYPE g.H.KeyHash.hash_of o.is_old o.index c.args.at.now c.advance.new.at c.table.inside.hasher c.table.inside.arrays (Ok (c.in-Ok.is_old, c.in-Ok.index)) c.advance.new.self e.kept e.bag e.stays e.leaves e.departs) in (
       (refl, λ w. refl, tt),
       record {
         rests = tt;
@@ -39,7 +39,7 @@ pub returns-in-Err : goal.returns-in-Err
 returns-in-Err g c =
     let o = c.args.self in
     let e = c.in-Err.ensures in
-    let a = advances_seen g.row.TYPE g.H.KeyHash.hash_of o.is_old o.index c.args.at.now c.advance.new.at _ o.table.now (Err c.in-Err.missing) c.advance.new.self c.table.view_is e.kept e.bag e.stays e.leaves e.departs in (
+    let a = rw c.table.view_is at (advances g.row.TYPE g.H.KeyHash.hash_of o.is_old o.index c.args.at.now c.advance.new.at c.table.inside.hasher c.table.inside.arrays (Err c.in-Err.missing) c.advance.new.self e.kept e.bag e.stays e.leaves e.departs) in (
       (refl, λ w. tt, a),
       record {
         rests = tt;

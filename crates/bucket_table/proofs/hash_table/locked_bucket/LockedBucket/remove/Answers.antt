@@ -1,55 +1,52 @@
-use Rattle.std.proofs.Common.{Some, ap, subst, ◌≡◌, ◌∙◌, arith}
-use Rattle.bucket_slots.specs.BucketView.{BucketView, slot_in}
-use Rattle.bucket_slots.specs.Removing.{place_after, slots_without}
-use Rattle.bucket_slots.specs.Slots.{live_pair}
-use Rattle.bucket_table.proofs.LockedSteps.{bag_through, bucket_is, left_put, removed, shrinks_seen, taken_through}
+use Rattle.bucket_table.proofs.Words.{arith}
+use Rattle.bucket_table.proofs.LockedSteps.{bag_through, put_there, shrinks_after, taken_through}
+use Rattle.bucket_table.proofs.MapSteps.{removed}
 use Rattle.bucket_table.proofs.MapKept.{one_map_found}
+use Rattle.bucket_table.proofs.SideChanges.{changeable_locked}
 use Rattle.bucket_table.proofs.hash_table.locked_bucket.LockedBucket.remove.Goals as goal
 
-pub invariant_of-table : goal.invariant_of-table
-invariant_of-table g c =
-    let o = c.args.self in
-    let x = removed g.K.PartialEq.eq g.H.KeyHash.hash_of g.met.K.Eq.laws g.row.TYPE _ o.table.now o.is_old o.index c.bucket_of_mut-bucket.result.now _ c.table.view_is c.table.invariant o.locked c.bucket_of_mut-bucket.ensures.bucket c.remove-pair.result c.args.at.now c.remove-pair.ensures.pair c.remove-pair.ensures.slots in
-    let e = c.shrink_left.ensures in
-    let hash = g.H.KeyHash.hash_of c.table.inside.hasher in
-    one_map_found g.K.PartialEq.eq g.met.K.Eq.laws hash _ c.shrink_left.new.self x.sound.one_map e.kept (e.placed hash x.sound.one_map.placed)
+pub bucket_of_mut-bucket-requires : goal.bucket_of_mut-bucket-requires
+bucket_of_mut-bucket-requires g c = (omega arith, (c.room_of.ensures, rw (← c.table.view_is) at c.args.self.locked.within))
 
-pub returns-clause-map : goal.returns-clause-map
-returns-clause-map g c =
-    let o = c.args.self in
-    let x = removed g.K.PartialEq.eq g.H.KeyHash.hash_of g.met.K.Eq.laws g.row.TYPE _ o.table.now o.is_old o.index c.bucket_of_mut-bucket.result.now _ c.table.view_is c.table.invariant o.locked c.bucket_of_mut-bucket.ensures.bucket c.remove-pair.result c.args.at.now c.remove-pair.ensures.pair c.remove-pair.ensures.slots in
-    taken_through g.row.TYPE _ o.table.now o.is_old o.index _ c.remove-pair.result c.shrink_left.new.self x.pairs c.shrink_left.ensures.kept
-
-pub returns-clause-pair : goal.returns-clause-pair
-returns-clause-pair g c =
-    let o = c.args.self in
-    subst (λ (b : BucketView g.row.K.Denot g.row.V.Denot). live_pair (slot_in b c.args.at.now)
-    ≡ Some c.remove-pair.result) (bucket_is _ o.table.now o.is_old o.index
-    c.bucket_of_mut-bucket.result.now c.table.view_is c.bucket_of_mut-bucket.ensures.bucket)
-    c.remove-pair.ensures.pair
-
-pub returns-clause-bag : goal.returns-clause-bag
-returns-clause-bag g c =
-    let o = c.args.self in
-    bag_through _ o.table.now o.is_old o.index c.remove-pair.new.self c.shrink_left.new.self c.table.view_is c.shrink_left.ensures.bag
-
-pub returns-clause-arrays : goal.returns-clause-arrays
-returns-clause-arrays g c =
-    let o = c.args.self in
-    shrinks_seen _ o.table.now o.is_old o.index c.bucket_of_mut-bucket.result.now c.remove-pair.new.self
-    c.shrink_left.new.self (λ b. slots_without b c.args.at.now) c.table.view_is
-    o.locked.within c.bucket_of_mut-bucket.ensures.bucket c.remove-pair.ensures.slots
-    c.shrink_left.ensures.asked
+pub remove-pair-requires : goal.remove-pair-requires
+remove-pair-requires g c =
+    (c.room_of.ensures, (omega arith, (c.requires.not_index, rw c.bucket_of_mut-bucket.ensures.bucket (rw (← c.table.view_is) at c.requires.live_slot))))
 
 pub shrink_left-requires : goal.shrink_left-requires
 shrink_left-requires g c =
     let o = c.args.self in
-    let x = removed g.K.PartialEq.eq g.H.KeyHash.hash_of g.met.K.Eq.laws g.row.TYPE _ o.table.now o.is_old o.index c.bucket_of_mut-bucket.result.now _ c.table.view_is c.table.invariant o.locked c.bucket_of_mut-bucket.ensures.bucket c.remove-pair.result c.args.at.now c.remove-pair.ensures.pair c.remove-pair.ensures.slots in
-    (omega arith, (x.sound.locked.within, left_put _ o.table.now o.is_old o.index _ c.remove-pair.new.self c.table.view_is o.locked.within c.len-left.ensures))
+    let locked = rw (← c.table.view_is) at o.locked in
+    let x = removed g.met.K.Eq.laws g.H.KeyHash.hash_of g.row.TYPE o.is_old o.index c.table.invariant (changeable_locked _ _ _ locked) c.remove-pair.result c.args.at.now (rw c.bucket_of_mut-bucket.ensures.bucket at c.remove-pair.ensures.pair) in
+    (omega arith, (rw (c.remove-pair.ensures.slots, c.bucket_of_mut-bucket.ensures.bucket) x.within, rw (put_there c.table.inside.arrays o.is_old o.index c.remove-pair.new.self locked.within) c.len-left.ensures))
+
+pub invariant_of-table : goal.invariant_of-table
+invariant_of-table g c =
+    let o = c.args.self in
+    let locked = rw (← c.table.view_is) at o.locked in
+    let x = removed g.met.K.Eq.laws g.H.KeyHash.hash_of g.row.TYPE o.is_old o.index c.table.invariant (changeable_locked _ _ _ locked) c.remove-pair.result c.args.at.now (rw c.bucket_of_mut-bucket.ensures.bucket at c.remove-pair.ensures.pair) in
+    let e = rw (c.remove-pair.ensures.slots, c.bucket_of_mut-bucket.ensures.bucket) at c.shrink_left.ensures in
+    one_map_found g.K.PartialEq.eq g.met.K.Eq.laws _ _ c.shrink_left.new.self x.one_map e.kept (e.placed _ x.one_map.placed)
+
+pub returns-clause-map : goal.returns-clause-map
+returns-clause-map g c =
+    let o = c.args.self in
+    let locked = rw (← c.table.view_is) at o.locked in
+    let x = removed g.met.K.Eq.laws g.H.KeyHash.hash_of g.row.TYPE o.is_old o.index c.table.invariant (changeable_locked _ _ _ locked) c.remove-pair.result c.args.at.now (rw c.bucket_of_mut-bucket.ensures.bucket at c.remove-pair.ensures.pair) in
+    let e = rw (c.remove-pair.ensures.slots, c.bucket_of_mut-bucket.ensures.bucket) at c.shrink_left.ensures in
+    rw (← c.table.view_is) (taken_through g.row.TYPE _ _ _ c.shrink_left.new.self _ x.map e.kept)
+
+pub returns-clause-pair : goal.returns-clause-pair
+returns-clause-pair g c = rw (← c.table.view_is) (rw c.bucket_of_mut-bucket.ensures.bucket at c.remove-pair.ensures.pair)
+
+pub returns-clause-bag : goal.returns-clause-bag
+returns-clause-bag g c =
+    rw (← c.table.view_is) (bag_through _ c.args.self.is_old c.args.self.index c.remove-pair.new.self c.shrink_left.new.self c.shrink_left.ensures.bag)
+
+pub returns-clause-arrays : goal.returns-clause-arrays
+returns-clause-arrays g c =
+    let o = c.args.self in
+    let e = rw (c.remove-pair.ensures.slots, c.bucket_of_mut-bucket.ensures.bucket) at c.shrink_left.ensures in
+    rw (← c.table.view_is) (shrinks_after _ o.is_old o.index _ c.shrink_left.new.self (rw (← c.table.view_is) at o.locked.within) e.asked)
 
 pub returns-clause-place : goal.returns-clause-place
-returns-clause-place g c =
-    let o = c.args.self in
-    c.remove-pair.ensures.place
-    ∙ ap (λ (b : BucketView g.row.K.Denot g.row.V.Denot). place_after b c.args.at.now)
-    (bucket_is _ o.table.now o.is_old o.index c.bucket_of_mut-bucket.result.now c.table.view_is c.bucket_of_mut-bucket.ensures.bucket)
+returns-clause-place g c = rw (← c.table.view_is) (rw c.bucket_of_mut-bucket.ensures.bucket at c.remove-pair.ensures.place)

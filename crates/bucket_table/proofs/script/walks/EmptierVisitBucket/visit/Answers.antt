@@ -1,4 +1,4 @@
-use Rattle.std.proofs.Common.{rules}
+use Rattle.bucket_table.proofs.Words.{rules}
 use Rattle.bucket_table.proofs.WalkCounts.{empties_bucket}
 use Rattle.bucket_table.proofs.script.walks.EmptierVisitBucket.visit.Goals as goal
 

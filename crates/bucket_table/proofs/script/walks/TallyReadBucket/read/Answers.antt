@@ -1,4 +1,4 @@
-use Rattle.std.proofs.Common.{rules}
+use Rattle.bucket_table.proofs.Words.{rules}
 use Rattle.bucket_table.proofs.WalkCounts.{tallies_bucket}
 use Rattle.bucket_table.proofs.script.walks.TallyReadBucket.read.Goals as goal
 

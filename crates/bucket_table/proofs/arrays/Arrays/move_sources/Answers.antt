@@ -1,8 +1,7 @@
-use Rattle.std.proofs.Common.{Bool, arith, subst, sym}
-use Rattle.bucket_slots.specs.Homes.{IsHome}
+use Rattle.bucket_table.proofs.Words.{Bool, arith, subst, sym, IsHome}
 use Rattle.bucket_table.specs.Units.{WorksRange}
 use Rattle.bucket_table.proofs.Preparing.{ready_worked}
-use Rattle.bucket_table.proofs.arrays.Arrays.dedup.Goals as goal
+use Rattle.bucket_table.proofs.arrays.Arrays.move_sources.Goals as goal
 
 pub returns-clause-ready : goal.returns-clause-ready
 returns-clause-ready g c = λ done.

@@ -1,7 +1,7 @@
-use Rattle.std.proofs.Common.{is_some, sym, ap, ◌∙◌}
+use Rattle.bucket_table.proofs.Words.{is_some, sym, ap, ◌∙◌}
 use Rattle.bucket_table.proofs.AskSteps.{none_of}
 use Rattle.bucket_table.proofs.WriterSteps.{kept_made, placed_made, without_unit}
-use Rattle.bucket_table.proofs.arrays.Arrays.make_ready.Goals as goal
+use Rattle.bucket_table.proofs.arrays.Arrays.fetch_or_make.Goals as goal
 
 pub returns-clause-kept : goal.returns-clause-kept
 returns-clause-kept g c = kept_made c.args.self.now c.make_array.new.self c.in-Ok-make_array.ensures.made

@@ -1,12 +1,11 @@
-use Rattle.std.proofs.Common.{ℕ, ◌+◌, ◌^◌, ◌≡◌, ◌≤◌, ◌<◌, arith, length, subst, sym}
-use Rattle.bucket_slots.specs.Sizing.{IsLength}
+use Rattle.bucket_table.proofs.Words.{ℕ, ◌+◌, ◌^◌, ◌≡◌, ◌≤◌, ◌<◌, arith, length, subst, sym, IsLength}
 use Rattle.bucket_table.specs.ArraysView.{pairs_of}
 use Rattle.bucket_table.specs.Cursors.{HasNoneFrom, bound_of}
 use Rattle.bucket_table.specs.Relocation.{buckets_of}
 use Rattle.bucket_table.proofs.Bounds.{all_hashes}
 use Rattle.bucket_table.proofs.CursorSteps.{goes_later, no_map, none_past, reaches_on}
 use Rattle.bucket_table.proofs.PassingUnits.{passes_nowhere, passes_past}
-use Rattle.bucket_table.proofs.arrays.Arrays.leave.Goals as goal
+use Rattle.bucket_table.proofs.arrays.Arrays.first_past.Goals as goal
 
 pub returns-then-now-eq0-clause-found : goal.returns-then-now-eq0-clause-found
 returns-then-now-eq0-clause-found g c = record {

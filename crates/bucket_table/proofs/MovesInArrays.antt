@@ -1,17 +1,10 @@
 -- A bucket's move, as the arrays see it.
-use Rattle.std.proofs.Common.{ℕ, suc, ◌*◌, ◌<◌, ◌≤◌, ◌≡◌, ◌++◌, Bool, true, List, [], ◌∷◌, Option, Some, Result, Ok, Err, OnOk, OnErr, set, length, inl, inr, refl, sym, ap, subst, ◌∙◌, arith, get_or-set_other, get_or-set_same, length-set}
-use Rattle.std.proofs.lemmas.Bool.{cases_eq}
-use Rattle.std.proofs.lemmas.List.{map-set}
-use Rattle.std.proofs.lemmas.List.Elements.{All-cons, All-nil}
-use Rattle.std.proofs.lemmas.List.Sorted.{IsPermutation-refl}
-use Rattle.std.proofs.lemmas.Option.{same_Some}
-use Rattle.std.specs.List.{All}
-use Rattle.std.specs.List.Sorted.{IsPermutation}
-use Rattle.bucket_slots.specs.ArrayView.{bucket_at}
-use Rattle.bucket_slots.specs.BucketView.{BucketView, empty_bucket, pairs_in}
-use Rattle.bucket_slots.specs.Marking.{HasNoNewMark}
-use Rattle.bucket_slots.proofs.MarkCallerLemmas.{no_new-refl}
-use Rattle.bucket_table.specs.ArraysView.{AreArrays, ArePlaced, ArraysView, IsRehash, RehashView, killed_flags}
+use Rattle.bucket_table.proofs.Words.{ℕ, suc, ◌*◌, ◌<◌, ◌≤◌, ◌≡◌, ◌++◌, Bool, true, List, [], ◌∷◌, Option, Some, Result, Ok, Err, OnOk}
+use Rattle.bucket_table.proofs.Words.{OnErr, set, length, inl, inr, refl, sym, ap, subst, ◌∙◌, arith, get_or-set_other, length-set}
+use Rattle.bucket_table.proofs.Words.{cases_eq, map-set, All-cons, All-nil, IsPermutation-refl, same_Some, All, IsPermutation, bucket_at}
+use Rattle.bucket_table.proofs.Words.{BucketView, empty_bucket, pairs_in, HasNoNewMark, no_new-refl}
+use Rattle.std.proofs.Common.{get_or-set_same}
+use Rattle.bucket_table.specs.ArraysView.{AreArrays, ArePlaced, ArraysView, LosesNoUnit, RehashView, killed_flags}
 use Rattle.bucket_table.specs.Covered.{IsCovered}
 use Rattle.bucket_table.specs.Rehashing.{IsOldIndex, IsUnmoved, KeepsArrays, RelocatesAt}
 use Rattle.bucket_table.specs.Relocation.{AreTwoArrays, IsRelocated, KeepsEntries, entries_among, marks_among}
@@ -63,8 +56,8 @@ module _ {K V : Type 0} where
   pub rehash_after : {A E : Type 0} (hash : K → ℕ) (r : Result A E) (index : ℕ)
       (c l d m : List (BucketView K V)) (tickets : TicketState) → index < length l
       → OnOk r (IsRelocated index c l d m) → OnErr r (m ≡ l) → AreTwoArrays hash d m
-      → IsRehash (record { buckets = l; tickets = tickets })
-      → IsRehash (record { buckets = m; tickets = tickets })
+      → LosesNoUnit (record { buckets = l; tickets = tickets })
+      → LosesNoUnit (record { buckets = m; tickets = tickets })
   rehash_after hash (Ok x) index c l d m tickets within moved same law was = record {
     covered = subst (λ (bs : List (BucketView K V)). IsCovered (killed_flags bs) tickets)
         (sym (set_is l m index within moved.linked_len moved.other_linked))
@@ -77,7 +70,7 @@ module _ {K V : Type 0} where
         law.killed_empty;
   }
   rehash_after hash (Err e) index c l d m tickets within moved same law was =
-      subst (λ (bs : List (BucketView K V)). IsRehash (record { buckets = bs; tickets = tickets }))
+      subst (λ (bs : List (BucketView K V)). LosesNoUnit (record { buckets = bs; tickets = tickets }))
       (sym same) was
 
   len_after : {A E : Type 0} (r : Result A E) (index : ℕ) (c l d m : List (BucketView K V))

@@ -1,5 +1,5 @@
 -- A resize that says nothing of want of memory.
-use Rattle.std.proofs.Common.{Bool, Result, Ok, Err, inl, inr}
+use Rattle.bucket_table.proofs.Words.{Bool, Result, Ok, Err, inl, inr}
 use Rattle.bucket_table.specs.ArraysView.{ArraysView}
 use Rattle.bucket_table.specs.Resizes.{MayResize, Resizes}
 use Rattle.bucket_table.specs.declared.arrays.plan.Plan.{Plan}
