@@ -1,7 +1,7 @@
 -- What a table tells of itself, by its arrays.
 use Rattle.std.proofs.Common.{◌≡◌, ℕ, nat_eq, refl}
-use Rattle.bucket_table.specs.ArraysView.{IsOneMap, TableView}
-use Rattle.bucket_table.specs.Hashes.{script_hash}
+use Rattle.bucket_table.specs.Views.ArraysView.{IsOneMap, TableView}
+use Rattle.bucket_table.specs.Scripts.Hashes.{script_hash}
 use Rattle.bucket_table.specs.declared.script.hashes.ScriptHash.{ScriptHash}
 use Rattle.bucket_table.specs.declared.script.reply.Reply.{Reply}
 use Rattle.bhtable.specs.Answers.{Tells, told}

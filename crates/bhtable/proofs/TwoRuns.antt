@@ -1,11 +1,11 @@
 -- Runs of the same calls on a map and on tickets are one run on a script's table.
 use Rattle.std.proofs.Common.{◌≡◌, ℕ, ◌==◌, false, List, [], ◌∷◌, Option, length, nat_eq, refl, sym, subst}
-use Rattle.bucket_table.specs.Calls.{Step}
-use Rattle.bucket_table.specs.Covered.{RehashState}
-use Rattle.bucket_table.specs.Hashes.{script_hash}
-use Rattle.bucket_table.specs.MapState.{MapState}
-use Rattle.bucket_table.specs.Runs.{Run}
-use Rattle.bucket_table.specs.TicketCalls.{TicketStep}
+use Rattle.bucket_table.specs.Scripts.Calls.{Step}
+use Rattle.bucket_table.specs.Rehash.Covered.{RehashState}
+use Rattle.bucket_table.specs.Scripts.Hashes.{script_hash}
+use Rattle.bucket_table.specs.Map.MapState.{MapState}
+use Rattle.bucket_table.specs.Scripts.Runs.{Run}
+use Rattle.bucket_table.specs.Scripts.TicketCalls.{TicketStep}
 use Rattle.bucket_table.specs.declared.script.call.Call.{Call}
 use Rattle.bucket_table.specs.declared.script.hashes.ScriptHash.{ScriptHash}
 use Rattle.bucket_table.specs.declared.script.reply.Reply.{Reply}
@@ -20,7 +20,7 @@ joined call [] (reply ∷ []) old new (map, step, last) (state, ticket_step, las
   new,
   (
     subst (λ (m : MapState ℕ ℕ ScriptHash). Step nat_eq script_hash old.map call reply m) (sym last) step,
-    subst (λ (t : Option RehashState). TicketStep old.tickets call reply t) (sym last_state) ticket_step,
+    subst (λ (t : RehashState). TicketStep old.tickets call reply t) (sym last_state) ticket_step,
   ),
   refl,
 )

@@ -1,14 +1,13 @@
 -- What the lines of a script are answered.
-use Rattle.std.specs.Prelude.{ℕ, ◌*◌, ◌≡◌, ◌⊎◌, ◌<◌, ◌≤◌, List, [], ◌∷◌, ◌++◌, Option, None, Some, length, nat_eq}
+use Rattle.std.specs.Prelude.{ℕ, Bool, ◌*◌, ◌≡◌, ◌⊎◌, ◌<◌, ◌≤◌, List, [], ◌∷◌, ◌++◌, Option, None, Some, length, nat_eq}
 use Rattle.bucket_slots.specs.declared.bucket.TheConstants.{CACHE, INDEX, MAP}
-use Rattle.bucket_table.specs.ArraysView.{ArraysView, IsOneMap}
-use Rattle.bucket_table.specs.Calls.{Step}
-use Rattle.bucket_table.specs.Covered.{RehashState}
-use Rattle.bucket_table.specs.Hashes.{script_hash}
-use Rattle.bucket_table.specs.MapState.{MapState, state_of}
-use Rattle.bucket_table.specs.Relocation.{buckets_of}
-use Rattle.bucket_table.specs.State.{word_of}
-use Rattle.bucket_table.specs.TicketCalls.{TicketStep, tickets_of}
+use Rattle.bucket_table.specs.Views.ArraysView.{ArraysView, IsOneMap, killed_flags}
+use Rattle.bucket_table.specs.Scripts.Calls.{Step}
+use Rattle.bucket_table.specs.Rehash.Covered.{RehashState}
+use Rattle.bucket_table.specs.Scripts.Hashes.{script_hash}
+use Rattle.bucket_table.specs.Map.MapState.{MapState, state_of}
+use Rattle.bucket_table.specs.Rehash.State.{TicketState, word_of}
+use Rattle.bucket_table.specs.Scripts.TicketCalls.{TicketStep, no_rehash, rehash_of}
 use Rattle.bucket_table.specs.declared.script.call.Call.{Call}
 use Rattle.bucket_table.specs.declared.script.hashes.ScriptHash.{ScriptHash}
 use Rattle.bucket_table.specs.declared.script.reply.Reply.{Reply}
@@ -24,10 +23,10 @@ use Rattle.bhtable.specs.declared.request.Question.TheVariants.{Slots, Word}
 use Rattle.bhtable.specs.declared.request.Request.{Request}
 use Rattle.bhtable.specs.declared.request.Request.TheVariants.{New, Call as Calls, Question as Questions, Epoch}
 
--- what a script is answered from: the map, the tickets of the old array where one stands, and the number of buckets of the current one
+-- what a script is answered from: the map, the tickets of the old array, and the number of buckets of the current one
 pub record ScriptTable : Type 0 where
   pub map : MapState ℕ ℕ ScriptHash
-  pub tickets : Option RehashState
+  pub tickets : RehashState
   pub len : ℕ
 
 -- the letter of a kind
@@ -43,7 +42,7 @@ fresh_map new =
 
 -- a fresh table has no pairs and no array
 abbrev pub fresh_table : NewTable → ScriptTable
-fresh_table new = record { map = fresh_map new; tickets = None; len = 0 }
+fresh_table new = record { map = fresh_map new; tickets = no_rehash; len = 0 }
 
 -- a call is answered by the map and by the tickets
 abbrev pub ScriptStep : ScriptTable → Call ℕ ℕ → Reply ℕ ℕ → ScriptTable → Type 0
@@ -51,21 +50,21 @@ ScriptStep old call reply new =
     Step nat_eq script_hash old.map call reply new.map × TicketStep old.tickets call reply new.tickets
 
 -- the rehash word, and none where no old array stands
-abbrev pub word_reply : Option RehashState → Reply ℕ ℕ
-word_reply None = NoWork
-word_reply (Some state) = Number (word_of state.tickets)
+abbrev pub word_reply : List Bool → TicketState → Reply ℕ ℕ
+word_reply [] tickets = NoWork
+word_reply (flag ∷ flags) tickets = Number (word_of tickets)
 
 -- what arrays tell: 32 slots for each bucket of the current one, and the rehash word of the old one
 abbrev pub told : ArraysView ℕ ℕ → Question → Reply ℕ ℕ
-told arrays Slots = Number (32 * length (buckets_of arrays.current))
-told arrays Word = word_reply (tickets_of arrays)
+told arrays Slots = Number (32 * length arrays.current)
+told arrays Word = word_reply (killed_flags arrays.linked) arrays.tickets
 
 -- the arrays are one map, and it is that of the table, as are their tickets and the length of the current one
 pub record AreArraysOf (table : ScriptTable) (arrays : ArraysView ℕ ℕ) : Type 0 where
   pub one_map : IsOneMap nat_eq (script_hash table.map.hasher) arrays
   pub map : table.map ≡ state_of table.map.kind (record { hasher = table.map.hasher; arrays = arrays })
-  pub tickets : table.tickets ≡ tickets_of arrays
-  pub len : table.len ≡ length (buckets_of arrays.current)
+  pub tickets : table.tickets ≡ rehash_of arrays
+  pub len : table.len ≡ length arrays.current
 
 -- the table tells of its arrays
 abbrev pub Tells : ScriptTable → Question → Reply ℕ ℕ → Type 0

@@ -3,18 +3,19 @@
 //! Calls are gathered and given to the table together, since it makes room for all their replies at
 //! once. They are answered before a `new`, an `epoch` and a question, before the output is written,
 //! and where 1,024 wait.
-ghost use Rattle.std.specs.Prelude.{◌≡◌, ◌⊎◌, ◌≤◌, ◌↔◌, ℕ, List, [], ◌∷◌, ◌++◌, Option, IfErr, IfOk, IsSome, MatchResult, OnErr, OnOk, length, nat_eq, true};
+ghost use Rattle.std.specs.Prelude.{◌≡◌, ◌⊎◌, ◌≤◌, ◌↔◌, ℕ, List, [], ◌∷◌, ◌++◌, Option, IfErr, IfOk, IsSome, MatchResult, OnErr, OnOk};
+ghost use Rattle.std.specs.Prelude.{length, nat_eq, true};
 ghost use Rattle.bhtable.specs.Answers.{Tells, fresh_table, told};
 ghost use Rattle.bhtable.specs.Layout.Stops.{IsLack, IsOutputUpTo};
 ghost use Rattle.bhtable.specs.Outputs.{HasAnswered};
 ghost use Rattle.bhtable.specs.Requests.{AreLimits, Asks};
 ghost use Rattle.bhtable.specs.Layout.Sessions.{HasEnded, HasReplied, HasStopped, HasTaken, IsBadAt, table_at_hand, table_of};
 ghost use Rattle.bhtable.specs.Words.{parts_of};
-ghost use Rattle.bucket_table.specs.ArraysView.{IsOneMap};
-ghost use Rattle.bucket_table.specs.Calls.{Step};
-ghost use Rattle.bucket_table.specs.Hashes.{script_hash};
-ghost use Rattle.bucket_table.specs.Runs.{Run};
-ghost use Rattle.bucket_table.specs.TicketCalls.{TicketStep};
+ghost use Rattle.bucket_table.specs.Views.ArraysView.{IsOneMap};
+ghost use Rattle.bucket_table.specs.Scripts.Calls.{Step};
+ghost use Rattle.bucket_table.specs.Scripts.Hashes.{script_hash};
+ghost use Rattle.bucket_table.specs.Scripts.Runs.{Run};
+ghost use Rattle.bucket_table.specs.Scripts.TicketCalls.{TicketStep};
 
 use crate::replies::Replies;
 use crate::request::{Kind, NewTable, Question, Request, request_in};

@@ -42,3 +42,25 @@ pub use Rattle.std.proofs.lemmas.Option.{none-some, same_Some}
 pub use Rattle.std.specs.Cmp.{IsEquivalence}
 pub use Rattle.std.specs.List.{All, AllByRecursion, Contains, IsDistinct}
 pub use Rattle.std.specs.List.Sorted.{IsPermutation}
+pub use Rattle.bucket_table.specs.Views.ArraysView.{AreArrays, ArePlaced, AreSourcesKilled, ArraysView, IsOneMap, LosesNoUnit, TableView}
+pub use Rattle.bucket_table.specs.Views.ArraysView.{entries_of, killed_flags, marks_of, pairs_of}
+pub use Rattle.bucket_table.specs.Resize.Asking.{AsksShrinking}
+pub use Rattle.bucket_table.specs.Map.Counting.{counted_to}
+pub use Rattle.bucket_table.specs.Walking.Cursors.{HasNoneFrom, bound_of}
+pub use Rattle.bucket_table.specs.Views.Keeping.{Keeps, KeepsArrays, KeepsOpenTickets}
+pub use Rattle.bucket_table.specs.Layout.Landings.{landing_of}
+pub use Rattle.bucket_table.specs.Views.Locking.{IsLocked}
+pub use Rattle.bucket_table.specs.Map.LookingUp.{IsAbsent}
+pub use Rattle.bucket_table.specs.Map.MapState.{KeepsPairs, MapState}
+pub use Rattle.bucket_table.specs.Rehash.Rehashing.{EndsRehash, IsUnmoved, RelocatesAt}
+pub use Rattle.bucket_table.specs.Rehash.Relocation.{AreHome, AreTwoArrays, IsEntryHome, IsVacant, KeepsEntries, MovesInto, entries_among}
+pub use Rattle.bucket_table.specs.Rehash.Relocation.{home_of}
+pub use Rattle.bucket_table.specs.Rehash.Relocation.{homed_len, marks_among}
+pub use Rattle.bucket_table.specs.Resize.ResizePlan.{slots_of}
+pub use Rattle.bucket_table.specs.Resize.Sampling.{counted, live_counts, live_len}
+pub use Rattle.bucket_table.specs.Views.Sides.{arrays_with, bucket_on, buckets_on}
+pub use Rattle.bucket_table.specs.Rehash.State.{TicketState, first_tickets}
+pub use Rattle.bucket_table.specs.Rehash.Steps.{Ends, HandsOut, Starts}
+pub use Rattle.bucket_table.specs.Rehash.Units.{SpendsSome, WorksUnits}
+pub use Rattle.bucket_table.specs.Walking.Visits.{reading}
+pub use Rattle.bucket_table.specs.Walking.Walks.{has_home_in}

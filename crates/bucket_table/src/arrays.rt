@@ -1,11 +1,10 @@
 //! The arrays of a table: a current one, and an old one while a rehash is on.
-ghost use Rattle.std.specs.Prelude.{◌≡◌, ◌^◌, ◌≤◌, ◌<◌, ◌↔◌, ℕ, None, IfSome, IsSome, IsTrue, length, option_map};
+ghost use Rattle.std.specs.Prelude.{◌≡◌, ◌^◌, ◌≤◌, ◌<◌, ◌↔◌, ℕ, [], IsTrue, MatchOption, length};
 ghost use Rattle.bucket_slots.specs.Homes.{IsHome};
 ghost use Rattle.bucket_slots.specs.Sizing.{IsLength, IsPowerIn};
-ghost use Rattle.bucket_table.specs.ArraysView.{AreArrays, old_buckets};
-ghost use Rattle.bucket_table.specs.Relocation.{buckets_of};
-ghost use Rattle.bucket_table.specs.Sides.{buckets_on};
-ghost use Rattle.bucket_table.specs.State.{word_of};
+ghost use Rattle.bucket_table.specs.Views.ArraysView.{AreArrays, list_of};
+ghost use Rattle.bucket_table.specs.Views.Sides.{buckets_on};
+ghost use Rattle.bucket_table.specs.Rehash.State.{IsTicketState, first_tickets, word_of};
 
 mod counting;
 mod cursor;
@@ -30,39 +29,25 @@ pub(crate) use searching::Spot;
 use std::alloc::Global;
 use std::marker::Model;
 
-/// An old array, and its tickets.
-#[derive(Drop)]
-pub(crate) struct Rehash<K, V, L: LruList, const TYPE: u8> {
-    array: BucketArray<K, V, L, TYPE>,
-    tickets: Tickets,
-}
-
-impl<K, V, L: LruList, const TYPE: u8> Model for Rehash<K, V, L, TYPE> {
-    ghost use Rattle.bucket_table.specs.ArraysView.{RehashView};
-
-    ghost Value = { RehashView K V };
-
-    ghost view = { λ rehash. record { buckets = rehash.array; tickets = rehash.tickets } };
-}
-
-/// A current array, and an old one while a rehash is on.
+/// A current array, and an old one with its tickets while a rehash is on.
 #[derive(Drop)]
 pub struct Arrays<K, V, L: LruList, const TYPE: u8> {
     alloc: Global,
     minimum: usize,
     maximum: usize,
     current: Option<BucketArray<K, V, L, TYPE>>,
-    rehash: Option<Rehash<K, V, L, TYPE>>,
+    linked: Option<BucketArray<K, V, L, TYPE>>,
+    tickets: Tickets,
 }
 
 impl<K, V, L: LruList, const TYPE: u8> Model for Arrays<K, V, L, TYPE> {
-    ghost use Rattle.bucket_table.specs.ArraysView.{AreArrays, ArraysView};
+    ghost use Rattle.bucket_table.specs.Views.ArraysView.{AreArrays, ArraysView, list_of};
 
     ghost Value = { ArraysView K V };
 
-    ghost view = { λ arrays. record { minimum = arrays.minimum; maximum = arrays.maximum; current = arrays.current; rehash = arrays.rehash } };
+    ghost view = { λ arrays. record { minimum = arrays.minimum; maximum = arrays.maximum; current = list_of arrays.current; linked = list_of arrays.linked; tickets = arrays.tickets } };
 
-    ghost invariant = { λ arrays. AreArrays (record { minimum = arrays.minimum; maximum = arrays.maximum; current = arrays.current; rehash = arrays.rehash }) };
+    ghost invariant = { λ arrays. AreArrays (record { minimum = arrays.minimum; maximum = arrays.maximum; current = list_of arrays.current; linked = list_of arrays.linked; tickets = arrays.tickets }) };
 }
 
 impl<K, V, L: LruList, const TYPE: u8> Arrays<K, V, L, TYPE> {
@@ -70,14 +55,15 @@ impl<K, V, L: LruList, const TYPE: u8> Arrays<K, V, L, TYPE> {
     pub fn new(alloc: Global, minimum: usize, maximum: usize) -> Self
         requires power { IsPowerIn 64 (2 ^ 63) maximum }
         requires bounded { minimum ≤ maximum }
-        ensures { result ≡ record { minimum = minimum; maximum = maximum; current = None; rehash = None } }
+        ensures { result ≡ record { minimum = minimum; maximum = maximum; current = []; linked = []; tickets = first_tickets 0 } }
     {
         Arrays {
             alloc,
             minimum,
             maximum,
             current: None,
-            rehash: None,
+            linked: None,
+            tickets: Tickets::none(alloc),
         }
     }
 
@@ -96,54 +82,58 @@ impl<K, V, L: LruList, const TYPE: u8> Arrays<K, V, L, TYPE> {
     }
 
     /// Tests whether an old array stands.
+    #[inline(always)]
     pub(crate) fn has_old(&self) -> bool
-        ensures { IsTrue result ↔ IsSome self.now.rehash }
+        ensures { IsTrue result ↔ (0 < length self.now.linked) }
     {
-        self.rehash.is_some()
+        stands(&self.linked)
+    }
+
+    /// Tests whether a current array stands.
+    #[inline(always)]
+    pub(crate) fn has_current(&self) -> bool
+        ensures { IsTrue result ↔ (0 < length self.now.current) }
+    {
+        stands(&self.current)
     }
 
     /// Returns the rehash word; `None` where no old array stands.
     pub(crate) fn word(&self) -> Option<usize>
-        ensures word { result ≡ option_map (λ rehash. word_of rehash.tickets) self.now.rehash }
-        ensures few { IfSome self.now.rehash (λ rehash. length rehash.tickets.open_units ≤ 2047) }
+        ensures { MatchOption result (length self.now.linked ≡ 0) (λ word. (0 < length self.now.linked)
+            × (word ≡ word_of self.now.tickets) × (length self.now.tickets.open_units ≤ 2047)) }
     {
-        match &self.rehash {
-            Some(rehash) => Some(rehash.tickets.word()),
-            None => None,
+        if !self.has_old() {
+            return None;
         }
+        Some(self.tickets.word())
     }
 
     /// No work: a proof learns what arrays keep.
     pub(crate) fn sound(&self)
-        ensures { AreArrays self.now }
+        ensures arrays { AreArrays self.now }
+        ensures tickets { IsTicketState self.now.tickets }
     {
-        let _ = &self.minimum;
+        self.tickets.sound();
     }
 
     /// Returns the number of buckets of the current array, and 0 where there is none.
     #[inline(always)]
     pub(crate) fn len(&self) -> usize
-        ensures none { result ≡ 0 → self.now.current ≡ None }
-        ensures value { result ≡ length (buckets_of self.now.current) }
+        ensures value { result ≡ length self.now.current }
         ensures few { result ≤ 2 ^ 57 }
         ensures power { 0 < result → IsLength result }
     {
-        match &self.current {
-            None => 0,
-            Some(array) => array.len(),
-        }
+        len_of(&self.current)
     }
 
     /// Returns the number of buckets of the old array, and 0 where there is none.
+    #[inline(always)]
     pub(crate) fn old_len(&self) -> usize
-        ensures value { result ≡ length (old_buckets self.now.rehash) }
+        ensures value { result ≡ length self.now.linked }
         ensures few { result ≤ 2 ^ 57 }
         ensures power { 0 < result → IsLength result }
     {
-        match &self.rehash {
-            None => 0,
-            Some(rehash) => rehash.array.len(),
-        }
+        len_of(&self.linked)
     }
 
     /// Returns the number of buckets of one side, and 0 where there is no such array.
@@ -155,24 +145,21 @@ impl<K, V, L: LruList, const TYPE: u8> Arrays<K, V, L, TYPE> {
     }
 
     /// Returns the current array.
+    #[inline(always)]
     pub(crate) fn array(&self) -> Option<&BucketArray<K, V, L, TYPE>>
-        ensures { option_map (λ array. array.now) result ≡ self.now.current }
+        ensures { MatchOption result (length self.now.current ≡ 0) (λ array.
+            (0 < length array.now) × (array.now ≡ self.now.current)) }
     {
-        match &self.current {
-            Some(array) => Some(array),
-            None => None,
-        }
+        array_in(&self.current)
     }
 
     /// Returns the old array.
+    #[inline(always)]
     pub(crate) fn linked_array(&self) -> Option<&BucketArray<K, V, L, TYPE>>
-        ensures { option_map (λ array. array.now) result
-            ≡ option_map (λ rehash. rehash.buckets) self.now.rehash }
+        ensures { MatchOption result (length self.now.linked ≡ 0) (λ array.
+            (0 < length array.now) × (array.now ≡ self.now.linked)) }
     {
-        match &self.rehash {
-            Some(rehash) => Some(&rehash.array),
-            None => None,
-        }
+        array_in(&self.linked)
     }
 
     /// Returns the array of one side.
@@ -182,8 +169,8 @@ impl<K, V, L: LruList, const TYPE: u8> Arrays<K, V, L, TYPE> {
         ensures { result.now ≡ buckets_on self.now is_old }
     {
         if is_old {
-            match &self.rehash {
-                Some(rehash) => &rehash.array,
+            match &self.linked {
+                Some(array) => array,
                 None => unreachable!(),
             }
         } else {
@@ -197,12 +184,56 @@ impl<K, V, L: LruList, const TYPE: u8> Arrays<K, V, L, TYPE> {
     /// Returns the index of a hash's home in the current array.
     #[inline(always)]
     pub(crate) fn home(&self, hash: u64) -> usize
-        requires { 0 < length (buckets_of self.now.current) }
-        ensures { IsHome (length (buckets_of self.now.current)) hash result }
+        requires { 0 < length self.now.current }
+        ensures { IsHome (length self.now.current) hash result }
     {
         match &self.current {
             None => unreachable!(),
             Some(array) => array.bucket_index(hash),
+        }
+    }
+}
+
+/// Tests whether an array stands.
+#[inline(always)]
+fn stands<K, V, L: LruList, const TYPE: u8>(side: &Option<BucketArray<K, V, L, TYPE>>) -> bool
+    ensures { IsTrue result ↔ (0 < length (list_of side.now)) }
+{
+    match side {
+        None => false,
+        Some(array) => {
+            let _len = array.len();
+            true
+        }
+    }
+}
+
+/// Returns the number of buckets of an array, and 0 where there is none.
+#[inline(always)]
+fn len_of<K, V, L: LruList, const TYPE: u8>(side: &Option<BucketArray<K, V, L, TYPE>>) -> usize
+    ensures value { result ≡ length (list_of side.now) }
+    ensures few { result ≤ 2 ^ 57 }
+    ensures power { 0 < result → IsLength result }
+{
+    match side {
+        None => 0,
+        Some(array) => array.len(),
+    }
+}
+
+/// Returns the array of one side.
+#[inline(always)]
+fn array_in<K, V, L: LruList, const TYPE: u8>(
+    side: &Option<BucketArray<K, V, L, TYPE>>,
+) -> Option<&BucketArray<K, V, L, TYPE>>
+    ensures { MatchOption result (length (list_of side.now) ≡ 0) (λ array.
+        (0 < length array.now) × (array.now ≡ list_of side.now)) }
+{
+    match side {
+        None => None,
+        Some(array) => {
+            let _len = array.len();
+            Some(array)
         }
     }
 }

@@ -6,13 +6,12 @@
 //! its byte, a killed bucket is empty, and no unit of the old array is forgotten.
 //!
 //! Ports scc's `src/hash_table.rs`. The table owns its arrays, and a lock is a borrow.
-ghost use Rattle.std.specs.Prelude.{◌≡◌, ◌↔◌, ◌<◌, ◌≤◌, ◌*◌, option_map, [], None, Some, IsTrue, IsSome, IfSome, IfNone, length};
+ghost use Rattle.std.specs.Prelude.{◌≡◌, ◌↔◌, ◌<◌, ◌≤◌, ◌*◌, [], IsTrue, MatchOption, length};
 ghost use Rattle.std.specs.Int.{IsPowerOfTwo};
 ghost use Rattle.bucket_slots.specs.Homes.{IsHome};
 ghost use Rattle.bucket_slots.specs.Sizing.{IsLength};
-ghost use Rattle.bucket_table.specs.ArraysView.{IsOneMap, pairs_of};
-ghost use Rattle.bucket_table.specs.State.{word_of};
-ghost use Rattle.bucket_table.specs.Relocation.{buckets_of};
+ghost use Rattle.bucket_table.specs.Views.ArraysView.{IsOneMap, pairs_of};
+ghost use Rattle.bucket_table.specs.Rehash.State.{first_tickets, word_of};
 
 mod by_key;
 pub(crate) mod capacity;
@@ -74,7 +73,7 @@ pub struct HashTable<K: Eq, V, H: KeyHash<K>, L: LruList, const TYPE: u8> {
 }
 
 impl<K: Eq, V, H: KeyHash<K>, L: LruList, const TYPE: u8> Model for HashTable<K, V, H, L, TYPE> {
-    ghost use Rattle.bucket_table.specs.ArraysView.{IsOneMap, TableView};
+    ghost use Rattle.bucket_table.specs.Views.ArraysView.{IsOneMap, TableView};
 
     ghost Value = { TableView K V H };
 
@@ -94,7 +93,7 @@ impl<K: Eq, V, H: KeyHash<K>, L: LruList, const TYPE: u8> HashTable<K, V, H, L, 
         requires bounded { minimum ≤ maximum }
         ensures hasher { result.hasher ≡ hasher }
         ensures arrays { result.arrays
-            ≡ record { minimum = minimum; maximum = maximum; current = None; rehash = None } }
+            ≡ record { minimum = minimum; maximum = maximum; current = []; linked = []; tickets = first_tickets 0 } }
     {
         HashTable {
             hasher,
@@ -142,7 +141,8 @@ impl<K: Eq, V, H: KeyHash<K>, L: LruList, const TYPE: u8> HashTable<K, V, H, L, 
     ///
     /// O(1). scc: `HashTable::array`.
     pub fn array(&self) -> Option<&BucketArray<K, V, L, TYPE>>
-        ensures { option_map (λ array. array.now) result ≡ self.now.arrays.current }
+        ensures { MatchOption result (length self.now.arrays.current ≡ 0) (λ array.
+            (0 < length array.now) × (array.now ≡ self.now.arrays.current)) }
     {
         self.arrays.array()
     }
@@ -151,8 +151,8 @@ impl<K: Eq, V, H: KeyHash<K>, L: LruList, const TYPE: u8> HashTable<K, V, H, L, 
     ///
     /// O(1). scc: `BucketArray::linked_array`.
     pub fn linked_array(&self) -> Option<&BucketArray<K, V, L, TYPE>>
-        ensures { option_map (λ array. array.now) result
-            ≡ option_map (λ rehash. rehash.buckets) self.now.arrays.rehash }
+        ensures { MatchOption result (length self.now.arrays.linked ≡ 0) (λ array.
+            (0 < length array.now) × (array.now ≡ self.now.arrays.linked)) }
     {
         self.arrays.linked_array()
     }
@@ -161,9 +161,9 @@ impl<K: Eq, V, H: KeyHash<K>, L: LruList, const TYPE: u8> HashTable<K, V, H, L, 
     ///
     /// O(1). scc: `HashTable::calculate_bucket_index`.
     pub fn calculate_bucket_index(&self, hash: u64) -> usize
-        ensures home { IfSome self.now.arrays.current (λ buckets.
-            IsHome (length buckets) hash result) }
-        ensures none { IfNone self.now.arrays.current (result ≡ 0) }
+        ensures home { 0 < length self.now.arrays.current
+            → IsHome (length self.now.arrays.current) hash result }
+        ensures none { length self.now.arrays.current ≡ 0 → result ≡ 0 }
     {
         match self.arrays.array() {
             Some(array) => array.bucket_index(hash),
@@ -176,7 +176,7 @@ impl<K: Eq, V, H: KeyHash<K>, L: LruList, const TYPE: u8> HashTable<K, V, H, L, 
     ///
     /// O(1). scc: `HashTable::num_slots`.
     pub fn num_slots(&self) -> usize
-        ensures { result ≡ 32 * length (buckets_of self.now.arrays.current) }
+        ensures { result ≡ 32 * length self.now.arrays.current }
     {
         self.arrays.len() * BUCKET_LEN
     }
@@ -185,7 +185,7 @@ impl<K: Eq, V, H: KeyHash<K>, L: LruList, const TYPE: u8> HashTable<K, V, H, L, 
     ///
     /// O(1). scc: `BucketArray::has_linked_array`.
     pub fn has_linked_array(&self) -> bool
-        ensures { IsTrue result ↔ IsSome self.now.arrays.rehash }
+        ensures { IsTrue result ↔ 0 < length self.now.arrays.linked }
     {
         self.arrays.has_old()
     }
@@ -195,10 +195,9 @@ impl<K: Eq, V, H: KeyHash<K>, L: LruList, const TYPE: u8> HashTable<K, V, H, L, 
     ///
     /// O(1). scc: `BucketArray::rehashing_metadata`.
     pub fn rehashing_metadata(&self) -> Option<usize>
-        ensures word { result
-            ≡ option_map (λ rehash. word_of rehash.tickets) self.now.arrays.rehash }
-        ensures few { IfSome self.now.arrays.rehash (λ rehash.
-            length rehash.tickets.open_units ≤ 2047) }
+        ensures { MatchOption result (length self.now.arrays.linked ≡ 0) (λ word.
+            (0 < length self.now.arrays.linked) × (word ≡ word_of self.now.arrays.tickets)
+            × (length self.now.arrays.tickets.open_units ≤ 2047)) }
     {
         self.arrays.word()
     }
@@ -206,9 +205,9 @@ impl<K: Eq, V, H: KeyHash<K>, L: LruList, const TYPE: u8> HashTable<K, V, H, L, 
     /// No work: a proof learns what a table keeps. Own.
     pub fn sound(&self)
         ensures one_map { IsOneMap K.eq (H.hash_of self.now.hasher) self.now.arrays }
-        ensures long { 0 < length (buckets_of self.now.arrays.current)
-            → IsLength (length (buckets_of self.now.arrays.current)) }
-        ensures empty { length (buckets_of self.now.arrays.current) ≡ 0
+        ensures long { 0 < length self.now.arrays.current
+            → IsLength (length self.now.arrays.current) }
+        ensures empty { length self.now.arrays.current ≡ 0
             → pairs_of self.now.arrays ≡ [] }
     {
         self.arrays.sound();

@@ -5,7 +5,7 @@ ghost use Rattle.bucket_slots.specs.BucketView.{entries_in, marks_in, slot_in};
 ghost use Rattle.bucket_slots.specs.Marking.{MarksBy};
 ghost use Rattle.bucket_slots.specs.Slots.{is_live, live_pair};
 ghost use Rattle.bucket_slots.specs.Walking.{pairs_ahead};
-ghost use Rattle.bucket_table.specs.Retains.{AnswersBy, Retains};
+ghost use Rattle.bucket_table.specs.Walking.Retains.{AnswersBy, Retains};
 
 use bucket_slots::bucket::{Bucket, EntryPtr, Generation, INDEX};
 use bucket_slots::lru::LruList;

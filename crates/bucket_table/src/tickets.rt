@@ -1,8 +1,9 @@
 //! The tickets of one old array: which of its units are handed out.
-ghost use Rattle.std.specs.Prelude.{◌≡◌, ◌+◌, ◌*◌, ◌/◌, ◌%◌, ◌^◌, ◌<◌, ◌≤◌, ◌≢◌, ℕ, [], length, IfOk, IsOk, IsTrue, ◌↔◌, MatchOption, slice_index};
+ghost use Rattle.std.specs.Prelude.{◌≡◌, ◌+◌, ◌*◌, ◌/◌, ◌%◌, ◌^◌, ◌<◌, ◌≤◌, ◌≢◌, ℕ, [], length, IfOk, IsOk, IsTrue, ◌↔◌, MatchOption};
+ghost use Rattle.std.specs.Prelude.{slice_index};
 ghost use Rattle.std.specs.List.{Contains};
-ghost use Rattle.bucket_table.specs.State.{word_of};
-ghost use Rattle.bucket_table.specs.Steps.{Starts, Ends, IsOver};
+ghost use Rattle.bucket_table.specs.Rehash.State.{IsTicketState, first_tickets, word_of};
+ghost use Rattle.bucket_table.specs.Rehash.Steps.{Starts, Ends, IsOver};
 
 use std::alloc::{AllocError, Global};
 use std::marker::Model;
@@ -37,8 +38,8 @@ pub struct Tickets {
 }
 
 impl Model for Tickets {
-    ghost use Rattle.bucket_table.specs.State.{TicketState, IsTicketState};
-    ghost use Rattle.bucket_table.specs.Layout.{HasRoom, state_of};
+    ghost use Rattle.bucket_table.specs.Rehash.State.{TicketState, IsTicketState};
+    ghost use Rattle.bucket_table.specs.Layout.TicketFields.{HasRoom, state_of};
 
     ghost Value = { TicketState };
 
@@ -51,9 +52,7 @@ impl Tickets {
     /// No unit is handed out.
     pub fn new(alloc: Global, len: usize) -> Result<Tickets, AllocError>
         requires { len ≤ 2 ^ 58 }
-        ensures position { IfOk result (λ tickets. tickets.position ≡ 0) }
-        ensures open_units { IfOk result (λ tickets. tickets.open_units ≡ []) }
-        ensures len { IfOk result (λ tickets. tickets.len ≡ len) }
+        ensures { IfOk result (λ tickets. tickets ≡ first_tickets len) }
     {
         let open_units = Vec::with_capacity(alloc, MAXIMUM_OPEN)?;
         Ok(Tickets {
@@ -61,6 +60,24 @@ impl Tickets {
             open_units,
             len,
         })
+    }
+
+    /// No unit is handed out, and none will be: there is no old array.
+    pub fn none(alloc: Global) -> Tickets
+        ensures { result ≡ first_tickets 0 }
+    {
+        Tickets {
+            position: 0,
+            open_units: Vec::new(alloc),
+            len: 0,
+        }
+    }
+
+    /// No work: a proof learns what tickets keep.
+    pub fn sound(&self)
+        ensures { IsTicketState self.now }
+    {
+        let _ = &self.position;
     }
 
     /// Returns the rehash word.

@@ -8,7 +8,7 @@ use Rattle.bucket_slots.specs.Removing.{slots_without}
 use Rattle.bucket_slots.specs.Slots.{live_pair}
 use Rattle.bucket_slots.proofs.CallerLemmas.{entries_in-slots_without}
 use Rattle.bucket_slots.proofs.RoomCallerLemmas.{killed-slots_without}
-use Rattle.bucket_table.specs.Walks.{IsKeptBy, keys_in}
+use Rattle.bucket_table.specs.Walking.Walks.{IsKeptBy, keys_in}
 
 module _ {K V : Type 0} where
   -- one key goes

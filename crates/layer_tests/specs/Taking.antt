@@ -1,7 +1,7 @@
 -- A call that takes the pair of a key out of a map.
 use Rattle.std.specs.Prelude.{◌≡◌, Bool, true, Option, Some, None, Result, Ok, Err}
-use Rattle.bucket_table.specs.LookingUp.{IsAbsent}
-use Rattle.bucket_table.specs.MapState.{KeepsPairs, MapState, TakesPair}
+use Rattle.bucket_table.specs.Map.LookingUp.{IsAbsent}
+use Rattle.bucket_table.specs.Map.MapState.{KeepsPairs, MapState, TakesPair}
 
 -- the pair whose key is equal goes; none has such a key; or all stays for want of memory
 abbrev pub TakesKey : {K V H E : Type 0} → (K → K → Bool) → K → MapState K V H → Result (Option (K × V)) E → MapState K V H → Type 0

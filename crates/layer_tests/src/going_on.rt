@@ -1,7 +1,7 @@
 //! A caller of the table: goes on from the pair of a key.
 ghost use Rattle.std.specs.Prelude.{◌≡◌, IfOk, OnErr};
 ghost use Rattle.bucket_slots.specs.BucketView.{null_place};
-ghost use Rattle.bucket_table.specs.MapState.{KeepsPairs, state_of};
+ghost use Rattle.bucket_table.specs.Map.MapState.{KeepsPairs, state_of};
 
 use bucket_slots::bucket::EntryPtr;
 use bucket_slots::lru::LruList;

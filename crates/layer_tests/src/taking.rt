@@ -1,6 +1,6 @@
 //! A caller of the table: takes out the pair of a key.
 ghost use Rattle.std.specs.Prelude.{◌≡◌, ◌≢◌};
-ghost use Rattle.bucket_table.specs.MapState.{state_of};
+ghost use Rattle.bucket_table.specs.Map.MapState.{state_of};
 ghost use Rattle.layer_tests.specs.Taking.{TakesKey};
 
 use bucket_slots::bucket::{AllocError, INDEX};

@@ -1,7 +1,7 @@
 //! Walks over a table, cursors and sweeps, counted look-ups, and rehashes that are finished.
 ghost use Rattle.std.specs.Prelude.{◌≡◌, false};
-ghost use Rattle.bucket_table.specs.Finishing.{IsUnopened};
-ghost use Rattle.bucket_table.specs.Walks.{IsKeptBy};
+ghost use Rattle.bucket_table.specs.Rehash.Finishing.{IsUnopened};
+ghost use Rattle.bucket_table.specs.Walking.Walks.{IsKeptBy};
 
 use crate::by_key::find;
 use crate::by_lock::Map;
@@ -58,7 +58,7 @@ pub(crate) fn finish(table: &mut Map) -> Result<Option<usize>, AllocError> {
 
 // Whether a ticket is open, as the rehash word tells.
 fn has_open_ticket(table: &Map) -> bool
-    ensures { result ≡ false → IsUnopened table.now.arrays.rehash }
+    ensures { result ≡ false → IsUnopened table.now.arrays }
 {
     match table.rehashing_metadata() {
         Some(word) => word % TICKET_STEP != 0,

@@ -1,6 +1,6 @@
 //! Single calls on a map of numbers, each with what it must answer, refused or not.
 ghost use Rattle.std.specs.Prelude.{◌≡◌, false};
-ghost use Rattle.bucket_table.specs.Finishing.{IsUnopened};
+ghost use Rattle.bucket_table.specs.Rehash.Finishing.{IsUnopened};
 
 use crate::beside::Beside;
 use bucket_slots::bucket::{Bucket, EntryPtr, MAP};
@@ -187,7 +187,7 @@ pub(crate) fn finish(table: &mut Map, units: usize) -> Answer {
 
 // Whether a ticket is open, as the rehash word tells.
 fn has_open_ticket(table: &Map) -> bool
-    ensures { result ≡ false → IsUnopened table.now.arrays.rehash }
+    ensures { result ≡ false → IsUnopened table.now.arrays }
 {
     match table.rehashing_metadata() {
         Some(word) => word % TICKET_STEP != 0,

@@ -1,11 +1,10 @@
 -- What a session holds of the lines that it took.
 use Rattle.std.specs.Prelude.{ℕ, ◌≡◌, ◌⊎◌, ◌+◌, ◌≤◌, List, [], ◌∷◌, ◌++◌, Option, None, Some, Result, Ok, Err, length}
 use Rattle.bucket_slots.specs.declared.bucket.TheConstants.{CACHE, INDEX, MAP}
-use Rattle.bucket_table.specs.ArraysView.{TableView}
-use Rattle.bucket_table.specs.MapState.{state_of}
-use Rattle.bucket_table.specs.Relocation.{buckets_of}
-use Rattle.bucket_table.specs.Runs.{Run}
-use Rattle.bucket_table.specs.TicketCalls.{tickets_of}
+use Rattle.bucket_table.specs.Views.ArraysView.{TableView}
+use Rattle.bucket_table.specs.Map.MapState.{state_of}
+use Rattle.bucket_table.specs.Scripts.Runs.{Run}
+use Rattle.bucket_table.specs.Scripts.TicketCalls.{rehash_of}
 use Rattle.bucket_table.specs.declared.script.call.Call.{Call}
 use Rattle.bucket_table.specs.declared.script.hashes.ScriptHash.{ScriptHash}
 use Rattle.bucket_table.specs.declared.script.reply.Reply.{Reply}
@@ -27,7 +26,7 @@ ScriptRun = Run ScriptStep
 -- what a script is answered from
 abbrev pub seen : ℕ → TableView ℕ ℕ ScriptHash → ScriptTable
 seen kind table =
-    record { map = state_of kind table; tickets = tickets_of table.arrays; len = length (buckets_of table.arrays.current) }
+    record { map = state_of kind table; tickets = rehash_of table.arrays; len = length table.arrays.current }
 
 abbrev pub table_of : Table → ScriptTable
 table_of (Map table) = seen MAP table

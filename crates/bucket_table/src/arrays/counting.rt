@@ -1,11 +1,11 @@
 //! How many pairs the arrays have.
-ghost use Rattle.std.specs.Prelude.{◌≡◌, ◌^◌, ◌-◌, ℕ, [], None, Some, length, min};
-ghost use Rattle.bucket_table.specs.ArraysView.{ArePlaced, RehashView, entries_of, old_buckets};
-ghost use Rattle.bucket_table.specs.Asking.{ResizesIf};
-ghost use Rattle.bucket_table.specs.Counting.{CountsAndResizes, counted_to};
-ghost use Rattle.bucket_table.specs.Finding.{KeepsMap};
-ghost use Rattle.bucket_table.specs.Relocation.{buckets_of, entries_among};
-ghost use Rattle.bucket_table.specs.Units.{NeedsNoMemory, IsUnitReady, KeepsOpenTickets, WorksUnit};
+ghost use Rattle.std.specs.Prelude.{◌≡◌, ◌^◌, ◌-◌, ℕ, [], length, min};
+ghost use Rattle.bucket_table.specs.Views.ArraysView.{ArePlaced, entries_of, list_of};
+ghost use Rattle.bucket_table.specs.Resize.Asking.{ResizesIf};
+ghost use Rattle.bucket_table.specs.Map.Counting.{CountsAndResizes, counted_to};
+ghost use Rattle.bucket_table.specs.Views.Keeping.{Keeps};
+ghost use Rattle.bucket_table.specs.Rehash.Relocation.{entries_among};
+ghost use Rattle.bucket_table.specs.Rehash.Units.{WorksUnits};
 
 use super::Arrays;
 use crate::key_hash::KeyHash;
@@ -18,16 +18,11 @@ impl<K: Eq + Drop, V: Drop, L: LruList + Drop, const TYPE: u8> Arrays<K, V, L, T
     pub(crate) fn num_entries<H: KeyHash<K>>(&mut self, hasher: &H) -> usize
         requires placed { ArePlaced (H.hash_of hasher.now) self.old }
         ensures placed { ArePlaced (H.hash_of hasher.now) self.new }
-        ensures kept { KeepsMap self.old self.new }
-        ensures bag { KeepsOpenTickets self.old.rehash self.new.rehash }
+        ensures kept { Keeps self.old self.new }
         ensures count { result ≡ counted_to (entries_of self.old) }
-        ensures unit { (was : RehashView K V)
-            → (self.old.rehash ≡ Some was)
-            → IsUnitReady was
-            → NeedsNoMemory was.tickets.position self.old was
-            → WorksUnit was self.new.rehash }
+        ensures units { WorksUnits 1 self.old self.new }
         ensures arrays { CountsAndResizes self.old self.new }
-        ensures alone { self.old.rehash ≡ None → (entries_of self.old ≡ [] → ⊥) → self.new ≡ self.old }
+        ensures alone { length self.old.linked ≡ 0 → (entries_of self.old ≡ [] → ⊥) → self.new ≡ self.old }
     {
         self.work_unit(hasher);
         let count = self.count();
@@ -41,8 +36,9 @@ impl<K: Eq + Drop, V: Drop, L: LruList + Drop, const TYPE: u8> Arrays<K, V, L, T
     /// Resizes arrays without pairs where the minimum is 0.
     fn drop_if_empty(&mut self)
         requires empty { entries_of self.old ≡ [] }
-        ensures kept { KeepsMap self.old self.new }
-        ensures rehash { self.new.rehash ≡ self.old.rehash }
+        ensures kept { Keeps self.old self.new }
+        ensures linked { self.new.linked ≡ self.old.linked }
+        ensures tickets { self.new.tickets ≡ self.old.tickets }
         ensures resized { ResizesIf ((entries_of self.old ≡ []) × (self.old.minimum ≡ 0)) self.old self.new }
         ensures placed { (hash : K → ℕ) → ArePlaced hash self.old → ArePlaced hash self.new }
     {
@@ -58,25 +54,17 @@ impl<K, V, L: LruList, const TYPE: u8> Arrays<K, V, L, TYPE> {
     pub(crate) fn count(&self) -> usize
         ensures { result ≡ counted_to (entries_of self.now) }
     {
-        self.current_count().saturating_add(self.old_count())
+        count_on(&self.current).saturating_add(count_on(&self.linked))
     }
+}
 
-    fn current_count(&self) -> usize
-        ensures { result ≡ counted_to (entries_among (buckets_of self.now.current)) }
-    {
-        match &self.current {
-            None => 0,
-            Some(array) => count_in(array),
-        }
-    }
-
-    fn old_count(&self) -> usize
-        ensures { result ≡ counted_to (entries_among (old_buckets self.now.rehash)) }
-    {
-        match &self.rehash {
-            None => 0,
-            Some(rehash) => count_in(&rehash.array),
-        }
+/// Returns how many pairs one side has, saturating.
+fn count_on<K, V, L: LruList, const TYPE: u8>(side: &Option<BucketArray<K, V, L, TYPE>>) -> usize
+    ensures { result ≡ counted_to (entries_among (list_of side.now)) }
+{
+    match side {
+        None => 0,
+        Some(array) => count_in(array),
     }
 }
 

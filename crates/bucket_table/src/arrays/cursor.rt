@@ -1,21 +1,16 @@
 //! Cursors over the arrays.
 ghost use Rattle.std.specs.Prelude.{◌≡◌, ◌≢◌, Bool, ℕ, ◌<◌, ◌≤◌, ◌+◌, [], true, false, length, IfOk};
-ghost use Rattle.std.specs.Prelude.{IsOk, None, OnOk};
 ghost use Rattle.bucket_slots.specs.BucketView.{BucketView};
 ghost use Rattle.bucket_slots.specs.Homes.{IsInInterval, interval_width};
 ghost use Rattle.bucket_slots.specs.Sizing.{IsLength};
 ghost use Rattle.bucket_slots.specs.Walking.{pairs_ahead};
-ghost use Rattle.bucket_table.specs.ArraysView.{ArePlaced, AreSourcesKilled};
-ghost use Rattle.bucket_table.specs.Cursors.{ShrinksThenPasses, IsFoundFrom, Leaves, LeavesTo, ReachesPast};
-ghost use Rattle.bucket_table.specs.Cursors.{Passes, Stays, bound_of};
-ghost use Rattle.bucket_table.specs.Finding.{KeepsMap};
-ghost use Rattle.bucket_table.specs.Rehashing.{KeepsArrays};
-ghost use Rattle.bucket_table.specs.Relocation.{buckets_of};
-ghost use Rattle.bucket_table.specs.Retains.{AnswersBy};
-ghost use Rattle.bucket_table.specs.Sides.{arrays_with, bucket_on, buckets_on};
-ghost use Rattle.bucket_table.specs.Sweeps.{RetainsAt};
-ghost use Rattle.bucket_table.specs.UnitRuns.{WorksUnits};
-ghost use Rattle.bucket_table.specs.Units.{KeepsOpenTickets};
+ghost use Rattle.bucket_table.specs.Views.ArraysView.{ArePlaced};
+ghost use Rattle.bucket_table.specs.Walking.Cursors.{ShrinksThenPasses, IsFoundFrom, Leaves, LeavesTo, ReachesPast};
+ghost use Rattle.bucket_table.specs.Walking.Cursors.{Passes, Stays, bound_of};
+ghost use Rattle.bucket_table.specs.Views.Keeping.{Keeps, KeepsArrays};
+ghost use Rattle.bucket_table.specs.Walking.Retains.{AnswersBy};
+ghost use Rattle.bucket_table.specs.Views.Sides.{arrays_with, bucket_on, buckets_on};
+ghost use Rattle.bucket_table.specs.Walking.Sweeps.{RetainsAt};
 
 use super::Arrays;
 use crate::hash_table::Missing;
@@ -23,44 +18,10 @@ use crate::hash_table::capacity::from_index_to_range;
 use crate::key_hash::KeyHash;
 use crate::retain::retain_in;
 use crate::visit::Visit;
-use bucket_slots::bucket::{AllocError, Bucket, EntryPtr, Generation};
+use bucket_slots::bucket::{Bucket, EntryPtr, Generation};
 use bucket_slots::lru::LruList;
 
 impl<K: Eq + Drop, V: Drop, L: LruList + Drop, const TYPE: u8> Arrays<K, V, L, TYPE> {
-    /// Works a unit, and moves the sources of a current bucket.
-    ///
-    /// # Errors
-    ///
-    /// Want of memory: a source isn't killed.
-    pub(crate) fn prepare_at<H: KeyHash<K>>(
-        &mut self,
-        hasher: &H,
-        index: usize,
-    ) -> Result<(), AllocError>
-        requires within { index < length (buckets_of self.old.current) }
-        requires placed { ArePlaced (H.hash_of hasher.now) self.old }
-        ensures placed { ArePlaced (H.hash_of hasher.now) self.new }
-        ensures kept { KeepsArrays self.old self.new }
-        ensures bag { KeepsOpenTickets self.old.rehash self.new.rehash }
-        ensures ready { OnOk result (AreSourcesKilled self.new index) }
-        ensures units { WorksUnits 1 self.old self.new.rehash }
-        ensures alone { self.old.rehash ≡ None → self.new ≡ self.old }
-        ensures succeeds { self.old.rehash ≡ None → IsOk result }
-    {
-        self.work_unit(hasher);
-        let to = self.len();
-        let from = self.old_len();
-        if from == 0 {
-            return Ok(());
-        }
-        let (start, end) = from_index_to_range(to, from, index);
-        if self.relocate_range(hasher, start, end) {
-            Ok(())
-        } else {
-            Err(AllocError)
-        }
-    }
-
     /// Moves a pointer to the first live pair of the current buckets from `start` on, and returns
     /// that bucket's index.
     ///
@@ -76,13 +37,12 @@ impl<K: Eq + Drop, V: Drop, L: LruList + Drop, const TYPE: u8> Arrays<K, V, L, T
         requires placed { ArePlaced (H.hash_of hasher.now) self.old }
         ensures placed { ArePlaced (H.hash_of hasher.now) self.new }
         ensures kept { KeepsArrays self.old self.new }
-        ensures bag { KeepsOpenTickets self.old.rehash self.new.rehash }
         ensures found { IsFoundFrom (H.hash_of hasher.now)
-            (bound_of (length (buckets_of self.old.current)) start) result self.new at.new }
+            (bound_of (length self.old.current) start) result self.new at.new }
         ensures order { IfOk result (λ found. start ≤ found) }
         ensures passes { (bound : ℕ)
-            → (0 < interval_width (length (buckets_of self.old.current))
-            → IsInInterval (length (buckets_of self.old.current)) start bound)
+            → (0 < interval_width (length self.old.current)
+            → IsInInterval (length self.old.current) start bound)
             → Passes (λ index. index) bound self.old result self.new }
     {
         *at = EntryPtr::null();
@@ -119,7 +79,6 @@ impl<K: Eq + Drop, V: Drop, L: LruList + Drop, const TYPE: u8> Arrays<K, V, L, T
         requires placed { ArePlaced (H.hash_of hasher.now) self.old }
         ensures placed { ArePlaced (H.hash_of hasher.now) self.new }
         ensures kept { KeepsArrays self.old self.new }
-        ensures bag { KeepsOpenTickets self.old.rehash self.new.rehash }
         ensures found { IsFoundFrom (H.hash_of hasher.now) (bound_of len (index + 1)) result self.new
             at.new }
         ensures reaches { ReachesPast (bound_of len (index + 1)) result self.new }
@@ -153,8 +112,7 @@ impl<K: Eq + Drop, V: Drop, L: LruList + Drop, const TYPE: u8> Arrays<K, V, L, T
         requires within { index < length (buckets_on self.old is_old) }
         requires placed { ArePlaced (H.hash_of hasher.now) self.old }
         ensures placed { ArePlaced (H.hash_of hasher.now) self.new }
-        ensures kept { KeepsMap self.old self.new }
-        ensures bag { KeepsOpenTickets self.old.rehash self.new.rehash }
+        ensures kept { Keeps self.old self.new }
         ensures leaves { Leaves (H.hash_of hasher.now) (bound_of
             (length (buckets_on self.old is_old)) (index + 1)) result self.new at.new }
         ensures departs { ShrinksThenPasses (λ index. index) is_old index self.old result self.new }
@@ -180,8 +138,7 @@ impl<K: Eq + Drop, V: Drop, L: LruList + Drop, const TYPE: u8> Arrays<K, V, L, T
         requires within { index < length (buckets_on self.old is_old) }
         requires placed { ArePlaced (H.hash_of hasher.now) self.old }
         ensures placed { ArePlaced (H.hash_of hasher.now) self.new }
-        ensures kept { KeepsMap self.old self.new }
-        ensures bag { KeepsOpenTickets self.old.rehash self.new.rehash }
+        ensures kept { Keeps self.old self.new }
         ensures stays { pairs_ahead (bucket_on self.old is_old index) at.old ≢ []
             → Stays is_old index self.old at.old result self.new at.new }
         ensures leaves { pairs_ahead (bucket_on self.old is_old index) at.old ≡ []
@@ -207,7 +164,7 @@ impl<K: Eq + Drop, V: Drop, L: LruList + Drop, const TYPE: u8> Arrays<K, V, L, T
         visitor: &mut F,
         flag: &mut bool,
     ) -> bool
-        requires within { index < length (buckets_of self.old.current) }
+        requires within { index < length self.old.current }
         requires may { F.may_visit visitor.old }
         ensures again { F.may_visit visitor.new }
         ensures visited { (left : BucketView K V)
@@ -227,7 +184,7 @@ impl<K: Eq + Drop, V: Drop, L: LruList + Drop, const TYPE: u8> Arrays<K, V, L, T
         keep: &F,
         generation: &G,
     ) -> usize
-        requires within { index < length (buckets_of self.old.current) }
+        requires within { index < length self.old.current }
         requires callable { F.IsAlwaysCallable keep.now }
         ensures retained { RetainsAt
             (AnswersBy (λ key value answer. F.post keep.now key value answer))

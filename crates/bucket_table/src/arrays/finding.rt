@@ -1,18 +1,17 @@
 //! The bucket that a writer of a hash is given, and the growth that it may start.
-ghost use Rattle.std.specs.Prelude.{◌≡◌, ◌<◌, ◌≤◌, ◌↔◌, Bool, ℕ, None, Some, IfNone, IfOk, IfSome, IsOk, IsSome, IsTrue, OnErr, OnOk, length};
+ghost use Rattle.std.specs.Prelude.{◌≡◌, ◌<◌, ◌≤◌, ◌↔◌, Bool, ℕ, IfNone, IfOk, IfSome, IsOk, IsTrue, OnErr, OnOk, length};
 ghost use Rattle.bucket_slots.specs.Homes.{IsHome};
-ghost use Rattle.bucket_table.specs.ArraysView.{ArePlaced, entries_of};
-ghost use Rattle.bucket_table.specs.Asking.{ResizesIf};
-ghost use Rattle.bucket_table.specs.Finding.{FindsNone, ReadiesThenGrows, KeepsMap};
-ghost use Rattle.bucket_table.specs.Free.{MayNotLockAtOnce, MayLockAtOnce};
-ghost use Rattle.bucket_table.specs.Growing.{Grows, WriterAsksGrowth};
-ghost use Rattle.bucket_table.specs.Locking.{IsLocked};
-ghost use Rattle.bucket_table.specs.Preparing.{IsReady};
-ghost use Rattle.bucket_table.specs.Rehashing.{KeepsArrays};
-ghost use Rattle.bucket_table.specs.Relocation.{buckets_of};
-ghost use Rattle.bucket_table.specs.Resizes.{MakesArray};
-ghost use Rattle.bucket_table.specs.Sides.{buckets_on};
-ghost use Rattle.bucket_table.specs.Units.{KeepsOpenTickets, WorksOneUnit};
+ghost use Rattle.bucket_table.specs.Views.ArraysView.{ArePlaced};
+ghost use Rattle.bucket_table.specs.Resize.Asking.{ResizesIf};
+ghost use Rattle.bucket_table.specs.Map.Finding.{FindsNone, ReadiesThenGrows};
+ghost use Rattle.bucket_table.specs.Map.Free.{MayNotLockAtOnce, MayLockAtOnce};
+ghost use Rattle.bucket_table.specs.Resize.Growing.{Grows, WriterAsksGrowth};
+ghost use Rattle.bucket_table.specs.Views.Locking.{IsLocked};
+ghost use Rattle.bucket_table.specs.Map.Preparing.{IsReady};
+ghost use Rattle.bucket_table.specs.Views.Keeping.{Keeps, KeepsArrays};
+ghost use Rattle.bucket_table.specs.Resize.Turns.{MakesArray};
+ghost use Rattle.bucket_table.specs.Views.Sides.{buckets_on};
+ghost use Rattle.bucket_table.specs.Rehash.Units.{WorksUnits};
 
 use super::Arrays;
 use crate::key_hash::KeyHash;
@@ -34,8 +33,7 @@ impl<K: Eq + Drop, V: Drop, L: LruList + Drop, const TYPE: u8> Arrays<K, V, L, T
     ) -> Result<(bool, usize), AllocError>
         requires placed { ArePlaced (H.hash_of hasher.now) self.old }
         ensures placed { ArePlaced (H.hash_of hasher.now) self.new }
-        ensures kept { KeepsMap self.old self.new }
-        ensures bag { KeepsOpenTickets self.old.rehash self.new.rehash }
+        ensures kept { Keeps self.old self.new }
         ensures locked { IfOk result (λ found. IsLocked self.new found.0 found.1) }
         ensures home { IfOk result (λ found. IsHome (length (buckets_on self.new found.0)) hash found.1) }
         ensures finds { IfOk result (λ found. ReadiesThenGrows TYPE hash self.old found.0 found.1 self.new) }
@@ -55,20 +53,17 @@ impl<K: Eq + Drop, V: Drop, L: LruList + Drop, const TYPE: u8> Arrays<K, V, L, T
     fn fetch_or_make<H: KeyHash<K>>(&mut self, hasher: &H, hash: u64) -> Result<(), AllocError>
         requires placed { ArePlaced (H.hash_of hasher.now) self.old }
         ensures placed { ArePlaced (H.hash_of hasher.now) self.new }
-        ensures kept { KeepsMap self.old self.new }
-        ensures bag { KeepsOpenTickets self.old.rehash self.new.rehash }
+        ensures kept { Keeps self.old self.new }
         ensures ready { OnOk result (IsReady self.new hash) }
-        ensures unit { WorksOneUnit self.old self.new.rehash }
-        ensures beside { IsSome self.old.rehash → KeepsArrays self.old self.new }
-        ensures made { self.old.rehash ≡ None → OnOk result (MakesArray self.old self.new) }
-        ensures refused { self.old.rehash ≡ None → OnErr result ((self.old.current ≡ None) × (self.new ≡ self.old)) }
+        ensures units { WorksUnits 1 self.old self.new }
+        ensures beside { 0 < length self.old.linked → KeepsArrays self.old self.new }
+        ensures made { length self.old.linked ≡ 0 → OnOk result (MakesArray self.old self.new) }
+        ensures refused { length self.old.linked ≡ 0 → OnErr result ((length self.old.current ≡ 0) × (self.new ≡ self.old)) }
     {
         self.sound();
-        if self.rehash.is_some() {
-            return match self.fetch_home(hasher, hash) {
-                Ok(_) => Ok(()),
-                Err(refused) => Err(refused),
-            };
+        if self.has_old() {
+            let index = self.home(hash);
+            return self.prepare_at(hasher, index);
         }
         let Ok(()) = self.make_array() else {
             return Err(AllocError);
@@ -81,10 +76,10 @@ impl<K: Eq + Drop, V: Drop, L: LruList + Drop, const TYPE: u8> Arrays<K, V, L, T
     /// become the old one.
     #[inline(always)]
     fn grow_at(&mut self, hash: u64, index: usize) -> bool
-        requires within { index < length (buckets_of self.old.current) }
+        requires within { index < length self.old.current }
         ensures asked { ResizesIf (WriterAsksGrowth TYPE hash self.old index) self.old self.new }
         ensures grown { Grows result self.old self.new }
-        ensures same_entries { entries_of self.new ≡ entries_of self.old }
+        ensures kept { Keeps self.old self.new }
         ensures placed { (hash_of : K → ℕ) → ArePlaced hash_of self.old → ArePlaced hash_of self.new }
     {
         if !self.writer_asks_growth(hash, index) {
@@ -101,7 +96,7 @@ impl<K, V, L: LruList, const TYPE: u8> Arrays<K, V, L, TYPE> {
     /// Returns whether a writer of a hash that was given a bucket looks into a growth.
     #[inline(always)]
     fn writer_asks_growth(&self, hash: u64, index: usize) -> bool
-        requires within { index < length (buckets_of self.now.current) }
+        requires within { index < length self.now.current }
         ensures { IsTrue result ↔ WriterAsksGrowth TYPE hash self.now index }
     {
         let Some(array) = &self.current else {
@@ -125,10 +120,10 @@ impl<K, V, L: LruList, const TYPE: u8> Arrays<K, V, L, TYPE> {
     /// Returns the index of a hash's home in the current array, where it may be locked at once.
     pub(crate) fn free_home(&self, hash: u64, is_checked: bool) -> Option<usize>
         ensures free { IfSome result (λ index. MayLockAtOnce is_checked self.now hash index) }
-        ensures within { IfSome result (λ index. index < length (buckets_of self.now.current)) }
+        ensures within { IfSome result (λ index. index < length self.now.current) }
         ensures none { IfNone result (MayNotLockAtOnce is_checked self.now hash) }
     {
-        if self.rehash.is_some() {
+        if self.has_old() {
             return None;
         }
         if self.len() == 0 {

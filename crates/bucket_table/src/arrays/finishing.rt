@@ -1,8 +1,8 @@
 //! Finishing a rehash.
-ghost use Rattle.std.specs.Prelude.{◌≡◌, false, None, Ok, IfOk};
-ghost use Rattle.bucket_table.specs.ArraysView.{ArePlaced};
-ghost use Rattle.bucket_table.specs.Finishing.{FinishesOne, IsUnopened, units_left};
-ghost use Rattle.bucket_table.specs.Rehashing.{KeepsArrays};
+ghost use Rattle.std.specs.Prelude.{◌≡◌, [], false, length, Ok, IfOk};
+ghost use Rattle.bucket_table.specs.Views.ArraysView.{ArePlaced};
+ghost use Rattle.bucket_table.specs.Rehash.Finishing.{FinishesOne, units_left};
+ghost use Rattle.bucket_table.specs.Views.Keeping.{KeepsArrays};
 
 use super::Arrays;
 use crate::key_hash::KeyHash;
@@ -18,13 +18,13 @@ impl<K: Eq + Drop, V: Drop, L: LruList + Drop, const TYPE: u8> Arrays<K, V, L, T
     /// Want of memory: no ticket is open.
     pub(crate) fn finish_rehash<H: KeyHash<K>>(&mut self, hasher: &H) -> Result<usize, AllocError>
         requires placed { ArePlaced (H.hash_of hasher.now) self.old }
-        requires none_open { IsUnopened self.old.rehash }
+        requires none_open { self.old.tickets.open_units ≡ [] }
         ensures placed { ArePlaced (H.hash_of hasher.now) self.new }
         ensures kept { KeepsArrays self.old self.new }
-        ensures none_open { IsUnopened self.new.rehash }
-        ensures gone { IfOk result (λ count. self.new.rehash ≡ None) }
-        ensures counted { IfOk result (λ count. count ≡ units_left self.old.rehash) }
-        ensures alone { self.old.rehash ≡ None → (result ≡ Ok 0) × (self.new ≡ self.old) }
+        ensures none_open { self.new.tickets.open_units ≡ [] }
+        ensures gone { IfOk result (λ count. length self.new.linked ≡ 0) }
+        ensures counted { IfOk result (λ count. count ≡ units_left self.old) }
+        ensures alone { length self.old.linked ≡ 0 → (result ≡ Ok 0) × (self.new ≡ self.old) }
     {
         let _len = self.old_len();
         let mut count: usize = 0;
@@ -41,13 +41,14 @@ impl<K: Eq + Drop, V: Drop, L: LruList + Drop, const TYPE: u8> Arrays<K, V, L, T
     /// Want of memory: no ticket is open.
     fn finish_unit<H: KeyHash<K>>(&mut self, hasher: &H) -> Result<bool, AllocError>
         requires placed { ArePlaced (H.hash_of hasher.now) self.old }
-        requires none_open { IsUnopened self.old.rehash }
+        requires none_open { self.old.tickets.open_units ≡ [] }
         ensures placed { ArePlaced (H.hash_of hasher.now) self.new }
         ensures kept { KeepsArrays self.old self.new }
-        ensures none_open { IsUnopened self.new.rehash }
-        ensures unit { IfOk result (λ more. FinishesOne self.old.rehash more self.new.rehash) }
-        ensures alone { self.old.rehash ≡ None → (result ≡ Ok false) × (self.new ≡ self.old) }
+        ensures none_open { self.new.tickets.open_units ≡ [] }
+        ensures unit { IfOk result (λ more. FinishesOne self.old more self.new) }
+        ensures alone { length self.old.linked ≡ 0 → (result ≡ Ok false) × (self.new ≡ self.old) }
     {
+        self.sound();
         let Some(ticket) = self.start_incremental_rehash() else {
             return Ok(false);
         };

@@ -1,20 +1,19 @@
 //! A bucket lent for writing, of the current or of the old array.
-ghost use Rattle.std.specs.Prelude.{◌≡◌, ◌<◌, Bool, length};
+ghost use Rattle.std.specs.Prelude.{◌≡◌, ◌<◌, length};
 ghost use Rattle.std.specs.Borrow.{sem};
 ghost use Rattle.bucket_slots.specs.ArrayRoom.{BucketFits};
 ghost use Rattle.bucket_slots.specs.ArrayView.{bucket_at};
-ghost use Rattle.bucket_table.specs.OptionLoans.{LendsBucketOf, LendsOldBucketOf};
-ghost use Rattle.bucket_table.specs.ArraysView.{old_buckets};
-ghost use Rattle.bucket_table.specs.Relocation.{buckets_of};
-ghost use Rattle.bucket_table.specs.Sides.{buckets_on};
+ghost use Rattle.bucket_table.specs.Views.ArrayLoan.{LendsBucketOf};
+ghost use Rattle.bucket_table.specs.Views.ArraysView.{list_of};
+ghost use Rattle.bucket_table.specs.Views.Sides.{buckets_on};
 
-use super::{Arrays, Rehash};
+use super::Arrays;
 use bucket_slots::bucket::Bucket;
 use bucket_slots::bucket_array::BucketArray;
 use bucket_slots::lru::LruList;
 
 impl<K, V, L: LruList, const TYPE: u8> Arrays<K, V, L, TYPE> {
-    ghost use Rattle.bucket_table.specs.ArraysLoan.{LendsBucketOn};
+    ghost use Rattle.bucket_table.specs.Views.ArraysLoan.{LendsBucketOn};
 
     /// Returns a bucket of the old or of the current array.
     #[inline(always)]
@@ -23,8 +22,8 @@ impl<K, V, L: LruList, const TYPE: u8> Arrays<K, V, L, TYPE> {
         ensures { result.now ≡ bucket_at (buckets_on self.now is_old) index }
     {
         if is_old {
-            match &self.rehash {
-                Some(rehash) => rehash.array.bucket(index),
+            match &self.linked {
+                Some(array) => array.bucket(index),
                 None => unreachable!(),
             }
         } else {
@@ -46,7 +45,7 @@ impl<K, V, L: LruList, const TYPE: u8> Arrays<K, V, L, TYPE> {
         ensures bucket { result.now ≡ bucket_at (buckets_on self.old is_old) index }
     {
         if is_old {
-            old_bucket_in(&mut self.rehash, index)
+            bucket_in(&mut self.linked, index)
         } else {
             bucket_in(&mut self.current, index)
         }
@@ -59,71 +58,25 @@ impl<K, V, L: LruList, const TYPE: u8> Arrays<K, V, L, TYPE> {
         ensures { BucketFits K.row V.row L.row TYPE.row
             (record { KEEPS = L.KEEPS; listed = L.listed; IsTail = L.IsTail }) L.Default }
     {
-        if is_old {
-            match &self.rehash {
-                Some(rehash) => rehash.array.room(),
-                None => unreachable!(),
-            }
-        } else {
-            match &self.current {
-                Some(array) => array.room(),
-                None => unreachable!(),
-            }
-        }
+        self.array_of(is_old).room();
     }
 }
 
-impl<K, V, L: LruList, const TYPE: u8> Rehash<K, V, L, TYPE> {
-    ghost use Rattle.bucket_table.specs.RehashLoan.{LendsRehashBucket};
-
-    /// Lends a bucket of the old array for writing.
-    #[inline(always)]
-    fn bucket_mut(&mut self, index: usize) -> &mut Bucket<K, V, L, TYPE>
-        requires { index < length self.old.buckets }
-        ensures* writes_back { sem 𝓛
-            (LendsRehashBucket K.row V.row L.row TYPE.row
-            (record { KEEPS = L.KEEPS; listed = L.listed; IsTail = L.IsTail }) L.Default
-            self.entry index result) }
-        ensures bucket { result.now ≡ bucket_at self.old.buckets index }
-    {
-        self.array.bucket_mut(index)
-    }
-}
-
-/// Lends a bucket of the current array for writing.
+/// Lends a bucket of one side for writing.
 #[inline(always)]
 fn bucket_in<K, V, L: LruList, const TYPE: u8>(
-    current: &mut Option<BucketArray<K, V, L, TYPE>>,
+    side: &mut Option<BucketArray<K, V, L, TYPE>>,
     index: usize,
 ) -> &mut Bucket<K, V, L, TYPE>
-    requires { index < length (buckets_of current.old) }
+    requires { index < length (list_of side.old) }
     ensures* writes_back { sem 𝓛
         (LendsBucketOf K.row V.row L.row TYPE.row
         (record { KEEPS = L.KEEPS; listed = L.listed; IsTail = L.IsTail }) L.Default
-        current.entry index result) }
-    ensures bucket { result.now ≡ bucket_at (buckets_of current.old) index }
+        side.entry index result) }
+    ensures bucket { result.now ≡ bucket_at (list_of side.old) index }
 {
-    match current {
+    match side {
         Some(array) => array.bucket_mut(index),
-        None => unreachable!(),
-    }
-}
-
-/// Lends a bucket of the old array for writing.
-#[inline(always)]
-fn old_bucket_in<K, V, L: LruList, const TYPE: u8>(
-    rehash: &mut Option<Rehash<K, V, L, TYPE>>,
-    index: usize,
-) -> &mut Bucket<K, V, L, TYPE>
-    requires { index < length (old_buckets rehash.old) }
-    ensures* writes_back { sem 𝓛
-        (LendsOldBucketOf K.row V.row L.row TYPE.row
-        (record { KEEPS = L.KEEPS; listed = L.listed; IsTail = L.IsTail }) L.Default
-        rehash.entry index result) }
-    ensures bucket { result.now ≡ bucket_at (old_buckets rehash.old) index }
-{
-    match rehash {
-        Some(rehash) => rehash.bucket_mut(index),
         None => unreachable!(),
     }
 }

@@ -1,13 +1,12 @@
 //! Whether a resize is looked into near a bucket, from the few buckets of the small sample.
 ghost use Rattle.std.specs.Prelude.{ℕ, [], ◌≡◌, ◌<◌, ◌≤◌, ◌↔◌, IsTrue, length};
-ghost use Rattle.bucket_table.specs.Sampling.{IsCrowded, IsDeserted, live_counts};
-ghost use Rattle.bucket_table.specs.ArraysView.{ArePlaced};
-ghost use Rattle.bucket_table.specs.Finding.{KeepsMap};
-ghost use Rattle.bucket_table.specs.Sides.{buckets_on};
-ghost use Rattle.bucket_table.specs.Units.{KeepsOpenTickets};
+ghost use Rattle.bucket_table.specs.Resize.Sampling.{IsCrowded, IsDeserted, live_counts};
+ghost use Rattle.bucket_table.specs.Views.ArraysView.{ArePlaced};
+ghost use Rattle.bucket_table.specs.Views.Keeping.{Keeps};
+ghost use Rattle.bucket_table.specs.Views.Sides.{buckets_on};
 ghost use Rattle.bucket_slots.specs.ArrayView.{bucket_at};
 ghost use Rattle.bucket_slots.specs.BucketView.{pairs_in};
-ghost use Rattle.bucket_table.specs.Asking.{AsksGrowth, AsksShrinking, ResizesIf};
+ghost use Rattle.bucket_table.specs.Resize.Asking.{AsksGrowth, AsksShrinking, ResizesIf};
 
 use super::Arrays;
 use bucket_slots::bucket::BUCKET_LEN;
@@ -21,8 +20,7 @@ impl<K: Drop, V: Drop, L: LruList + Drop, const TYPE: u8> Arrays<K, V, L, TYPE> 
     #[inline(never)]
     pub(crate) fn try_shrink(&mut self, index: usize)
         ensures asked { ResizesIf (AsksShrinking self.old index) self.old self.new }
-        ensures kept { KeepsMap self.old self.new }
-        ensures bag { KeepsOpenTickets self.old.rehash self.new.rehash }
+        ensures kept { Keeps self.old self.new }
         ensures placed { (hash : K → ℕ) → ArePlaced hash self.old → ArePlaced hash self.new }
     {
         if !self.asks_shrinking(index) {
@@ -37,8 +35,7 @@ impl<K: Drop, V: Drop, L: LruList + Drop, const TYPE: u8> Arrays<K, V, L, TYPE> 
         requires within { index < length (buckets_on self.old is_old) }
         ensures asked { ResizesIf ((pairs_in (bucket_at (buckets_on self.old is_old) index) ≡ []) × AsksShrinking self.old index)
             self.old self.new }
-        ensures kept { KeepsMap self.old self.new }
-        ensures bag { KeepsOpenTickets self.old.rehash self.new.rehash }
+        ensures kept { Keeps self.old self.new }
         ensures placed { (hash : K → ℕ) → ArePlaced hash self.old → ArePlaced hash self.new }
     {
         self.room_of(is_old);
@@ -53,8 +50,7 @@ impl<K: Drop, V: Drop, L: LruList + Drop, const TYPE: u8> Arrays<K, V, L, TYPE> 
         requires left { left ≡ length (pairs_in (bucket_at (buckets_on self.old is_old) index)) }
         ensures asked { ResizesIf ((pairs_in (bucket_at (buckets_on self.old is_old) index) ≡ []) × AsksShrinking self.old index)
             self.old self.new }
-        ensures kept { KeepsMap self.old self.new }
-        ensures bag { KeepsOpenTickets self.old.rehash self.new.rehash }
+        ensures kept { Keeps self.old self.new }
         ensures placed { (hash : K → ℕ) → ArePlaced hash self.old → ArePlaced hash self.new }
     {
         if left != 0 {
@@ -69,30 +65,23 @@ impl<K, V, L: LruList, const TYPE: u8> Arrays<K, V, L, TYPE> {
     pub(crate) fn asks_growth(&self, index: usize) -> bool
         ensures { IsTrue result ↔ AsksGrowth self.now index }
     {
-        if self.rehash.is_some() {
+        if self.len() == 0 || self.has_old() {
             return false;
         }
-        match &self.current {
-            None => false,
-            Some(array) => is_crowded(array, index),
-        }
+        is_crowded(self.array_of(false), index)
     }
 
     pub(crate) fn asks_shrinking(&self, index: usize) -> bool
         ensures { IsTrue result ↔ AsksShrinking self.now index }
     {
-        if self.rehash.is_some() {
+        if self.len() == 0 || self.has_old() {
             return false;
         }
-        match &self.current {
-            None => false,
-            Some(array) => {
-                if array.num_slots() <= self.minimum {
-                    return false;
-                }
-                is_deserted(array, index)
-            }
+        let array = self.array_of(false);
+        if array.num_slots() <= self.minimum {
+            return false;
         }
+        is_deserted(array, index)
     }
 }
 

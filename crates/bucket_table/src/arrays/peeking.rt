@@ -1,9 +1,7 @@
 //! Look-ups by a probe that change nothing.
 ghost use Rattle.std.specs.Prelude.{◌≡◌, ◌+◌, ◌≤◌};
 ghost use Rattle.bucket_slots.specs.Places.{pair_lent};
-ghost use Rattle.bucket_table.specs.ArraysView.{old_buckets};
-ghost use Rattle.bucket_table.specs.LookingUp.{lent_buckets, looked_up_len, pair_looked_up};
-ghost use Rattle.bucket_table.specs.Relocation.{buckets_of};
+ghost use Rattle.bucket_table.specs.Map.LookingUp.{lent_buckets, looked_up_len, pair_looked_up};
 
 use super::Arrays;
 use crate::hash_table::peek_arrays;
@@ -18,9 +16,9 @@ impl<K, V, L: LruList, const TYPE: u8> Arrays<K, V, L, TYPE> {
     pub(crate) fn peek_by<P: KeyProbe<K>>(&self, hash: u64, probe: &mut P) -> Option<(&K, &V)>
         ensures first { pair_lent result
             ≡ pair_looked_up (P.wants probe.old) hash
-            (old_buckets self.now.rehash) (buckets_of self.now.current) }
+            self.now.linked self.now.current }
         ensures few { P.asked probe.new ≤ P.asked probe.old
-            + looked_up_len hash (old_buckets self.now.rehash) (buckets_of self.now.current) }
+            + looked_up_len hash self.now.linked self.now.current }
         ensures fixed { P.wants probe.new ≡ P.wants probe.old }
     {
         match &self.current {
@@ -32,10 +30,10 @@ impl<K, V, L: LruList, const TYPE: u8> Arrays<K, V, L, TYPE> {
     /// Returns the old array.
     #[inline(always)]
     fn old_array(&self) -> Option<&BucketArray<K, V, L, TYPE>>
-        ensures { lent_buckets result ≡ old_buckets self.now.rehash }
+        ensures { lent_buckets result ≡ self.now.linked }
     {
-        match &self.rehash {
-            Some(rehash) => Some(&rehash.array),
+        match &self.linked {
+            Some(array) => Some(array),
             None => None,
         }
     }

@@ -1,11 +1,9 @@
 //! A current bucket whose old pairs have come.
-ghost use Rattle.std.specs.Prelude.{◌≡◌, ◌<◌, true, None, Some, IsOk, length};
-ghost use Rattle.bucket_slots.specs.Homes.{IsHome};
-ghost use Rattle.bucket_table.specs.ArraysView.{ArePlaced, RehashView};
-ghost use Rattle.bucket_table.specs.Preparing.{AnswersFor, IsReady, Prepares};
-ghost use Rattle.bucket_table.specs.Rehashing.{KeepsArrays};
-ghost use Rattle.bucket_table.specs.Relocation.{buckets_of};
-ghost use Rattle.bucket_table.specs.Units.{NeedsNoMemory, IsUnitReady, KeepsOpenTickets, KeepsRehash, WorksUnit};
+ghost use Rattle.std.specs.Prelude.{◌≡◌, ◌<◌, IsOk, OnOk, length};
+ghost use Rattle.bucket_table.specs.Views.ArraysView.{ArePlaced, AreSourcesKilled};
+ghost use Rattle.bucket_table.specs.Views.Keeping.{KeepsArrays};
+ghost use Rattle.bucket_table.specs.Map.Preparing.{AnswersFor, IsReady, Prepares};
+ghost use Rattle.bucket_table.specs.Rehash.Units.{WorksUnits};
 
 use super::Arrays;
 use crate::hash_table::capacity::from_index_to_range;
@@ -20,7 +18,7 @@ impl<K: Eq + Drop, V: Drop, L: LruList + Drop, const TYPE: u8> Arrays<K, V, L, T
     /// # Errors
     ///
     /// Want of memory: a source isn't killed.
-    #[inline(never)]
+    #[inline(always)]
     pub(crate) fn fetch_home<H: KeyHash<K>>(
         &mut self,
         hasher: &H,
@@ -29,47 +27,56 @@ impl<K: Eq + Drop, V: Drop, L: LruList + Drop, const TYPE: u8> Arrays<K, V, L, T
         requires placed { ArePlaced (H.hash_of hasher.now) self.old }
         ensures placed { ArePlaced (H.hash_of hasher.now) self.new }
         ensures kept { KeepsArrays self.old self.new }
-        ensures bag { KeepsOpenTickets self.old.rehash self.new.rehash }
         ensures ready { Prepares self.new hash result }
-        ensures unit { (was : RehashView K V)
-            → (self.old.rehash ≡ Some was)
-            → IsUnitReady was
-            → NeedsNoMemory was.tickets.position self.old was
-            → WorksUnit was self.new.rehash }
-        ensures alone { self.old.rehash ≡ None → self.new ≡ self.old }
+        ensures units { WorksUnits 1 self.old self.new }
+        ensures alone { length self.old.linked ≡ 0 → self.new ≡ self.old }
         ensures answer { AnswersFor result self.old }
-        ensures succeeds { self.old.rehash ≡ None → IsOk result }
+        ensures succeeds { length self.old.linked ≡ 0 → IsOk result }
     {
-        self.work_unit(hasher);
-        if self.len() == 0 {
+        if !self.has_current() {
             return Ok(false);
         }
-        if self.move_sources(hasher, hash) {
-            Ok(true)
-        } else {
-            Err(AllocError)
+        if !self.has_old() {
+            return Ok(true);
+        }
+        let index = self.home(hash);
+        match self.prepare_at(hasher, index) {
+            Ok(()) => Ok(true),
+            Err(refused) => Err(refused),
         }
     }
 
-    /// Moves the sources of the home of a hash. Returns whether no memory was refused.
-    fn move_sources<H: KeyHash<K>>(&mut self, hasher: &H, hash: u64) -> bool
-        requires stands { 0 < length (buckets_of self.old.current) }
+    /// Works a unit, and moves the sources of a current bucket.
+    ///
+    /// # Errors
+    ///
+    /// Want of memory: a source isn't killed.
+    #[inline(never)]
+    pub(crate) fn prepare_at<H: KeyHash<K>>(
+        &mut self,
+        hasher: &H,
+        index: usize,
+    ) -> Result<(), AllocError>
+        requires within { index < length self.old.current }
         requires placed { ArePlaced (H.hash_of hasher.now) self.old }
         ensures placed { ArePlaced (H.hash_of hasher.now) self.new }
         ensures kept { KeepsArrays self.old self.new }
-        ensures rehash { KeepsRehash self.old.rehash self.new.rehash }
-        ensures bag { KeepsOpenTickets self.old.rehash self.new.rehash }
-        ensures ready { result ≡ true → IsReady self.new hash }
-        ensures alone { self.old.rehash ≡ None → self.new ≡ self.old }
-        ensures succeeds { self.old.rehash ≡ None → result ≡ true }
+        ensures ready { OnOk result (AreSourcesKilled self.new index) }
+        ensures units { WorksUnits 1 self.old self.new }
+        ensures alone { length self.old.linked ≡ 0 → self.new ≡ self.old }
+        ensures succeeds { length self.old.linked ≡ 0 → IsOk result }
     {
+        self.work_unit(hasher);
         let to = self.len();
         let from = self.old_len();
         if from == 0 {
-            return true;
+            return Ok(());
         }
-        let index = self.home(hash);
         let (start, end) = from_index_to_range(to, from, index);
-        self.relocate_range(hasher, start, end)
+        if self.relocate_range(hasher, start, end) {
+            Ok(())
+        } else {
+            Err(AllocError)
+        }
     }
 }

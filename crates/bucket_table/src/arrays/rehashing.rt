@@ -1,37 +1,22 @@
-//! The tickets of a rehash over real arrays, and a unit of it inside a call.
-ghost use Rattle.std.specs.Prelude.{◌≡◌, ◌^◌, ◌<◌, ◌↔◌, IfSome, IsTrue, option_map};
-ghost use Rattle.bucket_table.specs.ArraysView.{LosesNoUnit, entries_of, killed_flags};
-ghost use Rattle.bucket_table.specs.Covered.{IsUnitKilled};
-ghost use Rattle.bucket_table.specs.Rehashing.{EndsRehash, StartsRehash};
-ghost use Rattle.bucket_table.specs.State.{word_of};
+//! The tickets of a rehash over real arrays.
+ghost use Rattle.std.specs.Prelude.{◌≡◌, ◌^◌, ◌<◌, ◌↔◌, IsTrue};
+ghost use Rattle.bucket_table.specs.Views.ArraysView.{LosesNoUnit, entries_of, killed_flags, list_of};
+ghost use Rattle.bucket_table.specs.Rehash.Covered.{IsUnitKilled};
+ghost use Rattle.bucket_table.specs.Rehash.Rehashing.{EndsRehash};
+ghost use Rattle.bucket_table.specs.Rehash.Steps.{Starts};
 
 use super::Arrays;
-use crate::tickets::{REHASHING_UNIT_LEN, TICKET_STEP, TicketError};
-use bucket_slots::bucket::AllocError;
+use crate::tickets::{REHASHING_UNIT_LEN, TICKET_STEP, TicketError, Tickets};
 use bucket_slots::bucket_array::BucketArray;
 use bucket_slots::lru::LruList;
 
 impl<K, V, L: LruList, const TYPE: u8> Arrays<K, V, L, TYPE> {
-    /// Returns the rehash word.
-    pub fn rehashing_metadata(&self) -> Option<usize>
-        ensures { result ≡ option_map (λ rehash. word_of rehash.tickets) self.now.rehash }
-    {
-        match &self.rehash {
-            None => None,
-            Some(rehash) => Some(rehash.tickets.word()),
-        }
-    }
-
     /// Hands out the next unit of the old array, and returns its ticket.
     pub fn start_incremental_rehash(&mut self) -> Option<usize>
-        ensures rehash { StartsRehash self.old.rehash result self.new.rehash }
-        ensures others { self.new ≡ record self.old { rehash = self.new.rehash } }
-        ensures same_pairs { entries_of self.new ≡ entries_of self.old }
+        ensures tickets { Starts self.old.tickets result self.new.tickets }
+        ensures others { self.new ≡ record self.old { tickets = self.new.tickets } }
     {
-        let Some(rehash) = &mut self.rehash else {
-            return None;
-        };
-        rehash.tickets.start()
+        self.tickets.start()
     }
 }
 
@@ -42,31 +27,39 @@ impl<K: Drop, V: Drop, L: LruList + Drop, const TYPE: u8> Arrays<K, V, L, TYPE> 
         ticket: usize,
         success: bool,
     ) -> Result<bool, TicketError>
-        requires { IfSome self.old.rehash LosesNoUnit }
-        ensures rehash { EndsRehash self.old.rehash ticket success result self.new.rehash }
-        ensures others { self.new ≡ record self.old { rehash = self.new.rehash } }
+        requires { LosesNoUnit self.old.linked self.old.tickets }
+        ensures rehash { EndsRehash self.old ticket success result self.new }
         ensures same_pairs { entries_of self.new ≡ entries_of self.old }
     {
-        let Some(mut rehash) = self.rehash.take() else {
-            return Err(TicketError::NotOpen);
-        };
-        let is_done = is_unit_killed(&rehash.array, ticket / TICKET_STEP);
-        match rehash.tickets.end(ticket, success, is_done) {
-            Ok(true) => Ok(true),
-            Ok(false) => {
-                self.rehash = Some(rehash);
-                Ok(false)
+        let is_done = is_unit_killed(&self.linked, ticket / TICKET_STEP);
+        match self.tickets.end(ticket, success, is_done) {
+            Ok(true) => {
+                self.linked = None;
+                self.tickets = Tickets::none(self.alloc);
+                Ok(true)
             }
-            Err(error) => {
-                self.rehash = Some(rehash);
-                Err(error)
-            }
+            Ok(false) => Ok(false),
+            Err(error) => Err(error),
         }
     }
 }
 
 /// Returns whether each bucket of a unit is killed.
 fn is_unit_killed<K, V, L: LruList, const TYPE: u8>(
+    side: &Option<BucketArray<K, V, L, TYPE>>,
+    unit: usize,
+) -> bool
+    requires { unit < 2 ^ 53 }
+    ensures { IsTrue result ↔ IsUnitKilled (killed_flags (list_of side.now)) unit }
+{
+    match side {
+        None => true,
+        Some(array) => is_killed_in(array, unit),
+    }
+}
+
+/// Returns whether each bucket of a unit is killed.
+fn is_killed_in<K, V, L: LruList, const TYPE: u8>(
     array: &BucketArray<K, V, L, TYPE>,
     unit: usize,
 ) -> bool

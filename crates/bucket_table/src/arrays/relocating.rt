@@ -1,12 +1,10 @@
 //! Old buckets that move on to the current array.
-ghost use Rattle.std.specs.Prelude.{false, ◌≡◌, ◌<◌, ◌≤◌, ℕ, true, Some, IsOk, OnOk, OnErr, length};
+ghost use Rattle.std.specs.Prelude.{false, ◌≡◌, ◌+◌, ◌<◌, ◌≤◌, true, IsOk, OnOk, OnErr, length};
 ghost use Rattle.bucket_slots.specs.ArrayView.{bucket_at};
-ghost use Rattle.bucket_table.specs.ArraysView.{ArePlaced, RehashView, old_buckets};
-ghost use Rattle.bucket_table.specs.Landings.{CarriesRecency};
-ghost use Rattle.bucket_table.specs.Rehashing.{MoveNeedsNoMemory, IsOldIndex, IsOldRange, IsUnmoved, RelocatesAt};
-ghost use Rattle.bucket_table.specs.Relocation.{buckets_of};
-ghost use Rattle.bucket_table.specs.UnitRuns.{SpendsSome};
-ghost use Rattle.bucket_table.specs.Units.{RangeNeedsNoMemory, WorksRange};
+ghost use Rattle.bucket_table.specs.Views.ArraysView.{ArePlaced};
+ghost use Rattle.bucket_table.specs.Layout.Landings.{CarriesRecency};
+ghost use Rattle.bucket_table.specs.Rehash.Rehashing.{IsUnmoved, RelocatesAt};
+ghost use Rattle.bucket_table.specs.Rehash.Units.{NeedsNoMemory, SpendsSome, WorksRange};
 
 use super::Arrays;
 use crate::hash_table::relocate::relocate;
@@ -26,24 +24,23 @@ impl<K: Eq + Drop, V: Drop, L: LruList + Drop, const TYPE: u8> Arrays<K, V, L, T
         hasher: &H,
         index: usize,
     ) -> Result<(), AllocError>
-        requires within { IsOldIndex self.old index }
+        requires within { index < length self.old.linked }
         requires placed { ArePlaced (H.hash_of hasher.now) self.old }
         ensures placed { ArePlaced (H.hash_of hasher.now) self.new }
         ensures done { OnOk result (RelocatesAt index self.old self.new) }
-        ensures recency { OnOk result (CarriesRecency (bucket_at (old_buckets self.old.rehash) index)
-            (buckets_of self.old.current) (buckets_of self.new.current)) }
+        ensures recency { OnOk result (CarriesRecency (bucket_at self.old.linked index)
+            self.old.current self.new.current) }
         ensures refused { OnErr result (IsUnmoved self.old self.new) }
-        ensures succeeds { MoveNeedsNoMemory index self.old → IsOk result }
+        ensures succeeds { NeedsNoMemory index (index + 1) self.old → IsOk result }
         ensures alive { OnErr result
-            ((bucket_at (old_buckets self.old.rehash) index).killed ≡ false) }
+            ((bucket_at self.old.linked index).killed ≡ false) }
     {
         let Some(current) = &mut self.current else {
             unreachable!()
         };
-        let Some(rehash) = &mut self.rehash else {
+        let Some(linked) = &mut self.linked else {
             unreachable!()
         };
-        let linked = &mut rehash.array;
         relocate(self.alloc, hasher, current, linked, index)
     }
 
@@ -55,15 +52,12 @@ impl<K: Eq + Drop, V: Drop, L: LruList + Drop, const TYPE: u8> Arrays<K, V, L, T
         start: usize,
         end: usize,
     ) -> bool
-        requires within { IsOldRange self.old end }
+        requires within { end ≤ length self.old.linked }
         requires placed { ArePlaced (H.hash_of hasher.now) self.old }
         ensures placed { ArePlaced (H.hash_of hasher.now) self.new }
         ensures worked { WorksRange start end result self.old self.new }
-        ensures spends { SpendsSome (old_buckets self.old.rehash) (old_buckets self.new.rehash) }
-        ensures succeeds { (was : RehashView K V)
-            → (self.old.rehash ≡ Some was)
-            → RangeNeedsNoMemory start end self.old was
-            → result ≡ true }
+        ensures spends { SpendsSome self.old.linked self.new.linked }
+        ensures succeeds { NeedsNoMemory start end self.old → result ≡ true }
     {
         'buckets: for index in start..end {
             let Ok(()) = self.relocate(hasher, index) else {

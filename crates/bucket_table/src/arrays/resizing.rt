@@ -1,13 +1,13 @@
 //! A resize: by its plan the current array becomes the old one, or is given up.
-ghost use Rattle.std.specs.Prelude.{◌≡◌, ◌≤◌, ◌+◌, ◌-◌, ℕ, None, Some, IsSome, OnOk, OnErr};
-ghost use Rattle.bucket_table.specs.ArraysView.{ArePlaced, entries_of};
-ghost use Rattle.bucket_table.specs.Finding.{KeepsMap};
-ghost use Rattle.bucket_table.specs.ResizePlan.{IsCapacityWithin};
-ghost use Rattle.bucket_table.specs.Resizes.{IsPlanOf, IsResized, MakesArray, Releases, Reserves, ResizesByPlan, Settles, with_minimum};
-ghost use Rattle.bucket_table.specs.Units.{KeepsOpenTickets};
+ghost use Rattle.std.specs.Prelude.{◌≡◌, ◌<◌, ◌≤◌, ◌+◌, ◌-◌, ℕ, [], length, OnOk, OnErr};
+ghost use Rattle.bucket_table.specs.Views.ArraysView.{ArePlaced};
+ghost use Rattle.bucket_table.specs.Views.Keeping.{Keeps};
+ghost use Rattle.bucket_table.specs.Resize.ResizePlan.{IsCapacityWithin};
+ghost use Rattle.bucket_table.specs.Resize.Turns.{IsMade, IsPlanOf, IsPushed, MakesArray, Releases, Reserves, Resizes, TriesResize};
+ghost use Rattle.bucket_table.specs.Resize.Turns.{with_minimum};
 
+use super::Arrays;
 use super::plan::{Plan, plan_of};
-use super::{Arrays, Rehash};
 use crate::tickets::Tickets;
 use bucket_slots::bucket::AllocError;
 use bucket_slots::bucket_array::BucketArray;
@@ -19,13 +19,10 @@ impl<K, V, L: LruList, const TYPE: u8> Arrays<K, V, L, TYPE> {
         ensures plan { IsPlanOf self.now result }
         ensures capacity { IsCapacityWithin self.now.maximum result }
     {
-        if self.rehash.is_some() {
+        if self.len() == 0 || self.has_old() {
             return Plan::Keep;
         }
-        match &self.current {
-            None => Plan::Keep,
-            Some(array) => plan_of(array, self.minimum, self.maximum),
-        }
+        plan_of(self.array_of(false), self.minimum, self.maximum)
     }
 }
 
@@ -37,8 +34,8 @@ impl<K: Drop, V: Drop, L: LruList + Drop, const TYPE: u8> Arrays<K, V, L, TYPE> 
     /// Want of memory: all is as it was.
     #[inline(never)]
     pub(crate) fn try_resize(&mut self) -> Result<bool, AllocError>
-        ensures plan { ResizesByPlan self.old result self.new }
-        ensures same_entries { entries_of self.new ≡ entries_of self.old }
+        ensures resized { TriesResize self.old result self.new }
+        ensures kept { Keeps self.old self.new }
         ensures placed { (hash : K → ℕ) → ArePlaced hash self.old → ArePlaced hash self.new }
     {
         match self.resize_plan() {
@@ -62,9 +59,9 @@ impl<K: Drop, V: Drop, L: LruList + Drop, const TYPE: u8> Arrays<K, V, L, TYPE> 
     #[inline(always)]
     pub(crate) fn make_array(&mut self) -> Result<(), AllocError>
         ensures made { OnOk result (MakesArray self.old self.new) }
-        ensures unchanged { OnErr result ((self.old.current ≡ None) × (self.new ≡ self.old)) }
+        ensures unchanged { OnErr result ((length self.old.current ≡ 0) × (self.new ≡ self.old)) }
     {
-        if self.current.is_some() {
+        if self.has_current() {
             return Ok(());
         }
         self.make_first_array()
@@ -77,8 +74,8 @@ impl<K: Drop, V: Drop, L: LruList + Drop, const TYPE: u8> Arrays<K, V, L, TYPE> 
     /// Want of memory: there is still none.
     #[inline(never)]
     fn make_first_array(&mut self) -> Result<(), AllocError>
-        requires { self.old.current ≡ None }
-        ensures made { OnOk result (MakesArray self.old self.new) }
+        requires { length self.old.current ≡ 0 }
+        ensures made { OnOk result (IsMade self.old self.new) }
         ensures unchanged { OnErr result (self.new ≡ self.old) }
     {
         let Ok(fresh) = BucketArray::alloc(self.alloc, self.minimum) else {
@@ -94,8 +91,7 @@ impl<K: Drop, V: Drop, L: LruList + Drop, const TYPE: u8> Arrays<K, V, L, TYPE> 
     /// Want of memory leaves the arrays.
     pub(crate) fn reserve_capacity(&mut self, additional: usize) -> usize
         ensures reserved { Reserves additional self.old result self.new }
-        ensures kept { KeepsMap (with_minimum self.old (self.old.minimum + result)) self.new }
-        ensures bag { KeepsOpenTickets self.old.rehash self.new.rehash }
+        ensures kept { Keeps (with_minimum self.old (self.old.minimum + result)) self.new }
         ensures placed { (hash : K → ℕ) → ArePlaced hash self.old → ArePlaced hash self.new }
     {
         self.sound();
@@ -112,8 +108,7 @@ impl<K: Drop, V: Drop, L: LruList + Drop, const TYPE: u8> Arrays<K, V, L, TYPE> 
     /// Want of memory leaves the arrays.
     pub(crate) fn release_capacity(&mut self, released: usize) -> usize
         ensures released { Releases released self.old result self.new }
-        ensures kept { KeepsMap (with_minimum self.old (self.old.minimum - result)) self.new }
-        ensures bag { KeepsOpenTickets self.old.rehash self.new.rehash }
+        ensures kept { Keeps (with_minimum self.old (self.old.minimum - result)) self.new }
         ensures placed { (hash : K → ℕ) → ArePlaced hash self.old → ArePlaced hash self.new }
     {
         self.sound();
@@ -127,9 +122,8 @@ impl<K: Drop, V: Drop, L: LruList + Drop, const TYPE: u8> Arrays<K, V, L, TYPE> 
     /// Sets the minimum, and then resizes; want of memory leaves the arrays.
     fn settle(&mut self, minimum: usize)
         requires { minimum ≤ self.old.maximum }
-        ensures settled { Settles minimum self.old self.new }
-        ensures kept { KeepsMap (with_minimum self.old minimum) self.new }
-        ensures bag { KeepsOpenTickets self.old.rehash self.new.rehash }
+        ensures settled { Resizes (with_minimum self.old minimum) self.new }
+        ensures kept { Keeps (with_minimum self.old minimum) self.new }
         ensures placed { (hash : K → ℕ) → ArePlaced hash self.old → ArePlaced hash self.new }
     {
         self.minimum = minimum;
@@ -138,8 +132,8 @@ impl<K: Drop, V: Drop, L: LruList + Drop, const TYPE: u8> Arrays<K, V, L, TYPE> 
 
     /// Gives the current array up.
     fn give_array_up(&mut self)
-        requires { self.old.rehash ≡ None }
-        ensures { self.new ≡ record self.old { current = None } }
+        requires { length self.old.linked ≡ 0 }
+        ensures { self.new ≡ record self.old { current = [] } }
     {
         self.current = None;
     }
@@ -148,12 +142,13 @@ impl<K: Drop, V: Drop, L: LruList + Drop, const TYPE: u8> Arrays<K, V, L, TYPE> 
     ///
     /// All memory is asked for first.
     fn push_array(&mut self, capacity: usize) -> Result<(), AllocError>
-        requires stands { IsSome self.old.current }
-        requires alone { self.old.rehash ≡ None }
+        requires stands { 0 < length self.old.current }
+        requires alone { length self.old.linked ≡ 0 }
         requires capacity { capacity ≤ self.old.maximum }
-        ensures resized { OnOk result (IsResized capacity self.old self.new) }
+        ensures pushed { OnOk result (IsPushed capacity self.old self.new) }
         ensures unchanged { OnErr result (self.new ≡ self.old) }
     {
+        self.sound();
         let Ok(tickets) = Tickets::new(self.alloc, self.len()) else {
             return Err(AllocError);
         };
@@ -164,7 +159,8 @@ impl<K: Drop, V: Drop, L: LruList + Drop, const TYPE: u8> Arrays<K, V, L, TYPE> 
             unreachable!()
         };
         self.current = Some(fresh);
-        self.rehash = Some(Rehash { array, tickets });
+        self.linked = Some(array);
+        self.tickets = tickets;
         Ok(())
     }
 }

@@ -1,6 +1,6 @@
 //! Estimates of the number of live slots from a few buckets of an array.
 ghost use Rattle.std.specs.Prelude.{◌≡◌, ◌+◌, ◌<◌, ◌≤◌, length};
-ghost use Rattle.bucket_table.specs.Sampling.{estimate, live_counts};
+ghost use Rattle.bucket_table.specs.Resize.Sampling.{estimate, live_counts};
 
 use bucket_slots::bucket_array::BucketArray;
 use bucket_slots::lru::LruList;

@@ -1,9 +1,9 @@
 //! A key searched in its home in one of the arrays.
 ghost use Rattle.std.specs.Prelude.{◌≡◌, ◌%◌, None, IfSome, IfNone};
 ghost use Rattle.bucket_slots.specs.Searching.{pair_wanted};
-ghost use Rattle.bucket_table.specs.ByKey.{StandsAt};
-ghost use Rattle.bucket_table.specs.LookingUp.{home_bucket};
-ghost use Rattle.bucket_table.specs.Sides.{buckets_on};
+ghost use Rattle.bucket_table.specs.Map.ByKey.{StandsAt};
+ghost use Rattle.bucket_table.specs.Map.LookingUp.{home_bucket};
+ghost use Rattle.bucket_table.specs.Views.Sides.{buckets_on};
 
 use super::Arrays;
 use bucket_slots::bucket::EntryPtr;

@@ -1,9 +1,8 @@
 //! A unit of a rehash inside a call.
-ghost use Rattle.std.specs.Prelude.{◌≡◌, ◌*◌, true, None, Some};
-ghost use Rattle.bucket_table.specs.ArraysView.{ArePlaced, RehashView, old_buckets};
-ghost use Rattle.bucket_table.specs.Rehashing.{IsOldIndex, KeepsArrays};
-ghost use Rattle.bucket_table.specs.UnitRuns.{SpendsSome, WorksUnits};
-ghost use Rattle.bucket_table.specs.Units.{NeedsNoMemory, IsUnitReady, KeepsOpenTickets, KeepsKilled, WorksSome, WorksUnit};
+ghost use Rattle.std.specs.Prelude.{◌≡◌, ◌+◌, ◌*◌, ◌<◌, true, length};
+ghost use Rattle.bucket_table.specs.Views.ArraysView.{ArePlaced};
+ghost use Rattle.bucket_table.specs.Views.Keeping.{KeepsArrays};
+ghost use Rattle.bucket_table.specs.Rehash.Units.{NeedsNoMemory, SpendsSome, WorksUnit, WorksUnits};
 
 use super::Arrays;
 use crate::key_hash::KeyHash;
@@ -16,15 +15,8 @@ impl<K: Eq + Drop, V: Drop, L: LruList + Drop, const TYPE: u8> Arrays<K, V, L, T
         requires placed { ArePlaced (H.hash_of hasher.now) self.old }
         ensures placed { ArePlaced (H.hash_of hasher.now) self.new }
         ensures kept { KeepsArrays self.old self.new }
-        ensures bag { KeepsOpenTickets self.old.rehash self.new.rehash }
-        ensures still { KeepsKilled self.old.rehash self.new.rehash }
-        ensures unit { (was : RehashView K V)
-            → (self.old.rehash ≡ Some was)
-            → IsUnitReady was
-            → NeedsNoMemory was.tickets.position self.old was
-            → WorksUnit was self.new.rehash }
-        ensures units { WorksUnits 1 self.old self.new.rehash }
-        ensures alone { self.old.rehash ≡ None → self.new ≡ self.old }
+        ensures units { WorksUnits 1 self.old self.new }
+        ensures alone { length self.old.linked ≡ 0 → self.new ≡ self.old }
     {
         self.sound();
         let Some(ticket) = self.start_incremental_rehash() else {
@@ -36,15 +28,12 @@ impl<K: Eq + Drop, V: Drop, L: LruList + Drop, const TYPE: u8> Arrays<K, V, L, T
 
     /// Relocates each old bucket of a unit in turn, and returns whether no memory was refused.
     pub(crate) fn relocate_unit<H: KeyHash<K>>(&mut self, hasher: &H, unit: usize) -> bool
-        requires within { IsOldIndex self.old (64 * unit) }
+        requires within { 64 * unit < length self.old.linked }
         requires placed { ArePlaced (H.hash_of hasher.now) self.old }
         ensures placed { ArePlaced (H.hash_of hasher.now) self.new }
-        ensures worked { WorksSome unit result self.old self.new }
-        ensures spends { SpendsSome (old_buckets self.old.rehash) (old_buckets self.new.rehash) }
-        ensures succeeds { (was : RehashView K V)
-            → (self.old.rehash ≡ Some was)
-            → NeedsNoMemory unit self.old was
-            → result ≡ true }
+        ensures worked { WorksUnit unit result self.old self.new }
+        ensures spends { SpendsSome self.old.linked self.new.linked }
+        ensures succeeds { NeedsNoMemory (64 * unit) (64 * unit + 64) self.old → result ≡ true }
     {
         let len = self.old_len();
         let start = unit * REHASHING_UNIT_LEN;
@@ -56,12 +45,12 @@ impl<K: Eq + Drop, V: Drop, L: LruList + Drop, const TYPE: u8> Arrays<K, V, L, T
 
     /// Lets the old buckets around one go, where they are killed and hold nothing.
     fn release_old(&mut self, index: usize)
-        requires { IsOldIndex self.old index }
+        requires { index < length self.old.linked }
         ensures { self.new ≡ self.old }
     {
-        let Some(rehash) = &mut self.rehash else {
+        let Some(linked) = &mut self.linked else {
             unreachable!()
         };
-        rehash.array.release_around(index);
+        linked.release_around(index);
     }
 }

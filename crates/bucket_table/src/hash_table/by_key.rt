@@ -10,14 +10,14 @@ ghost use Rattle.bucket_slots.specs.Evicting.{slots_touched};
 ghost use Rattle.bucket_slots.specs.Marking.{MarksBy, slots_marked};
 ghost use Rattle.bucket_slots.specs.Removing.{slots_without};
 ghost use Rattle.bucket_slots.specs.Slots.{is_live, live_pair};
-ghost use Rattle.bucket_table.specs.ArraysView.{marks_of, pairs_of};
-ghost use Rattle.bucket_table.specs.Asking.{RemovesAndShrinks};
-ghost use Rattle.bucket_table.specs.ByKey.{ChangesAt, FindsThen, PreparesThen, ShrinksAt, StandsAt};
-ghost use Rattle.bucket_table.specs.ByKey.{Inserts, Marks, Swaps, Takes, Touches};
-ghost use Rattle.bucket_table.specs.LookingUp.{IsAbsent};
-ghost use Rattle.bucket_table.specs.MapState.{ChangesValue, KeepsPairs, TakesPair, state_of};
-ghost use Rattle.bucket_table.specs.Sides.{bucket_of, buckets_on, with_bucket};
-ghost use Rattle.bucket_table.specs.Units.{KeepsOpenTickets};
+ghost use Rattle.bucket_table.specs.Views.ArraysView.{marks_of, pairs_of};
+ghost use Rattle.bucket_table.specs.Resize.Asking.{RemovesAndShrinks};
+ghost use Rattle.bucket_table.specs.Map.ByKey.{ChangesAt, FindsThen, PreparesThen, ShrinksAt, StandsAt};
+ghost use Rattle.bucket_table.specs.Map.ByKey.{Inserts, Marks, Swaps, Takes, Touches};
+ghost use Rattle.bucket_table.specs.Map.LookingUp.{IsAbsent};
+ghost use Rattle.bucket_table.specs.Map.MapState.{ChangesValue, KeepsPairs, TakesPair, state_of};
+ghost use Rattle.bucket_table.specs.Views.Sides.{bucket_of, buckets_on, with_bucket};
+ghost use Rattle.bucket_table.specs.Views.Keeping.{KeepsOpenTickets};
 
 use crate::arrays::Spot;
 use crate::hash_table::{HashTable, NotInserted};
@@ -44,7 +44,7 @@ impl<K: Eq + Drop, V: Drop, H: KeyHash<K>, L: LruList + Drop, const TYPE: u8> Ha
     pub fn take(&mut self, key: &K) -> Option<(K, V)>
         requires not_index { TYPE ≢ INDEX }
         ensures map { Takes K.eq key.now (state_of TYPE self.old) result (state_of TYPE self.new) }
-        ensures bag { KeepsOpenTickets self.old.arrays.rehash self.new.arrays.rehash }
+        ensures bag { KeepsOpenTickets self.old.arrays.tickets self.new.arrays.tickets }
         ensures arrays { PreparesThen TYPE self.old (λ between.
             ShrinksAt slots_without (is_some result) between self.new) }
     {
@@ -74,7 +74,7 @@ impl<K: Eq + Drop, V: Drop, H: KeyHash<K>, L: LruList + Drop, const TYPE: u8> Ha
         requires callable { (own : Bor K) (value : Bor V) → F.pre reader own value }
         ensures map { Marks K.eq key.now (λ own value answer. F.post reader own value answer)
             (state_of TYPE self.old) result (state_of TYPE self.new) }
-        ensures bag { KeepsOpenTickets self.old.arrays.rehash self.new.arrays.rehash }
+        ensures bag { KeepsOpenTickets self.old.arrays.tickets self.new.arrays.tickets }
         ensures arrays { PreparesThen TYPE self.old (λ between.
             ShrinksAt (λ bucket at. slots_marked bucket at (G.epoch_of generation.now))
             (is_some result) between self.new) }
@@ -104,7 +104,7 @@ impl<K: Eq + Drop, V: Drop, H: KeyHash<K>, L: LruList + Drop, const TYPE: u8> Ha
         requires cache { TYPE ≡ CACHE }
         ensures map { Touches K.eq key.now (state_of TYPE self.old) result
             (state_of TYPE self.new) }
-        ensures bag { KeepsOpenTickets self.old.arrays.rehash self.new.arrays.rehash }
+        ensures bag { KeepsOpenTickets self.old.arrays.tickets self.new.arrays.tickets }
         ensures arrays { PreparesThen TYPE self.old (λ between.
             ChangesAt (slots_touched L.KEEPS) result between self.new) }
     {
@@ -132,7 +132,7 @@ impl<K: Eq + Drop, V: Drop, H: KeyHash<K>, L: LruList + Drop, const TYPE: u8> Ha
     pub fn swap(&mut self, key: &K, value: V) -> Result<V, V>
         ensures map { Swaps K.eq key.now value (state_of TYPE self.old) result
             (state_of TYPE self.new) }
-        ensures bag { KeepsOpenTickets self.old.arrays.rehash self.new.arrays.rehash }
+        ensures bag { KeepsOpenTickets self.old.arrays.tickets self.new.arrays.tickets }
         ensures arrays { PreparesThen TYPE self.old (λ between.
             ChangesAt (λ bucket at. bucket_with_value bucket at value) (is_ok result) between
             self.new) }
@@ -160,7 +160,7 @@ impl<K: Eq + Drop, V: Drop, H: KeyHash<K>, L: LruList + Drop, const TYPE: u8> Ha
     ) -> Result<(), NotInserted<K, V>>
         ensures map { Inserts K.eq key value (state_of TYPE self.old) result
             (state_of TYPE self.new) }
-        ensures bag { KeepsOpenTickets self.old.arrays.rehash self.new.arrays.rehash }
+        ensures bag { KeepsOpenTickets self.old.arrays.tickets self.new.arrays.tickets }
         ensures arrays { FindsThen TYPE (H.hash_of self.old.hasher key)
             (λ bucket. slots_after_insertion TYPE (G.keeps generation.now) bucket (key, value)
             (H.hash_of self.old.hasher key % 256)) self.old result self.new }
@@ -189,7 +189,7 @@ impl<K: Eq + Drop, V: Drop, H: KeyHash<K>, L: LruList + Drop, const TYPE: u8> Ha
         ensures pair { live_pair (slot_in (bucket_of self.old spot.is_old spot.index) spot.at)
             ≡ Some result }
         ensures map { TakesPair (state_of TYPE self.old) result (state_of TYPE self.new) }
-        ensures bag { KeepsOpenTickets self.old.arrays.rehash self.new.arrays.rehash }
+        ensures bag { KeepsOpenTickets self.old.arrays.tickets self.new.arrays.tickets }
         ensures arrays { RemovesAndShrinks self.old.arrays spot.is_old spot.index
             (slots_without (bucket_of self.old spot.is_old spot.index) spot.at) self.new.arrays }
     {
@@ -213,7 +213,7 @@ impl<K: Eq + Drop, V: Drop, H: KeyHash<K>, L: LruList + Drop, const TYPE: u8> Ha
         ensures map { (pair : K × V)
             → (live_pair (slot_in (bucket_of self.old spot.is_old spot.index) spot.at) ≡ Some pair)
             → TakesPair (state_of TYPE self.old) pair (state_of TYPE self.new) }
-        ensures bag { KeepsOpenTickets self.old.arrays.rehash self.new.arrays.rehash }
+        ensures bag { KeepsOpenTickets self.old.arrays.tickets self.new.arrays.tickets }
         ensures arrays { RemovesAndShrinks self.old.arrays spot.is_old spot.index
             (slots_marked (bucket_of self.old spot.is_old spot.index) spot.at
             (G.epoch_of generation.now)) self.new.arrays }
@@ -239,7 +239,7 @@ impl<K: Eq + Drop, V: Drop, H: KeyHash<K>, L: LruList + Drop, const TYPE: u8> Ha
         requires live_slot { IsTrue (is_live
             (slot_in (bucket_of self.old spot.now.is_old spot.now.index) spot.now.at)) }
         ensures map { KeepsPairs (state_of TYPE self.old) (state_of TYPE self.new) }
-        ensures bag { KeepsOpenTickets self.old.arrays.rehash self.new.arrays.rehash }
+        ensures bag { KeepsOpenTickets self.old.arrays.tickets self.new.arrays.tickets }
         ensures table { self.new ≡ with_bucket self.old spot.now.is_old spot.now.index
             (slots_touched L.KEEPS (bucket_of self.old spot.now.is_old spot.now.index)
             spot.now.at) }
@@ -261,7 +261,7 @@ impl<K: Eq + Drop, V: Drop, H: KeyHash<K>, L: LruList + Drop, const TYPE: u8> Ha
             × (live_pair (slot_in (bucket_of self.old spot.now.is_old spot.now.index) spot.now.at)
             ≡ Some (found, result))
             × ChangesValue (state_of TYPE self.old) (found, result) value (state_of TYPE self.new) }
-        ensures bag { KeepsOpenTickets self.old.arrays.rehash self.new.arrays.rehash }
+        ensures bag { KeepsOpenTickets self.old.arrays.tickets self.new.arrays.tickets }
         ensures table { self.new ≡ with_bucket self.old spot.now.is_old spot.now.index
             (bucket_with_value (bucket_of self.old spot.now.is_old spot.now.index) spot.now.at
             value) }

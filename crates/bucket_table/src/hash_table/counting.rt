@@ -4,11 +4,12 @@
 //! Invariant: the table's, `IsOneMap`; a count keeps the pairs and the open tickets.
 //!
 //! Ports `num_entries` and `has_entry` of scc's `src/hash_table.rs`.
-ghost use Rattle.std.specs.Prelude.{◌≡◌, ◌↔◌, ◌<◌, [], None, IsTrue, length};
-ghost use Rattle.bucket_table.specs.ArraysView.{pairs_of};
-ghost use Rattle.bucket_table.specs.Counting.{CountsAndResizes, counted_to};
-ghost use Rattle.bucket_table.specs.MapState.{KeepsPairs, state_of};
-ghost use Rattle.bucket_table.specs.Units.{KeepsOpenTickets, WorksOneUnit};
+ghost use Rattle.std.specs.Prelude.{◌≡◌, ◌↔◌, ◌<◌, [], IsTrue, length};
+ghost use Rattle.bucket_table.specs.Views.ArraysView.{pairs_of};
+ghost use Rattle.bucket_table.specs.Map.Counting.{CountsAndResizes, counted_to};
+ghost use Rattle.bucket_table.specs.Views.Keeping.{KeepsOpenTickets};
+ghost use Rattle.bucket_table.specs.Map.MapState.{KeepsPairs, state_of};
+ghost use Rattle.bucket_table.specs.Rehash.Units.{WorksUnits};
 
 use crate::hash_table::HashTable;
 use crate::key_hash::KeyHash;
@@ -31,10 +32,10 @@ impl<K: Eq + Drop, V: Drop, H: KeyHash<K>, L: LruList + Drop, const TYPE: u8> Ha
     pub fn num_entries(&mut self) -> usize
         ensures count { result ≡ counted_to (pairs_of self.new.arrays) }
         ensures map { KeepsPairs (state_of TYPE self.old) (state_of TYPE self.new) }
-        ensures bag { KeepsOpenTickets self.old.arrays.rehash self.new.arrays.rehash }
-        ensures unit { WorksOneUnit self.old.arrays self.new.arrays.rehash }
+        ensures bag { KeepsOpenTickets self.old.arrays.tickets self.new.arrays.tickets }
+        ensures units { WorksUnits 1 self.old.arrays self.new.arrays }
         ensures arrays { CountsAndResizes self.old.arrays self.new.arrays }
-        ensures alone { self.old.arrays.rehash ≡ None → (pairs_of self.old.arrays ≡ [] → ⊥)
+        ensures alone { length self.old.arrays.linked ≡ 0 → (pairs_of self.old.arrays ≡ [] → ⊥)
             → self.new ≡ self.old }
     {
         self.arrays.num_entries(&self.hasher)
@@ -48,10 +49,10 @@ impl<K: Eq + Drop, V: Drop, H: KeyHash<K>, L: LruList + Drop, const TYPE: u8> Ha
     pub fn has_entry(&mut self) -> bool
         ensures has { IsTrue result ↔ (0 < length (pairs_of self.new.arrays)) }
         ensures map { KeepsPairs (state_of TYPE self.old) (state_of TYPE self.new) }
-        ensures bag { KeepsOpenTickets self.old.arrays.rehash self.new.arrays.rehash }
-        ensures unit { WorksOneUnit self.old.arrays self.new.arrays.rehash }
+        ensures bag { KeepsOpenTickets self.old.arrays.tickets self.new.arrays.tickets }
+        ensures units { WorksUnits 1 self.old.arrays self.new.arrays }
         ensures arrays { CountsAndResizes self.old.arrays self.new.arrays }
-        ensures alone { self.old.arrays.rehash ≡ None → (pairs_of self.old.arrays ≡ [] → ⊥)
+        ensures alone { length self.old.arrays.linked ≡ 0 → (pairs_of self.old.arrays ≡ [] → ⊥)
             → self.new ≡ self.old }
     {
         self.num_entries() > 0

@@ -5,19 +5,18 @@ ghost use Rattle.bucket_slots.specs.BucketView.{null_place, pairs_in};
 ghost use Rattle.bucket_slots.specs.Marking.{HasNoNewMark, MarksBy};
 ghost use Rattle.bucket_slots.specs.Sizing.{IsLength};
 ghost use Rattle.bucket_slots.specs.Walking.{pairs_ahead};
-ghost use Rattle.bucket_table.specs.ArraysView.{marks_of, pairs_of};
-ghost use Rattle.bucket_table.specs.Asking.{AsksShrinking};
-ghost use Rattle.bucket_table.specs.Cursors.{Advances, ShrinksThenPasses, HasNoneFrom, Leaves, SetsOut, bound_of, viewed};
-ghost use Rattle.bucket_table.specs.Locking.{IsLocked};
-ghost use Rattle.bucket_table.specs.MapState.{KeepsPairs, state_of};
-ghost use Rattle.bucket_table.specs.Refusing.{LacksMemory};
-ghost use Rattle.bucket_table.specs.Relocation.{buckets_of};
-ghost use Rattle.bucket_table.specs.Retains.{AnswersBy, IsSwept, IsSweptBelow};
-ghost use Rattle.bucket_table.specs.Settings.{KeepsSettings};
-ghost use Rattle.bucket_table.specs.Sides.{bucket_on, buckets_on};
-ghost use Rattle.bucket_table.specs.Sweeps.{RetainsAt, Sweeps, why_over};
-ghost use Rattle.bucket_table.specs.TableRow.{table_row};
-ghost use Rattle.bucket_table.specs.Units.{KeepsOpenTickets};
+ghost use Rattle.bucket_table.specs.Views.ArraysView.{marks_of, pairs_of};
+ghost use Rattle.bucket_table.specs.Resize.Asking.{AsksShrinking};
+ghost use Rattle.bucket_table.specs.Walking.Cursors.{Advances, ShrinksThenPasses, HasNoneFrom, Leaves, SetsOut, bound_of, viewed};
+ghost use Rattle.bucket_table.specs.Views.Locking.{IsLocked};
+ghost use Rattle.bucket_table.specs.Map.MapState.{KeepsPairs, state_of};
+ghost use Rattle.bucket_table.specs.Map.Refusing.{LacksMemory};
+ghost use Rattle.bucket_table.specs.Walking.Retains.{AnswersBy, IsSwept, IsSweptBelow};
+ghost use Rattle.bucket_table.specs.Views.Settings.{KeepsSettings};
+ghost use Rattle.bucket_table.specs.Views.Sides.{bucket_on, buckets_on};
+ghost use Rattle.bucket_table.specs.Walking.Sweeps.{RetainsAt, Sweeps, why_over};
+ghost use Rattle.bucket_table.specs.Views.TableRow.{table_row};
+ghost use Rattle.bucket_table.specs.Views.Keeping.{KeepsOpenTickets};
 
 use crate::hash_table::{HashTable, LockedBucket, Missing};
 use crate::key_hash::KeyHash;
@@ -55,7 +54,7 @@ impl<K: Eq + Drop, V: Drop, H: KeyHash<K>, L: LruList + Drop, const TYPE: u8> Ha
             (record { place = Err (why_over result); arrays = self.new.arrays }) }
         ensures marks { MarksBy (G.epoch_of generation.now) (marks_of self.old.arrays)
             (marks_of self.new.arrays) }
-        ensures unchanged { self.old.arrays.rehash ≡ None → result ≡ Ok 0 → self.new ≡ self.old }
+        ensures unchanged { length self.old.arrays.linked ≡ 0 → result ≡ Ok 0 → self.new ≡ self.old }
         ensures refused { OnErr result ((bound : ℕ) × ((test : K × V → Bool)
             → AnswersBy (λ key value answer. F.post keep.now key value answer) test
             → IsSweptBelow (H.hash_of self.old.hasher) bound test (pairs_of self.old.arrays)
@@ -91,11 +90,11 @@ impl<K: Eq + Drop, V: Drop, H: KeyHash<K>, L: LruList + Drop, const TYPE: u8> Ha
         index: usize,
         at: &mut EntryPtr<K, V, TYPE>,
     ) -> Result<usize, Missing>
-        requires within { index < length (buckets_of self.old.arrays.current) }
+        requires within { index < length self.old.arrays.current }
         ensures map { KeepsPairs (state_of TYPE self.old) (state_of TYPE self.new) }
-        ensures bag { KeepsOpenTickets self.old.arrays.rehash self.new.arrays.rehash }
+        ensures bag { KeepsOpenTickets self.old.arrays.tickets self.new.arrays.tickets }
         ensures leaves { Leaves (H.hash_of self.old.hasher)
-            (bound_of (length (buckets_of self.old.arrays.current)) (index + 1)) result
+            (bound_of (length self.old.arrays.current) (index + 1)) result
             self.new.arrays at.new }
         ensures departs { ShrinksThenPasses (λ to. to) false index self.old.arrays result self.new.arrays }
         ensures marks { HasNoNewMark (marks_of self.old.arrays) (marks_of self.new.arrays) }
@@ -147,7 +146,7 @@ impl<K: Eq + Drop, V: Drop, H: KeyHash<K>, L: LruList + Drop, const TYPE: u8> Ha
         ensures side { IfOk result (λ locked. locked.is_old ≡ false) }
         ensures none { result ≡ Err Missing.Nothing → pairs_of self.old.arrays ≡ [] }
         ensures null { OnErr result (at.new ≡ null_place) }
-        ensures succeeds { self.old.arrays.rehash ≡ None → LacksMemory result → ⊥ }
+        ensures succeeds { length self.old.arrays.linked ≡ 0 → LacksMemory result → ⊥ }
     {
         match self.first(at) {
             Ok(index) => Ok(self.lock(false, index)),
@@ -196,7 +195,7 @@ impl<'a, K: Eq + Drop, V: Drop, H: KeyHash<K>, L: LruList + Drop, const TYPE: u8
             (bound_of (length (buckets_on self.entry.table.now.arrays self.entry.is_old))
             (self.entry.index + 1)) (pairs_of self.entry.table.now.arrays) }
         ensures null { OnErr result (at.new ≡ null_place) }
-        ensures succeeds { self.entry.table.now.arrays.rehash ≡ None
+        ensures succeeds { length self.entry.table.now.arrays.linked ≡ 0
             → (pairs_in (bucket_on self.entry.table.now.arrays self.entry.is_old self.entry.index)
             ≡ [] → AsksShrinking self.entry.table.now.arrays self.entry.index → ⊥)
             → LacksMemory result → ⊥ }

@@ -1,8 +1,8 @@
 //! Finishing a rehash of a table.
-ghost use Rattle.std.specs.Prelude.{◌≡◌, None, Ok, IfOk};
-ghost use Rattle.bucket_table.specs.Finishing.{IsUnopened, units_left};
-ghost use Rattle.bucket_table.specs.MapState.{KeepsPairs, state_of};
-ghost use Rattle.bucket_table.specs.Rehashing.{KeepsArrays};
+ghost use Rattle.std.specs.Prelude.{◌≡◌, Ok, IfOk, length};
+ghost use Rattle.bucket_table.specs.Rehash.Finishing.{IsUnopened, units_left};
+ghost use Rattle.bucket_table.specs.Map.MapState.{KeepsPairs, state_of};
+ghost use Rattle.bucket_table.specs.Views.Keeping.{KeepsArrays};
 
 use crate::hash_table::HashTable;
 use crate::key_hash::KeyHash;
@@ -26,17 +26,18 @@ impl<K: Eq + Drop, V: Drop, H: KeyHash<K>, L: LruList + Drop, const TYPE: u8> Ha
     ///
     /// O(old buckets from the position on, and their pairs). Own.
     pub fn finish_rehash(&mut self) -> Result<usize, AllocError>
-        requires none_open { IsUnopened self.old.arrays.rehash }
-        ensures gone { IfOk result (λ count. self.new.arrays.rehash ≡ None) }
-        ensures counted { IfOk result (λ count. count ≡ units_left self.old.arrays.rehash) }
-        ensures alone { self.old.arrays.rehash ≡ None
+        requires none_open { IsUnopened self.old.arrays }
+        ensures gone { IfOk result (λ count. length self.new.arrays.linked ≡ 0) }
+        ensures counted { IfOk result (λ count. count ≡ units_left self.old.arrays) }
+        ensures alone { length self.old.arrays.linked ≡ 0
             → (result ≡ Ok 0) × (self.new ≡ self.old) }
 
         // Done or refused, the map is the same, and no ticket is open.
         ensures map { KeepsPairs (state_of TYPE self.old) (state_of TYPE self.new) }
         ensures kept { KeepsArrays self.old.arrays self.new.arrays }
-        ensures none_open { IsUnopened self.new.arrays.rehash }
+        ensures none_open { IsUnopened self.new.arrays }
     {
+        self.arrays.sound();
         self.arrays.finish_rehash(&self.hasher)
     }
 }

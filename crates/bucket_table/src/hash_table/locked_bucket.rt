@@ -5,7 +5,8 @@
 //! isn't killed, and then every current bucket is free throughout.
 //!
 //! Ports `LockedBucket` of scc's `src/hash_table.rs`.
-ghost use Rattle.std.specs.Prelude.{◌≡◌, ◌≢◌, ◌%◌, ◌↔◌, Some, None, Contains, IsNone, IsTrue, OnOk, OnErr, IfErr, IfOk, IfSome, IfNone, OnSome, length};
+ghost use Rattle.std.specs.Prelude.{◌≡◌, ◌≢◌, ◌%◌, ◌↔◌, Some, None, Contains, IsNone, IsTrue, OnOk, OnErr, IfErr, IfOk, IfSome, IfNone};
+ghost use Rattle.std.specs.Prelude.{OnSome, length};
 ghost use Rattle.std.specs.Borrow.{sem};
 ghost use Rattle.bucket_slots.specs.BucketView.{first_place, null_place, slot_in};
 ghost use Rattle.bucket_slots.specs.Clearing.{slots_after_insertion, slots_for_insertion};
@@ -16,12 +17,12 @@ ghost use Rattle.bucket_slots.specs.Placing.{place_for_next};
 ghost use Rattle.bucket_slots.specs.Removing.{slots_without};
 ghost use Rattle.bucket_slots.specs.Slots.{free, is_free, is_live, live, live_pair};
 ghost use Rattle.bucket_slots.specs.Walking.{pairs_ahead};
-ghost use Rattle.bucket_table.specs.ArraysView.{pairs_of};
-ghost use Rattle.bucket_table.specs.Units.{KeepsOpenTickets};
-ghost use Rattle.bucket_table.specs.Locking.{IsLocked};
-ghost use Rattle.bucket_table.specs.LookingUp.{IsAbsent, IsThere};
-ghost use Rattle.bucket_table.specs.MapState.{AddsPair, ChangesValue, KeepsPairs, TakesPair, state_of};
-ghost use Rattle.bucket_table.specs.Sides.{bucket_of, buckets_on, with_bucket};
+ghost use Rattle.bucket_table.specs.Views.ArraysView.{pairs_of};
+ghost use Rattle.bucket_table.specs.Views.Keeping.{KeepsOpenTickets};
+ghost use Rattle.bucket_table.specs.Views.Locking.{IsLocked};
+ghost use Rattle.bucket_table.specs.Map.LookingUp.{IsAbsent, IsThere};
+ghost use Rattle.bucket_table.specs.Map.MapState.{AddsPair, ChangesValue, KeepsPairs, TakesPair, state_of};
+ghost use Rattle.bucket_table.specs.Views.Sides.{bucket_of, buckets_on, with_bucket};
 
 use crate::hash_table::HashTable;
 use crate::key_hash::KeyHash;
@@ -39,7 +40,7 @@ pub struct LockedBucket<'a, K: Eq, V, H: KeyHash<K>, L: LruList, const TYPE: u8>
 }
 
 impl<'a, K: Eq, V, H: KeyHash<K>, L: LruList, const TYPE: u8> LockedBucket<'a, K, V, H, L, TYPE> {
-    ghost use Rattle.bucket_table.specs.LockedLoans.{LendsLocked, table_with_value};
+    ghost use Rattle.bucket_table.specs.Views.LockedLoans.{LendsLocked, table_with_value};
 
     /// Returns the index of the bucket in its array.
     ///
@@ -128,8 +129,8 @@ impl<'a, K: Eq, V, H: KeyHash<K>, L: LruList, const TYPE: u8> LockedBucket<'a, K
         ensures map { (value : V) → ChangesValue (state_of TYPE self.old.table.now)
             (result.0.now, result.1.now) value (state_of TYPE
             (table_with_value self.old at.now value)) }
-        ensures bag { (value : V) → KeepsOpenTickets self.old.table.now.arrays.rehash
-            (table_with_value self.old at.now value).arrays.rehash }
+        ensures bag { (value : V) → KeepsOpenTickets self.old.table.now.arrays.tickets
+            (table_with_value self.old at.now value).arrays.tickets }
     {
         let is_old = self.is_old;
         let index = self.index;
@@ -151,7 +152,7 @@ impl<'a, K: Eq, V, H: KeyHash<K>, L: LruList, const TYPE: u8> LockedBucket<'a, K
         ensures same_index { self.new.index ≡ self.old.index }
         ensures map { KeepsPairs (state_of TYPE self.old.table.now)
             (state_of TYPE self.new.table.now) }
-        ensures bag { KeepsOpenTickets self.old.table.now.arrays.rehash self.new.table.now.arrays.rehash }
+        ensures bag { KeepsOpenTickets self.old.table.now.arrays.tickets self.new.table.now.arrays.tickets }
         ensures table { self.new.table.now
             ≡ with_bucket self.old.table.now self.old.is_old self.old.index
             (slots_touched L.KEEPS
@@ -179,7 +180,7 @@ impl<'a, K: Eq, V, H: KeyHash<K>, L: LruList, const TYPE: u8> LockedBucket<'a, K
         ensures map { IfSome result
             (λ pair. TakesPair (state_of TYPE self.old.table.now) pair
             (state_of TYPE self.new.table.now)) }
-        ensures bag { KeepsOpenTickets self.old.table.now.arrays.rehash self.new.table.now.arrays.rehash }
+        ensures bag { KeepsOpenTickets self.old.table.now.arrays.tickets self.new.table.now.arrays.tickets }
         ensures table { OnSome result (self.new.table.now
             ≡ with_bucket self.old.table.now self.old.is_old self.old.index
             (slots_evicted (bucket_of self.old.table.now self.old.is_old self.old.index))) }
@@ -209,7 +210,7 @@ impl<'a, K: Eq, V, H: KeyHash<K>, L: LruList, const TYPE: u8> LockedBucket<'a, K
             (slot_in (bucket_of self.old.table.now self.old.is_old self.old.index) at.old)
             ≡ Some pair)
             × TakesPair (state_of TYPE self.old.table.now) pair (state_of TYPE self.new.table.now) }
-        ensures bag { KeepsOpenTickets self.old.table.now.arrays.rehash self.new.table.now.arrays.rehash }
+        ensures bag { KeepsOpenTickets self.old.table.now.arrays.tickets self.new.table.now.arrays.tickets }
         ensures table { self.new.table.now
             ≡ with_bucket self.old.table.now self.old.is_old self.old.index
             (slots_marked (bucket_of self.old.table.now self.old.is_old self.old.index) at.old
@@ -260,7 +261,7 @@ impl<'a, K: Eq + Drop, V: Drop, H: KeyHash<K>, L: LruList, const TYPE: u8> Locke
         ensures same_index { self.new.index ≡ self.old.index }
         ensures map { OnOk result (AddsPair (state_of TYPE self.old.table.now) pair
             (state_of TYPE self.new.table.now)) }
-        ensures bag { KeepsOpenTickets self.old.table.now.arrays.rehash self.new.table.now.arrays.rehash }
+        ensures bag { KeepsOpenTickets self.old.table.now.arrays.tickets self.new.table.now.arrays.tickets }
         ensures table { OnOk result (self.new.table.now
             ≡ with_bucket self.old.table.now self.old.is_old self.old.index
             (slots_after_insertion TYPE (G.keeps generation.now)
@@ -302,7 +303,7 @@ impl<'a, K: Eq + Drop, V: Drop, H: KeyHash<K>, L: LruList, const TYPE: u8> Locke
             ≡ Some result }
         ensures map { TakesPair (state_of TYPE self.old.table.now) result
             (state_of TYPE self.new.table.now) }
-        ensures bag { KeepsOpenTickets self.old.table.now.arrays.rehash self.new.table.now.arrays.rehash }
+        ensures bag { KeepsOpenTickets self.old.table.now.arrays.tickets self.new.table.now.arrays.tickets }
         ensures table { self.new.table.now
             ≡ with_bucket self.old.table.now self.old.is_old self.old.index
             (slots_without (bucket_of self.old.table.now self.old.is_old self.old.index) at.old) }

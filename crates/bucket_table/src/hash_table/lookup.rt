@@ -3,8 +3,8 @@ ghost use Rattle.std.specs.Prelude.{◌≡◌, ◌%◌, ◌+◌, ◌≤◌, true
 ghost use Rattle.std.specs.Borrow.{Bor};
 ghost use Rattle.bucket_slots.specs.Places.{pair_lent};
 ghost use Rattle.bucket_slots.specs.Searching.{matching_len, pair_wanted};
-ghost use Rattle.bucket_table.specs.ArraysView.{old_buckets, pairs_of};
-ghost use Rattle.bucket_table.specs.LookingUp.{
+ghost use Rattle.bucket_table.specs.Views.ArraysView.{pairs_of};
+ghost use Rattle.bucket_table.specs.Map.LookingUp.{
   AreUnwanted,
   IsAbsent,
   IsThere,
@@ -14,8 +14,7 @@ ghost use Rattle.bucket_table.specs.LookingUp.{
   looked_up_len,
   pair_looked_up,
 };
-ghost use Rattle.bucket_table.specs.Preparing.{IsPrepared};
-ghost use Rattle.bucket_table.specs.Relocation.{buckets_of};
+ghost use Rattle.bucket_table.specs.Map.Preparing.{IsPrepared};
 
 use crate::hash_table::HashTable;
 use crate::key_hash::KeyHash;
@@ -52,7 +51,7 @@ impl<K: Eq, V, H: KeyHash<K>, L: LruList, const TYPE: u8> HashTable<K, V, H, L, 
             (AreUnwanted (P.wants probe.old) (pairs_of self.now.arrays)) }
         ensures few { P.asked probe.new ≤ P.asked probe.old
             + looked_up_len hash
-            (old_buckets self.now.arrays.rehash) (buckets_of self.now.arrays.current) }
+            self.now.arrays.linked self.now.arrays.current }
         ensures fixed { P.wants probe.new ≡ P.wants probe.old }
     {
         self.arrays.peek_by(hash, probe)

@@ -9,9 +9,10 @@ ghost use Rattle.bucket_slots.specs.Homes.{IsInRange};
 ghost use Rattle.bucket_slots.specs.Recency.{IsRecencyOrder};
 ghost use Rattle.bucket_slots.specs.Reserving.{free_len_in};
 ghost use Rattle.bucket_slots.specs.Slots.{is_free, is_live, live_pair};
-ghost use Rattle.bucket_table.specs.Landings.{AreListable, CarriesRecency, HaveLanded, ListsArrivals, landing_of, landings_with};
-ghost use Rattle.bucket_table.specs.Moving.{CanMoveInto, MovesHome};
-ghost use Rattle.bucket_table.specs.Relocation.{AreHome, AreTwoArrays, HasRoomFor, IsRelocated, IsWay, KeepsEntries, KeepsOthers, MovesInto, home_of, homed_len};
+ghost use Rattle.bucket_table.specs.Layout.Landings.{AreListable, CarriesRecency, HaveLanded, ListsArrivals, landing_of, landings_with};
+ghost use Rattle.bucket_table.specs.Layout.Moving.{CanMoveInto, MovesHome};
+ghost use Rattle.bucket_table.specs.Rehash.Relocation.{AreHome, AreTwoArrays, HasRoomFor, IsRelocated, IsWay, KeepsEntries, KeepsOthers};
+ghost use Rattle.bucket_table.specs.Rehash.Relocation.{MovesInto, home_of, homed_len};
 
 use crate::hash_table::capacity::from_index_to_range;
 use crate::key_hash::KeyHash;

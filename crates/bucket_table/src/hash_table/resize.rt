@@ -6,9 +6,9 @@
 //!
 //! Ports `get_or_create_array`, `reserve_capacity` and `try_resize` of scc's `src/hash_table.rs`.
 ghost use Rattle.std.specs.Borrow.{sem};
-ghost use Rattle.bucket_table.specs.MapState.{KeepsPairs, LowersMinimum, RaisesMinimum, state_of};
-ghost use Rattle.bucket_table.specs.Resizes.{Releases, Reserves, ResizesByPlan};
-ghost use Rattle.bucket_table.specs.Units.{KeepsOpenTickets};
+ghost use Rattle.bucket_table.specs.Map.MapState.{KeepsPairs, LowersMinimum, RaisesMinimum, state_of};
+ghost use Rattle.bucket_table.specs.Resize.Turns.{Releases, Reserves, TriesResize};
+ghost use Rattle.bucket_table.specs.Views.Keeping.{KeepsOpenTickets};
 
 use crate::hash_table::HashTable;
 use crate::key_hash::KeyHash;
@@ -23,7 +23,7 @@ impl<K: Eq + Drop, V: Drop, H: KeyHash<K>, L: LruList + Drop, const TYPE: u8> Ha
     L,
     TYPE,
 > {
-    ghost use Rattle.bucket_table.specs.ArrayAccess.{EndsAs, GetsArray};
+    ghost use Rattle.bucket_table.specs.Views.ArrayAccess.{EndsAs, GetsArray};
 
     /// Returns the current array; where there is none, makes an empty one for the minimum first.
     ///
@@ -61,9 +61,9 @@ impl<K: Eq + Drop, V: Drop, H: KeyHash<K>, L: LruList + Drop, const TYPE: u8> Ha
     ///
     /// O(buckets of the current array and of the one that is made). scc: `HashTable::try_resize`.
     pub fn try_resize(&mut self) -> Result<bool, AllocError>
-        ensures plan { ResizesByPlan self.old.arrays result self.new.arrays }
+        ensures plan { TriesResize self.old.arrays result self.new.arrays }
         ensures map { KeepsPairs (state_of TYPE self.old) (state_of TYPE self.new) }
-        ensures bag { KeepsOpenTickets self.old.arrays.rehash self.new.arrays.rehash }
+        ensures bag { KeepsOpenTickets self.old.arrays.tickets self.new.arrays.tickets }
     {
         self.arrays.try_resize()
     }
@@ -79,7 +79,7 @@ impl<K: Eq + Drop, V: Drop, H: KeyHash<K>, L: LruList + Drop, const TYPE: u8> Ha
     pub fn reserve_capacity(&mut self, additional: usize) -> usize
         ensures arrays { Reserves additional self.old.arrays result self.new.arrays }
         ensures map { RaisesMinimum additional (state_of TYPE self.old) result (state_of TYPE self.new) }
-        ensures bag { KeepsOpenTickets self.old.arrays.rehash self.new.arrays.rehash }
+        ensures bag { KeepsOpenTickets self.old.arrays.tickets self.new.arrays.tickets }
     {
         self.arrays.reserve_capacity(additional)
     }
@@ -94,7 +94,7 @@ impl<K: Eq + Drop, V: Drop, H: KeyHash<K>, L: LruList + Drop, const TYPE: u8> Ha
     pub fn release_capacity(&mut self, released: usize) -> usize
         ensures arrays { Releases released self.old.arrays result self.new.arrays }
         ensures map { LowersMinimum released (state_of TYPE self.old) result (state_of TYPE self.new) }
-        ensures bag { KeepsOpenTickets self.old.arrays.rehash self.new.arrays.rehash }
+        ensures bag { KeepsOpenTickets self.old.arrays.tickets self.new.arrays.tickets }
     {
         self.arrays.release_capacity(released)
     }

@@ -9,10 +9,10 @@ ghost use Rattle.bucket_slots.specs.BucketView.{slot_in};
 ghost use Rattle.bucket_slots.specs.Marking.{slots_marked};
 ghost use Rattle.bucket_slots.specs.Removing.{place_after, slots_without};
 ghost use Rattle.bucket_slots.specs.Slots.{is_live, live_pair};
-ghost use Rattle.bucket_table.specs.Asking.{AsksShrinking, RemovesAndShrinks, ResizesIf};
-ghost use Rattle.bucket_table.specs.Units.{KeepsOpenTickets};
-ghost use Rattle.bucket_table.specs.MapState.{KeepsPairs, TakesPair, state_of};
-ghost use Rattle.bucket_table.specs.Sides.{bucket_of};
+ghost use Rattle.bucket_table.specs.Resize.Asking.{AsksShrinking, RemovesAndShrinks, ResizesIf};
+ghost use Rattle.bucket_table.specs.Views.Keeping.{KeepsOpenTickets};
+ghost use Rattle.bucket_table.specs.Map.MapState.{KeepsPairs, TakesPair, state_of};
+ghost use Rattle.bucket_table.specs.Views.Sides.{bucket_of};
 
 use crate::hash_table::{HashTable, LockedBucket};
 use crate::key_hash::KeyHash;
@@ -35,7 +35,7 @@ impl<'a, K: Eq + Drop, V: Drop, H: KeyHash<K>, L: LruList + Drop, const TYPE: u8
     pub fn try_shrink(self) -> &'a mut HashTable<K, V, H, L, TYPE>
         ensures same_table { result.ghost_name ≡ self.entry.table.ghost_name }
         ensures map { KeepsPairs (state_of TYPE self.entry.table.now) (state_of TYPE result.now) }
-        ensures bag { KeepsOpenTickets self.entry.table.now.arrays.rehash result.now.arrays.rehash }
+        ensures bag { KeepsOpenTickets self.entry.table.now.arrays.tickets result.now.arrays.tickets }
         ensures asked { ResizesIf (AsksShrinking self.entry.table.now.arrays self.entry.index)
             self.entry.table.now.arrays result.now.arrays }
     {
@@ -66,7 +66,7 @@ impl<'a, K: Eq + Drop, V: Drop, H: KeyHash<K>, L: LruList + Drop, const TYPE: u8
             ≡ Some result.0 }
         ensures map { TakesPair (state_of TYPE self.entry.table.now) result.0
             (state_of TYPE result.1.now) }
-        ensures bag { KeepsOpenTickets self.entry.table.now.arrays.rehash result.1.now.arrays.rehash }
+        ensures bag { KeepsOpenTickets self.entry.table.now.arrays.tickets result.1.now.arrays.tickets }
         ensures arrays { RemovesAndShrinks self.entry.table.now.arrays
             self.entry.is_old self.entry.index
             (slots_without
@@ -106,7 +106,7 @@ impl<'a, K: Eq + Drop, V: Drop, H: KeyHash<K>, L: LruList + Drop, const TYPE: u8
             (slot_in (bucket_of self.entry.table.now self.entry.is_old self.entry.index) at.old)
             ≡ Some pair)
             × TakesPair (state_of TYPE self.entry.table.now) pair (state_of TYPE result.now) }
-        ensures bag { KeepsOpenTickets self.entry.table.now.arrays.rehash result.now.arrays.rehash }
+        ensures bag { KeepsOpenTickets self.entry.table.now.arrays.tickets result.now.arrays.tickets }
         ensures arrays { RemovesAndShrinks self.entry.table.now.arrays
             self.entry.is_old self.entry.index
             (slots_marked

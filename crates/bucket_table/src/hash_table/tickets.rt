@@ -6,13 +6,16 @@
 //!
 //! Ports `start_incremental_rehash`, `relocate_bucket` and `end_incremental_rehash` of scc's
 //! `src/hash_table.rs`.
-ghost use Rattle.std.specs.Prelude.{◌↔◌, ◌≡◌, false, ◌<◌, None, IsTrue, OnOk, OnErr, IsOk};
+ghost use Rattle.std.specs.Prelude.{◌↔◌, ◌≡◌, ◌+◌, ◌<◌, false, Err, None, IsTrue, OnOk, OnErr, IsOk, length};
 ghost use Rattle.bucket_slots.specs.ArrayView.{bucket_at};
-ghost use Rattle.bucket_table.specs.ArraysView.{RehashView, old_buckets};
-ghost use Rattle.bucket_table.specs.Carrying.{CarriesPairs};
-ghost use Rattle.bucket_table.specs.Rehashing.{ChangesRehash, EndsRehash, MoveNeedsNoMemory, IsOldIndex, IsUnmoved, KeepsArrays, RelocatesAt, StartsRehash};
-ghost use Rattle.bucket_table.specs.Relocation.{buckets_of};
-ghost use Rattle.bucket_table.specs.MapState.{KeepsPairs, state_of};
+ghost use Rattle.bucket_table.specs.Rehash.Carrying.{CarriesPairs};
+ghost use Rattle.bucket_table.specs.Views.ArraysView.{marks_of};
+ghost use Rattle.bucket_table.specs.Rehash.Rehashing.{EndsRehash, IsUnmoved, RelocatesAt};
+ghost use Rattle.bucket_table.specs.Rehash.Steps.{Starts};
+ghost use Rattle.bucket_table.specs.Rehash.Units.{NeedsNoMemory};
+ghost use Rattle.bucket_table.specs.declared.tickets.TicketError.TheVariants.{NotOpen};
+ghost use Rattle.bucket_slots.specs.Marking.{HasNoNewMark};
+ghost use Rattle.bucket_table.specs.Map.MapState.{KeepsPairs, state_of};
 
 use crate::hash_table::HashTable;
 use crate::key_hash::KeyHash;
@@ -25,7 +28,7 @@ impl<K: Eq, V, H: KeyHash<K>, L: LruList, const TYPE: u8> HashTable<K, V, H, L, 
     ///
     /// O(1). Own.
     pub fn has_old_bucket(&self, index: usize) -> bool
-        ensures { IsTrue result ↔ IsOldIndex self.now.arrays index }
+        ensures { IsTrue result ↔ (index < length self.now.arrays.linked) }
     {
         index < self.arrays.old_len()
     }
@@ -38,10 +41,13 @@ impl<K: Eq, V, H: KeyHash<K>, L: LruList, const TYPE: u8> HashTable<K, V, H, L, 
     /// `start_incremental_rehash`.
     pub fn start_incremental_rehash(&mut self) -> Option<usize>
         ensures map { KeepsPairs (state_of TYPE self.old) (state_of TYPE self.new) }
-        ensures kept { KeepsArrays self.old.arrays self.new.arrays }
-        ensures rehash { StartsRehash self.old.arrays.rehash result self.new.arrays.rehash }
-        ensures others { ChangesRehash self.old self.new }
+        ensures tickets { Starts self.old.arrays.tickets result self.new.arrays.tickets }
+        ensures others { self.new ≡ record self.old {
+          arrays = record self.old.arrays { tickets = self.new.arrays.tickets };
+        } }
+        ensures none { length self.old.arrays.linked ≡ 0 → result ≡ None }
     {
+        self.arrays.sound();
         self.arrays.start_incremental_rehash()
     }
 }
@@ -69,16 +75,16 @@ impl<K: Eq + Drop, V: Drop, H: KeyHash<K>, L: LruList + Drop, const TYPE: u8> Ha
     /// O(slots of the bucket and of its targets). scc: `HashTable::relocate_bucket_sync`, which
     /// carries no order; see `docs/DIFFERENCES.md`.
     pub fn relocate_bucket_sync(&mut self, index: usize) -> Result<(), AllocError>
-        requires within { IsOldIndex self.old.arrays index }
+        requires within { index < length self.old.arrays.linked }
         ensures map { KeepsPairs (state_of TYPE self.old) (state_of TYPE self.new) }
         ensures done { OnOk result (RelocatesAt index self.old.arrays self.new.arrays) }
         ensures recency { OnOk result
-            (CarriesPairs K.eq (bucket_at (old_buckets self.old.arrays.rehash) index)
-            (buckets_of self.old.arrays.current) (buckets_of self.new.arrays.current)) }
+            (CarriesPairs K.eq (bucket_at self.old.arrays.linked index)
+            self.old.arrays.current self.new.arrays.current) }
         ensures refused { OnErr result (IsUnmoved self.old.arrays self.new.arrays) }
-        ensures succeeds { MoveNeedsNoMemory index self.old.arrays → IsOk result }
+        ensures succeeds { NeedsNoMemory index (index + 1) self.old.arrays → IsOk result }
         ensures alive { OnErr result
-            ((bucket_at (old_buckets self.old.arrays.rehash) index).killed ≡ false) }
+            ((bucket_at self.old.arrays.linked index).killed ≡ false) }
     {
         self.arrays.relocate(&self.hasher, index)
     }
@@ -100,11 +106,12 @@ impl<K: Eq + Drop, V: Drop, H: KeyHash<K>, L: LruList + Drop, const TYPE: u8> Ha
         success: bool,
     ) -> Result<bool, TicketError>
         ensures map { KeepsPairs (state_of TYPE self.old) (state_of TYPE self.new) }
-        ensures kept { KeepsArrays self.old.arrays self.new.arrays }
-        ensures rehash { EndsRehash self.old.arrays.rehash ticket success result
-            self.new.arrays.rehash }
-        ensures others { ChangesRehash self.old self.new }
+        ensures marks { HasNoNewMark (marks_of self.old.arrays) (marks_of self.new.arrays) }
+        ensures hasher { self.new.hasher ≡ self.old.hasher }
+        ensures rehash { EndsRehash self.old.arrays ticket success result self.new.arrays }
+        ensures none { length self.old.arrays.linked ≡ 0 → result ≡ Err NotOpen }
     {
+        self.arrays.sound();
         self.arrays.end_incremental_rehash(ticket, success)
     }
 }

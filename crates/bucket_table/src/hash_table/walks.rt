@@ -1,22 +1,19 @@
 //! Walks over a table's current buckets.
-ghost use Rattle.std.specs.Prelude.{◌≡◌, ◌≢◌, ◌<◌, ◌≤◌, ◌+◌, ◌⊎◌, ℕ, false, length, IsOk, None, OnOk};
+ghost use Rattle.std.specs.Prelude.{◌≡◌, ◌≢◌, ◌<◌, ◌≤◌, ◌+◌, ◌⊎◌, ℕ, false, length, IsOk, OnOk};
 ghost use Rattle.std.specs.Int.{IsPowerOfTwo};
 ghost use Rattle.bucket_slots.specs.ArrayRoom.{BucketFits};
 ghost use Rattle.bucket_slots.specs.BucketView.{BucketView};
 ghost use Rattle.bucket_slots.specs.Sizing.{IsLength};
-ghost use Rattle.bucket_table.specs.ArraysView.{AreSourcesKilled};
-ghost use Rattle.bucket_table.specs.Asking.{AsksShrinking, ResizesIf};
-ghost use Rattle.bucket_table.specs.Finding.{KeepsMap};
-ghost use Rattle.bucket_table.specs.Locking.{IsLocked};
-ghost use Rattle.bucket_table.specs.MapState.{KeepsPairs, state_of};
-ghost use Rattle.bucket_table.specs.Rehashing.{KeepsArrays};
-ghost use Rattle.bucket_table.specs.Relocation.{buckets_of};
-ghost use Rattle.bucket_table.specs.Settings.{KeepsSettings};
-ghost use Rattle.bucket_table.specs.Sides.{arrays_with, bucket_on};
-ghost use Rattle.bucket_table.specs.UnitRuns.{WorksUnits};
-ghost use Rattle.bucket_table.specs.Units.{KeepsOpenTickets};
-ghost use Rattle.bucket_table.specs.Visits.{reading};
-ghost use Rattle.bucket_table.specs.Walks.{BeginsAt, KeepsBuckets, WalksBy};
+ghost use Rattle.bucket_table.specs.Views.ArraysView.{AreSourcesKilled};
+ghost use Rattle.bucket_table.specs.Resize.Asking.{AsksShrinking, ResizesIf};
+ghost use Rattle.bucket_table.specs.Views.Keeping.{Keeps, KeepsArrays, KeepsOpenTickets};
+ghost use Rattle.bucket_table.specs.Views.Locking.{IsLocked};
+ghost use Rattle.bucket_table.specs.Map.MapState.{KeepsPairs, state_of};
+ghost use Rattle.bucket_table.specs.Views.Settings.{KeepsSettings};
+ghost use Rattle.bucket_table.specs.Views.Sides.{arrays_with, bucket_on};
+ghost use Rattle.bucket_table.specs.Rehash.Units.{WorksUnits};
+ghost use Rattle.bucket_table.specs.Walking.Visits.{reading};
+ghost use Rattle.bucket_table.specs.Walking.Walks.{BeginsAt, KeepsBuckets, WalksBy};
 
 use crate::hash_table::HashTable;
 use crate::hash_table::capacity::from_index_to_range;
@@ -60,7 +57,7 @@ impl<K: Eq + Drop, V: Drop, H: KeyHash<K>, L: LruList + Drop, const TYPE: u8> Ha
         ensures walked { WalksBy F.visits (H.hash_of self.old.hasher) expected_len start visitor.old
             self.old.arrays result visitor.new self.new.arrays }
         ensures settings { KeepsSettings self.old self.new }
-        ensures succeeds { self.old.arrays.rehash ≡ None → IsOk result }
+        ensures succeeds { length self.old.arrays.linked ≡ 0 → IsOk result }
     {
         let mut flag = false;
         let mut more = true;
@@ -102,9 +99,9 @@ impl<K: Eq + Drop, V: Drop, H: KeyHash<K>, L: LruList + Drop, const TYPE: u8> Ha
         ensures map { KeepsPairs (state_of TYPE self.old) (state_of TYPE self.new) }
         ensures hasher { self.new.hasher ≡ self.old.hasher }
         ensures kept { KeepsArrays self.old.arrays self.new.arrays }
-        ensures bag { KeepsOpenTickets self.old.arrays.rehash self.new.arrays.rehash }
-        ensures alone { self.old.arrays.rehash ≡ None → self.new ≡ self.old }
-        ensures succeeds { self.old.arrays.rehash ≡ None → IsOk result }
+        ensures bag { KeepsOpenTickets self.old.arrays.tickets self.new.arrays.tickets }
+        ensures alone { length self.old.arrays.linked ≡ 0 → self.new ≡ self.old }
+        ensures succeeds { length self.old.arrays.linked ≡ 0 → IsOk result }
     {
         let mut more = true;
         let mut index = 0;
@@ -125,7 +122,7 @@ impl<K: Eq + Drop, V: Drop, H: KeyHash<K>, L: LruList + Drop, const TYPE: u8> Ha
     ///
     /// O(1). Own.
     pub fn room(&self)
-        requires array_stands { 0 < length (buckets_of self.now.arrays.current) }
+        requires array_stands { 0 < length self.now.arrays.current }
         ensures { BucketFits K.row V.row L.row TYPE.row
             (record { KEEPS = L.KEEPS; listed = L.listed; IsTail = L.IsTail }) L.Default }
     {
@@ -138,14 +135,13 @@ impl<K: Eq + Drop, V: Drop, H: KeyHash<K>, L: LruList + Drop, const TYPE: u8> Ha
     ///
     /// Want of memory: a source isn't killed.
     fn prepare_at(&mut self, index: usize) -> Result<(), AllocError>
-        requires within { index < length (buckets_of self.old.arrays.current) }
+        requires within { index < length self.old.arrays.current }
         ensures hasher { self.new.hasher ≡ self.old.hasher }
         ensures kept { KeepsArrays self.old.arrays self.new.arrays }
-        ensures bag { KeepsOpenTickets self.old.arrays.rehash self.new.arrays.rehash }
         ensures ready { OnOk result (AreSourcesKilled self.new.arrays index) }
-        ensures units { WorksUnits 1 self.old.arrays self.new.arrays.rehash }
-        ensures alone { self.old.arrays.rehash ≡ None → self.new.arrays ≡ self.old.arrays }
-        ensures succeeds { self.old.arrays.rehash ≡ None → IsOk result }
+        ensures units { WorksUnits 1 self.old.arrays self.new.arrays }
+        ensures alone { length self.old.arrays.linked ≡ 0 → self.new.arrays ≡ self.old.arrays }
+        ensures succeeds { length self.old.arrays.linked ≡ 0 → IsOk result }
     {
         self.arrays.prepare_at(&self.hasher, index)
     }
@@ -173,8 +169,8 @@ impl<K: Eq + Drop, V: Drop, H: KeyHash<K>, L: LruList + Drop, const TYPE: u8> Ha
     /// Resizes the current array where its first buckets have few live slots.
     fn shrink(&mut self)
         ensures hasher { self.new.hasher ≡ self.old.hasher }
-        ensures kept { KeepsMap self.old.arrays self.new.arrays }
-        ensures bag { KeepsOpenTickets self.old.arrays.rehash self.new.arrays.rehash }
+        ensures kept { Keeps self.old.arrays self.new.arrays }
+        ensures bag { KeepsOpenTickets self.old.arrays.tickets self.new.arrays.tickets }
         ensures resized { ResizesIf (AsksShrinking self.old.arrays 0) self.old.arrays
             self.new.arrays }
     {

@@ -6,18 +6,17 @@
 //!
 //! Ports `writer_sync`, `try_reserve_bucket`, `optional_writer_sync` and `try_optional_writer` of
 //! scc's `src/hash_table.rs`.
-ghost use Rattle.std.specs.Prelude.{◌≡◌, [], false, None, Ok, Err, IfOk, IfSome, IfNone, IsOk, IsSome, OnErr, length};
+ghost use Rattle.std.specs.Prelude.{◌≡◌, ◌<◌, [], false, Ok, Err, IfOk, IfSome, IfNone, IsOk, OnErr, length};
 ghost use Rattle.std.specs.Borrow.{RestsIfErr, RestsIfNone, sem};
 ghost use Rattle.bucket_slots.specs.Homes.{IsHome};
-ghost use Rattle.bucket_table.specs.ArraysView.{pairs_of};
-ghost use Rattle.bucket_table.specs.Finding.{FindsBucket};
-ghost use Rattle.bucket_table.specs.Free.{MayNotLockAtOnce, MayLockAtOnce};
-ghost use Rattle.bucket_table.specs.Refusing.{IsGivenFor, IsRefused};
-ghost use Rattle.bucket_table.specs.TableRow.{table_row};
-ghost use Rattle.bucket_table.specs.Locking.{IsLocked};
-ghost use Rattle.bucket_table.specs.Preparing.{AnswersFor, IsPrepared, IsReady, Prepares};
-ghost use Rattle.bucket_table.specs.Relocation.{buckets_of};
-ghost use Rattle.bucket_table.specs.Sides.{buckets_on};
+ghost use Rattle.bucket_table.specs.Views.ArraysView.{pairs_of};
+ghost use Rattle.bucket_table.specs.Map.Finding.{FindsBucket};
+ghost use Rattle.bucket_table.specs.Map.Free.{MayNotLockAtOnce, MayLockAtOnce};
+ghost use Rattle.bucket_table.specs.Map.Refusing.{IsGivenFor, IsRefused};
+ghost use Rattle.bucket_table.specs.Views.TableRow.{table_row};
+ghost use Rattle.bucket_table.specs.Views.Locking.{IsLocked};
+ghost use Rattle.bucket_table.specs.Map.Preparing.{AnswersFor, IsPrepared, IsReady, Prepares};
+ghost use Rattle.bucket_table.specs.Views.Sides.{buckets_on};
 
 use crate::hash_table::{HashTable, LockedBucket, Missing};
 use crate::key_hash::KeyHash;
@@ -43,7 +42,7 @@ impl<K: Eq + Drop, V: Drop, H: KeyHash<K>, L: LruList + Drop, const TYPE: u8> Ha
     pub fn fetch_home(&mut self, hash: u64) -> Result<bool, AllocError>
         ensures prepared { IsPrepared TYPE self.old self.new }
         ensures ready { Prepares self.new.arrays hash result }
-        ensures succeeds { self.old.arrays.rehash ≡ None → IsOk result }
+        ensures succeeds { length self.old.arrays.linked ≡ 0 → IsOk result }
         ensures answer { AnswersFor result self.old.arrays }
         ensures empty { result ≡ Ok false → pairs_of self.new.arrays ≡ [] }
     {
@@ -102,7 +101,7 @@ impl<K: Eq + Drop, V: Drop, H: KeyHash<K>, L: LruList + Drop, const TYPE: u8> Ha
         ensures unchanged { result.table.now ≡ self.old }
         ensures side { result.is_old ≡ false }
         ensures home { IsHome
-            (length (buckets_of result.table.now.arrays.current)) hash result.index }
+            (length result.table.now.arrays.current) hash result.index }
     {
         let index = self.arrays.home(hash);
         LockedBucket {
@@ -134,7 +133,7 @@ impl<K: Eq + Drop, V: Drop, H: KeyHash<K>, L: LruList + Drop, const TYPE: u8> Ha
             ≡ self.entry.ghost_name) }
         ensures found { IfOk result (λ locked.
             FindsBucket TYPE hash self.old locked.is_old locked.index locked.table.now) }
-        ensures succeeds { self.old.arrays.rehash ≡ None → IsSome self.old.arrays.current
+        ensures succeeds { length self.old.arrays.linked ≡ 0 → 0 < length self.old.arrays.current
             → IsOk result }
     {
         match self.find(hash) {
@@ -163,7 +162,7 @@ impl<K: Eq + Drop, V: Drop, H: KeyHash<K>, L: LruList + Drop, const TYPE: u8> Ha
             ≡ self.entry.ghost_name) }
         ensures found { IfOk result (λ locked.
             FindsBucket TYPE hash self.old locked.is_old locked.index locked.table.now) }
-        ensures succeeds { self.old.arrays.rehash ≡ None → IsSome self.old.arrays.current
+        ensures succeeds { length self.old.arrays.linked ≡ 0 → 0 < length self.old.arrays.current
             → IsOk result }
     {
         self.writer_sync(hash)

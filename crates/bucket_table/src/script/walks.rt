@@ -1,7 +1,7 @@
 //! The calls of a script that go through all buckets.
-ghost use Rattle.bucket_table.specs.Calls.{Step};
-ghost use Rattle.bucket_table.specs.MapState.{state_of};
-ghost use Rattle.bucket_table.specs.TicketCalls.{TicketStep, tickets_of};
+ghost use Rattle.bucket_table.specs.Scripts.Calls.{Step};
+ghost use Rattle.bucket_table.specs.Map.MapState.{state_of};
+ghost use Rattle.bucket_table.specs.Scripts.TicketCalls.{TicketStep, rehash_of};
 
 use super::call::Call;
 use super::reply::Reply;
@@ -20,7 +20,7 @@ struct Tally {
 }
 
 impl<K, V, L: LruList, const TYPE: u8> Read<Bucket<K, V, L, TYPE>> for Tally {
-    ghost use Rattle.bucket_table.specs.Tallying.{Tallies};
+    ghost use Rattle.bucket_table.specs.Scripts.Tallying.{Tallies};
 
     ghost may_read = { λ _. Unit {0} };
 
@@ -43,7 +43,7 @@ struct Emptier<'a, G> {
 
 impl<'a, K: Drop, V: Drop, L: LruList, G: Generation, const TYPE: u8> Visit<Bucket<K, V, L, TYPE>>
     for Emptier<'a, G> {
-    ghost use Rattle.bucket_table.specs.Tallying.{Empties};
+    ghost use Rattle.bucket_table.specs.Scripts.Tallying.{Empties};
 
     ghost may_visit = { λ _. Unit {0} };
 
@@ -66,8 +66,8 @@ pub(super) fn walk<K: Eq + Copy, V: Copy, H: KeyHash<K>, L: LruList + Drop, cons
 ) -> Reply<K, V>
     ensures step { Step K.eq H.hash_of (state_of TYPE table.old) Call.Walk result
         (state_of TYPE table.new) }
-    ensures tickets { TicketStep (tickets_of table.old.arrays) Call.Walk result
-        (tickets_of table.new.arrays) }
+    ensures tickets { TicketStep (rehash_of table.old.arrays) Call.Walk result
+        (rehash_of table.new.arrays) }
 {
     table.sound();
     if table.num_slots() == 0 {
@@ -95,8 +95,8 @@ pub(super) fn clear<
 >(table: &mut HashTable<K, V, H, L, TYPE>, generation: &G) -> Reply<K, V>
     ensures step { Step K.eq H.hash_of (state_of TYPE table.old) Call.Clear result
         (state_of TYPE table.new) }
-    ensures tickets { TicketStep (tickets_of table.old.arrays) Call.Clear result
-        (tickets_of table.new.arrays) }
+    ensures tickets { TicketStep (rehash_of table.old.arrays) Call.Clear result
+        (rehash_of table.new.arrays) }
 {
     table.sound();
     if table.num_slots() == 0 {

@@ -1,6 +1,6 @@
-use Rattle.bucket_table.proofs.Words.{length, marks_in, MarksBy, pairs_ahead}
-use Rattle.bucket_table.specs.Retains.{AnswersBy}
-use Rattle.bucket_table.proofs.Retaining.{IsRetaining}
+use Rattle.bucket_table.proofs.Words.{MarksBy, length, marks_in, pairs_ahead}
+use Rattle.bucket_table.specs.Walking.Retains.{AnswersBy}
+use Rattle.bucket_table.proofs.Walking.Retaining.{IsRetaining}
 use Rattle.bucket_table.proofs.retain.retain_in.Given as goal
 
 abbrev pub invariant-loop-at : goal.invariant-loop-at

@@ -1,4 +1,4 @@
-use Rattle.bucket_table.proofs.TicketLaws.{gone}
+use Rattle.bucket_table.proofs.Scripts.TicketLaws.{gone}
 use Rattle.bucket_table.proofs.script.gone_stays_gone.Goals as goal
 
 pub returns : goal.returns

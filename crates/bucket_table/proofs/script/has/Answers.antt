@@ -1,11 +1,13 @@
-use Rattle.bucket_table.proofs.CallSteps.{some_before}
-use Rattle.bucket_table.proofs.TicketSteps.{tickets_kept}
-use Rattle.bucket_table.specs.MapState.{state_of}
+use Rattle.bucket_table.specs.Map.MapState.{state_of}
+use Rattle.bucket_table.proofs.Scripts.CallSteps.{some_before}
 use Rattle.bucket_table.proofs.script.has.Goals as goal
 
 pub returns-clause-step : goal.returns-clause-step
-returns-clause-step g c =
-    (some_before c.has_entry.result (state_of g.row.TYPE c.args.table.now) (state_of g.row.TYPE c.has_entry.new.self) c.has_entry.ensures.map c.has_entry.ensures.has, c.has_entry.ensures.map)
+returns-clause-step g c = (
+  some_before c.has_entry.result (state_of g.row.TYPE c.args.table.now) (state_of g.row.TYPE c.has_entry.new.self)
+      c.has_entry.ensures.map c.has_entry.ensures.has,
+  c.has_entry.ensures.map,
+)
 
 pub returns-clause-tickets : goal.returns-clause-tickets
-returns-clause-tickets g c = tickets_kept c.args.table.now.arrays c.has_entry.new.self.arrays c.has_entry.ensures.bag
+returns-clause-tickets g c = c.has_entry.ensures.bag

@@ -1,8 +1,7 @@
-use Rattle.bucket_table.proofs.TicketSteps.{tickets_kept}
 use Rattle.bucket_table.proofs.script.reserve.Goals as goal
 
 pub returns-clause-step : goal.returns-clause-step
 returns-clause-step g c = c.reserve_capacity.ensures.map
 
 pub returns-clause-tickets : goal.returns-clause-tickets
-returns-clause-tickets g c = tickets_kept c.args.table.now.arrays c.reserve_capacity.new.self.arrays c.reserve_capacity.ensures.bag
+returns-clause-tickets g c = c.reserve_capacity.ensures.bag

@@ -1,5 +1,5 @@
 use Rattle.std.proofs.lemmas.Result.{IfOk-weaker}
-use Rattle.bucket_table.proofs.CallSteps.{then_kept}
+use Rattle.bucket_table.proofs.Scripts.CallSteps.{then_kept}
 use Rattle.layer_tests.proofs.going_on.next_after.Goals as goal
 
 pub returns-clause-map : goal.returns-clause-map

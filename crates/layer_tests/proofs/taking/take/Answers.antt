@@ -1,7 +1,7 @@
 use Rattle.std.proofs.Common.{rules, sym, ◌∙◌}
 use Rattle.bucket_slots.proofs.CallerLemmas.{live_from_pair}
-use Rattle.bucket_table.proofs.LookUps.{null_is}
-use Rattle.bucket_table.proofs.TakeSteps.{absent_before, same_taken, then_taken}
+use Rattle.bucket_table.proofs.Map.LookUps.{null_is}
+use Rattle.bucket_table.proofs.Map.TakeSteps.{absent_before, same_taken, then_taken}
 use Rattle.layer_tests.proofs.taking.take.Goals as goal
 
 pub returns-then-not-is_valid : goal.returns-then-not-is_valid

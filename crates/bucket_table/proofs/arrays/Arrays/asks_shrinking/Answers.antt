@@ -1,16 +1,10 @@
-use Rattle.bucket_table.proofs.Words.{◌<◌, is_some, sym, ap, ◌∙◌, arith}
-use Rattle.bucket_table.specs.ResizePlan.{slots_of}
-use Rattle.bucket_table.specs.Sampling.{live_counts}
-use Rattle.bucket_table.proofs.AskSteps.{shrinks}
-use Rattle.bucket_table.proofs.PlanBounds.{slots_are}
+use Rattle.std.proofs.Common.{ap, arith}
+use Rattle.bucket_table.proofs.Resize.Asked.{asks_shrinking}
+use Rattle.bucket_table.proofs.Resize.PlanBounds.{slots_are}
 use Rattle.bucket_table.proofs.arrays.Arrays.asks_shrinking.Goals as goal
 
-pub returns-else-num_slots-self : goal.returns-else-num_slots-self
-returns-else-num_slots-self g c =
-    let current = sym (ap (λ a. a.current) c.self.view_is) ∙ c.in-Some.is in
-    let alone = sym (ap (λ a. is_some a.rehash) c.self.view_is) ∙ sym c.is_some.ensures ∙
-    c.if-is_some.false in
-    let least = ap (λ a. a.minimum) c.self.view_is in
-    let slots = slots_are c.in-Some.array c.num_slots.result c.num_slots.ensures in
-    let more : c.args.self.now.minimum < slots_of (live_counts c.in-Some.array) = omega (arith, least, slots, c.if-num_slots-self.false) in
-    shrinks c.args.self.now c.args.index c.in-Some.array _ current alone more c.is_deserted.ensures
+pub returns : goal.returns
+returns g c = asks_shrinking c.args.self.now c.args.index _ _ c.len.ensures.value c.if-len-eq0.false c.has_old.ensures c.if-has_old.false
+    c.array_of-array.ensures
+    (slots_are _ _ c.num_slots.ensures) (let least = ap (λ a. a.minimum) c.self.view_is in omega (arith, least, c.if-num_slots-self.false))
+    c.is_deserted.ensures

@@ -1,25 +1,19 @@
-use Rattle.bucket_table.proofs.Words.{sym, ap, ◌∙◌}
-use Rattle.bucket_table.proofs.CountSteps.{dropped}
-use Rattle.bucket_table.proofs.MayResizes.{quietly}
-use Rattle.bucket_table.proofs.WriterSteps.{resize_keeps}
+use Rattle.bucket_table.proofs.Words.{ap, sym, ◌∙◌}
+use Rattle.bucket_table.proofs.Map.CountSteps.{dropped}
+use Rattle.bucket_table.proofs.Resize.Settling.{resizes}
 use Rattle.bucket_table.proofs.arrays.Arrays.drop_if_empty.Goals as goal
 
 pub returns : goal.returns
 returns g c =
-    let keeps = resize_keeps c.args.self.now c.try_resize.new.self c.try_resize.result c.try_resize.ensures.same_entries c.try_resize.ensures.plan in
+    let least = sym (ap (λ a. a.minimum) c.self.view_is) ∙ c.if-self-ne0.false in
+    let still = dropped c.args.self.now c.try_resize.new.self c.try_resize.result c.try_resize.ensures.resized c.requires.empty least in
     record {
-      kept = keeps.0;
-      rehash = dropped c.args.self.now c.try_resize.new.self c.try_resize.result
-          c.try_resize.ensures.plan c.requires.empty (sym (ap (λ a. a.minimum) c.self.view_is) ∙
-          c.if-self-ne0.false);
+      kept = c.try_resize.ensures.kept;
+      linked = still.0;
+      tickets = still.1;
       resized = record {
-        asked = λ h. let (plan, is, done) = c.try_resize.ensures.plan in
-            (plan, is, quietly plan _ _ c.try_resize.result done);
-        not_asked = λ refused. absurd (refused (
-          c.requires.empty,
-          sym
-              (ap (λ a. a.minimum) c.self.view_is) ∙ c.if-self-ne0.false,
-        ));
+        asked = λ h. resizes _ _ c.try_resize.result c.try_resize.ensures.resized;
+        not_asked = λ refused. absurd (refused (c.requires.empty, least));
       };
       placed = c.try_resize.ensures.placed;
     }

@@ -1,33 +1,34 @@
-use Rattle.bucket_table.proofs.Words.{◌∙◌}
-use Rattle.bucket_table.specs.Finding.{ReadiesThenGrows}
-use Rattle.bucket_table.proofs.ResizeSteps.{locked_grown}
-use Rattle.bucket_table.proofs.WriterSteps.{bag_through, home_through, kept_through, locked_ready}
+use Rattle.bucket_table.specs.Map.Finding.{ReadiesThenGrows}
+use Rattle.bucket_table.proofs.Resize.Growing.{home_grown, locked_grown, locked_ready}
+use Rattle.bucket_table.proofs.Views.Keeping.{keeps_both}
 use Rattle.bucket_table.proofs.arrays.Arrays.find.Goals as goal
 
 pub returns-clause-placed : goal.returns-clause-placed
 returns-clause-placed g c = c.grow_at-is_old.ensures.placed (g.H.KeyHash.hash_of c.args.hasher.now) c.fetch_or_make.ensures.placed
 
 pub returns-clause-kept : goal.returns-clause-kept
-returns-clause-kept g c =
-    kept_through c.grow_at-is_old.result c.args.self.now c.fetch_or_make.new.self c.grow_at-is_old.new.self c.fetch_or_make.ensures.kept c.grow_at-is_old.ensures.same_entries c.grow_at-is_old.ensures.grown
-
-pub returns-clause-bag : goal.returns-clause-bag
-returns-clause-bag g c = λ unit.
-    bag_through c.grow_at-is_old.result c.home-index.result g.row.TYPE c.args.hash c.fetch_or_make.new.self c.grow_at-is_old.new.self c.grow_at-is_old.ensures.grown c.grow_at-is_old.ensures.asked unit
-    ∙ c.fetch_or_make.ensures.bag unit
+returns-clause-kept g c = keeps_both c.args.self.now c.fetch_or_make.new.self c.grow_at-is_old.new.self c.fetch_or_make.ensures.kept
+    c.grow_at-is_old.ensures.kept
 
 pub returns-clause-locked : goal.returns-clause-locked
 returns-clause-locked g c =
-    locked_grown c.grow_at-is_old.result c.home-index.result c.fetch_or_make.new.self c.grow_at-is_old.new.self (g.H.KeyHash.hash_of c.args.hasher.now) c.grow_at-is_old.ensures.grown c.fetch_or_make.ensures.placed
-    (locked_ready c.args.hash c.home-index.result c.fetch_or_make.new.self c.in-Ok.ensures.ready c.home-index.ensures)
+    locked_grown c.grow_at-is_old.result c.home-index.result c.fetch_or_make.new.self c.grow_at-is_old.new.self
+    (g.H.KeyHash.hash_of c.args.hasher.now)
+    c.grow_at-is_old.ensures.grown c.fetch_or_make.ensures.placed (locked_ready c.args.hash c.home-index.result c.fetch_or_make.new.self
+    c.in-Ok.ensures.ready c.home-index.ensures)
 
 pub returns-clause-home : goal.returns-clause-home
 returns-clause-home g c =
-    home_through c.grow_at-is_old.result c.args.hash c.home-index.result c.fetch_or_make.new.self c.grow_at-is_old.new.self c.grow_at-is_old.ensures.grown c.home-index.ensures
+    home_grown c.grow_at-is_old.result c.args.hash c.home-index.result c.fetch_or_make.new.self c.grow_at-is_old.new.self
+    c.grow_at-is_old.ensures.grown c.home-index.ensures
 
 pub returns-clause-finds : goal.returns-clause-finds
 unfolding ReadiesThenGrows
 returns-clause-finds g c =
     let e = c.fetch_or_make.ensures in
-    let killed = c.in-Ok.ensures.ready.killed c.home-index.result c.home-index.ensures in
-    (c.fetch_or_make.new.self, record { first = c.in-Ok.ensures.made; beside = e.beside; unit = e.unit; killed = killed }, c.grow_at-is_old.ensures.asked, c.grow_at-is_old.ensures.grown)
+    let killed = c.in-Ok.ensures.ready.killed c.home-index.result c.home-index.ensures in (
+      c.fetch_or_make.new.self,
+      record { first = c.in-Ok.ensures.made; beside = e.beside; units = e.units; killed = killed },
+      c.grow_at-is_old.ensures.asked,
+      c.grow_at-is_old.ensures.grown,
+    )

@@ -1,43 +1,45 @@
-use Rattle.bucket_table.proofs.Words.{◌∙◌, rules, arith, subst, ◌<◌, IsLength}
-use Rattle.bucket_table.proofs.CursorSteps.{ends, passes_at, sets_out, still_within, stops_at}
-use Rattle.bucket_table.proofs.PassingUnits.{begins_wide, passes_all, passes_found, passes_refused, worked_more, worked_none}
-use Rattle.bucket_table.proofs.Preparing.{bag_both, len_kept}
-use Rattle.bucket_table.proofs.UnitSteps.{kept_both}
+use Rattle.bucket_table.proofs.Words.{IsLength, arith, rules, subst, ◌<◌, ◌∙◌}
+use Rattle.bucket_table.proofs.Walking.CursorSteps.{ends, passes_at, sets_out, still_within, stops_at}
+use Rattle.bucket_table.proofs.Views.Keeping.{kept_both}
+use Rattle.bucket_table.proofs.Walking.PassingUnits.{begins_wide, passes_all, passes_found, passes_refused, worked_more, worked_none}
 use Rattle.bucket_table.proofs.arrays.Arrays.first_from.Goals as goal
 
 pub returns-in_default-clause-kept : goal.returns-in_default-clause-kept
-returns-in_default-clause-kept g c = kept_both c.args.self.now c.loop-index.self c.prepare_at.new.self c.loop-index.invariant.0.kept c.prepare_at.ensures.kept
-
-pub returns-in_default-clause-bag : goal.returns-in_default-clause-bag
-returns-in_default-clause-bag g c = bag_both c.args.self.now.rehash c.loop-index.self.rehash c.prepare_at.new.self.rehash c.loop-index.invariant.0.bag c.prepare_at.ensures.bag
+returns-in_default-clause-kept g c = kept_both c.args.self.now c.loop-index.self c.prepare_at.new.self c.loop-index.invariant.0.kept
+    c.prepare_at.ensures.kept
 
 pub bucket_of-requires : goal.bucket_of-requires
 bucket_of-requires g c =
-    let within = still_within (g.H.KeyHash.hash_of c.args.hasher.now) c.loop-index.self c.prepare_at.new.self c.len.result c.loop-index.index c.prepare_at.ensures.kept c.len.ensures.value (search rules) in
+    let within = still_within (g.H.KeyHash.hash_of c.args.hasher.now) c.loop-index.self c.prepare_at.new.self c.len.result
+    c.loop-index.index c.prepare_at.ensures.kept c.len.ensures.value (search rules) in
     (search rules, (search rules, within))
 
 pub returns-then-find_next-clause-kept : goal.returns-then-find_next-clause-kept
-returns-then-find_next-clause-kept g c = kept_both c.args.self.now c.loop-index.self c.prepare_at.new.self c.loop-index.invariant.0.kept c.prepare_at.ensures.kept
-
-pub returns-then-find_next-clause-bag : goal.returns-then-find_next-clause-bag
-returns-then-find_next-clause-bag g c = bag_both c.args.self.now.rehash c.loop-index.self.rehash c.prepare_at.new.self.rehash c.loop-index.invariant.0.bag c.prepare_at.ensures.bag
+returns-then-find_next-clause-kept g c = kept_both c.args.self.now c.loop-index.self c.prepare_at.new.self c.loop-index.invariant.0.kept
+    c.prepare_at.ensures.kept
 
 pub returns-then-find_next-clause-found : goal.returns-then-find_next-clause-found
 returns-then-find_next-clause-found g c =
-    stops_at (g.H.KeyHash.hash_of c.args.hasher.now) c.args.self.now c.loop-index.self c.prepare_at.new.self c.args.start c.loop-index.index c.len.result c.loop-index.at c.find_next.new.self c.bucket_of.result.now
-    c.loop-index.invariant.0 c.prepare_at.ensures.placed c.prepare_at.ensures.kept c.prepare_at.ensures.bag c.len.ensures.value (search rules) c.len.ensures.power c.in-Ok.ensures.ready c.bucket_of.ensures (c.find_next.ensures.ahead c.if-find_next.true)
+    stops_at (g.H.KeyHash.hash_of c.args.hasher.now) c.args.self.now c.loop-index.self c.prepare_at.new.self c.args.start c.loop-index.index
+    c.len.result c.loop-index.at c.find_next.new.self c.bucket_of.result.now
+    c.loop-index.invariant.0 c.prepare_at.ensures.placed c.prepare_at.ensures.kept c.len.ensures.value (search rules) c.len.ensures.power
+    c.in-Ok.ensures.ready c.bucket_of.ensures (c.find_next.ensures.ahead c.if-find_next.true)
 
 pub loop-index-smaller : goal.loop-index-smaller
 loop-index-smaller g c =
-    let same = len_kept c.loop-index.self.current c.args.self.now.current c.loop-index.invariant.0.kept.current_len in
+    let same = c.loop-index.invariant.0.kept.current_len in
     let within : c.loop-index.index < c.len.result = search rules in
     omega (arith, within, c.len.ensures.value, same)
 
 pub loop-index-preserved : goal.loop-index-preserved
 loop-index-preserved g c = (
-  passes_at (g.H.KeyHash.hash_of c.args.hasher.now) c.args.self.now c.loop-index.self c.prepare_at.new.self c.args.start c.loop-index.index c.len.result c.loop-index.at c.find_next.new.self c.bucket_of.result.now
-      c.loop-index.invariant.0 c.prepare_at.ensures.placed c.prepare_at.ensures.kept c.prepare_at.ensures.bag c.len.ensures.value (search rules) c.in-Ok.ensures.ready c.bucket_of.ensures (c.find_next.ensures.end c.if-find_next.false),
-  worked_more c.args.self.now c.loop-index.self c.prepare_at.new.self c.args.start c.loop-index.index c.loop-index.invariant.1 c.prepare_at.ensures.kept c.prepare_at.ensures.units c.prepare_at.ensures.alone c.len.result c.len.ensures.value (search rules) c.in-Ok.ensures.ready,
+  passes_at (g.H.KeyHash.hash_of c.args.hasher.now) c.args.self.now c.loop-index.self c.prepare_at.new.self c.args.start c.loop-index.index
+      c.len.result c.loop-index.at c.find_next.new.self c.bucket_of.result.now
+      c.loop-index.invariant.0 c.prepare_at.ensures.placed c.prepare_at.ensures.kept c.len.ensures.value (search rules)
+      c.in-Ok.ensures.ready c.bucket_of.ensures (c.find_next.ensures.end c.if-find_next.false),
+  worked_more c.args.self.now c.loop-index.self c.prepare_at.new.self c.args.start c.loop-index.index c.loop-index.invariant.1
+      c.prepare_at.ensures.kept c.prepare_at.ensures.units c.prepare_at.ensures.alone c.len.result c.len.ensures.value (search rules)
+      c.in-Ok.ensures.ready,
 )
 
 pub loop-index-init : goal.loop-index-init
@@ -48,24 +50,31 @@ loop-index-init g c = (
 
 pub returns-in_default-clause-passes : goal.returns-in_default-clause-passes
 returns-in_default-clause-passes g c = λ bound begins.
-    passes_refused c.args.self.now c.loop-index.self c.prepare_at.new.self c.args.start c.loop-index.index c.loop-index.invariant.1 c.prepare_at.ensures.kept c.prepare_at.ensures.units c.prepare_at.ensures.alone c.len.result bound c.len.ensures.value (search rules) (λ none. search rules) (begins_wide c.args.self.now c.len.result c.args.start bound (c.len.ensures.value ∙ c.loop-index.invariant.1.len) c.len.ensures.power begins)
+    passes_refused c.args.self.now c.loop-index.self c.prepare_at.new.self c.args.start c.loop-index.index c.loop-index.invariant.1
+    c.prepare_at.ensures.kept c.prepare_at.ensures.units c.prepare_at.ensures.alone c.len.result bound c.len.ensures.value
+    (search rules) (λ none. search rules) (begins_wide c.args.self.now c.len.result c.args.start bound
+    (c.len.ensures.value ∙ c.loop-index.invariant.1.len) c.len.ensures.power begins)
 
 pub returns-then-find_next-clause-passes : goal.returns-then-find_next-clause-passes
 returns-then-find_next-clause-passes g c = λ bound begins.
     passes_found c.args.self.now c.prepare_at.new.self c.args.start c.loop-index.index bound
-    (worked_more c.args.self.now c.loop-index.self c.prepare_at.new.self c.args.start c.loop-index.index c.loop-index.invariant.1 c.prepare_at.ensures.kept c.prepare_at.ensures.units c.prepare_at.ensures.alone c.len.result c.len.ensures.value (search rules) c.in-Ok.ensures.ready)
-    c.loop-index.invariant.0.order (begins_wide c.args.self.now c.len.result c.args.start bound (c.len.ensures.value ∙ c.loop-index.invariant.1.len) c.len.ensures.power begins)
+    (worked_more c.args.self.now c.loop-index.self c.prepare_at.new.self c.args.start c.loop-index.index c.loop-index.invariant.1
+    c.prepare_at.ensures.kept c.prepare_at.ensures.units c.prepare_at.ensures.alone c.len.result c.len.ensures.value (search rules)
+    c.in-Ok.ensures.ready)
+    c.loop-index.invariant.0.order (begins_wide c.args.self.now c.len.result c.args.start bound
+    (c.len.ensures.value ∙ c.loop-index.invariant.1.len) c.len.ensures.power begins)
 
 pub returns-clause-passes : goal.returns-clause-passes
 returns-clause-passes g c = λ bound begins.
-    passes_all c.args.self.now c.loop-index.self c.args.start c.loop-index.index bound c.loop-index.invariant.1 (omega (arith, c.loop-index-test.false, c.len.ensures.value)) (begins_wide c.args.self.now c.len.result c.args.start bound (c.len.ensures.value ∙ c.loop-index.invariant.1.len) c.len.ensures.power begins)
+    passes_all c.args.self.now c.loop-index.self c.args.start c.loop-index.index bound c.loop-index.invariant.1
+    (omega (arith, c.loop-index-test.false, c.len.ensures.value)) (begins_wide c.args.self.now c.len.result c.args.start bound
+    (c.len.ensures.value ∙ c.loop-index.invariant.1.len) c.len.ensures.power begins)
 
 pub returns-clause-found : goal.returns-clause-found
 returns-clause-found g c = record {
-  none = λ nothing. ends (g.H.KeyHash.hash_of c.args.hasher.now) c.args.self.now c.loop-index.self c.args.start c.loop-index.index c.loop-index.at c.loop-index.invariant.0 (g.met.H.KeyHash.fits c.args.hasher.now) c.sound.ensures
-      (λ e. c.len.ensures.none (omega (arith, e, c.len.ensures.value)))
-      (λ some. subst IsLength c.len.ensures.value (c.len.ensures.power
-      (omega (arith, some, c.len.ensures.value)))) (omega
+  none = λ nothing. ends (g.H.KeyHash.hash_of c.args.hasher.now) c.args.self.now c.loop-index.self c.args.start c.loop-index.index
+      c.loop-index.at c.loop-index.invariant.0 (g.met.H.KeyHash.fits c.args.hasher.now) c.sound.ensures.arrays
+      (λ some. subst IsLength c.len.ensures.value (c.len.ensures.power (omega (arith, some, c.len.ensures.value)))) (omega
       (arith, c.loop-index-test.false, c.len.ensures.value));
   null = c.loop-index.invariant.0.null;
 }

@@ -1,8 +1,8 @@
-use Rattle.bucket_table.proofs.Words.{ℕ, ◌<◌, ◌≤◌, ◌∙◌, inr, is_some, length, sym, ap, subst, false≢true, pairs_in}
-use Rattle.bucket_table.proofs.AskSteps.{none_of}
-use Rattle.bucket_table.proofs.arrays.Arrays.free_home.Goals as goal
-use Rattle.bucket_table.proofs.arrays.Arrays.free_home.Goals.{else-is_checked-via-then-is_checked+else-len-ge-BUCKET_LEN}
+use Rattle.bucket_table.proofs.Words.{ap, false≢true, inr, length, pairs_in, subst, sym, ℕ, ◌<◌, ◌∙◌, ◌≤◌}
+use Rattle.bucket_table.proofs.Resize.Asked.{none_from}
 use Rattle.bucket_table.proofs.arrays.Arrays.free_home.Goals.{else-is_checked-via-else-is_checked}
+use Rattle.bucket_table.proofs.arrays.Arrays.free_home.Goals.{else-is_checked-via-then-is_checked+else-len-ge-BUCKET_LEN}
+use Rattle.bucket_table.proofs.arrays.Arrays.free_home.Goals as goal
 
 pub returns-then-len-ge-BUCKET_LEN-clause-none : goal.returns-then-len-ge-BUCKET_LEN-clause-none
 returns-then-len-ge-BUCKET_LEN-clause-none g c =
@@ -12,22 +12,19 @@ returns-then-len-ge-BUCKET_LEN-clause-none g c =
       (
         c.home-index.result,
         c.home-index.ensures,
-        subst
-            (λ (n : ℕ). 32 ≤ n) long c.if-len-ge-BUCKET_LEN.true,
+        subst (λ (n : ℕ). 32 ≤ n) long c.if-len-ge-BUCKET_LEN.true,
       ),
     ))
 
 pub returns-clause-free : goal.returns-clause-free
 returns-clause-free g c = record {
-  alone = none_of c.args.self.now.rehash (sym (ap (λ a. is_some a.rehash) c.self.view_is) ∙ sym
-      c.is_some.ensures ∙ c.if-is_some.false);
+  alone = none_from c.has_old.ensures c.if-has_old.false;
   home = c.home-index.ensures;
   few = elim c.else-is_checked.branch [
     | else-is_checked-via-then-is_checked+else-len-ge-BUCKET_LEN w ↦ λ asked.
         let long = w.len-then-is_checked.ensures ∙ ap (λ b. length (pairs_in b)) w.bucket_of.ensures
         in
         subst (λ (n : ℕ). n < 32) long w.if-len-ge-BUCKET_LEN.false
-    | else-is_checked-via-else-is_checked w ↦ λ asked. absurd
-        (false≢true (sym w.if-is_checked.false ∙ asked))
+    | else-is_checked-via-else-is_checked w ↦ λ asked. absurd (false≢true (sym w.if-is_checked.false ∙ asked))
   ];
 }

@@ -1,5 +1,6 @@
-use Rattle.bucket_table.proofs.ResizeSteps.{first_made}
+use Rattle.bucket_table.proofs.Views.Laws.{fresh_fits}
 use Rattle.bucket_table.proofs.arrays.Arrays.make_first_array.Goals as goal
 
 pub invariant_of-self : goal.invariant_of-self
-invariant_of-self g c = first_made _ _ c.self.inside.current _ c.in-Ok.fresh c.self.invariant c.in-Ok.ensures
+invariant_of-self g c = fresh_fits _ _ _ _ _ c.in-Ok.fresh _ _ _ c.self.invariant c.self.invariant.bounded c.in-Ok.ensures
+    c.self.invariant.tickets_len

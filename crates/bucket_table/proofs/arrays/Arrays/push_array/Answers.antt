@@ -1,9 +1,25 @@
-use Rattle.bucket_table.proofs.Words.{◌≤◌, ℕ, sym, ap, subst}
-use Rattle.bucket_table.proofs.ResizeSteps.{resized}
+use Rattle.std.proofs.Common.{ap, arith, length, sym, ◌∙◌}
+use Rattle.bucket_table.specs.Views.ArraysView.{list_of}
+use Rattle.bucket_table.proofs.Views.Laws.{fresh_fits, none_open}
+use Rattle.bucket_table.proofs.Views.Lent.{pushed_seen}
 use Rattle.bucket_table.proofs.arrays.Arrays.push_array.Goals as goal
 
 pub invariant_of-self : goal.invariant_of-self
 invariant_of-self g c =
-    let fits : c.args.capacity ≤ c.self.inside.maximum = subst (λ (n : ℕ). c.args.capacity ≤ n)
-    (sym (ap (λ a. a.maximum) c.self.view_is)) c.requires.capacity in
-    resized c.args.capacity _ _ _ _ c.in-Ok-alloc.fresh _ c.self.invariant fits c.in-Ok-alloc.ensures
+    let maximum = ap (λ a. a.maximum) c.self.view_is in
+    let stood = ap (λ o. length (list_of o)) (sym c.in-Some.ensures.value) in
+    let current = ap (λ a. length a.current) c.self.view_is in
+    let tickets = ap (λ t. t.len) c.in-Ok.ensures in
+    fresh_fits c.args.capacity _ _ _ _ c.in-Ok-alloc.fresh _ _ _ c.self.invariant (omega (arith, maximum, c.requires.capacity))
+    c.in-Ok-alloc.ensures
+    (omega (arith, tickets, stood, current, c.len.ensures.value))
+
+pub returns-clause-pushed : goal.returns-clause-pushed
+returns-clause-pushed g c = record {
+  alone = c.requires.alone;
+  none_open = none_open c.args.self.now.tickets c.sound.ensures.tickets (c.sound.ensures.arrays.tickets_len ∙ c.requires.alone);
+  fresh = c.in-Ok-alloc.fresh;
+  fresh_is = c.in-Ok-alloc.ensures;
+  new_is = pushed_seen c.args.self.now _ _ _ c.self.inside.current _ c.in-Ok-alloc.fresh c.in-Some.array c.in-Ok.tickets c.len.result
+      c.in-Some.ensures.value c.in-Ok.ensures c.len.ensures.value c.self.view_is;
+}

@@ -1,30 +1,25 @@
-use Rattle.bucket_table.proofs.Words.{◌<◌, arith}
-use Rattle.bucket_table.specs.ArraysView.{old_buckets}
-use Rattle.bucket_table.proofs.Spending.{spends_both, spends_none, spends_one, spends_same}
-use Rattle.bucket_table.proofs.UnitSteps.{old_inside, range_more, range_none, some_refused, some_worked}
+use Rattle.bucket_table.proofs.Words.{arith}
+use Rattle.bucket_table.proofs.Rehash.Spending.{spends_both, spends_none, spends_one, spends_same}
+use Rattle.bucket_table.proofs.Rehash.UnitSteps.{range_more, range_none, some_refused, some_worked}
 use Rattle.bucket_table.proofs.arrays.Arrays.relocate_range.Goals as goal
 
 pub buckets-init : goal.buckets-init
-buckets-init g c =
-    let (was, is, within) = c.requires.within in
-    (range_none c.args.start c.args.self.now was is, c.requires.placed, spends_same (old_buckets c.args.self.now.rehash))
+buckets-init g c = (range_none c.args.start c.args.self.now, c.requires.placed, spends_same c.args.self.now.linked)
 
 pub returns-in_default-clause-worked : goal.returns-in_default-clause-worked
-returns-in_default-clause-worked g c =
-    some_refused _ c.buckets.index c.args.end _ _ _ c.buckets.invariant.0 c.in_default.ensures.refused
+returns-in_default-clause-worked g c = some_refused _ c.buckets.index c.args.end _ _ _ c.buckets.invariant.0 c.in_default.ensures.refused
 
 pub returns-in_default-clause-spends : goal.returns-in_default-clause-spends
 returns-in_default-clause-spends g c = spends_both _ _ _ c.buckets.invariant.2 (spends_none _ _ c.in_default.ensures.refused)
 
 pub buckets-preserved : goal.buckets-preserved
 buckets-preserved g c =
-    let below : c.buckets.index < c.args.end = c.buckets-test.true in (
+    let long = c.buckets.invariant.0.some.killed.len in (
       range_more _ c.buckets.index _ _ _ c.buckets.invariant.0 c.in-Ok.ensures.done
-          (old_inside _ c.buckets.index c.args.end _ _ c.buckets.invariant.0 c.requires.within below),
+          (omega (arith, c.buckets-test.true, c.requires.within, long)),
       c.in-Ok.ensures.placed,
       spends_both _ _ _ c.buckets.invariant.2 (spends_one c.buckets.index _ _ c.in-Ok.ensures.done),
     )
 
 pub returns-clause-worked : goal.returns-clause-worked
-returns-clause-worked g c =
-    some_worked _ c.buckets.index c.args.end _ _ c.buckets.invariant.0 (omega (arith, c.buckets-test.false))
+returns-clause-worked g c = some_worked _ c.buckets.index c.args.end _ _ c.buckets.invariant.0 (omega (arith, c.buckets-test.false))

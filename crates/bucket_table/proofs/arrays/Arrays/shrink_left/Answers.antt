@@ -1,5 +1,5 @@
-use Rattle.bucket_table.proofs.Words.{length, refl, ap, sym, ◌∙◌}
-use Rattle.bucket_table.proofs.WriterSteps.{kept_same, none_from_len}
+use Rattle.bucket_table.proofs.Words.{ap, length, nil_from_length, refl, sym, ◌∙◌}
+use Rattle.bucket_table.proofs.Views.Keeping.{keeps_same}
 use Rattle.bucket_table.proofs.arrays.Arrays.shrink_left.Goals as goal
 
 pub returns-then-left-ne0 : goal.returns-then-left-ne0
@@ -8,20 +8,18 @@ returns-then-left-ne0 g c = record {
     asked = λ h. absurd (c.if-left-ne0.true (c.requires.left ∙ ap (λ ps. length ps) h.0));
     not_asked = λ refused. refl;
   };
-  kept = kept_same c.args.self.now;
-  bag = λ unit. refl;
+  kept = keeps_same c.args.self.now;
   placed = λ hash law. law;
 }
 
 pub returns : goal.returns
 returns g c =
-    let empty = none_from_len _ (sym c.requires.left ∙ c.if-left-ne0.false) in
+    let empty = nil_from_length _ (sym c.requires.left ∙ c.if-left-ne0.false) in
     record {
       asked = record {
         asked = λ h. c.try_shrink.ensures.asked.asked h.1;
         not_asked = λ refused. c.try_shrink.ensures.asked.not_asked (λ near. refused (empty, near));
       };
       kept = c.try_shrink.ensures.kept;
-      bag = c.try_shrink.ensures.bag;
       placed = c.try_shrink.ensures.placed;
     }

@@ -1,25 +1,45 @@
-use Rattle.bucket_table.proofs.Words.{ℕ, Ok, true, refl, arith}
+use Rattle.std.proofs.Common.{arith, refl}
+use Rattle.bucket_table.specs.Resize.Turns.{given_up, pushed}
 use Rattle.bucket_table.specs.declared.arrays.plan.Plan.TheVariants.{GiveUp, Resize}
-use Rattle.bucket_table.proofs.ResizeSteps.{placed_by, resize_needs, same_entries}
+use Rattle.bucket_table.proofs.Resize.GivingUp.{gives_up, plan_alone, plan_stands}
+use Rattle.bucket_table.proofs.Resize.Turning.{turned_keeps, turned_placed}
 use Rattle.bucket_table.proofs.arrays.Arrays.try_resize.Goals as goal
+
+pub give_array_up-requires : goal.give_array_up-requires
+give_array_up-requires g c = (omega arith, plan_alone c.args.self.now GiveUp c.in-GiveUp.ensures.plan (omega arith))
 
 pub push_array-requires : goal.push_array-requires
 push_array-requires g c =
-    let needs = resize_needs _ _ c.in-Resize.capacity _ _ c.in-Resize.ensures.plan in
-    (omega arith, (needs.0, (needs.1, c.in-Resize.ensures.capacity)))
+    let plan = c.in-Resize.ensures.plan in (
+      omega arith,
+      (
+        plan_stands c.args.self.now _ plan (omega arith),
+        (plan_alone c.args.self.now _ plan (omega arith), c.in-Resize.ensures.capacity),
+      ),
+    )
 
-pub returns-in-GiveUp-clause-same_entries : goal.returns-in-GiveUp-clause-same_entries
-returns-in-GiveUp-clause-same_entries g c =
-    same_entries {E = ℕ} GiveUp c.args.self.now c.give_array_up.new.self (Ok true) c.in-GiveUp.ensures.plan (refl, c.give_array_up.ensures)
+pub returns-in-GiveUp-clause-resized : goal.returns-in-GiveUp-clause-resized
+returns-in-GiveUp-clause-resized g c = (
+  GiveUp,
+  c.in-GiveUp.ensures.plan,
+  refl,
+  gives_up c.args.self.now _ c.in-GiveUp.ensures.plan
+      c.give_array_up.ensures,
+)
+
+pub returns-in-GiveUp-clause-kept : goal.returns-in-GiveUp-clause-kept
+returns-in-GiveUp-clause-kept g c = turned_keeps given_up c.args.self.now _ (gives_up c.args.self.now _ c.in-GiveUp.ensures.plan
+    c.give_array_up.ensures)
 
 pub returns-in-GiveUp-clause-placed : goal.returns-in-GiveUp-clause-placed
-returns-in-GiveUp-clause-placed g c = λ hash law.
-    placed_by {E = ℕ} hash GiveUp c.args.self.now c.give_array_up.new.self (Ok true) c.in-GiveUp.ensures.plan (refl, c.give_array_up.ensures) law
+returns-in-GiveUp-clause-placed g c = λ hash. turned_placed hash given_up c.args.self.now _
+    (gives_up c.args.self.now _ c.in-GiveUp.ensures.plan c.give_array_up.ensures)
 
-pub returns-in-Ok-clause-same_entries : goal.returns-in-Ok-clause-same_entries
-returns-in-Ok-clause-same_entries g c =
-    same_entries {E = ℕ} (Resize c.in-Resize.capacity) c.args.self.now c.push_array.new.self (Ok true) c.in-Resize.ensures.plan (refl, c.in-Ok.ensures.resized)
+pub returns-in-Ok-clause-resized : goal.returns-in-Ok-clause-resized
+returns-in-Ok-clause-resized g c = (Resize c.in-Resize.capacity, c.in-Resize.ensures.plan, refl, c.in-Ok.ensures.pushed)
+
+pub returns-in-Ok-clause-kept : goal.returns-in-Ok-clause-kept
+returns-in-Ok-clause-kept g c = turned_keeps (pushed c.in-Resize.capacity) c.args.self.now _ c.in-Ok.ensures.pushed
 
 pub returns-in-Ok-clause-placed : goal.returns-in-Ok-clause-placed
-returns-in-Ok-clause-placed g c = λ hash law.
-    placed_by {E = ℕ} hash (Resize c.in-Resize.capacity) c.args.self.now c.push_array.new.self (Ok true) c.in-Resize.ensures.plan (refl, c.in-Ok.ensures.resized) law
+returns-in-Ok-clause-placed g c = λ hash. turned_placed hash (pushed c.in-Resize.capacity) c.args.self.now _ c.in-Ok.ensures.pushed

@@ -1,9 +1,6 @@
-use Rattle.bucket_table.proofs.Words.{◌<◌, ap, ◌∙◌, arith, length}
+use Rattle.bucket_table.proofs.Words.{ap, arith, counted_to, entries_among, length, live_len, ◌<◌, ◌∙◌}
 use Rattle.std.proofs.lemmas.List.{take_all}
-use Rattle.bucket_table.specs.Counting.{counted_to}
-use Rattle.bucket_table.specs.Relocation.{entries_among}
-use Rattle.bucket_table.specs.Sampling.{live_len}
-use Rattle.bucket_table.proofs.CountSteps.{entries_among_more}
+use Rattle.bucket_table.proofs.Map.CountSteps.{entries_among_more}
 use Rattle.bucket_table.proofs.arrays.counting.count_in.Goals as goal
 
 pub loop-index-preserved : goal.loop-index-preserved

@@ -1,6 +1,4 @@
-use Rattle.bucket_table.proofs.Words.{◌≡◌, take}
-use Rattle.bucket_table.specs.Counting.{counted_to}
-use Rattle.bucket_table.specs.Relocation.{entries_among}
+use Rattle.bucket_table.proofs.Words.{counted_to, entries_among, take, ◌≡◌}
 use Rattle.bucket_table.proofs.arrays.counting.count_in.Given as goal
 
 -- the live slots so far

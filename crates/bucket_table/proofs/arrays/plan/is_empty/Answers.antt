@@ -1,7 +1,6 @@
-use Rattle.bucket_table.proofs.Words.{◌<◌, length, refl, sym, ap, ◌∙◌, arith, false≢true}
+use Rattle.bucket_table.proofs.Words.{ap, arith, false≢true, length, live_counts, live_len, refl, sym, ◌<◌, ◌∙◌}
 use Rattle.std.proofs.Common.{below_more}
-use Rattle.bucket_table.specs.Sampling.{live_counts, live_len}
-use Rattle.bucket_table.proofs.Samples.{get_or-live_counts, length-live_counts}
+use Rattle.bucket_table.proofs.Resize.Samples.{get_or-live_counts, length-live_counts}
 use Rattle.bucket_table.proofs.arrays.plan.is_empty.Goals as goal
 
 pub returns-then-len-ne0 : goal.returns-then-len-ne0
@@ -12,8 +11,7 @@ returns-then-len-ne0 g c =
     let inside : c.loop-index.index < length (live_counts buckets) = omega arith in
     let here = c.len.ensures ∙ ap live_len c.bucket.ensures ∙ sym (get_or-live_counts buckets c.loop-index.index 0 within) in (
       λ h. absurd (false≢true h),
-      λ all. absurd (c.if-len-ne0.true
-          (here ∙ all c.loop-index.index 0 inside)),
+      λ all. absurd (c.if-len-ne0.true (here ∙ all c.loop-index.index 0 inside)),
     )
 
 pub loop-index-preserved : goal.loop-index-preserved
@@ -29,7 +27,12 @@ returns g c =
     let long = length-live_counts buckets in (
       λ h k d below.
           let within : k < length buckets = omega arith in
-          let seen : k < c.loop-index.index = omega (arith, c.loop-index-test.false, c.len-index-end.ensures.value, c.loop-index.auto.index-end) in
+          let seen : k < c.loop-index.index = omega (
+            arith,
+            c.loop-index-test.false,
+            c.len-index-end.ensures.value,
+            c.loop-index.auto.index-end,
+          ) in
           get_or-live_counts buckets k d within ∙ sym (get_or-live_counts buckets k 0 within) ∙ c.loop-index.invariant k seen,
       λ all. refl,
     )

@@ -1,5 +1,4 @@
-use Rattle.bucket_table.proofs.Words.{ℕ, ◌≡◌, ◌<◌, get_or}
-use Rattle.bucket_table.specs.Sampling.{live_counts}
+use Rattle.bucket_table.proofs.Words.{get_or, live_counts, ℕ, ◌<◌, ◌≡◌}
 use Rattle.bucket_table.proofs.arrays.plan.is_empty.Given as goal
 
 abbrev pub invariant-loop-index : goal.invariant-loop-index

@@ -1,9 +1,7 @@
-use Rattle.bucket_table.proofs.Words.{ℕ, ◌*◌, ◌<◌, sym, ap, ◌∙◌, arith}
-use Rattle.bucket_table.specs.ResizePlan.{slots_of}
-use Rattle.bucket_table.specs.Sampling.{live_counts}
-use Rattle.bucket_table.proofs.PlanBounds.{given_up, middle_is, optimal_at, shrunk, slots_are, slots_in}
-use Rattle.bucket_table.proofs.Plans.{optimal_fits}
-use Rattle.bucket_table.proofs.Samples.{large_within}
+use Rattle.bucket_table.proofs.Words.{ap, arith, live_counts, slots_of, sym, ℕ, ◌*◌, ◌<◌, ◌∙◌}
+use Rattle.bucket_table.proofs.Resize.PlanBounds.{given_up, middle_is, optimal_at, shrunk, slots_are, slots_in}
+use Rattle.bucket_table.proofs.Resize.Plans.{optimal_fits}
+use Rattle.bucket_table.proofs.Resize.Samples.{large_within}
 use Rattle.bucket_table.proofs.arrays.plan.plan_by_middle.Goals as goal
 
 pub optimal_capacity-capacity-requires-clause-capacity : goal.optimal_capacity-capacity-requires-clause-capacity
@@ -27,7 +25,8 @@ pub returns-then-capacity-asked-clause-plan : goal.returns-then-capacity-asked-c
 returns-then-capacity-asked-clause-plan g c =
     let counts = live_counts c.args.array.now in
     let slots = slots_are c.args.array.now _ c.num_slots-slots.ensures in
-    let middle = middle_is c.args.array.now c.len.result c.full_sample_size-full.result _ c.len.ensures.value c.full_sample_size-full.ensures c.sample-middle.ensures in
+    let middle = middle_is c.args.array.now c.len.result c.full_sample_size-full.result _ c.len.ensures.value
+    c.full_sample_size-full.ensures c.sample-middle.ensures in
     let capacity = c.optimal_capacity-capacity.result in
     let asked = optimal_at _ _ _ _ _ _ _ slots c.sample-first.ensures c.optimal_capacity-asked.ensures in
     let less : capacity < slots_of counts = omega (arith, slots, c.if-capacity-slots.false, c.if-slots-capacity.false) in (
@@ -40,7 +39,8 @@ pub returns-else-capacity-asked-clause-plan : goal.returns-else-capacity-asked-c
 returns-else-capacity-asked-clause-plan g c =
     let counts = live_counts c.args.array.now in
     let slots = slots_are c.args.array.now _ c.num_slots-slots.ensures in
-    let middle = middle_is c.args.array.now c.len.result c.full_sample_size-full.result _ c.len.ensures.value c.full_sample_size-full.ensures c.sample-middle.ensures in
+    let middle = middle_is c.args.array.now c.len.result c.full_sample_size-full.result _ c.len.ensures.value
+    c.full_sample_size-full.ensures c.sample-middle.ensures in
     let capacity = c.optimal_capacity-capacity.result in
     let asked = optimal_at _ _ _ _ _ _ _ slots c.sample-first.ensures c.optimal_capacity-asked.ensures in
     let less : capacity < slots_of counts = omega (arith, slots, c.if-capacity-slots.false, c.if-slots-capacity.false) in (
@@ -51,8 +51,10 @@ returns-else-capacity-asked-clause-plan g c =
 
 pub returns-then-slots-capacity-clause-capacity : goal.returns-then-slots-capacity-clause-capacity
 returns-then-slots-capacity-clause-capacity g c =
-    optimal_fits _ _ _ _ _ c.requires.maximum.power c.requires.maximum.at_least c.requires.bounded (omega (arith, c.num_slots-slots.ensures)) c.optimal_capacity-capacity.ensures
+    optimal_fits _ _ _ _ _ c.requires.maximum.power c.requires.maximum.at_least c.requires.bounded
+    (omega (arith, c.num_slots-slots.ensures)) c.optimal_capacity-capacity.ensures
 
 pub returns-else-capacity-asked-clause-capacity : goal.returns-else-capacity-asked-clause-capacity
 returns-else-capacity-asked-clause-capacity g c =
-    optimal_fits _ _ _ _ _ c.requires.maximum.power c.requires.maximum.at_least c.requires.bounded (omega (arith, c.num_slots-slots.ensures)) c.optimal_capacity-capacity.ensures
+    optimal_fits _ _ _ _ _ c.requires.maximum.power c.requires.maximum.at_least c.requires.bounded
+    (omega (arith, c.num_slots-slots.ensures)) c.optimal_capacity-capacity.ensures

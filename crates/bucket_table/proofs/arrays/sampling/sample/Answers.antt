@@ -1,11 +1,11 @@
-use Rattle.bucket_table.proofs.Words.{◌<◌, ◌+◌, ap, ◌∙◌, arith, length}
-use Rattle.bucket_table.specs.Sampling.{live_counts, live_len}
-use Rattle.bucket_table.proofs.Samples.{counted_more, get_or-live_counts, length-live_counts}
+use Rattle.bucket_table.proofs.Words.{ap, arith, length, live_counts, live_len, ◌+◌, ◌<◌, ◌∙◌}
+use Rattle.bucket_table.proofs.Resize.Samples.{counted_more, get_or-live_counts, length-live_counts}
 use Rattle.bucket_table.proofs.arrays.sampling.sample.Goals as goal
 
 pub loop-offset-preserved : goal.loop-offset-preserved
 loop-offset-preserved g c =
-    let within : c.args.start + c.loop-offset.offset < length c.args.array.now = omega (arith, c.requires.within, c.loop-offset-test.true) in
+    let within : c.args.start + c.loop-offset.offset < length c.args.array.now = omega
+    (arith, c.requires.within, c.loop-offset-test.true) in
     let long = length-live_counts c.args.array.now in
     let inside : c.args.start + c.loop-offset.offset < length (live_counts c.args.array.now) = omega arith in
     let more = counted_more (live_counts c.args.array.now) c.args.start c.loop-offset.offset inside in

@@ -1,24 +1,29 @@
-use Rattle.bucket_table.proofs.MapKept.{one_map_kept, state_found}
-use Rattle.bucket_table.proofs.Placing.{placed_end}
-use Rattle.bucket_table.proofs.UnitSteps.{kept_ended}
-use Rattle.bucket_table.proofs.WriterSteps.{kept_prepared}
+use Rattle.bucket_table.proofs.Words.{◌∙◌}
+use Rattle.bucket_table.proofs.Rehash.Ending.{marks_ended, not_open, placed_end}
+use Rattle.bucket_table.proofs.Views.Laws.{none_open}
+use Rattle.bucket_table.proofs.Rehash.TicketSteps.{ended_map}
 use Rattle.bucket_table.proofs.hash_table.HashTable.end_incremental_rehash.Goals as goal
 
 pub invariant_of-self : goal.invariant_of-self
 invariant_of-self g c =
     let e = c.end_incremental_rehash.ensures in
-    one_map_kept g.K.PartialEq.eq g.met.K.Eq.laws (g.H.KeyHash.hash_of c.self.inside.hasher) c.self.inside.arrays c.end_incremental_rehash.new.self c.self.invariant
-    (kept_ended c.self.inside.arrays c.end_incremental_rehash.new.self c.args.ticket c.args.success c.end_incremental_rehash.result e.rehash e.others e.same_pairs)
-    (placed_end (g.H.KeyHash.hash_of c.self.inside.hasher) c.self.inside.arrays c.end_incremental_rehash.new.self c.args.ticket c.args.success c.end_incremental_rehash.result c.self.invariant.placed e.rehash e.others)
+    record {
+      distinct = rw e.same_pairs c.self.invariant.distinct;
+      placed = placed_end _ _ _ c.args.ticket c.args.success c.end_incremental_rehash.result e.rehash c.self.invariant.placed;
+    }
 
 pub returns-clause-map : goal.returns-clause-map
 returns-clause-map g c =
     let e = c.end_incremental_rehash.ensures in
-    let kept = kept_ended c.self.inside.arrays c.end_incremental_rehash.new.self c.args.ticket c.args.success c.end_incremental_rehash.result e.rehash e.others e.same_pairs in
-    rw (← c.self.view_is) (state_found g.row.TYPE _ _ c.end_incremental_rehash.new.self (kept_prepared _ c.end_incremental_rehash.new.self kept))
+    rw (← c.self.view_is) (ended_map g.row.TYPE _ c.self.inside.arrays _ c.args.ticket c.args.success c.end_incremental_rehash.result
+    e.same_pairs e.rehash)
 
-pub returns-clause-kept : goal.returns-clause-kept
-returns-clause-kept g c =
-    let e = c.end_incremental_rehash.ensures in
-    let kept = kept_ended c.self.inside.arrays c.end_incremental_rehash.new.self c.args.ticket c.args.success c.end_incremental_rehash.result e.rehash e.others e.same_pairs in
-    rw (← c.self.view_is) kept
+pub returns-clause-marks : goal.returns-clause-marks
+returns-clause-marks g c =
+    rw (← c.self.view_is) (marks_ended _ _ c.args.ticket c.args.success c.end_incremental_rehash.result
+    c.end_incremental_rehash.ensures.rehash)
+
+pub returns-clause-none : goal.returns-clause-none
+returns-clause-none g c = rw (← c.self.view_is) (λ none.
+    let unopened = none_open c.self.inside.arrays.tickets c.sound.ensures.tickets (c.sound.ensures.arrays.tickets_len ∙ none) in
+    not_open _ _ c.args.ticket c.args.success c.end_incremental_rehash.result unopened c.end_incremental_rehash.ensures.rehash)

@@ -1,17 +1,19 @@
-use Rattle.bucket_table.proofs.CallSteps.{empty_without}
-use Rattle.bucket_table.proofs.Finding.{prepared}
-use Rattle.bucket_table.proofs.MapKept.{one_map_kept}
+use Rattle.bucket_table.proofs.Scripts.CallSteps.{empty_without}
+use Rattle.bucket_table.proofs.Map.Finding.{prepared}
+use Rattle.bucket_table.proofs.Map.MapKept.{one_map_kept}
 use Rattle.bucket_table.proofs.hash_table.HashTable.fetch_home.Goals as goal
 
 pub invariant_of-self : goal.invariant_of-self
 invariant_of-self g c =
     let e = c.fetch_home-is_ready.ensures in
-    one_map_kept g.K.PartialEq.eq g.met.K.Eq.laws (g.H.KeyHash.hash_of c.self.inside.hasher) c.self.inside.arrays c.fetch_home-is_ready.new.self c.self.invariant e.kept e.placed
+    one_map_kept g.K.PartialEq.eq g.met.K.Eq.laws (g.H.KeyHash.hash_of c.self.inside.hasher) c.self.inside.arrays
+    c.fetch_home-is_ready.new.self c.self.invariant e.kept.keeps e.placed
 
 pub returns-clause-prepared : goal.returns-clause-prepared
 returns-clause-prepared g c =
     let e = c.fetch_home-is_ready.ensures in
-    rw (← c.self.view_is) (prepared g.row.TYPE _ _ c.fetch_home-is_ready.new.self e.bag e.kept e.unit e.alone)
+    rw (← c.self.view_is) (prepared g.row.TYPE _ _ c.fetch_home-is_ready.new.self e.kept e.units e.alone)
 
 pub returns-clause-empty : goal.returns-clause-empty
-returns-clause-empty g c = empty_without c.fetch_home-is_ready.new.self c.args.hash c.fetch_home-is_ready.result c.fetch_home-is_ready.ensures.ready c.sound.ensures.beside
+returns-clause-empty g c = empty_without c.fetch_home-is_ready.new.self c.args.hash c.fetch_home-is_ready.result
+    c.fetch_home-is_ready.ensures.ready c.sound.ensures.arrays

@@ -1,9 +1,13 @@
-use Rattle.bucket_table.proofs.MapKept.{one_map_found, state_found}
+use Rattle.bucket_table.proofs.Map.MapKept.{one_map_kept, state_found}
 use Rattle.bucket_table.proofs.hash_table.HashTable.first_past_bucket.Goals as goal
 
 pub invariant_of-self : goal.invariant_of-self
 invariant_of-self g c =
-    one_map_found g.K.PartialEq.eq g.met.K.Eq.laws (g.H.KeyHash.hash_of c.self.inside.hasher) c.self.inside.arrays c.first_past_bucket.new.self c.self.invariant c.first_past_bucket.ensures.kept c.first_past_bucket.ensures.placed
+    one_map_kept g.K.PartialEq.eq g.met.K.Eq.laws (g.H.KeyHash.hash_of c.self.inside.hasher) c.self.inside.arrays
+    c.first_past_bucket.new.self c.self.invariant c.first_past_bucket.ensures.kept c.first_past_bucket.ensures.placed
 
 pub returns-clause-map : goal.returns-clause-map
 returns-clause-map g c = rw (← c.self.view_is) (state_found g.row.TYPE _ _ c.first_past_bucket.new.self c.first_past_bucket.ensures.kept)
+
+pub returns-clause-bag : goal.returns-clause-bag
+returns-clause-bag g c = rw (← c.self.view_is) c.first_past_bucket.ensures.kept.open_tickets

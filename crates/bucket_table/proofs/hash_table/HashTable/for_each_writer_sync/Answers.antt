@@ -1,33 +1,43 @@
-use Rattle.bucket_table.proofs.Words.{◌∙◌, refl, rules, subst}
-use Rattle.bucket_table.specs.ArraysView.{IsOneMap}
-use Rattle.bucket_table.proofs.SettingsKept.{settings_same}
-use Rattle.bucket_table.proofs.Visiting.{WalkStands, begins_seen, locked_seen, over_seen, settings_walked, shrunk_at_end, stands_first}
-use Rattle.bucket_table.proofs.Visiting.{stands_next, unshrunk, walk_ended, walk_refused, walks_alone}
+use Rattle.bucket_table.proofs.Words.{IsOneMap, refl, rules, subst, ◌∙◌}
+use Rattle.bucket_table.proofs.Views.SettingsKept.{settings_same}
+use Rattle.bucket_table.proofs.Walking.Visiting.{WalkStands, begins_seen, locked_seen, over_seen, settings_walked, shrunk_at_end}
+use Rattle.bucket_table.proofs.Walking.Visiting.{stands_first}
+use Rattle.bucket_table.proofs.Walking.Visiting.{stands_next, unshrunk, walk_ended, walk_refused, walks_alone}
+use Rattle.bucket_table.proofs.hash_table.HashTable.for_each_writer_sync.Goals.{else-loop-more-test, then-loop-more-test+else-index-len}
 use Rattle.bucket_table.proofs.hash_table.HashTable.for_each_writer_sync.Goals as goal
-use Rattle.bucket_table.proofs.hash_table.HashTable.for_each_writer_sync.Goals.{then-loop-more-test+else-index-len, else-loop-more-test}
 
 pub loop-more-init : goal.loop-more-init
-loop-more-init g c = (c.requires.may, refl, stands_first g.F.Visit.visits (g.H.KeyHash.hash_of c.args.self.now.hasher) c.args.visitor.now c.args.self.now.arrays c.first_index-index.result)
+loop-more-init g c = (
+  c.requires.may,
+  refl,
+  stands_first g.F.Visit.visits (g.H.KeyHash.hash_of c.args.self.now.hasher) c.args.visitor.now
+      c.args.self.now.arrays c.first_index-index.result,
+)
 
 pub returns-in_default-clause-walked : goal.returns-in_default-clause-walked
 returns-in_default-clause-walked g c =
-    let at = begins_seen _ c.args.self.now c.len-len.result c.args.expected_len c.args.start c.first_index-index.result c.self.view_is c.len-len.ensures.value c.first_index-index.ensures in
-    walk_refused g.F.Visit.visits (g.H.KeyHash.hash_of c.args.self.now.hasher) _ c.args.expected_len c.args.start c.args.visitor.now c.loop-more.visitor c.args.self.now.arrays c.loop-more.self.arrays c.prepare_at.new.self.arrays c.first_index-index.result c.loop-more.index c.loop-more.flag c.loop-more.more at
+    let at = begins_seen _ c.args.self.now c.len-len.result c.args.expected_len c.args.start c.first_index-index.result c.self.view_is
+    c.len-len.ensures.value c.first_index-index.ensures in
+    walk_refused g.F.Visit.visits (g.H.KeyHash.hash_of c.args.self.now.hasher) _ c.args.expected_len c.args.start c.args.visitor.now
+    c.loop-more.visitor c.args.self.now.arrays c.loop-more.self.arrays c.prepare_at.new.self.arrays c.first_index-index.result
+    c.loop-more.index c.loop-more.flag c.loop-more.more at
     c.loop-more.invariant.2 c.prepare_at.ensures.kept c.prepare_at.ensures.units c.prepare_at.ensures.alone
 
 pub returns-in_default-clause-settings : goal.returns-in_default-clause-settings
 returns-in_default-clause-settings g c =
-    settings_walked g.F.Visit.visits (g.H.KeyHash.hash_of c.args.self.now.hasher) c.args.visitor.now c.loop-more.visitor c.args.self.now c.loop-more.self c.prepare_at.new.self c.first_index-index.result c.loop-more.index c.loop-more.flag c.loop-more.more
+    settings_walked g.F.Visit.visits (g.H.KeyHash.hash_of c.args.self.now.hasher) c.args.visitor.now c.loop-more.visitor c.args.self.now
+    c.loop-more.self c.prepare_at.new.self c.first_index-index.result c.loop-more.index c.loop-more.flag c.loop-more.more
     c.loop-more.invariant.2 c.loop-more.invariant.1 (record {
       hasher = c.prepare_at.ensures.hasher;
-      minimum = c.prepare_at.ensures.kept.minimum;
-      maximum = c.prepare_at.ensures.kept.maximum;
-      bag = c.prepare_at.ensures.bag;
+      minimum = c.prepare_at.ensures.kept.keeps.minimum;
+      maximum = c.prepare_at.ensures.kept.keeps.maximum;
+      bag = c.prepare_at.ensures.kept.keeps.open_tickets;
     })
 
 pub returns-in_default-clause-succeeds : goal.returns-in_default-clause-succeeds
 returns-in_default-clause-succeeds g c =
-    walks_alone g.F.Visit.visits (g.H.KeyHash.hash_of c.args.self.now.hasher) c.args.visitor.now c.loop-more.visitor c.args.self.now.arrays c.loop-more.self.arrays c.first_index-index.result c.loop-more.index c.loop-more.flag c.loop-more.more
+    walks_alone g.F.Visit.visits (g.H.KeyHash.hash_of c.args.self.now.hasher) c.args.visitor.now c.loop-more.visitor c.args.self.now.arrays
+    c.loop-more.self.arrays c.first_index-index.result c.loop-more.index c.loop-more.flag c.loop-more.more
     c.loop-more.invariant.2 (λ none. absurd (search rules))
 
 pub loop-more-preserved : goal.loop-more-preserved
@@ -39,43 +49,56 @@ loop-more-preserved g c =
     c.args.visitor.now c.loop-more.visitor c.args.self.now.arrays c.first_index-index.result
     c.loop-more.index c.loop-more.flag more c.loop-more.self.arrays) c.loop-more-test.true
     c.loop-more.invariant.2 in
-    let locked = locked_seen _ c.loop-more.self c.prepare_at.new.self.arrays c.len.result c.loop-more.index c.self-in-loop-more.view_is c.len.ensures.value (search rules) c.prepare_at.ensures.kept c.in-Ok.ensures.ready in (
+    let locked = locked_seen _ c.loop-more.self c.prepare_at.new.self.arrays c.len.result c.loop-more.index c.self-in-loop-more.view_is
+    c.len.ensures.value (search rules) c.prepare_at.ensures.kept c.in-Ok.ensures.ready in (
       c.visit_at-more.ensures.again,
       c.visit_at-more.ensures.hasher ∙ same,
-      stands_next g.F.Visit.visits (g.H.KeyHash.hash_of c.args.self.now.hasher) g.K.PartialEq.eq g.met.K.Eq.laws c.args.visitor.now c.loop-more.visitor c.visit_at-more.new.visitor c.args.self.now.arrays c.loop-more.self.arrays c.prepare_at.new.self.arrays c.visit_at-more.new.self.arrays c.first_index-index.result c.loop-more.index c.loop-more.flag c.visit_at-more.new.flag c.visit_at-more.result
-          w c.prepare_at.ensures.kept c.prepare_at.ensures.bag c.prepare_at.ensures.units c.prepare_at.ensures.alone one locked c.requires.owes c.visit_at-more.ensures.visited,
+      stands_next g.F.Visit.visits (g.H.KeyHash.hash_of c.args.self.now.hasher) g.K.PartialEq.eq g.met.K.Eq.laws c.args.visitor.now
+          c.loop-more.visitor c.visit_at-more.new.visitor c.args.self.now.arrays c.loop-more.self.arrays c.prepare_at.new.self.arrays
+          c.visit_at-more.new.self.arrays c.first_index-index.result c.loop-more.index c.loop-more.flag c.visit_at-more.new.flag
+          c.visit_at-more.result
+          w c.prepare_at.ensures.kept c.prepare_at.ensures.units c.prepare_at.ensures.alone one locked c.requires.owes
+          c.visit_at-more.ensures.visited,
     )
 
 pub returns-then-not-flag-clause-walked : goal.returns-then-not-flag-clause-walked
 returns-then-not-flag-clause-walked g c =
-    let at = begins_seen _ c.args.self.now c.len-len.result c.args.expected_len c.args.start c.first_index-index.result c.self.view_is c.len-len.ensures.value c.first_index-index.ensures in
-    walk_ended g.F.Visit.visits (g.H.KeyHash.hash_of c.args.self.now.hasher) _ c.args.expected_len c.args.start c.args.visitor.now c.loop-more.visitor c.args.self.now.arrays c.loop-more.self.arrays c.loop-more.self.arrays c.first_index-index.result c.loop-more.index c.loop-more.flag c.loop-more.more at
-    c.loop-more.invariant.2
-    (λ going. elim c.loop-more-test.branch [
-      | then-loop-more-test+else-index-len w ↦ over_seen _ c.loop-more.self w.len.result c.loop-more.index c.self-in-loop-more.view_is w.len.ensures.value (search rules)
+    let at = begins_seen _ c.args.self.now c.len-len.result c.args.expected_len c.args.start c.first_index-index.result c.self.view_is
+    c.len-len.ensures.value c.first_index-index.ensures in
+    walk_ended g.F.Visit.visits (g.H.KeyHash.hash_of c.args.self.now.hasher) _ c.args.expected_len c.args.start c.args.visitor.now
+    c.loop-more.visitor c.args.self.now.arrays c.loop-more.self.arrays c.loop-more.self.arrays c.first_index-index.result
+    c.loop-more.index c.loop-more.flag c.loop-more.more at
+    c.loop-more.invariant.2 (λ going. elim c.loop-more-test.branch [
+      | then-loop-more-test+else-index-len w ↦ over_seen _ c.loop-more.self w.len.result c.loop-more.index c.self-in-loop-more.view_is
+          w.len.ensures.value (search rules)
       | else-loop-more-test w ↦ absurd (search rules)
-    ])
-    (unshrunk c.loop-more.flag c.loop-more.self.arrays (search rules))
+    ]) (unshrunk c.loop-more.flag c.loop-more.self.arrays (search rules))
 
 pub returns-clause-walked : goal.returns-clause-walked
 returns-clause-walked g c =
-    let at = begins_seen _ c.args.self.now c.len-len.result c.args.expected_len c.args.start c.first_index-index.result c.self.view_is c.len-len.ensures.value c.first_index-index.ensures in
-    walk_ended g.F.Visit.visits (g.H.KeyHash.hash_of c.args.self.now.hasher) _ c.args.expected_len c.args.start c.args.visitor.now c.loop-more.visitor c.args.self.now.arrays c.loop-more.self.arrays c.shrink.new.self.arrays c.first_index-index.result c.loop-more.index c.loop-more.flag c.loop-more.more at
-    c.loop-more.invariant.2
-    (λ going. elim c.loop-more-test.branch [
-      | then-loop-more-test+else-index-len w ↦ over_seen _ c.loop-more.self w.len.result c.loop-more.index c.self-in-loop-more.view_is w.len.ensures.value (search rules)
+    let at = begins_seen _ c.args.self.now c.len-len.result c.args.expected_len c.args.start c.first_index-index.result c.self.view_is
+    c.len-len.ensures.value c.first_index-index.ensures in
+    walk_ended g.F.Visit.visits (g.H.KeyHash.hash_of c.args.self.now.hasher) _ c.args.expected_len c.args.start c.args.visitor.now
+    c.loop-more.visitor c.args.self.now.arrays c.loop-more.self.arrays c.shrink.new.self.arrays c.first_index-index.result
+    c.loop-more.index c.loop-more.flag c.loop-more.more at
+    c.loop-more.invariant.2 (λ going. elim c.loop-more-test.branch [
+      | then-loop-more-test+else-index-len w ↦ over_seen _ c.loop-more.self w.len.result c.loop-more.index c.self-in-loop-more.view_is
+          w.len.ensures.value (search rules)
       | else-loop-more-test w ↦ absurd (search rules)
     ])
-    (shrunk_at_end c.loop-more.flag c.loop-more.self.arrays c.shrink.new.self.arrays (search rules) c.shrink.ensures.resized c.shrink.ensures.kept)
+    (shrunk_at_end c.loop-more.flag c.loop-more.self.arrays c.shrink.new.self.arrays (search rules) c.shrink.ensures.resized
+    c.shrink.ensures.kept)
 
 pub returns-then-not-flag-clause-settings : goal.returns-then-not-flag-clause-settings
 returns-then-not-flag-clause-settings g c =
-    settings_walked g.F.Visit.visits (g.H.KeyHash.hash_of c.args.self.now.hasher) c.args.visitor.now c.loop-more.visitor c.args.self.now c.loop-more.self c.loop-more.self c.first_index-index.result c.loop-more.index c.loop-more.flag c.loop-more.more
+    settings_walked g.F.Visit.visits (g.H.KeyHash.hash_of c.args.self.now.hasher) c.args.visitor.now c.loop-more.visitor c.args.self.now
+    c.loop-more.self c.loop-more.self c.first_index-index.result c.loop-more.index c.loop-more.flag c.loop-more.more
     c.loop-more.invariant.2 c.loop-more.invariant.1 (settings_same c.loop-more.self)
 
 pub returns-clause-settings : goal.returns-clause-settings
 returns-clause-settings g c =
-    settings_walked g.F.Visit.visits (g.H.KeyHash.hash_of c.args.self.now.hasher) c.args.visitor.now c.loop-more.visitor c.args.self.now c.loop-more.self c.shrink.new.self c.first_index-index.result c.loop-more.index c.loop-more.flag c.loop-more.more
+    settings_walked g.F.Visit.visits (g.H.KeyHash.hash_of c.args.self.now.hasher) c.args.visitor.now c.loop-more.visitor c.args.self.now
+    c.loop-more.self c.shrink.new.self c.first_index-index.result c.loop-more.index c.loop-more.flag c.loop-more.more
     c.loop-more.invariant.2 c.loop-more.invariant.1 (record {
       hasher = c.shrink.ensures.hasher;
       minimum = c.shrink.ensures.kept.minimum;

@@ -1,4 +1,4 @@
-use Rattle.bucket_table.proofs.Words.{arith, rules, slot_in, live_not_free, read_apart}
+use Rattle.bucket_table.proofs.Words.{arith, live_not_free, read_apart, rules, slot_in}
 use Rattle.bucket_table.proofs.hash_table.HashTable.read_at.Goals as goal
 
 pub bucket_of-bucket-requires : goal.bucket_of-bucket-requires

@@ -1,5 +1,5 @@
 use Rattle.bucket_table.proofs.Words.{sym, ◌∙◌}
-use Rattle.bucket_table.proofs.KeySteps.{absent_searched}
+use Rattle.bucket_table.proofs.Map.KeySteps.{absent_searched}
 use Rattle.bucket_table.proofs.hash_table.HashTable.spot_of.Goals as goal
 
 pub returns-in-None-clause-absent : goal.returns-in-None-clause-absent

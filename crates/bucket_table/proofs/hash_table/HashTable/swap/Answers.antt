@@ -1,7 +1,7 @@
 use Rattle.bucket_table.proofs.Words.{refl}
-use Rattle.bucket_table.specs.MapState.{state_of}
-use Rattle.bucket_table.proofs.CallSteps.{then_changed}
-use Rattle.bucket_table.proofs.TakeSteps.{absent_before, same_taken}
+use Rattle.bucket_table.specs.Map.MapState.{state_of}
+use Rattle.bucket_table.proofs.Scripts.CallSteps.{then_changed}
+use Rattle.bucket_table.proofs.Map.TakeSteps.{absent_before, same_taken}
 use Rattle.bucket_table.proofs.hash_table.HashTable.swap.Goals as goal
 
 pub returns-in-Some-clause-map : goal.returns-in-Some-clause-map
@@ -11,13 +11,18 @@ returns-in-Some-clause-map g c =
     let wrote = c.swap_at.ensures.map in (
       wrote.0,
       same_taken g.K.PartialEq.eq c.args.key.now _ _ stands.pair (wrote.0, c.swap_at.result) stands.slot stands.there wrote.1,
-      then_changed (state_of g.row.TYPE c.args.self.now) (state_of g.row.TYPE c.fetch_home.new.self) (state_of g.row.TYPE c.swap_at.new.self) (wrote.0, c.swap_at.result) c.args.value keeps wrote.2,
+      then_changed (state_of g.row.TYPE c.args.self.now) (state_of g.row.TYPE c.fetch_home.new.self)
+          (state_of g.row.TYPE c.swap_at.new.self) (wrote.0, c.swap_at.result) c.args.value keeps wrote.2,
     )
 
 pub returns-in-None-clause-map : goal.returns-in-None-clause-map
 returns-in-None-clause-map g c =
-    let keeps = c.fetch_home.ensures.prepared.map in
-    (refl, absent_before g.K.PartialEq.eq c.args.key.now (state_of g.row.TYPE c.args.self.now) (state_of g.row.TYPE c.fetch_home.new.self) keeps c.in-None.ensures.absent, keeps)
+    let keeps = c.fetch_home.ensures.prepared.map in (
+      refl,
+      absent_before g.K.PartialEq.eq c.args.key.now (state_of g.row.TYPE c.args.self.now) (state_of g.row.TYPE c.fetch_home.new.self)
+          keeps c.in-None.ensures.absent,
+      keeps,
+    )
 
 pub returns-in-Some-clause-arrays : goal.returns-in-Some-clause-arrays
 returns-in-Some-clause-arrays g c = record {

@@ -1,14 +1,15 @@
 use Rattle.bucket_table.proofs.Words.{arith, refl}
-use Rattle.bucket_table.proofs.LockedSteps.{bag_with}
-use Rattle.bucket_table.proofs.MapSteps.{wrote}
-use Rattle.bucket_table.proofs.SideChanges.{changeable_holding}
+use Rattle.bucket_table.proofs.Map.MapSteps.{wrote}
+use Rattle.bucket_table.proofs.Views.SideChanges.{changeable_holding}
+use Rattle.bucket_table.proofs.Rehash.TicketSteps.{bag_with}
 use Rattle.bucket_table.proofs.hash_table.HashTable.swap_at.Goals as goal
 
 pub bucket_of_mut-bucket-requires : goal.bucket_of_mut-bucket-requires
 bucket_of_mut-bucket-requires g c = (omega arith, (c.room_of.ensures, rw (← c.self.view_is) at c.requires.within))
 
 pub entry_mut-requires : goal.entry_mut-requires
-entry_mut-requires g c = (c.room_of.ensures, (omega arith, rw c.bucket_of_mut-bucket.ensures.bucket (rw (← c.self.view_is) at c.requires.live_slot)))
+entry_mut-requires g c =
+    (c.room_of.ensures, (omega arith, rw c.bucket_of_mut-bucket.ensures.bucket (rw (← c.self.view_is) at c.requires.live_slot)))
 
 pub invariant_of-self : goal.invariant_of-self
 invariant_of-self g c =
@@ -17,7 +18,9 @@ invariant_of-self g c =
     let here = rw c.bucket_of_mut-bucket.ensures.bucket at c.entry_mut.ensures.pair in
     let key = c.entry_mut.result.0.now in
     let value = c.entry_mut.result.1.now in
-    rw c.bucket_of_mut-bucket.ensures.bucket (wrote g.met.K.Eq.laws g.H.KeyHash.hash_of g.row.TYPE o.is_old o.index c.self.invariant (changeable_holding _ _ _ _ o.at (key, value) c.self.invariant.placed within here) (key, value) c.replace.new.dest o.at here).one_map
+    rw c.bucket_of_mut-bucket.ensures.bucket (wrote g.met.K.Eq.laws g.H.KeyHash.hash_of g.row.TYPE o.is_old o.index c.self.invariant
+    (changeable_holding _ _ _ _ o.at (key, value) c.self.invariant.placed within here) (key, value) c.replace.new.dest o.at
+    here).one_map
 
 pub returns-clause-map : goal.returns-clause-map
 returns-clause-map g c =
@@ -26,7 +29,13 @@ returns-clause-map g c =
     let here = rw c.bucket_of_mut-bucket.ensures.bucket at c.entry_mut.ensures.pair in
     let key = c.entry_mut.result.0.now in
     let value = c.entry_mut.result.1.now in
-    rw (← c.self.view_is, c.bucket_of_mut-bucket.ensures.bucket, ← c.replace.ensures.after, c.replace.ensures.value) (key, here, (wrote g.met.K.Eq.laws g.H.KeyHash.hash_of g.row.TYPE o.is_old o.index c.self.invariant (changeable_holding _ _ _ _ o.at (key, value) c.self.invariant.placed within here) (key, value) c.replace.new.dest o.at here).map)
+    rw (← c.self.view_is, c.bucket_of_mut-bucket.ensures.bucket, ← c.replace.ensures.after, c.replace.ensures.value) (
+      key,
+      here,
+      (wrote g.met.K.Eq.laws g.H.KeyHash.hash_of g.row.TYPE o.is_old o.index c.self.invariant
+          (changeable_holding _ _ _ _ o.at (key, value) c.self.invariant.placed within here) (key, value) c.replace.new.dest o.at
+          here).map,
+    )
 
 pub returns-clause-bag : goal.returns-clause-bag
 returns-clause-bag g c = rw (← c.self.view_is) (bag_with _ c.args.spot.now.is_old c.args.spot.now.index _)

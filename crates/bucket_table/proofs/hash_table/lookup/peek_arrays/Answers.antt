@@ -1,4 +1,4 @@
-use Rattle.bucket_table.proofs.LookUps.{second_home}
+use Rattle.bucket_table.proofs.Map.LookUps.{second_home}
 use Rattle.bucket_table.proofs.hash_table.lookup.peek_arrays.Goals as goal
 
 pub returns-in-None-clause-first : goal.returns-in-None-clause-first

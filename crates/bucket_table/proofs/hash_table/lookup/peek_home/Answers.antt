@@ -1,5 +1,5 @@
 use Rattle.bucket_table.proofs.Words.{◌∙◌}
-use Rattle.bucket_table.proofs.LookUps.{home_bucket-is}
+use Rattle.bucket_table.proofs.Map.LookUps.{home_bucket-is}
 use Rattle.bucket_table.proofs.hash_table.lookup.peek_home.Goals as goal
 
 pub returns : goal.returns

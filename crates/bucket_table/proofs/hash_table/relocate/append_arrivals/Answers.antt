@@ -1,8 +1,8 @@
-use Rattle.bucket_table.proofs.Words.{rules, arith, ap, ◌∙◌, ◌<◌, length, refl, Place}
+use Rattle.bucket_table.proofs.Words.{Place, ap, arith, length, refl, rules, ◌<◌, ◌∙◌}
 use Rattle.bucket_slots.specs.Evicting.{slots_appended}
-use Rattle.bucket_table.proofs.Arriving.{arriving_first, arriving_none, arriving_some, listable_now}
-use Rattle.bucket_table.proofs.hash_table.relocate.append_arrivals.Goals as goal
+use Rattle.bucket_table.proofs.Moves.Arriving.{arriving_first, arriving_none, arriving_some, listable_now}
 use Rattle.bucket_table.proofs.hash_table.relocate.append_arrivals.Goals.{in-Some, in_default}
+use Rattle.bucket_table.proofs.hash_table.relocate.append_arrivals.Goals as goal
 
 pub order-init : goal.order-init
 order-init g c = arriving_first c.args.landings.now c.args.current.now
@@ -44,7 +44,8 @@ order-preserved g c =
           rw w.current-is (arriving_some c.args.landings.now c.args.order.now c.order.slot-index c.args.current.now c.order.current
           c.requires.once c.order.invariant _ refl c.order-test.true w.in-Some.landing w.in-Some.is c.requires.table
           g.L.LruList.KEEPS w.bucket_mut-target.result.now w.append_lru.new.self (c.requires.keeps some) w.bucket_mut-target.ensures.bucket
-          (w.append_lru.ensures ∙ ap (λ (at : Place). slots_appended g.L.LruList.KEEPS w.bucket_mut-target.result.now at) w.own_slot-at.ensures))
+          (w.append_lru.ensures ∙ ap (λ (at : Place). slots_appended g.L.LruList.KEEPS w.bucket_mut-target.result.now at)
+          w.own_slot-at.ensures))
       | in_default w ↦
           rw w.current-is (arriving_none c.args.landings.now c.args.order.now c.order.slot-index c.args.current.now c.order.current
           c.requires.once c.order.invariant _ refl c.order-test.true w.in_default.is)

@@ -1,5 +1,5 @@
 use Rattle.bucket_table.proofs.Words.{take}
-use Rattle.bucket_table.specs.Landings.{ListsArrivals}
+use Rattle.bucket_table.specs.Layout.Landings.{ListsArrivals}
 use Rattle.bucket_table.proofs.hash_table.relocate.append_arrivals.Given as goal
 
 abbrev pub invariant-order : goal.invariant-order

@@ -1,7 +1,7 @@
-use Rattle.bucket_table.proofs.Words.{rules, subst, sym, ◌∙◌, refl}
-use Rattle.bucket_table.specs.Relocation.{MovesInto}
-use Rattle.bucket_table.proofs.Carried.{can_move_unlisted, carried_over, carries_unlisted, is_cache, is_kept, moves_unlisted, order_back}
-use Rattle.bucket_table.proofs.Landings.{none_said}
+use Rattle.bucket_table.proofs.Words.{MovesInto, refl, rules, subst, sym, ◌∙◌}
+use Rattle.bucket_table.proofs.Moves.Carried.{can_move_unlisted, carried_over, carries_unlisted, is_cache, is_kept, moves_unlisted}
+use Rattle.bucket_table.proofs.Moves.Carried.{order_back}
+use Rattle.bucket_table.proofs.Moves.Landings.{none_said}
 use Rattle.bucket_table.proofs.hash_table.relocate.carry_pairs.Goals as goal
 
 pub move_pairs-requires : goal.move_pairs-requires
@@ -17,8 +17,7 @@ returns-then-len-eq0-clause-moved g c =
     moves_unlisted hash c.args.source.now c.move_pairs.new.source c.args.current.now c.move_pairs.new.current moved
 
 pub returns-then-len-eq0-clause-recency : goal.returns-then-len-eq0-clause-recency
-returns-then-len-eq0-clause-recency g c =
-    carries_unlisted c.args.source.now c.args.current.now c.move_pairs.new.current
+returns-then-len-eq0-clause-recency g c = carries_unlisted c.args.source.now c.args.current.now c.move_pairs.new.current
     (sym c.take_lru-len.ensures.number ∙ c.if-len-eq0.true) c.move_pairs.ensures.landed.same_lists
 
 pub move_pairs-requires-2 : goal.move_pairs-requires-2

@@ -1,8 +1,8 @@
-use Rattle.bucket_table.proofs.Words.{rules, ap, slot_in, live_not_free}
+use Rattle.bucket_table.proofs.Words.{ap, live_not_free, rules, slot_in}
 use Rattle.std.proofs.Common.{slice_set}
 use Rattle.bucket_slots.proofs.RoomCallerLemmas.{refused_full}
-use Rattle.bucket_table.proofs.LockedSteps.{pair_there}
-use Rattle.bucket_table.proofs.MovingPairs.{home_has_room}
+use Rattle.bucket_table.proofs.Map.LockedSteps.{pair_there}
+use Rattle.bucket_table.proofs.Moves.MovingPairs.{home_has_room}
 use Rattle.bucket_table.proofs.hash_table.relocate.move_pair.Goals as goal
 
 pub way_of-home-requires : goal.way_of-home-requires

@@ -1,5 +1,5 @@
 use Rattle.bucket_table.proofs.Words.{rules}
-use Rattle.bucket_table.proofs.WalkBegins.{begins_as_given, begins_in, begins_nowhere}
+use Rattle.bucket_table.proofs.Walking.WalkBegins.{begins_as_given, begins_in, begins_nowhere}
 use Rattle.bucket_table.proofs.hash_table.walks.first_index.Goals as goal
 
 pub returns-then-expected_len-eq0 : goal.returns-then-expected_len-eq0
@@ -9,4 +9,6 @@ pub returns-then-len-eq0 : goal.returns-then-len-eq0
 returns-then-len-eq0 c = begins_nowhere c.args.len c.args.expected_len c.args.start (search rules)
 
 pub returns : goal.returns
-returns c = begins_in c.args.len c.args.expected_len c.args.start c.from_index_to_range.result.0 c.from_index_to_range.result.1 c.if-expected_len-eq0.false (search rules) (search rules) (search rules) c.from_index_to_range.ensures.some c.from_index_to_range.ensures.range
+returns c = begins_in c.args.len c.args.expected_len c.args.start c.from_index_to_range.result.0 c.from_index_to_range.result.1
+    c.if-expected_len-eq0.false (search rules) (search rules) (search rules) c.from_index_to_range.ensures.some
+    c.from_index_to_range.ensures.range

@@ -1,7 +1,5 @@
-use Rattle.bucket_table.proofs.Words.{arith, refl}
-use Rattle.bucket_table.specs.ArraysView.{pairs_of}
-use Rattle.bucket_table.proofs.TicketSteps.{tickets_kept}
-use Rattle.bucket_table.proofs.WalkCounts.{clears_all, clears_below, emptied, emptied_below, keeps_emptied, none_counted}
+use Rattle.bucket_table.proofs.Words.{arith, pairs_of, refl}
+use Rattle.bucket_table.proofs.Walking.WalkCounts.{clears_all, clears_below, emptied, emptied_below, keeps_emptied, none_counted}
 use Rattle.bucket_table.proofs.script.walks.clear.Goals as goal
 
 pub for_each_writer_sync-requires : goal.for_each_writer_sync-requires
@@ -25,8 +23,7 @@ returns-then-num_slots-eq0-clause-step g c =
     clears_all g.row.TYPE c.args.table.now c.args.table.now refl 0 refl refl (none, none_counted (pairs_of c.args.table.now.arrays) none)
 
 pub returns-then-num_slots-eq0-clause-tickets : goal.returns-then-num_slots-eq0-clause-tickets
-returns-then-num_slots-eq0-clause-tickets g c = tickets_kept c.args.table.now.arrays
-    c.args.table.now.arrays (λ unit. refl)
+returns-then-num_slots-eq0-clause-tickets g c = λ unit. refl
 
 pub returns-in-Ok-clause-step : goal.returns-in-Ok-clause-step
 returns-in-Ok-clause-step g c =
@@ -37,16 +34,15 @@ returns-in-Ok-clause-step g c =
     _ _ w.new.visitor w.new.self.arrays refl c.in-Ok.ensures.walked)
 
 pub returns-in-Ok-clause-tickets : goal.returns-in-Ok-clause-tickets
-returns-in-Ok-clause-tickets g c =
-    tickets_kept c.args.table.now.arrays c.for_each_writer_sync.new.self.arrays c.for_each_writer_sync.ensures.settings.bag
+returns-in-Ok-clause-tickets g c = c.for_each_writer_sync.ensures.settings.bag
 
 pub returns-in-Err-clause-step : goal.returns-in-Err-clause-step
 returns-in-Err-clause-step g c =
     let w = c.for_each_writer_sync in
-    clears_below g.row.TYPE c.args.table.now w.new.self w.ensures.settings.hasher g.H.KeyHash.hash_of w.ensures.settings.minimum w.ensures.settings.maximum
+    clears_below g.row.TYPE c.args.table.now w.new.self w.ensures.settings.hasher g.H.KeyHash.hash_of w.ensures.settings.minimum
+    w.ensures.settings.maximum
     (emptied_below (λ e. g.G.Generation.epoch_of e.generation.now) (λ e. e.count) (g.H.KeyHash.hash_of c.args.table.now.hasher)
     c.args.table.now.arrays _ _ w.new.visitor w.new.self.arrays c.in-Err.ensures.walked)
 
 pub returns-in-Err-clause-tickets : goal.returns-in-Err-clause-tickets
-returns-in-Err-clause-tickets g c =
-    tickets_kept c.args.table.now.arrays c.for_each_writer_sync.new.self.arrays c.for_each_writer_sync.ensures.settings.bag
+returns-in-Err-clause-tickets g c = c.for_each_writer_sync.ensures.settings.bag

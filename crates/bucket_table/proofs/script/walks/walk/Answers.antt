@@ -1,9 +1,7 @@
-use Rattle.bucket_table.proofs.Words.{arith, refl}
-use Rattle.bucket_table.specs.ArraysView.{pairs_of}
-use Rattle.bucket_table.specs.MapState.{state_of}
-use Rattle.bucket_table.proofs.CallSteps.{kept}
-use Rattle.bucket_table.proofs.TicketSteps.{tickets_kept}
-use Rattle.bucket_table.proofs.WalkCounts.{none_counted, tallied}
+use Rattle.bucket_table.proofs.Words.{arith, pairs_of, refl}
+use Rattle.bucket_table.specs.Map.MapState.{state_of}
+use Rattle.bucket_table.proofs.Scripts.CallSteps.{kept}
+use Rattle.bucket_table.proofs.Walking.WalkCounts.{none_counted, tallied}
 use Rattle.bucket_table.proofs.script.walks.walk.Goals as goal
 
 pub for_each_reader_sync-requires-room-F-Read : goal.for_each_reader_sync-requires-room-F-Read
@@ -18,8 +16,7 @@ returns-then-num_slots-eq0-clause-step g c =
     (none_counted (pairs_of c.args.table.now.arrays) none, kept (state_of g.row.TYPE c.args.table.now))
 
 pub returns-then-num_slots-eq0-clause-tickets : goal.returns-then-num_slots-eq0-clause-tickets
-returns-then-num_slots-eq0-clause-tickets g c = tickets_kept c.args.table.now.arrays
-    c.args.table.now.arrays (λ unit. refl)
+returns-then-num_slots-eq0-clause-tickets g c = λ unit. refl
 
 pub returns-in-Ok-clause-step : goal.returns-in-Ok-clause-step
 returns-in-Ok-clause-step g c = (
@@ -30,12 +27,10 @@ returns-in-Ok-clause-step g c = (
 )
 
 pub returns-in-Ok-clause-tickets : goal.returns-in-Ok-clause-tickets
-returns-in-Ok-clause-tickets g c =
-    tickets_kept c.args.table.now.arrays c.for_each_reader_sync.new.self.arrays c.for_each_reader_sync.ensures.bag
+returns-in-Ok-clause-tickets g c = c.for_each_reader_sync.ensures.bag
 
 pub returns-in-Err-clause-step : goal.returns-in-Err-clause-step
 returns-in-Err-clause-step g c = c.for_each_reader_sync.ensures.map
 
 pub returns-in-Err-clause-tickets : goal.returns-in-Err-clause-tickets
-returns-in-Err-clause-tickets g c =
-    tickets_kept c.args.table.now.arrays c.for_each_reader_sync.new.self.arrays c.for_each_reader_sync.ensures.bag
+returns-in-Err-clause-tickets g c = c.for_each_reader_sync.ensures.bag

@@ -1,7 +1,7 @@
-use Rattle.bucket_table.proofs.Words.{Bool, ap, ◌∙◌, sym, refl, rules}
-use Rattle.bucket_table.specs.Layout.{state_of}
-use Rattle.bucket_table.specs.Steps.{position_after}
-use Rattle.bucket_table.proofs.Handing.{ended, not_open, never_over}
+use Rattle.bucket_table.proofs.Words.{Bool, ap, refl, rules, sym, ◌∙◌}
+use Rattle.bucket_table.specs.Layout.TicketFields.{state_of}
+use Rattle.bucket_table.proofs.Rehash.Covering.{position_after}
+use Rattle.bucket_table.proofs.Rehash.Handing.{ended, never_over, not_open}
 use Rattle.bucket_table.proofs.tickets.Tickets.end.Goals as goal
 
 pub returns-in_default : goal.returns-in_default
@@ -10,17 +10,18 @@ returns-in_default c =
 
 pub returns-then-success-2 : goal.returns-then-success-2
 returns-then-success-2 c =
-    let moved = ap (λ (s : Bool). position_after s c.self.inside.position c.swap_remove-unit.result)
-    (sym c.if-success-2.true) in
+    let moved = ap (λ (s : Bool). position_after s c.self.inside.position c.swap_remove-unit.result) (sym c.if-success-2.true) in
     let over = c.is_over.ensures in
-    ended (state_of c.self.inside) _ _ c.deref.result.now c.in-Some.place c.swap_remove-unit.result _ _ _ _ c.self.view_is c.deref.ensures.value
+    ended (state_of c.self.inside) _ _ c.deref.result.now c.in-Some.place c.swap_remove-unit.result _ _ _ _ c.self.view_is
+    c.deref.ensures.value
     c.in-Some.ensures.0 c.in-Some.ensures.1 c.swap_remove-unit.ensures.value
-    c.swap_remove-unit.ensures.items moved refl (search rules)
-    (λ h. (c.if-success-2.true, over.0 h), λ h. over.1 h.1)
+    c.swap_remove-unit.ensures.items moved refl (search rules) (λ h. (c.if-success-2.true, over.0 h), λ h. over.1 h.1)
 
 pub returns-else-success-2 : goal.returns-else-success-2
 returns-else-success-2 c =
     let moved = c.min-self-inside.ensures ∙ ap (λ (s : Bool). position_after s
     c.self.inside.position c.swap_remove-unit.result) (sym c.if-success-2.false) in
-    ended (state_of c.self.inside) _ _ c.deref.result.now c.in-Some.place c.swap_remove-unit.result _ _ _ _ c.self.view_is c.deref.ensures.value
-    c.in-Some.ensures.0 c.in-Some.ensures.1 c.swap_remove-unit.ensures.value c.swap_remove-unit.ensures.items moved refl (search rules) (never_over _ _ c.if-success-2.false)
+    ended (state_of c.self.inside) _ _ c.deref.result.now c.in-Some.place c.swap_remove-unit.result _ _ _ _ c.self.view_is
+    c.deref.ensures.value
+    c.in-Some.ensures.0 c.in-Some.ensures.1 c.swap_remove-unit.ensures.value c.swap_remove-unit.ensures.items moved refl (search rules)
+    (never_over _ _ c.if-success-2.false)

@@ -1,7 +1,7 @@
-use Rattle.bucket_table.proofs.Words.{◌<◌, ◌*◌, length, ℕ, refl, arith, rules}
+use Rattle.bucket_table.proofs.Words.{arith, length, refl, rules, ℕ, ◌*◌, ◌<◌}
 use Rattle.std.proofs.Common.{mul_comm}
-use Rattle.bucket_table.specs.Layout.{state_of}
-use Rattle.bucket_table.proofs.Handing.{handed_out}
+use Rattle.bucket_table.specs.Layout.TicketFields.{state_of}
+use Rattle.bucket_table.proofs.Rehash.Handing.{handed_out}
 use Rattle.bucket_table.proofs.tickets.Tickets.start.Goals as goal
 
 pub returns : goal.returns

@@ -1,5 +1,5 @@
 use Rattle.std.proofs.Common.{rules}
-use Rattle.bucket_table.proofs.LookUps.{null_is}
+use Rattle.bucket_table.proofs.Map.LookUps.{null_is}
 use Rattle.table_bench.proofs.measured.TableMeasured.put.Goals as goal
 
 pub insert-requires : goal.insert-requires

@@ -1,8 +1,9 @@
-use Rattle.bucket_table.proofs.Words.{IfOk, subst, sym, ◌≡◌, ◌%◌, BucketView, slot_in, live, slots_after_insertion}
+use Rattle.bucket_table.proofs.Words.{BucketView, IfOk, live, slot_in, slots_after_insertion, subst, sym, ◌%◌, ◌≡◌}
 use Rattle.bucket_slots.proofs.RoomCallerLemmas.{refused_full, refused_unchanged}
-use Rattle.bucket_table.proofs.LockedSteps.{bag_with, on_err, put_if_ok, put_there, with_own}
-use Rattle.bucket_table.proofs.MapSteps.{inserted_or}
-use Rattle.bucket_table.proofs.SideChanges.{changeable_locked}
+use Rattle.bucket_table.proofs.Map.LockedSteps.{on_err, put_if_ok, put_there, with_own}
+use Rattle.bucket_table.proofs.Map.MapSteps.{inserted_or}
+use Rattle.bucket_table.proofs.Views.SideChanges.{changeable_locked}
+use Rattle.bucket_table.proofs.Rehash.TicketSteps.{bag_with}
 use Rattle.bucket_table.proofs.hash_table.locked_bucket.LockedBucket.insert.Goals as goal
 
 pub invariant_of-table : goal.invariant_of-table
@@ -10,8 +11,10 @@ invariant_of-table g c =
     let o = c.args.self.now in
     let locked = rw (← c.table.view_is) at o.locked in
     let e = rw c.bucket_of_mut.ensures.bucket at c.insert.ensures in
-    let x = inserted_or g.met.K.Eq.laws g.H.KeyHash.hash_of g.row.TYPE o.is_old o.index c.table.invariant (changeable_locked _ _ _ locked) c.insert.result c.insert.new.self (g.G.Generation.keeps c.args.generation.now) c.args.pair c.args.hash
-    (rw (← c.table.view_is) at c.requires.own_hash) (rw (← c.table.view_is) at c.requires.home) (rw (← c.table.view_is) at c.requires.key_absent) e.slots (refused_unchanged c.insert.result _ _ _ e.refused) in
+    let x = inserted_or g.met.K.Eq.laws g.H.KeyHash.hash_of g.row.TYPE o.is_old o.index c.table.invariant (changeable_locked _ _ _ locked)
+    c.insert.result c.insert.new.self (g.G.Generation.keeps c.args.generation.now) c.args.pair c.args.hash
+    (rw (← c.table.view_is) at c.requires.own_hash) (rw (← c.table.view_is) at c.requires.home)
+    (rw (← c.table.view_is) at c.requires.key_absent) e.slots (refused_unchanged c.insert.result _ _ _ e.refused) in
     x.one_map
 
 pub invariant_of-self : goal.invariant_of-self
@@ -19,8 +22,10 @@ invariant_of-self g c =
     let o = c.args.self.now in
     let locked = rw (← c.table.view_is) at o.locked in
     let e = rw c.bucket_of_mut.ensures.bucket at c.insert.ensures in
-    let x = inserted_or g.met.K.Eq.laws g.H.KeyHash.hash_of g.row.TYPE o.is_old o.index c.table.invariant (changeable_locked _ _ _ locked) c.insert.result c.insert.new.self (g.G.Generation.keeps c.args.generation.now) c.args.pair c.args.hash
-    (rw (← c.table.view_is) at c.requires.own_hash) (rw (← c.table.view_is) at c.requires.home) (rw (← c.table.view_is) at c.requires.key_absent) e.slots (refused_unchanged c.insert.result _ _ _ e.refused) in
+    let x = inserted_or g.met.K.Eq.laws g.H.KeyHash.hash_of g.row.TYPE o.is_old o.index c.table.invariant (changeable_locked _ _ _ locked)
+    c.insert.result c.insert.new.self (g.G.Generation.keeps c.args.generation.now) c.args.pair c.args.hash
+    (rw (← c.table.view_is) at c.requires.own_hash) (rw (← c.table.view_is) at c.requires.home)
+    (rw (← c.table.view_is) at c.requires.key_absent) e.slots (refused_unchanged c.insert.result _ _ _ e.refused) in
     record { locked = x.locked locked }
 
 pub returns-clause-map : goal.returns-clause-map
@@ -28,19 +33,24 @@ returns-clause-map g c =
     let o = c.args.self.now in
     let locked = rw (← c.table.view_is) at o.locked in
     let e = rw c.bucket_of_mut.ensures.bucket at c.insert.ensures in
-    let x = inserted_or g.met.K.Eq.laws g.H.KeyHash.hash_of g.row.TYPE o.is_old o.index c.table.invariant (changeable_locked _ _ _ locked) c.insert.result c.insert.new.self (g.G.Generation.keeps c.args.generation.now) c.args.pair c.args.hash
-    (rw (← c.table.view_is) at c.requires.own_hash) (rw (← c.table.view_is) at c.requires.home) (rw (← c.table.view_is) at c.requires.key_absent) e.slots (refused_unchanged c.insert.result _ _ _ e.refused) in
+    let x = inserted_or g.met.K.Eq.laws g.H.KeyHash.hash_of g.row.TYPE o.is_old o.index c.table.invariant (changeable_locked _ _ _ locked)
+    c.insert.result c.insert.new.self (g.G.Generation.keeps c.args.generation.now) c.args.pair c.args.hash
+    (rw (← c.table.view_is) at c.requires.own_hash) (rw (← c.table.view_is) at c.requires.home)
+    (rw (← c.table.view_is) at c.requires.key_absent) e.slots (refused_unchanged c.insert.result _ _ _ e.refused) in
     rw (← c.table.view_is) x.map
 
 pub returns-clause-table : goal.returns-clause-table
 returns-clause-table g c =
     let e = rw c.bucket_of_mut.ensures.bucket at c.insert.ensures in
-    put_if_ok c.insert.result _ c.args.self.now.table.now _ _ c.insert.new.self (λ b. slots_after_insertion g.row.TYPE (g.G.Generation.keeps c.args.generation.now) b c.args.pair (c.args.hash % 256)) c.table.view_is e.slots
+    put_if_ok c.insert.result _ c.args.self.now.table.now _ _ c.insert.new.self
+    (λ b. slots_after_insertion g.row.TYPE (g.G.Generation.keeps c.args.generation.now) b c.args.pair (c.args.hash % 256))
+    c.table.view_is e.slots
 
 pub returns-clause-unchanged : goal.returns-clause-unchanged
 returns-clause-unchanged g c =
     let e = rw c.bucket_of_mut.ensures.bucket at c.insert.ensures in
-    rw (← c.table.view_is) (on_err c.insert.result (with_own c.table.inside.hasher c.table.inside.arrays _ _ c.insert.new.self) (refused_unchanged c.insert.result _ _ _ e.refused))
+    rw (← c.table.view_is) (on_err c.insert.result (with_own c.table.inside.hasher c.table.inside.arrays _ _ c.insert.new.self)
+    (refused_unchanged c.insert.result _ _ _ e.refused))
 
 pub returns-clause-no_free_slot : goal.returns-clause-no_free_slot
 returns-clause-no_free_slot g c =

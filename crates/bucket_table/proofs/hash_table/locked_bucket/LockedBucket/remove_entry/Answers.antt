@@ -1,33 +1,44 @@
-use Rattle.bucket_table.proofs.Words.{ap, arith, refl, ◌∙◌, pairs_ahead}
-use Rattle.bucket_table.proofs.LockedSteps.{bag_with, put_there}
-use Rattle.bucket_table.proofs.MapSteps.{removed}
-use Rattle.bucket_table.proofs.SideChanges.{changeable_locked}
+use Rattle.bucket_table.proofs.Words.{ap, arith, pairs_ahead, refl, ◌∙◌}
+use Rattle.bucket_table.proofs.Map.LockedSteps.{put_there}
+use Rattle.bucket_table.proofs.Map.MapSteps.{removed}
+use Rattle.bucket_table.proofs.Views.SideChanges.{changeable_locked}
+use Rattle.bucket_table.proofs.Rehash.TicketSteps.{bag_with}
 use Rattle.bucket_table.proofs.hash_table.locked_bucket.LockedBucket.remove_entry.Goals as goal
 
 pub bucket_of_mut-requires : goal.bucket_of_mut-requires
 bucket_of_mut-requires g c = (omega arith, (c.room_of.ensures, rw (← c.table.view_is) at c.args.self.now.locked.within))
 
 pub remove-requires : goal.remove-requires
-remove-requires g c =
-    (c.room_of.ensures, (omega arith, (c.requires.not_index, rw c.bucket_of_mut.ensures.bucket (rw (← c.table.view_is) at c.requires.live_slot))))
+remove-requires g c = (
+  c.room_of.ensures,
+  (omega arith, (c.requires.not_index, rw c.bucket_of_mut.ensures.bucket (rw (← c.table.view_is) at c.requires.live_slot))),
+)
 
 pub invariant_of-table : goal.invariant_of-table
 invariant_of-table g c =
     let o = c.args.self.now in
     let locked = rw (← c.table.view_is) at o.locked in
-    rw (c.remove.ensures.slots, c.bucket_of_mut.ensures.bucket) (removed g.met.K.Eq.laws g.H.KeyHash.hash_of g.row.TYPE o.is_old o.index c.table.invariant (changeable_locked _ _ _ locked) c.remove.result c.args.at.now (rw c.bucket_of_mut.ensures.bucket at c.remove.ensures.pair)).one_map
+    rw (c.remove.ensures.slots, c.bucket_of_mut.ensures.bucket) (removed g.met.K.Eq.laws g.H.KeyHash.hash_of g.row.TYPE o.is_old o.index
+    c.table.invariant (changeable_locked _ _ _ locked) c.remove.result c.args.at.now
+    (rw c.bucket_of_mut.ensures.bucket at c.remove.ensures.pair)).one_map
 
 pub invariant_of-self : goal.invariant_of-self
 invariant_of-self g c =
     let o = c.args.self.now in
     let locked = rw (← c.table.view_is) at o.locked in
-    record { locked = rw (c.remove.ensures.slots, c.bucket_of_mut.ensures.bucket) ((removed g.met.K.Eq.laws g.H.KeyHash.hash_of g.row.TYPE o.is_old o.index c.table.invariant (changeable_locked _ _ _ locked) c.remove.result c.args.at.now (rw c.bucket_of_mut.ensures.bucket at c.remove.ensures.pair)).locked locked) }
+    record {
+      locked = rw (c.remove.ensures.slots, c.bucket_of_mut.ensures.bucket)
+          ((removed g.met.K.Eq.laws g.H.KeyHash.hash_of g.row.TYPE o.is_old o.index c.table.invariant (changeable_locked _ _ _ locked)
+          c.remove.result c.args.at.now (rw c.bucket_of_mut.ensures.bucket at c.remove.ensures.pair)).locked locked);
+    }
 
 pub returns-clause-map : goal.returns-clause-map
 returns-clause-map g c =
     let o = c.args.self.now in
     let locked = rw (← c.table.view_is) at o.locked in
-    rw (← c.table.view_is, c.remove.ensures.slots, c.bucket_of_mut.ensures.bucket) (removed g.met.K.Eq.laws g.H.KeyHash.hash_of g.row.TYPE o.is_old o.index c.table.invariant (changeable_locked _ _ _ locked) c.remove.result c.args.at.now (rw c.bucket_of_mut.ensures.bucket at c.remove.ensures.pair)).map
+    rw (← c.table.view_is, c.remove.ensures.slots, c.bucket_of_mut.ensures.bucket) (removed g.met.K.Eq.laws g.H.KeyHash.hash_of g.row.TYPE
+    o.is_old o.index c.table.invariant (changeable_locked _ _ _ locked) c.remove.result c.args.at.now
+    (rw c.bucket_of_mut.ensures.bucket at c.remove.ensures.pair)).map
 
 pub returns-clause-table : goal.returns-clause-table
 returns-clause-table g c = rw (← c.table.view_is, c.remove.ensures.slots, c.bucket_of_mut.ensures.bucket) refl

@@ -1,5 +1,5 @@
 use Rattle.bucket_table.proofs.Words.{rules}
-use Rattle.bucket_table.proofs.WalkCounts.{tallies_bucket}
+use Rattle.bucket_table.proofs.Walking.WalkCounts.{tallies_bucket}
 use Rattle.bucket_table.proofs.script.walks.TallyReadBucket.read.Goals as goal
 
 pub returns-clause-seen : goal.returns-clause-seen

@@ -1,0 +1,10 @@
+-- The map of a table, call by call.
+pub mod MapKept
+pub mod MapSteps
+pub mod LookUps
+pub mod KeySteps
+pub mod TakeSteps
+pub mod LockedSteps
+pub mod Finding
+pub mod Preparing
+pub mod CountSteps

@@ -1,0 +1,103 @@
+-- Counts of pairs, bucket by bucket, and what a table without pairs drops.
+use Rattle.bucket_table.proofs.Words.{All, ArraysView, Bool, BucketView, Err, IsPermutation, Keeps, List, Ok, Result, TableView, [], ap}
+use Rattle.bucket_table.proofs.Words.{arith, bucket_at, counted, counted_to, entries_among, entries_in, entries_of, get_or, length}
+use Rattle.bucket_table.proofs.Words.{length-entries_in, length-map, length_permutation, live_counts, map, min, pairs_in, pairs_of, refl}
+use Rattle.bucket_table.proofs.Words.{suc, sum_by-cons, sym, take, zero, ℕ, ◌*◌, ◌+◌, ◌-◌, ◌/◌, ◌<◌, ◌^◌, ◌∙◌, ◌∷◌, ◌≡◌}
+use Rattle.std.proofs.Common.{length-append, sum, zero-mul}
+use Rattle.bucket_table.specs.Resize.Sampling.{estimate}
+use Rattle.bucket_table.specs.Resize.Turns.{IsPlanOf, TriesResize}
+use Rattle.bucket_table.specs.declared.arrays.plan.Plan.TheVariants.{GiveUp, Keep, Resize}
+use Rattle.bucket_table.proofs.Resize.GivingUp.{plan_alone, plan_stands}
+use Rattle.bucket_table.proofs.Resize.Plans.{plan_code}
+
+-- counts of 0 sum up to 0
+zeros_taken : (n : ℕ) (xs : List ℕ) → All (λ count. count ≡ 0) xs → sum (take n xs) ≡ 0
+zeros_taken zero xs all = refl
+zeros_taken (suc n) [] all = refl
+zeros_taken (suc n) (x ∷ xs) all =
+    let here : x ≡ 0 = all 0 0 (omega arith) in
+    let rest = zeros_taken n xs (λ i d below. all (suc i) d (omega arith)) in
+    let one = sum_by-cons (λ (count : ℕ). count) x (take n xs) in
+    let e : sum (take (suc n) (x ∷ xs)) ≡ sum (x ∷ take n xs) = refl in
+    e ∙ one ∙ omega (arith, here, rest)
+
+zeros_counted : (counts : List ℕ) (start size : ℕ) → All (λ count. count ≡ 0) counts → counted counts start size ≡ 0
+zeros_counted counts zero size all = zeros_taken size counts all
+zeros_counted [] (suc start) size all = zeros_taken size [] all
+zeros_counted (x ∷ counts) (suc start) size all = zeros_counted counts start size (λ i d below. all (suc i) d (omega arith))
+
+zeros_estimated : (counts : List ℕ) (start size : ℕ) → All (λ count. count ≡ 0) counts → estimate counts start size ≡ 0
+zeros_estimated counts start size all =
+    let none = zeros_counted counts start size all in
+    let e : estimate counts start size ≡ min (0 * (length counts / size)) (2 ^ 64 - 1) = ap
+    (λ (n : ℕ). min (n * (length counts / size)) (2 ^ 64 - 1)) none in
+    e ∙ ap (λ (n : ℕ). min n (2 ^ 64 - 1)) (zero-mul (length counts / size)) ∙ refl
+
+module _ {K V : Type 0} where
+  -- one bucket more of an array
+  pub entries_among_more : (bs : List (BucketView K V)) (i : ℕ) → i < length bs
+      → length (entries_among (take (i + 1) bs)) ≡ length (entries_among (take i bs)) + length (pairs_in (bucket_at bs i))
+  entries_among_more [] i within = absurd (omega arith)
+  entries_among_more (b ∷ bs) zero within =
+      let e : take (0 + 1) (b ∷ bs) ≡ b ∷ [] = refl in
+      let here = length-entries_in b in
+      rw (length-append (entries_in b) []) (omega (arith, here))
+  entries_among_more (b ∷ bs) (suc i) within =
+      let again = entries_among_more bs i (omega arith) in
+      let e : suc i + 1 ≡ suc (i + 1) = omega arith in
+      rw (e, length-append (entries_in b) (entries_among (take (i + 1) bs)), length-append (entries_in b) (entries_among (take i bs)))
+      (omega (arith, again))
+
+  zero_counts : (bs : List (BucketView K V)) → length (entries_among bs) ≡ 0 → All (λ count. count ≡ 0) (live_counts bs)
+  zero_counts bs none i d below = each bs none i d below
+    where
+      each : (bs : List (BucketView K V)) → length (entries_among bs) ≡ 0 → (i d : ℕ)
+          → i < length (live_counts bs) → get_or (live_counts bs) i d ≡ 0
+      each [] none i d below = absurd (omega arith)
+      each (b ∷ bs) none zero d below =
+          let both = length-append (entries_in b) (entries_among bs) in
+          let here = length-entries_in b in
+          omega arith
+      each (b ∷ bs) none (suc i) d below =
+          let both = length-append (entries_in b) (entries_among bs) in
+          each bs (omega arith) i d (omega arith)
+
+  -- without pairs, and with the minimum 0, no array is pushed
+  never_pushed : (old : ArraysView K V) (capacity : ℕ) → IsPlanOf old (Resize capacity) → entries_of old ≡ [] → old.minimum ≡ 0 → ⊥
+  never_pushed old capacity is empty least =
+      let both = length-append (entries_among old.current) (entries_among old.linked) in
+      let none = ap (λ (es : List ((K × V) × ℕ)). length es) empty in
+      let all = zero_counts old.current (omega (arith, both, none)) in
+      let plan = is.alone (plan_stands old (Resize capacity) is (omega arith)) (plan_alone old (Resize capacity) is (omega arith)) in
+      let f = ap plan_code (plan.emptied (zeros_estimated (live_counts old.current) _ plan.large all) least all) in
+      absurd (omega arith)
+
+  pub dropped : {E : Type 0} (old new : ArraysView K V) (answer : Result Bool E) → TriesResize old answer new → entries_of old ≡ []
+      → old.minimum ≡ 0
+      → (new.linked ≡ old.linked) × (new.tickets ≡ old.tickets)
+  dropped old new (Ok moved) (Keep, is, answered, turns) empty least = rw turns (refl, refl)
+  dropped old new (Ok moved) (GiveUp, is, answered, turns) empty least = rw turns.new_is (refl, refl)
+  dropped old new (Ok moved) (Resize capacity, is, answered, turns) empty least = absurd (never_pushed old capacity is empty least)
+  dropped old new (Err refused) (capacity, is, same) empty least = rw same (refl, refl)
+
+  pub counted_kept : (old new : ArraysView K V) (n : ℕ) → IsPermutation (entries_of old)
+      (entries_of new) → n ≡ counted_to (entries_of new) → n ≡ counted_to (entries_of old)
+  counted_kept old new n moved is = is ∙ ap (λ (k : ℕ). min k (2 ^ 64 - 1)) (length_permutation (entries_of old) (entries_of new) moved)
+
+  length-pairs_of : (arrays : ArraysView K V) → length (pairs_of arrays) ≡ length (entries_of arrays)
+  length-pairs_of arrays = length-map (entries_of arrays) (λ (e : (K × V) × ℕ). e.0)
+
+  -- a count of entries is one of the map's pairs
+  pub counted_pairs : (old new : ArraysView K V) (n : ℕ) → Keeps old new → n ≡ counted_to (entries_of old) → n ≡ counted_to (pairs_of new)
+  counted_pairs old new n kept is = is ∙ ap (λ (k : ℕ). min k (2 ^ 64 - 1)) (sym (length_permutation (entries_of old)
+      (entries_of new) kept.pairs) ∙ sym (length-pairs_of new))
+
+  no_pairs_of : (arrays : ArraysView K V) → entries_of arrays ≡ [] → pairs_of arrays ≡ []
+  no_pairs_of arrays empty = ap (λ (es : List ((K × V) × ℕ)). map (λ (e : (K × V) × ℕ). e.0) es) empty
+
+module _ {K V H : Type 0} where
+  pub kept_alone : (hasher : H) (a new : ArraysView K V) → (length a.linked ≡ 0 → (entries_of a ≡ [] → ⊥) → new ≡ a)
+      → length a.linked ≡ 0 → (pairs_of a ≡ [] → ⊥)
+      → ◌≡◌ {A = TableView K V H} (record { hasher = hasher; arrays = new }) (record { hasher = hasher; arrays = a })
+  kept_alone hasher a new same alone some =
+      ap (λ (b : ArraysView K V). record { hasher = hasher; arrays = b }) (same alone (λ empty. some (no_pairs_of a empty)))

@@ -1,0 +1,62 @@
+-- What a call by key finds in a table, and which marks it brings.
+use Rattle.bucket_table.proofs.Words.{ArraysView, Bool, BucketView, HasNoNewMark, IfNone, IsAbsent, IsHome, IsOneMap, List, MarksBy, None}
+use Rattle.bucket_table.proofs.Words.{Option, Place, Slot, Some, ap, arrays_with, bucket_at, bucket_on, buckets_on, by-no_new, by-trans}
+use Rattle.bucket_table.proofs.Words.{free, is_live, length, live, live_pair, marked, marks_in, marks_of, pairs_of, refl, slot_in, subst}
+use Rattle.bucket_table.proofs.Words.{true, ℕ, ◌%◌, ◌<◌, ◌∙◌, ◌≡◌}
+use Rattle.bucket_slots.specs.BucketView.{pair_at}
+use Rattle.bucket_slots.specs.Searching.{pair_wanted, place_wanted}
+use Rattle.bucket_table.specs.Map.ByKey.{StandsAt}
+use Rattle.bucket_table.specs.Map.LookingUp.{home_bucket}
+use Rattle.bucket_table.proofs.Map.LookUps.{home_bucket-is, searched_found, unwanted_from_homes}
+use Rattle.bucket_table.proofs.Views.MarksKept.{by-bucket}
+
+-- a slot that has a pair is live
+live_of : {K V : Type 0} (x : Slot K V) (p : K × V) → live_pair x ≡ Some p → is_live x ≡ true
+live_of free p h = absurd cc
+live_of (live q byte) p h = refl
+live_of (marked q byte) p h = absurd cc
+
+module _ {K V : Type 0} where
+  -- the slot that a search found is live
+  pub stands_live : (eq : K → K → Bool) (key : K) (arrays : ArraysView K V) (is_old : Bool) (index : ℕ) (at : Place)
+      → StandsAt eq key arrays is_old index at
+      → is_live (slot_in (bucket_on arrays is_old index) at) ≡ true
+  stands_live eq key arrays is_old index at stands = live_of (slot_in (bucket_on arrays is_old index) at) stands.pair stands.slot
+
+  -- what a search of one side's home finds
+  pub stands_found : (eq : K → K → Bool) (key : K) (arrays : ArraysView K V) (is_old : Bool) (array : List (BucketView K V))
+      (b : BucketView K V) (byte index : ℕ) (at : Place)
+      → array ≡ buckets_on arrays is_old → b ≡ bucket_at array index → index < length array
+      → place_wanted (λ own. eq own key) byte b ≡ Some at → StandsAt eq key arrays is_old index at
+  stands_found eq key arrays is_old array b byte index at is lent within found =
+      let r = searched_found (λ own. eq own key) arrays is_old b byte index at
+      (lent ∙ ap (λ (bs : List (BucketView K V)). bucket_at bs index) is) found in
+      record { pair = r.0; within = subst (λ (bs : List (BucketView K V)). index < length bs) is within; slot = r.1; there = r.2 }
+
+  -- and where it finds nothing
+  pub none_at_home : (wants : K → Bool) (arrays : ArraysView K V) (is_old : Bool) (array : List (BucketView K V)) (b : BucketView K V)
+      (n index : ℕ)
+      → array ≡ buckets_on arrays is_old → b ≡ bucket_at array index → IsHome (length array) n index
+      → place_wanted wants (n % 256) b ≡ None → pair_wanted wants (n % 256) (home_bucket n (buckets_on arrays is_old)) ≡ None
+  none_at_home wants arrays is_old array b n index is lent home none =
+      let at_home = home_bucket-is array n index home in
+      subst (λ (bs : List (BucketView K V)). pair_wanted wants (n % 256) (home_bucket n bs) ≡ None) is
+      (rw (← at_home, ← lent) (ap (λ at. pair_at b at) none))
+
+module _ {K V : Type 0} (eq : K → K → Bool) (hash : K → ℕ) where
+  -- neither home has the key, so the map hasn't
+  pub absent_searched : {S : Type 0} (key : K) (n : ℕ) (arrays : ArraysView K V) (r : Option S) → IsOneMap eq hash arrays
+      → ((own : K) → eq own key ≡ true → hash own ≡ n) → pair_wanted (λ own. eq own key) (n % 256) (home_bucket n arrays.linked) ≡ None
+      → IfNone r (pair_wanted (λ own. eq own key) (n % 256) (home_bucket n arrays.current) ≡ None)
+      → IfNone r (IsAbsent eq key (pairs_of arrays))
+  absent_searched key n arrays (Some x) one own in_old in_current = tt
+  absent_searched key n arrays None one own in_old in_current = unwanted_from_homes (λ own. eq own key) n hash own arrays one.placed in_old
+      in_current
+
+module _ {K V : Type 0} (epoch : ℕ) where
+  -- a bucket brought only marks of an epoch, and what came after brought none
+  pub marks_through : (a : ArraysView K V) (side : Bool) (i : ℕ) (c : BucketView K V) (new : ArraysView K V)
+      → MarksBy epoch (marks_in (bucket_on a side i)) (marks_in c)
+      → HasNoNewMark (marks_of (arrays_with a side i c)) (marks_of new) → MarksBy epoch (marks_of a) (marks_of new)
+  marks_through a side i c new here none = by-trans epoch (marks_of a) (marks_of (arrays_with a side i c)) (marks_of new)
+      (by-bucket epoch a side i c here) (by-no_new epoch (marks_of (arrays_with a side i c)) (marks_of new) none)

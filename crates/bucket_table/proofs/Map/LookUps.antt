@@ -1,0 +1,192 @@
+-- What look-ups in two arrays say of their map.
+use Rattle.bucket_table.proofs.Words.{All, All-map, All-nil, AreHome, ArePlaced, AreTwoArrays, ArraysView, Bool, BucketView, Contains}
+use Rattle.bucket_table.proofs.Words.{Contains-append_left, Contains-append_right, IfNone, IfSome, IsEntryHome, IsHome, IsInInterval}
+use Rattle.bucket_table.proofs.Words.{IsLocked, IsOneMap, IsTrue, IsVacant, List, Meets, None, Option, Place, Some, [], all_slots, ap}
+use Rattle.bucket_table.proofs.Words.{arith, bucket_at, bucket_on, buckets_on, cases_eq, entries_among, entries_in, false, false≢true}
+use Rattle.bucket_table.proofs.Words.{get_or, home_of, inl, inr, length, live_pair, map, map-append, map-entries_in, pairs_in, pairs_of}
+use Rattle.bucket_table.proofs.Words.{refl, slot_in, subst, suc, sym, true, zero, ℕ, ◌%◌, ◌&&◌, ◌++◌, ◌<◌, ◌==◌, ◌∙◌, ◌∷◌, ◌≡◌}
+use Rattle.std.proofs.lemmas.Bool.Decides.{nat_tests}
+use Rattle.std.proofs.lemmas.List.Elements.{All-append}
+use Rattle.std.specs.Borrow.{Bor}
+use Rattle.std.specs.Option.{option_or}
+use Rattle.bucket_slots.proofs.Entries.{live_pairs-all_free}
+use Rattle.bucket_slots.proofs.SearchCallerLemmas.{found_pair, none_wanted_is, wanted_is}
+use Rattle.bucket_slots.specs.BucketView.{pair_at}
+use Rattle.bucket_slots.specs.Places.{pair_lent}
+use Rattle.bucket_slots.specs.Searching.{pair_wanted, place_wanted}
+use Rattle.bucket_slots.specs.declared.bucket.TheConstants.{BUCKET_LEN}
+use Rattle.bucket_table.specs.Map.LookingUp.{AreUnwanted, IsWantedOf, home_bucket, lent_buckets, pair_looked_up, pairs_in_all}
+use Rattle.bucket_table.proofs.Moves.HomesByDivision.{home_of-interval}
+
+-- a pointer that isn't valid is a null pointer
+pub null_is : (valid : Bool) (pos : ℕ) → ((pos ≡ BUCKET_LEN → ⊥) → IsTrue valid) → valid ≡ false → pos ≡ BUCKET_LEN
+null_is valid pos points is = elim (cases_eq pos BUCKET_LEN) [
+  | inl null ↦ null
+  | inr other ↦ let yes : valid ≡ true = points other in absurd cc
+]
+
+module _ {K V : Type 0} where
+  -- what holds in each bucket holds of all pairs
+  All-pairs_in_all : (P : K × V → Type 0) (bs : List (BucketView K V)) → ((i : ℕ) → i < length bs → All P (pairs_in (bucket_at bs i)))
+      → All P (pairs_in_all bs)
+  All-pairs_in_all P [] each = All-nil P
+  All-pairs_in_all P (b ∷ bs) each = All-append P (pairs_in b) (pairs_in_all bs) (each 0 (omega arith))
+      (All-pairs_in_all P bs (λ i below. each (suc i) (omega arith)))
+
+  -- what is in one bucket is among all pairs
+  Contains-pairs_in_all : (bs : List (BucketView K V)) (i : ℕ) (p : K × V) → Contains (pairs_in (bucket_at bs i)) p
+      → Contains (pairs_in_all bs) p
+  Contains-pairs_in_all [] i p here = here
+  Contains-pairs_in_all (b ∷ bs) zero p here = Contains-append_left (pairs_in b) (pairs_in_all bs) p here
+  Contains-pairs_in_all (b ∷ bs) (suc i) p here = Contains-append_right (pairs_in b) (pairs_in_all bs) p (Contains-pairs_in_all bs i p here)
+
+  -- all pairs, with bytes or without
+  pairs_among : (bs : List (BucketView K V)) → map (λ (e : (K × V) × ℕ). e.0) (entries_among bs) ≡ pairs_in_all bs
+  pairs_among [] = refl
+  pairs_among (b ∷ bs) = map-append (λ (e : (K × V) × ℕ). e.0) (entries_in b) (entries_among bs) ∙ rw
+      (map-entries_in b, pairs_among bs) refl
+
+  pub pairs_are : (arrays : ArraysView K V) → pairs_of arrays ≡ pairs_in_all arrays.current ++ pairs_in_all arrays.linked
+  pairs_are arrays = map-append (λ (e : (K × V) × ℕ). e.0) (entries_among arrays.current) (entries_among arrays.linked)
+      ∙ rw (pairs_among arrays.current, pairs_among arrays.linked) refl
+
+  pub pairs_in-vacant : (b : BucketView K V) → IsVacant b → pairs_in b ≡ []
+  pairs_in-vacant b vacant = live_pairs-all_free (all_slots b) vacant.free
+
+  -- the bucket with a hash's home is its home
+  pub home_bucket-is : (bs : List (BucketView K V)) (n i : ℕ) → IsHome (length bs) n i → bucket_at bs i ≡ home_bucket n bs
+  home_bucket-is bs n i at = ap (λ j. bucket_at bs j) (sym (home_of-interval (length bs) i n at.own))
+
+module _ {K V : Type 0} (wants : K → Bool) where
+  -- a wanted pair of one side is one of the map
+  wanted_on : (arrays : ArraysView K V) (is_old : Bool) (p : K × V) → IsWantedOf wants (pairs_in_all (buckets_on arrays is_old)) p
+      → IsWantedOf wants (pairs_of arrays) p
+  wanted_on arrays true p (there, is) = (rw (pairs_are arrays) (Contains-append_right (pairs_in_all arrays.current) _ p there), is)
+  wanted_on arrays false p (there, is) = (rw (pairs_are arrays) (Contains-append_left _ (pairs_in_all arrays.linked) p there), is)
+
+  -- where neither side has one, the map has none
+  unwanted_on_both : (arrays : ArraysView K V) → AreUnwanted wants (pairs_in_all arrays.current)
+      → AreUnwanted wants (pairs_in_all arrays.linked) → AreUnwanted wants (pairs_of arrays)
+  unwanted_on_both arrays current old = rw (pairs_are arrays) (All-append (λ (p : K × V). wants p.0 ≡ false) _ _ current old)
+
+  unwanted_entries : (b : BucketView K V) → All (λ (e : (K × V) × ℕ). wants e.0.0 ≡ false) (entries_in b) → AreUnwanted wants (pairs_in b)
+  unwanted_entries b each = rw (← map-entries_in b) (All-map (λ (p : K × V). wants p.0 ≡ false) (λ (e : (K × V) × ℕ). e.0)
+      (entries_in b) each)
+
+  none_unwanted : (b : BucketView K V) → pairs_in b ≡ [] → AreUnwanted wants (pairs_in b)
+  none_unwanted b none = rw none (All-nil (λ (p : K × V). wants p.0 ≡ false))
+
+  -- what a search of a bucket of one side finds
+  pub searched_found : (arrays : ArraysView K V) (is_old : Bool) (b : BucketView K V) (byte index : ℕ) (at : Place)
+      → b ≡ bucket_on arrays is_old index → place_wanted wants byte b ≡ Some at
+      → (p : K × V) × (live_pair (slot_in (bucket_on arrays is_old index) at) ≡ Some p) × IsWantedOf wants (pairs_of arrays) p
+  searched_found arrays is_old b byte index at lent found = rw (← lent) (
+      let (p, is) = found_pair wants byte b at found in
+      let there = Contains-pairs_in_all (buckets_on arrays is_old) index p (rw (← lent) is.contained) in
+      (p, is.slot, wanted_on arrays is_old p (there, is.wanted)))
+
+  -- what a search of one side's home finds
+  found_at_home : (n : ℕ) (arrays : ArraysView K V) (is_old : Bool) (p : K × V)
+      → pair_wanted wants (n % 256) (home_bucket n (buckets_on arrays is_old)) ≡ Some p → IsWantedOf wants (pairs_of arrays) p
+  found_at_home n arrays is_old p found =
+      let (there, is) = wanted_is wants (n % 256) (home_bucket n (buckets_on arrays is_old)) p found in
+      wanted_on arrays is_old p (Contains-pairs_in_all (buckets_on arrays is_old) _ p there, is)
+
+  -- where the old home has no wanted pair, the current home's is the answer
+  pub second_home : (n : ℕ) (own : K → Bool) (old : Option (Bor (List (BucketView K V)))) (array : Bor (List (BucketView K V)))
+      (current : List (BucketView K V)) (r : Option (Bor K × Bor V)) → old ≡ Some array → own ≡ wants
+      → None ≡ pair_wanted wants (n % 256) (home_bucket n array.now) → pair_lent r ≡ pair_wanted own (n % 256) (home_bucket n current)
+      → pair_lent r ≡ pair_looked_up wants n (lent_buckets old) current
+  second_home n own old array current r is same missed found = found ∙ ap (λ w. pair_wanted w (n % 256) (home_bucket n current)) same
+      ∙ ap (λ p. option_or p (pair_wanted wants (n % 256) (home_bucket n current))) missed
+      ∙ ap (λ a. pair_looked_up wants n (lent_buckets a) current) (sym is)
+
+module _ {K V : Type 0} (wants : K → Bool) (n : ℕ) (hash : K → ℕ) (own : (key : K)
+    → wants key ≡ true → hash key ≡ n) where
+  unwanted_entry : (e : (K × V) × ℕ) (len i : ℕ) (wanted : Bool) → wants e.0.0 ≡ wanted → IsEntryHome hash len i e
+      → (home_of len n ≡ i → ((e.1 == n % 256) && wants e.0.0) ≡ false) → wants e.0.0 ≡ false
+  unwanted_entry e len i false is at none = is
+  unwanted_entry e len i true is at none =
+      let of_hash : hash e.0.0 ≡ n = own e.0.0 is in
+      let byte : e.1 ≡ n % 256 = at.own_byte ∙ ap (λ x. x % 256) of_hash in
+      let here : (e.1 == n % 256) ≡ true = rw byte (grind (arith, nat_tests)) in
+      let both : ((e.1 == n % 256) && wants e.0.0) ≡ true = rw (here, is) refl in
+      let no = none (home_of-interval len i n (subst (λ x. IsInInterval len i x) of_hash
+      at.home.own)) in
+      absurd cc
+
+  -- where a hash's home has no wanted pair, no bucket of the array has one
+  unwanted_from_home : (bs : List (BucketView K V)) → AreHome hash bs → pair_wanted wants (n % 256) (home_bucket n bs) ≡ None
+      → AreUnwanted wants (pairs_in_all bs)
+  unwanted_from_home bs all none = All-pairs_in_all (λ (p : K × V). wants p.0 ≡ false) bs
+      (λ i below. unwanted_entries wants (bucket_at bs i) (λ j d less.
+      let e : (K × V) × ℕ = get_or (entries_in (bucket_at bs i)) j d in
+      unwanted_entry e (length bs) i (wants e.0.0) refl (all i below j d less) (λ same.
+      subst (λ k. All (λ (x : (K × V) × ℕ). ((x.1 == n % 256) && wants x.0.0) ≡ false) (entries_in (bucket_at bs k))) same
+      (none_wanted_is wants (n % 256) (home_bucket n bs) none) j d less)))
+
+  -- where neither home has a wanted pair, the map has none
+  pub unwanted_from_homes : (arrays : ArraysView K V) → ArePlaced hash arrays
+      → pair_wanted wants (n % 256) (home_bucket n arrays.linked) ≡ None → pair_wanted wants (n % 256) (home_bucket n arrays.current) ≡ None
+      → AreUnwanted wants (pairs_of arrays)
+  unwanted_from_homes arrays law in_old in_current =
+      unwanted_on_both wants arrays (unwanted_from_home arrays.current law.homes.current_home in_current)
+      (unwanted_from_home arrays.linked law.homes.linked_home in_old)
+
+  looked_up_by : (arrays : ArraysView K V) (r : Option (Bor K × Bor V)) (old current : Option (K × V)) → ArePlaced hash arrays
+      → pair_wanted wants (n % 256) (home_bucket n arrays.linked) ≡ old
+      → pair_wanted wants (n % 256) (home_bucket n arrays.current) ≡ current → pair_lent r ≡ option_or old current
+      → IfSome r (λ pair. IsWantedOf wants (pairs_of arrays) (pair.0.now, pair.1.now)) × IfNone r (AreUnwanted wants (pairs_of arrays))
+  looked_up_by arrays None None None law in_old in_current found = (tt, unwanted_from_homes arrays law in_old in_current)
+  looked_up_by arrays None None (Some p) law in_old in_current found = cc
+  looked_up_by arrays None (Some p) current law in_old in_current found = cc
+  looked_up_by arrays (Some pair) None current law in_old in_current found =
+      (found_at_home wants n arrays false (pair.0.now, pair.1.now) (in_current ∙ sym found), tt)
+  looked_up_by arrays (Some pair) (Some p) current law in_old in_current found =
+      (found_at_home wants n arrays true (pair.0.now, pair.1.now) (in_old ∙ sym found), tt)
+
+  foreign : (e : (K × V) × ℕ) (len i c index : ℕ) (wanted : Bool) → wants e.0.0 ≡ wanted → IsEntryHome hash len i e → IsHome c n index
+      → (Meets len i c index → ⊥) → wants e.0.0 ≡ false
+  foreign e len i c index false is home at apart = is
+  foreign e len i c index true is home at apart = absurd (apart (n, subst (λ x. IsInInterval len i x) (own e.0.0 is) home.home.own, at.own))
+
+  none_in : (l : List (BucketView K V)) (i c index : ℕ) (killed : Bool) → (bucket_at l i).killed ≡ killed → i < length l → AreHome hash l
+      → IsHome c n index → ((bucket_at l i).killed ≡ true → pairs_in (bucket_at l i) ≡ [])
+      → (Meets (length l) i c index → (bucket_at l i).killed ≡ true) → AreUnwanted wants (pairs_in (bucket_at l i))
+  none_in l i c index true is below all at empty dead = none_unwanted wants (bucket_at l i) (empty is)
+  none_in l i c index false is below all at empty dead = unwanted_entries wants (bucket_at l i) (λ j d less.
+      let e : (K × V) × ℕ = get_or (entries_in (bucket_at l i)) j d in
+      foreign e (length l) i c index (wants e.0.0) refl (all i below j d less) at (λ meets. false≢true (sym is ∙ dead meets)))
+
+  -- where each source of a current home is killed, the old array has no pair of the hash
+  pub unwanted_from_sources : (c l : List (BucketView K V)) (index : ℕ) → AreTwoArrays hash c l → IsHome (length c) n index
+      → ((i : ℕ) → i < length l → Meets (length l) i (length c) index → (bucket_at l i).killed ≡ true) → AreUnwanted wants (pairs_in_all l)
+  unwanted_from_sources c l index law at dead = All-pairs_in_all (λ (p : K × V). wants p.0 ≡ false) l (λ i below.
+      none_in l i (length c) index (bucket_at l i).killed refl below law.linked_home at (law.killed_empty i below) (dead i below))
+
+  -- where the home of a locked bucket's side has no wanted pair, the map has none
+  absent_on : (arrays : ArraysView K V) (is_old : Bool) (index : ℕ) → ArePlaced hash arrays → IsLocked arrays is_old index
+      → IsHome (length (buckets_on arrays is_old)) n index → pair_wanted wants (n % 256) (home_bucket n (buckets_on arrays is_old)) ≡ None
+      → AreUnwanted wants (pairs_of arrays)
+  absent_on arrays true index law locked home none = unwanted_on_both wants arrays
+      (All-pairs_in_all (λ (p : K × V). wants p.0 ≡ false) arrays.current (λ i below.
+      let b = bucket_at arrays.current i in none_unwanted wants b (pairs_in-vacant b (locked.vacant refl i below))))
+      (unwanted_from_home arrays.linked law.homes.linked_home none)
+  absent_on arrays false index law locked home none =
+      unwanted_on_both wants arrays (unwanted_from_home arrays.current law.homes.current_home none)
+      (unwanted_from_sources arrays.current arrays.linked index law.homes home (locked.killed refl))
+
+  -- what a search of a locked bucket says where it finds nothing
+  pub searched_absent : (arrays : ArraysView K V) (is_old : Bool) (b : BucketView K V) (index : ℕ) → ArePlaced hash arrays
+      → IsLocked arrays is_old index → IsHome (length (buckets_on arrays is_old)) n index → b ≡ bucket_on arrays is_old index
+      → place_wanted wants (n % 256) b ≡ None → AreUnwanted wants (pairs_of arrays)
+  searched_absent arrays is_old b index law locked home lent none =
+      let at_home = home_bucket-is (buckets_on arrays is_old) n index home in
+      absent_on arrays is_old index law locked home (rw (← at_home, ← lent) (ap (λ at. pair_at b at) none))
+
+module _ {K V : Type 0} where
+  -- what a look-up in both homes says of the map
+  pub looked_up : (eq : K → K → Bool) (hash : K → ℕ) (wants : K → Bool) (n : ℕ) (r : Option (Bor K × Bor V)) (a : ArraysView K V)
+      → IsOneMap eq hash a → ((key : K) → wants key ≡ true → hash key ≡ n) → pair_lent r ≡ pair_looked_up wants n a.linked a.current
+      → IfSome r (λ pair. IsWantedOf wants (pairs_of a) (pair.0.now, pair.1.now)) × IfNone r (AreUnwanted wants (pairs_of a))
+  looked_up eq hash wants n r a one own found = looked_up_by wants n hash own a r _ _ one.placed refl refl found

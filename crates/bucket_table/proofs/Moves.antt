@@ -1,0 +1,13 @@
+-- The pairs of one old bucket move on, and their order with them.
+pub mod Exchanges
+pub mod Vacating
+pub mod MovingPairs
+pub mod RoomMade
+pub mod Relocating
+pub mod Landings
+pub mod Arriving
+pub mod Carried
+pub mod CarriedPairs
+pub mod CountingTargets
+pub mod HomesByDivision
+pub mod Ways

@@ -1,0 +1,286 @@
+-- An old bucket whose pairs have moved to their homes, and the law of two arrays then.
+use Rattle.bucket_table.proofs.Words.{All, All-map, All-nil, AreHome, AreTwoArrays, Bool, BucketView, IsEntryHome, IsInRange, IsLength}
+use Rattle.bucket_table.proofs.Words.{IsPermutation, IsPermutation-append_left, IsPermutation-append_right, IsPermutation-refl}
+use Rattle.bucket_table.proofs.Words.{IsPermutation-trans, IsVacant, KeepsEntries, List, Meets, MovesInto, Slot, [], ap, append-nil, arith}
+use Rattle.bucket_table.proofs.Words.{bucket_at, cases_eq, entries_among, entries_in, false, flattened, get_or, home_of, if◌then◌else◌, inl}
+use Rattle.bucket_table.proofs.Words.{inr, interval_width, length, length-entries_in, live_pairs, map-entries_in, marks_among}
+use Rattle.bucket_table.proofs.Words.{nil_from_length, no_new-refl, pairs_in, refl, rotated, scales, set, subst, suc, sym, true, ℕ, ◌++◌}
+use Rattle.bucket_table.proofs.Words.{◌/◌, ◌<◌, ◌==◌, ◌↔◌, ◌∙◌, ◌∷◌, ◌≡◌, ◌≤◌}
+use Rattle.std.proofs.Common.{append_assoc}
+use Rattle.std.proofs.lemmas.List.{set-get_or}
+use Rattle.bucket_slots.proofs.ArrayCallerLemmas.{one_source}
+use Rattle.bucket_slots.proofs.Counting.{length-live_pairs-append}
+use Rattle.bucket_slots.proofs.MarkCallerLemmas.{marks_in-slots_killed}
+use Rattle.bucket_slots.specs.Moving.{slots_killed}
+use Rattle.bucket_slots.specs.declared.bucket.TheConstants.{INDEX}
+use Rattle.bucket_table.specs.Layout.Moving.{CanMoveInto}
+use Rattle.bucket_table.specs.Rehash.Relocation.{HasOwnByte, HasRoomFor, IsRelocated, KeepsOthers}
+use Rattle.bucket_table.proofs.Moves.Exchanges.{ChangesAt, changes_at, exchanged}
+use Rattle.bucket_table.proofs.Moves.HomesByDivision.{in_interval, some_width}
+use Rattle.bucket_table.proofs.Views.MarksKept.{marks_among-kept, marks_moved}
+use Rattle.bucket_table.proofs.Moves.RoomMade.{KeepsEntries-refl, homed_few, homed_none, room_in_range, vacant_len}
+
+-- the law of each old bucket has one source of each current one
+pub other_target : (from to i index j : ℕ) → IsLength from → IsLength to → from ≤ to → j < to → i < from → index < from → (i ≡ index → ⊥)
+    → Meets from i to j → Meets from index to j → ⊥
+other_target from to i index j from_long to_long le below i_below index_below apart one two =
+    let parts = one_source from to (to / from) j (scales from to from_long.power to_long.power le (omega (arith, to_long.at_most))) below in
+    let first = (parts.2 i i_below).0 one in
+    let second = (parts.2 index index_below).0 two in
+    apart (first ∙ sym second)
+
+module _ {K V : Type 0} where
+  none_among : (own rest : List (Slot K V)) → live_pairs (own ++ rest) ≡ [] → live_pairs (own ++ []) ≡ []
+  none_among own rest none =
+      let long = ap length none in
+      nil_from_length (live_pairs (own ++ [])) (omega (arith, length-live_pairs-append own rest, length-live_pairs-append own []))
+
+  killed_kept : (keeps : Bool) (s : BucketView K V) → pairs_in s ≡ [] → live_pairs (s.own ++ flattened (if keeps then s.chain else [])) ≡ []
+  killed_kept true s none = none
+  killed_kept false s none = none_among s.own (flattened s.chain) none
+
+  -- a killed bucket has no pair more
+  pub pairs_in-slots_killed : (kind : ℕ) (s : BucketView K V) → pairs_in s ≡ [] → pairs_in (slots_killed kind s) ≡ []
+  pairs_in-slots_killed kind s none = killed_kept (kind == INDEX) s none
+
+  pub no_entries : (s : BucketView K V) → pairs_in s ≡ [] → entries_in s ≡ []
+  no_entries s none = nil_from_length (entries_in s) (length-entries_in s ∙ ap length none)
+
+  pub entries_alike : (c d : List (BucketView K V)) → length d ≡ length c
+      → ((i : ℕ) → entries_in (bucket_at d i) ≡ entries_in (bucket_at c i)) → entries_among d ≡ entries_among c
+  entries_alike [] [] long each = refl
+  entries_alike [] (b ∷ d) long each = absurd (omega arith)
+  entries_alike (a ∷ c) [] long each = absurd (omega arith)
+  entries_alike (a ∷ c) (b ∷ d) long each =
+      let first : entries_in b ≡ entries_in a = each 0 in
+      let rest = entries_alike c d (omega arith) (λ i. each (suc i)) in
+      ap (λ l. l ++ entries_among d) first ∙ ap (λ l. entries_in a ++ l) rest
+
+  pub entries_among-kept : (c d : List (BucketView K V)) → KeepsEntries c d → entries_among d ≡ entries_among c
+  entries_among-kept c d kept = entries_alike c d kept.len kept.entries
+
+  module _ (hash : K → ℕ) where
+    -- the homes of an old bucket's pairs are its targets
+    pub homes_in_range : (from to index start end : ℕ) (s : BucketView K V) → 0 < interval_width to
+        → ((j : ℕ) → IsInRange start end j ↔ Meets from index to j) → All (IsEntryHome hash from index) (entries_in s)
+        → All (λ (p : K × V). IsInRange start end (home_of to (hash p.0))) (pairs_in s)
+    homes_in_range from to index start end s some range homes = rw (← map-entries_in s) (All-map (λ (p : K × V). IsInRange start end
+        (home_of to (hash p.0))) (λ (e : (K × V) × ℕ). e.0) (entries_in s) (λ k d below. let h = homes k d below in (range (home_of to
+        (hash (get_or (entries_in s) k d).0.0))).1 (
+          hash (get_or (entries_in s) k d).0.0,
+          h.home.own,
+          in_interval to (hash (get_or (entries_in s) k d).0.0) some,
+        )))
+
+    pub own_bytes : (from index : ℕ) (s : BucketView K V)
+        → All (IsEntryHome hash from index) (entries_in s) → All (HasOwnByte hash) (entries_in s)
+    own_bytes from index s homes = λ k d below. (homes k d below).own_byte
+
+    -- empty targets have room for 32 pairs
+    pub room_in_targets : (c l : List (BucketView K V)) (index start end : ℕ) → AreTwoArrays hash c l → index < length l
+        → (bucket_at l index).killed ≡ false → length l ≤ length c → end ≤ length c → length (pairs_in (bucket_at l index)) ≤ 32
+        → ((j : ℕ) → IsInRange start end j ↔ Meets (length l) index (length c) j)
+        → All (λ (p : K × V). IsInRange start end (home_of (length c) (hash p.0))) (pairs_in (bucket_at l index))
+        → HasRoomFor hash c (pairs_in (bucket_at l index))
+    room_in_targets c l index start end law within alive le ends few range all =
+        room_in_range hash c start end (pairs_in (bucket_at l index)) all (λ j inside.
+        let vacant = law.empty_targets le index j within (omega (arith, inside.1)) alive ((range j).0 inside) in
+        omega (arith, vacant_len (bucket_at c j) vacant, homed_few hash (length c) j (pairs_in (bucket_at l index))))
+
+    pub homes_kept : (c d : List (BucketView K V)) → KeepsEntries c d → AreHome hash c → AreHome hash d
+    homes_kept c d kept homes i within = rw (kept.len, kept.entries i) (homes i (omega (arith, kept.len)))
+
+    -- room was made, and the law holds still
+    pub law_kept : (c d l : List (BucketView K V)) → KeepsEntries c d → AreTwoArrays hash c l → AreTwoArrays hash d l
+    law_kept c d l kept law = record {
+      current_home = homes_kept c d kept law.current_home;
+      linked_home = law.linked_home;
+      alive = λ j below. kept.alive j ∙ law.alive j (omega (arith, kept.len));
+      killed_empty = law.killed_empty;
+      empty_targets = λ le i j i_below j_below alive meets. kept.vacant j
+          (law.empty_targets (omega (arith, kept.len)) i j i_below (omega (arith, kept.len)) alive
+          (subst (λ (n : ℕ). Meets (length l) i n j) kept.len meets));
+    }
+
+    -- the bucket was killed already
+    pub nothing_moved : (c l : List (BucketView K V)) (index : ℕ) → AreTwoArrays hash c l → index < length l
+        → (bucket_at l index).killed ≡ true → IsRelocated index c l c l
+    nothing_moved c l index law within killed = record {
+      killed = killed;
+      empty = law.killed_empty index within killed;
+      entries = IsPermutation-refl (entries_among c ++ entries_among l);
+      marks = no_new-refl (marks_among c ++ marks_among l);
+      current_len = refl;
+      linked_len = refl;
+      other_linked = λ i apart. refl;
+      other_current = λ j out. refl;
+    }
+
+    -- the pairs of bucket `index` have moved on into c2, after room was made in c1, and the bucket is killed
+    module _ (kind index start end : ℕ) (c0 c1 c2 l0 l2 : List (BucketView K V)) (left : BucketView K V) (law : AreTwoArrays hash c0 l0)
+        (within : index < length l0)
+        (current_long : IsLength (length c0)) (linked_long : IsLength (length l0))
+        (range : (j : ℕ) → IsInRange start end j ↔ Meets (length l0) index (length c0) j)
+        (kept : KeepsEntries c0 c1) (others : KeepsOthers start end c0 c1) (moved : MovesInto hash (bucket_at l0 index) c1 left c2)
+        (homes : AreHome hash c2) (emptied : pairs_in left ≡ []) (l2_is : l2 ≡ set l0 index (slots_killed kind left)) where
+      in_range : All (λ (p : K × V). IsInRange start end (home_of (length c0) (hash p.0))) (pairs_in (bucket_at l0 index))
+      in_range =
+          homes_in_range (length l0) (length c0) index start end (bucket_at l0 index) (some_width (length c0) current_long) range
+          (law.linked_home index within)
+
+      put : ChangesAt index (slots_killed kind left) l0 l2
+      put = rw l2_is (changes_at index (slots_killed kind left) l0 within)
+
+      gone : pairs_in (bucket_at l2 index) ≡ []
+      gone = rw put.here (pairs_in-slots_killed kind left emptied)
+
+      same_bucket : (j : ℕ) → (Meets (length l0) index (length c0) j → ⊥) → bucket_at c2 j ≡ bucket_at c0 j
+      same_bucket j out =
+          let outside : IsInRange start end j → ⊥ = λ r. out ((range j).0 r) in
+          let none = homed_none hash (length c0) start end j (pairs_in (bucket_at l0 index)) in_range outside in
+          moved.others j (rw kept.len none) ∙ others j outside
+
+      entries_moved : IsPermutation (entries_among c0 ++ entries_among l0) (entries_among c2 ++ entries_among l2)
+      entries_moved =
+          let source = entries_in (bucket_at l0 index) in
+          let a = entries_among c0 in
+          let b = entries_among l2 in
+          let none : entries_in (slots_killed kind left) ≡ [] = no_entries (slots_killed kind left)
+          (pairs_in-slots_killed kind left emptied) in
+          let whole : IsPermutation source (source ++ entries_in (slots_killed kind left)) = rw (none, append-nil)
+          (IsPermutation-refl source) in
+          let taken : IsPermutation (entries_among l0) (source ++ b) = rw l2_is (exchanged [] source l0 index (slots_killed kind left)
+          within whole) in
+          let left_none : entries_in left ≡ [] = no_entries left emptied in
+          let put_in : IsPermutation (source ++ a) (entries_among c2) = rw left_none at
+          (rw (entries_among-kept c0 c1 kept) at moved.entries) in
+          let regroup : source ++ (a ++ b) ≡ (source ++ a) ++ b = sym (append_assoc source a b) in
+          IsPermutation-trans _ _ _ (IsPermutation-append_right a _ _ taken)
+          (IsPermutation-trans _ _ _ (rotated a source b) (rw regroup (IsPermutation-append_left b _ _ put_in)))
+
+      pub relocated : IsRelocated index c0 l0 c2 l2
+      relocated = record {
+        killed = rw put.here refl;
+        empty = gone;
+        entries = entries_moved;
+        marks = rw (marks_among-kept c0 c1 kept, ← l2_is) at
+            (marks_moved c1 l0 c2 index left (slots_killed kind left) moved.marks (marks_in-slots_killed kind left));
+        current_len = moved.len ∙ kept.len;
+        linked_len = put.len;
+        other_linked = put.other;
+        other_current = same_bucket;
+      }
+
+      linked_homes : (i : ℕ) → i < length l0 → All (IsEntryHome hash (length l0) i) (entries_in (bucket_at l2 i))
+      linked_homes i below = elim (cases_eq i index) [
+        | inl same ↦ rw (same, no_entries (bucket_at l2 index) gone) (All-nil (IsEntryHome hash (length l0) index))
+        | inr apart ↦ rw (put.other i apart) (law.linked_home i below)
+      ]
+
+      empty_still : length l0 ≤ length c0 → (i j : ℕ) → i < length l0 → j < length c0 → (bucket_at l2 i).killed ≡ false
+          → Meets (length l0) i (length c0) j → IsVacant (bucket_at c2 j)
+      empty_still le i j i_below j_below alive meets = elim (cases_eq i index) [
+        | inl same ↦ let dead : (bucket_at l2 i).killed ≡ true = rw (same, put.here) refl in absurd cc
+        | inr apart ↦
+            let was : (bucket_at l0 i).killed ≡ false = ap (λ (b : BucketView K V). b.killed) (sym (put.other i apart)) ∙ alive in
+            let none = λ (m : Meets (length l0) index (length c0) j). other_target (length l0)
+            (length c0) i index j linked_long current_long le j_below i_below within apart meets m in
+            rw (same_bucket j none) (law.empty_targets le i j i_below j_below was meets)
+      ]
+
+      current_len : length c2 ≡ length c0
+      current_len = moved.len ∙ kept.len
+
+      pub law_after : AreTwoArrays hash c2 l2
+      law_after = record {
+        current_home = homes;
+        linked_home = subst (λ (n : ℕ). (i : ℕ) → i < n → All (IsEntryHome hash n i)
+            (entries_in (bucket_at l2 i))) (sym put.len) linked_homes;
+        alive = λ j below. moved.alive j ∙ kept.alive j ∙ law.alive j (omega (arith, current_len));
+        killed_empty = λ i below dead. elim (cases_eq i index) [
+          | inl same ↦ rw same gone
+          | inr apart ↦ rw (put.other i apart) (law.killed_empty i (omega (arith, put.len))
+              (ap (λ (b : BucketView K V). b.killed) (sym (put.other i apart)) ∙ dead))
+        ];
+        empty_targets = λ le i j i_below j_below alive meets.
+            empty_still (omega (arith, current_len, put.len)) i j (omega (arith, put.len)) (omega (arith, current_len)) alive
+            (subst (λ (n : ℕ). Meets n i (length c0) j) put.len (subst (λ (n : ℕ). Meets (length l2) i n j) current_len meets));
+      }
+
+    -- room was made, or was there: the pairs of s have room in d
+    pub record IsPrepared (start end : ℕ) (s : BucketView K V) (c d : List (BucketView K V)) : Type 0 where
+      pub kept : KeepsEntries c d
+      pub others : KeepsOthers start end c d
+      pub room : HasRoomFor hash d (pairs_in s)
+
+    -- old bucket `index`, and the current buckets from start up to below end, which are its targets
+    pub record AreTargets (c l : List (BucketView K V)) (index start end : ℕ) : Type 0 where
+      pub law : AreTwoArrays hash c l
+      pub within : index < length l
+      pub current_long : IsLength (length c)
+      pub linked_long : IsLength (length l)
+      pub range : (j : ℕ) → IsInRange start end j ↔ Meets (length l) index (length c) j
+      pub ends : end ≤ length c
+
+    -- in the words of the calls, of which from and to are the lengths
+    pub targets_of : {c l : List (BucketView K V)} {from to index start end : ℕ} → AreTwoArrays hash c l → index < length l
+        → from ≡ length l → to ≡ length c → IsLength from → IsLength to
+        → ((j : ℕ) → IsInRange start end j ↔ Meets from index to j) → end ≤ to → AreTargets c l index start end
+    targets_of law within from_is to_is from_long to_long range ends = record {
+      law = law;
+      within = within;
+      current_long = rw to_is at to_long;
+      linked_long = rw from_is at from_long;
+      range = rw (from_is, to_is) at range;
+      ends = omega (arith, to_is, ends);
+    }
+
+    -- s is the bucket that is lent
+    module _ {c l : List (BucketView K V)} {s : BucketView K V} {index start end : ℕ} (targets : AreTargets c l index start end)
+        (s_is : s ≡ bucket_at l index) where
+      homes_here : All (IsEntryHome hash (length l) index) (entries_in s)
+      homes_here = rw s_is (targets.law.linked_home index targets.within)
+
+      pub in_targets : All (λ (p : K × V). IsInRange start end (home_of (length c) (hash p.0))) (pairs_in s)
+      in_targets =
+          homes_in_range (length l) (length c) index start end s (some_width (length c) targets.current_long) targets.range homes_here
+
+      set_same : set l index s ≡ l
+      set_same = ap (λ (b : BucketView K V). set l index b) s_is ∙ set-get_or l index _
+
+      -- no room need be made
+      pub unreserved : s.killed ≡ false → length l ≤ length c → length (pairs_in s) ≤ 32 → IsPrepared start end s c c
+      unreserved alive le few = record {
+        kept = KeepsEntries-refl c;
+        others = λ j out. refl;
+        room = rw s_is (room_in_targets c l index start end targets.law targets.within (rw s_is at alive) le targets.ends (rw s_is at few)
+            targets.range (rw s_is at in_targets));
+      }
+
+      pub killed_already : s.killed ≡ true → IsRelocated index c l c l
+      killed_already killed = nothing_moved c l index targets.law targets.within (rw s_is at killed)
+
+      pub refused : (d : List (BucketView K V)) → KeepsEntries c d → AreTwoArrays hash d (set l index s)
+      refused d kept = rw set_same (law_kept c d l kept targets.law)
+
+      pub can_move : {d : List (BucketView K V)} → IsPrepared start end s c d → CanMoveInto hash start end s d
+      can_move {d} prepared = record {
+        within = omega (arith, targets.ends, prepared.kept.len);
+        in_range = rw prepared.kept.len in_targets;
+        own_bytes = own_bytes (length l) index s homes_here;
+        homes = homes_kept c d prepared.kept targets.law.current_home;
+        room = prepared.room;
+        alive = λ j below. prepared.kept.alive j ∙ targets.law.alive j (omega (arith, below, prepared.kept.len));
+      }
+
+      pub all_moved : (kind : ℕ) {d e : List (BucketView K V)} {left killed : BucketView K V}
+          → IsPrepared start end s c d → MovesInto hash s d left e → AreHome hash e → pairs_in left ≡ [] → killed ≡ slots_killed kind left
+          → IsRelocated index c l e (set l index killed) × AreTwoArrays hash e (set l index killed)
+      all_moved kind {d} {e} {left} {killed} prepared moved homes emptied killed_is =
+          let moves : MovesInto hash (bucket_at l index) d left e = rw s_is at moved in
+          let l_is : set l index killed ≡ set l index (slots_killed kind left) = ap (λ (b : BucketView K V). set l index b) killed_is in (
+            relocated kind index start end c d e l (set l index killed) left targets.law targets.within
+                targets.current_long targets.linked_long targets.range prepared.kept prepared.others moves homes emptied l_is,
+            law_after kind index start end c d e l (set l index killed) left targets.law targets.within
+                targets.current_long targets.linked_long targets.range prepared.kept prepared.others moves homes emptied l_is,
+          )

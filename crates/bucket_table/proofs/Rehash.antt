@@ -1,0 +1,12 @@
+-- Tickets and units.
+pub mod Handing
+pub mod Covering
+pub mod Ending
+pub mod UnitSteps
+pub mod UnitWork
+pub mod UnitRuns
+pub mod Spending
+pub mod FinishingUnits
+pub mod StayingKilled
+pub mod TicketSteps
+pub mod MovesInArrays

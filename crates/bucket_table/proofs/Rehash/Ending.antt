@@ -1,0 +1,168 @@
+-- What starting and ending a ticket leave of a table's arrays.
+use Rattle.bucket_table.proofs.Words.{ArePlaced, ArraysView, Bool, BucketView, Ends, EndsRehash, Err, HasNoNewMark, IsPermutation, IsTrue}
+use Rattle.bucket_table.proofs.Words.{List, LosesNoUnit, None, Ok, Option, Result, Some, Starts, TicketState, [], ap, arith, entries_of}
+use Rattle.bucket_table.proofs.Words.{false, first_tickets, killed_flags, length, length_permutation, marks_among, marks_of, no_new-refl}
+use Rattle.bucket_table.proofs.Words.{refl, subst, true, ℕ, ◌*◌, ◌/◌, ◌↔◌, ◌∷◌, ◌≡◌}
+use Rattle.bucket_slots.proofs.MarkCallerLemmas.{no_new-append, no_new-none}
+use Rattle.bucket_table.specs.Rehash.Covered.{AreAllKilled, IsUnitKilled}
+use Rattle.bucket_table.specs.Rehash.Rehashing.{EndsBy}
+use Rattle.bucket_table.specs.declared.tickets.TicketError.{TicketError}
+use Rattle.bucket_table.specs.declared.tickets.TicketError.TheVariants.{NotDone, NotOpen}
+use Rattle.bucket_table.proofs.Rehash.Covering.{all_killed, covered_end, covered_start, going_on_end, going_on_start}
+use Rattle.bucket_table.proofs.Views.Killed.{no_pairs}
+
+unit_of : (ticket unit : ℕ) → ticket ≡ 2048 * unit → ticket / 2048 ≡ unit
+unit_of ticket unit is = omega arith
+
+pub same_len_start : (before after : TicketState) (answer : Option ℕ) → Starts before answer after → after.len ≡ before.len
+same_len_start before after None starts = ap (λ (t : TicketState). t.len) starts.1
+same_len_start before after (Some ticket) starts = starts.same_len
+
+pub same_len_end : (before after : TicketState) (ticket : ℕ) (success : Bool) (Done : Type 0) (answer : Result Bool TicketError)
+    → Ends before ticket success Done answer after → after.len ≡ before.len
+same_len_end before after ticket success Done (Ok gone) (unit, is, done, closes, goes) = closes.same_len
+same_len_end before after ticket success Done (Err NotOpen) h = ap (λ (t : TicketState). t.len) h.1
+same_len_end before after ticket success Done (Err NotDone) h = ap (λ (t : TicketState). t.len) h.3
+
+-- the test of a unit may stand in place of what it tells
+pub ends_as : (before after : TicketState) (ticket : ℕ) (success : Bool) (P Q : Type 0) (answer : Result Bool TicketError) → (P ↔ Q)
+    → Ends before ticket success P answer after → Ends before ticket success Q answer after
+ends_as before after ticket success P Q (Ok gone) means (unit, is, done, closes, goes) = (unit, is, λ e. means.0 (done e), closes, goes)
+ends_as before after ticket success P Q (Err NotOpen) means h = h
+ends_as before after ticket success P Q (Err NotDone) means h = (h.0, h.1, λ q. h.2 (means.1 q), h.3)
+
+same_at_err : (before after : TicketState) (ticket : ℕ) (success : Bool) (Done : Type 0) (error : TicketError)
+    → Ends before ticket success Done (Err error) after → after ≡ before
+same_at_err before after ticket success Done NotOpen h = h.1
+same_at_err before after ticket success Done NotDone h = h.3
+
+-- what isn't open doesn't end
+none_closed : (before : TicketState) (unit : ℕ) (after : List ℕ) → before.open_units ≡ [] → IsPermutation before.open_units (unit ∷ after)
+    → ⊥
+none_closed before unit after none moved =
+    let len = length_permutation _ _ moved in
+    let e = ap (λ (us : List ℕ). length us) none in
+    absurd (omega (arith, len, e))
+
+module _ {K V : Type 0} where
+  -- a unit handed out keeps every unit covered
+  pub started : (buckets : List (BucketView K V)) (before after : TicketState) (answer : Option ℕ) → Starts before answer after
+      → LosesNoUnit buckets before → LosesNoUnit buckets after
+  started buckets before after None starts kept = rw starts.1 kept
+  started buckets before after (Some ticket) starts kept = record {
+    covered = covered_start (killed_flags buckets) before after ticket starts kept.covered;
+    going_on = λ some. going_on_start before after ticket starts;
+    emptied = kept.emptied;
+  }
+
+  pub all_killed_by : (old : ArraysView K V) (last : TicketState) (ticket : ℕ) (success : Bool) → LosesNoUnit old.linked old.tickets
+      → EndsBy old ticket success (Ok true) last → AreAllKilled (killed_flags old.linked)
+  all_killed_by old last ticket success kept (unit, is, done, closes, goes) =
+      let covered = covered_end (killed_flags old.linked) old.tickets last unit success closes
+      (λ e. subst (λ (u : ℕ). IsUnitKilled (killed_flags old.linked) u) (unit_of ticket unit is) (done e)) kept.covered in
+      all_killed (killed_flags old.linked) last covered (goes.0 refl).1
+
+  pub ended_entries : (old new : ArraysView K V) (ticket : ℕ) (success : Bool) (answer : Result Bool TicketError)
+      → LosesNoUnit old.linked old.tickets → EndsRehash old ticket success answer new → entries_of new ≡ entries_of old
+  ended_entries old new ticket success (Ok true) kept ends = rw ends.2 (rw (no_pairs old.linked ends.1 kept.emptied) refl)
+  ended_entries old new ticket success (Ok false) kept ends = rw ends.1 refl
+  ended_entries old new ticket success (Err error) kept ends = rw ends.1 refl
+
+  -- the old array goes
+  pub ended_gone : (now : ArraysView K V) (minimum maximum ticket : ℕ) (current linked : List (BucketView K V))
+      (tickets last none : TicketState) (success gone tested : Bool)
+      → gone ≡ true → (IsTrue tested ↔ IsUnitKilled (killed_flags linked) (ticket / 2048)) → Ends tickets ticket success (IsTrue tested)
+      (Ok gone) last
+      → ◌≡◌ {A = ArraysView K V} (record { minimum = minimum; maximum = maximum; current = current; linked = linked; tickets = tickets })
+      now
+      → none ≡ first_tickets 0 → LosesNoUnit now.linked now.tickets
+      → EndsRehash now ticket success (Ok true) (record {
+        minimum = minimum;
+        maximum = maximum;
+        current = current;
+        linked = [];
+        tickets =
+            none;
+      })
+  ended_gone now minimum maximum ticket current linked tickets last none success gone tested is_gone means ends is first kept =
+      let was : ArraysView K V = record { minimum = minimum; maximum = maximum; current = current; linked = linked; tickets = tickets } in
+      let new : ArraysView K V = record { minimum = minimum; maximum = maximum; current = current; linked = []; tickets = none } in
+      let here : Ends tickets ticket success (IsUnitKilled (killed_flags linked) (ticket / 2048)) (Ok true) last =
+      ends_as tickets last ticket success _ _ (Ok true) means (subst (λ (b : Bool). Ends tickets ticket success (IsTrue tested) (Ok b) last)
+      is_gone ends) in
+      subst (λ (a : ArraysView K V). LosesNoUnit a.linked a.tickets → EndsRehash a ticket success (Ok true) new) is
+      (λ (loses : LosesNoUnit was.linked was.tickets). ((last, here), all_killed_by was last ticket success loses here, rw first refl)) kept
+
+  -- the law after a start, and after an end
+  pub placed_start : (hash : K → ℕ) (old new : ArraysView K V) (answer : Option ℕ) → Starts old.tickets answer new.tickets
+      → new ≡ record old { tickets = new.tickets } → ArePlaced hash old → ArePlaced hash new
+  placed_start hash old new answer starts is law =
+      rw is (record { homes = law.homes; rehashed = started old.linked old.tickets new.tickets answer starts law.rehashed })
+
+  ended : (old : ArraysView K V) (after : TicketState) (ticket : ℕ) (success : Bool) → EndsBy old ticket success (Ok false) after
+      → LosesNoUnit old.linked old.tickets → LosesNoUnit old.linked after
+  ended old after ticket success (unit, is, done, closes, goes) kept = record {
+    covered = covered_end (killed_flags old.linked) old.tickets after unit success closes
+        (λ e. rw (unit_of ticket unit is) at (done e)) kept.covered;
+    going_on = λ some. going_on_end (killed_flags old.linked) old.tickets after ticket success
+        (IsUnitKilled (killed_flags old.linked) (ticket / 2048))
+        (unit, is, done, closes, goes) kept.covered;
+    emptied = kept.emptied;
+  }
+
+  gone : (hash : K → ℕ) (old : ArraysView K V) → ArePlaced hash old → ArePlaced hash (record old { linked = []; tickets = first_tickets 0 })
+  gone hash old law = record {
+    homes = record {
+      current_home = law.homes.current_home;
+      linked_home = λ i below. absurd (omega arith);
+      alive = law.homes.alive;
+      killed_empty = λ i below. absurd (omega arith);
+      empty_targets = λ longer i j below. absurd (omega arith);
+    };
+    rehashed = record {
+      covered = record {
+        same_len = refl;
+        units_in_range = λ i d below. absurd (omega arith);
+        done_or_open = λ unit below. absurd
+            (omega arith);
+      };
+      going_on = λ some. absurd (omega arith);
+      emptied = λ i d below. absurd (omega arith);
+    };
+  }
+
+  pub placed_end : (hash : K → ℕ) (old new : ArraysView K V) (ticket : ℕ) (success : Bool) (answer : Result Bool TicketError)
+      → EndsRehash old ticket success answer new → ArePlaced hash old → ArePlaced hash new
+  placed_end hash old new ticket success (Ok true) ends law = rw ends.2 (gone hash old law)
+  placed_end hash old new ticket success (Ok false) ends law =
+      rw ends.1 (record { homes = law.homes; rehashed = ended old new.tickets ticket success ends.0 law.rehashed })
+  placed_end hash old new ticket success (Err error) ends law =
+      rw (ends.1, same_at_err old.tickets new.tickets ticket success _ error ends.0) (record { homes = law.homes; rehashed = law.rehashed })
+
+  -- what an end leaves of the current array and of the marks
+  pub marks_ended : (old new : ArraysView K V) (ticket : ℕ) (success : Bool) (answer : Result Bool TicketError)
+      → EndsRehash old ticket success answer new → HasNoNewMark (marks_of old) (marks_of new)
+  marks_ended old new ticket success (Ok true) ends =
+      let front = marks_among old.current in
+      let rest = marks_among old.linked in
+      rw ends.2 (no_new-append front rest front [] (no_new-refl front) (no_new-none rest))
+  marks_ended old new ticket success (Ok false) ends = rw ends.1 (no_new-refl (marks_of old))
+  marks_ended old new ticket success (Err error) ends = rw ends.1 (no_new-refl (marks_of old))
+
+  pub others_ended : (old new : ArraysView K V) (ticket : ℕ) (success : Bool) (answer : Result Bool TicketError)
+      → EndsRehash old ticket success answer new → (new.minimum ≡ old.minimum) × (new.maximum ≡ old.maximum) × (new.current ≡ old.current)
+  others_ended old new ticket success (Ok true) ends = rw ends.2 (refl, refl, refl)
+  others_ended old new ticket success (Ok false) ends = rw ends.1 (refl, refl, refl)
+  others_ended old new ticket success (Err error) ends = rw ends.1 (refl, refl, refl)
+
+  -- no ticket is open without an old array
+  pub not_open : (old new : ArraysView K V) (ticket : ℕ) (success : Bool) (answer : Result Bool TicketError) → old.tickets.open_units ≡ []
+      → EndsRehash old ticket success answer new → answer ≡ Err NotOpen
+  not_open old new ticket success (Err NotOpen) none ends = refl
+  not_open old new ticket success (Err NotDone) none ends =
+      let less = (rw none at ends.0.0.2).1 in
+      absurd (omega (arith, less))
+  not_open old new ticket success (Ok true) none ends = absurd (none_closed old.tickets ends.0.1.0 ends.0.0.open_units none
+      ends.0.1.3.open_is)
+  not_open old new ticket success (Ok false) none ends = absurd (none_closed old.tickets ends.0.0 new.tickets.open_units none
+      ends.0.3.open_is)

@@ -1,0 +1,71 @@
+-- A unit of a rehash that no one else works at.
+use Rattle.bucket_table.proofs.Words.{ArraysView, Bool, EndsRehash, Err, HandsOut, List, LosesNoUnit, None, Ok, Result, Starts, TicketState}
+use Rattle.bucket_table.proofs.Words.{[], ap, arith, cases_lt, false, false≢true, inl, inr, length, length_permutation, nil_from_length}
+use Rattle.bucket_table.proofs.Words.{refl, sym, true, ℕ, ◌+◌, ◌/◌, ◌<◌, ◌∙◌, ◌≡◌}
+use Rattle.bucket_table.specs.Rehash.Finishing.{FinishesOne, units_left}
+use Rattle.bucket_table.specs.Rehash.Units.{WorksUnit}
+use Rattle.bucket_table.specs.declared.tickets.TicketError.{TicketError}
+use Rattle.bucket_table.proofs.Rehash.Covering.{position_after}
+use Rattle.bucket_table.proofs.Rehash.UnitWork.{closed, ends_now, not_refused}
+
+module _ {K V : Type 0} (old worked last : ArraysView K V) (started : TicketState) (ticket : ℕ) (success : Bool)
+    (h : HandsOut old.tickets ticket started)
+    (w : WorksUnit (ticket / 2048) success (record old { tickets = started }) worked) (long : old.tickets.len ≡ length old.linked) where
+  -- what a unit's end leaves
+  pub finished : (answer : Result Bool TicketError) → old.tickets.open_units ≡ [] → EndsRehash worked ticket success answer last
+      → (last.tickets.open_units ≡ []) × (success ≡ true → units_left last + 1 ≡ units_left old)
+  finished (Err error) none ends =
+      absurd (not_refused old.tickets started ticket h success _ error last.tickets w.1 (ends_now old worked last started ticket success h w
+      (Err error) last.tickets ends.0))
+  finished (Ok true) none ends =
+      let (closes, goes) = closed old.tickets started ticket h success _ true ends.0.0 (ends_now old worked last started ticket success h w
+      (Ok true) ends.0.0 ends.0.1) in
+      let e : success ≡ true = (goes.0 refl).0 in
+      let over = (goes.0 refl).1.1 in
+      let at = closes.position_is ∙ ap (λ (s : Bool). position_after s started.position old.tickets.position) e in
+      let next = h.position_is in
+      let left = h.is_left in
+      let len1 = closes.same_len in
+      let len2 = h.same_len in
+      rw ends.2 (refl, λ ok. omega (arith, over, at, next, left, len1, len2, long))
+  finished (Ok false) none ends =
+      let (closes, goes) = closed old.tickets started ticket h success _ false last.tickets
+      (ends_now old worked last started ticket success h w (Ok false) last.tickets ends.0) in
+      let joined = length_permutation _ _ h.open_is in
+      let was_none = ap (λ (us : List ℕ). length us) none in
+      let left_open = length_permutation _ _ closes.open_is in
+      let next = h.position_is in
+      let left = h.is_left in
+      let last_len = ap (λ (a : ArraysView K V). length a.linked) ends.1 ∙ w.0.killed.len in (
+        nil_from_length last.tickets.open_units (omega (arith, joined, was_none, left_open)),
+        λ ok.
+            let at = closes.position_is ∙ ap (λ (s : Bool). position_after s started.position old.tickets.position) ok in
+            omega (arith, at, next, left, last_len, long),
+      )
+
+module _ {K V : Type 0} where
+  -- an old array of which no ticket is open has a unit left
+  pub none_over : (old : ArraysView K V) (after : TicketState) → Starts old.tickets None after → LosesNoUnit old.linked old.tickets
+      → old.tickets.open_units ≡ [] → 0 < length old.linked → ⊥
+  none_over old after starts loses none some =
+      let no_open = ap (λ (us : List ℕ). length us) none in
+      elim starts.0 [
+        | inl handed ↦ elim (loses.going_on some) [
+          | inl left ↦ absurd (omega (arith, handed, left))
+          | inr left ↦ let less = (rw none at left.1).1 in absurd (omega (arith, less))
+        ]
+        | inr full ↦ absurd (omega (arith, full, no_open))
+      ]
+
+  -- units worked so far, and those that are left
+  pub one_more : (old new : ArraysView K V) (more : Bool) → FinishesOne old more new → more ≡ true → units_left new + 1 ≡ units_left old
+  one_more old new more f e = elim (cases_lt 0 (length old.linked)) [
+    | inl some ↦ (f.one some).1
+    | inr none ↦ absurd (false≢true (sym (f.none (omega (arith, none))).0 ∙ e))
+  ]
+
+  pub all_done : (old new : ArraysView K V) (more : Bool) → FinishesOne old more new → more ≡ false → (length old.linked ≡ 0) × (new ≡ old)
+  all_done old new more f e = elim (cases_lt 0 (length old.linked)) [
+    | inl some ↦ absurd (false≢true (sym e ∙ (f.one some).0))
+    | inr none ↦ let zero_len : length old.linked ≡ 0 = omega (arith, none) in (zero_len, (f.none zero_len).1)
+  ]

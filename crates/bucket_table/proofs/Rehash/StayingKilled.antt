@@ -1,0 +1,12 @@
+-- Sources that are killed stay so.
+use Rattle.bucket_table.proofs.Words.{AreSourcesKilled, ArraysView, WorksUnits, arith, length, ℕ, ◌≡◌}
+use Rattle.bucket_table.proofs.Rehash.UnitRuns.{units_still}
+
+module _ {K V : Type 0} where
+  pub sources_still : (steps : ℕ) (old new : ArraysView K V) (index : ℕ) → WorksUnits steps old new
+      → length new.current ≡ length old.current
+      → AreSourcesKilled old index → AreSourcesKilled new index
+  sources_still steps old new index units len dead = λ i below meets.
+      let kept = units_still steps old new units (omega (arith, below)) in
+      let long = kept.len in
+      kept.still i (dead i (omega (arith, below, long)) (rw (long, len) at meets))

@@ -1,0 +1,133 @@
+-- Steps that each may work a unit, one after another.
+use Rattle.bucket_table.proofs.Words.{ArraysView, SpendsSome, TicketState, WorksUnits, ap, arith, bucket_at, cases_lt, inl, inr, length}
+use Rattle.bucket_table.proofs.Words.{true, ℕ, ◌*◌, ◌+◌, ◌-◌, ◌<◌, ◌∙◌, ◌≡◌}
+use Rattle.bucket_table.specs.Views.Keeping.{StayKilled}
+use Rattle.bucket_table.specs.Rehash.Units.{HasWorkedUnits, RelocatesSome}
+use Rattle.bucket_table.proofs.Rehash.Spending.{spends_both, spends_few, spends_killed}
+
+module _ {K V : Type 0} where
+  -- no step: old buckets may move on, and no ticket changes
+  pub no_units : (old new : ArraysView K V) → RelocatesSome old new → SpendsSome old.linked new.linked → WorksUnits 0 old new
+  no_units old new some spends = λ stands.
+      let at : new.tickets.position ≡ old.tickets.position = ap (λ (t : TicketState). t.position) some.tickets_are in
+      record {
+        len = some.killed.len;
+        spent = spends;
+        open_len = ap (λ (t : TicketState). length t.open_units) some.tickets_are;
+        least = omega (arith, at);
+        most = omega (arith, at);
+        worked = λ count few easy. record {
+          position = inl (omega (arith, at, few));
+          killed = λ i low high within. absurd (omega (arith, low, high, few));
+        };
+      }
+
+  -- one run after another
+  runs_both : (first second : ℕ) (old mid last : ArraysView K V) → length mid.current ≡ length old.current
+      → HasWorkedUnits first old mid → HasWorkedUnits second mid last → HasWorkedUnits (first + second) old last
+  runs_both first second old mid last same_len a b =
+      let p : ℕ = old.tickets.position in
+      let q : ℕ = mid.tickets.position in
+      let len_a = a.len in
+      let len_b = b.len in
+      let open_a = a.open_len in
+      let least_a = a.least in
+      let least_b = b.least in
+      let most_a = a.most in
+      let most_b = b.most in
+      let still : (i : ℕ) → (bucket_at mid.linked i).killed ≡ true → (bucket_at last.linked i).killed ≡ true = λ i. spends_killed mid.linked
+      last.linked i b.spent in
+      record {
+        len = len_b ∙ len_a;
+        spent = spends_both old.linked mid.linked last.linked a.spent b.spent;
+        open_len = b.open_len ∙ open_a;
+        least = omega (arith, least_a, least_b);
+        most = omega (arith, most_a, most_b);
+        worked = λ count few needs. elim (cases_lt first count) [
+          | inr early ↦
+              let done = a.worked count early needs in
+              record {
+                position = elim done.position [
+                  | inl past ↦ inl (omega (arith, past, least_b))
+                  | inr over ↦ inr (omega (arith, over, least_b, len_b))
+                ];
+                killed = λ i low high within. still i (done.killed i low high (omega (arith, within, len_b)));
+              }
+          | inl late ↦
+              let room = needs.has_room in
+              let shorter = needs.easy.no_shorter in
+              let done = a.worked first (omega arith) (record {
+                has_room = room;
+                easy = record { no_shorter = shorter; few = λ i low high. needs.easy.few i low (omega (arith, high, late)) };
+              }) in
+              elim done.position [
+                | inl past ↦
+                    let at : q ≡ p + first = omega (arith, past, most_a) in
+                    let rest = b.worked (count - first) (omega (arith, few, late)) (record {
+                      has_room = omega (arith, room, open_a);
+                      easy = record {
+                        no_shorter = omega (arith, shorter, len_a, same_len);
+                        few = λ i low high. spends_few old.linked mid.linked i 32 a.spent (needs.easy.few i (omega (arith, low, at))
+                            (omega (arith, high, at, late)));
+                      };
+                    }) in
+                    record {
+                      position = elim rest.position [
+                        | inl further ↦ inl (omega (arith, further, at, late))
+                        | inr over ↦ inr over
+                      ];
+                      killed = λ i low high within. elim (cases_lt i (64 * (p + first))) [
+                        | inl before ↦ still i (done.killed i low before (omega (arith, within, len_b)))
+                        | inr behind ↦ rest.killed i (omega (arith, behind, at)) (omega (arith, high, at, late)) within
+                      ];
+                    }
+                | inr over ↦
+                    record {
+                      position = inr (omega (arith, over, least_b, len_b));
+                      killed = λ i low high within. still i (done.killed i low (omega (arith, over, most_a, within, len_b))
+                          (omega (arith, within, len_b)));
+                    }
+              ]
+        ];
+      }
+
+  pub units_both : (first second : ℕ) (old mid last : ArraysView K V) → length mid.current ≡ length old.current
+      → WorksUnits first old mid → WorksUnits second mid last → WorksUnits (first + second) old last
+  units_both first second old mid last len a b = λ stands.
+      let run = b stands in
+      let there = run.len in
+      runs_both first second old mid last len (a (omega (arith, stands, there))) run
+
+  -- what is killed stays killed
+  pub units_still : (steps : ℕ) (old new : ArraysView K V) → WorksUnits steps old new → 0 < length new.linked
+      → StayKilled old.linked new.linked
+  units_still steps old new w stands = let run = w stands in record {
+    len = run.len;
+    still = λ j dead. spends_killed old.linked new.linked j
+        run.spent dead;
+  }
+
+  -- and where no old array stood, none comes
+  pub units_alone : (steps : ℕ) (old new : ArraysView K V) → WorksUnits steps old new → length old.linked ≡ 0 → length new.linked ≡ 0
+  units_alone steps old new w alone = elim (cases_lt 0 (length new.linked)) [
+    | inl stands ↦ let run = w stands in let len = run.len in absurd (omega (arith, stands, len, alone))
+    | inr none ↦ omega (arith, none)
+  ]
+
+  -- arrays with the same old one and the same tickets
+  pub units_as : (steps : ℕ) (old mid new : ArraysView K V) → WorksUnits steps old mid → new.linked ≡ mid.linked → new.tickets ≡ mid.tickets
+      → WorksUnits steps old new
+  units_as steps old mid new units linked tickets = λ stands.
+      let run = units (rw linked at stands) in
+      record {
+        len = rw linked run.len;
+        spent = rw linked run.spent;
+        open_len = rw tickets run.open_len;
+        least = rw tickets run.least;
+        most = rw tickets run.most;
+        worked = λ count few easy. let done = run.worked count few easy in record {
+          position = rw (tickets, linked) done.position;
+          killed =
+              rw linked done.killed;
+        };
+      }

@@ -1,0 +1,213 @@
+-- A unit whose ticket is handed out, worked and ended.
+use Rattle.bucket_table.proofs.Words.{ArraysView, Bool, Contains-permutation, Ends, EndsRehash, Err, HandsOut, IsPermutation, IsTrue}
+use Rattle.bucket_table.proofs.Words.{KeepsArrays, KeepsOpenTickets, List, LosesNoUnit, None, Ok, Option, Result, Some, SpendsSome, Starts}
+use Rattle.bucket_table.proofs.Words.{TicketState, WorksUnits, [], ap, arith, bucket_at, cases_Bool, cases_eq, cond, false, inl, inr}
+use Rattle.bucket_table.proofs.Words.{killed_flags, length, length_permutation, no_new-trans, refl, sum_by-cons, sym, true, ℕ, ◌*◌, ◌+◌}
+use Rattle.bucket_table.proofs.Words.{◌/◌, ◌<◌, ◌==◌, ◌↔◌, ◌∙◌, ◌∷◌, ◌≡◌, ◌≤◌}
+use Rattle.std.proofs.lemmas.List.Elements.{Contains-get_or}
+use Rattle.std.proofs.lemmas.List.Sorted.{sum_by-IsPermutation}
+use Rattle.std.specs.List.{count_by, sum_by}
+use Rattle.bucket_table.specs.Rehash.Covered.{IsUnitKilled}
+use Rattle.bucket_table.specs.Rehash.Rehashing.{EndsBy}
+use Rattle.bucket_table.specs.Rehash.Steps.{Closes, IsOver}
+use Rattle.bucket_table.specs.Rehash.Units.{HasWorkedUnits, NeedsNoMemory, UnitsNeedNoMemory, WorksUnit}
+use Rattle.bucket_table.specs.declared.tickets.TicketError.{TicketError}
+use Rattle.bucket_table.specs.declared.tickets.TicketError.TheVariants.{NotDone, NotOpen}
+use Rattle.bucket_table.proofs.Rehash.Covering.{position_after}
+use Rattle.bucket_table.proofs.Rehash.Ending.{ended_entries, marks_ended, others_ended}
+use Rattle.bucket_table.proofs.Views.Killed.{get_or-killed_flags, length-killed_flags}
+
+-- one unit joins a bag and one leaves it
+bag_back : (unit other : ℕ) (was started is : List ℕ) → IsPermutation (other ∷ was) started → IsPermutation started (other ∷ is)
+    → count_by (λ (u : ℕ). u == unit) is ≡ count_by (λ (u : ℕ). u == unit) was
+bag_back unit other was started is joined left =
+    let one : ℕ → ℕ = λ u. cond (u == unit) 1 0 in
+    let a = sum_by-IsPermutation one (other ∷ was) started joined in
+    let b = sum_by-IsPermutation one started (other ∷ is) left in
+    let c = sum_by-cons one other was in
+    let d = sum_by-cons one other is in
+    let e : sum_by one is ≡ sum_by one was = omega (arith, a, b, c, d) in
+    e
+
+module _ (before started : TicketState) (ticket : ℕ) (h : HandsOut before ticket started) where
+  -- the unit that ends is the one that was handed out
+  pub closed : (success : Bool) (Done : Type 0) (gone : Bool) (after : TicketState) → Ends started ticket success Done (Ok gone) after
+      → Closes started before.position success after × (IsTrue gone ↔ ((success ≡ true) × IsOver after))
+  closed success Done gone after (unit, ticket_is, done, closes, goes) =
+      let handed = h.ticket_is in
+      let same : unit ≡ before.position = omega (arith, handed, ticket_is) in
+      (rw same at closes, goes)
+
+  bag_closed : (success : Bool) (after : TicketState) → Closes started before.position success after → KeepsOpenTickets before after
+  bag_closed success after closes = λ unit.
+      bag_back unit before.position before.open_units started.open_units after.open_units h.open_is closes.open_is
+
+  -- and it can be ended
+  pub not_refused : (success : Bool) (Done : Type 0) (error : TicketError) (after : TicketState) → (success ≡ true → Done)
+      → Ends started ticket success Done (Err error) after → ⊥
+  not_refused success Done NotOpen after done ends =
+      let there = Contains-permutation (before.position ∷ before.open_units) started.open_units before.position h.open_is
+      (Contains-get_or (before.position ∷ before.open_units) 0 before.position (omega arith)) in
+      ends.0 (before.position, h.ticket_is, there)
+  not_refused success Done NotDone after done ends = ends.2 (done ends.1)
+
+module _ {K V : Type 0} (old worked last : ArraysView K V) (started : TicketState) (ticket : ℕ) (success : Bool)
+    (h : HandsOut old.tickets ticket started)
+    (w : WorksUnit (ticket / 2048) success (record old { tickets = started }) worked) where
+  abbrev Killed : Type 0
+  Killed = IsUnitKilled (killed_flags worked.linked) (ticket / 2048)
+
+  pub ends_now : (answer : Result Bool TicketError) (after : TicketState) → EndsBy worked ticket success answer after
+      → Ends started ticket success Killed answer after
+  ends_now answer after ends = rw w.0.tickets_are at ends
+
+  bag_ended : (answer : Result Bool TicketError) → EndsRehash worked ticket success answer last → KeepsOpenTickets old.tickets last.tickets
+  bag_ended (Err error) ends = absurd (not_refused old.tickets started ticket h success Killed error last.tickets w.1
+      (ends_now (Err error) last.tickets ends.0))
+  bag_ended (Ok true) ends =
+      let (closes, goes) = closed old.tickets started ticket h success Killed true ends.0.0 (ends_now (Ok true) ends.0.0 ends.0.1) in
+      let over : ends.0.0.open_units ≡ [] = (goes.0 refl).1.0 in
+      let bag = bag_closed old.tickets started ticket h success ends.0.0 closes in
+      λ unit. rw ends.2 (rw over at (bag unit))
+  bag_ended (Ok false) ends =
+      let (closes, goes) = closed old.tickets started ticket h success Killed false last.tickets
+      (ends_now (Ok false) last.tickets ends.0) in
+      bag_closed old.tickets started ticket h success last.tickets closes
+
+  -- the pairs and what isn't the arrays' contents stay through a unit
+  pub unit_kept : (answer : Result Bool TicketError) → LosesNoUnit worked.linked worked.tickets
+      → EndsRehash worked ticket success answer last → KeepsArrays old last
+  unit_kept answer loses ends =
+      let (minimum, maximum, current) = others_ended worked last ticket success answer ends in
+      let kept = w.0.kept in
+      record {
+        keeps = record {
+          pairs = rw (ended_entries worked last ticket success answer loses ends) kept.keeps.pairs;
+          marks = no_new-trans _ _ _ kept.keeps.marks (marks_ended worked last ticket success answer ends);
+          minimum = minimum ∙ kept.keeps.minimum;
+          maximum = maximum ∙ kept.keeps.maximum;
+          open_tickets = bag_ended answer ends;
+        };
+        current_len = rw current kept.current_len;
+      }
+
+  -- a unit that is easy is worked, and the next ticket is that of the next unit; one that isn't is handed out again
+  module _ (long : old.tickets.len ≡ length old.linked) (spends : SpendsSome old.linked worked.linked) (easy : UnitsNeedNoMemory 1 old
+      → success ≡ true)
+      (closes : Closes started old.tickets.position success last.tickets) (last_is : last ≡ record worked { tickets = last.tickets }) where
+    abbrev position : ℕ
+    position = old.tickets.position
+
+    linked_is : last.linked ≡ worked.linked
+    linked_is = ap (λ (a : ArraysView K V). a.linked) last_is
+
+    moved : success ≡ true → last.tickets.position ≡ position + 1
+    moved e = closes.position_is ∙ ap (λ (s : Bool). position_after s started.position position) e ∙ h.position_is
+
+    stayed : success ≡ false → last.tickets.position ≡ position
+    stayed e =
+        let next = h.position_is in
+        let back = closes.position_is ∙ ap (λ (s : Bool). position_after s started.position position) e in
+        omega (arith, next, back)
+
+    dead : success ≡ true → (i : ℕ) → 64 * position ≤ i → i < 64 * (position + 1) → i < length last.linked
+        → (bucket_at last.linked i).killed ≡ true
+    dead e i low high within =
+        let handed = h.ticket_is in
+        let unit : ticket / 2048 ≡ position = omega (arith, handed) in
+        let inside : i < length worked.linked = rw linked_is at within in
+        let flags = length-killed_flags worked.linked in
+        rw linked_is (sym (get_or-killed_flags worked.linked i inside)
+        ∙ w.1 e i (omega (arith, unit, low)) (omega (arith, unit, high)) (omega (arith, inside, flags)))
+
+    between : (position ≤ last.tickets.position) × (last.tickets.position ≤ position + 1)
+    between = elim (cases_Bool success) [
+      | inl yes_it_is ↦ let m = moved yes_it_is in (omega (arith, m), omega (arith, m))
+      | inr not_it ↦ let m = stayed not_it in (omega (arith, m), omega (arith, m))
+    ]
+
+    units_done : HasWorkedUnits 1 old last
+    units_done = record {
+      len = rw linked_is w.0.killed.len;
+      spent = rw linked_is spends;
+      open_len =
+          let joined = length_permutation _ _ h.open_is in
+          let left = length_permutation _ _ closes.open_is in
+          omega (arith, joined, left);
+      least = between.0;
+      most = between.1;
+      worked = λ count few easy_ones. elim (cases_eq count 1) [
+        | inl one ↦
+            let m = moved (easy (rw one at easy_ones)) in
+            record {
+              position = inl (omega (arith, m, one));
+              killed = λ i low high within. dead (easy (rw one at easy_ones)) i low (omega (arith, high, one)) within;
+            }
+        | inr other ↦
+            let none : count ≡ 0 = omega (arith, few, other) in
+            record {
+              position = inl (omega (arith, none, between.0));
+              killed = λ i low high within. absurd (omega (arith, low, high, none));
+            }
+      ];
+    }
+
+  pub unit_runs : (answer : Result Bool TicketError) → old.tickets.len ≡ length old.linked → SpendsSome old.linked worked.linked
+      → (UnitsNeedNoMemory 1 old → success ≡ true) → EndsRehash worked ticket success answer last → WorksUnits 1 old last
+  unit_runs (Err error) long spends easy ends =
+      absurd (not_refused old.tickets started ticket h success Killed error last.tickets w.1 (ends_now (Err error) last.tickets ends.0))
+  unit_runs (Ok true) long spends easy ends = λ some. let none = ap (λ (a : ArraysView K V). length a.linked) ends.2 in absurd
+      (omega (arith, some, none))
+  unit_runs (Ok false) long spends easy ends = λ some.
+      let (closes, goes) = closed old.tickets started ticket h success Killed false last.tickets
+      (ends_now (Ok false) last.tickets ends.0) in
+      units_done long spends easy closes ends.1
+
+module _ {K V : Type 0} where
+  -- an easy unit by its ticket
+  pub easy_handed : (old : ArraysView K V) (started : TicketState) (ticket : ℕ) → HandsOut old.tickets ticket started
+      → UnitsNeedNoMemory 1 old
+      → NeedsNoMemory (64 * (ticket / 2048)) (64 * (ticket / 2048) + 64) (record old { tickets = started })
+  easy_handed old started ticket h needs =
+      let handed = h.ticket_is in
+      let unit : ticket / 2048 ≡ old.tickets.position = omega (arith, handed) in
+      record {
+        no_shorter = needs.easy.no_shorter;
+        few = λ i low high. needs.easy.few i (omega (arith, unit, low))
+            (omega (arith, unit, high));
+      }
+
+  -- no unit could be handed out, and nothing was done
+  pub none_runs : (old : ArraysView K V) (after : TicketState) → old.tickets.len ≡ length old.linked → Starts old.tickets None after
+      → WorksUnits 1 old old
+  none_runs old after long starts = λ some. record {
+    len = refl;
+    spent = λ i. inl refl;
+    open_len = refl;
+    least = omega arith;
+    most = omega arith;
+    worked = λ count few easy.
+        let over : length old.linked ≤ 64 * old.tickets.position = elim starts.0 [
+          | inl handed ↦ omega (arith, handed, long)
+          | inr full ↦ let room = easy.has_room in absurd (omega (arith, full, room))
+        ] in
+        record {
+          position = inr over;
+          killed = λ i low high within. absurd (omega (arith, low, within, over));
+        };
+  }
+
+  pub none_changed : (old new : ArraysView K V) → Starts old.tickets None new.tickets → new ≡ record old { tickets = new.tickets }
+      → new ≡ old
+  none_changed old new starts is = is ∙ ap (λ (t : TicketState). record old { tickets = t }) starts.1
+
+  -- without an old array none is handed out
+  pub none_handed : (old : ArraysView K V) (ticket : ℕ) (after : TicketState) → old.tickets.len ≡ length old.linked → length old.linked ≡ 0
+      → HandsOut old.tickets ticket after → ⊥
+  none_handed old ticket after long none h = let left = h.is_left in absurd (omega (arith, left, long, none))
+
+  pub none_start : (old : ArraysView K V) (answer : Option ℕ) (after : TicketState) → old.tickets.len ≡ length old.linked
+      → length old.linked ≡ 0
+      → Starts old.tickets answer after → answer ≡ None
+  none_start old None after long none starts = refl
+  none_start old (Some ticket) after long none starts = absurd (none_handed old ticket after long none starts)

@@ -1,0 +1,11 @@
+-- Plans, their samples, and what a resize keeps.
+pub mod Samples
+pub mod Plans
+pub mod PlanIsOne
+pub mod PlanBounds
+pub mod Neighbours
+pub mod GivingUp
+pub mod Turning
+pub mod Asked
+pub mod Settling
+pub mod Growing

@@ -1,0 +1,58 @@
+-- A plan gives an array up only where no slot is live, and asks for something only of a current array alone.
+use Rattle.bucket_table.proofs.Words.{All, ArraysView, List, [], ap, arith, cases_eq, cases_lt, inl, inr, length, slots_of, ℕ, ⊎_elim, ◌*◌}
+use Rattle.bucket_table.proofs.Words.{◌/◌, ◌<◌, ◌≡◌, ◌≤◌}
+use Rattle.bucket_table.specs.Resize.ResizePlan.{IsPlan, IsPlanTo, last_estimate}
+use Rattle.bucket_table.specs.Resize.Turns.{IsGivenUp, IsPlanOf}
+use Rattle.bucket_table.specs.declared.arrays.plan.Plan.{Plan}
+use Rattle.bucket_table.specs.declared.arrays.plan.Plan.TheVariants.{GiveUp, Keep}
+use Rattle.bucket_table.proofs.Views.Killed.{no_live}
+use Rattle.bucket_table.proofs.Resize.PlanIsOne.{all_or_not}
+use Rattle.bucket_table.proofs.Resize.Plans.{plan_code}
+
+not_kept : ◌≡◌ {A = Plan} GiveUp Keep → ⊥
+not_kept e = let f = ap plan_code e in absurd (omega arith)
+
+never_given_up : (slots capacity : ℕ) (P : ℕ → Type 0) → IsPlanTo slots capacity P GiveUp → ⊥
+never_given_up slots capacity P plan = ⊎_elim (λ (less : capacity < slots).
+    let (asked, is, kept, done) = plan.less less in
+    ⊎_elim (λ (below : capacity < asked). not_kept (kept below))
+    (λ (le : asked ≤ capacity). let f = ap plan_code (done le) in absurd (omega arith)) (cases_lt capacity asked))
+    (λ (le : slots ≤ capacity). ⊎_elim (λ (e : capacity ≡ slots). not_kept (plan.unchanged e))
+    (λ (ne : capacity ≡ slots → ⊥). let f = ap plan_code (plan.greater (omega arith)) in absurd (omega arith)) (cases_eq capacity slots))
+    (cases_lt capacity slots)
+
+-- an array is given up only where no slot is live
+pub emptied : (counts : List ℕ) (minimum maximum : ℕ) → IsPlan counts minimum maximum GiveUp → All (λ count. count ≡ 0) counts
+emptied counts minimum maximum plan = ⊎_elim (λ (all : All (λ (count : ℕ). count ≡ 0) counts). all)
+    (λ (some : All (λ (count : ℕ). count ≡ 0) counts → ⊥).
+    let last : ℕ = last_estimate counts plan.large in
+    let standing : last ≡ 0 → minimum ≡ 0 → ⊥ = λ none least. not_kept (plan.not_emptied none least some) in
+    ⊎_elim (λ (full : ((slots_of counts) / 16) * 13 < last). let (c, is, to) = plan.unsettled standing
+    (inl full) in absurd (never_given_up _ c _ to)) (λ (not_full : last ≤ ((slots_of counts) / 16) * 13). ⊎_elim
+    (λ (empty : last < (slots_of counts) / 8). let (c, is, to) = plan.unsettled standing (inr empty)
+    in absurd (never_given_up _ c _ to)) (λ (not_empty : (slots_of counts) / 8 ≤ last). absurd
+    (not_kept (plan.settled standing (λ full. omega arith) (λ empty. omega arith)))) (cases_lt last ((slots_of counts) / 8)))
+    (cases_lt (((slots_of counts) / 16) * 13) last)) (all_or_not counts)
+
+module _ {K V : Type 0} (arrays : ArraysView K V) (plan : Plan) (is : IsPlanOf arrays plan) (asks : 0 < plan_code plan) where
+  not_keep : plan ≡ Keep → ⊥
+  not_keep e = let f = ap plan_code e in absurd (omega arith)
+
+  pub plan_alone : length arrays.linked ≡ 0
+  plan_alone = ⊎_elim (λ (some : 0 < length arrays.linked). absurd (not_keep (is.beside some)))
+      (λ (none : length arrays.linked ≤ 0). omega arith)
+      (cases_lt 0 (length arrays.linked))
+
+  pub plan_stands : 0 < length arrays.current
+  plan_stands = ⊎_elim (λ (some : 0 < length arrays.current). some) (λ (none : length arrays.current ≤ 0). absurd
+      (not_keep (is.none (omega arith))))
+      (cases_lt 0 (length arrays.current))
+
+module _ {K V : Type 0} where
+  pub gives_up : (old new : ArraysView K V) → IsPlanOf old GiveUp → new ≡ record old { current = [] } → IsGivenUp old new
+  gives_up old new is new_is = record {
+    empty = no_live old.current
+        (emptied _ _ _ (is.alone (plan_stands old GiveUp is (omega arith)) (plan_alone old GiveUp is (omega arith))));
+    alone = plan_alone old GiveUp is (omega arith);
+    new_is = new_is;
+  }

@@ -1,0 +1,100 @@
+-- When a writer looks into a growth, by what the code reads; and what the growth leaves.
+use Rattle.bucket_table.proofs.Words.{ArePlaced, ArraysView, Bool, BucketView, CACHE, Err, IsHome, IsLocked, IsTrue, Keeps, List, Ok}
+use Rattle.bucket_table.proofs.Words.{Result, [], ap, arith, bucket_at, buckets_on, cases_lt, counted, entries_among, entries_in, false}
+use Rattle.bucket_table.proofs.Words.{false≢true, inl, inr, length, length-append, length-entries_in, nil_from_length, pairs_in, suc, sym}
+use Rattle.bucket_table.proofs.Words.{true, zero, ℕ, ◌*◌, ◌<◌, ◌↔◌, ◌∙◌, ◌∷◌, ◌≡◌, ◌≤◌}
+use Rattle.std.proofs.Common.{MatchResult}
+use Rattle.bucket_slots.specs.Sampling.{StartsSampling}
+use Rattle.bucket_table.specs.Resize.Asking.{AsksGrowth}
+use Rattle.bucket_table.specs.Resize.Growing.{Grows, WriterAsksGrowth}
+use Rattle.bucket_table.specs.Map.Preparing.{IsReady}
+use Rattle.bucket_table.specs.Resize.Turns.{MakesArray, TriesResize, made}
+use Rattle.bucket_table.specs.declared.arrays.plan.Plan.TheVariants.{GiveUp, Keep, Resize}
+use Rattle.bucket_table.proofs.Views.Keeping.{keeps_same}
+use Rattle.bucket_table.proofs.Resize.Turning.{new_vacant, turned_keeps, turned_placed}
+
+module _ {K V : Type 0} (kind hash : ℕ) (arrays : ArraysView K V) (index : ℕ) (array : List (BucketView K V))
+    (stands : array ≡ arrays.current) where
+  pub not_full : (b : BucketView K V) (len : ℕ) → b ≡ bucket_at array index → len ≡ length (pairs_in b) → len < 31
+      → WriterAsksGrowth kind hash arrays index → ⊥
+  not_full b len here counted few asks =
+      let many = rw (← stands, ← here) at asks.full in
+      omega (arith, many, few, counted)
+
+  pub not_sampled : (tested : Bool) → (IsTrue tested ↔ StartsSampling (length array) hash) → tested ≡ false
+      → WriterAsksGrowth kind hash arrays index → ⊥
+  not_sampled tested means refused asks = false≢true (sym refused ∙ means.1 (rw (← stands) at asks.sampled))
+
+  pub asks_by : (b : BucketView K V) (len : ℕ) (sampled asked : Bool) → b ≡ bucket_at array index → len ≡ length (pairs_in b) → 31 ≤ len
+      → (IsTrue sampled ↔ StartsSampling (length array) hash) → sampled ≡ true → (IsTrue asked ↔ AsksGrowth arrays index)
+      → (kind ≡ CACHE → 32 * length array ≡ arrays.maximum → ⊥) → IsTrue asked ↔ WriterAsksGrowth kind hash arrays index
+  asks_by b len sampled asked here counted many means yes_sampled near may = (
+    λ h. record {
+      may_grow = rw (← stands) may;
+      full = rw (← stands, ← here) (omega (arith, many, counted));
+      sampled = rw (← stands) (means.0 yes_sampled);
+      near = near.0 h;
+    },
+    λ asks. near.1 asks.near,
+  )
+
+module _ {K V : Type 0} where
+  no_live_here : (old : List (BucketView K V)) (index : ℕ) → entries_among old ≡ [] → index < length old
+      → 0 < length (pairs_in (bucket_at old index)) → ⊥
+  no_live_here [] index empty within some = absurd (omega (arith, within))
+  no_live_here (b ∷ bs) zero empty within some =
+      let both = length-append (entries_in b) (entries_among bs) in
+      let here = length-entries_in b in
+      let none = ap (λ (es : List ((K × V) × ℕ)). length es) empty in
+      absurd (omega (arith, both, here, none, some))
+  no_live_here (b ∷ bs) (suc index) empty within some =
+      let both = length-append (entries_in b) (entries_among bs) in
+      let none = ap (λ (es : List ((K × V) × ℕ)). length es) empty in
+      no_live_here bs index (nil_from_length (entries_among bs) (omega (arith, both, none))) (omega (arith, within)) some
+
+  -- where a slot is live, a resize gives no array up, so it is a growth
+  pub grown : {E : Type 0} (old new : ArraysView K V) (answer : Result Bool E) (index : ℕ) → TriesResize old answer new
+      → index < length old.current
+      → 0 < length (pairs_in (bucket_at old.current index)) → MatchResult answer (λ moved. Grows moved old new) (λ refused. new ≡ old)
+  grown old new (Ok moved) index (Keep, is, answered, turns) within some = rw answered turns
+  grown old new (Ok moved) index (GiveUp, is, answered, turns) within some = absurd (no_live_here old.current index turns.empty within some)
+  grown old new (Ok moved) index (Resize capacity, is, answered, turns) within some = rw answered (capacity, turns)
+  grown old new (Err refused) index (capacity, is, same) within some = same
+
+  -- the bucket that was found before a growth may be locked after it
+  pub locked_grown : (moved : Bool) (index : ℕ) (old new : ArraysView K V) (hash : K → ℕ) → Grows moved old new → ArePlaced hash old
+      → IsLocked old false index → IsLocked new moved index
+  locked_grown true index old new hash (capacity, is) law locked = rw is.new_is (record {
+    within = locked.within;
+    killed = λ e. absurd (false≢true (sym e));
+    alive = λ e. law.homes.alive index locked.within;
+    vacant = λ e j inside. new_vacant capacity is.fresh j is.fresh_is inside;
+  })
+  locked_grown false index old new hash same law locked = rw same locked
+
+  pub home_grown : (moved : Bool) (hash index : ℕ) (old new : ArraysView K V) → Grows moved old new → IsHome (length old.current) hash index
+      → IsHome (length (buckets_on new moved)) hash index
+  home_grown true hash index old new (capacity, is) home = rw is.new_is home
+  home_grown false hash index old new same home = rw same home
+
+  pub locked_ready : (hash index : ℕ) (arrays : ArraysView K V) → IsReady arrays hash → IsHome (length arrays.current) hash index
+      → IsLocked arrays false index
+  locked_ready hash index arrays ready home = record {
+    within = home.within;
+    killed = λ e. ready.killed index home;
+    alive = λ e. absurd (false≢true e);
+    vacant = λ e. absurd (false≢true e);
+  }
+
+  -- a first array, where there is none
+  pub kept_made : (old new : ArraysView K V) → MakesArray old new → Keeps old new
+  kept_made old new h = elim (cases_lt 0 (length old.current)) [
+    | inl some ↦ rw (h.0 some) (keeps_same old)
+    | inr none ↦ turned_keeps made old new (h.1 (omega (arith, none)))
+  ]
+
+  pub placed_made : (hash : K → ℕ) (old new : ArraysView K V) → MakesArray old new → ArePlaced hash old → ArePlaced hash new
+  placed_made hash old new h law = elim (cases_lt 0 (length old.current)) [
+    | inl some ↦ rw (h.0 some) law
+    | inr none ↦ turned_placed hash made old new (h.1 (omega (arith, none))) law
+  ]

@@ -1,0 +1,54 @@
+-- What the code of a plan computes, in the words of the plan.
+use Rattle.bucket_table.proofs.Words.{BucketView, IsLargeSample, IsOptimalCapacity, List, ap, arith, length, live_counts, refl, slots_of}
+use Rattle.bucket_table.proofs.Words.{subst, sym, ℕ, ◌*◌, ◌+◌, ◌-◌, ◌/◌, ◌<◌, ◌∙◌, ◌≡◌, ◌≤◌}
+use Rattle.std.proofs.lemmas.Nat.{pow-add}
+use Rattle.std.specs.Int.{IsPowerOfTwo}
+use Rattle.bucket_slots.specs.Sampling.{full_sample}
+use Rattle.bucket_slots.specs.Sizing.{IsPowerIn}
+use Rattle.bucket_table.specs.Resize.ResizePlan.{IsPlanTo, middle_estimate}
+use Rattle.bucket_table.specs.Resize.Sampling.{estimate}
+use Rattle.bucket_table.specs.declared.arrays.plan.Plan.TheVariants.{Keep, Resize}
+use Rattle.bucket_table.proofs.Resize.Samples.{length-live_counts}
+
+-- an array's slots are a power of two
+pub slots_in : (len slots maximum : ℕ) → IsPowerOfTwo len → 2 ≤ len → slots ≡ 32 * len → 32 * len ≤ maximum → IsPowerIn 1 maximum slots
+slots_in len slots maximum (k, is) several slots_is within = record {
+  power = (5 + k, slots_is ∙ ap (λ (n : ℕ). 32 * n) is ∙ sym (pow-add 2 5 k));
+  at_least = omega arith;
+  at_most = omega arith;
+}
+
+module _ {K V : Type 0} (buckets : List (BucketView K V)) where
+  pub slots_are : (slots : ℕ) → slots ≡ 32 * length buckets → slots ≡ slots_of (live_counts buckets)
+  slots_are slots is = is ∙ ap (λ (n : ℕ). 32 * n) (sym (length-live_counts buckets))
+
+  pub middle_is : (len full middle : ℕ) → len ≡ length buckets → full ≡ full_sample (length buckets)
+      → middle ≡ estimate (live_counts buckets) ((len - full) / 2) full → middle ≡ middle_estimate (live_counts buckets)
+  middle_is len full middle len_is full_is is = is ∙ ap (λ (n : ℕ). estimate (live_counts buckets) ((n - full) / 2) full) len_is
+      ∙ ap (λ (n : ℕ). estimate (live_counts buckets) ((length buckets - n) / 2) n) full_is
+      ∙ ap (λ (n : ℕ). estimate (live_counts buckets) ((n - full_sample n) / 2) (full_sample n)) (sym (length-live_counts buckets))
+
+  pub large_is : (large : ℕ) → IsLargeSample (length buckets) large → IsLargeSample (length (live_counts buckets)) large
+  large_is large is = subst (λ (n : ℕ). IsLargeSample n large) (sym (length-live_counts buckets)) is
+
+pub optimal_at : (slots s entries e minimum maximum capacity : ℕ) → slots ≡ s → entries ≡ e
+    → IsOptimalCapacity slots entries minimum maximum capacity → IsOptimalCapacity s e minimum maximum capacity
+optimal_at slots s entries e minimum maximum capacity slots_is entries_is is =
+    subst (λ (n : ℕ). IsOptimalCapacity n e minimum maximum capacity) slots_is
+    (subst (λ (n : ℕ). IsOptimalCapacity slots n minimum maximum capacity) entries_is is)
+
+-- a shrinking is given up, or done
+pub given_up : (slots capacity asked : ℕ) (P : ℕ → Type 0) → capacity < asked → capacity < slots → P asked → IsPlanTo slots capacity P Keep
+given_up slots capacity asked P below less is = record {
+  unchanged = λ e. refl;
+  greater = λ more. absurd (omega arith);
+  less = λ h. (asked, is, λ b. refl, λ le. absurd (omega arith));
+}
+
+pub shrunk : (slots capacity asked : ℕ) (P : ℕ → Type 0) → asked ≤ capacity → capacity < slots
+    → P asked → IsPlanTo slots capacity P (Resize capacity)
+shrunk slots capacity asked P le less is = record {
+  unchanged = λ e. absurd (omega arith);
+  greater = λ more. refl;
+  less = λ h. (asked, is, λ below. absurd (omega arith), λ b. refl);
+}

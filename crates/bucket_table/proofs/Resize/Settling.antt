@@ -1,0 +1,47 @@
+-- A resize after the minimum was set, and what it keeps of the map.
+use Rattle.bucket_table.proofs.Words.{ArePlaced, ArraysView, Bool, Err, IsEquivalence, IsOneMap, Keeps, MapState, Ok, Result, false}
+use Rattle.bucket_table.proofs.Words.{pairs_of, refl, true, ℕ, ◌+◌, ◌-◌, ◌≡◌}
+use Rattle.bucket_table.specs.Map.MapState.{LowersMinimum, RaisesMinimum, state_of}
+use Rattle.bucket_table.specs.Resize.Turns.{Releases, Reserves, Resizes, TriesResize, with_minimum}
+use Rattle.bucket_table.specs.declared.arrays.plan.Plan.TheVariants.{Resize}
+use Rattle.bucket_table.proofs.Map.MapKept.{keeps_pairs, one_map_kept}
+
+module _ {K V : Type 0} where
+  pub resizes : {E : Type 0} (old new : ArraysView K V) (answer : Result Bool E) → TriesResize old answer new → Resizes old new
+  resizes old new (Ok moved) (plan, is, answered, turns) = (plan, is, (false, turns))
+  resizes old new (Err refused) (capacity, is, same) = (Resize capacity, is, (true, same))
+
+  -- the law says nothing of the minimum
+  pub placed_with : (hash : K → ℕ) (arrays : ArraysView K V) (least : ℕ) → ArePlaced hash arrays
+      → ArePlaced hash (with_minimum arrays least)
+  placed_with hash arrays least law = record { homes = law.homes; rehashed = law.rehashed }
+
+  pub one_map_raised : (eq : K → K → Bool) → IsEquivalence eq → (hash : K → ℕ) (old new : ArraysView K V) (least : ℕ) → IsOneMap eq hash old
+      → Keeps (with_minimum old least) new → ArePlaced hash new → IsOneMap eq hash new
+  one_map_raised eq laws hash old new least one kept placed =
+      one_map_kept eq laws hash (with_minimum old least) new
+      (record { distinct = one.distinct; placed = placed_with hash old least one.placed }) kept placed
+
+module _ {K V H : Type 0} (kind : ℕ) (hasher : H) (old new : ArraysView K V) where
+  abbrev state : ArraysView K V → MapState K V H
+  state arrays = state_of kind (record { hasher = hasher; arrays = arrays })
+
+  -- a resize after the minimum was set changes no other part of the map
+  settled : (least : ℕ) → Keeps (with_minimum old least) new → state new ≡ record (state old) { minimum = least; pairs = pairs_of new }
+  settled least kept = rw (kept.minimum, kept.maximum) refl
+
+  pub raises : (additional answer : ℕ) → Reserves additional old answer new → Keeps (with_minimum old (old.minimum + answer)) new
+      → RaisesMinimum additional (state old) answer (state new)
+  raises additional answer reserves kept = record {
+    too_much = λ much. (reserves.too_much much).0;
+    raised = λ fits. (reserves.raised fits).0;
+    kept = record { pairs = keeps_pairs _ _ kept; others = settled (old.minimum + answer) kept };
+  }
+
+  pub lowers : (released answer : ℕ) → Releases released old answer new → Keeps (with_minimum old (old.minimum - answer)) new
+      → LowersMinimum released (state old) answer (state new)
+  lowers released answer releases kept = record {
+    too_much = λ much. (releases.too_much much).0;
+    lowered = λ fits. (releases.lowered fits).0;
+    kept = record { pairs = keeps_pairs _ _ kept; others = settled (old.minimum - answer) kept };
+  }

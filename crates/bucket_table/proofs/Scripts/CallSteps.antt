@@ -1,0 +1,77 @@
+-- What a call of a script does to the map, after the calls of the table that it makes.
+use Rattle.bucket_table.proofs.Words.{AreArrays, ArraysView, Bool, Contains-permutation, IsAbsent, IsPermutation-cons, IsPermutation-refl}
+use Rattle.bucket_table.proofs.Words.{IsPermutation-sym, IsPermutation-trans, IsTrue, KeepsPairs, List, MapState, Ok, Result, [], ap, arith}
+use Rattle.bucket_table.proofs.Words.{counted, counted_to, false, length, length_permutation, min, pairs_of, refl, subst, sym, ℕ, ◌-◌, ◌<◌}
+use Rattle.bucket_table.proofs.Words.{◌^◌, ◌↔◌, ◌∙◌, ◌∷◌, ◌≡◌}
+use Rattle.bucket_table.specs.Map.LookingUp.{IsThere}
+use Rattle.bucket_table.specs.Map.MapState.{AddsPair, ChangesValue}
+use Rattle.bucket_table.specs.Map.Preparing.{Prepares}
+use Rattle.bucket_table.proofs.Walking.CursorSteps.{no_map}
+
+module _ {K V H : Type 0} where
+  -- nothing was done
+  pub kept : (a : MapState K V H) → KeepsPairs a a
+  kept a = record { pairs = IsPermutation-refl a.pairs; others = refl }
+
+  others_after : (a b d : MapState K V H) → KeepsPairs a b → d ≡ record b { pairs = d.pairs } → d ≡ record a { pairs = d.pairs }
+  others_after a b d keeps others = others ∙ ap (λ (m : MapState K V H). record {
+    kind = m.kind;
+    hasher = m.hasher;
+    minimum = m.minimum;
+    maximum = m.maximum;
+    pairs = d.pairs;
+  }) keeps.others
+
+  -- another order, and then what the next call does
+  pub then_kept : (a b d : MapState K V H) → KeepsPairs a b → KeepsPairs b d → KeepsPairs a d
+  then_kept a b d keeps more = record {
+    pairs = IsPermutation-trans a.pairs b.pairs d.pairs keeps.pairs more.pairs;
+    others = others_after a
+        b d keeps more.others;
+  }
+
+  pub then_added : (a b d : MapState K V H) (p : K × V) → KeepsPairs a b → AddsPair b p d → AddsPair a p d
+  then_added a b d p keeps adds = record {
+    pairs = IsPermutation-trans (p ∷ a.pairs) (p ∷ b.pairs) d.pairs (IsPermutation-cons p a.pairs b.pairs keeps.pairs) adds.pairs;
+    others = others_after a b d keeps adds.others;
+  }
+
+  pub then_changed : (a b d : MapState K V H) (p : K × V) (value : V) → KeepsPairs a b → ChangesValue b p value d → ChangesValue a p value d
+  then_changed a b d p value keeps changes = record {
+    rest = changes.rest;
+    before = IsPermutation-trans a.pairs b.pairs (p ∷ changes.rest) keeps.pairs changes.before;
+    after = record { pairs = changes.after.pairs; others = others_after a b d keeps changes.after.others };
+  }
+
+  pub there_before : (eq : K → K → Bool) (k : K) (a b : MapState K V H) (p : K × V) → KeepsPairs a b
+      → IsThere eq k b.pairs p → IsThere eq k a.pairs p
+  there_before eq k a b p keeps there = (
+    Contains-permutation b.pairs a.pairs p (IsPermutation-sym a.pairs b.pairs keeps.pairs) there.0,
+    there.1,
+  )
+
+  -- where there is no pair
+  pub absent_of_none : (eq : K → K → Bool) (k : K) (a : MapState K V H) → a.pairs ≡ [] → IsAbsent eq k a.pairs
+  absent_of_none eq k a none = subst (λ (ps : List (K × V)). IsAbsent eq k ps) (sym none) (λ i d below. absurd (omega arith))
+
+  pub counted_before : (n : ℕ) (a b : MapState K V H) → KeepsPairs a b → n ≡ counted_to b.pairs → n ≡ counted_to a.pairs
+  counted_before n a b keeps counted = counted ∙ ap (λ m. min m (2 ^ 64 - 1)) (length_permutation a.pairs b.pairs keeps.pairs)
+
+  -- no pair is left in another order
+  pub none_before : (a b : MapState K V H) → KeepsPairs a b → b.pairs ≡ [] → a.pairs ≡ []
+  none_before a b keeps none = none_of a.pairs (sym (length_permutation a.pairs b.pairs keeps.pairs)
+      ∙ ap (λ (ps : List (K × V)). length ps) none)
+    where
+      none_of : (ps : List (K × V)) → length ps ≡ 0 → ps ≡ []
+      none_of [] e = refl
+      none_of (p ∷ ps) e = absurd (omega arith)
+
+  pub some_before : (truth : Bool) (a b : MapState K V H) → KeepsPairs a b
+      → IsTrue truth ↔ (0 < length b.pairs) → IsTrue truth ↔ (0 < length a.pairs)
+  some_before truth a b keeps has = subst (λ n. IsTrue truth ↔ (0 < n)) (length_permutation a.pairs b.pairs keeps.pairs) has
+
+module _ {K V : Type 0} where
+  -- without a current array there is no old one, and no pair
+  pub empty_without : {E : Type 0} (new : ArraysView K V) (hash : ℕ) (r : Result Bool E) → Prepares new hash r → AreArrays new
+      → r ≡ Ok false → pairs_of new ≡ []
+  empty_without {E} new hash r ready law is = no_map new law (subst (λ (x : Result Bool E). Prepares new hash x) is ready)

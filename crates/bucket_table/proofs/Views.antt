@@ -1,0 +1,10 @@
+-- What arrays keep where one bucket changes, and what they lend.
+pub mod Keeping
+pub mod SettingsKept
+pub mod MarksKept
+pub mod Killed
+pub mod Laws
+pub mod Lent
+pub mod SideChanges
+pub mod LockedLaw
+pub mod LockedValues

@@ -1,0 +1,63 @@
+-- Marks of arrays: that none is new where a bucket changes, where a bucket's pairs move on, and where an array comes or goes.
+use Rattle.bucket_table.proofs.Words.{ArraysView, Bool, BucketView, HasNoNewMark, KeepsEntries, List, MarksBy, [], ap, arith, arrays_with}
+use Rattle.bucket_table.proofs.Words.{bucket_at, bucket_on, by-no_new, empty_bucket, false, length, marks_among, marks_in, marks_of}
+use Rattle.bucket_table.proofs.Words.{no_new-refl, no_new-trans, refl, set, suc, true, ℕ, ◌++◌, ◌∙◌, ◌∷◌, ◌≡◌}
+use Rattle.bucket_slots.proofs.MarkCallerLemmas.{by-append, by-set, no_new-append, no_new-at, no_new-both, no_new-front, no_new-rest}
+use Rattle.bucket_slots.proofs.MarkCallerLemmas.{no_new-set}
+
+module _ {K V : Type 0} where
+  -- another bucket that brings no mark
+  pub marks_among-set : (c : List (BucketView K V)) (j : ℕ) (b : BucketView K V) → HasNoNewMark (marks_in (bucket_at c j)) (marks_in b)
+      → HasNoNewMark (marks_among c) (marks_among (set c j b))
+  marks_among-set c j b none = no_new-set marks_in [] c j b empty_bucket none
+
+  -- the marks of every bucket are the same
+  pub marks_alike : (c d : List (BucketView K V)) → length d ≡ length c
+      → ((i : ℕ) → marks_in (bucket_at d i) ≡ marks_in (bucket_at c i)) → marks_among d ≡ marks_among c
+  marks_alike [] [] long each = refl
+  marks_alike [] (b ∷ d) long each = absurd (omega arith)
+  marks_alike (a ∷ c) [] long each = absurd (omega arith)
+  marks_alike (a ∷ c) (b ∷ d) long each =
+      let first : marks_in b ≡ marks_in a = each 0 in
+      let rest = marks_alike c d (omega arith) (λ i. each (suc i)) in
+      ap (λ l. l ++ marks_among d) first ∙ ap (λ l. marks_in a ++ l) rest
+
+  pub marks_among-kept : (c d : List (BucketView K V)) → KeepsEntries c d → marks_among d ≡ marks_among c
+  marks_among-kept c d kept = marks_alike c d kept.len kept.marks
+
+  -- the pairs of bucket `index` have moved on, and another bucket stands in its place that brings no mark beside what is left
+  pub marks_moved : (c l d : List (BucketView K V)) (index : ℕ) (left after : BucketView K V)
+      → HasNoNewMark (marks_in (bucket_at l index) ++ marks_among c) (marks_in left ++ marks_among d)
+      → HasNoNewMark (marks_in left) (marks_in after)
+      → HasNoNewMark (marks_among c ++ marks_among l) (marks_among d ++ marks_among (set l index after))
+  marks_moved c l d index left after moved none =
+      let here = marks_in (bucket_at l index) in
+      let all = marks_among c ++ marks_among l in
+      let source = no_new-at marks_in l index empty_bucket refl in
+      let turned = no_new-both (marks_among c ++ here) here (marks_among c) (no_new-rest (marks_among c) here)
+      (no_new-front (marks_among c) here) in
+      let placed = no_new-trans _ _ _ turned moved in
+      let came = no_new-trans _ _ _ placed (no_new-rest (marks_in left) (marks_among d)) in
+      let stayed = no_new-trans _ _ _ placed (no_new-trans _ _ _ (no_new-front (marks_in left) (marks_among d)) none) in
+      let wider = no_new-append (marks_among c) (marks_among l) (marks_among c) here (no_new-refl (marks_among c)) source in
+      no_new-both all (marks_among d) (marks_among (set l index after)) (no_new-trans _ _ _ wider came)
+      (no_new-set marks_in (marks_among c) l index after empty_bucket stayed)
+
+module _ {K V : Type 0} (epoch : ℕ) where
+  by-set_at : (buckets : List (BucketView K V)) (index : ℕ) (left : BucketView K V) → MarksBy epoch (marks_in (bucket_at buckets index))
+      (marks_in left)
+      → MarksBy epoch (marks_among buckets) (marks_among (set buckets index left))
+  by-set_at buckets index left here = by-set epoch marks_in buckets index left empty_bucket refl here
+
+  -- another bucket, whose marks are its own or of an epoch
+  pub by-bucket : (arrays : ArraysView K V) (side : Bool) (index : ℕ) (left : BucketView K V)
+      → MarksBy epoch (marks_in (bucket_on arrays side index)) (marks_in left)
+      → MarksBy epoch (marks_of arrays) (marks_of (arrays_with arrays side index left))
+  by-bucket arrays false index left here =
+      let rest = marks_among arrays.linked in
+      by-append epoch (marks_among arrays.current) rest _ rest (by-set_at arrays.current index left here)
+      (by-no_new epoch rest rest (no_new-refl rest))
+  by-bucket arrays true index left here =
+      let front = marks_among arrays.current in
+      by-append epoch front (marks_among arrays.linked) front _ (by-no_new epoch front front (no_new-refl front))
+      (by-set_at arrays.linked index left here)

@@ -1,0 +1,139 @@
+-- A bucket is gone through by a pointer, and what a test refuses is taken out.
+use Rattle.bucket_table.proofs.Words.{AllByRecursion, Bool, BucketView, IsPermutation, IsPermutation-append_right, IsPermutation-map}
+use Rattle.bucket_table.proofs.Words.{IsPermutation-refl, IsPermutation-trans, List, MovesToNext, Place, Some, [], ap, arith, cond}
+use Rattle.bucket_table.proofs.Words.{entries_in, false, filter, is_live, length, length-append, length-map, length_permutation}
+use Rattle.bucket_table.proofs.Words.{live_from_pair, map, map-entries_in, min, not, not_from_false, not_from_true, null_place, pair_of}
+use Rattle.bucket_table.proofs.Words.{pairs_ahead, pairs_in, read_apart, refl, slot_in, sym, true, ℕ, ◌++◌, ◌+◌, ◌-◌, ◌^◌, ◌∙◌, ◌∷◌, ◌≡◌}
+use Rattle.std.proofs.lemmas.Bool.{not-false}
+use Rattle.std.proofs.lemmas.List.Sorted.{IsPermutation-middle}
+use Rattle.std.specs.Option.{option_map}
+use Rattle.bucket_table.specs.Walking.Retains.{Retains}
+use Rattle.bucket_table.proofs.Walking.Each.{each_implies, map_append, none_pass, nothing}
+use Rattle.bucket_table.proofs.Walking.Filters.{IsPermutation-filter}
+
+module _ {K V : Type 0} where
+  -- the next slot is live, and one pair fewer is left once it is taken
+  pub next_live : (s : BucketView K V) (old new : Place) → MovesToNext s old new → is_live (slot_in s new) ≡ true
+  next_live s old new m = live_from_pair (slot_in s new) m.pair m.here
+
+  -- entries up to order are pairs up to order
+  pub pairs_moved : (xs : List ((K × V) × ℕ)) (s t : BucketView K V) → IsPermutation (entries_in s) (xs ++ entries_in t)
+      → IsPermutation (pairs_in s) (map (λ (e : (K × V) × ℕ). e.0) xs ++ pairs_in t)
+  pairs_moved xs s t moved =
+      let f : (K × V) × ℕ → K × V = λ e. e.0 in
+      rw (← map-entries_in s, ← map-entries_in t, ← map_append f xs (entries_in t)) (IsPermutation-map f _ _ moved)
+
+  -- the pair that a pointer reads is the one that a walk moved to
+  pub same_pair : (now : BucketView K V) (at next : Place) (m : MovesToNext now at next) (k : K) (v : V)
+      → option_map (λ p. p.0) (pair_of (slot_in now next)) ≡ Some k
+      → option_map (λ p. p.1) (pair_of (slot_in now next)) ≡ Some v → m.pair ≡ (k, v)
+  same_pair now at next m k v first second =
+      let read = read_apart (slot_in now next) k v (live_from_pair (slot_in now next) m.pair m.here) first second in
+      let same : Some m.pair ≡ Some (k, v) = sym m.here ∙ read in
+      cc
+
+module _ {K V : Type 0} (test : K × V → Bool) where
+  abbrev pub refuses : K × V → Bool
+  refuses p = not (test p)
+
+  abbrev pub refused_len : List (K × V) → ℕ
+  refused_len ps = length (filter refuses ps)
+
+  front_len : (p : K × V) (ps : List (K × V)) → test p ≡ true → refused_len (p ∷ ps) ≡ refused_len ps
+  front_len p ps e = ap (λ b. length (cond b (p ∷ filter refuses ps) (filter refuses ps))) (not_from_true (test p) e)
+
+  front_more : (p : K × V) (ps : List (K × V)) → test p ≡ false → refused_len (p ∷ ps) ≡ refused_len ps + 1
+  front_more p ps e = ap (λ b. length (cond b (p ∷ filter refuses ps) (filter refuses ps))) (not_from_false (test p) e) ∙ omega arith
+
+module _ {K V : Type 0} (IsTest : (K × V → Bool) → Type 0) where
+  -- all that a test refuses is ahead, and what is gone it refused
+  pub record IsRetaining (old now : BucketView K V) (at : Place) (count : ℕ) : Type 0 where
+    pub gone : List ((K × V) × ℕ)
+    pub parts : IsPermutation (entries_in old) (gone ++ entries_in now)
+    pub alive : now.killed ≡ old.killed
+    pub counted : count ≡ min (length gone) (2 ^ 64 - 1)
+    pub refused : (test : K × V → Bool) → IsTest test → AllByRecursion (λ entry. test entry.0 ≡ false) gone
+    pub ahead : (test : K × V → Bool) → IsTest test → refused_len test (pairs_in now) ≡ refused_len test (pairs_ahead now at)
+    pub unchanged : count ≡ 0 → now ≡ old
+
+  pub sets_out : (old : BucketView K V) (at : Place) → at ≡ null_place → IsRetaining old old at 0
+  sets_out old at e = record {
+    gone = [];
+    parts = IsPermutation-refl (entries_in old);
+    alive = refl;
+    counted = omega arith;
+    refused = λ test means. tt;
+    ahead = λ test means. ap (λ p. refused_len test (pairs_ahead old p)) (sym e);
+    unchanged = λ none. refl;
+  }
+
+  pub passes : (old now : BucketView K V) (at next : Place) (count : ℕ)
+      (m : MovesToNext now at next) → ((test : K × V → Bool) → IsTest test → test m.pair ≡ true)
+      → IsRetaining old now at count → IsRetaining old now next count
+  passes old now at next count m keeps r = record {
+    gone = r.gone;
+    parts = r.parts;
+    alive = r.alive;
+    counted = r.counted;
+    refused = r.refused;
+    ahead = λ test means. r.ahead test means ∙ ap (refused_len test) m.ahead ∙ front_len test m.pair
+        (pairs_ahead now next) (keeps test means);
+    unchanged = r.unchanged;
+  }
+
+  pub takes : (old now left : BucketView K V) (at next after : Place) (count more : ℕ)
+      (m : MovesToNext now at next) → ((test : K × V → Bool) → IsTest test → test m.pair ≡ false)
+      → left.killed ≡ now.killed → ((byte : ℕ) × IsPermutation (entries_in now)
+      ((m.pair, byte) ∷ entries_in left)) → pairs_ahead left after ≡ pairs_ahead now next
+      → more ≡ min (count + 1) (2 ^ 64 - 1) → IsRetaining old now at count → IsRetaining old left after more
+  takes old now left at next after count more m refuses_it alive (byte, out) same is r =
+      let out_pairs : IsPermutation (pairs_in now) (m.pair ∷ pairs_in left) = pairs_moved ((m.pair, byte) ∷ []) now left out in
+      record {
+        gone = (m.pair, byte) ∷ r.gone;
+        parts = IsPermutation-trans _ _ _ r.parts (IsPermutation-trans _ _ _ (IsPermutation-append_right r.gone _ _ out)
+            (IsPermutation-middle r.gone (m.pair, byte) (entries_in left)));
+        alive = alive ∙ r.alive;
+        counted = let so_far = r.counted in omega (arith, is, so_far);
+        refused = λ test means. (refuses_it test means, r.refused test means);
+        ahead = λ test means.
+            let no = refuses_it test means in
+            let here = length_permutation _ _ (IsPermutation-filter (refuses test) _ _ out_pairs) in
+            let one = front_more test m.pair (pairs_in left) no in
+            let ahead = ap (refused_len test) m.ahead in
+            let two = front_more test m.pair (pairs_ahead now next) no in
+            let three = ap (refused_len test) same in
+            let so_far = r.ahead test means in
+            omega (arith, so_far, here, one, ahead, two, three);
+        unchanged = λ none. absurd (omega (arith, is, none));
+      }
+
+  pub retained : (old now : BucketView K V) (at : Place) (count : ℕ) → pairs_ahead now at ≡ []
+      → IsRetaining old now at count → Retains IsTest old now count
+  retained old now at count e r = record {
+    gone = r.gone;
+    parts = r.parts;
+    alive = r.alive;
+    counted = r.counted;
+    refused = r.refused;
+    kept = λ test means.
+        let none = none_pass (refuses test) (pairs_in now) (nothing _ (r.ahead test means ∙ ap (refused_len test) e)) in
+        each_implies (λ p. refuses test p ≡ false) (λ p. test p ≡ true) (λ p h. not-false (test p) h) (pairs_in now) none;
+    unchanged = r.unchanged;
+  }
+
+module _ {K V : Type 0} (IsTest : (K × V → Bool) → Type 0) where
+  -- a test that refuses all leaves none, and counts all
+  pub retains_none : (old new : BucketView K V) (count : ℕ) → IsTest (λ pair. false) → Retains IsTest old new count
+      → (pairs_in new ≡ []) × (count ≡ min (length (pairs_in old)) (2 ^ 64 - 1))
+  retains_none old new count means r =
+      let first : (K × V) × ℕ → K × V = λ e. e.0 in
+      let none : pairs_in new ≡ [] = no_elements (pairs_in new) (r.kept (λ pair. false) means) in
+      let parts = length_permutation _ _ (pairs_moved r.gone old new r.parts) in
+      let both = length-append (map first r.gone) (pairs_in new) in
+      let gone = length-map r.gone first in
+      let left = ap length none in
+      (none, let told = r.counted in omega (arith, told, parts, both, gone, left))
+    where
+      no_elements : (ps : List (K × V)) → AllByRecursion (λ pair. false ≡ true) ps → ps ≡ []
+      no_elements [] h = refl
+      no_elements (p ∷ ps) h = let no : false ≡ true = h.0 in absurd cc

@@ -1,0 +1,221 @@
+-- A cursor sweeps a table.
+use Rattle.bucket_table.proofs.Words.{ArePlaced, ArraysView, Bool, BucketView, Err, HasNoNewMark, IsLength, IsLocked, IsPermutation}
+use Rattle.bucket_table.proofs.Words.{KeepsOpenTickets, KeepsPairs, MarksBy, Ok, Place, Result, TableView, [], ap, arith, arrays_with}
+use Rattle.bucket_table.proofs.Words.{bound_of, bucket_on, by-no_new, by-trans, counted, false, length, marks_of, min, pairs_ahead}
+use Rattle.bucket_table.proofs.Words.{pairs_in, pairs_of, refl, subst, sym, ℕ, ◌++◌, ◌+◌, ◌-◌, ◌<◌, ◌^◌, ◌∙◌, ◌∷◌, ◌≡◌, ◌≢◌, ◌≤◌}
+use Rattle.std.proofs.lemmas.List.{length-set}
+use Rattle.bucket_table.specs.Walking.Cursors.{IsFoundFrom, Leaves, ReachesPast, SetsOut, ShrinksThenPasses}
+use Rattle.bucket_table.specs.Map.MapState.{state_of}
+use Rattle.bucket_table.specs.Walking.Retains.{IsSwept, IsSweptBelow}
+use Rattle.bucket_table.specs.Views.Settings.{KeepsSettings}
+use Rattle.bucket_table.specs.Walking.Sweeps.{RetainsAt, SweepState, Sweeps, SweepsAt}
+use Rattle.bucket_table.specs.declared.hash_table.Missing.{Missing}
+use Rattle.bucket_table.specs.declared.hash_table.Missing.TheVariants.{Memory, Nothing}
+use Rattle.bucket_table.proofs.Walking.Bounds.{bound_fits}
+use Rattle.bucket_table.proofs.Walking.HomeSplit.{changed_there, splits, taken_there}
+use Rattle.bucket_table.proofs.Views.MarksKept.{by-bucket}
+use Rattle.bucket_table.proofs.Scripts.RunSteps.{run_more}
+use Rattle.bucket_table.proofs.Views.SettingsKept.{settings_both, settings_kept, settings_swept}
+use Rattle.bucket_table.proofs.Views.SideChanges.{arrays_with-same}
+use Rattle.bucket_table.proofs.Walking.Sweeping.{IsSweeping, sweep_begins, sweep_ends, sweep_moves, sweep_stops, sweep_visits}
+
+-- the hashes that a cursor has before it, and one more
+abbrev pub hashes_left : ℕ → Result ℕ Missing → ℕ
+hashes_left len (Ok index) = 2 ^ 64 + 1 - bound_of len (index + 1)
+hashes_left len (Err missing) = 0
+
+module _ {K V : Type 0} (IsTest : (K × V → Bool) → Type 0) (hash : K → ℕ) where
+  -- a sweep that is over: all is swept, or for want of memory what is below some bound
+  abbrev pub IsOver : ArraysView K V → ArraysView K V → ℕ → Missing → Type 0
+  IsOver old now count Nothing = (test : K × V → Bool) → IsTest test → IsSwept test (pairs_of old) (pairs_of now) count
+  IsOver old now count Memory =
+      (bound : ℕ) × ((test : K × V → Bool) → IsTest test → IsSweptBelow hash bound test (pairs_of old) (pairs_of now))
+
+  -- where a sweep stands between two buckets
+  abbrev pub SweepsOn : ArraysView K V → ArraysView K V → ℕ → Result ℕ Missing → Type 0
+  SweepsOn old now count (Ok index) = IsLocked now false index × IsSweeping IsTest hash (pairs_of old) (pairs_of now)
+      (bound_of (length now.current) index) (bound_of (length now.current) (index + 1)) count × (pairs_in (bucket_on now false index) ≢ [])
+  SweepsOn old now count (Err missing) = IsOver old now count missing
+
+  -- a sweep that has come to a bound goes on where a cursor does
+  sweep_goes : (old now next : ArraysView K V) (count high : ℕ) (found : Result ℕ Missing) (at : Place)
+      → IsSweeping IsTest hash (pairs_of old) (pairs_of now) high high count
+      → IsPermutation (pairs_of now) (pairs_of next) → IsFoundFrom hash high found next at
+      → ReachesPast high found next → SweepsOn old next count found
+  sweep_goes old now next count high (Ok index) at s kept goes past = (
+    goes.locked,
+    sweep_moves IsTest hash (pairs_of old) (pairs_of now) (pairs_of next) (bound_of (length next.current) index) high
+        (bound_of (length next.current) (index + 1)) count kept (omega (arith, past)) goes.passed s,
+    λ none. let there : [] ≡ goes.pair ∷ pairs_ahead (bucket_on next false index) at = sym none ∙ goes.first in cc,
+  )
+  sweep_goes old now next count high (Err Nothing) at s kept goes past = sweep_ends IsTest hash (pairs_of old) (pairs_of now)
+      (pairs_of next) high count s kept (goes.none refl)
+  sweep_goes old now next count high (Err Memory) at s kept goes past =
+      (high, λ test means. sweep_stops IsTest hash (pairs_of old) (pairs_of now) (pairs_of next) high count s kept test means)
+
+  -- nothing is swept yet
+  sweep_none : (old : ArraysView K V) → IsSweeping IsTest hash (pairs_of old) (pairs_of old) 0 0 0
+  sweep_none old = sweep_begins IsTest hash (pairs_of old) 0 0 (omega arith)
+
+  -- it sets out at the first live pair
+  sweep_sets_out : (old next : ArraysView K V) (found : Result ℕ Missing) (at : Place)
+      → IsPermutation (pairs_of old) (pairs_of next) → IsFoundFrom hash 0 found next at → SweepsOn old next 0 found
+  sweep_sets_out old next (Ok index) at kept goes = (
+    goes.locked,
+    sweep_moves IsTest hash (pairs_of old) (pairs_of old) (pairs_of next) (bound_of (length next.current) index) 0
+        (bound_of (length next.current) (index + 1)) 0 kept (omega arith) goes.passed (sweep_none old),
+    λ none. let there : [] ≡ goes.pair ∷ pairs_ahead (bucket_on next false index) at = sym none ∙ goes.first in cc,
+  )
+  sweep_sets_out old next (Err Nothing) at kept goes = sweep_ends IsTest hash (pairs_of old) (pairs_of old) (pairs_of next) 0 0
+      (sweep_none old) kept (goes.none refl)
+  sweep_sets_out old next (Err Memory) at kept goes =
+      (0, λ test means. sweep_stops IsTest hash (pairs_of old) (pairs_of old) (pairs_of next) 0 0 (sweep_none old) kept test means)
+
+  -- it has swept the bucket
+  sweep_through : {epoch : ℕ} (old now visited : ArraysView K V) (count taken more index : ℕ)
+      (place : Result ℕ Missing) → ArePlaced hash now → place ≡ Ok index → SweepsOn old now count place
+      → RetainsAt IsTest epoch now index taken visited → more ≡ min (count + taken) (2 ^ 64 - 1)
+      → IsSweeping IsTest hash (pairs_of old) (pairs_of visited) (bound_of (length now.current) (index + 1))
+      (bound_of (length now.current) (index + 1)) more
+  sweep_through old now visited count taken more index place law is s r counted =
+      let here = subst (λ (p : Result ℕ Missing). SweepsOn old now count p) is s in
+      let split = splits hash now index law here.0.within (here.0.killed refl) in
+      rw r.new_is (sweep_visits IsTest hash (length now.current) index (pairs_of old) (pairs_of now)
+      (pairs_of (arrays_with now false index r.left)) (bucket_on now false index) r.left count taken more here.1
+      (taken_there hash now index split) (changed_there hash now index split r.left) r.retains counted)
+
+module _ {K V : Type 0} where
+  -- a bucket that was swept leaves as many current buckets
+  same_len : {epoch : ℕ} (IsTest : (K × V → Bool) → Type 0) (now visited : ArraysView K V) (index taken : ℕ)
+      → RetainsAt IsTest epoch now index taken visited → length visited.current ≡ length now.current
+  same_len IsTest now visited index taken r = ap (λ (a : ArraysView K V). length a.current) r.new_is ∙ length-set now.current index r.left
+
+module _ {K V H : Type 0} where
+  -- a table's sweep goes on where its cursor does
+  goes_seen_by : (IsTest : (K × V → Bool) → Type 0) (hash : H → K → ℕ)
+      (old visited : TableView K V H) (next : ArraysView K V) (index count len : ℕ) (found : Result ℕ Missing) (at : Place)
+      → visited.hasher ≡ old.hasher → length visited.arrays.current ≡ len
+      → IsSweeping IsTest (hash old.hasher) (pairs_of old.arrays) (pairs_of visited.arrays)
+      (bound_of len (index + 1)) (bound_of len (index + 1)) count → IsPermutation (pairs_of visited.arrays) (pairs_of next)
+      → IsFoundFrom (hash visited.hasher) (bound_of (length visited.arrays.current) (index + 1)) found next at
+      → ReachesPast (bound_of (length visited.arrays.current) (index + 1)) found next
+      → SweepsOn IsTest (hash old.hasher) old.arrays next count found
+  goes_seen_by IsTest hash old visited next index count len found at same long s kept goes past =
+      let goes' = subst (λ (h : H). IsFoundFrom (hash h) (bound_of (length visited.arrays.current) (index + 1)) found next at) same goes in
+      let s' = subst (λ (n : ℕ). IsSweeping IsTest (hash old.hasher) (pairs_of old.arrays)
+      (pairs_of visited.arrays) (bound_of n (index + 1)) (bound_of n (index + 1)) count) (sym long) s in
+      sweep_goes IsTest (hash old.hasher) old.arrays visited.arrays next count (bound_of (length visited.arrays.current) (index + 1)) found
+      at s' kept goes' past
+
+module _ {K V : Type 0} (IsTest : (K × V → Bool) → Type 0) where
+  -- a sweep's course so far, and one bucket more
+  course_more : {epoch : ℕ} (old now visited next : ArraysView K V) (index count : ℕ) (here place : Result ℕ Missing)
+      → here ≡ Ok index → Sweeps IsTest epoch old (record { place = here; arrays = now })
+      → RetainsAt IsTest epoch now index count visited → ShrinksThenPasses (λ to. to) false index visited place next
+      → Sweeps IsTest epoch old (record { place = place; arrays = next })
+  course_more {epoch = epoch} old now visited next index count here place is s retained departs =
+      let before : SweepState K V = record { place = here; arrays = now } in
+      let after : SweepState K V = record { place = place; arrays = next } in
+      let step : SweepsAt IsTest epoch before index place after = record {
+        here = is;
+        next = refl;
+        visited = visited;
+        count = count;
+        retained = retained;
+        departs = departs;
+      } in
+      record {
+        first = s.first;
+        sets_out = s.sets_out;
+        indices = s.indices ++ index ∷ [];
+        places = s.places ++ place ∷ [];
+        run = run_more (SweepsAt IsTest epoch) s.first before after s.indices s.places index place s.run step;
+      }
+
+  -- without an old array nothing changes as long as no pair is refused
+  course_alone : {epoch : ℕ} (now visited next : ArraysView K V) (index taken : ℕ) (place : Result ℕ Missing)
+      → pairs_in (bucket_on now false index) ≢ [] → RetainsAt IsTest epoch now index taken visited
+      → ShrinksThenPasses (λ to. to) false index visited place next
+      → length now.linked ≡ 0 → taken ≡ 0 → next ≡ now
+  course_alone now visited next index taken place some r d alone none =
+      let same : visited ≡ now = r.new_is ∙ ap (λ (b : BucketView K V). arrays_with now false index b) (r.retains.unchanged none) ∙
+      arrays_with-same now false index in
+      let quiet : pairs_in (bucket_on visited false index) ≢ [] = subst (λ (a : ArraysView K V). pairs_in (bucket_on a false index) ≢ [])
+      (sym same) some in
+      let between : d.between ≡ visited = d.asked.not_asked (λ asked. quiet asked.0) in
+      let beside : length d.between.linked ≡ 0 = ap (λ (a : ArraysView K V). length a.linked) (between ∙ same) ∙ alone in
+      d.passes.alone beside ∙ between ∙ same
+
+module _ {K V H : Type 0} (IsTest : (K × V → Bool) → Type 0) (hash : H → K → ℕ) (kind epoch : ℕ) (old : TableView K V H) where
+  -- where a table's sweep stands between two buckets
+  pub record SweepStands (now : TableView K V H) (count : ℕ) (place : Result ℕ Missing) : Type 0 where
+    pub settings : KeepsSettings old now
+    pub on : SweepsOn IsTest (hash old.hasher) old.arrays now.arrays count place
+    pub course : Sweeps IsTest epoch old.arrays (record { place = place; arrays = now.arrays })
+    pub alone : length old.arrays.linked ≡ 0 → count ≡ 0 → now.arrays ≡ old.arrays
+    pub marks : MarksBy epoch (marks_of old.arrays) (marks_of now.arrays)
+
+  pub stands_first : (next : TableView K V H) (place : Result ℕ Missing) (at : Place)
+      → SetsOut kind hash old place at next → SweepStands next 0 place
+  stands_first next place at o = record {
+    settings = settings_kept kind old next o.map o.bag;
+    on = sweep_sets_out IsTest (hash old.hasher) old.arrays next.arrays place at o.map.pairs o.found;
+    course = record {
+      first = record { place = place; arrays = next.arrays };
+      sets_out = o.passes;
+      indices = [];
+      places = [];
+      run = refl;
+    };
+    alone = λ none zero_count. o.passes.alone none;
+    marks = by-no_new epoch (marks_of old.arrays) (marks_of next.arrays) o.marks;
+  }
+
+  -- a bucket was swept, and the cursor has left it
+  pub stands_next : (now visited next : TableView K V H) (count taken more index : ℕ) (here place : Result ℕ Missing) (at : Place)
+      → SweepStands now count here → here ≡ Ok index → ArePlaced (hash now.hasher) now.arrays
+      → visited.hasher ≡ now.hasher → RetainsAt IsTest epoch now.arrays index taken visited.arrays → more ≡ min (count + taken) (2 ^ 64 - 1)
+      → KeepsPairs (state_of kind visited) (state_of kind next) → KeepsOpenTickets visited.arrays.tickets next.arrays.tickets
+      → Leaves (hash visited.hasher) (bound_of (length visited.arrays.current) (index + 1)) place next.arrays at
+      → HasNoNewMark (marks_of visited.arrays) (marks_of next.arrays)
+      → ShrinksThenPasses (λ to. to) false index visited.arrays place next.arrays → SweepStands next more place
+  stands_next now visited next count taken more index here place at s is law same retained counted kept bag leaves none_new departs =
+      let law' = subst (λ (h : H). ArePlaced (hash h) now.arrays) s.settings.hasher law in
+      let seen = settings_both old now visited s.settings (settings_swept IsTest now visited index taken same retained) in
+      let on = sweep_through IsTest (hash old.hasher) old.arrays now.arrays visited.arrays count taken more index here law' is s.on retained
+      counted in
+      let some = (subst (λ (p : Result ℕ Missing). SweepsOn IsTest (hash old.hasher) old.arrays now.arrays count p) is s.on).2 in
+      record {
+        settings = settings_both old visited next seen (settings_kept kind visited next kept bag);
+        on = goes_seen_by IsTest hash old visited next.arrays index more _ place at seen.hasher
+            (same_len IsTest now.arrays visited.arrays index taken retained) on kept.pairs leaves.0 leaves.1;
+        course = course_more IsTest old.arrays now.arrays visited.arrays next.arrays index taken here place is s.course retained departs;
+        alone = λ none no_more.
+            let before = s.alone none (omega (arith, counted, no_more)) in
+            let beside : length now.arrays.linked ≡ 0 = ap (λ (a : ArraysView K V). length a.linked) before ∙ none in
+            course_alone IsTest now.arrays visited.arrays next.arrays index taken place some retained departs beside
+            (omega (arith, counted, no_more)) ∙ before;
+        marks = by-trans epoch (marks_of old.arrays) (marks_of visited.arrays) (marks_of next.arrays)
+            (by-trans epoch (marks_of old.arrays) (marks_of now.arrays) (marks_of visited.arrays) s.marks
+            (rw retained.new_is (by-bucket epoch now.arrays false index retained.left retained.marks)))
+            (by-no_new epoch (marks_of visited.arrays) (marks_of next.arrays) none_new);
+      }
+
+  -- fewer hashes are left then
+  pub fewer_hashes : (now : TableView K V H) (visited next : ArraysView K V) (count taken index : ℕ) (here place : Result ℕ Missing)
+      → SweepStands now count here → here ≡ Ok index → (0 < length now.arrays.current → IsLength (length now.arrays.current))
+      → RetainsAt IsTest epoch now.arrays index taken visited → ReachesPast (bound_of (length visited.current) (index + 1)) place next
+      → hashes_left (length next.current) place < hashes_left (length now.arrays.current) here
+  fewer_hashes now visited next count taken index here place s is long retained past =
+      let len : ℕ = length now.arrays.current in
+      let locked = (subst (λ (p : Result ℕ Missing). SweepsOn IsTest (hash old.hasher) old.arrays now.arrays count p) is s.on).0 in
+      let within : index < len = locked.within in
+      let same = same_len IsTest now.arrays visited index taken retained in
+      let past' = subst (λ (n : ℕ). ReachesPast (bound_of n (index + 1)) place next) same past in
+      subst (λ (p : Result ℕ Missing). hashes_left (length next.current) place < hashes_left len p) (sym is)
+      (fewer (bound_of len (index + 1)) place (bound_fits len index (long (omega (arith, within))) within) past')
+    where
+      fewer : (high : ℕ) (found : Result ℕ Missing) → high ≤ 2 ^ 64 → ReachesPast high found next
+          → hashes_left (length next.current) found < 2 ^ 64 + 1 - high
+      fewer high (Ok j) fits past = omega (arith, fits, past)
+      fewer high (Err missing) fits past = omega (arith, fits)

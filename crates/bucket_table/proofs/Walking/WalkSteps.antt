@@ -1,0 +1,316 @@
+-- A walk goes on by one bucket.
+use Rattle.bucket_table.proofs.Words.{AllByRecursion, ArraysView, Bool, BucketView, IsPermutation, IsPermutation-append_right}
+use Rattle.bucket_table.proofs.Words.{IsPermutation-refl, IsPermutation-trans, List, WorksUnits, [], and_from, ap, append_assoc, arith}
+use Rattle.bucket_table.proofs.Words.{arrays_with, bucket_on, cases_Bool, cases_lt, false, false_from_ne_true, filter, filter-append}
+use Rattle.bucket_table.proofs.Words.{filter_agree, has_home_in, inl, inr, interval_width, le-leb, leb-true, length, lt-ltb, ltb-true}
+use Rattle.bucket_table.proofs.Words.{mul-le-mul_right, nat_le, nat_lt, not, not_from_false, not_from_true, pairs_in, pairs_of, refl, subst}
+use Rattle.bucket_table.proofs.Words.{sym, true, true≢false, ℕ, ◌&&◌, ◌*◌, ◌++◌, ◌+◌, ◌<◌, ◌∙◌, ◌∷◌, ◌≡◌, ◌≤◌}
+use Rattle.std.proofs.lemmas.Bool.{and_left, and_parts, and_right}
+use Rattle.std.proofs.lemmas.List.{append-nil, length_push}
+use Rattle.bucket_table.specs.Walking.Visits.{AreCalls, HasStopped, Visited}
+use Rattle.bucket_table.specs.Walking.Walks.{AreLent, IsVisitOf, IsWalk, VisitsAlone, pairs_left}
+use Rattle.bucket_table.proofs.Walking.Bounds.{next_multiple}
+use Rattle.bucket_table.proofs.Walking.Each.{each, each_append, each_implies, to_front}
+use Rattle.bucket_table.proofs.Walking.Filters.{IsPermutation-filter, filter_all, filter_filter, filter_none}
+use Rattle.bucket_table.proofs.Walking.PassingUnits.{stands_still}
+use Rattle.bucket_table.proofs.Rehash.UnitRuns.{units_alone, units_as, units_both}
+
+-- tests on hashes
+module _ (low high h : ℕ) where
+  pub is_in : low ≤ h → h < high → (nat_le low h && nat_lt h high) ≡ true
+  is_in a b = and_from (nat_le low h) (nat_lt h high) (le-leb low h a) (lt-ltb h high b)
+
+  bounds : (nat_le low h && nat_lt h high) ≡ true → (low ≤ h) × (h < high)
+  bounds e = let p = and_parts (nat_le low h) (nat_lt h high) e in (leb-true low h p.0, ltb-true h high p.1)
+
+  pub is_out : ((low ≤ h) → (h < high) → ⊥) → (nat_le low h && nat_lt h high) ≡ false
+  is_out never = false_from_ne_true (nat_le low h && nat_lt h high) (λ e. let b = bounds e in never b.0 b.1)
+
+module _ {S B : Type 0} (step : S → B → Bool → Bool → B → Bool → S → Type 0) where
+  -- one call more, where none before it stopped the walk
+  pub calls_more : (s t u : S) (flag next last : Bool) (vs : List (Visited B)) (v : Visited B)
+      → AreCalls step s flag vs t next → (HasStopped vs → ⊥)
+      → step t v.lent next v.more v.left last u → AreCalls step s flag (vs ++ v ∷ []) u last
+  calls_more s t u flag next last [] v so_far going call = subst (λ a. AreCalls step a flag (v ∷ []) u last) (sym so_far.0)
+      (subst (λ f. AreCalls step t f (v ∷ []) u last) (sym so_far.1) (u, last, call, (λ e. refl), (refl, refl)))
+  calls_more s t u flag next last (w ∷ vs) v so_far going call = (
+    so_far.0,
+    so_far.1,
+    so_far.2,
+    (λ e. absurd (going (inl e))),
+    calls_more so_far.0 t u so_far.1 next last vs v so_far.4 (λ h. going (inr h)) call,
+  )
+
+module _ {B : Type 0} where
+  pub stopped_more : (vs : List (Visited B)) (v : Visited B) → v.more ≡ false → HasStopped (vs ++ v ∷ [])
+  stopped_more [] v e = inl e
+  stopped_more (w ∷ vs) v e = inr (stopped_more vs v e)
+
+  pub going_more : (vs : List (Visited B)) (v : Visited B) → (HasStopped vs → ⊥) → v.more ≡ true → HasStopped (vs ++ v ∷ []) → ⊥
+  going_more [] v going e (inl h) = let no : true ≡ false = sym e ∙ h in absurd cc
+  going_more [] v going e (inr h) = h
+  going_more (w ∷ vs) v going e (inl h) = going (inl h)
+  going_more (w ∷ vs) v going e (inr h) = going_more vs v (λ k. going (inr k)) e h
+
+module _ {K V : Type 0} (hash : K → ℕ) (len : ℕ) where
+  abbrev pub within : ℕ → ℕ → K × V → Bool
+  within low high = has_home_in hash len low high
+
+  lent_more : (pairs : List (K × V)) (index : ℕ) (vs : List (Visited (BucketView K V))) (v : Visited (BucketView K V))
+      → AreLent hash len pairs index vs → IsPermutation (filter
+      (within (index + length vs) (index + length vs + 1)) pairs) (pairs_in v.lent) → AreLent hash len pairs index (vs ++ v ∷ [])
+  lent_more pairs index [] v so_far h =
+      let e : index + 0 ≡ index = omega arith in
+      (subst (λ (n : ℕ). IsPermutation (filter (within n (n + 1)) pairs) (pairs_in v.lent)) e h, tt)
+  lent_more pairs index (w ∷ vs) v so_far h =
+      let e : index + length (w ∷ vs) ≡ index + 1 + length vs = omega arith in (
+        so_far.0,
+        lent_more pairs (index + 1) vs v so_far.1 (subst (λ n. IsPermutation (filter (within n (n + 1)) pairs) (pairs_in v.lent)) e h),
+      )
+
+  left_more : (vs : List (Visited (BucketView K V))) (v : Visited (BucketView K V))
+      → pairs_left (vs ++ v ∷ []) ≡ pairs_left vs ++ pairs_in v.left
+  left_more [] v = append-nil (pairs_in v.left)
+  left_more (w ∷ vs) v = ap (λ ps. pairs_in w.left ++ ps) (left_more vs v) ∙ sym
+      (append_assoc (pairs_in w.left) (pairs_left vs) (pairs_in v.left))
+
+  -- a hash in a later interval is in none of the earlier ones
+  later : (start index : ℕ) (p : K × V) → within index (index + 1) p ≡ true → within start index p ≡ false
+  later start index p e =
+      let b = bounds _ _ (hash p.0) e in is_out _ _ (hash p.0) (λ low high. omega (arith, b.0, high))
+
+  module _ (start index : ℕ) (order : start ≤ index) where
+    abbrev pub behind : K × V → Bool
+    behind = within start index
+
+    abbrev pub inside : K × V → Bool
+    inside = within index (index + 1)
+
+    abbrev pub through : K × V → Bool
+    through = within start (index + 1)
+
+    abbrev pub outside : K × V → Bool
+    outside p = not (inside p)
+
+    abbrev pub ahead : K × V → Bool
+    ahead p = not (behind p)
+
+    abbrev pub beyond : K × V → Bool
+    beyond p = not (through p)
+
+    behind_through : (p : K × V) → behind p ≡ true → through p ≡ true
+    behind_through p e = let b = bounds _ _ (hash p.0) e in is_in _ _ (hash p.0) b.0
+        (omega (arith, b.1, next_multiple index (interval_width len)))
+
+    inside_through : (p : K × V) → inside p ≡ true → through p ≡ true
+    inside_through p e = let b = bounds _ _ (hash p.0) e in is_in _ _ (hash p.0)
+        (omega (arith, b.0, mul-le-mul_right (interval_width len) order)) b.1
+
+    inside_ahead : (p : K × V) → inside p ≡ true → ahead p ≡ true
+    inside_ahead p e = not_from_false (behind p) (later start index p e)
+
+    through_parts : (p : K × V) → behind p ≡ false → inside p ≡ false → through p ≡ false
+    through_parts p a b = is_out _ _ (hash p.0) (λ low high. elim (cases_lt (hash p.0) (index * interval_width len)) [
+      | inl less ↦ let passes : behind p ≡ true = is_in _ _ (hash p.0) low less in true≢false (sym passes ∙ a)
+      | inr more ↦ let passes : inside p ≡ true = is_in _ _ (hash p.0) more high in true≢false (sym passes ∙ b)
+    ])
+
+    still_inside : (p : K × V) → (ahead p && inside p) ≡ inside p
+    still_inside p = elim (cases_Bool (inside p)) [
+      | inl in_it ↦ and_from (ahead p) (inside p) (inside_ahead p in_it) in_it ∙ sym in_it
+      | inr other ↦ and_right (ahead p) (inside p) other ∙ sym other
+    ]
+
+    still_ahead : (p : K × V) → (ahead p && outside p) ≡ beyond p
+    still_ahead p = elim (cases_Bool (behind p)) [
+      | inl back ↦ and_left (ahead p) (outside p) (not_from_true (behind p) back) ∙ sym (not_from_true (through p) (behind_through p back))
+      | inr other ↦ elim (cases_Bool (inside p)) [
+        | inl in_it ↦ and_right (ahead p) (outside p) (not_from_true (inside p) in_it) ∙ sym
+            (not_from_true (through p) (inside_through p in_it))
+        | inr out ↦ and_from (ahead p) (outside p) (not_from_false (behind p) other) (not_from_false (inside p) out) ∙ sym
+            (not_from_false (through p) (through_parts p other out))
+      ]
+    ]
+
+    module _ (old before after done lent left : List (K × V))
+        (homes : AllByRecursion (λ p. behind p ≡ true) done) (so_far : IsPermutation (done ++ filter ahead old) before) where
+      pub lent_now : IsPermutation (filter inside before) lent → IsPermutation (filter inside old) lent
+      lent_now is =
+          let none = filter_none inside done (each_implies (λ p. behind p ≡ true)
+          (λ p. inside p ≡ false) (λ p e. false_from_ne_true (inside p)
+          (λ yes. let no : true ≡ false = sym e ∙ later start index p yes in absurd cc)) done homes)
+          in
+          let same = filter-append inside done (filter ahead old) ∙ ap
+          (λ us. us ++ filter inside (filter ahead old)) none ∙ filter_filter ahead inside old ∙
+          filter_agree (λ p. ahead p && inside p) inside still_inside old in
+          IsPermutation-trans _ _ _ (subst (λ us. IsPermutation us (filter inside before)) same (IsPermutation-filter inside _ _ so_far)) is
+
+      pub map_now : IsPermutation (left ++ filter outside before) after → IsPermutation ((done ++ left) ++ filter beyond old) after
+      map_now is =
+          let all = filter_all outside done (each_implies (λ p. behind p ≡ true) (λ p. outside p ≡ true) (λ p e. not_from_false (inside p)
+          (false_from_ne_true (inside p) (λ yes. let no : true ≡ false = sym e ∙ later start index p
+          yes in absurd cc))) done homes) in
+          let same = filter-append outside done (filter ahead old) ∙ ap
+          (λ us. us ++ filter outside (filter ahead old)) all ∙ ap (λ us. done ++ us)
+          (filter_filter ahead outside old ∙ filter_agree (λ p. ahead p && outside p) beyond
+          still_ahead old) in
+          let rest : IsPermutation (done ++ filter beyond old) (filter outside before) = subst
+          (λ us. IsPermutation us (filter outside before)) same (IsPermutation-filter outside _ _ so_far) in
+          let front : IsPermutation ((done ++ left) ++ filter beyond old) (left ++ (done ++ filter beyond old)) = rw
+          (append_assoc done left (filter beyond old)) (to_front done left (filter beyond old)) in
+          IsPermutation-trans _ _ _ front (IsPermutation-trans _ _ _ (IsPermutation-append_right left _ _ rest) is)
+
+      pub homes_now : AllByRecursion (λ p. inside p ≡ true) left → AllByRecursion (λ p. through p ≡ true) (done ++ left)
+      homes_now h = each_append (λ p. through p ≡ true) done left (each_implies (λ p. behind p ≡ true)
+          (λ p. through p ≡ true) behind_through done homes)
+          (each_implies (λ p. inside p ≡ true) (λ p. through p ≡ true) inside_through left h)
+
+module _ {K V : Type 0} (hash : K → ℕ) where
+  abbrev pub VisitsIn : (now lent left new : List (K × V)) → ℕ → ℕ → Type 0
+  VisitsIn now lent left new m i = IsPermutation (filter (has_home_in hash m i (i + 1)) now) lent
+      × AllByRecursion (λ pair. has_home_in hash m i (i + 1) pair ≡ true) left
+      × IsPermutation (left ++ filter (λ pair. not (has_home_in hash m i (i + 1) pair)) now) new
+
+module _ {K V : Type 0} (hash : K → ℕ) where
+  -- where a walk stands between two calls
+  pub record IsPartOfWalk (old : ArraysView K V) (start : ℕ) (visits : List (Visited (BucketView K V))) (now : ArraysView K V) : Type
+      0 where
+    pub walk : IsWalk hash old start visits now
+    pub len : length now.current ≡ length old.current
+    pub homes : AllByRecursion (λ pair. has_home_in hash (length old.current) start (start + length visits) pair ≡ true) (pairs_left visits)
+
+  pub walk_begins : (old : ArraysView K V) (start : ℕ) → IsPartOfWalk old start [] old
+  walk_begins old start =
+      let n = length old.current in
+      let none : (p : K × V) → has_home_in hash n start (start + 0) p ≡ false = λ p. is_out _ _
+      (hash p.0) (λ low high. omega (arith, low, high)) in
+      let all = filter_all (λ p. not (has_home_in hash n start (start + 0) p)) (pairs_of old)
+      (each (λ p. not_from_false _ (none p)) (pairs_of old)) in
+      record {
+        walk = record {
+          lent = tt;
+          pairs = subst (λ us. IsPermutation us (pairs_of old)) (sym all) (IsPermutation-refl (pairs_of old));
+        };
+        len = refl;
+        homes = tt;
+      }
+
+  -- the map stays as what it is while old buckets move
+  pub walk_waits : (old now next : ArraysView K V) (start : ℕ)
+      (visits : List (Visited (BucketView K V))) → IsPartOfWalk old start visits now
+      → IsPermutation (pairs_of now) (pairs_of next) → length next.current ≡ length
+      now.current → IsPartOfWalk old start visits next
+  walk_waits old now next start visits part moved len = record {
+    walk = record { lent = part.walk.lent; pairs = IsPermutation-trans _ _ _ part.walk.pairs moved };
+    len = len ∙ part.len;
+    homes = part.homes;
+  }
+
+  pub walk_more : (old now new : ArraysView K V) (start index : ℕ) (visits : List (Visited (BucketView K V))) (v : Visited (BucketView K V))
+      → index ≡ start + length visits → IsPartOfWalk old start visits now → IsVisitOf hash now index v.lent v.left new
+      → IsPartOfWalk old start (visits ++ v ∷ []) new
+  walk_more old now new start index visits v at part visit =
+      let n = length old.current in
+      let order : start ≤ index = omega (arith, at) in
+      let visit' = subst (λ (m : ℕ). VisitsIn hash (pairs_of now) (pairs_in v.lent) (pairs_in v.left) (pairs_of new) m index) part.len
+      (visit.lent_is, visit.left_homes, visit.pairs) in
+      let homes = subst (λ (m : ℕ). AllByRecursion (λ pair. has_home_in hash n start m pair ≡ true)
+      (pairs_left visits)) (sym at) part.homes in
+      let so_far = subst (λ (m : ℕ). IsPermutation (pairs_left visits ++ filter
+      (λ pair. not (has_home_in hash n start m pair)) (pairs_of old)) (pairs_of now)) (sym at)
+      part.walk.pairs in
+      let lent = lent_now hash n start index order (pairs_of old) (pairs_of now) (pairs_of new) (pairs_left visits) (pairs_in v.lent)
+      (pairs_in v.left) homes so_far visit'.0 in
+      let pairs = map_now hash n start index order (pairs_of old) (pairs_of now) (pairs_of new) (pairs_left visits) (pairs_in v.lent)
+      (pairs_in v.left) homes so_far visit'.2 in
+      let all = homes_now hash n start index order (pairs_of old) (pairs_of now) (pairs_of new) (pairs_left visits) (pairs_in v.lent)
+      (pairs_in v.left) homes so_far visit'.1 in
+      let next : index + 1 ≡ start + length (visits ++ v ∷ []) = omega (arith, at, length_push visits v) in
+      let ends = left_more hash n visits v in
+      record {
+        walk = record {
+          lent = lent_more hash n (pairs_of old) start visits v part.walk.lent
+              (subst (λ (m : ℕ). IsPermutation (filter (has_home_in hash n m (m + 1)) (pairs_of old)) (pairs_in v.lent)) at lent);
+          pairs = rw (ends) (subst (λ (m : ℕ). IsPermutation ((pairs_left visits ++ pairs_in v.left) ++ filter
+              (λ pair. not (has_home_in hash n start m pair)) (pairs_of old)) (pairs_of new)) next pairs);
+        };
+        len = visit.len ∙ part.len;
+        homes = rw (ends) (subst (λ (m : ℕ). AllByRecursion
+            (λ pair. has_home_in hash n start m pair ≡ true) (pairs_left visits ++ pairs_in v.left))
+            next all);
+      }
+
+module _ {K V : Type 0} where
+  -- one visit more, where no old array stands
+  alone_more : (old now : ArraysView K V) (start index : ℕ) (vs : List (Visited (BucketView K V))) (v : Visited (BucketView K V))
+      → index ≡ start + length vs → VisitsAlone old start vs now → v.lent ≡ bucket_on now false index
+      → VisitsAlone old start (vs ++ v ∷ []) (arrays_with now false index v.left)
+  alone_more old now start index [] v at so_far lent =
+      let here : index ≡ start = omega (arith, at) in
+      rw (so_far, here) (
+        subst (λ (j : ℕ). v.lent ≡ bucket_on old false j) here
+            (subst (λ (a : ArraysView K V). v.lent ≡ bucket_on a false index) so_far lent),
+        refl,
+      )
+  alone_more old now start index (w ∷ vs) v at so_far lent =
+      (so_far.0, alone_more (arrays_with old false start w.left) now (start + 1) index vs v (omega (arith, at)) so_far.1 lent)
+
+module _ {S K V : Type 0} (step : S → BucketView K V → Bool → Bool → BucketView K V → Bool → S
+    → Type 0) (hash : K → ℕ) where
+  -- what is known between two calls of a walk
+  pub record WalksOn (first now : S) (old : ArraysView K V) (start index : ℕ) (flag more : Bool) (table : ArraysView K V) : Type 0 where
+    pub visits : List (Visited (BucketView K V))
+    pub calls : AreCalls step first false visits now flag
+    pub part : IsPartOfWalk hash old start visits table
+    pub units : WorksUnits (length visits) old table
+    pub alone : length old.linked ≡ 0 → VisitsAlone old start visits table
+    pub reached : index ≡ start + length visits
+    pub going : more ≡ true → HasStopped visits → ⊥
+    pub stopped : more ≡ false → HasStopped visits
+
+  pub begins : (first : S) (old : ArraysView K V) (start : ℕ) → WalksOn first first old start start false true old
+  begins first old start = record {
+    visits = [];
+    calls = (refl, refl);
+    part = walk_begins hash old start;
+    units = stands_still old;
+    alone = λ none. refl;
+    reached = omega arith;
+    going = λ e h. h;
+    stopped = λ e. absurd (true≢false e);
+  }
+
+  -- a bucket is made ready
+  pub walk_alone : (first now : S) (old table ready : ArraysView K V) (start index : ℕ) (flag more : Bool)
+      → (w : WalksOn first now old start index flag more table) → (length table.linked ≡ 0 → ready ≡ table)
+      → length old.linked ≡ 0 → VisitsAlone old start w.visits ready
+  walk_alone first now old table ready start index flag more w waits none =
+      rw (waits (units_alone (length w.visits) old table w.units none)) (w.alone none)
+
+  pub walk_units : (first now : S) (old table ready : ArraysView K V) (start index : ℕ) (flag more : Bool)
+      → (w : WalksOn first now old start index flag more table) → WorksUnits 1 table ready → WorksUnits (length w.visits + 1) old ready
+  walk_units first now old table ready start index flag more w unit = units_both (length w.visits) 1 old table ready w.part.len w.units unit
+
+  -- and visited
+  pub goes_on : (first now next : S) (old table ready : ArraysView K V) (start index : ℕ) (flag last more : Bool) (left : BucketView K V)
+      → WalksOn first now old start index flag true table → IsPermutation (pairs_of table) (pairs_of ready) → length ready.current ≡ length
+      table.current → WorksUnits 1 table ready → (length table.linked ≡ 0 → ready ≡ table)
+      → step now (bucket_on ready false index) flag more left last next → IsVisitOf hash ready index (bucket_on ready false index) left
+      (arrays_with ready false index left)
+      → WalksOn first next old start (index + 1) last more (arrays_with ready false index left)
+  goes_on first now next old table ready start index flag last more left w moved len unit waits call visit =
+      let v : Visited (BucketView K V) = record { lent = bucket_on ready false index; left = left; more = more } in
+      record {
+        visits = w.visits ++ v ∷ [];
+        calls = calls_more step first now next false flag last w.visits v w.calls (w.going refl) call;
+        part = walk_more hash old ready (arrays_with ready false index left) start index w.visits v w.reached
+            (walk_waits hash old table ready start w.visits w.part moved len) visit;
+        units = rw (length_push w.visits v)
+            (units_as _ old ready (arrays_with ready false index left) (walk_units first now old table ready start index flag true w unit)
+            refl refl);
+        alone = λ none. alone_more old ready start index w.visits v w.reached (walk_alone first now old table ready start index flag true w
+            waits none) refl;
+        reached = omega (arith, w.reached, length_push w.visits v);
+        going = λ e. going_more w.visits v (w.going refl) e;
+        stopped = λ e. stopped_more w.visits v e;
+      }

@@ -1,0 +1,9 @@
+-- The map that a table is, and what a call by key does to it and to the arrays.
+pub mod MapState
+pub mod LookingUp
+pub mod ByKey
+pub mod Counting
+pub mod Finding
+pub mod Preparing
+pub mod Refusing
+pub mod Free

@@ -1,0 +1,76 @@
+-- What a call by key does to a table, in the words of its map. A reply that isn't stated doesn't come.
+use Rattle.std.specs.Prelude.{ℕ, ◌≡◌, ◌<◌, Bool, true, false, Option, Some, None, Result, Ok, Err, length, ◌⊎◌}
+use Rattle.std.specs.Borrow.{Bor}
+use Rattle.bucket_slots.specs.BucketView.{BucketView, Place, slot_in}
+use Rattle.bucket_slots.specs.Slots.{live_pair}
+use Rattle.bucket_table.specs.Views.ArraysView.{ArraysView, TableView, pairs_of}
+use Rattle.bucket_table.specs.Resize.Asking.{RemovesAndShrinks}
+use Rattle.bucket_table.specs.Map.Finding.{FindsBucket}
+use Rattle.bucket_table.specs.Map.LookingUp.{IsAbsent, IsThere}
+use Rattle.bucket_table.specs.Map.MapState.{MapState, KeepsPairs, AddsPair, TakesPair, ChangesValue}
+use Rattle.bucket_table.specs.Map.Preparing.{IsPrepared}
+use Rattle.bucket_table.specs.Map.Refusing.{IsRefused}
+use Rattle.bucket_table.specs.Views.Sides.{bucket_of, bucket_on, buckets_on, with_bucket}
+use Rattle.bucket_table.specs.declared.hash_table.NotInserted.{NotInserted}
+use Rattle.bucket_table.specs.declared.hash_table.NotInserted.TheVariants.{Present, Memory}
+
+-- a live slot of a bucket of one side has a pair whose key is equal to the key
+pub record StandsAt {K V : Type 0} (eq : K → K → Bool) (key : K) (arrays : ArraysView K V) (is_old : Bool) (index : ℕ) (at : Place) : Type 0 where
+  pub pair : K × V
+  pub within : index < length (buckets_on arrays is_old)
+  pub slot : live_pair (slot_in (bucket_on arrays is_old index) at) ≡ Some pair
+  pub there : IsThere eq key (pairs_of arrays) pair
+
+module _ {K V H : Type 0} (eq : K → K → Bool) (key : K) where
+  -- the pair under the key is taken out, and there is none exactly where the key is absent
+  abbrev pub Takes : MapState K V H → Option (K × V) → MapState K V H → Type 0
+  Takes old (Some pair) new = (eq pair.0 key ≡ true) × TakesPair old pair new
+  Takes old None new = IsAbsent eq key old.pairs × KeepsPairs old new
+
+  -- the value under the key is another one now, and the earlier one comes back; where the key is absent, the value does
+  abbrev pub Swaps : V → MapState K V H → Result V V → MapState K V H → Type 0
+  Swaps value old (Ok earlier) new = (found : K) × (eq found key ≡ true) × ChangesValue old (found, earlier) value new
+  Swaps value old (Err back) new = (back ≡ value) × IsAbsent eq key old.pairs × KeepsPairs old new
+
+  -- a pair is put where its key is absent; else, and for want of memory, it comes back
+  abbrev pub Inserts : {A : Type 0} → V → MapState K V H → Result A (NotInserted K V) → MapState K V H → Type 0
+  Inserts value old (Ok done) new = IsAbsent eq key old.pairs × AddsPair old (key, value) new
+  Inserts value old (Err (Present k v)) new = (k ≡ key) × (v ≡ value) × ((pair : K × V) × IsThere eq key old.pairs pair) × KeepsPairs old new
+  Inserts value old (Err (Memory k v)) new = (k ≡ key) × (v ≡ value) × KeepsPairs old new
+
+  -- the pair under the key is read and marked, and the map is without it; there is no answer exactly where the key is absent
+  abbrev pub Marks : {R : Type 0} → (Bor K → Bor V → R → Type 0) → MapState K V H → Option R → MapState K V H → Type 0
+  Marks reads old (Some answer) new =
+      (own : Bor K) × (value : Bor V) × reads own value answer × (eq own.now key ≡ true) × TakesPair old (own.now, value.now) new
+  Marks reads old None new = IsAbsent eq key old.pairs × KeepsPairs old new
+
+  -- the pair under the key is touched: the map stays, and the answer is whether there is one
+  abbrev pub Touches : MapState K V H → Bool → MapState K V H → Type 0
+  Touches old true new = ((pair : K × V) × IsThere eq key old.pairs pair) × KeepsPairs old new
+  Touches old false new = IsAbsent eq key old.pairs × KeepsPairs old new
+
+-- a unit is worked first, as for a look-up, and then this is done
+pub record PreparesThen {K V H : Type 0} (kind : ℕ) (old : TableView K V H) (Then : TableView K V H → Type 0) : Type 0 where
+  pub between : TableView K V H
+  pub prepared : IsPrepared kind old between
+  pub done : Then between
+
+module _ {K V H : Type 0} (change : BucketView K V → Place → BucketView K V) where
+  -- where the key was found one bucket is changed, and nothing else is; else all stays
+  abbrev pub ChangesAt : Bool → TableView K V H → TableView K V H → Type 0
+  ChangesAt true old new = (side : Bool) × (index : ℕ) × (at : Place) × (new ≡ with_bucket old side index (change (bucket_of old side index) at))
+  ChangesAt false old new = new ≡ old
+
+  -- where the key was found one bucket is changed, and where it has no live pair then the arrays may shrink by the plan; else all stays
+  abbrev pub ShrinksAt : Bool → TableView K V H → TableView K V H → Type 0
+  ShrinksAt true old new =
+      (side : Bool) × (index : ℕ) × (at : Place) × RemovesAndShrinks old.arrays side index (change (bucket_of old side index) at) new.arrays
+  ShrinksAt false old new = new ≡ old
+
+-- a writer's bucket is found for a hash, and then it is changed so where a pair was put; nothing else changes, and where no bucket is found it is refused
+abbrev pub FindsThen : {K V H A : Type 0} → ℕ → ℕ → (BucketView K V → BucketView K V) → TableView K V H → Result A (NotInserted K V) → TableView K V H → Type 0
+FindsThen {K} {V} {H} kind hash change old (Ok done) new =
+    (between : TableView K V H) × (side : Bool) × (index : ℕ) × FindsBucket kind hash old side index between
+    × (new ≡ with_bucket between side index (change (bucket_of between side index)))
+FindsThen kind hash change old (Err (Present k v)) new = (side : Bool) × (index : ℕ) × FindsBucket kind hash old side index new
+FindsThen kind hash change old (Err (Memory k v)) new = IsRefused kind old new ⊎ ((side : Bool) × (index : ℕ) × FindsBucket kind hash old side index new)

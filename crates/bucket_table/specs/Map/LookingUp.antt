@@ -1,0 +1,48 @@
+-- What a look-up in the arrays answers.
+use Rattle.std.specs.Prelude.{ℕ, ◌≡◌, ◌+◌, ◌%◌, ◌++◌, Bool, true, false, Option, Some, None, List, [], ◌∷◌, length}
+use Rattle.std.specs.Borrow.{Bor}
+use Rattle.std.specs.List.{All, Contains}
+use Rattle.std.specs.Option.{option_or}
+use Rattle.bucket_slots.specs.ArrayView.{bucket_at}
+use Rattle.bucket_slots.specs.BucketView.{BucketView, pairs_in}
+use Rattle.bucket_slots.specs.Searching.{matching_len, pair_wanted}
+use Rattle.bucket_table.specs.Rehash.Relocation.{home_of}
+
+-- the live pairs of buckets, bucket by bucket
+abbrev pub pairs_in_all : {K V : Type 0} → List (BucketView K V) → List (K × V)
+pairs_in_all [] = []
+pairs_in_all (bucket ∷ buckets) = pairs_in bucket ++ pairs_in_all buckets
+
+-- no pair's key is wanted
+abbrev pub AreUnwanted : {K V : Type 0} → (K → Bool) → List (K × V) → Type 0
+AreUnwanted wants pairs = All (λ pair. wants pair.0 ≡ false) pairs
+
+-- the pair is one of the pairs, and its key is wanted
+abbrev pub IsWantedOf : {K V : Type 0} → (K → Bool) → List (K × V) → K × V → Type 0
+IsWantedOf wants pairs pair = Contains pairs pair × (wants pair.0 ≡ true)
+
+-- no pair's key is equal to the key
+abbrev pub IsAbsent : {K V : Type 0} → (K → K → Bool) → K → List (K × V) → Type 0
+IsAbsent eq key pairs = All (λ pair. eq pair.0 key ≡ false) pairs
+
+-- the pair is one of the pairs, and its key is equal to the key
+abbrev pub IsThere : {K V : Type 0} → (K → K → Bool) → K → List (K × V) → K × V → Type 0
+IsThere eq key pairs pair = Contains pairs pair × (eq pair.0 key ≡ true)
+
+-- the bucket that is a hash's home; an empty one where there are no buckets
+abbrev pub home_bucket : {K V : Type 0} → ℕ → List (BucketView K V) → BucketView K V
+home_bucket hash buckets = bucket_at buckets (home_of (length buckets) hash)
+
+-- the buckets of an array that is lent, none where none is
+abbrev pub lent_buckets : {K V : Type 0} → Option (Bor (List (BucketView K V))) → List (BucketView K V)
+lent_buckets None = []
+lent_buckets (Some array) = array.now
+
+-- the pair that a look-up of a hash finds: the first wanted one of its old home, else of its current one
+abbrev pub pair_looked_up : {K V : Type 0} → (K → Bool) → ℕ → List (BucketView K V) → List (BucketView K V) → Option (K × V)
+pair_looked_up wants hash old current =
+    option_or (pair_wanted wants (hash % 256) (home_bucket hash old)) (pair_wanted wants (hash % 256) (home_bucket hash current))
+
+-- how many live slots of both homes have the hash's low byte
+abbrev pub looked_up_len : {K V : Type 0} → ℕ → List (BucketView K V) → List (BucketView K V) → ℕ
+looked_up_len hash old current = matching_len (hash % 256) (home_bucket hash old) + matching_len (hash % 256) (home_bucket hash current)

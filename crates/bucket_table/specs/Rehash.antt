@@ -1,0 +1,9 @@
+-- An old array: its tickets, its units, and how its pairs move on.
+pub mod State
+pub mod Steps
+pub mod Covered
+pub mod Relocation
+pub mod Carrying
+pub mod Rehashing
+pub mod Units
+pub mod Finishing

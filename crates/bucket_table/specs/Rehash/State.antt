@@ -1,0 +1,32 @@
+-- Which units of an old array are handed out.
+use Rattle.std.specs.Prelude.{ℕ, ◌+◌, ◌*◌, ◌^◌, ◌<◌, ◌≤◌, ◌≡◌, List, [], length}
+use Rattle.std.specs.List.{Contains, All}
+
+-- the next unit to hand out, the units handed out and not ended, and the number of old buckets
+pub record TicketState : Type 0 where
+  pub position : ℕ
+  pub open_units : List ℕ
+  pub len : ℕ
+
+-- of an array with so many buckets no unit was handed out
+abbrev pub first_tickets : ℕ → TicketState
+first_tickets len = record { position = 0; open_units = []; len = len }
+
+-- the rehash word
+abbrev pub word_of : TicketState → ℕ
+word_of state = 2048 * state.position + length state.open_units
+
+-- the word is the ticket of a unit that is open
+abbrev pub IsOpen : TicketState → ℕ → Type 0
+IsOpen state ticket = (unit : ℕ) × (ticket ≡ 2048 * unit) × Contains state.open_units unit
+
+-- every unit was handed out
+abbrev pub IsHandedOut : TicketState → Type 0
+IsHandedOut state = state.len ≤ 64 * state.position
+
+-- what a count of tickets and a position keep
+pub record IsTicketState (state : TicketState) : Type 0 where
+  pub few_buckets : state.len ≤ 2 ^ 58
+  pub few_open : length state.open_units ≤ 2047
+  pub position_in_range : 64 * state.position < state.len + 64
+  pub units_in_range : All (λ unit. 64 * unit < state.len) state.open_units

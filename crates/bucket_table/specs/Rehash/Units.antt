@@ -1,0 +1,74 @@
+-- What working units of the old array does, one after another, as a look-up, a cursor and a walk do.
+use Rattle.std.specs.Prelude.{ℕ, ◌+◌, ◌*◌, ◌<◌, ◌≤◌, ◌≡◌, ◌⊎◌, Bool, true, List, [], Result, Ok, Err, length}
+use Rattle.bucket_slots.specs.ArrayView.{bucket_at}
+use Rattle.bucket_slots.specs.BucketView.{BucketView, pairs_in}
+use Rattle.bucket_table.specs.Views.ArraysView.{ArraysView, killed_flags}
+use Rattle.bucket_table.specs.Rehash.Covered.{IsUnitKilled}
+use Rattle.bucket_table.specs.Views.Keeping.{KeepsArrays, StayKilled}
+
+-- the buckets from `start` up to below `end` are killed
+abbrev pub AreKilled : {K V : Type 0} → ℕ → ℕ → List (BucketView K V) → Type 0
+AreKilled start end buckets = (i : ℕ) → start ≤ i → i < end → (bucket_at buckets i).killed ≡ true
+
+-- some old buckets were relocated: the tickets, the pairs and what isn't the arrays' contents stay
+pub record RelocatesSome {K V : Type 0} (old new : ArraysView K V) : Type 0 where
+  pub tickets_are : new.tickets ≡ old.tickets
+  pub killed : StayKilled old.linked new.linked
+  pub kept : KeepsArrays old new
+
+-- the old buckets from `start` up to below `end` were relocated, and none past them
+pub record RelocatesRange {K V : Type 0} (start end : ℕ) (old new : ArraysView K V) : Type 0 where
+  pub some : RelocatesSome old new
+  pub killed : AreKilled start end new.linked
+  pub rest : (i : ℕ) → end ≤ i → bucket_at new.linked i ≡ bucket_at old.linked i
+
+-- what working the old buckets from `start` up to below `end` leaves, and whether all of them are killed
+abbrev pub WorksRange : {K V : Type 0} → ℕ → ℕ → Bool → ArraysView K V → ArraysView K V → Type 0
+WorksRange start end success old new = RelocatesSome old new × (success ≡ true → AreKilled start end new.linked)
+
+-- what working a unit leaves, and whether the whole unit is killed
+abbrev pub WorksUnit : {K V : Type 0} → ℕ → Bool → ArraysView K V → ArraysView K V → Type 0
+WorksUnit unit success old new = RelocatesSome old new × (success ≡ true → IsUnitKilled (killed_flags new.linked) unit)
+
+-- the current array isn't shorter, and each old bucket from `start` up to below `end` has no more than 32 live pairs
+pub record NeedsNoMemory {K V : Type 0} (start end : ℕ) (arrays : ArraysView K V) : Type 0 where
+  pub no_shorter : length arrays.linked ≤ length arrays.current
+  pub few : (i : ℕ) → start ≤ i → i < end → length (pairs_in (bucket_at arrays.linked i)) ≤ 32
+
+-- a bucket whose pairs have moved on
+abbrev pub IsSpent : {K V : Type 0} → BucketView K V → Type 0
+IsSpent bucket = (bucket.killed ≡ true) × (pairs_in bucket ≡ [])
+
+-- each bucket is as it was, or its pairs have moved on
+abbrev pub SpendsSome : {K V : Type 0} → List (BucketView K V) → List (BucketView K V) → Type 0
+SpendsSome was is = (i : ℕ) → (bucket_at is i ≡ bucket_at was i) ⊎ IsSpent (bucket_at is i)
+
+-- the next units of the old array, as many as `count`, are easy: the bag has room for a ticket, and no memory is needed
+pub record UnitsNeedNoMemory {K V : Type 0} (count : ℕ) (arrays : ArraysView K V) : Type 0 where
+  pub has_room : length arrays.tickets.open_units < 2047
+  pub easy : NeedsNoMemory (64 * arrays.tickets.position) (64 * (arrays.tickets.position + count)) arrays
+
+-- as many units were worked: each bucket of them is killed, and the position is past them, or past the last one
+pub record AreWorked {K V : Type 0} (count : ℕ) (old new : ArraysView K V) : Type 0 where
+  pub position : (old.tickets.position + count ≤ new.tickets.position) ⊎ (length new.linked ≤ 64 * new.tickets.position)
+  pub killed : (i : ℕ) → 64 * old.tickets.position ≤ i → i < 64 * (old.tickets.position + count) → i < length new.linked
+      → (bucket_at new.linked i).killed ≡ true
+
+-- an old array stands on after some steps, each of which may work a unit: no bucket of it gets a pair, as many tickets are open,
+-- the position has risen by one a step at most, and of the next units those that are easy one after another are worked
+pub record HasWorkedUnits {K V : Type 0} (steps : ℕ) (old new : ArraysView K V) : Type 0 where
+  pub len : length new.linked ≡ length old.linked
+  pub spent : SpendsSome old.linked new.linked
+  pub open_len : length new.tickets.open_units ≡ length old.tickets.open_units
+  pub least : old.tickets.position ≤ new.tickets.position
+  pub most : new.tickets.position ≤ old.tickets.position + steps
+  pub worked : (count : ℕ) → count ≤ steps → UnitsNeedNoMemory count old → AreWorked count old new
+
+-- some steps, each of which works a unit: no old array comes, and one that stood is gone or stands on
+abbrev pub WorksUnits : {K V : Type 0} → ℕ → ArraysView K V → ArraysView K V → Type 0
+WorksUnits steps old new = 0 < length new.linked → HasWorkedUnits steps old new
+
+-- the steps of a walk that goes through some buckets: one before each, and one more where it is refused
+abbrev pub steps_of : {A E : Type 0} → Result A E → ℕ → ℕ
+steps_of (Ok done) count = count
+steps_of (Err refused) count = count + 1

@@ -1,0 +1,32 @@
+-- When a resize is looked into near a bucket.
+use Rattle.std.specs.Prelude.{[], ℕ, ◌<◌, ◌≡◌, Bool, length}
+use Rattle.bucket_slots.specs.BucketView.{BucketView, pairs_in}
+use Rattle.bucket_table.specs.Views.ArraysView.{ArraysView}
+use Rattle.bucket_table.specs.Resize.ResizePlan.{slots_of}
+use Rattle.bucket_table.specs.Views.Sides.{arrays_with}
+use Rattle.bucket_table.specs.Resize.Turns.{Resizes}
+use Rattle.bucket_table.specs.Resize.Sampling.{IsCrowded, IsDeserted, live_counts}
+
+-- a current array stands and no old one, and near the bucket many slots are live
+pub record AsksGrowth {K V : Type 0} (arrays : ArraysView K V) (index : ℕ) : Type 0 where
+  pub some : 0 < length arrays.current
+  pub alone : length arrays.linked ≡ 0
+  pub near : IsCrowded (live_counts arrays.current) index
+
+-- a current array stands and no old one, the slots are more than the minimum, and near the bucket few slots are live
+pub record AsksShrinking {K V : Type 0} (arrays : ArraysView K V) (index : ℕ) : Type 0 where
+  pub some : 0 < length arrays.current
+  pub alone : length arrays.linked ≡ 0
+  pub more : arrays.minimum < slots_of (live_counts arrays.current)
+  pub near : IsDeserted (live_counts arrays.current) index
+
+-- where a resize is asked for the arrays follow the plan, or stay for want of memory; else they stay
+pub record ResizesIf {K V : Type 0} (Asked : Type 0) (old new : ArraysView K V) : Type 0 where
+  pub asked : Asked → Resizes old new
+  pub not_asked : (Asked → ⊥) → new ≡ old
+
+-- a bucket of one side is another one now; where it has no live pair, and a shrinking is asked for near
+-- it, the arrays follow the plan or stay for want of memory; else they stay
+abbrev pub RemovesAndShrinks : {K V : Type 0} → ArraysView K V → Bool → ℕ → BucketView K V → ArraysView K V → Type 0
+RemovesAndShrinks old is_old index bucket new =
+    ResizesIf ((pairs_in bucket ≡ []) × AsksShrinking (arrays_with old is_old index bucket) index) (arrays_with old is_old index bucket) new

@@ -1,0 +1,88 @@
+-- What becomes of a table's arrays in a resize.
+use Rattle.std.specs.Prelude.{ℕ, ◌+◌, ◌-◌, ◌<◌, ◌≤◌, ◌≡◌, Bool, true, false, List, [], Result, Ok, Err, length}
+use Rattle.bucket_slots.specs.ArrayView.{IsNewArray}
+use Rattle.bucket_slots.specs.BucketView.{BucketView}
+use Rattle.bucket_table.specs.Views.ArraysView.{ArraysView}
+use Rattle.bucket_table.specs.Rehash.Relocation.{entries_among}
+use Rattle.bucket_table.specs.Resize.ResizePlan.{IsPlan}
+use Rattle.bucket_table.specs.Resize.Sampling.{live_counts}
+use Rattle.bucket_table.specs.Rehash.State.{first_tickets}
+use Rattle.bucket_table.specs.declared.arrays.plan.Plan.{Plan}
+use Rattle.bucket_table.specs.declared.arrays.plan.Plan.TheVariants.{Keep, GiveUp, Resize}
+
+-- an empty array for the minimum is the current one, where there was none
+pub record IsMade {K V : Type 0} (old new : ArraysView K V) : Type 0 where
+  pub none : length old.current ≡ 0
+  pub fresh : List (BucketView K V)
+  pub fresh_is : IsNewArray old.minimum fresh
+  pub new_is : new ≡ record old { current = fresh }
+
+-- the current array, which has no pair, is given up
+pub record IsGivenUp {K V : Type 0} (old new : ArraysView K V) : Type 0 where
+  pub empty : entries_among old.current ≡ []
+  pub alone : length old.linked ≡ 0
+  pub new_is : new ≡ record old { current = [] }
+
+-- the current array becomes the old one, unchanged, and an empty one for the capacity the current one
+pub record IsPushed {K V : Type 0} (capacity : ℕ) (old new : ArraysView K V) : Type 0 where
+  pub alone : length old.linked ≡ 0
+  pub none_open : old.tickets.open_units ≡ []
+  pub fresh : List (BucketView K V)
+  pub fresh_is : IsNewArray capacity fresh
+  pub new_is : new ≡ record old { current = fresh; linked = old.current; tickets = first_tickets (length old.current) }
+
+pub data Turn : Type 0 where
+  stays : Turn
+  made : Turn
+  given_up : Turn
+  pushed : ℕ → Turn
+
+abbrev pub Turns : {K V : Type 0} → Turn → ArraysView K V → ArraysView K V → Type 0
+Turns stays old new = new ≡ old
+Turns made old new = IsMade old new
+Turns given_up old new = IsGivenUp old new
+Turns (pushed capacity) old new = IsPushed capacity old new
+
+-- the plan for a table's arrays: nothing without a current array, and nothing beside an old one
+pub record IsPlanOf {K V : Type 0} (arrays : ArraysView K V) (plan : Plan) : Type 0 where
+  pub none : length arrays.current ≡ 0 → plan ≡ Keep
+  pub beside : 0 < length arrays.linked → plan ≡ Keep
+  pub alone : 0 < length arrays.current → length arrays.linked ≡ 0 → IsPlan (live_counts arrays.current) arrays.minimum arrays.maximum plan
+
+-- the turn by a plan, and whether memory is refused
+abbrev pub turn_by : Plan → Bool → Turn
+turn_by Keep refused = stays
+turn_by GiveUp refused = given_up
+turn_by (Resize capacity) true = stays
+turn_by (Resize capacity) false = pushed capacity
+
+abbrev pub moves : Plan → Bool
+moves Keep = false
+moves plan = true
+
+-- what a resize does, and its answer
+abbrev pub TriesResize : {K V E : Type 0} → ArraysView K V → Result Bool E → ArraysView K V → Type 0
+TriesResize old (Ok moved) new = (plan : Plan) × IsPlanOf old plan × (moved ≡ moves plan) × Turns (turn_by plan false) old new
+TriesResize old (Err refused) new = (capacity : ℕ) × IsPlanOf old (Resize capacity) × (new ≡ old)
+
+-- a current array stands: the one that stood, or where none did an empty one for the minimum
+abbrev pub MakesArray : {K V : Type 0} → ArraysView K V → ArraysView K V → Type 0
+MakesArray old new = (0 < length old.current → new ≡ old) × (length old.current ≡ 0 → Turns made old new)
+
+-- the arrays follow the plan, or stay for want of memory
+abbrev pub Resizes : {K V : Type 0} → ArraysView K V → ArraysView K V → Type 0
+Resizes old new = (plan : Plan) × IsPlanOf old plan × ((refused : Bool) × Turns (turn_by plan refused) old new)
+
+-- another minimum
+abbrev pub with_minimum : {K V : Type 0} → ArraysView K V → ℕ → ArraysView K V
+with_minimum arrays minimum = record arrays { minimum = minimum }
+
+-- a reservation raises the minimum where it may, and then resizes by the plan or stays
+pub record Reserves {K V : Type 0} (additional : ℕ) (old : ArraysView K V) (answer : ℕ) (new : ArraysView K V) : Type 0 where
+  pub too_much : old.maximum - old.minimum < additional → (answer ≡ 0) × (new ≡ old)
+  pub raised : additional ≤ old.maximum - old.minimum → (answer ≡ additional) × Resizes (with_minimum old (old.minimum + additional)) new
+
+-- a release lowers the minimum where it is so much, and then resizes by the plan or stays
+pub record Releases {K V : Type 0} (released : ℕ) (old : ArraysView K V) (answer : ℕ) (new : ArraysView K V) : Type 0 where
+  pub too_much : old.minimum < released → (answer ≡ 0) × (new ≡ old)
+  pub lowered : released ≤ old.minimum → (answer ≡ released) × Resizes (with_minimum old (old.minimum - released)) new

@@ -1,0 +1,35 @@
+-- What most calls keep.
+use Rattle.std.specs.Prelude.{ℕ, ◌≡◌, ◌==◌, true, List, length}
+use Rattle.std.specs.List.{count_by}
+use Rattle.std.specs.List.Sorted.{IsPermutation}
+use Rattle.bucket_slots.specs.ArrayView.{bucket_at}
+use Rattle.bucket_slots.specs.BucketView.{BucketView}
+use Rattle.bucket_slots.specs.Marking.{HasNoNewMark}
+use Rattle.bucket_table.specs.Views.ArraysView.{ArraysView, entries_of, marks_of}
+use Rattle.bucket_table.specs.Rehash.State.{TicketState}
+
+-- how often a unit is open
+abbrev pub times_open : ℕ → TicketState → ℕ
+times_open unit tickets = count_by (λ other. other == unit) tickets.open_units
+
+-- the bag of open units is as it was
+abbrev pub KeepsOpenTickets : TicketState → TicketState → Type 0
+KeepsOpenTickets old new = (unit : ℕ) → times_open unit new ≡ times_open unit old
+
+-- the pairs, the capacities and the open tickets stay, and no mark is new
+pub record Keeps {K V : Type 0} (old new : ArraysView K V) : Type 0 where
+  pub pairs : IsPermutation (entries_of old) (entries_of new)
+  pub marks : HasNoNewMark (marks_of old) (marks_of new)
+  pub minimum : new.minimum ≡ old.minimum
+  pub maximum : new.maximum ≡ old.maximum
+  pub open_tickets : KeepsOpenTickets old.tickets new.tickets
+
+-- and so does the length of the current array
+pub record KeepsArrays {K V : Type 0} (old new : ArraysView K V) : Type 0 where
+  pub keeps : Keeps old new
+  pub current_len : length new.current ≡ length old.current
+
+-- there are as many buckets, and those that were killed are
+pub record StayKilled {K V : Type 0} (old new : List (BucketView K V)) : Type 0 where
+  pub len : length new ≡ length old
+  pub still : (i : ℕ) → (bucket_at old i).killed ≡ true → (bucket_at new i).killed ≡ true

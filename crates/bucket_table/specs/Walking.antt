@@ -1,0 +1,6 @@
+-- Walks, cursors and sweeps.
+pub mod Visits
+pub mod Walks
+pub mod Cursors
+pub mod Sweeps
+pub mod Retains
