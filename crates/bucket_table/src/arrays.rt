@@ -11,6 +11,7 @@ mod cursor;
 mod finding;
 mod finishing;
 mod lending;
+mod moving;
 mod neighbours;
 mod peeking;
 mod plan;
@@ -25,9 +26,19 @@ mod unit;
 use crate::tickets::Tickets;
 use bucket_slots::bucket_array::BucketArray;
 use bucket_slots::lru::LruList;
+pub use peeking::peek_arrays;
 pub(crate) use searching::Spot;
 use std::alloc::Global;
 use std::marker::Model;
+
+/// Why no bucket is locked.
+#[derive(Drop)]
+pub enum Missing {
+    /// There is nothing to lock: no array, or no live pair further on.
+    Nothing,
+    /// Want of memory.
+    Memory,
+}
 
 /// A current array, and an old one with its tickets while a rehash is on.
 #[derive(Drop)]

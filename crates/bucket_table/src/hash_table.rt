@@ -14,13 +14,11 @@ ghost use Rattle.bucket_table.specs.Views.ArraysView.{IsOneMap, pairs_of};
 ghost use Rattle.bucket_table.specs.Rehash.State.{first_tickets, word_of};
 
 mod by_key;
-pub(crate) mod capacity;
 mod counting;
 mod cursor;
 mod finishing;
 mod locked_bucket;
 mod lookup;
-pub(crate) mod relocate;
 mod resize;
 mod shrinking;
 mod tickets;
@@ -28,17 +26,17 @@ mod walks;
 mod write_access;
 
 use crate::arrays::Arrays;
+pub use crate::arrays::{Missing, peek_arrays};
+pub use crate::capacity::{
+    from_index_to_range, num_entries_from_hint, ranges_part_the_indices,
+    table_capacity_from_num_entries,
+};
 pub use crate::key_hash::KeyHash;
 pub use crate::tickets::{REF_COUNT_BITS, REHASHING_UNIT_LEN, TicketError};
 use bucket_slots::bucket::BUCKET_LEN;
 use bucket_slots::bucket_array::BucketArray;
 use bucket_slots::lru::LruList;
-pub use capacity::{
-    from_index_to_range, num_entries_from_hint, ranges_part_the_indices,
-    table_capacity_from_num_entries,
-};
 pub use locked_bucket::LockedBucket;
-pub use lookup::peek_arrays;
 use std::alloc::Global;
 use std::marker::Model;
 
@@ -46,15 +44,6 @@ use std::marker::Model;
 pub const MAXIMUM_CAPACITY_LIMIT: usize = 1 << 63;
 
 const _: () = prove!(MAXIMUM_CAPACITY_LIMIT == 9223372036854775808);
-
-/// Why no bucket is locked.
-#[derive(Drop)]
-pub enum Missing {
-    /// There is nothing to lock: no array, or no live pair further on.
-    Nothing,
-    /// Want of memory.
-    Memory,
-}
 
 /// Why a pair was not inserted; the pair comes back.
 #[derive(Drop)]

@@ -11,7 +11,7 @@ use Rattle.bucket_slots.proofs.RecencyCallerLemmas.{next_is_new}
 use Rattle.bucket_slots.specs.Evicting.{slots_appended}
 use Rattle.bucket_slots.specs.Recency.{IsRecencyOrder}
 use Rattle.bucket_table.specs.Layout.Landings.{AreListable, IsListable, ListsArrivals, arrivals, slot_there}
-use Rattle.bucket_table.specs.declared.hash_table.relocate.Landing.{Landing}
+use Rattle.bucket_table.specs.declared.arrays.moving.Landing.{Landing}
 use Rattle.bucket_table.proofs.Moves.Exchanges.{changes_at}
 
 arrivals-append : (landings : List (Option Landing)) (j : ℕ) (order : List ℕ) (slot : ℕ)

@@ -16,7 +16,7 @@ use Rattle.bucket_slots.specs.Recency.{order_and_zeros}
 use Rattle.bucket_table.specs.Layout.Landings.{CarriesRecency, HasLanded, HaveLanded, ListsArrivals, arrivals, carried_to, is_own_of}
 use Rattle.bucket_table.specs.Layout.Landings.{slot_there}
 use Rattle.bucket_table.specs.Layout.Moving.{CanMoveInto}
-use Rattle.bucket_table.specs.declared.hash_table.relocate.Landing.{Landing}
+use Rattle.bucket_table.specs.declared.arrays.moving.Landing.{Landing}
 use Rattle.bucket_table.proofs.Moves.Arriving.{with_more}
 use Rattle.bucket_table.proofs.Moves.Landings.{none_left}
 use Rattle.bucket_table.proofs.Views.MarksKept.{marks_alike}

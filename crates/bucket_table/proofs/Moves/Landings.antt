@@ -11,7 +11,7 @@ use Rattle.bucket_slots.proofs.RecencyCallerLemmas.{own-slots_vacated, own_kept,
 use Rattle.bucket_slots.specs.Placing.{place_for_next, slots_with}
 use Rattle.bucket_table.specs.Layout.Landings.{AreListable, HaveLanded, IsListable, StandsInChain, landings_with}
 use Rattle.bucket_table.specs.Layout.Moving.{MovesHome}
-use Rattle.bucket_table.specs.declared.hash_table.relocate.Landing.{Landing}
+use Rattle.bucket_table.specs.declared.arrays.moving.Landing.{Landing}
 use Rattle.bucket_table.proofs.Moves.Exchanges.{ChangesAt, changes_at}
 
 -- what is said of a pair that moved: the own slot in which it landed, or nothing

@@ -17,7 +17,7 @@ use Rattle.bucket_slots.specs.Placing.{slots_with}
 use Rattle.bucket_slots.specs.Reserving.{free_len_in}
 use Rattle.bucket_table.specs.Layout.Moving.{CanMoveInto, MovesHome}
 use Rattle.bucket_table.specs.Rehash.Relocation.{HasOwnByte, IsWay}
-use Rattle.bucket_table.specs.declared.hash_table.relocate.Landing.{Landing}
+use Rattle.bucket_table.specs.declared.arrays.moving.Landing.{Landing}
 use Rattle.bucket_table.proofs.Moves.Exchanges.{ChangesAt, changes_at, exchanged}
 use Rattle.bucket_table.proofs.Moves.HomesByDivision.{home_of-interval}
 use Rattle.bucket_table.proofs.Moves.Landings.{AreLanding, landing_first, landing_step}

@@ -3,8 +3,8 @@ use Rattle.bucket_table.proofs.Words.{AreSourcesKilled, ArraysView, Bool, Err, I
 use Rattle.bucket_table.proofs.Words.{arith, bound_of, buckets_on, cases_lt, inl, inr, interval_width, length, refl, subst, sym, ℕ, ◌+◌}
 use Rattle.bucket_table.proofs.Words.{◌-◌, ◌<◌, ◌^◌, ◌∙◌, ◌≡◌, ◌≤◌}
 use Rattle.bucket_table.specs.Walking.Cursors.{AreKilledFor, Passes, ShrinksThenPasses, viewed}
-use Rattle.bucket_table.specs.declared.hash_table.Missing.{Missing}
-use Rattle.bucket_table.specs.declared.hash_table.Missing.TheVariants.{Memory, Nothing}
+use Rattle.bucket_table.specs.declared.arrays.Missing.{Missing}
+use Rattle.bucket_table.specs.declared.arrays.Missing.TheVariants.{Memory, Nothing}
 use Rattle.bucket_table.proofs.Walking.Bounds.{all_hashes, wide}
 use Rattle.bucket_table.proofs.Views.Keeping.{kept_none, stay_killed_same}
 use Rattle.bucket_table.proofs.Rehash.Spending.{spends_same}

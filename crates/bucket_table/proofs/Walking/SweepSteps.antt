@@ -9,8 +9,8 @@ use Rattle.bucket_table.specs.Map.MapState.{state_of}
 use Rattle.bucket_table.specs.Walking.Retains.{IsSwept, IsSweptBelow}
 use Rattle.bucket_table.specs.Views.Settings.{KeepsSettings}
 use Rattle.bucket_table.specs.Walking.Sweeps.{RetainsAt, SweepState, Sweeps, SweepsAt}
-use Rattle.bucket_table.specs.declared.hash_table.Missing.{Missing}
-use Rattle.bucket_table.specs.declared.hash_table.Missing.TheVariants.{Memory, Nothing}
+use Rattle.bucket_table.specs.declared.arrays.Missing.{Missing}
+use Rattle.bucket_table.specs.declared.arrays.Missing.TheVariants.{Memory, Nothing}
 use Rattle.bucket_table.proofs.Walking.Bounds.{bound_fits}
 use Rattle.bucket_table.proofs.Walking.HomeSplit.{changed_there, splits, taken_there}
 use Rattle.bucket_table.proofs.Views.MarksKept.{by-bucket}

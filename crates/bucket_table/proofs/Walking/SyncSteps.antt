@@ -3,8 +3,8 @@ use Rattle.bucket_table.proofs.Words.{ArraysView, AsksShrinking, Bool, Err, HasN
 use Rattle.bucket_table.proofs.Words.{Place, Result, TableView, [], ap, bound_of, bucket_on, buckets_on, inl, inr, length, null_place}
 use Rattle.bucket_table.proofs.Words.{pairs_ahead, pairs_in, pairs_of, refl, subst, sym, ℕ, ◌+◌, ◌<◌, ◌∙◌, ◌∷◌, ◌≡◌, ◌≢◌, ◌⊎◌}
 use Rattle.bucket_table.specs.Walking.Cursors.{Advances, LeavesTo, ShrinksThenPasses, Stays}
-use Rattle.bucket_table.specs.declared.hash_table.Missing.{Missing}
-use Rattle.bucket_table.specs.declared.hash_table.Missing.TheVariants.{Memory, Nothing}
+use Rattle.bucket_table.specs.declared.arrays.Missing.{Missing}
+use Rattle.bucket_table.specs.declared.arrays.Missing.TheVariants.{Memory, Nothing}
 use Rattle.bucket_table.proofs.Walking.Each.{all_permuted}
 use Rattle.bucket_table.proofs.Map.MapKept.{state_found}
 

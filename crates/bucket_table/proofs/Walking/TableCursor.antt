@@ -8,8 +8,8 @@ use Rattle.bucket_table.proofs.Words.{recursion_from_All, refl, subst, ℕ, ◌+
 use Rattle.std.proofs.lemmas.Map.Keys.{IsDistinct-tail}
 use Rattle.bucket_table.specs.Walking.Cursors.{IsFoundFrom, Passes, SetsOut}
 use Rattle.bucket_table.specs.Walking.Sweeps.{RetainsAt}
-use Rattle.bucket_table.specs.declared.hash_table.Missing.{Missing}
-use Rattle.bucket_table.specs.declared.hash_table.Missing.TheVariants.{Nothing}
+use Rattle.bucket_table.specs.declared.arrays.Missing.{Missing}
+use Rattle.bucket_table.specs.declared.arrays.Missing.TheVariants.{Nothing}
 use Rattle.bucket_table.proofs.Walking.CursorSteps.{goes_later}
 use Rattle.bucket_table.proofs.Walking.Each.{each_back, map_append, nothing}
 use Rattle.bucket_table.proofs.Walking.HomeSplit.{splits}

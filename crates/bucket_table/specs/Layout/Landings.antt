@@ -6,7 +6,7 @@ use Rattle.bucket_slots.specs.ArrayView.{bucket_at}
 use Rattle.bucket_slots.specs.BucketView.{BucketView, Place, flattened, listed_pairs, pairs_in}
 use Rattle.bucket_slots.specs.Recency.{is_listed}
 use Rattle.bucket_slots.specs.Slots.{is_live, live_pair, live_pairs, slot_at}
-use Rattle.bucket_table.specs.declared.hash_table.relocate.Landing.{Landing}
+use Rattle.bucket_table.specs.declared.arrays.moving.Landing.{Landing}
 use Rattle.bucket_table.specs.Rehash.Relocation.{homed_len}
 
 -- the pair stands in a bucket's chain

@@ -2,8 +2,8 @@
 use Rattle.std.specs.Prelude.{ℕ, ◌<◌, length, ◌≡◌, Result, Ok, Err}
 use Rattle.bucket_table.specs.Views.ArraysView.{ArraysView, TableView}
 use Rattle.bucket_table.specs.Map.Preparing.{IsPrepared}
-use Rattle.bucket_table.specs.declared.hash_table.Missing.{Missing}
-use Rattle.bucket_table.specs.declared.hash_table.Missing.TheVariants.{Nothing, Memory}
+use Rattle.bucket_table.specs.declared.arrays.Missing.{Missing}
+use Rattle.bucket_table.specs.declared.arrays.Missing.TheVariants.{Nothing, Memory}
 
 -- no bucket was found for a writer: the table is prepared; without an old array there was no current one, and where
 -- there was none there is none

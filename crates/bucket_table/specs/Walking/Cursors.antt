@@ -15,8 +15,8 @@ use Rattle.bucket_table.specs.Views.Keeping.{KeepsArrays, KeepsOpenTickets}
 use Rattle.bucket_table.specs.Views.Sides.{bucket_on, buckets_on}
 use Rattle.bucket_table.specs.Rehash.Units.{WorksUnits}
 use Rattle.bucket_table.specs.Map.Refusing.{LacksMemory}
-use Rattle.bucket_table.specs.declared.hash_table.Missing.{Missing}
-use Rattle.bucket_table.specs.declared.hash_table.Missing.TheVariants.{Nothing, Memory}
+use Rattle.bucket_table.specs.declared.arrays.Missing.{Missing}
+use Rattle.bucket_table.specs.declared.arrays.Missing.TheVariants.{Nothing, Memory}
 
 -- no pair has a hash from one bound up to below another
 abbrev pub HasNoneBetween : {K V : Type 0} → (K → ℕ) → ℕ → ℕ → List (K × V) → Type 0

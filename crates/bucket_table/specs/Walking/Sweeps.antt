@@ -8,8 +8,8 @@ use Rattle.bucket_table.specs.Walking.Cursors.{ShrinksThenPasses, Passes}
 use Rattle.bucket_table.specs.Walking.Retains.{Retains}
 use Rattle.bucket_table.specs.Scripts.Runs.{Run}
 use Rattle.bucket_table.specs.Views.Sides.{arrays_with, bucket_on}
-use Rattle.bucket_table.specs.declared.hash_table.Missing.{Missing}
-use Rattle.bucket_table.specs.declared.hash_table.Missing.TheVariants.{Nothing, Memory}
+use Rattle.bucket_table.specs.declared.arrays.Missing.{Missing}
+use Rattle.bucket_table.specs.declared.arrays.Missing.TheVariants.{Nothing, Memory}
 
 -- a current bucket is left with what is kept, its marks with their epochs, and others with this one; nothing else changes
 pub record RetainsAt {K V : Type 0} (IsTest : (K × V → Bool) → Type 0) (epoch : ℕ) (old : ArraysView K V) (index : ℕ) (count : ℕ) (new : ArraysView K V) : Type 0 where

@@ -12,9 +12,8 @@ ghost use Rattle.bucket_table.specs.Walking.Retains.{AnswersBy};
 ghost use Rattle.bucket_table.specs.Views.Sides.{arrays_with, bucket_on, buckets_on};
 ghost use Rattle.bucket_table.specs.Walking.Sweeps.{RetainsAt};
 
-use super::Arrays;
-use crate::hash_table::Missing;
-use crate::hash_table::capacity::from_index_to_range;
+use super::{Arrays, Missing};
+use crate::capacity::from_index_to_range;
 use crate::key_hash::KeyHash;
 use crate::retain::retain_in;
 use crate::visit::Visit;

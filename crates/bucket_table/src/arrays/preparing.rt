@@ -6,7 +6,7 @@ ghost use Rattle.bucket_table.specs.Map.Preparing.{AnswersFor, IsReady, Prepares
 ghost use Rattle.bucket_table.specs.Rehash.Units.{WorksUnits};
 
 use super::Arrays;
-use crate::hash_table::capacity::from_index_to_range;
+use crate::capacity::from_index_to_range;
 use crate::key_hash::KeyHash;
 use bucket_slots::bucket::AllocError;
 use bucket_slots::lru::LruList;

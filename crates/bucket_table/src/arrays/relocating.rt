@@ -7,7 +7,7 @@ ghost use Rattle.bucket_table.specs.Rehash.Rehashing.{IsUnmoved, RelocatesAt};
 ghost use Rattle.bucket_table.specs.Rehash.Units.{NeedsNoMemory, SpendsSome, WorksRange};
 
 use super::Arrays;
-use crate::hash_table::relocate::relocate;
+use super::moving::relocate;
 use crate::key_hash::KeyHash;
 use bucket_slots::bucket::AllocError;
 use bucket_slots::lru::LruList;

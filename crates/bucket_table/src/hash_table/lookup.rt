@@ -1,25 +1,13 @@
 //! Look-ups: by key, and by a probe in code that knows no equality of keys.
-ghost use Rattle.std.specs.Prelude.{◌≡◌, ◌%◌, ◌+◌, ◌≤◌, true, IfSome, IfNone};
+ghost use Rattle.std.specs.Prelude.{◌≡◌, ◌+◌, ◌≤◌, true, IfSome, IfNone};
 ghost use Rattle.std.specs.Borrow.{Bor};
-ghost use Rattle.bucket_slots.specs.Places.{pair_lent};
-ghost use Rattle.bucket_slots.specs.Searching.{matching_len, pair_wanted};
 ghost use Rattle.bucket_table.specs.Views.ArraysView.{pairs_of};
-ghost use Rattle.bucket_table.specs.Map.LookingUp.{
-  AreUnwanted,
-  IsAbsent,
-  IsThere,
-  IsWantedOf,
-  home_bucket,
-  lent_buckets,
-  looked_up_len,
-  pair_looked_up,
-};
+ghost use Rattle.bucket_table.specs.Map.LookingUp.{AreUnwanted, IsAbsent, IsThere, IsWantedOf, looked_up_len};
 ghost use Rattle.bucket_table.specs.Map.Preparing.{IsPrepared};
 
 use crate::hash_table::HashTable;
 use crate::key_hash::KeyHash;
 use bucket_slots::bucket::{EqProbe, KeyProbe};
-use bucket_slots::bucket_array::BucketArray;
 use bucket_slots::lru::LruList;
 
 impl<K: Eq, V, H: KeyHash<K>, L: LruList, const TYPE: u8> HashTable<K, V, H, L, TYPE> {
@@ -87,50 +75,4 @@ impl<K: Eq + Drop, V: Drop, H: KeyHash<K>, L: LruList + Drop, const TYPE: u8> Ha
             None => None,
         }
     }
-}
-
-/// Returns the first wanted pair of the home of a hash in the old array, else of its home in the
-/// current one; `None` where neither has one.
-///
-/// Asks at most once for each live slot of the two homes with the hash's low byte. Takes no memory.
-/// O(blocks in two chains). Own.
-#[inline(always)]
-pub fn peek_arrays<'a, K, V, L: LruList, const TYPE: u8, P: KeyProbe<K>>(
-    old: Option<&'a BucketArray<K, V, L, TYPE>>,
-    current: &'a BucketArray<K, V, L, TYPE>,
-    hash: u64,
-    probe: &mut P,
-) -> Option<(&'a K, &'a V)>
-    ensures first { pair_lent result
-        ≡ pair_looked_up (P.wants probe.old) hash (lent_buckets old.entry) current.now }
-    ensures few { P.asked probe.new ≤ P.asked probe.old
-        + looked_up_len hash (lent_buckets old.entry) current.now }
-    ensures fixed { P.wants probe.new ≡ P.wants probe.old }
-{
-    let Some(array) = old else {
-        return peek_home(current, hash, probe);
-    };
-    match peek_home(array, hash, probe) {
-        Some((key, value)) => Some((key, value)),
-        None => peek_home(current, hash, probe),
-    }
-}
-
-/// Returns the first wanted pair of the home of a hash.
-#[inline(always)]
-fn peek_home<'a, K, V, L: LruList, const TYPE: u8, P: KeyProbe<K>>(
-    array: &'a BucketArray<K, V, L, TYPE>,
-    hash: u64,
-    probe: &mut P,
-) -> Option<(&'a K, &'a V)>
-    ensures pair { pair_lent result
-        ≡ pair_wanted (P.wants probe.old) (hash % 256) (home_bucket hash array.now) }
-    ensures few { P.asked probe.new ≤ P.asked probe.old
-        + matching_len (hash % 256) (home_bucket hash array.now) }
-    ensures fixed { P.wants probe.new ≡ P.wants probe.old }
-{
-    array.room();
-    array
-        .bucket(array.bucket_index(hash))
-        .peek_entry_by(hash, probe)
 }

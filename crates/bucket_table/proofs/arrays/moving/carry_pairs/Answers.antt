@@ -1,0 +1,51 @@
+use Rattle.bucket_table.proofs.Words.{MovesInto, refl, rules, subst, sym, ◌∙◌}
+use Rattle.bucket_table.proofs.Moves.Carried.{can_move_unlisted, carried_over, carries_unlisted, is_cache, is_kept, moves_unlisted}
+use Rattle.bucket_table.proofs.Moves.Carried.{order_back}
+use Rattle.bucket_table.proofs.Moves.Landings.{none_said}
+use Rattle.bucket_table.proofs.arrays.moving.carry_pairs.Goals as goal
+
+pub move_pairs-requires : goal.move_pairs-requires
+move_pairs-requires g c =
+    let ready = can_move_unlisted (g.H.KeyHash.hash_of c.args.hasher.now) c.take_lru-len.ensures.bucket c.requires in
+    (search rules, (search rules, (ready, λ slot. refl)))
+
+pub returns-then-len-eq0-clause-moved : goal.returns-then-len-eq0-clause-moved
+returns-then-len-eq0-clause-moved g c =
+    let hash = g.H.KeyHash.hash_of c.args.hasher.now in
+    let moved = subst (λ s. MovesInto hash s c.args.current.now c.move_pairs.new.source c.move_pairs.new.current)
+    c.take_lru-len.ensures.bucket c.move_pairs.ensures.moved in
+    moves_unlisted hash c.args.source.now c.move_pairs.new.source c.args.current.now c.move_pairs.new.current moved
+
+pub returns-then-len-eq0-clause-recency : goal.returns-then-len-eq0-clause-recency
+returns-then-len-eq0-clause-recency g c = carries_unlisted c.args.source.now c.args.current.now c.move_pairs.new.current
+    (sym c.take_lru-len.ensures.number ∙ c.if-len-eq0.true) c.move_pairs.ensures.landed.same_lists
+
+pub move_pairs-requires-2 : goal.move_pairs-requires-2
+move_pairs-requires-2 g c =
+    let ready = can_move_unlisted (g.H.KeyHash.hash_of c.args.hasher.now) c.take_lru-len.ensures.bucket c.requires in
+    (search rules, (search rules, (ready, none_said 32)))
+
+pub append_arrivals-requires : goal.append_arrivals-requires
+append_arrivals-requires g c =
+    let source = c.args.source.now in
+    let taken = c.take_lru-len.ensures in
+    let order = order_back source.listed c.take_lru-len.result.0 c.take_lru-len.result.1 taken.slots taken.number in (
+      search rules,
+      (
+        rw order c.sound.ensures.listed_once,
+        (
+          c.move_pairs-2.ensures.landed.table,
+          (is_cache g.row.TYPE source _ c.sound.ensures order, is_kept g.L.LruList.KEEPS source.listed _ taken.not_kept order),
+        ),
+      ),
+    )
+
+pub returns : goal.returns
+returns g c =
+    let hash = g.H.KeyHash.hash_of c.args.hasher.now in
+    let taken = c.take_lru-len.ensures in
+    let m = c.move_pairs-2 in
+    let carried = carried_over g.row.TYPE hash c.args.source.now c.take_lru-len.new.self m.new.source c.args.current.now m.new.current
+    c.append_arrivals.new.current m.new.landings c.take_lru-len.result.0 c.take_lru-len.result.1 c.sound.ensures m.auto.landings
+    taken.bucket taken.slots taken.number m.ensures.landed m.ensures.moved m.ensures.homes c.append_arrivals.ensures in
+    record { moved = carried.moved; homes = carried.homes; emptied = m.ensures.emptied; recency = carried.recency }

@@ -1,0 +1,54 @@
+use Rattle.bucket_table.proofs.Words.{live_from_pair, rules, slot_in}
+use Rattle.bucket_table.proofs.Moves.Landings.{landed_all}
+use Rattle.bucket_table.proofs.Moves.MovingPairs.{moving_done, moving_first, moving_step}
+use Rattle.bucket_table.proofs.arrays.moving.move_pairs.Goals as goal
+
+pub own-init : goal.own-init
+own-init g c = rw c.null-at.ensures (moving_first (g.H.KeyHash.hash_of c.args.hasher.now) c.requires.ready c.requires.unsaid)
+
+pub move_pair-requires : goal.move_pair-requires
+move_pair-requires g c =
+    let next = c.find_next_here.ensures.ahead c.own-test.true in
+    let alive = live_from_pair (slot_in c.own.source c.find_next_here.new.self) next.pair next.here in
+    (search rules, (search rules, (search rules, (c.own.invariant.ready, alive))))
+
+pub own-smaller : goal.own-smaller
+own-smaller g c =
+    let next = c.find_next_here.ensures.ahead c.own-test.true in
+    rw c.move_pair.ensures.pointer (moving_step (g.H.KeyHash.hash_of c.args.hasher.now) c.own.invariant next c.move_pair.ensures.moved).1
+
+pub own-preserved : goal.own-preserved
+own-preserved g c =
+    let next = c.find_next_here.ensures.ahead c.own-test.true in
+    rw c.move_pair.ensures.pointer (moving_step (g.H.KeyHash.hash_of c.args.hasher.now) c.own.invariant next c.move_pair.ensures.moved).0
+
+pub pairs-init : goal.pairs-init
+pairs-init g c = rw (c.find_next_here.ensures.stays c.own-test.false) c.own.invariant
+
+pub move_pair-requires-in-pairs : goal.move_pair-requires-in-pairs
+move_pair-requires-in-pairs g c =
+    let next = c.find_next.ensures.ahead c.pairs-test.true in
+    let alive = live_from_pair (slot_in c.pairs.source c.find_next.new.self) next.pair next.here in
+    (search rules, (search rules, (search rules, (c.pairs.invariant.ready, alive))))
+
+pub pairs-smaller : goal.pairs-smaller
+pairs-smaller g c =
+    let next = c.find_next.ensures.ahead c.pairs-test.true in
+    rw c.move_pair-in-pairs.ensures.pointer
+    (moving_step (g.H.KeyHash.hash_of c.args.hasher.now) c.pairs.invariant next c.move_pair-in-pairs.ensures.moved).1
+
+pub pairs-preserved : goal.pairs-preserved
+pairs-preserved g c =
+    let next = c.find_next.ensures.ahead c.pairs-test.true in
+    rw c.move_pair-in-pairs.ensures.pointer
+    (moving_step (g.H.KeyHash.hash_of c.args.hasher.now) c.pairs.invariant next c.move_pair-in-pairs.ensures.moved).0
+
+pub returns-clause-emptied : goal.returns-clause-emptied
+returns-clause-emptied g c =
+    moving_done (g.H.KeyHash.hash_of c.args.hasher.now) c.pairs.invariant (c.find_next.ensures.end c.pairs-test.false).ahead
+
+pub returns-clause-landed : goal.returns-clause-landed
+returns-clause-landed g c =
+    let hash = g.H.KeyHash.hash_of c.args.hasher.now in
+    let emptied = moving_done hash c.pairs.invariant (c.find_next.ensures.end c.pairs-test.false).ahead in
+    landed_all hash _ _ _ _ _ c.pairs.invariant.landing emptied

@@ -1,7 +1,0 @@
-use Rattle.bucket_table.proofs.Map.LookUps.{second_home}
-use Rattle.bucket_table.proofs.hash_table.lookup.peek_arrays.Goals as goal
-
-pub returns-in-None-clause-first : goal.returns-in-None-clause-first
-returns-in-None-clause-first g c =
-    second_home (g.P.KeyProbe.wants c.args.probe.now) c.args.hash _ c.args.old c.in-Some.array c.args.current.now c.peek_home-in-None.result
-    c.in-Some.is c.peek_home-2.ensures.fixed c.in-None.ensures.pair c.peek_home-in-None.ensures.pair

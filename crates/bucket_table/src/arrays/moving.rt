@@ -1,0 +1,311 @@
+//! Pairs that move from an old bucket to their homes in the current array.
+//!
+//! Ports `relocate_bucket` of scc's `src/hash_table.rs`.
+ghost use Rattle.std.specs.Prelude.{◌≡◌, ◌+◌, ◌<◌, ◌≤◌, [], ℕ, Some, None, true, false, length, IsOk, IsTrue, OnErr, OnOk, slice_index};
+ghost use Rattle.std.specs.List.{All};
+ghost use Rattle.bucket_slots.specs.ArrayView.{bucket_at};
+ghost use Rattle.bucket_slots.specs.BucketView.{pairs_in, slot_in};
+ghost use Rattle.bucket_slots.specs.Homes.{IsInRange};
+ghost use Rattle.bucket_slots.specs.Recency.{IsRecencyOrder};
+ghost use Rattle.bucket_slots.specs.Reserving.{free_len_in};
+ghost use Rattle.bucket_slots.specs.Slots.{is_free, is_live, live_pair};
+ghost use Rattle.bucket_table.specs.Layout.Landings.{AreListable, CarriesRecency, HaveLanded, ListsArrivals, landing_of, landings_with};
+ghost use Rattle.bucket_table.specs.Layout.Moving.{CanMoveInto, MovesHome};
+ghost use Rattle.bucket_table.specs.Rehash.Relocation.{AreHome, AreTwoArrays, HasRoomFor, IsRelocated, IsWay, KeepsEntries, KeepsOthers};
+ghost use Rattle.bucket_table.specs.Rehash.Relocation.{MovesInto, home_of, homed_len};
+
+use crate::capacity::from_index_to_range;
+use crate::key_hash::KeyHash;
+use bucket_slots::bucket::{AllocError, BUCKET_LEN, Bucket, CACHE, EntryPtr};
+use bucket_slots::bucket_array::BucketArray;
+use bucket_slots::lru::LruList;
+use std::alloc::Global;
+
+/// The pairs of so many targets are counted without memory.
+const COUNTED_TARGETS: usize = 8;
+
+/// Where the pair of an own slot has landed: the index of a bucket, and an own slot of it.
+#[derive(Clone, Copy)]
+pub(crate) struct Landing {
+    home: usize,
+    slot: usize,
+}
+
+/// Moves the pairs of an old bucket to their homes in the current array, and kills it. A bucket
+/// that is killed already stays as it is.
+///
+/// Room is made in all targets before a pair moves, where the old array is longer or the bucket
+/// has more pairs than an empty target takes. The recency order goes along.
+///
+/// # Errors
+///
+/// Want of memory: no pair has moved, no recency list has changed, and the bucket isn't killed.
+pub(crate) fn relocate<K: Eq + Drop, V: Drop, H: KeyHash<K>, L: LruList, const TYPE: u8>(
+    alloc: Global,
+    hasher: &H,
+    current: &mut BucketArray<K, V, L, TYPE>,
+    linked: &mut BucketArray<K, V, L, TYPE>,
+    index: usize,
+) -> Result<(), AllocError>
+    requires within { index < length linked.old }
+    requires law { AreTwoArrays (H.hash_of hasher.now) current.old linked.old }
+    ensures law { AreTwoArrays (H.hash_of hasher.now) current.new linked.new }
+    ensures moved { OnOk result (IsRelocated index current.old linked.old current.new linked.new) }
+    ensures kept { OnErr result (KeepsEntries current.old current.new) }
+    ensures linked_kept { OnErr result (linked.new ≡ linked.old) }
+    ensures never_refused { length linked.old ≤ length current.old
+        → length (pairs_in (bucket_at linked.old index)) ≤ BUCKET_LEN
+        → IsOk result }
+    ensures recency { OnOk result
+        (CarriesRecency (bucket_at linked.old index) current.old current.new) }
+    ensures alive { OnErr result ((bucket_at linked.old index).killed ≡ false) }
+{
+    current.room();
+    let from = linked.len();
+    let to = current.len();
+    let (start, end) = from_index_to_range(from, to, index);
+    if linked.bucket(index).is_killed() {
+        return Ok(());
+    }
+    let source = linked.bucket_mut(index);
+    if to < from || BUCKET_LEN < source.len() {
+        if let Err(refused) = reserve_targets(alloc, hasher, current, source, start, end) {
+            return Err(refused);
+        }
+    }
+    carry_pairs(hasher, current, source, start, end);
+    source.kill();
+    Ok(())
+}
+
+/// Makes room for each pair of a bucket in its home, one of the buckets from `start` up to below
+/// `end`.
+fn reserve_targets<K: Eq + Drop, V: Drop, H: KeyHash<K>, L: LruList, const TYPE: u8>(
+    alloc: Global,
+    hasher: &H,
+    current: &mut BucketArray<K, V, L, TYPE>,
+    source: &Bucket<K, V, L, TYPE>,
+    start: usize,
+    end: usize,
+) -> Result<(), AllocError>
+    requires some { start < end }
+    requires within { end ≤ length current.old }
+    requires in_range { All
+        (λ pair. IsInRange start end (home_of (length current.old) (H.hash_of hasher.now pair.0)))
+        (pairs_in source.now) }
+    ensures room { OnOk result (HasRoomFor (H.hash_of hasher.now) current.new (pairs_in source.now)) }
+    ensures kept { KeepsEntries current.old current.new }
+    ensures others { KeepsOthers start end current.old current.new }
+{
+    let len = end - start;
+    if len == 1 {
+        return reserve_each(current, start, &[source.len()]);
+    }
+    if len <= COUNTED_TARGETS {
+        let mut counts = [0; COUNTED_TARGETS];
+        let part = &mut counts[..len];
+        count_targets(hasher, current, source, start, part);
+        return reserve_each(current, start, part);
+    }
+    let Ok(mut counts) = vec![in alloc; 0; len] else {
+        return Err(AllocError);
+    };
+    count_targets(hasher, current, source, start, &mut counts);
+    reserve_each(current, start, &counts)
+}
+
+/// Counts the pairs of a bucket by their homes, from the bucket `start` of an array on.
+fn count_targets<K: Eq, V, H: KeyHash<K>, L: LruList, const TYPE: u8>(
+    hasher: &H,
+    current: &BucketArray<K, V, L, TYPE>,
+    source: &Bucket<K, V, L, TYPE>,
+    start: usize,
+    counts: &mut [usize],
+)
+    requires zeros { (k : ℕ) → k < length counts.old → slice_index counts.old k ≡ 0 }
+    requires in_range { All
+        (λ pair. IsInRange start (start + length counts.old) (home_of (length current.now) (H.hash_of hasher.now pair.0)))
+        (pairs_in source.now) }
+    ensures { (k : ℕ) → k < length counts.old → slice_index counts.new k
+        ≡ homed_len (H.hash_of hasher.now) (length current.now) (start + k) (pairs_in source.now) }
+{
+    let _most = source.len();
+    let mut at = EntryPtr::null();
+    'pairs: while at.find_next(source) {
+        let home = current.bucket_index(hasher.hash_one(at.key(source)));
+        counts[home - start] += 1;
+    }
+}
+
+/// Makes room in the buckets of an array from `start` on, in each as many free slots as `counts`
+/// says.
+fn reserve_each<K: Drop, V: Drop, L: LruList, const TYPE: u8>(
+    current: &mut BucketArray<K, V, L, TYPE>,
+    start: usize,
+    counts: &[usize],
+) -> Result<(), AllocError>
+    requires within { start + length counts.now ≤ length current.old }
+    ensures room { OnOk result ((k : ℕ) → k < length counts.now
+        → slice_index counts.now k ≤ free_len_in (bucket_at current.new (start + k))) }
+    ensures kept { KeepsEntries current.old current.new }
+    ensures others { KeepsOthers start (start + length counts.now) current.old current.new }
+{
+    current.room();
+    let _buckets = current.len();
+    'counts: for k in 0..counts.len() {
+        if let Err(refused) = current.bucket_mut(start + k).reserve_slots(counts[k]) {
+            return Err(refused);
+        }
+    }
+    Ok(())
+}
+
+/// Moves each pair of a bucket to its home in an array that has room for it, one of the buckets
+/// from `start` up to below `end`, and its recency order with it.
+///
+/// The listed pairs that land in own slots are listed there behind their bucket's own, in the order
+/// in which they were listed. A pair that lands in a chain isn't listed.
+fn carry_pairs<K: Eq + Drop, V: Drop, H: KeyHash<K>, L: LruList, const TYPE: u8>(
+    hasher: &H,
+    current: &mut BucketArray<K, V, L, TYPE>,
+    source: &mut Bucket<K, V, L, TYPE>,
+    start: usize,
+    end: usize,
+)
+    requires { CanMoveInto (H.hash_of hasher.now) start end source.old current.old }
+    ensures moved { MovesInto (H.hash_of hasher.now) source.old current.old source.new current.new }
+    ensures homes { AreHome (H.hash_of hasher.now) current.new }
+    ensures emptied { pairs_in source.new ≡ [] }
+    ensures recency { CarriesRecency source.old current.old current.new }
+{
+    source.sound();
+    let (order, len) = source.take_lru();
+    if len == 0 {
+        move_pairs(hasher, current, source, start, end, &mut []);
+        return;
+    }
+    let mut landings = [None; BUCKET_LEN];
+    move_pairs(hasher, current, source, start, end, &mut landings);
+    append_arrivals(current, &order[..len], &landings);
+}
+
+/// Moves each pair of a bucket to its home in an array that has room for it, one of the buckets
+/// from `start` up to below `end`. Says in `landings` of as many own slots of the bucket as there
+/// is room for where their pairs landed, and nothing of a pair that landed in a chain.
+fn move_pairs<K: Eq + Drop, V: Drop, H: KeyHash<K>, L: LruList, const TYPE: u8>(
+    hasher: &H,
+    current: &mut BucketArray<K, V, L, TYPE>,
+    source: &mut Bucket<K, V, L, TYPE>,
+    start: usize,
+    end: usize,
+    landings: &mut [Option<Landing>],
+)
+    requires ready { CanMoveInto (H.hash_of hasher.now) start end source.old current.old }
+    requires unsaid { (slot : ℕ) → landing_of landings.old slot ≡ None }
+    ensures moved { MovesInto (H.hash_of hasher.now) source.old current.old source.new current.new }
+    ensures homes { AreHome (H.hash_of hasher.now) current.new }
+    ensures emptied { pairs_in source.new ≡ [] }
+    ensures landed { HaveLanded (H.hash_of hasher.now) source.old current.old
+        current.new landings.new }
+{
+    let mut at = EntryPtr::null();
+    'own: while at.find_next_here(source) {
+        move_pair(hasher, current, source, &mut at, start, end, landings);
+    }
+    'pairs: while at.find_next(source) {
+        move_pair(hasher, current, source, &mut at, start, end, landings);
+    }
+}
+
+/// Moves the pair that a pointer stands at to its home, and says in `landings` where it landed. The
+/// pointer stays.
+#[inline(always)]
+fn move_pair<K: Eq + Drop, V: Drop, H: KeyHash<K>, L: LruList, const TYPE: u8>(
+    hasher: &H,
+    current: &mut BucketArray<K, V, L, TYPE>,
+    source: &mut Bucket<K, V, L, TYPE>,
+    at: &mut EntryPtr<K, V, TYPE>,
+    start: usize,
+    end: usize,
+    landings: &mut [Option<Landing>],
+)
+    requires ready { CanMoveInto (H.hash_of hasher.now) start end source.old current.old }
+    requires live_slot { IsTrue (is_live (slot_in source.old at.old)) }
+    ensures moved { MovesHome TYPE (H.hash_of hasher.now) at.old source.old current.old landings.old
+        source.new current.new landings.new }
+    ensures pointer { at.new ≡ at.old }
+{
+    source.sound();
+    let (home, hash) = way_of(hasher, current, source, at, start, end);
+    let target = current.bucket_mut(home);
+    target.sound();
+    let Ok(to) = target.extract_from(hash, source, at) else {
+        unreachable!()
+    };
+    say_landing(landings, at, home, &to);
+}
+
+/// Says of a pair that moved from an own slot to one of bucket `home` where it landed, where there
+/// is room for it.
+#[inline(always)]
+fn say_landing<K, V, const TYPE: u8>(
+    landings: &mut [Option<Landing>],
+    from: &EntryPtr<K, V, TYPE>,
+    home: usize,
+    to: &EntryPtr<K, V, TYPE>,
+)
+    ensures { landings.new ≡ landings_with landings.old from.now home to.now }
+{
+    let pos = from.pos();
+    if pos < landings.len() && from.block() == 0 && to.block() == 0 {
+        let slot = to.pos();
+        landings[pos] = Some(Landing { home, slot });
+    }
+}
+
+/// Lists own slots of an array behind those that their buckets list: those in which the pairs of
+/// the slots of an order landed, in that order.
+fn append_arrivals<K: Eq + Drop, V: Drop, L: LruList, const TYPE: u8>(
+    current: &mut BucketArray<K, V, L, TYPE>,
+    order: &[u8],
+    landings: &[Option<Landing>; BUCKET_LEN],
+)
+    requires once { IsRecencyOrder order.now }
+    requires table { AreListable landings.now current.old }
+    requires cache { 0 < length order.now → TYPE ≡ CACHE }
+    requires keeps { 0 < length order.now → L.KEEPS ≡ true }
+    ensures { ListsArrivals landings.now order.now current.old current.new }
+{
+    current.room();
+    'order: for slot in order {
+        if let Some(landing) = landings[*slot as usize] {
+            let at = EntryPtr::own_slot(landing.slot);
+            let target = current.bucket_mut(landing.home);
+            target.append_lru(&at);
+        }
+    }
+}
+
+/// Where the pair of a slot goes in an array: the index of its home, and a number with its byte.
+/// Where `start` is its one target, the stored byte is enough; else its key is hashed anew.
+#[inline(always)]
+fn way_of<K: Eq, V, H: KeyHash<K>, L: LruList, const TYPE: u8>(
+    hasher: &H,
+    current: &BucketArray<K, V, L, TYPE>,
+    source: &Bucket<K, V, L, TYPE>,
+    at: &EntryPtr<K, V, TYPE>,
+    start: usize,
+    end: usize,
+) -> (usize, u64)
+    requires ready { CanMoveInto (H.hash_of hasher.now) start end source.now current.now }
+    requires occupied { is_free (slot_in source.now at.now) ≡ false }
+    ensures { (pair : K × V) → live_pair (slot_in source.now at.now) ≡ Some pair
+        → IsWay (H.hash_of hasher.now) (length current.now) pair result.0 result.1 }
+{
+    let _buckets = current.len();
+    if end.saturating_sub(start) == 1 {
+        return (start, u64::from(at.partial_hash(source)));
+    }
+    let hash = hasher.hash_one(at.key(source));
+    (current.bucket_index(hash), hash)
+}
