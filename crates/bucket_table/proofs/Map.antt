@@ -7,4 +7,5 @@ pub mod TakeSteps
 pub mod LockedSteps
 pub mod Finding
 pub mod Preparing
+pub mod SlotSteps
 pub mod CountSteps

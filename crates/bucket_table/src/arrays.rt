@@ -1,5 +1,5 @@
 //! The arrays of a table: a current one, and an old one while a rehash is on.
-ghost use Rattle.std.specs.Prelude.{◌≡◌, ◌^◌, ◌≤◌, ◌<◌, ◌↔◌, ℕ, [], IsTrue, MatchOption, length};
+ghost use Rattle.std.specs.Prelude.{◌≡◌, ◌^◌, ◌≤◌, ◌<◌, ◌↔◌, [], IsTrue, MatchOption, length};
 ghost use Rattle.bucket_slots.specs.Homes.{IsHome};
 ghost use Rattle.bucket_slots.specs.Sizing.{IsLength, IsPowerIn};
 ghost use Rattle.bucket_table.specs.Views.ArraysView.{AreArrays, list_of};
@@ -21,6 +21,7 @@ mod relocating;
 mod resizing;
 mod sampling;
 mod searching;
+mod slots;
 mod unit;
 
 use crate::tickets::Tickets;

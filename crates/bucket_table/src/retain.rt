@@ -1,5 +1,5 @@
 //! Taking out of a bucket what a test refuses.
-ghost use Rattle.std.specs.Prelude.{◌≡◌, Bool, Some, IsTrue, ℕ, ◌∷◌};
+ghost use Rattle.std.specs.Prelude.{◌≡◌, Some, IsTrue, ℕ, ◌∷◌};
 ghost use Rattle.std.specs.List.Sorted.{IsPermutation};
 ghost use Rattle.bucket_slots.specs.BucketView.{entries_in, marks_in, slot_in};
 ghost use Rattle.bucket_slots.specs.Marking.{MarksBy};

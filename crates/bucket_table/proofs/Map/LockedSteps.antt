@@ -80,7 +80,7 @@ module _ {K V H : Type 0} where
   put_if_ok (Err e) t s side i b f is put = tt
 
   -- one pair less, and then another order
-  taken_then : (a b d : MapState K V H) (p : K × V) → TakesPair a p b → KeepsPairs b d → TakesPair a p d
+  pub taken_then : (a b d : MapState K V H) (p : K × V) → TakesPair a p b → KeepsPairs b d → TakesPair a p d
   taken_then a b d p takes keeps = record {
     pairs = IsPermutation-trans a.pairs (p ∷ b.pairs) (p ∷ d.pairs) takes.pairs (IsPermutation-cons p b.pairs d.pairs keeps.pairs);
     others = keeps.others

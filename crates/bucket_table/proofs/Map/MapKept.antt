@@ -4,6 +4,7 @@ use Rattle.bucket_table.proofs.Words.{IsPermutation-map, IsUnmoved, Keeps, Keeps
 use Rattle.bucket_table.proofs.Words.{RelocatesAt, Result, TableView, [], ap, arith, entries_of, first_tickets, map, pairs_of, refl, ℕ, ◌≡◌}
 use Rattle.std.specs.List.{IsDistinct}
 use Rattle.bucket_table.specs.Map.MapState.{state_of}
+use Rattle.bucket_table.proofs.Views.Laws.{loses_none}
 
 module _ {K V : Type 0} where
   pub pairs_kept : (xs ys : List ((K × V) × ℕ)) → IsPermutation xs ys
@@ -43,16 +44,7 @@ module _ {K V : Type 0} where
         killed_empty = λ i below. absurd (omega arith);
         empty_targets = λ longer i j below. absurd (omega arith);
       };
-      rehashed = record {
-        covered = record {
-          same_len = refl;
-          units_in_range = λ i d below. absurd (omega arith);
-          done_or_open = λ unit below. absurd
-              (omega arith);
-        };
-        going_on = λ some. absurd (omega arith);
-        emptied = λ i d below. absurd (omega arith);
-      };
+      rehashed = loses_none;
     };
   }
 

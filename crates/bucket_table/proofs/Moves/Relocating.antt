@@ -2,10 +2,10 @@
 use Rattle.bucket_table.proofs.Words.{All, All-map, All-nil, AreHome, AreTwoArrays, Bool, BucketView, IsEntryHome, IsInRange, IsLength}
 use Rattle.bucket_table.proofs.Words.{IsPermutation, IsPermutation-append_left, IsPermutation-append_right, IsPermutation-refl}
 use Rattle.bucket_table.proofs.Words.{IsPermutation-trans, IsVacant, KeepsEntries, List, Meets, MovesInto, Slot, [], ap, append-nil, arith}
-use Rattle.bucket_table.proofs.Words.{bucket_at, cases_eq, entries_among, entries_in, false, flattened, get_or, home_of, if◌then◌else◌, inl}
-use Rattle.bucket_table.proofs.Words.{inr, interval_width, length, length-entries_in, live_pairs, map-entries_in, marks_among}
-use Rattle.bucket_table.proofs.Words.{nil_from_length, no_new-refl, pairs_in, refl, rotated, scales, set, subst, suc, sym, true, ℕ, ◌++◌}
-use Rattle.bucket_table.proofs.Words.{◌/◌, ◌<◌, ◌==◌, ◌↔◌, ◌∙◌, ◌∷◌, ◌≡◌, ◌≤◌}
+use Rattle.bucket_table.proofs.Words.{bucket_at, cases_eq, empty_bucket, entries_among, entries_in, false, flattened, get_or, home_of}
+use Rattle.bucket_table.proofs.Words.{if◌then◌else◌, inl, inr, interval_width, length, length-entries_in, live_pairs, map-entries_in}
+use Rattle.bucket_table.proofs.Words.{marks_among, nil_from_length, no_new-refl, pairs_in, refl, rotated, scales, set, subst, sym, true, ℕ}
+use Rattle.bucket_table.proofs.Words.{◌++◌, ◌/◌, ◌<◌, ◌==◌, ◌↔◌, ◌∙◌, ◌≡◌, ◌≤◌}
 use Rattle.std.proofs.Common.{append_assoc}
 use Rattle.std.proofs.lemmas.List.{set-get_or}
 use Rattle.bucket_slots.proofs.ArrayCallerLemmas.{one_source}
@@ -17,7 +17,7 @@ use Rattle.bucket_table.specs.Layout.Moving.{CanMoveInto}
 use Rattle.bucket_table.specs.Rehash.Relocation.{HasOwnByte, HasRoomFor, IsRelocated, KeepsOthers}
 use Rattle.bucket_table.proofs.Moves.Exchanges.{ChangesAt, changes_at, exchanged}
 use Rattle.bucket_table.proofs.Moves.HomesByDivision.{in_interval, some_width}
-use Rattle.bucket_table.proofs.Views.MarksKept.{marks_among-kept, marks_moved}
+use Rattle.bucket_table.proofs.Views.MarksKept.{all_alike, marks_among-kept, marks_moved}
 use Rattle.bucket_table.proofs.Moves.RoomMade.{KeepsEntries-refl, homed_few, homed_none, room_in_range, vacant_len}
 
 -- the law of each old bucket has one source of each current one
@@ -48,13 +48,7 @@ module _ {K V : Type 0} where
 
   pub entries_alike : (c d : List (BucketView K V)) → length d ≡ length c
       → ((i : ℕ) → entries_in (bucket_at d i) ≡ entries_in (bucket_at c i)) → entries_among d ≡ entries_among c
-  entries_alike [] [] long each = refl
-  entries_alike [] (b ∷ d) long each = absurd (omega arith)
-  entries_alike (a ∷ c) [] long each = absurd (omega arith)
-  entries_alike (a ∷ c) (b ∷ d) long each =
-      let first : entries_in b ≡ entries_in a = each 0 in
-      let rest = entries_alike c d (omega arith) (λ i. each (suc i)) in
-      ap (λ l. l ++ entries_among d) first ∙ ap (λ l. entries_in a ++ l) rest
+  entries_alike c d long each = all_alike entries_in entries_among refl (λ x xs. refl) empty_bucket c d long each
 
   pub entries_among-kept : (c d : List (BucketView K V)) → KeepsEntries c d → entries_among d ≡ entries_among c
   entries_among-kept c d kept = entries_alike c d kept.len kept.entries

@@ -10,6 +10,7 @@ use Rattle.bucket_table.specs.declared.tickets.TicketError.{TicketError}
 use Rattle.bucket_table.specs.declared.tickets.TicketError.TheVariants.{NotDone, NotOpen}
 use Rattle.bucket_table.proofs.Rehash.Covering.{all_killed, covered_end, covered_start, going_on_end, going_on_start}
 use Rattle.bucket_table.proofs.Views.Killed.{no_pairs}
+use Rattle.bucket_table.proofs.Views.Laws.{loses_none}
 
 unit_of : (ticket unit : ℕ) → ticket ≡ 2048 * unit → ticket / 2048 ≡ unit
 unit_of ticket unit is = omega arith
@@ -119,16 +120,7 @@ module _ {K V : Type 0} where
       killed_empty = λ i below. absurd (omega arith);
       empty_targets = λ longer i j below. absurd (omega arith);
     };
-    rehashed = record {
-      covered = record {
-        same_len = refl;
-        units_in_range = λ i d below. absurd (omega arith);
-        done_or_open = λ unit below. absurd
-            (omega arith);
-      };
-      going_on = λ some. absurd (omega arith);
-      emptied = λ i d below. absurd (omega arith);
-    };
+    rehashed = loses_none;
   }
 
   pub placed_end : (hash : K → ℕ) (old new : ArraysView K V) (ticket : ℕ) (success : Bool) (answer : Result Bool TicketError)

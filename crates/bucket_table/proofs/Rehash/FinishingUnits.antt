@@ -1,18 +1,18 @@
 -- A unit of a rehash that no one else works at.
-use Rattle.bucket_table.proofs.Words.{ArraysView, Bool, EndsRehash, Err, HandsOut, List, LosesNoUnit, None, Ok, Result, Starts, TicketState}
-use Rattle.bucket_table.proofs.Words.{[], ap, arith, cases_lt, false, false≢true, inl, inr, length, length_permutation, nil_from_length}
-use Rattle.bucket_table.proofs.Words.{refl, sym, true, ℕ, ◌+◌, ◌/◌, ◌<◌, ◌∙◌, ◌≡◌}
-use Rattle.bucket_table.specs.Rehash.Finishing.{FinishesOne, units_left}
+use Rattle.bucket_table.proofs.Words.{ArraysView, Bool, EndsRehash, Err, HandsOut, List, LosesNoUnit, None, Ok, Result, Some, Starts}
+use Rattle.bucket_table.proofs.Words.{TicketState, [], ap, arith, cases_lt, false, inl, inr, length, length_permutation, nil_from_length}
+use Rattle.bucket_table.proofs.Words.{refl, true, ℕ, ◌+◌, ◌/◌, ◌∙◌, ◌≡◌}
+use Rattle.bucket_table.specs.Rehash.Finishing.{Finishes, units_left}
 use Rattle.bucket_table.specs.Rehash.Units.{WorksUnit}
 use Rattle.bucket_table.specs.declared.tickets.TicketError.{TicketError}
 use Rattle.bucket_table.proofs.Rehash.Covering.{position_after}
-use Rattle.bucket_table.proofs.Rehash.UnitWork.{closed, ends_now, not_refused}
+use Rattle.bucket_table.proofs.Rehash.UnitWork.{closed, ends_now, none_changed, not_refused}
 
 module _ {K V : Type 0} (old worked last : ArraysView K V) (started : TicketState) (ticket : ℕ) (success : Bool)
     (h : HandsOut old.tickets ticket started)
     (w : WorksUnit (ticket / 2048) success (record old { tickets = started }) worked) (long : old.tickets.len ≡ length old.linked) where
   -- what a unit's end leaves
-  pub finished : (answer : Result Bool TicketError) → old.tickets.open_units ≡ [] → EndsRehash worked ticket success answer last
+  finished : (answer : Result Bool TicketError) → old.tickets.open_units ≡ [] → EndsRehash worked ticket success answer last
       → (last.tickets.open_units ≡ []) × (success ≡ true → units_left last + 1 ≡ units_left old)
   finished (Err error) none ends =
       absurd (not_refused old.tickets started ticket h success _ error last.tickets w.1 (ends_now old worked last started ticket success h w
@@ -43,29 +43,30 @@ module _ {K V : Type 0} (old worked last : ArraysView K V) (started : TicketStat
             omega (arith, at, next, left, last_len, long),
       )
 
-module _ {K V : Type 0} where
-  -- an old array of which no ticket is open has a unit left
-  pub none_over : (old : ArraysView K V) (after : TicketState) → Starts old.tickets None after → LosesNoUnit old.linked old.tickets
-      → old.tickets.open_units ≡ [] → 0 < length old.linked → ⊥
-  none_over old after starts loses none some =
-      let no_open = ap (λ (us : List ℕ). length us) none in
-      elim starts.0 [
-        | inl handed ↦ elim (loses.going_on some) [
-          | inl left ↦ absurd (omega (arith, handed, left))
-          | inr left ↦ let less = (rw none at left.1).1 in absurd (omega (arith, less))
+  pub finishes : (answer : Result Bool TicketError) → EndsRehash worked ticket success answer last → old.tickets.open_units ≡ []
+      → Finishes old (Some success) last
+  finishes answer ends none =
+      let done = finished answer none ends in
+      let left = h.is_left in
+      record { none_open = done.0; none = tt; one = (omega (arith, left, long), done.1) }
+
+-- an old array of which no ticket is open has a unit left
+pub finishes_none : {K V : Type 0} (old new : ArraysView K V) → Starts old.tickets None new.tickets
+    → new ≡ record old { tickets = new.tickets } → LosesNoUnit old.linked old.tickets → old.tickets.open_units ≡ [] → Finishes old None new
+finishes_none {K} {V} old new starts is loses none =
+    let no_open = ap (λ (us : List ℕ). length us) none in
+    let same = none_changed old new starts is in
+    record {
+      none_open = ap (λ (a : ArraysView K V). a.tickets.open_units) same ∙ none;
+      none = elim (cases_lt 0 (length old.linked)) [
+        | inr gone ↦ (omega (arith, gone), same)
+        | inl some ↦ elim starts.0 [
+          | inl handed ↦ elim (loses.going_on some) [
+            | inl left ↦ absurd (omega (arith, handed, left))
+            | inr left ↦ let less = (rw none at left.1).1 in absurd (omega (arith, less))
+          ]
+          | inr full ↦ absurd (omega (arith, full, no_open))
         ]
-        | inr full ↦ absurd (omega (arith, full, no_open))
-      ]
-
-  -- units worked so far, and those that are left
-  pub one_more : (old new : ArraysView K V) (more : Bool) → FinishesOne old more new → more ≡ true → units_left new + 1 ≡ units_left old
-  one_more old new more f e = elim (cases_lt 0 (length old.linked)) [
-    | inl some ↦ (f.one some).1
-    | inr none ↦ absurd (false≢true (sym (f.none (omega (arith, none))).0 ∙ e))
-  ]
-
-  pub all_done : (old new : ArraysView K V) (more : Bool) → FinishesOne old more new → more ≡ false → (length old.linked ≡ 0) × (new ≡ old)
-  all_done old new more f e = elim (cases_lt 0 (length old.linked)) [
-    | inl some ↦ absurd (false≢true (sym e ∙ (f.one some).0))
-    | inr none ↦ let zero_len : length old.linked ≡ 0 = omega (arith, none) in (zero_len, (f.none zero_len).1)
-  ]
+      ];
+      one = tt;
+    }

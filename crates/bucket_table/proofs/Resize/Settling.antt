@@ -2,6 +2,7 @@
 use Rattle.bucket_table.proofs.Words.{ArePlaced, ArraysView, Bool, Err, IsEquivalence, IsOneMap, Keeps, MapState, Ok, Result, false}
 use Rattle.bucket_table.proofs.Words.{pairs_of, refl, true, ℕ, ◌+◌, ◌-◌, ◌≡◌}
 use Rattle.bucket_table.specs.Map.MapState.{LowersMinimum, RaisesMinimum, state_of}
+use Rattle.bucket_table.specs.Resize.Asking.{ResizesIf}
 use Rattle.bucket_table.specs.Resize.Turns.{Releases, Reserves, Resizes, TriesResize, with_minimum}
 use Rattle.bucket_table.specs.declared.arrays.plan.Plan.TheVariants.{Resize}
 use Rattle.bucket_table.proofs.Map.MapKept.{keeps_pairs, one_map_kept}
@@ -10,6 +11,15 @@ module _ {K V : Type 0} where
   pub resizes : {E : Type 0} (old new : ArraysView K V) (answer : Result Bool E) → TriesResize old answer new → Resizes old new
   resizes old new (Ok moved) (plan, is, answered, turns) = (plan, is, (false, turns))
   resizes old new (Err refused) (capacity, is, same) = (Resize capacity, is, (true, same))
+
+  -- what was asked for was tried, and what wasn't asked for wasn't
+  pub resizes_asked : {E Asked : Type 0} (old new : ArraysView K V) (answer : Result Bool E) → Asked → TriesResize old answer new
+      → ResizesIf Asked old new
+  resizes_asked old new answer asks tries =
+      record { asked = λ h. resizes old new answer tries; not_asked = λ refused. absurd (refused asks) }
+
+  pub stays_unasked : {Asked : Type 0} (arrays : ArraysView K V) → (Asked → ⊥) → ResizesIf Asked arrays arrays
+  stays_unasked arrays none = record { asked = λ h. absurd (none h); not_asked = λ refused. refl }
 
   -- the law says nothing of the minimum
   pub placed_with : (hash : K → ℕ) (arrays : ArraysView K V) (least : ℕ) → ArePlaced hash arrays

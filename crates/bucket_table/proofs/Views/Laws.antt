@@ -1,6 +1,6 @@
 -- What arrays keep where a new one is the current one, and tickets of no array.
-use Rattle.bucket_table.proofs.Words.{All, AreArrays, ArraysView, BucketView, IsNewArray, List, TicketState, [], arith, cases_lt, inl, inr}
-use Rattle.bucket_table.proofs.Words.{length, refl, ℕ, ◌*◌, ◌<◌, ◌∙◌, ◌∷◌, ◌≡◌, ◌≤◌}
+use Rattle.bucket_table.proofs.Words.{All, AreArrays, ArraysView, BucketView, IsNewArray, List, LosesNoUnit, TicketState, [], arith}
+use Rattle.bucket_table.proofs.Words.{cases_lt, first_tickets, inl, inr, length, refl, ℕ, ◌*◌, ◌<◌, ◌∙◌, ◌∷◌, ◌≡◌, ◌≤◌}
 use Rattle.bucket_table.specs.Rehash.Finishing.{IsUnopened}
 use Rattle.bucket_table.specs.Rehash.State.{IsTicketState}
 use Rattle.bucket_table.proofs.Resize.Plans.{len_fits}
@@ -27,6 +27,15 @@ none_open tickets is none = all_below tickets.len tickets.open_units none is.uni
     all_below : (len : ℕ) (units : List ℕ) → len ≡ 0 → All (λ unit. 64 * unit < len) units → units ≡ []
     all_below len [] none all = refl
     all_below len (u ∷ units) none all = let here : 64 * u < len = all 0 0 (omega arith) in absurd (omega arith)
+
+-- where there is no old array no unit of it is lost
+pub loses_none : {K V : Type 0} → LosesNoUnit {K = K} {V = V} [] (first_tickets 0)
+loses_none = record {
+  covered =
+      record { same_len = refl; units_in_range = λ i d below. absurd (omega arith); done_or_open = λ unit below. absurd (omega arith) };
+  going_on = λ some. absurd (omega arith);
+  emptied = λ i d below. absurd (omega arith);
+}
 
 -- none is open in either case
 pub unopened : {K V : Type 0} (arrays : ArraysView K V) → AreArrays arrays → IsTicketState arrays.tickets → IsUnopened arrays

@@ -1,9 +1,21 @@
 -- Marks of arrays: that none is new where a bucket changes, where a bucket's pairs move on, and where an array comes or goes.
-use Rattle.bucket_table.proofs.Words.{ArraysView, Bool, BucketView, HasNoNewMark, KeepsEntries, List, MarksBy, [], ap, arith, arrays_with}
-use Rattle.bucket_table.proofs.Words.{bucket_at, bucket_on, by-no_new, empty_bucket, false, length, marks_among, marks_in, marks_of}
-use Rattle.bucket_table.proofs.Words.{no_new-refl, no_new-trans, refl, set, suc, true, ℕ, ◌++◌, ◌∙◌, ◌∷◌, ◌≡◌}
+use Rattle.bucket_table.proofs.Words.{ArraysView, Bool, BucketView, HasNoNewMark, KeepsEntries, List, MarksBy, [], arith, arrays_with}
+use Rattle.bucket_table.proofs.Words.{bucket_at, bucket_on, by-no_new, empty_bucket, false, get_or, length, marks_among, marks_in, marks_of}
+use Rattle.bucket_table.proofs.Words.{no_new-refl, no_new-trans, refl, set, suc, true, ℕ, ◌++◌, ◌∷◌, ◌≡◌}
 use Rattle.bucket_slots.proofs.MarkCallerLemmas.{by-append, by-set, no_new-append, no_new-at, no_new-both, no_new-front, no_new-rest}
 use Rattle.bucket_slots.proofs.MarkCallerLemmas.{no_new-set}
+
+-- lists of which each element has the same parts, have the same parts in all
+pub all_alike : {A B : Type 0} (parts : A → List B) (all : List A → List B) → all [] ≡ []
+    → ((x : A) (xs : List A) → all (x ∷ xs) ≡ parts x ++ all xs) → (none : A) (c d : List A) → length d ≡ length c
+    → ((i : ℕ) → parts (get_or d i none) ≡ parts (get_or c i none)) → all d ≡ all c
+all_alike parts all empty more none [] [] long each = refl
+all_alike parts all empty more none [] (b ∷ d) long each = absurd (omega arith)
+all_alike parts all empty more none (a ∷ c) [] long each = absurd (omega arith)
+all_alike parts all empty more none (a ∷ c) (b ∷ d) long each =
+    let first : parts b ≡ parts a = each 0 in
+    let rest = all_alike parts all empty more none c d (omega arith) (λ i. each (suc i)) in
+    rw (more a c, more b d, first, rest) refl
 
 module _ {K V : Type 0} where
   -- another bucket that brings no mark
@@ -14,13 +26,7 @@ module _ {K V : Type 0} where
   -- the marks of every bucket are the same
   pub marks_alike : (c d : List (BucketView K V)) → length d ≡ length c
       → ((i : ℕ) → marks_in (bucket_at d i) ≡ marks_in (bucket_at c i)) → marks_among d ≡ marks_among c
-  marks_alike [] [] long each = refl
-  marks_alike [] (b ∷ d) long each = absurd (omega arith)
-  marks_alike (a ∷ c) [] long each = absurd (omega arith)
-  marks_alike (a ∷ c) (b ∷ d) long each =
-      let first : marks_in b ≡ marks_in a = each 0 in
-      let rest = marks_alike c d (omega arith) (λ i. each (suc i)) in
-      ap (λ l. l ++ marks_among d) first ∙ ap (λ l. marks_in a ++ l) rest
+  marks_alike c d long each = all_alike marks_in marks_among refl (λ x xs. refl) empty_bucket c d long each
 
   pub marks_among-kept : (c d : List (BucketView K V)) → KeepsEntries c d → marks_among d ≡ marks_among c
   marks_among-kept c d kept = marks_alike c d kept.len kept.marks

@@ -1,5 +1,5 @@
 //! How many pairs the arrays have.
-ghost use Rattle.std.specs.Prelude.{◌≡◌, ◌^◌, ◌-◌, ℕ, [], length, min};
+ghost use Rattle.std.specs.Prelude.{◌≡◌, ◌-◌, ℕ, [], length};
 ghost use Rattle.bucket_table.specs.Views.ArraysView.{ArePlaced, entries_of, list_of};
 ghost use Rattle.bucket_table.specs.Resize.Asking.{ResizesIf};
 ghost use Rattle.bucket_table.specs.Map.Counting.{CountsAndResizes, counted_to};
@@ -24,7 +24,7 @@ impl<K: Eq + Drop, V: Drop, L: LruList + Drop, const TYPE: u8> Arrays<K, V, L, T
         ensures arrays { CountsAndResizes self.old self.new }
         ensures alone { length self.old.linked ≡ 0 → (entries_of self.old ≡ [] → ⊥) → self.new ≡ self.old }
     {
-        self.work_unit(hasher);
+        let _ = self.work_unit(hasher);
         let count = self.count();
         if count != 0 {
             return count;

@@ -1,5 +1,5 @@
 //! Whether a resize is looked into near a bucket, from the few buckets of the small sample.
-ghost use Rattle.std.specs.Prelude.{ℕ, [], ◌≡◌, ◌<◌, ◌≤◌, ◌↔◌, IsTrue, length};
+ghost use Rattle.std.specs.Prelude.{ℕ, [], ◌≡◌, ◌<◌, ◌↔◌, IsTrue, length};
 ghost use Rattle.bucket_table.specs.Resize.Sampling.{IsCrowded, IsDeserted, live_counts};
 ghost use Rattle.bucket_table.specs.Views.ArraysView.{ArePlaced};
 ghost use Rattle.bucket_table.specs.Views.Keeping.{Keeps};
@@ -9,6 +9,7 @@ ghost use Rattle.bucket_slots.specs.BucketView.{pairs_in};
 ghost use Rattle.bucket_table.specs.Resize.Asking.{AsksGrowth, AsksShrinking, ResizesIf};
 
 use super::Arrays;
+use super::sampling::live_slots;
 use bucket_slots::bucket::BUCKET_LEN;
 use bucket_slots::bucket_array::BucketArray;
 use bucket_slots::lru::LruList;
@@ -92,18 +93,10 @@ fn is_crowded<K, V, L: LruList, const TYPE: u8>(
 ) -> bool
     ensures { IsTrue result ↔ IsCrowded (live_counts array.now) index }
 {
-    array.room();
     let _len = array.len();
     let size = array.small_sample_size();
-    let start = index % size;
-    let mut live: usize = 0;
-    for offset in 0..size {
-        live = live.saturating_add(array.bucket(start + offset).len());
-        if BucketArray::<K, V, L, TYPE>::need_enlarge(size * BUCKET_LEN, live) {
-            return true;
-        }
-    }
-    false
+    let live = live_slots(array, index % size, size);
+    BucketArray::<K, V, L, TYPE>::need_enlarge(size * BUCKET_LEN, live)
 }
 
 /// Returns whether near this index few slots are live.
@@ -113,16 +106,8 @@ fn is_deserted<K, V, L: LruList, const TYPE: u8>(
 ) -> bool
     ensures { IsTrue result ↔ IsDeserted (live_counts array.now) index }
 {
-    array.room();
     let _len = array.len();
     let size = array.small_sample_size();
-    let start = index % size;
-    let mut live: usize = 0;
-    for offset in 0..size {
-        live = live.saturating_add(array.bucket(start + offset).len());
-        if !BucketArray::<K, V, L, TYPE>::need_shrink(size * BUCKET_LEN, live) {
-            return false;
-        }
-    }
-    true
+    let live = live_slots(array, index % size, size);
+    BucketArray::<K, V, L, TYPE>::need_shrink(size * BUCKET_LEN, live)
 }

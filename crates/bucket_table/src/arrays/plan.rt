@@ -2,7 +2,7 @@
 ghost use Rattle.std.specs.Prelude.{◌≡◌, ◌*◌, ◌^◌, ◌≤◌, ◌↔◌, ℕ, List, IsTrue, length};
 ghost use Rattle.std.specs.List.{All};
 ghost use Rattle.bucket_slots.specs.Sizing.{IsOptimalCapacity, IsPowerIn};
-ghost use Rattle.bucket_table.specs.Resize.ResizePlan.{IsCapacityWithin, IsPlan, IsPlanTo, first_estimate, last_estimate, middle_estimate};
+ghost use Rattle.bucket_table.specs.Resize.ResizePlan.{IsCapacityWithin, IsPlan, IsPlanTo, first_estimate, middle_estimate};
 ghost use Rattle.bucket_table.specs.Resize.ResizePlan.{slots_of};
 ghost use Rattle.bucket_slots.specs.Sampling.{IsLargeSample};
 ghost use Rattle.bucket_table.specs.Resize.Sampling.{live_counts};

@@ -2,7 +2,7 @@
 ghost use Rattle.std.specs.Prelude.{◌≡◌, ◌<◌, IsOk, OnOk, length};
 ghost use Rattle.bucket_table.specs.Views.ArraysView.{ArePlaced, AreSourcesKilled};
 ghost use Rattle.bucket_table.specs.Views.Keeping.{KeepsArrays};
-ghost use Rattle.bucket_table.specs.Map.Preparing.{AnswersFor, IsReady, Prepares};
+ghost use Rattle.bucket_table.specs.Map.Preparing.{AnswersFor, Prepares};
 ghost use Rattle.bucket_table.specs.Rehash.Units.{WorksUnits};
 
 use super::Arrays;
@@ -66,7 +66,7 @@ impl<K: Eq + Drop, V: Drop, L: LruList + Drop, const TYPE: u8> Arrays<K, V, L, T
         ensures alone { length self.old.linked ≡ 0 → self.new ≡ self.old }
         ensures succeeds { length self.old.linked ≡ 0 → IsOk result }
     {
-        self.work_unit(hasher);
+        let _ = self.work_unit(hasher);
         let to = self.len();
         let from = self.old_len();
         if from == 0 {

@@ -1,6 +1,6 @@
-//! Estimates of the number of live slots from a few buckets of an array.
-ghost use Rattle.std.specs.Prelude.{◌≡◌, ◌+◌, ◌<◌, ◌≤◌, length};
-ghost use Rattle.bucket_table.specs.Resize.Sampling.{estimate, live_counts};
+//! Numbers of live slots of a few buckets, and estimates for an array from them.
+ghost use Rattle.std.specs.Prelude.{◌≡◌, ◌+◌, ◌-◌, ◌^◌, ◌<◌, ◌≤◌, length, min};
+ghost use Rattle.bucket_table.specs.Resize.Sampling.{counted, estimate, live_counts};
 
 use bucket_slots::bucket_array::BucketArray;
 use bucket_slots::lru::LruList;
@@ -16,11 +16,24 @@ pub(crate) fn sample<K, V, L: LruList, const TYPE: u8>(
     requires within { start + size ≤ length array.now }
     ensures { result ≡ estimate (live_counts array.now) start size }
 {
-    array.room();
     let len = array.len();
+    live_slots(array, start, size).saturating_mul(len / size)
+}
+
+/// Returns how many slots of `size` buckets from `start` on are live, saturating.
+pub(crate) fn live_slots<K, V, L: LruList, const TYPE: u8>(
+    array: &BucketArray<K, V, L, TYPE>,
+    start: usize,
+    size: usize,
+) -> usize
+    requires within { start + size ≤ length array.now }
+    ensures { result ≡ min (counted (live_counts array.now) start size) (2 ^ 64 - 1) }
+{
+    array.room();
+    let _len = array.len();
     let mut live: usize = 0;
     for offset in 0..size {
         live = live.saturating_add(array.bucket(start + offset).len());
     }
-    live.saturating_mul(len / size)
+    live
 }

@@ -1,7 +1,8 @@
 //! A unit of a rehash inside a call.
-ghost use Rattle.std.specs.Prelude.{◌≡◌, ◌+◌, ◌*◌, ◌<◌, true, length};
+ghost use Rattle.std.specs.Prelude.{◌≡◌, ◌+◌, ◌*◌, ◌<◌, [], true, None, length};
 ghost use Rattle.bucket_table.specs.Views.ArraysView.{ArePlaced};
 ghost use Rattle.bucket_table.specs.Views.Keeping.{KeepsArrays};
+ghost use Rattle.bucket_table.specs.Rehash.Finishing.{Finishes};
 ghost use Rattle.bucket_table.specs.Rehash.Units.{NeedsNoMemory, SpendsSome, WorksUnit, WorksUnits};
 
 use super::Arrays;
@@ -10,20 +11,23 @@ use crate::tickets::{REHASHING_UNIT_LEN, TICKET_STEP};
 use bucket_slots::lru::LruList;
 
 impl<K: Eq + Drop, V: Drop, L: LruList + Drop, const TYPE: u8> Arrays<K, V, L, TYPE> {
-    /// Works a unit of the old array, where one is left. Want of memory ends it early.
-    pub(crate) fn work_unit<H: KeyHash<K>>(&mut self, hasher: &H)
+    /// Works the next unit of the old array, and returns whether no memory was refused: want of it
+    /// ends the unit early. `None` where no unit can be handed out.
+    pub(crate) fn work_unit<H: KeyHash<K>>(&mut self, hasher: &H) -> Option<bool>
         requires placed { ArePlaced (H.hash_of hasher.now) self.old }
         ensures placed { ArePlaced (H.hash_of hasher.now) self.new }
         ensures kept { KeepsArrays self.old self.new }
         ensures units { WorksUnits 1 self.old self.new }
-        ensures alone { length self.old.linked ≡ 0 → self.new ≡ self.old }
+        ensures alone { length self.old.linked ≡ 0 → (result ≡ None) × (self.new ≡ self.old) }
+        ensures finishes { self.old.tickets.open_units ≡ [] → Finishes self.old result self.new }
     {
         self.sound();
         let Some(ticket) = self.start_incremental_rehash() else {
-            return;
+            return None;
         };
         let success = self.relocate_unit(hasher, ticket / TICKET_STEP);
         let _ = self.end_incremental_rehash(ticket, success);
+        Some(success)
     }
 
     /// Relocates each old bucket of a unit in turn, and returns whether no memory was refused.

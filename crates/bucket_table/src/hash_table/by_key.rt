@@ -11,11 +11,11 @@ ghost use Rattle.bucket_slots.specs.Marking.{MarksBy, slots_marked};
 ghost use Rattle.bucket_slots.specs.Removing.{slots_without};
 ghost use Rattle.bucket_slots.specs.Slots.{is_live, live_pair};
 ghost use Rattle.bucket_table.specs.Views.ArraysView.{marks_of, pairs_of};
-ghost use Rattle.bucket_table.specs.Resize.Asking.{RemovesAndShrinks};
 ghost use Rattle.bucket_table.specs.Map.ByKey.{ChangesAt, FindsThen, PreparesThen, ShrinksAt, StandsAt};
 ghost use Rattle.bucket_table.specs.Map.ByKey.{Inserts, Marks, Swaps, Takes, Touches};
 ghost use Rattle.bucket_table.specs.Map.LookingUp.{IsAbsent};
-ghost use Rattle.bucket_table.specs.Map.MapState.{ChangesValue, KeepsPairs, TakesPair, state_of};
+ghost use Rattle.bucket_table.specs.Map.Preparing.{IsPrepared};
+ghost use Rattle.bucket_table.specs.Map.MapState.{ChangesValue, state_of};
 ghost use Rattle.bucket_table.specs.Views.Sides.{bucket_of, buckets_on, with_bucket};
 ghost use Rattle.bucket_table.specs.Views.Keeping.{KeepsOpenTickets};
 
@@ -48,10 +48,8 @@ impl<K: Eq + Drop, V: Drop, H: KeyHash<K>, L: LruList + Drop, const TYPE: u8> Ha
         ensures arrays { PreparesThen TYPE self.old (λ between.
             ShrinksAt slots_without (is_some result) between self.new) }
     {
-        let hash = self.hash(key);
-        let _ = self.fetch_home(hash);
-        match self.spot_of(key, hash) {
-            Some(spot) => Some(self.take_at(spot)),
+        match self.fetch_spot(key) {
+            Some(mut spot) => Some(self.arrays.take_at(spot.is_old, spot.index, &mut spot.at)),
             None => None,
         }
     }
@@ -81,12 +79,11 @@ impl<K: Eq + Drop, V: Drop, H: KeyHash<K>, L: LruList + Drop, const TYPE: u8> Ha
         ensures marks { MarksBy (G.epoch_of generation.now) (marks_of self.old.arrays)
             (marks_of self.new.arrays) }
     {
-        let hash = self.hash(key);
-        let _ = self.fetch_home(hash);
-        match self.spot_of(key, hash) {
-            Some(spot) => {
+        match self.fetch_spot(key) {
+            Some(mut spot) => {
                 let answer = self.read_at(&spot, reader);
-                self.mark_at(spot, generation);
+                self.arrays
+                    .mark_at(spot.is_old, spot.index, &mut spot.at, generation);
                 Some(answer)
             }
             None => None,
@@ -108,11 +105,9 @@ impl<K: Eq + Drop, V: Drop, H: KeyHash<K>, L: LruList + Drop, const TYPE: u8> Ha
         ensures arrays { PreparesThen TYPE self.old (λ between.
             ChangesAt (slots_touched L.KEEPS) result between self.new) }
     {
-        let hash = self.hash(key);
-        let _ = self.fetch_home(hash);
-        match self.spot_of(key, hash) {
+        match self.fetch_spot(key) {
             Some(spot) => {
-                self.touch_at(&spot);
+                self.arrays.touch_slot(spot.is_old, spot.index, &spot.at);
                 true
             }
             None => false,
@@ -137,9 +132,7 @@ impl<K: Eq + Drop, V: Drop, H: KeyHash<K>, L: LruList + Drop, const TYPE: u8> Ha
             ChangesAt (λ bucket at. bucket_with_value bucket at value) (is_ok result) between
             self.new) }
     {
-        let hash = self.hash(key);
-        let _ = self.fetch_home(hash);
-        match self.spot_of(key, hash) {
+        match self.fetch_spot(key) {
             Some(spot) => Ok(self.swap_at(&spot, value)),
             None => Err(value),
         }
@@ -180,76 +173,17 @@ impl<K: Eq + Drop, V: Drop, H: KeyHash<K>, L: LruList + Drop, const TYPE: u8> Ha
         }
     }
 
-    /// Takes the pair out of a live slot.
-    fn take_at(&mut self, spot: Spot<K, V, TYPE>) -> (K, V)
-        requires not_index { TYPE ≢ INDEX }
-        requires within { spot.index < length (buckets_on self.old.arrays spot.is_old) }
-        requires live_slot { IsTrue (is_live
-            (slot_in (bucket_of self.old spot.is_old spot.index) spot.at)) }
-        ensures pair { live_pair (slot_in (bucket_of self.old spot.is_old spot.index) spot.at)
-            ≡ Some result }
-        ensures map { TakesPair (state_of TYPE self.old) result (state_of TYPE self.new) }
-        ensures bag { KeepsOpenTickets self.old.arrays.tickets self.new.arrays.tickets }
-        ensures arrays { RemovesAndShrinks self.old.arrays spot.is_old spot.index
-            (slots_without (bucket_of self.old spot.is_old spot.index) spot.at) self.new.arrays }
+    /// Works a unit, moves the sources of the key's home, and returns the live slot with an equal
+    /// key, on either side; `None` where the map has none.
+    fn fetch_spot(&mut self, key: &K) -> Option<Spot<K, V, TYPE>>
+        ensures prepared { IsPrepared TYPE self.old self.new }
+        ensures found { IfSome result (λ spot.
+            StandsAt K.eq key.now self.new.arrays spot.is_old spot.index spot.at) }
+        ensures absent { IfNone result (IsAbsent K.eq key.now (pairs_of self.old.arrays)) }
     {
-        let Spot {
-            is_old,
-            index,
-            mut at,
-        } = spot;
-        self.arrays.room_of(is_old);
-        let pair = self.arrays.bucket_of_mut(is_old, index).remove(&mut at);
-        self.arrays.shrink_emptied(is_old, index);
-        pair
-    }
-
-    /// Marks the pair in a live slot.
-    fn mark_at<G: Generation>(&mut self, spot: Spot<K, V, TYPE>, generation: &G)
-        requires index { TYPE ≡ INDEX }
-        requires within { spot.index < length (buckets_on self.old.arrays spot.is_old) }
-        requires live_slot { IsTrue (is_live
-            (slot_in (bucket_of self.old spot.is_old spot.index) spot.at)) }
-        ensures map { (pair : K × V)
-            → (live_pair (slot_in (bucket_of self.old spot.is_old spot.index) spot.at) ≡ Some pair)
-            → TakesPair (state_of TYPE self.old) pair (state_of TYPE self.new) }
-        ensures bag { KeepsOpenTickets self.old.arrays.tickets self.new.arrays.tickets }
-        ensures arrays { RemovesAndShrinks self.old.arrays spot.is_old spot.index
-            (slots_marked (bucket_of self.old spot.is_old spot.index) spot.at
-            (G.epoch_of generation.now)) self.new.arrays }
-        ensures marks { MarksBy (G.epoch_of generation.now) (marks_of self.old.arrays)
-            (marks_of self.new.arrays) }
-    {
-        let Spot {
-            is_old,
-            index,
-            mut at,
-        } = spot;
-        self.arrays.room_of(is_old);
-        self.arrays
-            .bucket_of_mut(is_old, index)
-            .mark_removed(&mut at, generation);
-        self.arrays.shrink_emptied(is_old, index);
-    }
-
-    /// Touches the pair in a live slot.
-    fn touch_at(&mut self, spot: &Spot<K, V, TYPE>)
-        requires cache { TYPE ≡ CACHE }
-        requires within { spot.now.index < length (buckets_on self.old.arrays spot.now.is_old) }
-        requires live_slot { IsTrue (is_live
-            (slot_in (bucket_of self.old spot.now.is_old spot.now.index) spot.now.at)) }
-        ensures map { KeepsPairs (state_of TYPE self.old) (state_of TYPE self.new) }
-        ensures bag { KeepsOpenTickets self.old.arrays.tickets self.new.arrays.tickets }
-        ensures table { self.new ≡ with_bucket self.old spot.now.is_old spot.now.index
-            (slots_touched L.KEEPS (bucket_of self.old spot.now.is_old spot.now.index)
-            spot.now.at) }
-    {
-        let is_old = spot.is_old;
-        let index = spot.index;
-        self.arrays.room_of(is_old);
-        self.arrays
-            .bucket_of_mut(is_old, index)
-            .update_lru_tail(&spot.at);
+        let hash = self.hash(key);
+        let _ = self.fetch_home(hash);
+        self.spot_of(key, hash)
     }
 
     /// Writes a value into a live slot, and returns the earlier one.
@@ -287,6 +221,7 @@ impl<K: Eq, V, H: KeyHash<K>, L: LruList, const TYPE: u8> HashTable<K, V, H, L, 
             None => self.arrays.search_on(false, key, hash),
         }
     }
+
     /// Hands the pair in a live slot to a reader.
     fn read_at<R, F: FnOnce(&K, &V) -> R>(&self, spot: &Spot<K, V, TYPE>, reader: F) -> R
         requires within { spot.now.index < length (buckets_on self.now.arrays spot.now.is_old) }

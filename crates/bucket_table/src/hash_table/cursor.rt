@@ -1,9 +1,8 @@
 //! Cursors over a table, and what they sweep.
-ghost use Rattle.std.specs.Prelude.{◌≡◌, ◌≢◌, ◌<◌, ◌+◌, [], ℕ, Bool, None, Ok, Err, false, length, IfOk, IsOk, OnErr};
+ghost use Rattle.std.specs.Prelude.{◌≡◌, ◌≢◌, ◌<◌, ◌+◌, [], ℕ, Bool, Ok, Err, false, length, IfOk, IsOk, OnErr};
 ghost use Rattle.std.specs.Borrow.{RestsIfErr, sem};
 ghost use Rattle.bucket_slots.specs.BucketView.{null_place, pairs_in};
 ghost use Rattle.bucket_slots.specs.Marking.{HasNoNewMark, MarksBy};
-ghost use Rattle.bucket_slots.specs.Sizing.{IsLength};
 ghost use Rattle.bucket_slots.specs.Walking.{pairs_ahead};
 ghost use Rattle.bucket_table.specs.Views.ArraysView.{marks_of, pairs_of};
 ghost use Rattle.bucket_table.specs.Resize.Asking.{AsksShrinking};

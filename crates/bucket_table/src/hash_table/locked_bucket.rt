@@ -161,11 +161,7 @@ impl<'a, K: Eq, V, H: KeyHash<K>, L: LruList, const TYPE: u8> LockedBucket<'a, K
         let is_old = self.is_old;
         let index = self.index;
         let table = &mut *self.table;
-        table.arrays.room_of(is_old);
-        table
-            .arrays
-            .bucket_of_mut(is_old, index)
-            .update_lru_tail(at);
+        table.arrays.touch_slot(is_old, index, at);
     }
 
     /// Takes out the pair touched longest ago, or where none is listed the one in slot 0, and
@@ -222,11 +218,7 @@ impl<'a, K: Eq, V, H: KeyHash<K>, L: LruList, const TYPE: u8> LockedBucket<'a, K
         let is_old = self.is_old;
         let index = self.index;
         let table = &mut *self.table;
-        table.arrays.room_of(is_old);
-        table
-            .arrays
-            .bucket_of_mut(is_old, index)
-            .mark_removed(at, generation);
+        let _left = table.arrays.mark_slot(is_old, index, at, generation);
     }
 }
 
@@ -314,7 +306,6 @@ impl<'a, K: Eq + Drop, V: Drop, H: KeyHash<K>, L: LruList, const TYPE: u8> Locke
         let is_old = self.is_old;
         let index = self.index;
         let table = &mut *self.table;
-        table.arrays.room_of(is_old);
-        table.arrays.bucket_of_mut(is_old, index).remove(at)
+        table.arrays.take_slot(is_old, index, at).0
     }
 }

@@ -80,11 +80,7 @@ impl<'a, K: Eq + Drop, V: Drop, H: KeyHash<K>, L: LruList + Drop, const TYPE: u8
             is_old,
             index,
         } = self;
-        table.arrays.room_of(is_old);
-        let bucket = table.arrays.bucket_of_mut(is_old, index);
-        let pair = bucket.remove(at);
-        let left = bucket.len();
-        table.arrays.shrink_left(is_old, index, left);
+        let pair = table.arrays.take_at(is_old, index, at);
         (pair, table)
     }
 
@@ -120,12 +116,7 @@ impl<'a, K: Eq + Drop, V: Drop, H: KeyHash<K>, L: LruList + Drop, const TYPE: u8
             is_old,
             index,
         } = self;
-        table.arrays.room_of(is_old);
-        table
-            .arrays
-            .bucket_of_mut(is_old, index)
-            .mark_removed(at, generation);
-        table.arrays.shrink_emptied(is_old, index);
+        table.arrays.mark_at(is_old, index, at, generation);
         table
     }
 }

@@ -5,16 +5,16 @@ use Rattle.bucket_table.proofs.Views.Lent.{current_lent, current_seen, linked_le
 use Rattle.bucket_table.proofs.arrays.Arrays.bucket_of_mut.Goals as goal
 
 pub invariant_of-self-lent : goal.invariant_of-self-lent
-invariant_of-self-lent g c = λ bucket. linked_lent _ _ c.args.index _ c.self.inside.linked bucket _ c.self.invariant
+invariant_of-self-lent g c = λ bucket. linked_lent _ _ _ c.self.inside.linked _ c.args.index bucket c.self.invariant
 
 pub invariant_of-self-lent-else-is_old : goal.invariant_of-self-lent-else-is_old
-invariant_of-self-lent-else-is_old g c = λ bucket. current_lent _ _ c.args.index _ c.self.inside.current bucket _ c.self.invariant
+invariant_of-self-lent-else-is_old g c = λ bucket. current_lent _ _ _ c.self.inside.current _ c.args.index bucket c.self.invariant
 
 pub returns-then-is_old : goal.returns-then-is_old
 returns-then-is_old g c = (
   (
     refl,
-    λ bucket. linked_seen c.args.self.now _ _ _ c.self.inside.linked _ c.args.is_old c.args.index bucket c.if-is_old.true
+    λ bucket. linked_seen _ _ _ c.self.inside.linked _ c.args.self.now c.args.is_old c.args.index bucket c.if-is_old.true
         c.self.view_is,
   ),
   record {
@@ -28,7 +28,7 @@ pub returns-else-is_old : goal.returns-else-is_old
 returns-else-is_old g c = (
   (
     refl,
-    λ bucket. current_seen c.args.self.now _ _ _ c.self.inside.current _ c.args.is_old c.args.index bucket c.if-is_old.false
+    λ bucket. current_seen _ _ _ c.self.inside.current _ c.args.self.now c.args.is_old c.args.index bucket c.if-is_old.false
         c.self.view_is,
   ),
   record {

@@ -1,6 +1,6 @@
 use Rattle.bucket_table.proofs.Words.{ap, sym, ◌∙◌}
 use Rattle.bucket_table.proofs.Map.CountSteps.{dropped}
-use Rattle.bucket_table.proofs.Resize.Settling.{resizes}
+use Rattle.bucket_table.proofs.Resize.Settling.{resizes_asked}
 use Rattle.bucket_table.proofs.arrays.Arrays.drop_if_empty.Goals as goal
 
 pub returns : goal.returns
@@ -11,9 +11,6 @@ returns g c =
       kept = c.try_resize.ensures.kept;
       linked = still.0;
       tickets = still.1;
-      resized = record {
-        asked = λ h. resizes _ _ c.try_resize.result c.try_resize.ensures.resized;
-        not_asked = λ refused. absurd (refused (c.requires.empty, least));
-      };
+      resized = resizes_asked _ _ c.try_resize.result (c.requires.empty, least) c.try_resize.ensures.resized;
       placed = c.try_resize.ensures.placed;
     }

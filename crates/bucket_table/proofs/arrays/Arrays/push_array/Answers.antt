@@ -20,6 +20,6 @@ returns-clause-pushed g c = record {
   none_open = none_open c.args.self.now.tickets c.sound.ensures.tickets (c.sound.ensures.arrays.tickets_len ∙ c.requires.alone);
   fresh = c.in-Ok-alloc.fresh;
   fresh_is = c.in-Ok-alloc.ensures;
-  new_is = pushed_seen c.args.self.now _ _ _ c.self.inside.current _ c.in-Ok-alloc.fresh c.in-Some.array c.in-Ok.tickets c.len.result
+  new_is = pushed_seen _ _ _ c.self.inside.current _ c.args.self.now c.in-Ok-alloc.fresh c.in-Some.array c.in-Ok.tickets c.len.result
       c.in-Some.ensures.value c.in-Ok.ensures c.len.ensures.value c.self.view_is;
 }

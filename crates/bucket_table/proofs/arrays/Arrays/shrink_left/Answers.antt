@@ -1,13 +1,11 @@
-use Rattle.bucket_table.proofs.Words.{ap, length, nil_from_length, refl, sym, ◌∙◌}
+use Rattle.bucket_table.proofs.Words.{ap, length, nil_from_length, sym, ◌∙◌}
 use Rattle.bucket_table.proofs.Views.Keeping.{keeps_same}
+use Rattle.bucket_table.proofs.Resize.Settling.{stays_unasked}
 use Rattle.bucket_table.proofs.arrays.Arrays.shrink_left.Goals as goal
 
 pub returns-then-left-ne0 : goal.returns-then-left-ne0
 returns-then-left-ne0 g c = record {
-  asked = record {
-    asked = λ h. absurd (c.if-left-ne0.true (c.requires.left ∙ ap (λ ps. length ps) h.0));
-    not_asked = λ refused. refl;
-  };
+  asked = stays_unasked _ (λ h. c.if-left-ne0.true (c.requires.left ∙ ap (λ ps. length ps) h.0));
   kept = keeps_same c.args.self.now;
   placed = λ hash law. law;
 }

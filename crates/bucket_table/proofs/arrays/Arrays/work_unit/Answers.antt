@@ -1,6 +1,7 @@
 use Rattle.bucket_table.proofs.Words.{Some, ap, arith, length, rules}
 use Rattle.bucket_table.proofs.Rehash.Ending.{placed_end, placed_start}
-use Rattle.bucket_table.proofs.Rehash.UnitWork.{easy_handed, unit_kept, unit_runs}
+use Rattle.bucket_table.proofs.Rehash.FinishingUnits.{finishes, finishes_none}
+use Rattle.bucket_table.proofs.Rehash.UnitWork.{easy_handed, none_handed, unit_kept, unit_runs}
 use Rattle.bucket_table.proofs.arrays.Arrays.work_unit.Goals as goal
 
 pub relocate_unit-success-requires : goal.relocate_unit-success-requires
@@ -40,3 +41,18 @@ returns-clause-units g c =
     (λ needs. c.relocate_unit-success.ensures.succeeds
     (rw c.in-Some.ensures.others (easy_handed c.args.self.now _ c.in-Some.ticket h needs)))
     c.end_incremental_rehash.ensures.rehash
+
+pub returns-clause-alone : goal.returns-clause-alone
+returns-clause-alone g c = λ alone. absurd (none_handed c.args.self.now c.in-Some.ticket _ c.sound.ensures.arrays.tickets_len
+    alone c.in-Some.ensures.tickets)
+
+pub returns-clause-finishes : goal.returns-clause-finishes
+returns-clause-finishes g c =
+    let h = c.in-Some.ensures.tickets in
+    let w = rw c.in-Some.ensures.others at c.relocate_unit-success.ensures.worked in
+    finishes c.args.self.now _ _ _ c.in-Some.ticket c.relocate_unit-success.result h w c.sound.ensures.arrays.tickets_len
+    c.end_incremental_rehash.result c.end_incremental_rehash.ensures.rehash
+
+pub returns-in_default-clause-finishes : goal.returns-in_default-clause-finishes
+returns-in_default-clause-finishes g c =
+    finishes_none c.args.self.now _ c.in_default.ensures.tickets c.in_default.ensures.others c.requires.placed.rehashed

@@ -1,48 +1,69 @@
-use Rattle.bucket_table.proofs.Words.{by-no_new, by-trans, marks_of, refl}
-use Rattle.bucket_table.specs.Map.MapState.{state_of}
+use Rattle.bucket_table.proofs.Words.{arith, bucket_on, by-no_new, by-trans, marks_in, marks_of, refl}
+use Rattle.bucket_slots.proofs.MarkCallerLemmas.{by-one, marks_in-slots_marked}
+use Rattle.bucket_table.proofs.Map.KeySteps.{marks_through, stands_live}
+use Rattle.bucket_table.proofs.Map.LockedSteps.{bag_through}
+use Rattle.bucket_table.proofs.Map.SlotSteps.{marks}
+use Rattle.bucket_table.proofs.Map.TakeSteps.{same_taken, then_taken}
 use Rattle.bucket_table.proofs.Views.Keeping.{bag_both}
-use Rattle.bucket_table.proofs.Map.TakeSteps.{absent_before, same_taken, then_taken}
 use Rattle.bucket_table.proofs.hash_table.HashTable.mark.Goals as goal
+
+pub mark_at-requires : goal.mark_at-requires
+mark_at-requires g c =
+    let stands = rw (← c.self.view_is) at c.in-Some.ensures.found in
+    (omega arith, (omega arith, (c.requires.index, (stands.within, stands_live _ _ _ _ _ _ stands))))
+
+pub invariant_of-self : goal.invariant_of-self
+invariant_of-self g c =
+    let o = c.in-Some.spot in
+    let stands = rw (← c.self.view_is) at c.in-Some.ensures.found in
+    let e = c.mark_at.ensures in
+    (marks g.met.K.Eq.laws g.H.KeyHash.hash_of g.row.TYPE o.is_old o.index c.self.invariant stands.within o.at stands.pair stands.slot _ _
+    e.kept e.placed).one_map
 
 pub returns-in-Some-clause-map : goal.returns-in-Some-clause-map
 returns-in-Some-clause-map g c =
-    let stands = c.in-Some.ensures.found in
-    let read = c.read_at-answer.ensures in (
-      read.0,
-      read.1,
-      read.3,
-      same_taken g.K.PartialEq.eq c.args.key.now _ _ stands.pair (read.0.now, read.1.now) stands.slot stands.there read.2,
-      then_taken (state_of g.row.TYPE c.args.self.now) (state_of g.row.TYPE c.fetch_home.new.self) (state_of g.row.TYPE c.mark_at.new.self)
-          (read.0.now, read.1.now) c.fetch_home.ensures.prepared.map (c.mark_at.ensures.map (read.0.now, read.1.now) read.2),
+    let o = c.in-Some.spot in
+    let stands = rw (← c.self.view_is) at c.in-Some.ensures.found in
+    let keeps = rw (← c.self.view_is) at c.fetch_spot.ensures.prepared.map in
+    let (own, value, there, reads) = rw (← c.self.view_is) at c.read_at-answer.ensures in
+    let e = c.mark_at.ensures in (
+      own,
+      value,
+      reads,
+      same_taken g.K.PartialEq.eq c.args.key.now _ _ stands.pair (own.now, value.now) stands.slot stands.there there,
+      then_taken _ _ _ (own.now, value.now) keeps (marks g.met.K.Eq.laws g.H.KeyHash.hash_of g.row.TYPE o.is_old o.index c.self.invariant
+          stands.within o.at (own.now, value.now) there _ _ e.kept e.placed).map,
     )
 
-pub returns-in-None-clause-map : goal.returns-in-None-clause-map
-returns-in-None-clause-map g c =
-    let keeps = c.fetch_home.ensures.prepared.map in (
-      absent_before g.K.PartialEq.eq c.args.key.now (state_of g.row.TYPE c.args.self.now) (state_of g.row.TYPE c.fetch_home.new.self) keeps
-          c.in-None.ensures.absent,
-      keeps,
-    )
+pub returns-in-Some-clause-bag : goal.returns-in-Some-clause-bag
+returns-in-Some-clause-bag g c =
+    let kept = rw (← c.self.view_is) at c.fetch_spot.ensures.prepared.kept.keeps.open_tickets in
+    bag_both c.args.self.now.arrays.tickets c.self.inside.arrays.tickets c.mark_at.new.self.tickets kept
+    (bag_through _ c.in-Some.spot.is_old c.in-Some.spot.index _ c.mark_at.new.self c.mark_at.ensures.kept.open_tickets)
 
 pub returns-in-Some-clause-arrays : goal.returns-in-Some-clause-arrays
 returns-in-Some-clause-arrays g c = record {
-  between = c.fetch_home.new.self;
-  prepared = c.fetch_home.ensures.prepared;
-  done = (c.in-Some.spot.is_old, c.in-Some.spot.index, c.in-Some.spot.at, c.mark_at.ensures.arrays);
+  between = c.fetch_spot.new.self;
+  prepared = c.fetch_spot.ensures.prepared;
+  done = (c.in-Some.spot.is_old, c.in-Some.spot.index, c.in-Some.spot.at, rw (← c.self.view_is) c.mark_at.ensures.asked);
 }
-
-pub returns-in-None-clause-arrays : goal.returns-in-None-clause-arrays
-returns-in-None-clause-arrays g c = record { between = c.fetch_home.new.self; prepared = c.fetch_home.ensures.prepared; done = refl }
 
 pub returns-in-Some-clause-marks : goal.returns-in-Some-clause-marks
 returns-in-Some-clause-marks g c =
+    let o = c.in-Some.spot in
     let epoch = g.G.Generation.epoch_of c.args.generation.now in
-    by-trans epoch (marks_of c.args.self.now.arrays) (marks_of c.fetch_home.new.self.arrays) (marks_of c.mark_at.new.self.arrays)
-    (by-no_new epoch _ _ c.fetch_home.ensures.prepared.kept.keeps.marks) c.mark_at.ensures.marks
+    let stands = rw (← c.self.view_is) at c.in-Some.ensures.found in
+    let none = rw (← c.self.view_is) at c.fetch_spot.ensures.prepared.kept.keeps.marks in
+    by-trans epoch (marks_of c.args.self.now.arrays) (marks_of c.self.inside.arrays) (marks_of c.mark_at.new.self) (by-no_new epoch _ _ none)
+    (marks_through epoch _ o.is_old o.index _ c.mark_at.new.self (by-one epoch stands.pair
+    (marks_in (bucket_on c.self.inside.arrays o.is_old o.index)) _ (marks_in-slots_marked _ o.at epoch stands.pair stands.slot))
+    c.mark_at.ensures.kept.marks)
+
+pub returns-in-None-clause-map : goal.returns-in-None-clause-map
+returns-in-None-clause-map g c = (c.in-None.ensures.absent, c.fetch_spot.ensures.prepared.map)
+
+pub returns-in-None-clause-arrays : goal.returns-in-None-clause-arrays
+returns-in-None-clause-arrays g c = record { between = c.fetch_spot.new.self; prepared = c.fetch_spot.ensures.prepared; done = refl }
 
 pub returns-in-None-clause-marks : goal.returns-in-None-clause-marks
-returns-in-None-clause-marks g c = by-no_new _ _ _ c.fetch_home.ensures.prepared.kept.keeps.marks
-
-pub returns-in-Some-clause-bag : goal.returns-in-Some-clause-bag
-returns-in-Some-clause-bag g c = bag_both c.args.self.now.arrays.tickets c.fetch_home.new.self.arrays.tickets
-    c.mark_at.new.self.arrays.tickets c.fetch_home.ensures.prepared.kept.keeps.open_tickets c.mark_at.ensures.bag
+returns-in-None-clause-marks g c = by-no_new _ _ _ c.fetch_spot.ensures.prepared.kept.keeps.marks

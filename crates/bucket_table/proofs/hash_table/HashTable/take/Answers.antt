@@ -1,31 +1,50 @@
-use Rattle.bucket_table.proofs.Words.{refl}
-use Rattle.bucket_table.specs.Map.MapState.{state_of}
-use Rattle.bucket_table.proofs.Map.TakeSteps.{absent_before, same_taken, then_taken}
+use Rattle.bucket_table.proofs.Words.{arith, refl}
+use Rattle.bucket_table.proofs.Map.KeySteps.{stands_live}
+use Rattle.bucket_table.proofs.Map.LockedSteps.{bag_through}
+use Rattle.bucket_table.proofs.Map.SlotSteps.{takes}
+use Rattle.bucket_table.proofs.Map.TakeSteps.{same_taken, then_taken}
+use Rattle.bucket_table.proofs.Views.Keeping.{bag_both}
 use Rattle.bucket_table.proofs.hash_table.HashTable.take.Goals as goal
+
+pub take_at-requires : goal.take_at-requires
+take_at-requires g c =
+    let stands = rw (← c.self.view_is) at c.in-Some.ensures.found in
+    (omega arith, (omega arith, (c.requires.not_index, (stands.within, stands_live _ _ _ _ _ _ stands))))
+
+pub invariant_of-self : goal.invariant_of-self
+invariant_of-self g c =
+    let o = c.in-Some.spot in
+    let stands = rw (← c.self.view_is) at c.in-Some.ensures.found in
+    let e = c.take_at.ensures in
+    (takes g.met.K.Eq.laws g.H.KeyHash.hash_of g.row.TYPE o.is_old o.index c.self.invariant stands.within o.at c.take_at.result e.pair _ e.kept
+    e.placed).one_map
 
 pub returns-in-Some-clause-map : goal.returns-in-Some-clause-map
 returns-in-Some-clause-map g c =
-    let keeps = c.fetch_home.ensures.prepared.map in
-    let stands = c.in-Some.ensures.found in (
-      same_taken g.K.PartialEq.eq c.args.key.now _ _ stands.pair c.take_at.result stands.slot stands.there c.take_at.ensures.pair,
-      then_taken (state_of g.row.TYPE c.args.self.now) (state_of g.row.TYPE c.fetch_home.new.self) (state_of g.row.TYPE c.take_at.new.self)
-          c.take_at.result keeps c.take_at.ensures.map,
+    let o = c.in-Some.spot in
+    let stands = rw (← c.self.view_is) at c.in-Some.ensures.found in
+    let keeps = rw (← c.self.view_is) at c.fetch_spot.ensures.prepared.map in
+    let e = c.take_at.ensures in (
+      same_taken g.K.PartialEq.eq c.args.key.now _ _ stands.pair c.take_at.result stands.slot stands.there e.pair,
+      then_taken _ _ _ c.take_at.result keeps (takes g.met.K.Eq.laws g.H.KeyHash.hash_of g.row.TYPE o.is_old o.index c.self.invariant
+          stands.within o.at c.take_at.result e.pair _ e.kept e.placed).map,
     )
 
-pub returns-in-None-clause-map : goal.returns-in-None-clause-map
-returns-in-None-clause-map g c =
-    let keeps = c.fetch_home.ensures.prepared.map in (
-      absent_before g.K.PartialEq.eq c.args.key.now (state_of g.row.TYPE c.args.self.now) (state_of g.row.TYPE c.fetch_home.new.self) keeps
-          c.in-None.ensures.absent,
-      keeps,
-    )
+pub returns-in-Some-clause-bag : goal.returns-in-Some-clause-bag
+returns-in-Some-clause-bag g c =
+    let kept = rw (← c.self.view_is) at c.fetch_spot.ensures.prepared.kept.keeps.open_tickets in
+    bag_both c.args.self.now.arrays.tickets c.self.inside.arrays.tickets c.take_at.new.self.tickets kept
+    (bag_through _ c.in-Some.spot.is_old c.in-Some.spot.index _ c.take_at.new.self c.take_at.ensures.kept.open_tickets)
 
 pub returns-in-Some-clause-arrays : goal.returns-in-Some-clause-arrays
 returns-in-Some-clause-arrays g c = record {
-  between = c.fetch_home.new.self;
-  prepared = c.fetch_home.ensures.prepared;
-  done = (c.in-Some.spot.is_old, c.in-Some.spot.index, c.in-Some.spot.at, c.take_at.ensures.arrays);
+  between = c.fetch_spot.new.self;
+  prepared = c.fetch_spot.ensures.prepared;
+  done = (c.in-Some.spot.is_old, c.in-Some.spot.index, c.in-Some.spot.at, rw (← c.self.view_is) c.take_at.ensures.asked);
 }
 
+pub returns-in-None-clause-map : goal.returns-in-None-clause-map
+returns-in-None-clause-map g c = (c.in-None.ensures.absent, c.fetch_spot.ensures.prepared.map)
+
 pub returns-in-None-clause-arrays : goal.returns-in-None-clause-arrays
-returns-in-None-clause-arrays g c = record { between = c.fetch_home.new.self; prepared = c.fetch_home.ensures.prepared; done = refl }
+returns-in-None-clause-arrays g c = record { between = c.fetch_spot.new.self; prepared = c.fetch_spot.ensures.prepared; done = refl }

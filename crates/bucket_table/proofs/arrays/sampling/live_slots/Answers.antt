@@ -1,6 +1,6 @@
 use Rattle.bucket_table.proofs.Words.{ap, arith, length, live_counts, live_len, ◌+◌, ◌<◌, ◌∙◌}
 use Rattle.bucket_table.proofs.Resize.Samples.{counted_more, get_or-live_counts, length-live_counts}
-use Rattle.bucket_table.proofs.arrays.sampling.sample.Goals as goal
+use Rattle.bucket_table.proofs.arrays.sampling.live_slots.Goals as goal
 
 pub loop-offset-preserved : goal.loop-offset-preserved
 loop-offset-preserved g c =

@@ -1,0 +1,19 @@
+use Rattle.bucket_table.proofs.Words.{arith, length-set}
+use Rattle.bucket_table.proofs.Map.LockedSteps.{shrinks_after}
+use Rattle.bucket_table.proofs.Views.SideChanges.{buckets_on-arrays_with}
+use Rattle.bucket_table.proofs.arrays.Arrays.take_at.Goals as goal
+
+pub shrink_left-requires : goal.shrink_left-requires
+shrink_left-requires g c =
+    (omega arith, (rw (c.take_slot-pair.ensures.arrays, buckets_on-arrays_with, length-set) c.requires.within, c.take_slot-pair.ensures.left))
+
+pub returns-clause-asked : goal.returns-clause-asked
+returns-clause-asked g c =
+    shrinks_after _ c.args.is_old c.args.index _ c.shrink_left.new.self c.requires.within
+    (rw c.take_slot-pair.ensures.arrays at c.shrink_left.ensures.asked)
+
+pub returns-clause-kept : goal.returns-clause-kept
+returns-clause-kept g c = rw c.take_slot-pair.ensures.arrays at c.shrink_left.ensures.kept
+
+pub returns-clause-placed : goal.returns-clause-placed
+returns-clause-placed g c = rw c.take_slot-pair.ensures.arrays at c.shrink_left.ensures.placed

@@ -1,0 +1,140 @@
+//! Pairs touched, marked and taken out where they stand, in a bucket of either side: what calls by
+//! key and locked buckets do.
+ghost use Rattle.std.specs.Prelude.{◌≡◌, ◌≢◌, ◌<◌, ℕ, Some, IsTrue, length};
+ghost use Rattle.bucket_slots.specs.BucketView.{pairs_in, slot_in};
+ghost use Rattle.bucket_slots.specs.Evicting.{slots_touched};
+ghost use Rattle.bucket_slots.specs.Marking.{slots_marked};
+ghost use Rattle.bucket_slots.specs.Removing.{place_after, slots_without};
+ghost use Rattle.bucket_slots.specs.Slots.{is_live, live_pair};
+ghost use Rattle.bucket_slots.specs.Walking.{pairs_ahead};
+ghost use Rattle.bucket_table.specs.Views.ArraysView.{ArePlaced};
+ghost use Rattle.bucket_table.specs.Resize.Asking.{RemovesAndShrinks};
+ghost use Rattle.bucket_table.specs.Views.Sides.{arrays_with, bucket_on, buckets_on};
+ghost use Rattle.bucket_table.specs.Views.Keeping.{Keeps};
+
+use super::Arrays;
+use bucket_slots::bucket::{CACHE, EntryPtr, Generation, INDEX};
+use bucket_slots::lru::LruList;
+
+impl<K, V, L: LruList, const TYPE: u8> Arrays<K, V, L, TYPE> {
+    /// Makes the pair in a live slot the one of its bucket touched last.
+    pub(crate) fn touch_slot(&mut self, is_old: bool, index: usize, at: &EntryPtr<K, V, TYPE>)
+        requires cache { TYPE ≡ CACHE }
+        requires within { index < length (buckets_on self.old is_old) }
+        requires live_slot { IsTrue (is_live (slot_in (bucket_on self.old is_old index) at.now)) }
+        ensures { self.new ≡ arrays_with self.old is_old index
+            (slots_touched L.KEEPS (bucket_on self.old is_old index) at.now) }
+    {
+        self.room_of(is_old);
+        self.bucket_of_mut(is_old, index).update_lru_tail(at);
+    }
+
+    /// Marks the pair in a live slot. Returns how many live pairs are left in the bucket.
+    pub(crate) fn mark_slot<G: Generation>(
+        &mut self,
+        is_old: bool,
+        index: usize,
+        at: &mut EntryPtr<K, V, TYPE>,
+        generation: &G,
+    ) -> usize
+        requires index { TYPE ≡ INDEX }
+        requires within { index < length (buckets_on self.old is_old) }
+        requires live_slot { IsTrue (is_live (slot_in (bucket_on self.old is_old index) at.old)) }
+        ensures arrays { self.new ≡ arrays_with self.old is_old index
+            (slots_marked (bucket_on self.old is_old index) at.old (G.epoch_of generation.now)) }
+        ensures pointer { at.new ≡ at.old }
+        ensures pairs_ahead { pairs_ahead (bucket_on self.new is_old index) at.new
+            ≡ pairs_ahead (bucket_on self.old is_old index) at.old }
+        ensures left { result ≡ length (pairs_in (bucket_on self.new is_old index)) }
+    {
+        self.room_of(is_old);
+        let bucket = self.bucket_of_mut(is_old, index);
+        bucket.mark_removed(at, generation);
+        bucket.len()
+    }
+}
+
+impl<K: Drop, V: Drop, L: LruList, const TYPE: u8> Arrays<K, V, L, TYPE> {
+    /// Takes the pair out of a live slot. Returns it, and how many live pairs are left in the
+    /// bucket.
+    #[inline(always)]
+    pub(crate) fn take_slot(
+        &mut self,
+        is_old: bool,
+        index: usize,
+        at: &mut EntryPtr<K, V, TYPE>,
+    ) -> ((K, V), usize)
+        requires not_index { TYPE ≢ INDEX }
+        requires within { index < length (buckets_on self.old is_old) }
+        requires live_slot { IsTrue (is_live (slot_in (bucket_on self.old is_old index) at.old)) }
+        ensures pair { live_pair (slot_in (bucket_on self.old is_old index) at.old)
+            ≡ Some result.0 }
+        ensures arrays { self.new ≡ arrays_with self.old is_old index
+            (slots_without (bucket_on self.old is_old index) at.old) }
+        ensures place { at.new ≡ place_after (bucket_on self.old is_old index) at.old }
+        ensures pairs_ahead { pairs_ahead (bucket_on self.new is_old index) at.new
+            ≡ pairs_ahead (bucket_on self.old is_old index) at.old }
+        ensures left { result.1 ≡ length (pairs_in (bucket_on self.new is_old index)) }
+    {
+        self.room_of(is_old);
+        let bucket = self.bucket_of_mut(is_old, index);
+        let pair = bucket.remove(at);
+        let left = bucket.len();
+        (pair, left)
+    }
+}
+
+impl<K: Drop, V: Drop, L: LruList + Drop, const TYPE: u8> Arrays<K, V, L, TYPE> {
+    /// Marks the pair in a live slot, and where no live pair is left in the bucket shrinks the
+    /// arrays where few slots near it are live.
+    pub(crate) fn mark_at<G: Generation>(
+        &mut self,
+        is_old: bool,
+        index: usize,
+        at: &mut EntryPtr<K, V, TYPE>,
+        generation: &G,
+    )
+        requires index { TYPE ≡ INDEX }
+        requires within { index < length (buckets_on self.old is_old) }
+        requires live_slot { IsTrue (is_live (slot_in (bucket_on self.old is_old index) at.old)) }
+        ensures asked { RemovesAndShrinks self.old is_old index
+            (slots_marked (bucket_on self.old is_old index) at.old (G.epoch_of generation.now))
+            self.new }
+        ensures kept { Keeps (arrays_with self.old is_old index
+            (slots_marked (bucket_on self.old is_old index) at.old (G.epoch_of generation.now)))
+            self.new }
+        ensures placed { (hash : K → ℕ) → ArePlaced hash (arrays_with self.old is_old index
+            (slots_marked (bucket_on self.old is_old index) at.old (G.epoch_of generation.now)))
+            → ArePlaced hash self.new }
+        ensures pointer { at.new ≡ at.old }
+    {
+        let left = self.mark_slot(is_old, index, at, generation);
+        self.shrink_left(is_old, index, left);
+    }
+
+    /// Takes the pair out of a live slot, and where no live pair is left in the bucket shrinks the
+    /// arrays where few slots near it are live.
+    #[inline(always)]
+    pub(crate) fn take_at(
+        &mut self,
+        is_old: bool,
+        index: usize,
+        at: &mut EntryPtr<K, V, TYPE>,
+    ) -> (K, V)
+        requires not_index { TYPE ≢ INDEX }
+        requires within { index < length (buckets_on self.old is_old) }
+        requires live_slot { IsTrue (is_live (slot_in (bucket_on self.old is_old index) at.old)) }
+        ensures pair { live_pair (slot_in (bucket_on self.old is_old index) at.old) ≡ Some result }
+        ensures asked { RemovesAndShrinks self.old is_old index
+            (slots_without (bucket_on self.old is_old index) at.old) self.new }
+        ensures kept { Keeps (arrays_with self.old is_old index
+            (slots_without (bucket_on self.old is_old index) at.old)) self.new }
+        ensures placed { (hash : K → ℕ) → ArePlaced hash (arrays_with self.old is_old index
+            (slots_without (bucket_on self.old is_old index) at.old)) → ArePlaced hash self.new }
+        ensures place { at.new ≡ place_after (bucket_on self.old is_old index) at.old }
+    {
+        let (pair, left) = self.take_slot(is_old, index, at);
+        self.shrink_left(is_old, index, left);
+        pair
+    }
+}
