@@ -1,7 +1,8 @@
 -- The digits of a number, written from the last to the first.
-use Rattle.std.proofs.Common.{◌≡◌, ℕ, ◌+◌, ◌-◌, ◌*◌, ◌/◌, ◌%◌, ◌<◌, ◌≤◌, ◌^◌, List, ◌∷◌, ◌++◌, length, take, drop, slice_set, sym, ap, ◌∙◌, zero, suc, arith, add-one, append_assoc}
+use Rattle.std.proofs.Common.{◌≡◌, ℕ, ◌+◌, ◌-◌, ◌*◌, ◌/◌, ◌%◌, ◌<◌, ◌≤◌, ◌^◌, List, ◌∷◌, ◌++◌, length, take, drop, slice_set, sym, ap, ◌∙◌}
+use Rattle.std.proofs.Common.{zero, suc, arith, add-one, append_assoc}
 use Rattle.std.proofs.Math.Nat.{pow-suc}
-use Rattle.std.proofs.lemmas.List.{append-nil, drop_all, take_rest, drop-set, length-set}
+use Rattle.std.proofs.lemmas.List.{take_rest, drop-set, length-set}
 use Rattle.std.proofs.lemmas.Fmt.{decimal_step, decimal_digit}
 use Rattle.std.specs.Fmt.{decimal}
 
@@ -11,14 +12,6 @@ pub record AreWritten (number rest start : ℕ) (digits : List ℕ) : Type 0 whe
   pub small : rest < 10 ^ (start + 1)
   pub room : length digits ≡ 20
   pub written : decimal number ≡ decimal rest ++ drop (start + 1) digits
-
-pub none_written : (number : ℕ) (digits : List ℕ) → number < 2 ^ 64 → length digits ≡ 20 → AreWritten number number 19 digits
-none_written number digits fits room = record {
-  within = omega arith;
-  small = omega arith;
-  room = room;
-  written = sym (ap (λ (t : List ℕ). decimal number ++ t) (drop_all 20 digits (omega arith)) ∙ append-nil _);
-}
 
 pub small_before : (rest start : ℕ) → rest < 10 ^ (start + 1) → rest / 10 < 10 ^ start
 small_before rest start small =

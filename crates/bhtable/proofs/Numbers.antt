@@ -1,5 +1,6 @@
 -- Reading a number digit by digit.
-use Rattle.std.proofs.Common.{◌≡◌, ℕ, ◌+◌, ◌-◌, ◌*◌, ◌<◌, ◌≤◌, ◌^◌, List, [], ◌∷◌, ◌&&◌, Bool, true, false, Option, None, is_some, nat_le, nat_lt, length, drop, get_or, subst, sym, ap, ◌∙◌, arith}
+use Rattle.std.proofs.Common.{◌≡◌, ℕ, ◌+◌, ◌-◌, ◌*◌, ◌<◌, ◌≤◌, ◌^◌, List, [], ◌∷◌, true, false, Option, None, is_some, nat_le, nat_lt}
+use Rattle.std.proofs.Common.{length, drop, get_or, subst, sym, ◌∙◌, arith}
 use Rattle.std.proofs.lemmas.Bool.{and_from, and_parts, false_from_ne_true, false≢true, le-leb, leb-true, lt-ltb, ltb-true}
 use Rattle.std.proofs.lemmas.List.{drop_all, at_drop_more}
 use Rattle.std.specs.Char.{is_ascii_digit}
@@ -33,15 +34,6 @@ pub record IsReadTo (word : List ℕ) (number : ℕ) (left : List ℕ) : Type 0 
   pub digits : all_ascii_digits left ≡ all_ascii_digits word
   pub fits : number < 2 ^ 64
 
-pub one_read : (word : List ℕ) (number byte : ℕ) (left : List ℕ) → IsReadTo word number (byte ∷ left)
-    → is_ascii_digit byte ≡ true → number * 10 + (byte - 48) < 2 ^ 64
-    → IsReadTo word (number * 10 + (byte - 48)) left
-one_read word number byte left so_far digit small = record {
-  value = so_far.value;
-  digits = sym (ap (λ (b : Bool). b && all_ascii_digits left) digit) ∙ so_far.digits;
-  fits = small;
-}
-
 -- more digits make no smaller number
 pub value_after-le : (number : ℕ) (digits : List ℕ) → number ≤ value_after number digits
 value_after-le number [] = omega arith
@@ -65,13 +57,6 @@ pub too_large_at : (word : List ℕ) (number at : ℕ) → IsReadTo word number 
     → 2 ^ 64 ≤ number * 10 + (get_or word at 0 - 48) → IsNumber word → ⊥
 too_large_at word number at so_far inside =
     too_large word number (get_or word at 0) (drop (at + 1) word)
-    (subst (λ (left : List ℕ). IsReadTo word number left) (next_byte word at inside) so_far)
-
-pub one_read_at : (word : List ℕ) (number at : ℕ) → IsReadTo word number (drop at word) → at < length word
-    → is_ascii_digit (get_or word at 0) ≡ true
-    → number * 10 + (get_or word at 0 - 48) < 2 ^ 64 → IsReadTo word (number * 10 + (get_or word at 0 - 48)) (drop (at + 1) word)
-one_read_at word number at so_far inside =
-    one_read word number (get_or word at 0) (drop (at + 1) word)
     (subst (λ (left : List ℕ). IsReadTo word number left) (next_byte word at inside) so_far)
 
 pub all_read : (word : List ℕ) (number at : ℕ) → IsReadTo word number (drop at word) → length word ≤ at

@@ -108,13 +108,6 @@ module _ {K V : Type 0} where
       rw (filter_map-flattened marked_entry rows, filter_map-flattened marked_entry (set rows i row))
       (no_new-set marked_entries (mark_of x) rows i row [] (marked_entries-set (get_or rows i []) pos x))
 
-  -- each slot becomes one that brings no mark
-  pub marked_entries-map : (g : Slot K V → Slot K V) → ((slot : Slot K V) → HasNoNewMark (mark_of slot) (mark_of (g slot)))
-      → (rows : List (List (Slot K V))) → HasNoNewMark (marked_entries (flattened rows)) (marked_entries (flattened (map (map g) rows)))
-  marked_entries-map g each rows =
-      rw (filter_map-flattened marked_entry rows, filter_map-flattened marked_entry (map (map g) rows))
-      (no_new-map marked_entries (map g) (λ row. rw (filter_map-is marked_entry row, filter_map-is marked_entry (map g row)) (no_new-map mark_of g each row)) rows)
-
 contains_one : {A : Type 0} (x y : A) → Contains (x ∷ []) y → x ≡ y
 contains_one x y (zero, less, is) = is
 contains_one x y (suc k, less, is) = absurd (omega (arith, less))

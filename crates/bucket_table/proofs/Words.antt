@@ -20,9 +20,9 @@ pub use Rattle.bucket_slots.specs.Sizing.{IsLeastPowerOfTwo, IsLength, IsOptimal
 pub use Rattle.bucket_slots.specs.Slots.{Slot, free, is_free, is_live, live, live_pair, live_pairs, marked, pair_of, slot_at}
 pub use Rattle.bucket_slots.specs.Walking.{MovesToNext, pairs_ahead}
 pub use Rattle.bucket_slots.specs.declared.bucket.TheConstants.{CACHE}
-pub use Rattle.std.proofs.Common.{Bool, Err, IfNone, IfOk, IfSome, IsSome, IsTrue, List, None, Ok, OnErr, OnOk, Option, Result, Some, []}
-pub use Rattle.std.proofs.Common.{ap, append-nil, arith, cond, false, filter, get_or, get_or-set_other, if◌then◌else◌, inl, inr, is_some}
-pub use Rattle.std.proofs.Common.{length, length-set, map, min, nat_le, nat_lt, not, option_map, refl, replicate, rules, set, subst, suc}
+pub use Rattle.std.proofs.Common.{Bool, Err, IfNone, IfOk, IfSome, IsTrue, List, None, Ok, OnErr, OnOk, Option, Result, Some, []}
+pub use Rattle.std.proofs.Common.{ap, append-nil, arith, cond, false, filter, get_or, get_or-set_other, if◌then◌else◌, inl, inr}
+pub use Rattle.std.proofs.Common.{length, length-set, map, min, nat_le, nat_lt, not, refl, replicate, rules, set, subst, suc}
 pub use Rattle.std.proofs.Common.{sym, take, true, zero, ℕ, ⊎_elim, ◌%◌, ◌&&◌, ◌*◌, ◌++◌, ◌+◌, ◌-◌, ◌/◌, ◌<◌, ◌==◌, ◌^◌, ◌↔◌, ◌∙◌, ◌∷◌, ◌≡◌}
 pub use Rattle.std.proofs.Common.{◌≢◌, ◌≤◌, ◌⊎◌}
 pub use Rattle.std.proofs.Math.Nat.{div-lt_iff_lt-mul, mul-le-mul_right}
@@ -38,7 +38,7 @@ pub use Rattle.std.proofs.lemmas.List.Sorted.{IsPermutation-cons, IsPermutation-
 pub use Rattle.std.proofs.lemmas.List.Sorted.{IsPermutation-trans, length_permutation}
 pub use Rattle.std.proofs.lemmas.List.Sums.{sum_by-cons}
 pub use Rattle.std.proofs.lemmas.Map.Keys.{IsDistinct-IsPermutation}
-pub use Rattle.std.proofs.lemmas.Option.{none-some, same_Some}
+pub use Rattle.std.proofs.lemmas.Option.{same_Some}
 pub use Rattle.std.specs.Cmp.{IsEquivalence}
 pub use Rattle.std.specs.List.{All, AllByRecursion, Contains, IsDistinct}
 pub use Rattle.std.specs.List.Sorted.{IsPermutation}

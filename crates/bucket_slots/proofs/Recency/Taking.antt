@@ -1,6 +1,6 @@
 -- An order that is taken slot by slot, the newest first, into 32 bytes.
 use Rattle.std.proofs.Common.{ℕ, ◌+◌, ◌-◌, ◌<◌, ◌≡◌, ◌≢◌, suc, Some, List, [], ◌∷◌, ◌++◌, length, set, replicate, refl, sym, ap, subst, ◌∙◌}
-use Rattle.std.proofs.Common.{append_assoc, append-nil, arith}
+use Rattle.std.proofs.Common.{append_assoc, arith}
 use Rattle.std.proofs.Math.Seq.{set-append_seam}
 use Rattle.std.proofs.lemmas.List.{length-append}
 use Rattle.bucket_slots.specs.Recency.{IsRecencyOrder, order_and_zeros, order_without, removal_answer, tail_of}
@@ -13,16 +13,6 @@ pub record TakesOrder (all : List ℕ) (bytes : List ℕ) (len : ℕ) (left : Li
   pub parts : all ≡ taken ++ left
   pub counted : len ≡ length taken
   pub bytes_are : bytes ≡ order_and_zeros taken
-
-pub takes_none : (all : List ℕ) → IsRecencyOrder all → TakesOrder all (replicate 32 0) 0 all
-takes_none all is_order = record { is_order = is_order; taken = []; parts = refl; counted = refl; bytes_are = refl }
-
--- nothing is left: the bytes are the whole order
-pub takes_all : (all bytes : List ℕ) (len : ℕ) (left : List ℕ) → TakesOrder all bytes len left → left ≡ []
-    → (bytes ≡ order_and_zeros all) × (len ≡ length all)
-takes_all all bytes len left takes none =
-    let same : all ≡ takes.taken = takes.parts ∙ ap (λ those. takes.taken ++ those) none ∙ append-nil takes.taken in
-    (takes.bytes_are ∙ ap order_and_zeros (sym same), takes.counted ∙ ap length (sym same))
 
 set-order_and_zeros : (taken : List ℕ) (newest : ℕ) → length taken < 32
     → set (order_and_zeros taken) (length taken) newest ≡ order_and_zeros (taken ++ newest ∷ [])

@@ -1,6 +1,5 @@
 -- What moving the sources of a bucket leaves.
-use Rattle.bucket_table.proofs.Words.{AreSourcesKilled, ArraysView, Bool, IsHome, IsInRange, Meets, WorksUnits, arith, length, true, ℕ, ◌<◌}
-use Rattle.bucket_table.proofs.Words.{◌↔◌, ◌≡◌}
+use Rattle.bucket_table.proofs.Words.{AreSourcesKilled, ArraysView, Bool, IsHome, IsInRange, Meets, arith, length, true, ℕ, ◌↔◌, ◌≡◌}
 use Rattle.bucket_table.specs.Map.Preparing.{IsReady}
 use Rattle.bucket_table.specs.Rehash.Units.{WorksRange}
 
@@ -22,11 +21,3 @@ module _ {K V : Type 0} where
     stands = let within = home.within in omega (arith, within);
     killed = λ j other. rw (home.the_one j other.own) dead;
   }
-
-  -- without an old array every home is
-  pub ready_alone : (hash : ℕ) (arrays : ArraysView K V) → 0 < length arrays.current → length arrays.linked ≡ 0 → IsReady arrays hash
-  ready_alone hash arrays stands alone = record { stands = stands; killed = λ index home i below. absurd (omega (arith, below, alone)) }
-
-  -- nor is any unit worked there
-  pub units_none : (old new : ArraysView K V) → length new.linked ≡ 0 → WorksUnits 1 old new
-  units_none old new none = λ stands. absurd (omega (arith, stands, none))

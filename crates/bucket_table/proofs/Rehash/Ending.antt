@@ -15,16 +15,6 @@ use Rattle.bucket_table.proofs.Views.Laws.{loses_none}
 unit_of : (ticket unit : ℕ) → ticket ≡ 2048 * unit → ticket / 2048 ≡ unit
 unit_of ticket unit is = omega arith
 
-pub same_len_start : (before after : TicketState) (answer : Option ℕ) → Starts before answer after → after.len ≡ before.len
-same_len_start before after None starts = ap (λ (t : TicketState). t.len) starts.1
-same_len_start before after (Some ticket) starts = starts.same_len
-
-pub same_len_end : (before after : TicketState) (ticket : ℕ) (success : Bool) (Done : Type 0) (answer : Result Bool TicketError)
-    → Ends before ticket success Done answer after → after.len ≡ before.len
-same_len_end before after ticket success Done (Ok gone) (unit, is, done, closes, goes) = closes.same_len
-same_len_end before after ticket success Done (Err NotOpen) h = ap (λ (t : TicketState). t.len) h.1
-same_len_end before after ticket success Done (Err NotDone) h = ap (λ (t : TicketState). t.len) h.3
-
 -- the test of a unit may stand in place of what it tells
 pub ends_as : (before after : TicketState) (ticket : ℕ) (success : Bool) (P Q : Type 0) (answer : Result Bool TicketError) → (P ↔ Q)
     → Ends before ticket success P answer after → Ends before ticket success Q answer after

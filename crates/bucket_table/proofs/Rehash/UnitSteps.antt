@@ -2,7 +2,7 @@
 use Rattle.bucket_table.proofs.Words.{ArraysView, Bool, BucketView, IsUnmoved, List, RelocatesAt, arith, bucket_at, cases_eq, empty_bucket}
 use Rattle.bucket_table.proofs.Words.{false, false≢true, get_or-set_other, get_or-set_same, inl, inr, length, length-set, refl, set, true}
 use Rattle.bucket_table.proofs.Words.{ℕ, ◌*◌, ◌+◌, ◌<◌, ◌∙◌, ◌≡◌, ◌≢◌, ◌≤◌}
-use Rattle.bucket_table.specs.Rehash.Units.{NeedsNoMemory, RelocatesRange, WorksRange, WorksUnit}
+use Rattle.bucket_table.specs.Rehash.Units.{RelocatesRange, WorksRange, WorksUnit}
 use Rattle.bucket_table.proofs.Views.Keeping.{kept_both, kept_none}
 use Rattle.bucket_table.proofs.Views.Killed.{get_or-killed_flags, length-killed_flags}
 
@@ -74,9 +74,3 @@ module _ {K V : Type 0} where
         let inside : i < length new.linked = omega arith in
         get_or-killed_flags new.linked i inside ∙ killed e i (omega arith) (reaches i high (omega arith)),
   )
-
-  -- a part of an easy range is easy
-  pub easy_part : (start end from to : ℕ) (arrays : ArraysView K V) → NeedsNoMemory start end arrays → start ≤ from → to ≤ end
-      → NeedsNoMemory from to arrays
-  easy_part start end from to arrays easy low high =
-      record { no_shorter = easy.no_shorter; few = λ i above below. easy.few i (omega arith) (omega arith) }

@@ -177,26 +177,6 @@ module _ {K V : Type 0} where
             (omega (arith, unit, high));
       }
 
-  -- no unit could be handed out, and nothing was done
-  pub none_runs : (old : ArraysView K V) (after : TicketState) → old.tickets.len ≡ length old.linked → Starts old.tickets None after
-      → WorksUnits 1 old old
-  none_runs old after long starts = λ some. record {
-    len = refl;
-    spent = λ i. inl refl;
-    open_len = refl;
-    least = omega arith;
-    most = omega arith;
-    worked = λ count few easy.
-        let over : length old.linked ≤ 64 * old.tickets.position = elim starts.0 [
-          | inl handed ↦ omega (arith, handed, long)
-          | inr full ↦ let room = easy.has_room in absurd (omega (arith, full, room))
-        ] in
-        record {
-          position = inr over;
-          killed = λ i low high within. absurd (omega (arith, low, within, over));
-        };
-  }
-
   pub none_changed : (old new : ArraysView K V) → Starts old.tickets None new.tickets → new ≡ record old { tickets = new.tickets }
       → new ≡ old
   none_changed old new starts is = is ∙ ap (λ (t : TicketState). record old { tickets = t }) starts.1

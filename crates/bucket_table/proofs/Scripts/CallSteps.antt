@@ -1,5 +1,5 @@
 -- What a call of a script does to the map, after the calls of the table that it makes.
-use Rattle.bucket_table.proofs.Words.{AreArrays, ArraysView, Bool, Contains-permutation, IsAbsent, IsPermutation-cons, IsPermutation-refl}
+use Rattle.bucket_table.proofs.Words.{AreArrays, ArraysView, Bool, Contains-permutation, IsPermutation-cons, IsPermutation-refl}
 use Rattle.bucket_table.proofs.Words.{IsPermutation-sym, IsPermutation-trans, IsTrue, KeepsPairs, List, MapState, Ok, Result, [], ap, arith}
 use Rattle.bucket_table.proofs.Words.{counted, counted_to, false, length, length_permutation, min, pairs_of, refl, subst, sym, ℕ, ◌-◌, ◌<◌}
 use Rattle.bucket_table.proofs.Words.{◌^◌, ◌↔◌, ◌∙◌, ◌∷◌, ◌≡◌}
@@ -49,10 +49,6 @@ module _ {K V H : Type 0} where
     Contains-permutation b.pairs a.pairs p (IsPermutation-sym a.pairs b.pairs keeps.pairs) there.0,
     there.1,
   )
-
-  -- where there is no pair
-  pub absent_of_none : (eq : K → K → Bool) (k : K) (a : MapState K V H) → a.pairs ≡ [] → IsAbsent eq k a.pairs
-  absent_of_none eq k a none = subst (λ (ps : List (K × V)). IsAbsent eq k ps) (sym none) (λ i d below. absurd (omega arith))
 
   pub counted_before : (n : ℕ) (a b : MapState K V H) → KeepsPairs a b → n ≡ counted_to b.pairs → n ≡ counted_to a.pairs
   counted_before n a b keeps counted = counted ∙ ap (λ m. min m (2 ^ 64 - 1)) (length_permutation a.pairs b.pairs keeps.pairs)

@@ -29,9 +29,6 @@ module _ {K V : Type 0} where
   kept_both old between new first second =
       record { keeps = keeps_both old between new first.keeps second.keeps; current_len = second.current_len ∙ first.current_len }
 
-  pub stay_killed_both : (a b c : List (BucketView K V)) → StayKilled a b → StayKilled b c → StayKilled a c
-  stay_killed_both a b c first second = record { len = second.len ∙ first.len; still = λ i dead. second.still i (first.still i dead) }
-
   pub stay_killed_same : (a : List (BucketView K V)) → StayKilled a a
   stay_killed_same a = record { len = refl; still = λ i dead. dead }
 

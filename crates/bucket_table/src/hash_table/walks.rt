@@ -15,8 +15,8 @@ ghost use Rattle.bucket_table.specs.Rehash.Units.{WorksUnits};
 ghost use Rattle.bucket_table.specs.Walking.Visits.{reading};
 ghost use Rattle.bucket_table.specs.Walking.Walks.{BeginsAt, KeepsBuckets, WalksBy};
 
-use crate::hash_table::HashTable;
 use crate::capacity::from_index_to_range;
+use crate::hash_table::HashTable;
 use crate::key_hash::KeyHash;
 use crate::visit::{Read, Visit};
 use bucket_slots::bucket::{AllocError, Bucket};

@@ -1,3 +1,4 @@
+use Rattle.bucket_table.proofs.Words.{ap, arith}
 use Rattle.std.proofs.Common.{Ok, true}
 use Rattle.bucket_table.proofs.Rehash.Ending.{ended_entries, ended_gone}
 use Rattle.bucket_table.proofs.arrays.Arrays.end_incremental_rehash.Goals as goal
@@ -11,3 +12,12 @@ pub returns-in-Ok-true-clause-same_pairs : goal.returns-in-Ok-true-clause-same_p
 returns-in-Ok-true-clause-same_pairs g c = ended_entries c.args.self.now _ c.args.ticket c.args.success (Ok true) c.requires (
     ended_gone c.args.self.now _ _ c.args.ticket _ _ _ c.end.new.self _ c.args.success c.in-Ok-true.field-0 c.is_unit_killed-is_done.result
     c.in-Ok-true.field-0-test c.is_unit_killed-is_done.ensures c.in-Ok-true.ensures c.self.view_is c.none.ensures c.requires)
+
+pub invariant_of-self : goal.invariant_of-self
+invariant_of-self g c = record {
+  maximum_power = c.self.invariant.maximum_power;
+  bounded = c.self.invariant.bounded;
+  within = c.self.invariant.within;
+  beside = λ some. absurd (omega arith);
+  tickets_len = ap (λ t. t.len) c.none.ensures;
+}

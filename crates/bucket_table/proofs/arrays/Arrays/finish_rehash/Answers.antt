@@ -1,4 +1,4 @@
-use Rattle.bucket_table.proofs.Words.{Ok, ap, arith, length, refl, ◌∙◌, ◌≡◌}
+use Rattle.bucket_table.proofs.Words.{ap, arith, length, refl}
 use Rattle.bucket_table.proofs.Views.Keeping.{kept_both, kept_none}
 use Rattle.bucket_table.proofs.arrays.Arrays.finish_rehash.Goals as goal
 

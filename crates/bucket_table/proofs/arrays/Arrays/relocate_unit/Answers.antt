@@ -7,3 +7,6 @@ pub returns-clause-worked : goal.returns-clause-worked
 returns-clause-worked g c = rw c.release_old.ensures
     (unit_worked (c.args.unit * 64) c.min-end.result c.args.unit _ _ _ c.relocate_range-success.ensures.worked (mul_comm c.args.unit 64)
     (λ i high within. omega (arith, c.min-end.ensures, c.old_len-len.ensures.value)))
+
+pub returns-clause-placed : goal.returns-clause-placed
+returns-clause-placed g c = rw c.release_old.ensures c.relocate_range-success.ensures.placed

@@ -1,7 +1,7 @@
 use Rattle.bucket_table.proofs.Words.{Some, ap, arith, length, rules}
 use Rattle.bucket_table.proofs.Rehash.Ending.{placed_end, placed_start}
 use Rattle.bucket_table.proofs.Rehash.FinishingUnits.{finishes, finishes_none}
-use Rattle.bucket_table.proofs.Rehash.UnitWork.{easy_handed, none_handed, unit_kept, unit_runs}
+use Rattle.bucket_table.proofs.Rehash.UnitWork.{easy_handed, none_changed, none_handed, unit_kept, unit_runs}
 use Rattle.bucket_table.proofs.arrays.Arrays.work_unit.Goals as goal
 
 pub relocate_unit-success-requires : goal.relocate_unit-success-requires
@@ -56,3 +56,7 @@ returns-clause-finishes g c =
 pub returns-in_default-clause-finishes : goal.returns-in_default-clause-finishes
 returns-in_default-clause-finishes g c =
     finishes_none c.args.self.now _ c.in_default.ensures.tickets c.in_default.ensures.others c.requires.placed.rehashed
+
+pub returns-in_default-clause-placed : goal.returns-in_default-clause-placed
+returns-in_default-clause-placed g c =
+    rw (none_changed c.args.self.now _ c.in_default.ensures.tickets c.in_default.ensures.others) c.requires.placed

@@ -50,3 +50,6 @@ order-preserved g c =
           rw w.current-is (arriving_none c.args.landings.now c.args.order.now c.order.slot-index c.args.current.now c.order.current
           c.requires.once c.order.invariant _ refl c.order-test.true w.in_default.is)
     ]
+
+pub bounds-landings-slot : goal.bounds-landings-slot
+bounds-landings-slot g c = c.requires.once.below c.order.slot-index 0 c.order-test.true

@@ -1,4 +1,5 @@
-use Rattle.bucket_table.proofs.Words.{ap, arith, length, pairs_in, rules, subst, sym, ◌∙◌, ◌≤◌}
+use Rattle.std.proofs.lemmas.List.{set-get_or}
+use Rattle.bucket_table.proofs.Words.{ap, arith, empty_bucket, length, pairs_in, rules, subst, sym, ◌∙◌, ◌≤◌}
 use Rattle.bucket_table.specs.Layout.Landings.{CarriesRecency}
 use Rattle.bucket_table.proofs.Moves.Carried.{carries_nothing, carries_since}
 use Rattle.bucket_table.proofs.Moves.Relocating.{AreTargets, IsPrepared, all_moved, can_move, in_targets, killed_already, refused}
@@ -96,3 +97,6 @@ returns g c =
       recency = subst (λ s. CarriesRecency s c.args.current.now c.carry_pairs.new.current) same recency;
       alive = search rules;
     }
+
+pub returns-in-Err-clause-linked_kept : goal.returns-in-Err-clause-linked_kept
+returns-in-Err-clause-linked_kept g c = rw c.bucket_mut-source.ensures.bucket (set-get_or _ c.args.index empty_bucket)

@@ -4,9 +4,11 @@ use Rattle.bucket_table.proofs.Resize.Samples.{small_within}
 use Rattle.bucket_table.proofs.arrays.neighbours.is_deserted.Goals as goal
 
 pub live_slots-live-requires : goal.live_slots-live-requires
-live_slots-live-requires g c =
-    (omega arith, near_within _ c.args.index _ (omega (arith, c.len-len.ensures.length.at_least, c.len-len.ensures.value))
-    c.small_sample_size-size.ensures)
+live_slots-live-requires g c = (
+  omega arith,
+  near_within _ c.args.index _ (omega (arith, c.len-len.ensures.length.at_least, c.len-len.ensures.value))
+      c.small_sample_size-size.ensures,
+)
 
 pub overflow_mul-size : goal.overflow_mul-size
 overflow_mul-size g c =

@@ -1,4 +1,4 @@
-use Rattle.bucket_table.proofs.Words.{ap, arith, length, live_counts, live_len, ◌+◌, ◌<◌, ◌∙◌}
+use Rattle.bucket_table.proofs.Words.{ap, arith, counted, length, live_counts, live_len, min, subst, ◌+◌, ◌-◌, ◌<◌, ◌^◌, ◌∙◌, ◌≡◌}
 use Rattle.bucket_table.proofs.Resize.Samples.{counted_more, get_or-live_counts, length-live_counts}
 use Rattle.bucket_table.proofs.arrays.sampling.live_slots.Goals as goal
 
@@ -12,3 +12,8 @@ loop-offset-preserved g c =
     let at = get_or-live_counts c.args.array.now (c.args.start + c.loop-offset.offset) 0 within in
     let here = c.len.ensures ∙ ap live_len c.bucket.ensures in
     omega (arith, more, at, here, c.loop-offset.invariant, c.saturating_add-live.ensures)
+
+pub returns : goal.returns
+returns g c =
+    let whole : c.loop-offset.offset ≡ c.args.size = omega (arith, c.loop-offset-test.false, c.loop-offset.auto.offset-end) in
+    subst (λ n. c.loop-offset.live ≡ min (counted (live_counts c.args.array.now) c.args.start n) (2 ^ 64 - 1)) whole c.loop-offset.invariant

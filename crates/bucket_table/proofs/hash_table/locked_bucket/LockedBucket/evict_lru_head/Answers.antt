@@ -1,3 +1,4 @@
+use Rattle.bucket_table.proofs.Words.{arith}
 use Rattle.bucket_table.proofs.Map.LockedSteps.{if_none, on_some, with_own, with_same}
 use Rattle.bucket_table.proofs.Map.MapSteps.{evicted}
 use Rattle.bucket_table.proofs.Views.SideChanges.{changeable_locked}
@@ -47,3 +48,6 @@ returns-clause-none g c = rw (← c.table.view_is) (rw c.bucket_of_mut.ensures.b
 
 pub returns-clause-bag : goal.returns-clause-bag
 returns-clause-bag g c = rw (← c.table.view_is) (bag_with _ c.args.self.now.is_old c.args.self.now.index _)
+
+pub bucket_of_mut-requires : goal.bucket_of_mut-requires
+bucket_of_mut-requires g c = (omega arith, (c.room_of.ensures, rw (← c.table.view_is) at c.args.self.now.locked.within))

@@ -1,4 +1,4 @@
-use Rattle.bucket_table.proofs.Words.{BucketView, IfOk, live, slot_in, slots_after_insertion, subst, sym, ◌%◌, ◌≡◌}
+use Rattle.bucket_table.proofs.Words.{BucketView, IfOk, arith, live, slot_in, slots_after_insertion, subst, sym, ◌%◌, ◌≡◌}
 use Rattle.bucket_slots.proofs.RoomCallerLemmas.{refused_full, refused_unchanged}
 use Rattle.bucket_table.proofs.Map.LockedSteps.{on_err, put_if_ok, put_there, with_own}
 use Rattle.bucket_table.proofs.Map.MapSteps.{inserted_or}
@@ -69,3 +69,6 @@ returns-clause-names g c =
     let within = rw (← c.table.view_is) at o.locked.within in
     subst (λ (b : BucketView g.row.K.Denot g.row.V.Denot). IfOk c.insert.result (λ at. slot_in b at ≡ live c.args.pair (c.args.hash % 256)))
     (sym (put_there c.table.inside.arrays o.is_old o.index c.insert.new.self within)) c.insert.ensures.names
+
+pub bucket_of_mut-requires : goal.bucket_of_mut-requires
+bucket_of_mut-requires g c = (omega arith, (c.room_of.ensures, rw (← c.table.view_is) at c.args.self.now.locked.within))
