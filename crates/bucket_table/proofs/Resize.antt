@@ -1,6 +1,5 @@
 -- Plans, their samples, and what a resize keeps.
 pub mod Samples
-pub mod Plans
 pub mod PlanIsOne
 pub mod PlanBounds
 pub mod Neighbours

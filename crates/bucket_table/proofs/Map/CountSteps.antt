@@ -8,7 +8,7 @@ use Rattle.bucket_table.specs.Resize.Sampling.{estimate}
 use Rattle.bucket_table.specs.Resize.Turns.{IsPlanOf, TriesResize}
 use Rattle.bucket_table.specs.declared.arrays.plan.Plan.TheVariants.{GiveUp, Keep, Resize}
 use Rattle.bucket_table.proofs.Resize.GivingUp.{plan_alone, plan_stands}
-use Rattle.bucket_table.proofs.Resize.Plans.{plan_code}
+use Rattle.bucket_table.proofs.Resize.GivingUp.{plan_code}
 
 -- counts of 0 sum up to 0
 zeros_taken : (n : ℕ) (xs : List ℕ) → All (λ count. count ≡ 0) xs → sum (take n xs) ≡ 0

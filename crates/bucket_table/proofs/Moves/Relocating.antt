@@ -1,22 +1,21 @@
 -- An old bucket whose pairs have moved to their homes, and the law of two arrays then.
-use Rattle.bucket_table.proofs.Words.{All, All-map, All-nil, AreHome, AreTwoArrays, Bool, BucketView, IsEntryHome, IsInRange, IsLength}
+use Rattle.bucket_table.proofs.Words.{All, All-map, All-nil, AreHome, AreTwoArrays, BucketView, IsEntryHome, IsInRange, IsLength}
 use Rattle.bucket_table.proofs.Words.{IsPermutation, IsPermutation-append_left, IsPermutation-append_right, IsPermutation-refl}
-use Rattle.bucket_table.proofs.Words.{IsPermutation-trans, IsVacant, KeepsEntries, List, Meets, MovesInto, Slot, [], ap, append-nil, arith}
-use Rattle.bucket_table.proofs.Words.{bucket_at, cases_eq, empty_bucket, entries_among, entries_in, false, flattened, get_or, home_of}
-use Rattle.bucket_table.proofs.Words.{if◌then◌else◌, inl, inr, interval_width, length, length-entries_in, live_pairs, map-entries_in}
-use Rattle.bucket_table.proofs.Words.{marks_among, nil_from_length, no_new-refl, pairs_in, refl, rotated, scales, set, subst, sym, true, ℕ}
-use Rattle.bucket_table.proofs.Words.{◌++◌, ◌/◌, ◌<◌, ◌==◌, ◌↔◌, ◌∙◌, ◌≡◌, ◌≤◌}
+use Rattle.bucket_table.proofs.Words.{IsPermutation-trans, IsVacant, KeepsEntries, List, Meets, MovesInto, [], ap, append-nil, arith}
+use Rattle.bucket_table.proofs.Words.{bucket_at, cases_eq, empty_bucket, entries_among, entries_in, false, get_or, home_of, inl, inr}
+use Rattle.bucket_table.proofs.Words.{interval_width, length, map-entries_in, marks_among, no_new-refl, pairs_in, refl, rotated, scales}
+use Rattle.bucket_table.proofs.Words.{set, subst, sym, true, ℕ, ◌++◌, ◌/◌, ◌<◌, ◌↔◌, ◌∙◌, ◌≡◌, ◌≤◌}
 use Rattle.std.proofs.Common.{append_assoc}
 use Rattle.std.proofs.lemmas.List.{set-get_or}
 use Rattle.bucket_slots.proofs.ArrayCallerLemmas.{one_source}
-use Rattle.bucket_slots.proofs.Counting.{length-live_pairs-append}
 use Rattle.bucket_slots.proofs.MarkCallerLemmas.{marks_in-slots_killed}
+use Rattle.bucket_slots.proofs.RoomCallerLemmas.{pairs_in-slots_killed}
 use Rattle.bucket_slots.specs.Moving.{slots_killed}
-use Rattle.bucket_slots.specs.declared.bucket.TheConstants.{INDEX}
 use Rattle.bucket_table.specs.Layout.Moving.{CanMoveInto}
 use Rattle.bucket_table.specs.Rehash.Relocation.{HasOwnByte, HasRoomFor, IsRelocated, KeepsOthers}
 use Rattle.bucket_table.proofs.Moves.Exchanges.{ChangesAt, changes_at, exchanged}
 use Rattle.bucket_table.proofs.Moves.HomesByDivision.{in_interval, some_width}
+use Rattle.bucket_table.proofs.Views.Killed.{no_entries}
 use Rattle.bucket_table.proofs.Views.MarksKept.{all_alike, marks_among-kept, marks_moved}
 use Rattle.bucket_table.proofs.Moves.RoomMade.{KeepsEntries-refl, homed_few, homed_none, room_in_range, vacant_len}
 
@@ -30,22 +29,6 @@ other_target from to i index j from_long to_long le below i_below index_below ap
     apart (first ∙ sym second)
 
 module _ {K V : Type 0} where
-  none_among : (own rest : List (Slot K V)) → live_pairs (own ++ rest) ≡ [] → live_pairs (own ++ []) ≡ []
-  none_among own rest none =
-      let long = ap length none in
-      nil_from_length (live_pairs (own ++ [])) (omega (arith, length-live_pairs-append own rest, length-live_pairs-append own []))
-
-  killed_kept : (keeps : Bool) (s : BucketView K V) → pairs_in s ≡ [] → live_pairs (s.own ++ flattened (if keeps then s.chain else [])) ≡ []
-  killed_kept true s none = none
-  killed_kept false s none = none_among s.own (flattened s.chain) none
-
-  -- a killed bucket has no pair more
-  pub pairs_in-slots_killed : (kind : ℕ) (s : BucketView K V) → pairs_in s ≡ [] → pairs_in (slots_killed kind s) ≡ []
-  pairs_in-slots_killed kind s none = killed_kept (kind == INDEX) s none
-
-  pub no_entries : (s : BucketView K V) → pairs_in s ≡ [] → entries_in s ≡ []
-  no_entries s none = nil_from_length (entries_in s) (length-entries_in s ∙ ap length none)
-
   pub entries_alike : (c d : List (BucketView K V)) → length d ≡ length c
       → ((i : ℕ) → entries_in (bucket_at d i) ≡ entries_in (bucket_at c i)) → entries_among d ≡ entries_among c
   entries_alike c d long each = all_alike entries_in entries_among refl (λ x xs. refl) empty_bucket c d long each

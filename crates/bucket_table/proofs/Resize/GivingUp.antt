@@ -1,13 +1,18 @@
 -- A plan gives an array up only where no slot is live, and asks for something only of a current array alone.
 use Rattle.bucket_table.proofs.Words.{All, ArraysView, List, [], ap, arith, cases_eq, cases_lt, inl, inr, length, slots_of, ℕ, ⊎_elim, ◌*◌}
-use Rattle.bucket_table.proofs.Words.{◌/◌, ◌<◌, ◌≡◌, ◌≤◌}
+use Rattle.bucket_table.proofs.Words.{◌+◌, ◌/◌, ◌<◌, ◌≡◌, ◌≤◌}
 use Rattle.bucket_table.specs.Resize.ResizePlan.{IsPlan, IsPlanTo, last_estimate}
 use Rattle.bucket_table.specs.Resize.Turns.{IsGivenUp, IsPlanOf}
 use Rattle.bucket_table.specs.declared.arrays.plan.Plan.{Plan}
-use Rattle.bucket_table.specs.declared.arrays.plan.Plan.TheVariants.{GiveUp, Keep}
+use Rattle.bucket_table.specs.declared.arrays.plan.Plan.TheVariants.{GiveUp, Keep, Resize}
 use Rattle.bucket_table.proofs.Views.Killed.{no_live}
 use Rattle.bucket_table.proofs.Resize.PlanIsOne.{all_or_not}
-use Rattle.bucket_table.proofs.Resize.Plans.{plan_code}
+
+-- which case a plan is of
+abbrev pub plan_code : Plan → ℕ
+plan_code Keep = 0
+plan_code GiveUp = 1
+plan_code (Resize capacity) = 2 + capacity
 
 not_kept : ◌≡◌ {A = Plan} GiveUp Keep → ⊥
 not_kept e = let f = ap plan_code e in absurd (omega arith)

@@ -1,20 +1,13 @@
 -- Whether the buckets near an index are crowded or deserted, by a sum that saturates.
-use Rattle.bucket_table.proofs.Words.{BucketView, IsLeastPowerOfTwo, List, arith, counted, length, live_counts, min, subst, sym, ℕ}
-use Rattle.bucket_table.proofs.Words.{◌%◌, ◌*◌, ◌+◌, ◌-◌, ◌^◌, ◌≡◌, ◌≤◌}
+use Rattle.bucket_table.proofs.Words.{BucketView, List, arith, counted, length, live_counts, min, subst, sym, ℕ, ◌%◌, ◌*◌, ◌+◌, ◌-◌}
+use Rattle.bucket_table.proofs.Words.{◌^◌, ◌≡◌, ◌≤◌}
 use Rattle.std.proofs.Common.{◌↔◌}
 use Rattle.std.proofs.Math.Nat.{mod-lt}
-use Rattle.bucket_slots.proofs.PowersOfTwo.{exponent_is_one, least_is_one}
+use Rattle.bucket_slots.proofs.ArrayCallerLemmas.{small_is_one, small_within}
 use Rattle.bucket_slots.specs.Sampling.{IsSmallSample}
 use Rattle.bucket_slots.specs.Sizing.{IsTooEmpty, IsTooFull}
 use Rattle.bucket_table.specs.Resize.Sampling.{IsCrowded, IsDeserted}
-use Rattle.bucket_table.proofs.Resize.PlanIsOne.{large_is_one}
-use Rattle.bucket_table.proofs.Resize.Samples.{length-live_counts, small_within}
-
--- there is one small sample
-small_is_one : (len m n : ℕ) → IsSmallSample len m → IsSmallSample len n → m ≡ n
-small_is_one len m n (i, i_large, i_least) (j, j_large, j_least) =
-    let same : i ≡ j = exponent_is_one i j (large_is_one len (2 ^ i) (2 ^ j) i_large j_large) in
-    least_is_one (1 + j) m n (subst (λ (k : ℕ). IsLeastPowerOfTwo (1 + k) m) same i_least) j_least
+use Rattle.bucket_table.proofs.Resize.Samples.{length-live_counts}
 
 -- the small sample from a bucket's place in it is within the array
 pub near_within : (len index size : ℕ) → 2 ≤ len → IsSmallSample len size → index % size + size ≤ len

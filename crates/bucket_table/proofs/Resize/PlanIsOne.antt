@@ -1,51 +1,9 @@
 -- There is one plan for an array.
-use Rattle.bucket_table.proofs.Words.{All, All-cons, All-head, All-tail, IsLargeSample, IsLeastPowerOfTwo, IsOptimalCapacity, List, [], ap}
-use Rattle.bucket_table.proofs.Words.{arith, cases_eq, cases_lt, inl, inr, length, min, refl, slots_of, subst, sym, ℕ, ⊎_elim, ◌*◌, ◌/◌}
-use Rattle.bucket_table.proofs.Words.{◌<◌, ◌∙◌, ◌∷◌, ◌≡◌, ◌≤◌, ◌⊎◌}
-use Rattle.std.proofs.Common.{max}
-use Rattle.bucket_slots.proofs.PowersOfTwo.{exponent_is_one, least_is_one}
-use Rattle.bucket_slots.specs.Sizing.{IsGrownCapacity, IsLeastDoubling}
+use Rattle.bucket_table.proofs.Words.{All, All-cons, All-head, All-tail, IsOptimalCapacity, List, [], ap, arith, cases_eq, cases_lt, inl}
+use Rattle.bucket_table.proofs.Words.{inr, length, refl, slots_of, subst, sym, ℕ, ⊎_elim, ◌*◌, ◌/◌, ◌<◌, ◌∙◌, ◌∷◌, ◌≡◌, ◌≤◌, ◌⊎◌}
+use Rattle.bucket_slots.proofs.ArrayCallerLemmas.{large_is_one, optimal_is_one}
 use Rattle.bucket_table.specs.Resize.ResizePlan.{IsPlan, IsPlanTo, first_estimate, last_estimate, middle_estimate}
 use Rattle.bucket_table.specs.declared.arrays.plan.Plan.{Plan}
-
-below_least : (start entries maximum m n : ℕ) → IsLeastDoubling start entries maximum m
-    → IsLeastDoubling start entries maximum n → m < n → ⊥
-below_least start entries maximum m n a b less =
-    let (k, is) = a.is_doubling in
-    let small : m / 2 < entries = subst (λ (x : ℕ). x / 2 < entries) (sym is) (b.least k (subst (λ (x : ℕ). x < n) is less)) in
-    let most = b.at_most in
-    ⊎_elim (λ (h : entries ≤ m / 2). absurd (omega arith)) (λ (h : m ≡ maximum). absurd (omega arith)) a.enough
-
--- there is one least doubling
-pub least_doubling_is_one : (start entries maximum m n : ℕ)
-    → IsLeastDoubling start entries maximum m → IsLeastDoubling start entries maximum n → m ≡ n
-least_doubling_is_one start entries maximum m n a b = ⊎_elim (λ (less : m < n). absurd (below_least start entries maximum m n a b less))
-    (λ (le : n ≤ m). ⊎_elim (λ (more : n < m). absurd (below_least start entries maximum n m b a
-    more)) (λ (ge : m ≤ n). omega arith) (cases_lt n m)) (cases_lt m n)
-
-pub grown_is_one : (capacity entries minimum maximum m n : ℕ) → IsGrownCapacity capacity entries minimum maximum m
-    → IsGrownCapacity capacity entries minimum maximum n → m ≡ n
-grown_is_one capacity entries minimum maximum m n (p, p_least, a) (q, q_least, b) =
-    let same = least_is_one minimum p q p_least q_least in
-    least_doubling_is_one (min (max q capacity) maximum) entries maximum m n
-    (subst (λ (r : ℕ). IsLeastDoubling (min (max r capacity) maximum) entries maximum m) same a)
-    b
-
--- there is one optimal capacity
-pub optimal_is_one : (capacity entries minimum maximum m n : ℕ) → IsOptimalCapacity capacity entries minimum maximum m
-    → IsOptimalCapacity capacity entries minimum maximum n → m ≡ n
-optimal_is_one capacity entries minimum maximum m n a b =
-    ⊎_elim (λ (low : capacity < minimum). grown_is_one capacity entries minimum maximum m n (a.below_minimum low) (b.below_minimum low))
-    (λ (high : minimum ≤ capacity). ⊎_elim (λ (full : (capacity / 16) * 13 < entries). grown_is_one
-    capacity entries minimum maximum m n (a.too_full full) (b.too_full full)) (λ (not_full : entries ≤ (capacity / 16) * 13). ⊎_elim
-    (λ (few : entries < capacity / 8). least_is_one (max (max (2 * entries) minimum) 64) m n (a.too_empty high few) (b.too_empty high few))
-    (λ (enough : capacity / 8 ≤ entries). a.kept high not_full enough ∙ sym (b.kept high not_full enough))
-    (cases_lt entries (capacity / 8))) (cases_lt ((capacity / 16) * 13) entries)) (cases_lt capacity minimum)
-
-pub large_is_one : (len m n : ℕ) → IsLargeSample len m → IsLargeSample len n → m ≡ n
-large_is_one len m n (i, i_is, i_least) (j, j_is, j_least) =
-    let same : i ≡ j = exponent_is_one i j (sym i_is ∙ j_is) in
-    least_is_one j m n (subst (λ (k : ℕ). IsLeastPowerOfTwo k m) same i_least) j_least
 
 pub all_or_not : (counts : List ℕ) → All (λ count. count ≡ 0) counts ⊎ (All (λ count. count ≡ 0) counts → ⊥)
 all_or_not [] = inl (λ i d below. absurd (omega arith))

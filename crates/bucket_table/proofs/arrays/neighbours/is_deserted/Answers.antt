@@ -1,6 +1,6 @@
 use Rattle.bucket_table.proofs.Words.{arith}
+use Rattle.bucket_slots.proofs.ArrayCallerLemmas.{small_within}
 use Rattle.bucket_table.proofs.Resize.Neighbours.{deserted, near_within}
-use Rattle.bucket_table.proofs.Resize.Samples.{small_within}
 use Rattle.bucket_table.proofs.arrays.neighbours.is_deserted.Goals as goal
 
 pub live_slots-live-requires : goal.live_slots-live-requires

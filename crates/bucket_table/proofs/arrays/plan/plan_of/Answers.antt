@@ -1,5 +1,5 @@
 use Rattle.bucket_table.proofs.Words.{arith}
-use Rattle.bucket_table.proofs.Resize.Samples.{large_within}
+use Rattle.bucket_slots.proofs.ArrayCallerLemmas.{large_within}
 use Rattle.bucket_table.proofs.arrays.plan.plan_of.Goals as goal
 
 pub overflow_sub-len : goal.overflow_sub-len
