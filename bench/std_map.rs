@@ -98,8 +98,15 @@ fn run_single(pairs: u64) {
         assert!(was.is_none());
     }
     times.sort_unstable();
-    println!("longest {} 1", times[times.len() - 1]);
-    println!("rarely {} 1", times[times.len() - 1 - times.len() / 10_000]);
+    let slowest = |rank: usize| times.len().checked_sub(rank).map_or(0, |place| times[place]);
+    println!("longest {} 1", slowest(1));
+    println!("rarely {} 1", slowest(times.len() / 10_000 + 1));
+    for rank in [1, 10, 100, 1_000, 10_000, 100_000, 1_000_000] {
+        if rank < times.len() {
+            println!("rank{rank} {} 1", slowest(rank));
+        }
+    }
+    println!("median {} 1", slowest(times.len() / 2));
 }
 
 fn resident_bytes() -> u64 {

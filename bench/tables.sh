@@ -4,16 +4,22 @@
 # each round. A figure is a median, with the least and the greatest; ratios are of medians. It
 # asserts nothing.
 #
-# Called as `bench/tables.sh [-i] [ROUNDS]`. With -i it prints instructions a call as well, where
-# `valgrind` is there. Without a number there are 5 rounds.
+# Called as `bench/tables.sh [-i] [-p] [ROUNDS]`. With -i it prints instructions a call as well,
+# where `valgrind` is there. With -p it draws docs/calls.svg and docs/insertions.svg anew, by
+# `gnuplot`, from more sizes. Without a number there are 5 rounds.
 set -eu
 root=$(dirname -- "$(dirname -- "$(readlink -f -- "${BASH_SOURCE[0]}")")")
 
 with_instructions=
-if [ "${1:-}" = -i ]; then
-    with_instructions=yes
+with_pictures=
+while [[ ${1:-} == -* ]]; do
+    case $1 in
+        -i) with_instructions=yes ;;
+        -p) with_pictures=yes ;;
+        *) echo "bench/tables.sh: no option $1" >&2 && exit 2 ;;
+    esac
     shift
-fi
+done
 rounds=${1:-5}
 
 folder=$(mktemp -d)
@@ -40,10 +46,15 @@ run() {
     esac
 }
 
+jobs=({calls,large,single}\ {1000,64000,1000000} "single 4000000")
+if [ -n "$with_pictures" ]; then
+    jobs+=(calls\ {4000,16000,256000,4000000})
+fi
+
 # A line for each figure: pairs, its name, the map, and the figure a call. Of the bytes the first of
 # a run counts, since later ones are memory that the run had before.
 for ((round = 0; round < rounds; round++)); do
-    for job in {calls,large,single}\ {1000,64000,1000000} "single 4000000"; do
+    for job in "${jobs[@]}"; do
         read -r course pairs <<<"$job"
         for map in $maps; do
             run "$map" "$course" "$pairs" |
@@ -138,4 +149,29 @@ if [ -n "$with_instructions" ] && command -v valgrind >/dev/null; then
                         count["::sum"] / 64000, count["::drop_odd"] / 64000
                 }'
     done
+fi
+
+# The pictures: medians over the sizes, and the slowest insertions on the way to 4,000,000 pairs.
+if [ -n "$with_pictures" ]; then
+    awk -v folder="$folder" '
+        {
+            group = $1 " " $2 " " $3
+            figures[group, ++count[group]] = $4
+        }
+        END {
+            for (group in count) {
+                split(group, part, " ")
+                figure = figures[group, int((count[group] + 1) / 2)]
+                if (part[1] == 4000000 && part[2] ~ /^rank|^median/) {
+                    rank = part[2] == "median" ? 2000000 : substr(part[2], 5)
+                    print rank / 4000000, figure > folder "/single-" part[3]
+                } else {
+                    print part[1], figure > folder "/" part[2] "-" part[3]
+                }
+            }
+        }' "$folder/figures"
+    for file in "$folder"/*-*; do
+        sort -g -o "$file" "$file"
+    done
+    gnuplot -e "folder = '$folder'; maps = '$maps'; docs = '$root/docs'" "$root/bench/pictures.gnuplot"
 fi

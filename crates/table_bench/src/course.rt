@@ -85,8 +85,8 @@ pub(crate) fn run_large<M: Measured>(
     print_time(rt, wants_times, "large", start, pairs)
 }
 
-/// Prints the longest insertion on the way to so many pairs, and the one that all but one in
-/// 10,000 don't pass.
+/// Prints how long insertions took on the way to so many pairs: the longest, the one that all but
+/// one in 10,000 don't pass, and those of some ranks, from the slowest.
 pub(crate) fn run_single<M: Measured>(
     rt: &HostRuntime,
     wants_times: bool,
@@ -101,17 +101,30 @@ pub(crate) fn run_single<M: Measured>(
         require(came)?;
     }
     times.sort_unstable();
-    let last = times.len().saturating_sub(1);
-    let rare = times.len() / 10_000;
-    if wants_times {
-        let longest = times.get(last).copied().unwrap_or(0);
-        let most = times.get(last.saturating_sub(rare)).copied().unwrap_or(0);
-        println!(rt; "longest {longest} 1")?;
-        println!(rt; "rarely {most} 1")?;
-    } else {
+    if !wants_times {
         println!(rt; "single {}", times.len())?;
+        return Ok(());
     }
+    println!(rt; "longest {} 1", slowest(&times, 1))?;
+    println!(rt;
+        "rarely {} 1",
+        slowest(&times, (times.len() / 10_000).saturating_add(1))
+    )?;
+    for rank in [1, 10, 100, 1_000, 10_000, 100_000, 1_000_000] {
+        if rank < times.len() {
+            println!(rt; "rank{rank} {} 1", slowest(&times, rank))?;
+        }
+    }
+    println!(rt; "median {} 1", slowest(&times, times.len() / 2))?;
     Ok(())
+}
+
+/// The time of a rank, 1 for the slowest, among times in rising order; 0 where there is none.
+fn slowest(times: &[u128], rank: usize) -> u128 {
+    match times.len().checked_sub(rank) {
+        Some(place) => times.get(place).copied().unwrap_or(0),
+        None => 0,
+    }
 }
 
 /// The error of a run that did something else than was timed.

@@ -43,15 +43,7 @@ impl Measured for Table {
 
     #[inline(always)]
     fn put(&mut self, key: u64) -> bool {
-        let hash = self.hash(&key);
-        let Ok(mut locked) = self.writer_sync(hash) else {
-            return false;
-        };
-        let at = locked.search(&key, hash);
-        if at.is_valid() {
-            return false;
-        }
-        locked.insert(hash, (key, key), &()).is_ok()
+        self.insert_pair(key, key, &()).is_ok()
     }
 
     #[inline(always)]
@@ -61,16 +53,7 @@ impl Measured for Table {
 
     #[inline(always)]
     fn take(&mut self, key: u64) -> bool {
-        let hash = self.hash(&key);
-        let Ok(locked) = self.writer_sync(hash) else {
-            return false;
-        };
-        let mut at = locked.search(&key, hash);
-        if !at.is_valid() {
-            return false;
-        }
-        let (pair, _table) = locked.remove(&mut at);
-        pair.0 == key
+        HashTable::take(self, &key).is_some()
     }
 
     #[inline(never)]

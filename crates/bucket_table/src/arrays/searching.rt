@@ -20,6 +20,7 @@ pub(crate) struct Spot<K, V, const TYPE: u8> {
 impl<K: Eq, V, L: LruList, const TYPE: u8> Arrays<K, V, L, TYPE> {
     /// Returns the live slot with an equal key in the home of a hash on one side; `None` where that
     /// home has none.
+    #[inline(always)]
     pub(crate) fn search_on(&self, is_old: bool, key: &K, hash: u64) -> Option<Spot<K, V, TYPE>>
         ensures found { IfSome result (λ spot.
             StandsAt K.eq key.now self.now spot.is_old spot.index spot.at) }

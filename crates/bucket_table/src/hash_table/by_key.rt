@@ -41,6 +41,7 @@ impl<K: Eq + Drop, V: Drop, H: KeyHash<K>, L: LruList + Drop, const TYPE: u8> Ha
     /// live pair is left in the bucket, the table may shrink.
     ///
     /// O(slots of a unit, of the sources and of their targets; buckets where it shrinks). Own.
+    #[inline(always)]
     pub fn take(&mut self, key: &K) -> Option<(K, V)>
         requires not_index { TYPE ≢ INDEX }
         ensures map { Takes K.eq key.now (state_of TYPE self.old) result (state_of TYPE self.new) }
@@ -97,6 +98,7 @@ impl<K: Eq + Drop, V: Drop, H: KeyHash<K>, L: LruList + Drop, const TYPE: u8> Ha
     /// take memory, and is never refused: without it a pair is touched in the old array.
     ///
     /// O(slots of a unit, of the sources and of their targets). Own.
+    #[inline(always)]
     pub fn touch(&mut self, key: &K) -> bool
         requires cache { TYPE ≡ CACHE }
         ensures map { Touches K.eq key.now (state_of TYPE self.old) result
@@ -124,6 +126,7 @@ impl<K: Eq + Drop, V: Drop, H: KeyHash<K>, L: LruList + Drop, const TYPE: u8> Ha
     /// The map has no such key: the value comes back.
     ///
     /// O(slots of a unit, of the sources and of their targets). Own.
+    #[inline(always)]
     pub fn swap(&mut self, key: &K, value: V) -> Result<V, V>
         ensures map { Swaps K.eq key.now value (state_of TYPE self.old) result
             (state_of TYPE self.new) }
@@ -145,6 +148,7 @@ impl<K: Eq + Drop, V: Drop, H: KeyHash<K>, L: LruList + Drop, const TYPE: u8> Ha
     /// An equal key is there, or want of memory: the pair comes back.
     ///
     /// O(slots of a unit, of the sources and of their targets; buckets that a resize makes). Own.
+    #[inline(always)]
     pub fn insert_pair<G: Generation>(
         &mut self,
         key: K,
@@ -175,6 +179,7 @@ impl<K: Eq + Drop, V: Drop, H: KeyHash<K>, L: LruList + Drop, const TYPE: u8> Ha
 
     /// Works a unit, moves the sources of the key's home, and returns the live slot with an equal
     /// key, on either side; `None` where the map has none.
+    #[inline(always)]
     fn fetch_spot(&mut self, key: &K) -> Option<Spot<K, V, TYPE>>
         ensures prepared { IsPrepared TYPE self.old self.new }
         ensures found { IfSome result (λ spot.
@@ -210,6 +215,7 @@ impl<K: Eq + Drop, V: Drop, H: KeyHash<K>, L: LruList + Drop, const TYPE: u8> Ha
 
 impl<K: Eq, V, H: KeyHash<K>, L: LruList, const TYPE: u8> HashTable<K, V, H, L, TYPE> {
     /// Returns the live slot with an equal key, on either side; `None` where the map has none.
+    #[inline(always)]
     fn spot_of(&self, key: &K, hash: u64) -> Option<Spot<K, V, TYPE>>
         requires own_hash { hash ≡ H.hash_of self.now.hasher key.now }
         ensures found { IfSome result (λ spot.

@@ -39,6 +39,7 @@ impl<K: Eq + Drop, V: Drop, H: KeyHash<K>, L: LruList + Drop, const TYPE: u8> Ha
     ///
     /// O(slots of a unit, of the sources and of their targets). scc:
     /// `HashTable::dedup_bucket_sync`, `incremental_rehash_sync`.
+    #[inline(always)]
     pub fn fetch_home(&mut self, hash: u64) -> Result<bool, AllocError>
         ensures prepared { IsPrepared TYPE self.old self.new }
         ensures ready { Prepares self.new.arrays hash result }
