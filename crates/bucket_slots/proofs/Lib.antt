@@ -1,4 +1,5 @@
 pub mod Matching
+pub mod CallingEach
 pub mod Recency
 pub mod CellsMemory
 pub mod OptionWalks

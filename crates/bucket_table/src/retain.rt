@@ -5,7 +5,7 @@ ghost use Rattle.bucket_slots.specs.BucketView.{entries_in, marks_in, slot_in};
 ghost use Rattle.bucket_slots.specs.Marking.{MarksBy};
 ghost use Rattle.bucket_slots.specs.Slots.{is_live, live_pair};
 ghost use Rattle.bucket_slots.specs.Walking.{pairs_ahead};
-ghost use Rattle.bucket_table.specs.Walking.Retains.{AnswersBy, Retains};
+ghost use Rattle.bucket_table.specs.Walking.Retains.{AnswersBy, Retains, RetainsPair};
 
 use bucket_slots::bucket::{Bucket, EntryPtr, Generation, INDEX};
 use bucket_slots::lru::LruList;
@@ -26,13 +26,36 @@ pub(crate) fn retain_in<
 {
     let mut count: usize = 0;
     let mut at = EntryPtr::null();
-    while at.find_next(bucket) {
-        if !keep(at.key(bucket), at.val(bucket)) {
-            take_at(bucket, &mut at, generation);
-            count = count.saturating_add(1);
-        }
+    'own: while at.find_next_here(bucket) {
+        count = count.saturating_add(retain_at(bucket, &mut at, keep, generation));
+    }
+    'pairs: while at.find_next(bucket) {
+        count = count.saturating_add(retain_at(bucket, &mut at, keep, generation));
     }
     count
+}
+
+/// Takes the pair out of a live slot, or marks it in an index, where the test refuses it. Returns
+/// how many it took: 1, or 0 and then all stays.
+#[inline(always)]
+fn retain_at<K: Drop, V: Drop, L: LruList, F: Fn(&K, &V) -> bool, G: Generation, const TYPE: u8>(
+    bucket: &mut Bucket<K, V, L, TYPE>,
+    at: &mut EntryPtr<K, V, TYPE>,
+    keep: &F,
+    generation: &G,
+) -> usize
+    requires callable { F.IsAlwaysCallable keep.now }
+    requires live_slot { IsTrue (is_live (slot_in bucket.old at.old)) }
+    ensures retained { (pair : K × V) → live_pair (slot_in bucket.old at.old) ≡ Some pair
+        → RetainsPair (AnswersBy (λ key value answer. F.post keep.now key value answer)) pair
+        bucket.old at.old result bucket.new at.new }
+    ensures marks { MarksBy (G.epoch_of generation.now) (marks_in bucket.old) (marks_in bucket.new) }
+{
+    if keep(at.key(bucket), at.val(bucket)) {
+        return 0;
+    }
+    take_at(bucket, at, generation);
+    1
 }
 
 /// Takes the pair out of a live slot, or marks it in an index.

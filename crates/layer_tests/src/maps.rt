@@ -62,7 +62,11 @@ pub(crate) const WALKS: &[Story] = stories! {
     "a walk over one pair ends and starts anew", 1:
         Next(Some(0), (0, 0)), Next(None, (0, 32)), Next(Some(0), (0, 0));
     "a walk goes through the own slots and then from the head", 41:
-        WalkUp(0, 32), Walk(&[40, 36, 37, 38, 39, 32, 33, 34, 35]), Next(None, (0, 32));
+        WalkUp(0, 32), Walk(&[40, 36, 37, 38, 39, 32, 33, 34, 35]), Next(None, (0, 32)),
+        Each(&[
+            0, 1, 2, 3, 4, 5, 6, 7, 8, 9, 10, 11, 12, 13, 14, 15, 16, 17, 18, 19, 20, 21, 22, 23,
+            24, 25, 26, 27, 28, 29, 30, 31, 40, 36, 37, 38, 39, 32, 33, 34, 35,
+        ]);
     "a walk goes on behind a removed pair", 41:
         Take(36, Some((2, 0))), Next(Some(37), (2, 1)), Take(37, Some((2, 1))),
         Next(Some(38), (2, 2)), Take(38, Some((2, 2))), Next(Some(39), (2, 3)),

@@ -290,6 +290,16 @@ impl<L: LruList, const TYPE: u8> Stage<L, TYPE> {
                     check_same(rt, self.find(rt, row, key), None, (row, "lacks", key));
                 }
             }
+            Each(keys) => {
+                let mut came: usize = 0;
+                let mut in_order = true;
+                let mut meet = |key: &u64, _value: &u64| {
+                    in_order = in_order && keys.get(came) == Some(key);
+                    came = came.saturating_add(1);
+                };
+                self.bucket.for_each(&mut meet);
+                check_same(rt, (came, in_order), (keys.len(), true), (row, "each"));
+            }
             InOwn(from, to) => {
                 for key in *from..*to {
                     let own = Some((0, key as usize));

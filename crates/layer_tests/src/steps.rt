@@ -111,6 +111,8 @@ pub(crate) enum Step {
     Next(Option<u64>, Spot),
     /// The walk's next keys.
     Walk(&'static [u64]),
+    /// The keys that `for_each` gives, in its order.
+    Each(&'static [u64]),
     /// The walk's next keys, one after another.
     WalkUp(u64, u64),
     /// How many live pairs there are.

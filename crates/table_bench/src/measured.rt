@@ -1,6 +1,6 @@
 //! What is measured of a map of numbers, and the two maps: a table, and the standard library's.
 use crate::hashes::{MapHash, TableHash};
-use bucket_slots::bucket::{Bucket, EntryPtr, MAP};
+use bucket_slots::bucket::{Bucket, MAP};
 use bucket_table::hash_table::HashTable;
 use std::alloc::Global;
 use std::collections::HashMap;
@@ -82,12 +82,10 @@ impl Measured for Table {
 #[inline(always)]
 fn sum_of(bucket: &Bucket<u64, u64, (), MAP>) -> u64 {
     let mut sum: u64 = 0;
-    let mut at = EntryPtr::null();
-    for _ in 0..bucket.len() {
-        if at.find_next(bucket) {
-            sum = sum.wrapping_add(*at.val(bucket));
-        }
-    }
+    let mut add = |_key: &u64, value: &u64| {
+        sum = sum.wrapping_add(*value);
+    };
+    bucket.for_each(&mut add);
     sum
 }
 

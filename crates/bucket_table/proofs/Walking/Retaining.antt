@@ -3,11 +3,12 @@ use Rattle.bucket_table.proofs.Words.{AllByRecursion, Bool, BucketView, IsPermut
 use Rattle.bucket_table.proofs.Words.{IsPermutation-refl, IsPermutation-trans, List, MovesToNext, Place, Some, [], ap, arith, cond}
 use Rattle.bucket_table.proofs.Words.{entries_in, false, filter, is_live, length, length-append, length-map, length_permutation}
 use Rattle.bucket_table.proofs.Words.{live_from_pair, map, map-entries_in, min, not, not_from_false, not_from_true, null_place, pair_of}
-use Rattle.bucket_table.proofs.Words.{pairs_ahead, pairs_in, read_apart, refl, slot_in, sym, true, ℕ, ◌++◌, ◌+◌, ◌-◌, ◌^◌, ◌∙◌, ◌∷◌, ◌≡◌}
+use Rattle.bucket_table.proofs.Words.{pairs_ahead, pairs_in, read_apart, refl, slot_in, suc, sym, true, zero, ℕ, ◌++◌, ◌+◌, ◌-◌, ◌<◌, ◌^◌}
+use Rattle.bucket_table.proofs.Words.{◌∙◌, ◌∷◌, ◌≡◌}
 use Rattle.std.proofs.lemmas.Bool.{not-false}
 use Rattle.std.proofs.lemmas.List.Sorted.{IsPermutation-middle}
 use Rattle.std.specs.Option.{option_map}
-use Rattle.bucket_table.specs.Walking.Retains.{Retains}
+use Rattle.bucket_table.specs.Walking.Retains.{Retains, RetainsPair}
 use Rattle.bucket_table.proofs.Walking.Each.{each_implies, map_append, none_pass, nothing}
 use Rattle.bucket_table.proofs.Walking.Filters.{IsPermutation-filter}
 
@@ -67,7 +68,7 @@ module _ {K V : Type 0} (IsTest : (K × V → Bool) → Type 0) where
     unchanged = λ none. refl;
   }
 
-  pub passes : (old now : BucketView K V) (at next : Place) (count : ℕ)
+  passes : (old now : BucketView K V) (at next : Place) (count : ℕ)
       (m : MovesToNext now at next) → ((test : K × V → Bool) → IsTest test → test m.pair ≡ true)
       → IsRetaining old now at count → IsRetaining old now next count
   passes old now at next count m keeps r = record {
@@ -81,7 +82,7 @@ module _ {K V : Type 0} (IsTest : (K × V → Bool) → Type 0) where
     unchanged = r.unchanged;
   }
 
-  pub takes : (old now left : BucketView K V) (at next after : Place) (count more : ℕ)
+  takes : (old now left : BucketView K V) (at next after : Place) (count more : ℕ)
       (m : MovesToNext now at next) → ((test : K × V → Bool) → IsTest test → test m.pair ≡ false)
       → left.killed ≡ now.killed → ((byte : ℕ) × IsPermutation (entries_in now)
       ((m.pair, byte) ∷ entries_in left)) → pairs_ahead left after ≡ pairs_ahead now next
@@ -106,6 +107,19 @@ module _ {K V : Type 0} (IsTest : (K × V → Bool) → Type 0) where
             omega (arith, so_far, here, one, ahead, two, three);
         unchanged = λ none. absurd (omega (arith, is, none));
       }
+
+  -- a step to the next pair, which stays or is taken
+  pub steps : (old now left : BucketView K V) (at next after : Place) (count taken more : ℕ) (m : MovesToNext now at next)
+      → RetainsPair IsTest m.pair now next taken left after → more ≡ min (count + taken) (2 ^ 64 - 1) → IsRetaining old now at count
+      → IsRetaining old left after more × (length (pairs_ahead left after) < length (pairs_ahead now at))
+  steps old now left at next after count zero more m (keeps, same, stays) is r =
+      let so_far = r.counted in
+      let none : more ≡ count = omega (arith, is, so_far) in
+      (rw (same, stays, none) (passes old now at next count m keeps r), rw (same, stays) (omega (arith, ap length m.ahead)))
+  steps old now left at next after count (suc others) more m (none, refuses_it, alive, out, ahead) is r = (
+    takes old now left at next after count more m refuses_it alive out ahead (omega (arith, is, none)) r,
+    omega (arith, ap length m.ahead, ap length ahead),
+  )
 
   pub retained : (old now : BucketView K V) (at : Place) (count : ℕ) → pairs_ahead now at ≡ []
       → IsRetaining old now at count → Retains IsTest old now count

@@ -1,0 +1,44 @@
+-- A function called with each pair, one after another.
+use Rattle.std.proofs.Common.{ℕ, ◌≡◌, List, [], ◌∷◌, ◌++◌, Some, append_assoc, append-nil, ap, refl, subst, sym, ◌∙◌}
+use Rattle.std.specs.Borrow.{Bor}
+use Rattle.bucket_slots.specs.BucketView.{BucketView, Place, null_place, pairs_in, slot_in}
+use Rattle.bucket_slots.specs.Slots.{live_pair}
+use Rattle.bucket_slots.specs.Walking.{CallsEach, MovesToNext, pairs_ahead}
+
+module _ {S K V : Type 0} (step : S → Bor K → Bor V → S → Type 0) where
+  -- so far it was called with each of some pairs, and these and what is left are all
+  pub record IsAmid (first : S) (all : List (K × V)) (now : S) (rest : List (K × V)) : Type 0 where
+    pub done : List (K × V)
+    pub parts : all ≡ done ++ rest
+    pub calls : CallsEach step first done now
+
+  -- none yet
+  pub sets_out : (first : S) (bucket : BucketView K V) (at : Place) → at ≡ null_place
+      → IsAmid first (pairs_in bucket) first (pairs_ahead bucket at)
+  sets_out first bucket at is = record { done = []; parts = ap (λ p. pairs_ahead bucket p) (sym is); calls = refl }
+
+  called_once_more : (first now next : S) (pairs : List (K × V)) (own : Bor K) (value : Bor V) → CallsEach step first pairs now
+      → step now own value next → CallsEach step first (pairs ++ (own.now, value.now) ∷ []) next
+  called_once_more first now next [] own value calls more =
+      (own, value, refl, (next, subst (λ (s : S). step s own value next) calls more, refl))
+  called_once_more first now next (pair ∷ pairs) own value (o, v, is, (between, call, calls)) more =
+      (o, v, is, (between, call, called_once_more between now next pairs own value calls more))
+
+  -- one more
+  pub goes_on : (first now next : S) (all : List (K × V)) (bucket : BucketView K V) (at to : Place) (own : Bor K) (value : Bor V)
+      → IsAmid first all now (pairs_ahead bucket at) → MovesToNext bucket at to → live_pair (slot_in bucket to) ≡ Some (own.now, value.now)
+      → step now own value next → IsAmid first all next (pairs_ahead bucket to)
+  goes_on first now next all bucket at to own value amid moves read call =
+      let same : moves.pair ≡ (own.now, value.now) = (let is : Some moves.pair ≡ Some (own.now, value.now) = sym moves.here ∙ read in cc) in
+      record {
+        done = amid.done ++ (own.now, value.now) ∷ [];
+        parts = amid.parts ∙ ap (λ l. amid.done ++ l) (moves.ahead ∙ ap (λ p. p ∷ pairs_ahead bucket to) same)
+            ∙ sym (append_assoc amid.done ((own.now, value.now) ∷ []) (pairs_ahead bucket to));
+        calls = called_once_more first now next amid.done own value amid.calls call;
+      }
+
+  -- all
+  pub done : (first now : S) (all rest : List (K × V)) → IsAmid first all now rest → rest ≡ [] → CallsEach step first all now
+  done first now all rest amid none =
+      subst (λ (l : List (K × V)). CallsEach step first l now)
+      (sym (amid.parts ∙ ap (λ l. amid.done ++ l) none ∙ append-nil amid.done)) amid.calls

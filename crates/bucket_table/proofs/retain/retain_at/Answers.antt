@@ -1,0 +1,29 @@
+use Rattle.bucket_table.proofs.Words.{ap, by-no_new, live_not_free, marks_in, no_new-refl, read_apart, refl, rules, same_Some, slot_in, sym}
+use Rattle.bucket_table.proofs.Words.{◌∙◌}
+use Rattle.bucket_table.proofs.retain.retain_at.Goals as goal
+
+pub key-requires : goal.key-requires
+key-requires g c = (search rules, (search rules, live_not_free (slot_in c.args.bucket.now c.args.at.now) c.requires.live_slot))
+
+pub val-requires : goal.val-requires
+val-requires g c = (search rules, (search rules, live_not_free (slot_in c.args.bucket.now c.args.at.now) c.requires.live_slot))
+
+pub returns-then-keep-clause-retained : goal.returns-then-keep-clause-retained
+returns-then-keep-clause-retained g c = λ pair here.
+    let read = read_apart (slot_in c.args.bucket.now c.args.at.now) _ _ c.requires.live_slot c.key.ensures c.val.ensures in
+    (λ test means. ap test (same_Some pair _ (sym here ∙ read)) ∙ sym (means _ _ _ c.keep.ensures) ∙ c.if-keep.true, refl, refl)
+
+pub returns-then-keep-clause-marks : goal.returns-then-keep-clause-marks
+returns-then-keep-clause-marks g c =
+    by-no_new (g.G.Generation.epoch_of c.args.generation.now) (marks_in c.args.bucket.now) (marks_in c.args.bucket.now)
+    (no_new-refl (marks_in c.args.bucket.now))
+
+pub returns-clause-retained : goal.returns-clause-retained
+returns-clause-retained g c = λ pair here.
+    let read = read_apart (slot_in c.args.bucket.now c.args.at.now) _ _ c.requires.live_slot c.key.ensures c.val.ensures in (
+      refl,
+      λ test means. ap test (same_Some pair _ (sym here ∙ read)) ∙ sym (means _ _ _ c.keep.ensures) ∙ c.if-keep.false,
+      c.take_at.ensures.alive,
+      c.take_at.ensures.taken pair here,
+      c.take_at.ensures.pairs_ahead,
+    )
