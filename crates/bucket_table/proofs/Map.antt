@@ -5,6 +5,7 @@ pub mod LookUps
 pub mod KeySteps
 pub mod TakeSteps
 pub mod LockedSteps
+pub mod Inserting
 pub mod Finding
 pub mod Preparing
 pub mod SlotSteps

@@ -192,7 +192,7 @@ module _ {K V H : Type 0} {eq : K → K → Bool} (laws : IsEquivalence eq) (has
   marked p at epoch here = let x = marks a side i held.within at epoch p here in taken p x.0 _ x.1
 
   -- the same bucket
-  unchanged : (Changes : MapState K V H → Type 0) → Changes (state a) → Leaves Changes was
+  pub unchanged : (Changes : MapState K V H → Type 0) → Changes (state a) → Leaves Changes was
   unchanged Changes same =
       let x : Exchanges a side i [] [] was = record { within = held.within; moved = IsPermutation-refl (entries_in was); alive = refl } in
       let again = arrays_with-same a side i in

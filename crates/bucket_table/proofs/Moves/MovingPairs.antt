@@ -268,6 +268,16 @@ module _ {K V : Type 0} (hash : K → ℕ) where
         step.1,
       )
 
+  -- and with the null pointer: no pair is left before the one that moved
+  pub moving_again : {start end kind : ℕ} {s0 s t : BucketView K V} {c0 c d : List (BucketView K V)} {landings said : List (Option Landing)}
+      {old new : Place} → IsMoving start end s0 c0 s c landings old → MovesToNext s old new → MovesHome kind hash new s c landings t d said
+      → IsMoving start end s0 c0 t d said null_place × (length (pairs_ahead t null_place) < length (pairs_ahead s old))
+  moving_again {t} moving next one =
+      let step = moving_step moving next one in
+      let all : length (entries_in t) ≡ length (pairs_ahead t null_place) = length-entries_in t in
+      (record { moves = step.0.moves; ready = step.0.ready; landing = step.0.landing; walked = record { left = all } },
+      omega (arith, step.1, step.0.walked.left, all))
+
   -- after the last
   pub moving_done : {start end : ℕ} {s0 s : BucketView K V} {c0 c : List (BucketView K V)} {landings : List (Option Landing)} {at : Place}
       → IsMoving start end s0 c0 s c landings at → pairs_ahead s at ≡ [] → pairs_in s ≡ []

@@ -2,6 +2,7 @@
 use Rattle.std.specs.Prelude.{ℕ, ◌≡◌, ◌<◌, Bool, true, false, Option, Some, None, Result, Ok, Err, length, ◌⊎◌}
 use Rattle.std.specs.Borrow.{Bor}
 use Rattle.bucket_slots.specs.BucketView.{BucketView, Place, slot_in}
+use Rattle.bucket_slots.specs.Searching.{place_wanted}
 use Rattle.bucket_slots.specs.Slots.{live_pair}
 use Rattle.bucket_table.specs.Views.ArraysView.{ArraysView, TableView, pairs_of}
 use Rattle.bucket_table.specs.Resize.Asking.{RemovesAndShrinks}
@@ -48,6 +49,13 @@ module _ {K V H : Type 0} (eq : K → K → Bool) (key : K) where
   abbrev pub Touches : MapState K V H → Bool → MapState K V H → Type 0
   Touches old true new = ((pair : K × V) × IsThere eq key old.pairs pair) × KeepsPairs old new
   Touches old false new = IsAbsent eq key old.pairs × KeepsPairs old new
+
+-- an insertion into a bucket: no live slot has an equal key where a pair was put; one has where the answer says so; what isn't put comes back
+abbrev pub AnswersInsertion : {K V A : Type 0} → (K → K → Bool) → K → V → ℕ → BucketView K V → Result A (NotInserted K V) → Type 0
+AnswersInsertion eq key value byte bucket (Ok done) = place_wanted (λ own. eq own key) byte bucket ≡ None
+AnswersInsertion eq key value byte bucket (Err (Present k v)) =
+    (k ≡ key) × (v ≡ value) × ((at : Place) × (place_wanted (λ own. eq own key) byte bucket ≡ Some at))
+AnswersInsertion eq key value byte bucket (Err (Memory k v)) = (k ≡ key) × (v ≡ value)
 
 -- a unit is worked first, as for a look-up, and then this is done
 pub record PreparesThen {K V H : Type 0} (kind : ℕ) (old : TableView K V H) (Then : TableView K V H → Type 0) : Type 0 where

@@ -211,6 +211,7 @@ fn move_pairs<K: Eq + Drop, V: Drop, H: KeyHash<K>, L: LruList, const TYPE: u8>(
     let mut at = EntryPtr::null();
     'own: while at.find_next_here(source) {
         move_pair(hasher, current, source, &mut at, start, end, landings);
+        at = EntryPtr::null();
     }
     'pairs: while at.find_next(source) {
         move_pair(hasher, current, source, &mut at, start, end, landings);

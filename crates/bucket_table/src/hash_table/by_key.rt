@@ -2,27 +2,29 @@
 //! side, so the pairs needn't have moved.
 //!
 //! Own.
-ghost use Rattle.std.specs.Prelude.{◌≡◌, ◌≢◌, ◌%◌, ◌<◌, IfSome, IfNone, IsTrue, Some, is_ok, is_some, length};
+ghost use Rattle.std.specs.Prelude.{◌≡◌, ◌≢◌, ◌%◌, ◌<◌, IfSome, IfNone, IsTrue, OnErr, OnOk, Some, is_ok, is_some, length};
 ghost use Rattle.std.specs.Borrow.{Bor};
 ghost use Rattle.bucket_slots.specs.BucketView.{bucket_with_value, slot_in};
 ghost use Rattle.bucket_slots.specs.Clearing.{slots_after_insertion};
 ghost use Rattle.bucket_slots.specs.Evicting.{slots_touched};
+ghost use Rattle.bucket_slots.specs.Homes.{IsHome};
 ghost use Rattle.bucket_slots.specs.Marking.{MarksBy, slots_marked};
 ghost use Rattle.bucket_slots.specs.Removing.{slots_without};
 ghost use Rattle.bucket_slots.specs.Slots.{is_live, live_pair};
 ghost use Rattle.bucket_table.specs.Views.ArraysView.{marks_of, pairs_of};
-ghost use Rattle.bucket_table.specs.Map.ByKey.{ChangesAt, FindsThen, PreparesThen, ShrinksAt, StandsAt};
+ghost use Rattle.bucket_table.specs.Map.ByKey.{AnswersInsertion, ChangesAt, FindsThen, PreparesThen, ShrinksAt, StandsAt};
 ghost use Rattle.bucket_table.specs.Map.ByKey.{Inserts, Marks, Swaps, Takes, Touches};
 ghost use Rattle.bucket_table.specs.Map.LookingUp.{IsAbsent};
 ghost use Rattle.bucket_table.specs.Map.Preparing.{IsPrepared};
 ghost use Rattle.bucket_table.specs.Map.MapState.{ChangesValue, state_of};
 ghost use Rattle.bucket_table.specs.Views.Sides.{bucket_of, buckets_on, with_bucket};
 ghost use Rattle.bucket_table.specs.Views.Keeping.{KeepsOpenTickets};
+ghost use Rattle.bucket_table.specs.Views.Locking.{IsLocked};
 
 use crate::arrays::Spot;
 use crate::hash_table::{HashTable, NotInserted};
 use crate::key_hash::KeyHash;
-use bucket_slots::bucket::{CACHE, Generation, INDEX};
+use bucket_slots::bucket::{Bucket, CACHE, Generation, INDEX};
 use bucket_slots::lru::LruList;
 use std::mem;
 
@@ -163,18 +165,10 @@ impl<K: Eq + Drop, V: Drop, H: KeyHash<K>, L: LruList + Drop, const TYPE: u8> Ha
             (H.hash_of self.old.hasher key % 256)) self.old result self.new }
     {
         let hash = self.hash(&key);
-        let mut locked = match self.writer_sync(hash) {
-            Ok(locked) => locked,
-            Err(_) => return Err(NotInserted::Memory(key, value)),
+        let Ok((is_old, index)) = self.find(hash) else {
+            return Err(NotInserted::Memory(key, value));
         };
-        let at = locked.search(&key, hash);
-        if at.is_valid() {
-            return Err(NotInserted::Present(key, value));
-        }
-        match locked.insert(hash, (key, value), generation) {
-            Ok(_) => Ok(()),
-            Err((key, value)) => Err(NotInserted::Memory(key, value)),
-        }
+        self.insert_at(is_old, index, hash, key, value, generation)
     }
 
     /// Works a unit, moves the sources of the key's home, and returns the live slot with an equal
@@ -189,6 +183,33 @@ impl<K: Eq + Drop, V: Drop, H: KeyHash<K>, L: LruList + Drop, const TYPE: u8> Ha
         let hash = self.hash(key);
         let _ = self.fetch_home(hash);
         self.spot_of(key, hash)
+    }
+
+    /// Puts a pair into a locked bucket where its key is nowhere.
+    #[inline(always)]
+    fn insert_at<G: Generation>(
+        &mut self,
+        is_old: bool,
+        index: usize,
+        hash: u64,
+        key: K,
+        value: V,
+        generation: &G,
+    ) -> Result<(), NotInserted<K, V>>
+        requires locked { IsLocked self.old.arrays is_old index }
+        requires own_hash { hash ≡ H.hash_of self.old.hasher key }
+        requires home { IsHome (length (buckets_on self.old.arrays is_old)) hash index }
+        ensures map { Inserts K.eq key value (state_of TYPE self.old) result
+            (state_of TYPE self.new) }
+        ensures bag { KeepsOpenTickets self.old.arrays.tickets self.new.arrays.tickets }
+        ensures put { OnOk result (self.new ≡ with_bucket self.old is_old index
+            (slots_after_insertion TYPE (G.keeps generation.now)
+            (bucket_of self.old is_old index) (key, value) (hash % 256))) }
+        ensures unchanged { OnErr result (self.new ≡ self.old) }
+    {
+        self.arrays.room_of(is_old);
+        let bucket = self.arrays.bucket_of_mut(is_old, index);
+        insert_absent(bucket, hash, key, value, generation)
     }
 
     /// Writes a value into a live slot, and returns the earlier one.
@@ -243,5 +264,29 @@ impl<K: Eq, V, H: KeyHash<K>, L: LruList, const TYPE: u8> HashTable<K, V, H, L, 
         let key = spot.at.key(bucket);
         let value = spot.at.val(bucket);
         reader(key, value)
+    }
+}
+
+/// Puts a pair into a bucket where no live slot of it has an equal key.
+#[inline(always)]
+fn insert_absent<K: Eq + Drop, V: Drop, L: LruList, G: Generation, const TYPE: u8>(
+    bucket: &mut Bucket<K, V, L, TYPE>,
+    hash: u64,
+    key: K,
+    value: V,
+    generation: &G,
+) -> Result<(), NotInserted<K, V>>
+    ensures answer { AnswersInsertion K.eq key value (hash % 256) bucket.old result }
+    ensures put { OnOk result (bucket.new ≡ slots_after_insertion TYPE (G.keeps generation.now)
+        bucket.old (key, value) (hash % 256)) }
+    ensures unchanged { OnErr result (bucket.new ≡ bucket.old) }
+{
+    let at = bucket.get_entry_ptr(&key, hash);
+    if at.is_valid() {
+        return Err(NotInserted::Present(key, value));
+    }
+    match bucket.insert(hash, (key, value), generation) {
+        Ok(_) => Ok(()),
+        Err((key, value)) => Err(NotInserted::Memory(key, value)),
     }
 }

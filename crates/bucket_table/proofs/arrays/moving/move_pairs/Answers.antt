@@ -1,6 +1,6 @@
 use Rattle.bucket_table.proofs.Words.{live_from_pair, rules, slot_in}
 use Rattle.bucket_table.proofs.Moves.Landings.{landed_all}
-use Rattle.bucket_table.proofs.Moves.MovingPairs.{moving_done, moving_first, moving_step}
+use Rattle.bucket_table.proofs.Moves.MovingPairs.{moving_again, moving_done, moving_first, moving_step}
 use Rattle.bucket_table.proofs.arrays.moving.move_pairs.Goals as goal
 
 pub own-init : goal.own-init
@@ -15,12 +15,12 @@ move_pair-requires g c =
 pub own-smaller : goal.own-smaller
 own-smaller g c =
     let next = c.find_next_here.ensures.ahead c.own-test.true in
-    rw c.move_pair.ensures.pointer (moving_step (g.H.KeyHash.hash_of c.args.hasher.now) c.own.invariant next c.move_pair.ensures.moved).1
+    rw c.null-at-in-own.ensures (moving_again (g.H.KeyHash.hash_of c.args.hasher.now) c.own.invariant next c.move_pair.ensures.moved).1
 
 pub own-preserved : goal.own-preserved
 own-preserved g c =
     let next = c.find_next_here.ensures.ahead c.own-test.true in
-    rw c.move_pair.ensures.pointer (moving_step (g.H.KeyHash.hash_of c.args.hasher.now) c.own.invariant next c.move_pair.ensures.moved).0
+    rw c.null-at-in-own.ensures (moving_again (g.H.KeyHash.hash_of c.args.hasher.now) c.own.invariant next c.move_pair.ensures.moved).0
 
 pub pairs-init : goal.pairs-init
 pairs-init g c = rw (c.find_next_here.ensures.stays c.own-test.false) c.own.invariant

@@ -1,0 +1,59 @@
+-- A pair put into a locked bucket where its key is nowhere, and what that makes of the table in which the bucket was found.
+use Rattle.bucket_table.proofs.Words.{ArraysView, Bool, BucketView, Err, IsHome, IsLocked, IsOneMap, IsPermutation-refl, KeepsPairs, MapState, Ok}
+use Rattle.bucket_table.proofs.Words.{OnErr, OnOk, Result, ap, bucket_at, buckets_on, length, pairs_of, refl, slots_after_insertion, true, ℕ}
+use Rattle.bucket_table.proofs.Words.{IsEquivalence, TableView, inr, subst, sym, ◌%◌, ◌≡◌}
+use Rattle.bucket_table.specs.Map.ByKey.{AnswersInsertion, FindsThen, Inserts}
+use Rattle.bucket_table.specs.Map.Finding.{FindsBucket}
+use Rattle.bucket_table.specs.Map.MapState.{state_of}
+use Rattle.bucket_table.specs.Views.Sides.{bucket_of, with_bucket}
+use Rattle.bucket_table.specs.declared.hash_table.NotInserted.{NotInserted}
+use Rattle.bucket_table.specs.declared.hash_table.NotInserted.TheVariants.{Memory, Present}
+use Rattle.bucket_table.proofs.Map.LookUps.{searched_absent, searched_found}
+use Rattle.bucket_table.proofs.Map.MapSteps.{Leaves, inserted, unchanged}
+use Rattle.bucket_table.proofs.Map.TakeSteps.{absent_before}
+use Rattle.bucket_table.proofs.Scripts.CallSteps.{then_added, then_kept, there_before}
+use Rattle.bucket_table.proofs.Views.SideChanges.{changeable_locked}
+
+module _ {K V H : Type 0} {eq : K → K → Bool} (laws : IsEquivalence eq) (hash : H → K → ℕ) (kind : ℕ) {hasher : H} {a : ArraysView K V}
+    (side : Bool) (i : ℕ) (one : IsOneMap eq (hash hasher) a) (locked : IsLocked a side i) where
+  pub inserted_where_absent : {A : Type 0} (r : Result A (NotInserted K V)) (b : BucketView K V) (keeps : ℕ → Bool) (key : K) (value : V)
+      (h : ℕ) → ((own : K) → eq own key ≡ true → hash hasher own ≡ h) → h ≡ hash hasher key → IsHome (length (buckets_on a side)) h i
+      → AnswersInsertion eq key value (h % 256) (bucket_at (buckets_on a side) i) r
+      → OnOk r (b ≡ slots_after_insertion kind keeps (bucket_at (buckets_on a side) i) (key, value) (h % 256))
+      → OnErr r (b ≡ bucket_at (buckets_on a side) i)
+      → Leaves laws hash kind side i one (changeable_locked a side i locked)
+      (λ new. Inserts eq key value (state_of kind (record { hasher = hasher; arrays = a })) r new) b
+  inserted_where_absent (Ok done) b keeps key value h alike own home answer put same =
+      let absent = searched_absent (λ k. eq k key) h (hash hasher) alike a side _ i one.placed locked home refl answer in
+      rw put (
+      let x = inserted laws hash kind side i one (changeable_locked a side i locked) keeps (key, value) h own home absent in
+      record { one_map = x.one_map; map = (absent, x.map); within = x.within; locked = x.locked })
+  inserted_where_absent (Err (Present k v)) b keeps key value h alike own home answer put same =
+      let found = searched_found (λ k. eq k key) a side _ (h % 256) i answer.2.0 refl answer.2.1 in
+      rw same (unchanged laws hash kind side i one (changeable_locked a side i locked) _
+      (answer.0, answer.1, (found.0, found.2), record { pairs = IsPermutation-refl (pairs_of a); others = refl }))
+  inserted_where_absent (Err (Memory k v)) b keeps key value h alike own home answer put same =
+      rw same (unchanged laws hash kind side i one (changeable_locked a side i locked) _
+      (answer.0, answer.1, record { pairs = IsPermutation-refl (pairs_of a); others = refl }))
+
+module _ {K V H A : Type 0} where
+  -- an insertion where the map was the same before
+  pub then_inserted : (eq : K → K → Bool) (key : K) (value : V) (old between new : MapState K V H) (r : Result A (NotInserted K V))
+      → KeepsPairs old between → Inserts eq key value between r new → Inserts eq key value old r new
+  then_inserted eq key value old between new (Ok done) keeps x =
+      (absent_before eq key old between keeps x.0, then_added old between new (key, value) keeps x.1)
+  then_inserted eq key value old between new (Err (Present k v)) keeps x =
+      (x.0, x.1, (x.2.0, there_before eq key old between x.2.0 keeps x.2.1), then_kept old between new keeps x.3)
+  then_inserted eq key value old between new (Err (Memory k v)) keeps x = (x.0, x.1, then_kept old between new keeps x.2)
+
+  -- a bucket found for the hash of a key, and changed where a pair was put
+  pub found_then : (kind h n : ℕ) (keeps : ℕ → Bool) (pair : K × V) (old between new : TableView K V H) (side : Bool) (i : ℕ)
+      (r : Result A (NotInserted K V)) → h ≡ n → FindsBucket kind h old side i between
+      → OnOk r (new ≡ with_bucket between side i (slots_after_insertion kind keeps (bucket_of between side i) pair (h % 256)))
+      → OnErr r (new ≡ between) → FindsThen kind n (λ bucket. slots_after_insertion kind keeps bucket pair (n % 256)) old r new
+  found_then kind h n keeps pair old between new side i (Ok done) own found put same =
+      rw (← own) (between, side, i, found, put)
+  found_then kind h n keeps pair old between new side i (Err (Present k v)) own found put same =
+      rw (← own) (side, i, subst (λ (t : TableView K V H). FindsBucket kind h old side i t) (sym same) found)
+  found_then kind h n keeps pair old between new side i (Err (Memory k v)) own found put same =
+      rw (← own) (inr (side, i, subst (λ (t : TableView K V H). FindsBucket kind h old side i t) (sym same) found))

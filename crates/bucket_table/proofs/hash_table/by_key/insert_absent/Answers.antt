@@ -1,0 +1,5 @@
+use Rattle.bucket_table.proofs.Map.LookUps.{null_is}
+use Rattle.bucket_table.proofs.hash_table.by_key.insert_absent.Goals as goal
+
+pub returns-in-Ok-clause-answer : goal.returns-in-Ok-clause-answer
+returns-in-Ok-clause-answer g c = c.get_entry_ptr-at.ensures.absent (null_is _ _ c.is_valid.ensures.1 c.if-is_valid.false)
