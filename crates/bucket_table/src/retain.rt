@@ -24,38 +24,36 @@ pub(crate) fn retain_in<
         bucket.old bucket.new result }
     ensures marks { MarksBy (G.epoch_of generation.now) (marks_in bucket.old) (marks_in bucket.new) }
 {
-    let mut count: usize = 0;
+    let before = bucket.len();
     let mut at = EntryPtr::null();
     'own: while at.find_next_here(bucket) {
-        count = count.saturating_add(retain_at(bucket, &mut at, keep, generation));
+        retain_at(bucket, &mut at, keep, generation);
     }
     'pairs: while at.find_next(bucket) {
-        count = count.saturating_add(retain_at(bucket, &mut at, keep, generation));
+        retain_at(bucket, &mut at, keep, generation);
     }
-    count
+    before - bucket.len()
 }
 
-/// Takes the pair out of a live slot, or marks it in an index, where the test refuses it. Returns
-/// how many it took: 1, or 0 and then all stays.
+/// Takes the pair out of a live slot, or marks it in an index, where the test refuses it.
 #[inline(always)]
 fn retain_at<K: Drop, V: Drop, L: LruList, F: Fn(&K, &V) -> bool, G: Generation, const TYPE: u8>(
     bucket: &mut Bucket<K, V, L, TYPE>,
     at: &mut EntryPtr<K, V, TYPE>,
     keep: &F,
     generation: &G,
-) -> usize
+)
     requires callable { F.IsAlwaysCallable keep.now }
     requires live_slot { IsTrue (is_live (slot_in bucket.old at.old)) }
     ensures retained { (pair : K × V) → live_pair (slot_in bucket.old at.old) ≡ Some pair
         → RetainsPair (AnswersBy (λ key value answer. F.post keep.now key value answer)) pair
-        bucket.old at.old result bucket.new at.new }
+        bucket.old at.old bucket.new at.new }
     ensures marks { MarksBy (G.epoch_of generation.now) (marks_in bucket.old) (marks_in bucket.new) }
 {
     if keep(at.key(bucket), at.val(bucket)) {
-        return 0;
+        return;
     }
     take_at(bucket, at, generation);
-    1
 }
 
 /// Takes the pair out of a live slot, or marks it in an index.

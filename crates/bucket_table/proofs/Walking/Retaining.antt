@@ -4,7 +4,7 @@ use Rattle.bucket_table.proofs.Words.{IsPermutation-refl, IsPermutation-trans, L
 use Rattle.bucket_table.proofs.Words.{entries_in, false, filter, is_live, length, length-append, length-map, length_permutation}
 use Rattle.bucket_table.proofs.Words.{live_from_pair, map, map-entries_in, min, not, not_from_false, not_from_true, null_place, pair_of}
 use Rattle.bucket_table.proofs.Words.{pairs_ahead, pairs_in, read_apart, refl, slot_in, suc, sym, true, zero, ℕ, ◌++◌, ◌+◌, ◌-◌, ◌<◌, ◌^◌}
-use Rattle.bucket_table.proofs.Words.{◌∙◌, ◌∷◌, ◌≡◌}
+use Rattle.bucket_table.proofs.Words.{inl, inr, ◌∙◌, ◌∷◌, ◌≡◌, ◌≤◌}
 use Rattle.std.proofs.lemmas.Bool.{not-false}
 use Rattle.std.proofs.lemmas.List.Sorted.{IsPermutation-middle}
 use Rattle.std.specs.Option.{option_map}
@@ -48,53 +48,49 @@ module _ {K V : Type 0} (test : K × V → Bool) where
 
 module _ {K V : Type 0} (IsTest : (K × V → Bool) → Type 0) where
   -- all that a test refuses is ahead, and what is gone it refused
-  pub record IsRetaining (old now : BucketView K V) (at : Place) (count : ℕ) : Type 0 where
+  pub record IsRetaining (old now : BucketView K V) (at : Place) : Type 0 where
     pub gone : List ((K × V) × ℕ)
     pub parts : IsPermutation (entries_in old) (gone ++ entries_in now)
     pub alive : now.killed ≡ old.killed
-    pub counted : count ≡ min (length gone) (2 ^ 64 - 1)
     pub refused : (test : K × V → Bool) → IsTest test → AllByRecursion (λ entry. test entry.0 ≡ false) gone
     pub ahead : (test : K × V → Bool) → IsTest test → refused_len test (pairs_in now) ≡ refused_len test (pairs_ahead now at)
-    pub unchanged : count ≡ 0 → now ≡ old
+    pub unchanged : length gone ≡ 0 → now ≡ old
 
-  pub sets_out : (old : BucketView K V) (at : Place) → at ≡ null_place → IsRetaining old old at 0
+  pub sets_out : (old : BucketView K V) (at : Place) → at ≡ null_place → IsRetaining old old at
   sets_out old at e = record {
     gone = [];
     parts = IsPermutation-refl (entries_in old);
     alive = refl;
-    counted = omega arith;
     refused = λ test means. tt;
     ahead = λ test means. ap (λ p. refused_len test (pairs_ahead old p)) (sym e);
     unchanged = λ none. refl;
   }
 
-  passes : (old now : BucketView K V) (at next : Place) (count : ℕ)
+  passes : (old now : BucketView K V) (at next : Place)
       (m : MovesToNext now at next) → ((test : K × V → Bool) → IsTest test → test m.pair ≡ true)
-      → IsRetaining old now at count → IsRetaining old now next count
-  passes old now at next count m keeps r = record {
+      → IsRetaining old now at → IsRetaining old now next
+  passes old now at next m keeps r = record {
     gone = r.gone;
     parts = r.parts;
     alive = r.alive;
-    counted = r.counted;
     refused = r.refused;
     ahead = λ test means. r.ahead test means ∙ ap (refused_len test) m.ahead ∙ front_len test m.pair
         (pairs_ahead now next) (keeps test means);
     unchanged = r.unchanged;
   }
 
-  takes : (old now left : BucketView K V) (at next after : Place) (count more : ℕ)
+  takes : (old now left : BucketView K V) (at next after : Place)
       (m : MovesToNext now at next) → ((test : K × V → Bool) → IsTest test → test m.pair ≡ false)
       → left.killed ≡ now.killed → ((byte : ℕ) × IsPermutation (entries_in now)
       ((m.pair, byte) ∷ entries_in left)) → pairs_ahead left after ≡ pairs_ahead now next
-      → more ≡ min (count + 1) (2 ^ 64 - 1) → IsRetaining old now at count → IsRetaining old left after more
-  takes old now left at next after count more m refuses_it alive (byte, out) same is r =
+      → IsRetaining old now at → IsRetaining old left after
+  takes old now left at next after m refuses_it alive (byte, out) same r =
       let out_pairs : IsPermutation (pairs_in now) (m.pair ∷ pairs_in left) = pairs_moved ((m.pair, byte) ∷ []) now left out in
       record {
         gone = (m.pair, byte) ∷ r.gone;
         parts = IsPermutation-trans _ _ _ r.parts (IsPermutation-trans _ _ _ (IsPermutation-append_right r.gone _ _ out)
             (IsPermutation-middle r.gone (m.pair, byte) (entries_in left)));
         alive = alive ∙ r.alive;
-        counted = let so_far = r.counted in omega (arith, is, so_far);
         refused = λ test means. (refuses_it test means, r.refused test means);
         ahead = λ test means.
             let no = refuses_it test means in
@@ -105,35 +101,42 @@ module _ {K V : Type 0} (IsTest : (K × V → Bool) → Type 0) where
             let three = ap (refused_len test) same in
             let so_far = r.ahead test means in
             omega (arith, so_far, here, one, ahead, two, three);
-        unchanged = λ none. absurd (omega (arith, is, none));
+        unchanged = λ none. absurd (omega (arith, none));
       }
 
   -- a step to the next pair, which stays or is taken
-  pub steps : (old now left : BucketView K V) (at next after : Place) (count taken more : ℕ) (m : MovesToNext now at next)
-      → RetainsPair IsTest m.pair now next taken left after → more ≡ min (count + taken) (2 ^ 64 - 1) → IsRetaining old now at count
-      → IsRetaining old left after more × (length (pairs_ahead left after) < length (pairs_ahead now at))
-  steps old now left at next after count zero more m (keeps, same, stays) is r =
-      let so_far = r.counted in
-      let none : more ≡ count = omega (arith, is, so_far) in
-      (rw (same, stays, none) (passes old now at next count m keeps r), rw (same, stays) (omega (arith, ap length m.ahead)))
-  steps old now left at next after count (suc others) more m (none, refuses_it, alive, out, ahead) is r = (
-    takes old now left at next after count more m refuses_it alive out ahead (omega (arith, is, none)) r,
-    omega (arith, ap length m.ahead, ap length ahead),
-  )
+  pub steps : (old now left : BucketView K V) (at next after : Place) (m : MovesToNext now at next)
+      → RetainsPair IsTest m.pair now next left after → IsRetaining old now at
+      → IsRetaining old left after × (length (pairs_ahead left after) < length (pairs_ahead now at))
+  steps old now left at next after m (inl (keeps, same, stays)) r =
+      (rw (same, stays) (passes old now at next m keeps r), rw (same, stays) (omega (arith, ap length m.ahead)))
+  steps old now left at next after m (inr (refuses_it, alive, out, ahead)) r =
+      (takes old now left at next after m refuses_it alive out ahead r, omega (arith, ap length m.ahead, ap length ahead))
 
-  pub retained : (old now : BucketView K V) (at : Place) (count : ℕ) → pairs_ahead now at ≡ []
-      → IsRetaining old now at count → Retains IsTest old now count
-  retained old now at count e r = record {
-    gone = r.gone;
-    parts = r.parts;
-    alive = r.alive;
-    counted = r.counted;
-    refused = r.refused;
-    kept = λ test means.
-        let none = none_pass (refuses test) (pairs_in now) (nothing _ (r.ahead test means ∙ ap (refused_len test) e)) in
-        each_implies (λ p. refuses test p ≡ false) (λ p. test p ≡ true) (λ p h. not-false (test p) h) (pairs_in now) none;
-    unchanged = r.unchanged;
-  }
+  -- as many pairs as are gone
+  pub fewer : (old now : BucketView K V) (at : Place) (r : IsRetaining old now at)
+      → length (pairs_in old) ≡ length r.gone + length (pairs_in now)
+  fewer old now at r =
+      let parts = length_permutation _ _ (pairs_moved r.gone old now r.parts) in
+      let both = length-append (map (λ (e : (K × V) × ℕ). e.0) r.gone) (pairs_in now) in
+      let gone = length-map r.gone (λ (e : (K × V) × ℕ). e.0) in
+      omega (arith, parts, both, gone)
+
+  pub retained : (old now : BucketView K V) (at : Place) (count : ℕ) → pairs_ahead now at ≡ [] → length (pairs_in old) ≤ 2 ^ 64 - 1
+      → count ≡ length (pairs_in old) - length (pairs_in now) → IsRetaining old now at → Retains IsTest old now count
+  retained old now at count e fits is r =
+      let less = fewer old now at r in
+      record {
+        gone = r.gone;
+        parts = r.parts;
+        alive = r.alive;
+        counted = omega (arith, less, fits, is);
+        refused = r.refused;
+        kept = λ test means.
+            let none = none_pass (refuses test) (pairs_in now) (nothing _ (r.ahead test means ∙ ap (refused_len test) e)) in
+            each_implies (λ p. refuses test p ≡ false) (λ p. test p ≡ true) (λ p h. not-false (test p) h) (pairs_in now) none;
+        unchanged = λ none. r.unchanged (omega (arith, less, is, none));
+      }
 
 module _ {K V : Type 0} (IsTest : (K × V → Bool) → Type 0) where
   -- a test that refuses all leaves none, and counts all

@@ -1,4 +1,4 @@
-use Rattle.bucket_table.proofs.Words.{ap, by-no_new, live_not_free, marks_in, no_new-refl, read_apart, refl, rules, same_Some, slot_in, sym}
+use Rattle.bucket_table.proofs.Words.{ap, by-no_new, inl, inr, live_not_free, marks_in, no_new-refl, read_apart, refl, rules, same_Some, slot_in, sym}
 use Rattle.bucket_table.proofs.Words.{◌∙◌}
 use Rattle.bucket_table.proofs.retain.retain_at.Goals as goal
 
@@ -11,7 +11,7 @@ val-requires g c = (search rules, (search rules, live_not_free (slot_in c.args.b
 pub returns-then-keep-clause-retained : goal.returns-then-keep-clause-retained
 returns-then-keep-clause-retained g c = λ pair here.
     let read = read_apart (slot_in c.args.bucket.now c.args.at.now) _ _ c.requires.live_slot c.key.ensures c.val.ensures in
-    (λ test means. ap test (same_Some pair _ (sym here ∙ read)) ∙ sym (means _ _ _ c.keep.ensures) ∙ c.if-keep.true, refl, refl)
+    inl (λ test means. ap test (same_Some pair _ (sym here ∙ read)) ∙ sym (means _ _ _ c.keep.ensures) ∙ c.if-keep.true, refl, refl)
 
 pub returns-then-keep-clause-marks : goal.returns-then-keep-clause-marks
 returns-then-keep-clause-marks g c =
@@ -20,8 +20,7 @@ returns-then-keep-clause-marks g c =
 
 pub returns-clause-retained : goal.returns-clause-retained
 returns-clause-retained g c = λ pair here.
-    let read = read_apart (slot_in c.args.bucket.now c.args.at.now) _ _ c.requires.live_slot c.key.ensures c.val.ensures in (
-      refl,
+    let read = read_apart (slot_in c.args.bucket.now c.args.at.now) _ _ c.requires.live_slot c.key.ensures c.val.ensures in inr (
       λ test means. ap test (same_Some pair _ (sym here ∙ read)) ∙ sym (means _ _ _ c.keep.ensures) ∙ c.if-keep.false,
       c.take_at.ensures.alive,
       c.take_at.ensures.taken pair here,

@@ -1,5 +1,5 @@
-use Rattle.bucket_table.proofs.Words.{by-no_new, by-trans, marks_in, no_new-refl, rules}
-use Rattle.bucket_table.proofs.Walking.Retaining.{next_live, retained, sets_out, steps}
+use Rattle.bucket_table.proofs.Words.{arith, by-no_new, by-trans, marks_in, no_new-refl, refl, rules}
+use Rattle.bucket_table.proofs.Walking.Retaining.{fewer, next_live, retained, sets_out, steps}
 use Rattle.bucket_table.proofs.retain.retain_in.Goals as goal
 
 pub own-init : goal.own-init
@@ -17,14 +17,14 @@ retain_at-requires g c =
 pub own-smaller : goal.own-smaller
 own-smaller g c =
     let m = c.find_next_here.ensures.ahead c.own-test.true in
-    (steps _ c.args.bucket.now c.own.bucket c.retain_at.new.bucket c.own.at c.find_next_here.new.self c.retain_at.new.at c.own.count c.retain_at.result
-    c.saturating_add-count.result m (c.retain_at.ensures.retained m.pair m.here) c.saturating_add-count.ensures c.own.invariant.0).1
+    (steps _ c.args.bucket.now c.own.bucket c.retain_at.new.bucket c.own.at c.find_next_here.new.self c.retain_at.new.at m
+    (c.retain_at.ensures.retained m.pair m.here) c.own.invariant.0).1
 
 pub own-preserved : goal.own-preserved
 own-preserved g c =
     let m = c.find_next_here.ensures.ahead c.own-test.true in (
-      (steps _ c.args.bucket.now c.own.bucket c.retain_at.new.bucket c.own.at c.find_next_here.new.self c.retain_at.new.at c.own.count c.retain_at.result
-          c.saturating_add-count.result m (c.retain_at.ensures.retained m.pair m.here) c.saturating_add-count.ensures c.own.invariant.0).0,
+      (steps _ c.args.bucket.now c.own.bucket c.retain_at.new.bucket c.own.at c.find_next_here.new.self c.retain_at.new.at m
+          (c.retain_at.ensures.retained m.pair m.here) c.own.invariant.0).0,
       by-trans _ (marks_in c.args.bucket.now) (marks_in c.own.bucket) (marks_in c.retain_at.new.bucket) c.own.invariant.1
           c.retain_at.ensures.marks,
     )
@@ -40,18 +40,24 @@ retain_at-requires-in-pairs g c =
 pub pairs-smaller : goal.pairs-smaller
 pairs-smaller g c =
     let m = c.find_next.ensures.ahead c.pairs-test.true in
-    (steps _ c.args.bucket.now c.pairs.bucket c.retain_at-in-pairs.new.bucket c.pairs.at c.find_next.new.self c.retain_at-in-pairs.new.at c.pairs.count c.retain_at-in-pairs.result
-    c.saturating_add-count-in-pairs.result m (c.retain_at-in-pairs.ensures.retained m.pair m.here) c.saturating_add-count-in-pairs.ensures c.pairs.invariant.0).1
+    (steps _ c.args.bucket.now c.pairs.bucket c.retain_at-in-pairs.new.bucket c.pairs.at c.find_next.new.self c.retain_at-in-pairs.new.at m
+    (c.retain_at-in-pairs.ensures.retained m.pair m.here) c.pairs.invariant.0).1
 
 pub pairs-preserved : goal.pairs-preserved
 pairs-preserved g c =
     let m = c.find_next.ensures.ahead c.pairs-test.true in (
-      (steps _ c.args.bucket.now c.pairs.bucket c.retain_at-in-pairs.new.bucket c.pairs.at c.find_next.new.self c.retain_at-in-pairs.new.at c.pairs.count c.retain_at-in-pairs.result
-          c.saturating_add-count-in-pairs.result m (c.retain_at-in-pairs.ensures.retained m.pair m.here) c.saturating_add-count-in-pairs.ensures c.pairs.invariant.0).0,
+      (steps _ c.args.bucket.now c.pairs.bucket c.retain_at-in-pairs.new.bucket c.pairs.at c.find_next.new.self c.retain_at-in-pairs.new.at m
+          (c.retain_at-in-pairs.ensures.retained m.pair m.here) c.pairs.invariant.0).0,
       by-trans _ (marks_in c.args.bucket.now) (marks_in c.pairs.bucket) (marks_in c.retain_at-in-pairs.new.bucket) c.pairs.invariant.1
           c.retain_at-in-pairs.ensures.marks,
     )
 
+pub overflow_sub-result : goal.overflow_sub-result
+overflow_sub-result g c =
+    let less = fewer _ c.args.bucket.now c.pairs.bucket c.pairs.at c.pairs.invariant.0 in
+    omega (arith, less, c.len-before.ensures, c.len.ensures)
+
 pub returns-clause-retained : goal.returns-clause-retained
-returns-clause-retained g c = retained _ c.args.bucket.now c.pairs.bucket c.pairs.at c.pairs.count
-    (c.find_next.ensures.end c.pairs-test.false).ahead c.pairs.invariant.0
+returns-clause-retained g c =
+    retained _ c.args.bucket.now c.pairs.bucket c.pairs.at _ (c.find_next.ensures.end c.pairs-test.false).ahead
+    (omega (arith, c.len-before.ensures, c.len-before.type_inv)) (rw (c.len-before.ensures, c.len.ensures) refl) c.pairs.invariant.0

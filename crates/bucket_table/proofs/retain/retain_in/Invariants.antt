@@ -5,12 +5,12 @@ use Rattle.bucket_table.proofs.retain.retain_in.Given as goal
 
 abbrev pub invariant-own : goal.invariant-own
 invariant-own g l =
-    IsRetaining (AnswersBy (λ key value answer. goal.F-post g l.keep key value answer)) l.fn.bucket l.bucket l.at l.count
+    IsRetaining (AnswersBy (λ key value answer. goal.F-post g l.keep key value answer)) l.fn.bucket l.bucket l.at
     × MarksBy (g.G.Generation.epoch_of l.generation) (marks_in l.fn.bucket) (marks_in l.bucket)
 
 abbrev pub invariant-pairs : goal.invariant-pairs
 invariant-pairs g l =
-    IsRetaining (AnswersBy (λ key value answer. goal.F-post g l.keep key value answer)) l.fn.bucket l.bucket l.at l.count
+    IsRetaining (AnswersBy (λ key value answer. goal.F-post g l.keep key value answer)) l.fn.bucket l.bucket l.at
     × MarksBy (g.G.Generation.epoch_of l.generation) (marks_in l.fn.bucket) (marks_in l.bucket)
 
 abbrev pub decreases-own : goal.decreases-own
