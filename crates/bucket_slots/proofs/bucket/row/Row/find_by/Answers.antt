@@ -2,7 +2,7 @@ use Rattle.std.proofs.Common.{arith, rules, refl, sym, ◌≡◌, ◌∙◌, fal
 use Rattle.bucket_slots.specs.Layout.Masks.{IsLeft}
 use Rattle.bucket_slots.specs.Searching.{has_byte, is_wanted}
 use Rattle.bucket_slots.specs.Slots.{free}
-use Rattle.bucket_slots.proofs.Bitmaps.{ones-cleared}
+use Rattle.bucket_slots.proofs.Bitmaps.{ones-cleared, ones-some}
 use Rattle.bucket_slots.proofs.FirstPlaces.{live_occupied}
 use Rattle.bucket_slots.proofs.Masks.{IsLeft-first, IsLeft-next, ones-mask, position-left, position-none_left}
 use Rattle.bucket_slots.proofs.RowMasks.{candidate_live, candidate_wanted, unwanted}
@@ -36,8 +36,7 @@ returns-then-same-clause-pair g c =
 
 pub returns-then-same-clause-few : goal.returns-then-same-clause-few
 returns-then-same-clause-few g c =
-    let fewer = ones-cleared _ _ _ c.without_bit-left.ensures.bits c.lowest_bit-pos.ensures.set in
-    omega (arith, c.same.ensures.counted, c.loop-left.invariant.few)
+    omega (arith, c.same.ensures.counted, c.loop-left.invariant.few, ones-some _ _ c.lowest_bit-pos.ensures.set)
 
 pub loop-left-preserved : goal.loop-left-preserved
 loop-left-preserved g c =
