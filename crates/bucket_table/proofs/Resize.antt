@@ -4,7 +4,7 @@ pub mod PlanIsOne
 pub mod PlanBounds
 pub mod Neighbours
 pub mod GivingUp
-pub mod Turning
+pub mod Following
 pub mod Asked
 pub mod Settling
 pub mod Growing

@@ -1,7 +1,7 @@
 -- When arrays get another length, and what becomes of them.
 pub mod ResizePlan
 pub mod Sampling
-pub mod Turns
+pub mod Resizing
 pub mod Asking
 pub mod Growing
 pub mod TableCapacity

@@ -2,7 +2,7 @@
 use Rattle.bucket_table.proofs.Words.{All, ArraysView, List, [], ap, arith, cases_eq, cases_lt, inl, inr, length, slots_of, ℕ, ⊎_elim, ◌*◌}
 use Rattle.bucket_table.proofs.Words.{◌+◌, ◌/◌, ◌<◌, ◌≡◌, ◌≤◌}
 use Rattle.bucket_table.specs.Resize.ResizePlan.{IsPlan, IsPlanTo, last_estimate}
-use Rattle.bucket_table.specs.Resize.Turns.{IsGivenUp, IsPlanOf}
+use Rattle.bucket_table.specs.Resize.Resizing.{IsGivenUp, IsPlanOf}
 use Rattle.bucket_table.specs.declared.arrays.plan.Plan.{Plan}
 use Rattle.bucket_table.specs.declared.arrays.plan.Plan.TheVariants.{GiveUp, Keep, Resize}
 use Rattle.bucket_table.proofs.Views.Killed.{no_live}

@@ -8,10 +8,10 @@ use Rattle.bucket_slots.specs.Sampling.{StartsSampling}
 use Rattle.bucket_table.specs.Resize.Asking.{AsksGrowth}
 use Rattle.bucket_table.specs.Resize.Growing.{Grows, WriterAsksGrowth}
 use Rattle.bucket_table.specs.Map.Preparing.{IsReady}
-use Rattle.bucket_table.specs.Resize.Turns.{MakesArray, TriesResize, made}
+use Rattle.bucket_table.specs.Resize.Resizing.{MakesArray, TriesResize}
 use Rattle.bucket_table.specs.declared.arrays.plan.Plan.TheVariants.{GiveUp, Keep, Resize}
 use Rattle.bucket_table.proofs.Views.Keeping.{keeps_same}
-use Rattle.bucket_table.proofs.Resize.Turning.{new_vacant, turned_keeps, turned_placed}
+use Rattle.bucket_table.proofs.Resize.Following.{made_keeps, made_placed, new_vacant}
 
 module _ {K V : Type 0} (kind hash : ℕ) (arrays : ArraysView K V) (index : ℕ) (array : List (BucketView K V))
     (stands : array ≡ arrays.current) where
@@ -56,9 +56,9 @@ module _ {K V : Type 0} where
   pub grown : {E : Type 0} (old new : ArraysView K V) (answer : Result Bool E) (index : ℕ) → TriesResize old answer new
       → index < length old.current
       → 0 < length (pairs_in (bucket_at old.current index)) → MatchResult answer (λ moved. Grows moved old new) (λ refused. new ≡ old)
-  grown old new (Ok moved) index (Keep, is, answered, turns) within some = rw answered turns
-  grown old new (Ok moved) index (GiveUp, is, answered, turns) within some = absurd (no_live_here old.current index turns.empty within some)
-  grown old new (Ok moved) index (Resize capacity, is, answered, turns) within some = rw answered (capacity, turns)
+  grown old new (Ok moved) index (Keep, is, answered, follows) within some = rw answered follows
+  grown old new (Ok moved) index (GiveUp, is, answered, follows) within some = absurd (no_live_here old.current index follows.empty within some)
+  grown old new (Ok moved) index (Resize capacity, is, answered, follows) within some = rw answered (capacity, follows)
   grown old new (Err refused) index (capacity, is, same) within some = same
 
   -- the bucket that was found before a growth may be locked after it
@@ -90,11 +90,11 @@ module _ {K V : Type 0} where
   pub kept_made : (old new : ArraysView K V) → MakesArray old new → Keeps old new
   kept_made old new h = elim (cases_lt 0 (length old.current)) [
     | inl some ↦ rw (h.0 some) (keeps_same old)
-    | inr none ↦ turned_keeps made old new (h.1 (omega (arith, none)))
+    | inr none ↦ made_keeps old new (h.1 (omega (arith, none)))
   ]
 
   pub placed_made : (hash : K → ℕ) (old new : ArraysView K V) → MakesArray old new → ArePlaced hash old → ArePlaced hash new
   placed_made hash old new h law = elim (cases_lt 0 (length old.current)) [
     | inl some ↦ rw (h.0 some) law
-    | inr none ↦ turned_placed hash made old new (h.1 (omega (arith, none))) law
+    | inr none ↦ made_placed hash old new (h.1 (omega (arith, none))) law
   ]

@@ -1,16 +1,15 @@
 -- A resize after the minimum was set, and what it keeps of the map.
-use Rattle.bucket_table.proofs.Words.{ArePlaced, ArraysView, Bool, Err, IsEquivalence, IsOneMap, Keeps, MapState, Ok, Result, false}
-use Rattle.bucket_table.proofs.Words.{pairs_of, refl, true, ℕ, ◌+◌, ◌-◌, ◌≡◌}
+use Rattle.bucket_table.proofs.Words.{ArePlaced, ArraysView, Bool, Err, IsEquivalence, IsOneMap, Keeps, MapState, Ok, Result}
+use Rattle.bucket_table.proofs.Words.{pairs_of, refl, ℕ, ◌+◌, ◌-◌, ◌≡◌}
 use Rattle.bucket_table.specs.Map.MapState.{LowersMinimum, RaisesMinimum, state_of}
 use Rattle.bucket_table.specs.Resize.Asking.{ResizesIf}
-use Rattle.bucket_table.specs.Resize.Turns.{Releases, Reserves, Resizes, TriesResize, with_minimum}
-use Rattle.bucket_table.specs.declared.arrays.plan.Plan.TheVariants.{Resize}
+use Rattle.bucket_table.specs.Resize.Resizing.{Releases, Reserves, Resizes, TriesResize, with_minimum}
 use Rattle.bucket_table.proofs.Map.MapKept.{keeps_pairs, one_map_kept}
 
 module _ {K V : Type 0} where
   pub resizes : {E : Type 0} (old new : ArraysView K V) (answer : Result Bool E) → TriesResize old answer new → Resizes old new
-  resizes old new (Ok moved) (plan, is, answered, turns) = (plan, is, (false, turns))
-  resizes old new (Err refused) (capacity, is, same) = (Resize capacity, is, (true, same))
+  resizes old new (Ok moved) tries = (Ok moved, tries)
+  resizes old new (Err refused) tries = (Err tt, tries)
 
   -- what was asked for was tried, and what wasn't asked for wasn't
   pub resizes_asked : {E Asked : Type 0} (old new : ArraysView K V) (answer : Result Bool E) → Asked → TriesResize old answer new

@@ -8,7 +8,6 @@ use Rattle.bucket_table.proofs.Words.{zero, ℕ, ◌*◌, ◌++◌, ◌+◌, ◌
 use Rattle.bucket_slots.specs.Walking.{IsEnd}
 use Rattle.bucket_table.specs.Walking.Cursors.{HasNoneBetween, IsFirstFrom, IsFoundFrom, ReachesPast}
 use Rattle.bucket_table.specs.Map.LookingUp.{pairs_in_all}
-use Rattle.bucket_table.specs.Resize.Turns.{moves}
 use Rattle.bucket_table.specs.declared.arrays.Missing.{Missing}
 use Rattle.bucket_table.proofs.Walking.Bounds.{all_hashes, is_in, is_inside, next_multiple, still_past, wide}
 use Rattle.bucket_table.proofs.Walking.Each.{all_permuted, each_back, each_both, each_front, each_implies, each_map, none_pass, nothing}

@@ -6,7 +6,7 @@ use Rattle.bucket_table.specs.Resize.Asking.{ResizesIf}
 use Rattle.bucket_table.specs.Resize.Growing.{Grows, WriterAsksGrowth}
 use Rattle.bucket_table.specs.Map.MapState.{KeepsPairs, state_of}
 use Rattle.bucket_table.specs.Views.Keeping.{KeepsArrays, KeepsOpenTickets}
-use Rattle.bucket_table.specs.Resize.Turns.{MakesArray}
+use Rattle.bucket_table.specs.Resize.Resizing.{MakesArray}
 use Rattle.bucket_table.specs.Views.Sides.{buckets_on}
 use Rattle.bucket_table.specs.Rehash.Units.{WorksUnits}
 

@@ -4,7 +4,7 @@ use Rattle.bucket_slots.specs.BucketView.{BucketView, pairs_in}
 use Rattle.bucket_table.specs.Views.ArraysView.{ArraysView}
 use Rattle.bucket_table.specs.Resize.ResizePlan.{slots_of}
 use Rattle.bucket_table.specs.Views.Sides.{arrays_with}
-use Rattle.bucket_table.specs.Resize.Turns.{Resizes}
+use Rattle.bucket_table.specs.Resize.Resizing.{Resizes}
 use Rattle.bucket_table.specs.Resize.Sampling.{IsCrowded, IsDeserted, live_counts}
 
 -- a current array stands and no old one, and near the bucket many slots are live

@@ -6,7 +6,7 @@ use Rattle.bucket_slots.specs.Sampling.{StartsSampling}
 use Rattle.bucket_slots.specs.declared.bucket.TheConstants.{CACHE}
 use Rattle.bucket_table.specs.Views.ArraysView.{ArraysView}
 use Rattle.bucket_table.specs.Resize.Asking.{AsksGrowth}
-use Rattle.bucket_table.specs.Resize.Turns.{IsPushed}
+use Rattle.bucket_table.specs.Resize.Resizing.{IsPushed}
 
 -- a writer looks into a growth: a cache isn't at its greatest capacity, the bucket has 31 live slots
 -- or more, the hash starts a sample, no old array stands, and near the bucket many slots are live

@@ -8,7 +8,7 @@ use Rattle.std.specs.declared.default.Default as default
 use Rattle.bucket_slots.specs.declared.lru.LruList as list
 use Rattle.bucket_slots.specs.BucketView.{BucketView}
 use Rattle.bucket_table.specs.Views.ArraysView.{TableView}
-use Rattle.bucket_table.specs.Resize.Turns.{MakesArray}
+use Rattle.bucket_table.specs.Resize.Resizing.{MakesArray}
 use Rattle.bucket_table.specs.Views.TableRow.{table_row}
 use Rattle.bucket_table.specs.declared.key_hash.KeyHash as key_hash
 

@@ -9,7 +9,7 @@ ghost use Rattle.bucket_table.specs.Resize.Growing.{Grows, WriterAsksGrowth};
 ghost use Rattle.bucket_table.specs.Views.Locking.{IsLocked};
 ghost use Rattle.bucket_table.specs.Map.Preparing.{IsReady};
 ghost use Rattle.bucket_table.specs.Views.Keeping.{Keeps, KeepsArrays};
-ghost use Rattle.bucket_table.specs.Resize.Turns.{MakesArray};
+ghost use Rattle.bucket_table.specs.Resize.Resizing.{MakesArray};
 ghost use Rattle.bucket_table.specs.Views.Sides.{buckets_on};
 ghost use Rattle.bucket_table.specs.Rehash.Units.{WorksUnits};
 

@@ -3,8 +3,8 @@ ghost use Rattle.std.specs.Prelude.{◌≡◌, ◌<◌, ◌≤◌, ◌+◌, ◌-
 ghost use Rattle.bucket_table.specs.Views.ArraysView.{ArePlaced};
 ghost use Rattle.bucket_table.specs.Views.Keeping.{Keeps};
 ghost use Rattle.bucket_table.specs.Resize.ResizePlan.{IsCapacityWithin};
-ghost use Rattle.bucket_table.specs.Resize.Turns.{IsMade, IsPlanOf, IsPushed, MakesArray, Releases, Reserves, Resizes, TriesResize};
-ghost use Rattle.bucket_table.specs.Resize.Turns.{with_minimum};
+ghost use Rattle.bucket_table.specs.Resize.Resizing.{IsMade, IsPlanOf, IsPushed, MakesArray, Releases, Reserves, Resizes, TriesResize};
+ghost use Rattle.bucket_table.specs.Resize.Resizing.{with_minimum};
 
 use super::Arrays;
 use super::plan::{Plan, plan_of};

@@ -7,7 +7,7 @@
 //! Ports `get_or_create_array`, `reserve_capacity` and `try_resize` of scc's `src/hash_table.rs`.
 ghost use Rattle.std.specs.Borrow.{sem};
 ghost use Rattle.bucket_table.specs.Map.MapState.{KeepsPairs, LowersMinimum, RaisesMinimum, state_of};
-ghost use Rattle.bucket_table.specs.Resize.Turns.{Releases, Reserves, TriesResize};
+ghost use Rattle.bucket_table.specs.Resize.Resizing.{Releases, Reserves, TriesResize};
 ghost use Rattle.bucket_table.specs.Views.Keeping.{KeepsOpenTickets};
 
 use crate::hash_table::HashTable;

@@ -1,8 +1,7 @@
 use Rattle.std.proofs.Common.{arith, refl}
-use Rattle.bucket_table.specs.Resize.Turns.{given_up, pushed}
 use Rattle.bucket_table.specs.declared.arrays.plan.Plan.TheVariants.{GiveUp, Resize}
 use Rattle.bucket_table.proofs.Resize.GivingUp.{gives_up, plan_alone, plan_stands}
-use Rattle.bucket_table.proofs.Resize.Turning.{turned_keeps, turned_placed}
+use Rattle.bucket_table.proofs.Resize.Following.{followed_keeps, followed_placed}
 use Rattle.bucket_table.proofs.arrays.Arrays.try_resize.Goals as goal
 
 pub give_array_up-requires : goal.give_array_up-requires
@@ -28,18 +27,18 @@ returns-in-GiveUp-clause-resized g c = (
 )
 
 pub returns-in-GiveUp-clause-kept : goal.returns-in-GiveUp-clause-kept
-returns-in-GiveUp-clause-kept g c = turned_keeps given_up c.args.self.now _ (gives_up c.args.self.now _ c.in-GiveUp.ensures.plan
+returns-in-GiveUp-clause-kept g c = followed_keeps GiveUp c.args.self.now _ (gives_up c.args.self.now _ c.in-GiveUp.ensures.plan
     c.give_array_up.ensures)
 
 pub returns-in-GiveUp-clause-placed : goal.returns-in-GiveUp-clause-placed
-returns-in-GiveUp-clause-placed g c = λ hash. turned_placed hash given_up c.args.self.now _
+returns-in-GiveUp-clause-placed g c = λ hash. followed_placed hash GiveUp c.args.self.now _
     (gives_up c.args.self.now _ c.in-GiveUp.ensures.plan c.give_array_up.ensures)
 
 pub returns-in-Ok-clause-resized : goal.returns-in-Ok-clause-resized
 returns-in-Ok-clause-resized g c = (Resize c.in-Resize.capacity, c.in-Resize.ensures.plan, refl, c.in-Ok.ensures.pushed)
 
 pub returns-in-Ok-clause-kept : goal.returns-in-Ok-clause-kept
-returns-in-Ok-clause-kept g c = turned_keeps (pushed c.in-Resize.capacity) c.args.self.now _ c.in-Ok.ensures.pushed
+returns-in-Ok-clause-kept g c = followed_keeps (Resize c.in-Resize.capacity) c.args.self.now _ c.in-Ok.ensures.pushed
 
 pub returns-in-Ok-clause-placed : goal.returns-in-Ok-clause-placed
-returns-in-Ok-clause-placed g c = λ hash. turned_placed hash (pushed c.in-Resize.capacity) c.args.self.now _ c.in-Ok.ensures.pushed
+returns-in-Ok-clause-placed g c = λ hash. followed_placed hash (Resize c.in-Resize.capacity) c.args.self.now _ c.in-Ok.ensures.pushed

@@ -1,12 +1,15 @@
--- What a turn of the arrays keeps: their pairs, the bag of tickets and the law.
-use Rattle.bucket_table.proofs.Words.{All, All-nil, AreHome, ArePlaced, AreTwoArrays, ArraysView, BucketView, HasNoNewMark, IsEntryHome}
+-- What arrays that follow a plan keep, and those that are made: their pairs, the bag of tickets and the law.
+use Rattle.bucket_table.proofs.Words.{All, All-nil, AreHome, ArePlaced, AreTwoArrays, ArraysView, BucketView, IsEntryHome}
 use Rattle.bucket_table.proofs.Words.{IsNewArray, IsPermutation-refl, IsVacant, Keeps, List, LosesNoUnit, [], ap, append-nil, arith}
-use Rattle.bucket_table.proofs.Words.{bucket_at, empty_bucket, entries_among, entries_of, false, false≢true, first_tickets, get_or, inl}
-use Rattle.bucket_table.proofs.Words.{length, marks_among, marks_of, nil_from_length, no_new-refl, pairs_in, refl, replicate, suc, sym}
+use Rattle.bucket_table.proofs.Words.{bucket_at, empty_bucket, entries_among, false, false≢true, first_tickets, get_or, inl}
+use Rattle.bucket_table.proofs.Words.{length, marks_among, nil_from_length, pairs_in, refl, replicate, suc, sym}
 use Rattle.bucket_table.proofs.Words.{true, zero, ℕ, ◌<◌, ◌∙◌, ◌∷◌, ◌≡◌}
 use Rattle.std.proofs.lemmas.List.{get_or-replicate}
 use Rattle.bucket_slots.proofs.MarkCallerLemmas.{no_new-front, no_new-rest}
-use Rattle.bucket_table.specs.Resize.Turns.{Turn, Turns, given_up, made, pushed, stays}
+use Rattle.bucket_table.specs.Resize.Resizing.{Follows, IsMade}
+use Rattle.bucket_table.specs.declared.arrays.plan.Plan.{Plan}
+use Rattle.bucket_table.specs.declared.arrays.plan.Plan.TheVariants.{GiveUp, Keep, Resize}
+use Rattle.bucket_table.proofs.Views.Keeping.{keeps_same}
 use Rattle.bucket_table.proofs.Views.Killed.{length-killed_flags}
 
 module _ {K V : Type 0} where
@@ -30,14 +33,6 @@ module _ {K V : Type 0} where
   pub new_entries : (capacity : ℕ) (fresh : List (BucketView K V)) → IsNewArray capacity fresh → entries_among fresh ≡ []
   new_entries capacity fresh new = ap (λ (bs : List (BucketView K V)). entries_among bs) new.empty ∙ no_entries_new (length fresh)
 
-  -- the pairs are the same ones in the same order
-  pub turned_entries : (turn : Turn) (old new : ArraysView K V) → Turns turn old new → entries_of new ≡ entries_of old
-  turned_entries stays old new is = ap (λ (a : ArraysView K V). entries_of a) is
-  turned_entries made old new is = rw is.new_is (rw (nil_from_length old.current is.none, new_entries _ _ is.fresh_is) refl)
-  turned_entries given_up old new is = rw is.new_is (rw is.empty refl)
-  turned_entries (pushed capacity) old new is =
-      rw is.new_is (rw (nil_from_length old.linked is.alone, new_entries _ _ is.fresh_is) (sym (append-nil (entries_among old.current))))
-
   -- an array as it is made has no marks
   no_marks_new : (n : ℕ) → marks_among (replicate n (empty_bucket {K = K} {V = V})) ≡ []
   no_marks_new zero = refl
@@ -46,31 +41,32 @@ module _ {K V : Type 0} where
   new_marks : (capacity : ℕ) (fresh : List (BucketView K V)) → IsNewArray capacity fresh → marks_among fresh ≡ []
   new_marks capacity fresh new = ap (λ (bs : List (BucketView K V)). marks_among bs) new.empty ∙ no_marks_new (length fresh)
 
-  -- no mark is new
-  turned_marks : (turn : Turn) (old new : ArraysView K V) → Turns turn old new → HasNoNewMark (marks_of old) (marks_of new)
-  turned_marks stays old new is = rw is (no_new-refl (marks_of old))
-  turned_marks made old new is = rw (is.new_is, new_marks _ _ is.fresh_is) (no_new-rest (marks_among old.current) (marks_among old.linked))
-  turned_marks given_up old new is = rw is.new_is (no_new-rest (marks_among old.current) (marks_among old.linked))
-  turned_marks (pushed capacity) old new is = rw (is.new_is, new_marks _ _ is.fresh_is)
-      (no_new-front (marks_among old.current) (marks_among old.linked))
+  -- another current array, where neither has a pair
+  keeps_with : (old : ArraysView K V) (fresh : List (BucketView K V)) → entries_among old.current ≡ [] → entries_among fresh ≡ []
+      → marks_among fresh ≡ [] → Keeps old (record old { current = fresh })
+  keeps_with old fresh none empty unmarked = record {
+    pairs = rw (none, empty) (IsPermutation-refl (entries_among old.linked));
+    marks = rw unmarked (no_new-rest (marks_among old.current) (marks_among old.linked));
+    minimum = refl;
+    maximum = refl;
+    open_tickets = λ unit. refl;
+  }
 
-  others_turned : (turn : Turn) (old new : ArraysView K V) → Turns turn old new
-      → (new.minimum ≡ old.minimum) × (new.maximum ≡ old.maximum) × (new.tickets.open_units ≡ old.tickets.open_units)
-  others_turned stays old new is = rw is (refl, refl, refl)
-  others_turned made old new is = rw is.new_is (refl, refl, refl)
-  others_turned given_up old new is = rw is.new_is (refl, refl, refl)
-  others_turned (pushed capacity) old new is = rw is.new_is (refl, refl, sym is.none_open)
+  pub followed_keeps : (plan : Plan) (old new : ArraysView K V) → Follows plan old new → Keeps old new
+  followed_keeps Keep old new is = rw is (keeps_same old)
+  followed_keeps GiveUp old new is = rw is.new_is (keeps_with old [] is.empty refl refl)
+  followed_keeps (Resize capacity) old new is = rw is.new_is (record {
+    pairs = rw (nil_from_length old.linked is.alone, new_entries _ _ is.fresh_is, append-nil (entries_among old.current))
+        (IsPermutation-refl (entries_among old.current));
+    marks = rw (new_marks _ _ is.fresh_is) (no_new-front (marks_among old.current) (marks_among old.linked));
+    minimum = refl;
+    maximum = refl;
+    open_tickets = λ unit. rw is.none_open refl;
+  })
 
-  pub turned_keeps : (turn : Turn) (old new : ArraysView K V) → Turns turn old new → Keeps old new
-  turned_keeps turn old new is =
-      let others = others_turned turn old new is in
-      record {
-        pairs = rw (turned_entries turn old new is) (IsPermutation-refl (entries_of old));
-        marks = turned_marks turn old new is;
-        minimum = others.0;
-        maximum = others.1;
-        open_tickets = λ unit. rw others.2 refl;
-      }
+  pub made_keeps : (old new : ArraysView K V) → IsMade old new → Keeps old new
+  made_keeps old new is = rw is.new_is (keeps_with old is.fresh (rw (nil_from_length old.current is.none) refl)
+      (new_entries _ _ is.fresh_is) (new_marks _ _ is.fresh_is))
 
   -- a new array beside any that stands by the law
   fresh_homes : (hash : K → ℕ) (capacity : ℕ) (fresh linked : List (BucketView K V)) → IsNewArray capacity fresh → AreHome hash linked
@@ -107,14 +103,10 @@ module _ {K V : Type 0} where
       none_killed bs alive i d below dead =
           absurd (false≢true (sym (alive i below) ∙ ap (λ (b : BucketView K V). b.killed) (any_default bs i empty_bucket d below) ∙ dead))
 
-  -- the law after a turn
-  pub turned_placed : (hash : K → ℕ) (turn : Turn) (old new : ArraysView K V) → Turns turn old new → ArePlaced hash old → ArePlaced hash new
-  turned_placed hash stays old new is law = rw is law
-  turned_placed hash made old new is law = rw is.new_is (record {
-    homes = fresh_homes hash old.minimum is.fresh old.linked is.fresh_is law.homes.linked_home law.homes.killed_empty;
-    rehashed = law.rehashed;
-  })
-  turned_placed hash given_up old new is law = rw is.new_is (record {
+  -- the law after it
+  pub followed_placed : (hash : K → ℕ) (plan : Plan) (old new : ArraysView K V) → Follows plan old new → ArePlaced hash old → ArePlaced hash new
+  followed_placed hash Keep old new is law = rw is law
+  followed_placed hash GiveUp old new is law = rw is.new_is (record {
     homes = rw (nil_from_length old.linked is.alone) (record {
       current_home = λ i below. absurd (omega arith);
       linked_home = λ i below. absurd (omega arith);
@@ -124,8 +116,14 @@ module _ {K V : Type 0} where
     });
     rehashed = law.rehashed;
   })
-  turned_placed hash (pushed capacity) old new is law = rw is.new_is (record {
+  followed_placed hash (Resize capacity) old new is law = rw is.new_is (record {
     homes = fresh_homes hash capacity is.fresh old.current is.fresh_is law.homes.current_home
         (λ i below dead. absurd (false≢true (sym (law.homes.alive i below) ∙ dead)));
     rehashed = begun old.current law.homes.alive;
+  })
+
+  pub made_placed : (hash : K → ℕ) (old new : ArraysView K V) → IsMade old new → ArePlaced hash old → ArePlaced hash new
+  made_placed hash old new is law = rw is.new_is (record {
+    homes = fresh_homes hash old.minimum is.fresh old.linked is.fresh_is law.homes.linked_home law.homes.killed_empty;
+    rehashed = law.rehashed;
   })

@@ -31,47 +31,34 @@ pub record IsPushed {K V : Type 0} (capacity : ℕ) (old new : ArraysView K V) :
   pub fresh_is : IsNewArray capacity fresh
   pub new_is : new ≡ record old { current = fresh; linked = old.current; tickets = first_tickets (length old.current) }
 
-pub data Turn : Type 0 where
-  stays : Turn
-  made : Turn
-  given_up : Turn
-  pushed : ℕ → Turn
-
-abbrev pub Turns : {K V : Type 0} → Turn → ArraysView K V → ArraysView K V → Type 0
-Turns stays old new = new ≡ old
-Turns made old new = IsMade old new
-Turns given_up old new = IsGivenUp old new
-Turns (pushed capacity) old new = IsPushed capacity old new
-
 -- the plan for a table's arrays: nothing without a current array, and nothing beside an old one
 pub record IsPlanOf {K V : Type 0} (arrays : ArraysView K V) (plan : Plan) : Type 0 where
   pub none : length arrays.current ≡ 0 → plan ≡ Keep
   pub beside : 0 < length arrays.linked → plan ≡ Keep
   pub alone : 0 < length arrays.current → length arrays.linked ≡ 0 → IsPlan (live_counts arrays.current) arrays.minimum arrays.maximum plan
 
--- the turn by a plan, and whether memory is refused
-abbrev pub turn_by : Plan → Bool → Turn
-turn_by Keep refused = stays
-turn_by GiveUp refused = given_up
-turn_by (Resize capacity) true = stays
-turn_by (Resize capacity) false = pushed capacity
+-- what a plan makes of the arrays
+abbrev pub Follows : {K V : Type 0} → Plan → ArraysView K V → ArraysView K V → Type 0
+Follows Keep old new = new ≡ old
+Follows GiveUp old new = IsGivenUp old new
+Follows (Resize capacity) old new = IsPushed capacity old new
 
 abbrev pub moves : Plan → Bool
 moves Keep = false
 moves plan = true
 
--- what a resize does, and its answer
+-- what a resize does, and its answer; for want of memory nothing changes
 abbrev pub TriesResize : {K V E : Type 0} → ArraysView K V → Result Bool E → ArraysView K V → Type 0
-TriesResize old (Ok moved) new = (plan : Plan) × IsPlanOf old plan × (moved ≡ moves plan) × Turns (turn_by plan false) old new
+TriesResize old (Ok moved) new = (plan : Plan) × IsPlanOf old plan × (moved ≡ moves plan) × Follows plan old new
 TriesResize old (Err refused) new = (capacity : ℕ) × IsPlanOf old (Resize capacity) × (new ≡ old)
 
 -- a current array stands: the one that stood, or where none did an empty one for the minimum
 abbrev pub MakesArray : {K V : Type 0} → ArraysView K V → ArraysView K V → Type 0
-MakesArray old new = (0 < length old.current → new ≡ old) × (length old.current ≡ 0 → Turns made old new)
+MakesArray old new = (0 < length old.current → new ≡ old) × (length old.current ≡ 0 → IsMade old new)
 
 -- the arrays follow the plan, or stay for want of memory
 abbrev pub Resizes : {K V : Type 0} → ArraysView K V → ArraysView K V → Type 0
-Resizes old new = (plan : Plan) × IsPlanOf old plan × ((refused : Bool) × Turns (turn_by plan refused) old new)
+Resizes old new = (answer : Result Bool (Unit {0})) × TriesResize old answer new
 
 -- another minimum
 abbrev pub with_minimum : {K V : Type 0} → ArraysView K V → ℕ → ArraysView K V
