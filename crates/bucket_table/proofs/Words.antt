@@ -57,7 +57,7 @@ pub use Rattle.bucket_table.specs.Rehash.Relocation.{AreHome, AreTwoArrays, IsEn
 pub use Rattle.bucket_table.specs.Rehash.Relocation.{home_of}
 pub use Rattle.bucket_table.specs.Rehash.Relocation.{homed_len, marks_among}
 pub use Rattle.bucket_table.specs.Resize.ResizePlan.{slots_of}
-pub use Rattle.bucket_table.specs.Resize.Sampling.{counted, live_counts, live_len}
+pub use Rattle.bucket_table.specs.Resize.Sampling.{counted, live_counts}
 pub use Rattle.bucket_table.specs.Views.Sides.{arrays_with, bucket_on, buckets_on}
 pub use Rattle.bucket_table.specs.Rehash.State.{TicketState, first_tickets}
 pub use Rattle.bucket_table.specs.Rehash.Steps.{Ends, HandsOut, Starts}

@@ -2,7 +2,6 @@
 pub mod Calls
 pub mod TicketCalls
 pub mod Runs
-pub mod Clearing
 pub mod Tallying
 pub mod Hashes
 pub mod HashLaws

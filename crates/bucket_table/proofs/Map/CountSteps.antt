@@ -3,10 +3,10 @@ use Rattle.bucket_table.proofs.Words.{All, ArraysView, Bool, BucketView, Err, Is
 use Rattle.bucket_table.proofs.Words.{arith, bucket_at, counted, counted_to, entries_among, entries_in, entries_of, get_or, length}
 use Rattle.bucket_table.proofs.Words.{length-entries_in, length-map, length_permutation, live_counts, map, min, pairs_in, pairs_of, refl}
 use Rattle.bucket_table.proofs.Words.{suc, sum_by-cons, sym, take, zero, ℕ, ◌*◌, ◌+◌, ◌-◌, ◌/◌, ◌<◌, ◌^◌, ◌∙◌, ◌∷◌, ◌≡◌}
-use Rattle.std.proofs.Common.{length-append, sum, zero-mul}
+use Rattle.std.proofs.Common.{length-append, sum, zero-mul, false, inl, inr, true}
 use Rattle.bucket_table.specs.Resize.Sampling.{estimate}
 use Rattle.bucket_table.specs.Resize.Resizing.{IsPlanOf, TriesResize}
-use Rattle.bucket_table.specs.declared.arrays.plan.Plan.TheVariants.{GiveUp, Keep, Resize}
+use Rattle.bucket_table.specs.declared.arrays.plan.Plan.TheVariants.{Resize}
 use Rattle.bucket_table.proofs.Resize.GivingUp.{plan_alone, plan_stands}
 use Rattle.bucket_table.proofs.Resize.GivingUp.{plan_code}
 
@@ -75,9 +75,11 @@ module _ {K V : Type 0} where
   pub dropped : {E : Type 0} (old new : ArraysView K V) (answer : Result Bool E) → TriesResize old answer new → entries_of old ≡ []
       → old.minimum ≡ 0
       → (new.linked ≡ old.linked) × (new.tickets ≡ old.tickets)
-  dropped old new (Ok moved) (Keep, is, answered, follows) empty least = rw follows (refl, refl)
-  dropped old new (Ok moved) (GiveUp, is, answered, follows) empty least = rw follows.new_is (refl, refl)
-  dropped old new (Ok moved) (Resize capacity, is, answered, follows) empty least = absurd (never_pushed old capacity is empty least)
+  dropped old new (Ok false) tries empty least = rw tries.1 (refl, refl)
+  dropped old new (Ok true) tries empty least = elim tries [
+    | inl given_up ↦ rw given_up.1.new_is (refl, refl)
+    | inr pushed ↦ absurd (never_pushed old pushed.0 pushed.1 empty least)
+  ]
   dropped old new (Err refused) (capacity, is, same) empty least = rw same (refl, refl)
 
   pub counted_kept : (old new : ArraysView K V) (n : ℕ) → IsPermutation (entries_of old)

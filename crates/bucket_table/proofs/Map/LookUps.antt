@@ -15,7 +15,7 @@ use Rattle.bucket_slots.specs.BucketView.{pair_at}
 use Rattle.bucket_slots.specs.Places.{pair_lent}
 use Rattle.bucket_slots.specs.Searching.{pair_wanted, place_wanted}
 use Rattle.bucket_slots.specs.declared.bucket.TheConstants.{BUCKET_LEN}
-use Rattle.bucket_table.specs.Map.LookingUp.{AreUnwanted, IsWantedOf, home_bucket, lent_buckets, pair_looked_up, pairs_in_all}
+use Rattle.bucket_table.specs.Map.LookingUp.{home_bucket, lent_buckets, pair_looked_up, pairs_in_all}
 use Rattle.bucket_table.proofs.Moves.HomesByDivision.{home_of-interval}
 
 -- a pointer that isn't valid is a null pointer
@@ -56,6 +56,14 @@ module _ {K V : Type 0} where
   -- the bucket with a hash's home is its home
   pub home_bucket-is : (bs : List (BucketView K V)) (n i : ℕ) → IsHome (length bs) n i → bucket_at bs i ≡ home_bucket n bs
   home_bucket-is bs n i at = ap (λ j. bucket_at bs j) (sym (home_of-interval (length bs) i n at.own))
+
+-- no pair's key is wanted
+abbrev pub AreUnwanted : {K V : Type 0} → (K → Bool) → List (K × V) → Type 0
+AreUnwanted wants pairs = All (λ pair. wants pair.0 ≡ false) pairs
+
+-- the pair is one of the pairs, and its key is wanted
+abbrev pub IsWantedOf : {K V : Type 0} → (K → Bool) → List (K × V) → K × V → Type 0
+IsWantedOf wants pairs pair = Contains pairs pair × (wants pair.0 ≡ true)
 
 module _ {K V : Type 0} (wants : K → Bool) where
   -- a wanted pair of one side is one of the map

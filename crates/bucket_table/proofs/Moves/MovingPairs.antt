@@ -15,8 +15,8 @@ use Rattle.bucket_slots.proofs.RoomCallerLemmas.{free_len_in-none, free_len_in-s
 use Rattle.bucket_slots.specs.BucketView.{first_place}
 use Rattle.bucket_slots.specs.Placing.{slots_with}
 use Rattle.bucket_slots.specs.Reserving.{free_len_in}
-use Rattle.bucket_table.specs.Layout.Moving.{CanMoveInto, MovesHome}
-use Rattle.bucket_table.specs.Rehash.Relocation.{HasOwnByte, IsWay}
+use Rattle.bucket_table.specs.Layout.Moving.{CanMoveInto, MovesHome, HasOwnByte}
+use Rattle.bucket_table.specs.Rehash.Relocation.{IsWay}
 use Rattle.bucket_table.specs.declared.arrays.moving.Landing.{Landing}
 use Rattle.bucket_table.proofs.Moves.Exchanges.{ChangesAt, changes_at, exchanged}
 use Rattle.bucket_table.proofs.Moves.HomesByDivision.{home_of-interval}

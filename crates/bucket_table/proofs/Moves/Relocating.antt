@@ -11,8 +11,8 @@ use Rattle.bucket_slots.proofs.ArrayCallerLemmas.{one_source}
 use Rattle.bucket_slots.proofs.MarkCallerLemmas.{marks_in-slots_killed}
 use Rattle.bucket_slots.proofs.RoomCallerLemmas.{pairs_in-slots_killed}
 use Rattle.bucket_slots.specs.Moving.{slots_killed}
-use Rattle.bucket_table.specs.Layout.Moving.{CanMoveInto}
-use Rattle.bucket_table.specs.Rehash.Relocation.{HasOwnByte, HasRoomFor, IsRelocated, KeepsOthers}
+use Rattle.bucket_table.specs.Layout.Moving.{CanMoveInto, HasOwnByte}
+use Rattle.bucket_table.specs.Rehash.Relocation.{HasRoomFor, IsRelocated, KeepsOthers}
 use Rattle.bucket_table.proofs.Moves.Exchanges.{ChangesAt, changes_at, exchanged}
 use Rattle.bucket_table.proofs.Moves.HomesByDivision.{in_interval, some_width}
 use Rattle.bucket_table.proofs.Views.Killed.{no_entries}

@@ -5,8 +5,9 @@ use Rattle.bucket_table.proofs.Words.{sym, ℕ, ◌%◌, ◌+◌, ◌∙◌, ◌
 use Rattle.std.specs.Option.{option_map}
 use Rattle.bucket_slots.proofs.CallerLemmas.{entries_in-slots_vacated_at, live_is}
 use Rattle.bucket_slots.specs.Slots.{byte_of}
-use Rattle.bucket_table.specs.Rehash.Relocation.{HasOwnByte, IsWay}
+use Rattle.bucket_table.specs.Rehash.Relocation.{IsWay}
 use Rattle.bucket_table.proofs.Moves.HomesByDivision.{home_is}
+use Rattle.bucket_table.specs.Layout.Moving.{HasOwnByte}
 
 module _ {K V : Type 0} where
   -- the key that was read is that of the pair in the slot

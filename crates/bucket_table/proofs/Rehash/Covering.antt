@@ -7,8 +7,12 @@ use Rattle.bucket_table.proofs.Words.{◌≤◌, ◌⊎◌}
 use Rattle.std.proofs.Common.{get_or-set_same}
 use Rattle.std.proofs.lemmas.List.Elements.{Contains-append_cases, Contains-get_or, Contains-push_cases}
 use Rattle.std.specs.Prelude.{Ok}
-use Rattle.bucket_table.specs.Rehash.Covered.{AreAllKilled, IsCovered, IsGoingOn, IsUnitKilled}
+use Rattle.bucket_table.specs.Rehash.Covered.{AreAllKilled, IsCovered, IsUnitKilled}
 use Rattle.bucket_table.specs.Rehash.Steps.{Closes, IsOver}
+
+-- some unit is left to hand out or handed out
+abbrev pub IsGoingOn : TicketState → Type 0
+IsGoingOn state = (64 * state.position < state.len) ⊎ ((unit : ℕ) × Contains state.open_units unit)
 
 has_head : (x : ℕ) (xs : List ℕ) → Contains (x ∷ xs) x
 has_head x xs = Contains-get_or (x ∷ xs) 0 x (omega arith)

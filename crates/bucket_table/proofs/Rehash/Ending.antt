@@ -5,12 +5,16 @@ use Rattle.bucket_table.proofs.Words.{false, first_tickets, killed_flags, length
 use Rattle.bucket_table.proofs.Words.{refl, subst, true, ℕ, ◌*◌, ◌/◌, ◌↔◌, ◌∷◌, ◌≡◌}
 use Rattle.bucket_slots.proofs.MarkCallerLemmas.{no_new-append, no_new-none}
 use Rattle.bucket_table.specs.Rehash.Covered.{AreAllKilled, IsUnitKilled}
-use Rattle.bucket_table.specs.Rehash.Rehashing.{EndsBy}
 use Rattle.bucket_table.specs.declared.tickets.TicketError.{TicketError}
 use Rattle.bucket_table.specs.declared.tickets.TicketError.TheVariants.{NotDone, NotOpen}
 use Rattle.bucket_table.proofs.Rehash.Covering.{all_killed, covered_end, covered_start, going_on_end, going_on_start}
 use Rattle.bucket_table.proofs.Views.Killed.{no_pairs}
 use Rattle.bucket_table.proofs.Views.Laws.{loses_none}
+
+-- a ticket ends as its unit's buckets are killed
+abbrev pub EndsBy : {K V : Type 0} → ArraysView K V → ℕ → Bool → Result Bool TicketError → TicketState → Type 0
+EndsBy arrays ticket success answer after =
+    Ends arrays.tickets ticket success (IsUnitKilled (killed_flags arrays.linked) (ticket / 2048)) answer after
 
 unit_of : (ticket unit : ℕ) → ticket ≡ 2048 * unit → ticket / 2048 ≡ unit
 unit_of ticket unit is = omega arith

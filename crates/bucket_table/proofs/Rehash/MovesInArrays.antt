@@ -103,9 +103,10 @@ module _ {K V : Type 0} (minimum maximum index : ℕ) (c l d m : List (BucketVie
   done_at (Ok x) within moved = record {
     bucket = bucket_at m index;
     is_killed = moved.killed;
+    empty = moved.empty;
     linked_is = set_is l m index within moved.linked_len moved.other_linked;
     tickets_are = refl;
-    moved = moved;
+    others = moved.other_current;
     kept = kept_by moved.current_len moved.entries moved.marks;
   }
   done_at (Err e) within moved = tt

@@ -1,9 +1,13 @@
 -- Old buckets whose pairs move on.
-use Rattle.bucket_table.proofs.Words.{ArraysView, BucketView, IsUnmoved, List, RelocatesAt, SpendsSome, ap, arith, bucket_at, cases_eq, inl}
-use Rattle.bucket_table.proofs.Words.{inr, length, pairs_in, refl, subst, sym, true, ℕ, ◌∙◌, ◌≡◌, ◌≤◌}
-use Rattle.bucket_table.specs.Rehash.Units.{IsSpent}
+use Rattle.bucket_table.proofs.Words.{ArraysView, BucketView, IsUnmoved, List, RelocatesAt, SpendsSome, [], ap, arith, bucket_at, inl}
+use Rattle.bucket_table.proofs.Words.{inr, length, pairs_in, refl, subst, sym, true, ℕ, ◌<◌, ◌∙◌, ◌≡◌, ◌≤◌, ◌⊎◌}
+use Rattle.bucket_table.proofs.Rehash.UnitSteps.{at_set}
 
 module _ {K V : Type 0} where
+  -- a bucket whose pairs have moved on
+  abbrev IsSpent : BucketView K V → Type 0
+  IsSpent bucket = (bucket.killed ≡ true) × (pairs_in bucket ≡ [])
+
   pub spends_same : (buckets : List (BucketView K V)) → SpendsSome buckets buckets
   spends_same buckets i = inl refl
 
@@ -33,11 +37,11 @@ module _ {K V : Type 0} where
   ]
 
   -- one bucket is relocated, or isn't
-  pub spends_one : (index : ℕ) (old new : ArraysView K V) → RelocatesAt index old new → SpendsSome old.linked new.linked
-  spends_one index old new moved i = elim (cases_eq i index) [
-    | inl here ↦ inr (subst (λ (j : ℕ). IsSpent (bucket_at new.linked j)) (sym here) (moved.moved.killed, moved.moved.empty))
-    | inr other ↦ inl (moved.moved.other_linked i other)
-  ]
+  pub spends_one : (index : ℕ) (old new : ArraysView K V) → RelocatesAt index old new → index < length old.linked
+      → SpendsSome old.linked new.linked
+  spends_one index old new moved within i = rw moved.linked_is
+      (at_set (λ (b : BucketView K V). (b ≡ bucket_at old.linked i) ⊎ IsSpent b) old.linked index i moved.bucket within
+      (inr (moved.is_killed, moved.empty)) (λ other. inl refl))
 
   pub spends_none : (old new : ArraysView K V) → IsUnmoved old new → SpendsSome old.linked new.linked
   spends_none old new same i = inl (ap (λ (bs : List (BucketView K V)). bucket_at bs i) same.linked_is)

@@ -16,8 +16,8 @@ module _ {K V : Type 0} where
   }
 
   -- a bucket that is set, and the others
-  at_set : (P : BucketView K V → Type 0) (buckets : List (BucketView K V)) (index i : ℕ) (bucket : BucketView K V) → index < length buckets
-      → P bucket → (i ≢ index → P (bucket_at buckets i)) → P (bucket_at (set buckets index bucket) i)
+  pub at_set : (P : BucketView K V → Type 0) (buckets : List (BucketView K V)) (index i : ℕ) (bucket : BucketView K V)
+      → index < length buckets → P bucket → (i ≢ index → P (bucket_at buckets i)) → P (bucket_at (set buckets index bucket) i)
   at_set P buckets index i bucket within here apart = elim (cases_eq i index) [
     | inl same ↦ rw (same, get_or-set_same buckets index bucket empty_bucket within) here
     | inr other ↦ rw (get_or-set_other buckets index i bucket empty_bucket other) (apart other)
@@ -41,7 +41,10 @@ module _ {K V : Type 0} where
         };
         killed = λ i low high. rw moved.linked_is
             (at_set dead between.linked index i moved.bucket within moved.is_killed (λ other. done.killed i low (omega arith)));
-        rest = λ i low. moved.moved.other_linked i (λ e. omega arith) ∙ done.rest i (omega arith);
+        rest = λ i low.
+            let other : bucket_at new.linked i ≡ bucket_at between.linked i = rw moved.linked_is
+            (get_or-set_other between.linked index i moved.bucket empty_bucket (λ e. omega arith)) in
+            other ∙ done.rest i (omega arith);
       }
 
   -- a refusal ends the range

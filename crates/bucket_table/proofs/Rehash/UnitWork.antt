@@ -8,13 +8,12 @@ use Rattle.std.proofs.lemmas.List.Elements.{Contains-get_or}
 use Rattle.std.proofs.lemmas.List.Sorted.{sum_by-IsPermutation}
 use Rattle.std.specs.List.{count_by, sum_by}
 use Rattle.bucket_table.specs.Rehash.Covered.{IsUnitKilled}
-use Rattle.bucket_table.specs.Rehash.Rehashing.{EndsBy}
 use Rattle.bucket_table.specs.Rehash.Steps.{Closes, IsOver}
 use Rattle.bucket_table.specs.Rehash.Units.{HasWorkedUnits, NeedsNoMemory, UnitsNeedNoMemory, WorksUnit}
 use Rattle.bucket_table.specs.declared.tickets.TicketError.{TicketError}
 use Rattle.bucket_table.specs.declared.tickets.TicketError.TheVariants.{NotDone, NotOpen}
 use Rattle.bucket_table.proofs.Rehash.Covering.{position_after}
-use Rattle.bucket_table.proofs.Rehash.Ending.{ended_entries, marks_ended, others_ended}
+use Rattle.bucket_table.proofs.Rehash.Ending.{EndsBy, ended_entries, marks_ended, others_ended}
 use Rattle.bucket_table.proofs.Views.Killed.{get_or-killed_flags, length-killed_flags}
 
 -- one unit joins a bag and one leaves it

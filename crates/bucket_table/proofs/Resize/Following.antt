@@ -1,4 +1,4 @@
--- What arrays that follow a plan keep, and those that are made: their pairs, the bag of tickets and the law.
+-- What arrays keep that are given up, pushed or made: their pairs, the bag of tickets and the law.
 use Rattle.bucket_table.proofs.Words.{All, All-nil, AreHome, ArePlaced, AreTwoArrays, ArraysView, BucketView, IsEntryHome}
 use Rattle.bucket_table.proofs.Words.{IsNewArray, IsPermutation-refl, IsVacant, Keeps, List, LosesNoUnit, [], ap, append-nil, arith}
 use Rattle.bucket_table.proofs.Words.{bucket_at, empty_bucket, entries_among, false, false≢true, first_tickets, get_or, inl}
@@ -6,10 +6,7 @@ use Rattle.bucket_table.proofs.Words.{length, marks_among, nil_from_length, pair
 use Rattle.bucket_table.proofs.Words.{true, zero, ℕ, ◌<◌, ◌∙◌, ◌∷◌, ◌≡◌}
 use Rattle.std.proofs.lemmas.List.{get_or-replicate}
 use Rattle.bucket_slots.proofs.MarkCallerLemmas.{no_new-front, no_new-rest}
-use Rattle.bucket_table.specs.Resize.Resizing.{Follows, IsMade}
-use Rattle.bucket_table.specs.declared.arrays.plan.Plan.{Plan}
-use Rattle.bucket_table.specs.declared.arrays.plan.Plan.TheVariants.{GiveUp, Keep, Resize}
-use Rattle.bucket_table.proofs.Views.Keeping.{keeps_same}
+use Rattle.bucket_table.specs.Resize.Resizing.{IsGivenUp, IsMade, IsPushed}
 use Rattle.bucket_table.proofs.Views.Killed.{length-killed_flags}
 
 module _ {K V : Type 0} where
@@ -52,10 +49,11 @@ module _ {K V : Type 0} where
     open_tickets = λ unit. refl;
   }
 
-  pub followed_keeps : (plan : Plan) (old new : ArraysView K V) → Follows plan old new → Keeps old new
-  followed_keeps Keep old new is = rw is (keeps_same old)
-  followed_keeps GiveUp old new is = rw is.new_is (keeps_with old [] is.empty refl refl)
-  followed_keeps (Resize capacity) old new is = rw is.new_is (record {
+  pub given_up_keeps : (old new : ArraysView K V) → IsGivenUp old new → Keeps old new
+  given_up_keeps old new is = rw is.new_is (keeps_with old [] is.empty refl refl)
+
+  pub pushed_keeps : (capacity : ℕ) (old new : ArraysView K V) → IsPushed capacity old new → Keeps old new
+  pushed_keeps capacity old new is = rw is.new_is (record {
     pairs = rw (nil_from_length old.linked is.alone, new_entries _ _ is.fresh_is, append-nil (entries_among old.current))
         (IsPermutation-refl (entries_among old.current));
     marks = rw (new_marks _ _ is.fresh_is) (no_new-front (marks_among old.current) (marks_among old.linked));
@@ -104,9 +102,8 @@ module _ {K V : Type 0} where
           absurd (false≢true (sym (alive i below) ∙ ap (λ (b : BucketView K V). b.killed) (any_default bs i empty_bucket d below) ∙ dead))
 
   -- the law after it
-  pub followed_placed : (hash : K → ℕ) (plan : Plan) (old new : ArraysView K V) → Follows plan old new → ArePlaced hash old → ArePlaced hash new
-  followed_placed hash Keep old new is law = rw is law
-  followed_placed hash GiveUp old new is law = rw is.new_is (record {
+  pub given_up_placed : (hash : K → ℕ) (old new : ArraysView K V) → IsGivenUp old new → ArePlaced hash old → ArePlaced hash new
+  given_up_placed hash old new is law = rw is.new_is (record {
     homes = rw (nil_from_length old.linked is.alone) (record {
       current_home = λ i below. absurd (omega arith);
       linked_home = λ i below. absurd (omega arith);
@@ -116,7 +113,10 @@ module _ {K V : Type 0} where
     });
     rehashed = law.rehashed;
   })
-  followed_placed hash (Resize capacity) old new is law = rw is.new_is (record {
+
+  pub pushed_placed : (hash : K → ℕ) (capacity : ℕ) (old new : ArraysView K V) → IsPushed capacity old new → ArePlaced hash old
+      → ArePlaced hash new
+  pushed_placed hash capacity old new is law = rw is.new_is (record {
     homes = fresh_homes hash capacity is.fresh old.current is.fresh_is law.homes.current_home
         (λ i below dead. absurd (false≢true (sym (law.homes.alive i below) ∙ dead)));
     rehashed = begun old.current law.homes.alive;

@@ -9,7 +9,6 @@ use Rattle.bucket_table.specs.Resize.Asking.{AsksGrowth}
 use Rattle.bucket_table.specs.Resize.Growing.{Grows, WriterAsksGrowth}
 use Rattle.bucket_table.specs.Map.Preparing.{IsReady}
 use Rattle.bucket_table.specs.Resize.Resizing.{MakesArray, TriesResize}
-use Rattle.bucket_table.specs.declared.arrays.plan.Plan.TheVariants.{GiveUp, Keep, Resize}
 use Rattle.bucket_table.proofs.Views.Keeping.{keeps_same}
 use Rattle.bucket_table.proofs.Resize.Following.{made_keeps, made_placed, new_vacant}
 
@@ -56,9 +55,11 @@ module _ {K V : Type 0} where
   pub grown : {E : Type 0} (old new : ArraysView K V) (answer : Result Bool E) (index : ℕ) → TriesResize old answer new
       → index < length old.current
       → 0 < length (pairs_in (bucket_at old.current index)) → MatchResult answer (λ moved. Grows moved old new) (λ refused. new ≡ old)
-  grown old new (Ok moved) index (Keep, is, answered, follows) within some = rw answered follows
-  grown old new (Ok moved) index (GiveUp, is, answered, follows) within some = absurd (no_live_here old.current index follows.empty within some)
-  grown old new (Ok moved) index (Resize capacity, is, answered, follows) within some = rw answered (capacity, follows)
+  grown old new (Ok false) index tries within some = tries.1
+  grown old new (Ok true) index tries within some = elim tries [
+    | inl given_up ↦ absurd (no_live_here old.current index given_up.1.empty within some)
+    | inr pushed ↦ (pushed.0, pushed.2)
+  ]
   grown old new (Err refused) index (capacity, is, same) within some = same
 
   -- the bucket that was found before a growth may be locked after it

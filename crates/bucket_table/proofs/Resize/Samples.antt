@@ -1,9 +1,13 @@
 -- Sums over samples of buckets, and that samples are within an array.
 use Rattle.bucket_table.proofs.Words.{BucketView, List, ap, arith, bucket_at, counted, empty_bucket, get_or, get_or-map, length, length-map}
-use Rattle.bucket_table.proofs.Words.{live_counts, live_len, ℕ, ◌+◌, ◌<◌, ◌∙◌, ◌≡◌}
+use Rattle.bucket_table.proofs.Words.{live_counts, pairs_in, ℕ, ◌+◌, ◌<◌, ◌∙◌, ◌≡◌}
 use Rattle.std.proofs.Common.{drop}
 use Rattle.std.proofs.lemmas.List.{get_or-drop, length-drop}
 use Rattle.std.proofs.lemmas.List.Sums.{sum_by_more}
+
+-- how many slots of a bucket are live
+abbrev pub live_len : {K V : Type 0} → BucketView K V → ℕ
+live_len bucket = length (pairs_in bucket)
 
 -- one bucket more of a sample
 pub counted_more : (counts : List ℕ) (start offset : ℕ) → start + offset < length counts

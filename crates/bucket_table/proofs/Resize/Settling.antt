@@ -1,6 +1,7 @@
 -- A resize after the minimum was set, and what it keeps of the map.
-use Rattle.bucket_table.proofs.Words.{ArePlaced, ArraysView, Bool, Err, IsEquivalence, IsOneMap, Keeps, MapState, Ok, Result}
-use Rattle.bucket_table.proofs.Words.{pairs_of, refl, ℕ, ◌+◌, ◌-◌, ◌≡◌}
+use Rattle.bucket_table.proofs.Words.{ArePlaced, ArraysView, Bool, Err, IsEquivalence, IsOneMap, Keeps, MapState, Ok, Result, arith}
+use Rattle.bucket_table.proofs.Words.{cases_lt, false_from_ne_true, if◌then◌else◌, inl, inr, le-leb, leb-true, nat_le, pairs_of, refl, ℕ}
+use Rattle.bucket_table.proofs.Words.{◌+◌, ◌-◌, ◌<◌, ◌≡◌, ◌≤◌}
 use Rattle.bucket_table.specs.Map.MapState.{LowersMinimum, RaisesMinimum, state_of}
 use Rattle.bucket_table.specs.Resize.Asking.{ResizesIf}
 use Rattle.bucket_table.specs.Resize.Resizing.{Releases, Reserves, Resizes, TriesResize, with_minimum}
@@ -31,6 +32,14 @@ module _ {K V : Type 0} where
       one_map_kept eq laws hash (with_minimum old least) new
       (record { distinct = one.distinct; placed = placed_with hash old least one.placed }) kept placed
 
+-- what is asked for is granted where there is room for it
+granted : (room wanted answer : ℕ) → (room < wanted → answer ≡ 0) → (wanted ≤ room → answer ≡ wanted)
+    → answer ≡ (if nat_le wanted room then wanted else 0)
+granted room wanted answer much fits = elim (cases_lt room wanted) [
+  | inl less ↦ rw (false_from_ne_true (nat_le wanted room) (λ e. let le = leb-true wanted room e in omega (arith, less, le))) (much less)
+  | inr le ↦ rw (le-leb wanted room le) (fits le)
+]
+
 module _ {K V H : Type 0} (kind : ℕ) (hasher : H) (old new : ArraysView K V) where
   abbrev state : ArraysView K V → MapState K V H
   state arrays = state_of kind (record { hasher = hasher; arrays = arrays })
@@ -42,15 +51,13 @@ module _ {K V H : Type 0} (kind : ℕ) (hasher : H) (old new : ArraysView K V) w
   pub raises : (additional answer : ℕ) → Reserves additional old answer new → Keeps (with_minimum old (old.minimum + answer)) new
       → RaisesMinimum additional (state old) answer (state new)
   raises additional answer reserves kept = record {
-    too_much = λ much. (reserves.too_much much).0;
-    raised = λ fits. (reserves.raised fits).0;
+    granted = granted (old.maximum - old.minimum) additional answer (λ much. (reserves.too_much much).0) (λ fits. (reserves.raised fits).0);
     kept = record { pairs = keeps_pairs _ _ kept; others = settled (old.minimum + answer) kept };
   }
 
   pub lowers : (released answer : ℕ) → Releases released old answer new → Keeps (with_minimum old (old.minimum - answer)) new
       → LowersMinimum released (state old) answer (state new)
   lowers released answer releases kept = record {
-    too_much = λ much. (releases.too_much much).0;
-    lowered = λ fits. (releases.lowered fits).0;
+    granted = granted old.minimum released answer (λ much. (releases.too_much much).0) (λ fits. (releases.lowered fits).0);
     kept = record { pairs = keeps_pairs _ _ kept; others = settled (old.minimum - answer) kept };
   }

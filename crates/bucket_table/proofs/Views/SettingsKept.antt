@@ -1,11 +1,11 @@
 -- The hasher, the capacities and the bag stay, one call after another.
 use Rattle.bucket_table.proofs.Words.{ArraysView, Bool, KeepsOpenTickets, KeepsPairs, TableView, ap, refl, ℕ, ◌∙◌, ◌≡◌}
-use Rattle.bucket_table.specs.Views.Keeping.{times_open}
 use Rattle.bucket_table.specs.Map.MapState.{state_of}
 use Rattle.bucket_table.specs.Views.Settings.{KeepsSettings}
 use Rattle.bucket_table.specs.Walking.Sweeps.{RetainsAt}
 use Rattle.bucket_table.proofs.Views.Keeping.{bag_both, bag_same}
 use Rattle.bucket_table.proofs.Map.MapKept.{hasher_kept, maximum_kept, minimum_kept}
+use Rattle.std.specs.Prelude.{count_by, ◌==◌}
 
 module _ {K V H : Type 0} where
   pub settings_same : (table : TableView K V H) → KeepsSettings table table
@@ -37,5 +37,5 @@ module _ {K V H : Type 0} where
     hasher = same;
     minimum = ap (λ (a : ArraysView K V). a.minimum) r.new_is;
     maximum = ap (λ (a : ArraysView K V). a.maximum) r.new_is;
-    bag = λ unit. ap (λ (a : ArraysView K V). times_open unit a.tickets) r.new_is;
+    bag = λ unit. ap (λ (a : ArraysView K V). count_by (λ other. other == unit) a.tickets.open_units) r.new_is;
   }

@@ -1,10 +1,15 @@
 -- Bounds on hashes, and where the buckets of an array begin.
-use Rattle.bucket_table.proofs.Words.{Bool, IsInInterval, IsInRange, IsLength, Meets, and_from, ap, arith, bound_of, cases_lt, false}
-use Rattle.bucket_table.proofs.Words.{false_from_ne_true, inl, inr, interval_width, le-leb, leb-true, lt-ltb, ltb-true, mul-le-mul_right}
+use Rattle.bucket_table.proofs.Words.{AllByRecursion, Bool, IsInInterval, IsInRange, IsLength, List, Meets, and_from, ap, arith, bound_of}
+use Rattle.bucket_table.proofs.Words.{cases_lt, false, false_from_ne_true}
+use Rattle.bucket_table.proofs.Words.{inl, inr, interval_width, le-leb, leb-true, lt-ltb, ltb-true, mul-le-mul_right}
 use Rattle.bucket_table.proofs.Words.{nat_le, nat_lt, subst, sym, true, ℕ, ◌&&◌, ◌*◌, ◌+◌, ◌-◌, ◌/◌, ◌<◌, ◌^◌, ◌↔◌, ◌∙◌, ◌≡◌, ◌≤◌}
 use Rattle.std.proofs.Math.Nat.{add-mul, div-mul-le_self, lt-div-mul-add, mul_comm, one-mul}
 use Rattle.std.proofs.lemmas.Bool.{and_parts}
 use Rattle.bucket_slots.proofs.PowersOfTwo.{exponent_le, power_parts, power_quotient}
+
+-- no pair has a hash from one bound up to below another
+abbrev pub HasNoneBetween : {K V : Type 0} → (K → ℕ) → ℕ → ℕ → List (K × V) → Type 0
+HasNoneBetween hash low high pairs = AllByRecursion (λ pair. low ≤ hash pair.0 → hash pair.0 < high → ⊥) pairs
 
 -- the hash is one of those of bucket `index`
 abbrev pub is_inside : ℕ → ℕ → ℕ → Bool

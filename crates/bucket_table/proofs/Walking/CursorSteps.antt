@@ -6,10 +6,10 @@ use Rattle.bucket_table.proofs.Words.{interval_width, length, length_permutation
 use Rattle.bucket_table.proofs.Words.{null_place, pairs_ahead, pairs_in, pairs_of, recursion_from_All, refl, subst, suc, sym, true≢false}
 use Rattle.bucket_table.proofs.Words.{zero, ℕ, ◌*◌, ◌++◌, ◌+◌, ◌<◌, ◌^◌, ◌∙◌, ◌∷◌, ◌≡◌, ◌≤◌, ◌⊎◌}
 use Rattle.bucket_slots.specs.Walking.{IsEnd}
-use Rattle.bucket_table.specs.Walking.Cursors.{HasNoneBetween, IsFirstFrom, IsFoundFrom, ReachesPast}
+use Rattle.bucket_table.specs.Walking.Cursors.{IsFirstFrom, IsFoundFrom, ReachesPast}
 use Rattle.bucket_table.specs.Map.LookingUp.{pairs_in_all}
 use Rattle.bucket_table.specs.declared.arrays.Missing.{Missing}
-use Rattle.bucket_table.proofs.Walking.Bounds.{all_hashes, is_in, is_inside, next_multiple, still_past, wide}
+use Rattle.bucket_table.proofs.Walking.Bounds.{HasNoneBetween, all_hashes, is_in, is_inside, next_multiple, still_past, wide}
 use Rattle.bucket_table.proofs.Walking.Each.{all_permuted, each_back, each_both, each_front, each_implies, each_map, none_pass, nothing}
 use Rattle.bucket_table.proofs.Walking.HomeSplit.{splits, taken_there}
 use Rattle.bucket_table.proofs.Views.Keeping.{kept_both, kept_none}

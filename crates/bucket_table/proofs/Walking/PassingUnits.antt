@@ -2,7 +2,7 @@
 use Rattle.bucket_table.proofs.Words.{AreSourcesKilled, ArraysView, Bool, Err, IsInInterval, IsLength, KeepsArrays, Ok, Result, WorksUnits}
 use Rattle.bucket_table.proofs.Words.{arith, bound_of, buckets_on, cases_lt, inl, inr, interval_width, length, refl, subst, sym, ℕ, ◌+◌}
 use Rattle.bucket_table.proofs.Words.{◌-◌, ◌<◌, ◌^◌, ◌∙◌, ◌≡◌, ◌≤◌}
-use Rattle.bucket_table.specs.Walking.Cursors.{AreKilledFor, Passes, ShrinksThenPasses, viewed}
+use Rattle.bucket_table.specs.Walking.Cursors.{AreKilledFor, Passes, ShrinksThenPasses}
 use Rattle.bucket_table.specs.declared.arrays.Missing.{Missing}
 use Rattle.bucket_table.specs.declared.arrays.Missing.TheVariants.{Memory, Nothing}
 use Rattle.bucket_table.proofs.Walking.Bounds.{all_hashes, wide}
@@ -10,6 +10,7 @@ use Rattle.bucket_table.proofs.Views.Keeping.{kept_none, stay_killed_same}
 use Rattle.bucket_table.proofs.Rehash.Spending.{spends_same}
 use Rattle.bucket_table.proofs.Rehash.StayingKilled.{sources_still}
 use Rattle.bucket_table.proofs.Rehash.UnitRuns.{no_units, units_alone, units_both}
+use Rattle.std.specs.Result.{result_map_both}
 
 module _ {K V : Type 0} where
   -- what a cursor on its way has worked
@@ -149,7 +150,7 @@ module _ {K V : Type 0} where
 -- the same answer, with a view of what was found
 module _ {K V A B : Type 0} (f : A → B) (g : B → ℕ) where
   passes_viewed : (r : Result A Missing) (bound : ℕ) (old new : ArraysView K V)
-      → Passes (λ (a : A). g (f a)) bound old r new → Passes g bound old (viewed f r) new
+      → Passes (λ (a : A). g (f a)) bound old r new → Passes g bound old (result_map_both f (λ missing. missing) r) new
   passes_viewed (Ok found) bound old new p = record {
     from = p.from;
     passed = p.passed;
@@ -172,7 +173,8 @@ module _ {K V A B : Type 0} (f : A → B) (g : B → ℕ) where
   }
 
   pub departs_viewed : (r : Result A Missing) (side : Bool) (index : ℕ) (old new : ArraysView K V)
-      → ShrinksThenPasses (λ (a : A). g (f a)) side index old r new → ShrinksThenPasses g side index old (viewed f r) new
+      → ShrinksThenPasses (λ (a : A). g (f a)) side index old r new
+      → ShrinksThenPasses g side index old (result_map_both f (λ missing. missing) r) new
   departs_viewed r side index old new d = record {
     between = d.between;
     asked = d.asked;

@@ -10,9 +10,8 @@ use Rattle.std.proofs.lemmas.Bool.{or_from, or_left, or_right}
 use Rattle.std.proofs.lemmas.List.{append-nil}
 use Rattle.std.proofs.lemmas.List.Elements.{filter_passes}
 use Rattle.std.proofs.lemmas.List.Sorted.{IsPermutation-filter_both}
-use Rattle.bucket_table.specs.Walking.Cursors.{HasNoneBetween}
 use Rattle.bucket_table.specs.Walking.Retains.{IsSwept, IsSweptBelow, Retains}
-use Rattle.bucket_table.proofs.Walking.Bounds.{bounds, is_in, is_inside}
+use Rattle.bucket_table.proofs.Walking.Bounds.{HasNoneBetween, bounds, is_in, is_inside}
 use Rattle.bucket_table.proofs.Walking.Each.{all_permuted, each_append, each_both, each_filter, each_front, each_implies, each_map}
 use Rattle.bucket_table.proofs.Walking.Filters.{IsPermutation-filter, filter_all, filter_none}
 use Rattle.bucket_table.proofs.Walking.Retaining.{pairs_moved}

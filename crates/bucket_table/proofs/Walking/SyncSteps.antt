@@ -2,11 +2,12 @@
 use Rattle.bucket_table.proofs.Words.{ArraysView, AsksShrinking, Bool, Err, HasNoneFrom, IsLocked, IsPermutation-sym, Keeps, List, Ok}
 use Rattle.bucket_table.proofs.Words.{Place, Result, TableView, [], ap, bound_of, bucket_on, buckets_on, inl, inr, length, null_place}
 use Rattle.bucket_table.proofs.Words.{pairs_ahead, pairs_in, pairs_of, refl, subst, sym, ℕ, ◌+◌, ◌<◌, ◌∙◌, ◌∷◌, ◌≡◌, ◌≢◌, ◌⊎◌}
-use Rattle.bucket_table.specs.Walking.Cursors.{Advances, LeavesTo, ShrinksThenPasses, Stays}
+use Rattle.bucket_table.specs.Walking.Cursors.{Advances, LeavesTo, ShrinksThenPasses}
 use Rattle.bucket_table.specs.declared.arrays.Missing.{Missing}
 use Rattle.bucket_table.specs.declared.arrays.Missing.TheVariants.{Memory, Nothing}
 use Rattle.bucket_table.proofs.Walking.Each.{all_permuted}
 use Rattle.bucket_table.proofs.Map.MapKept.{state_found}
+use Rattle.bucket_slots.specs.Walking.{MovesToNext}
 
 some_or_none : {A : Type 0} (xs : List A) → (xs ≡ []) ⊎ (xs ≢ [])
 some_or_none [] = inl refl
@@ -15,7 +16,7 @@ some_or_none (x ∷ xs) = inr (λ e. cc)
 module _ {K V H : Type 0} (kind : ℕ) (hash : H → K → ℕ) (side : Bool) (index : ℕ) (from to : Place) where
   -- what a cursor does in the arrays is what it does in the table
   pub advances : (hasher : H) (a : ArraysView K V) (r : Result (Bool × ℕ) Missing) (new : ArraysView K V) → Keeps a new
-      → (pairs_ahead (bucket_on a side index) from ≢ [] → Stays side index a from r new to)
+      → (pairs_ahead (bucket_on a side index) from ≢ [] → (r ≡ Ok (side, index)) × (new ≡ a) × MovesToNext (bucket_on a side index) from to)
       → (pairs_ahead (bucket_on a side index) from ≡ []
       → LeavesTo (hash hasher) (bound_of (length (buckets_on a side)) (index + 1)) r new to)
       → (pairs_ahead (bucket_on a side index) from ≡ [] → ShrinksThenPasses (λ to. to.1) side index a r new)
@@ -38,15 +39,16 @@ module _ {K V H : Type 0} (kind : ℕ) (hash : H → K → ℕ) (side : Bool) (i
         subst (λ (b : Bool). IsLocked new.arrays b found.1) (sym h.0) h.1.locked
     | inr some ↦
         let s = a.stays some in
+        let answer = s.0 in
         let same : found ≡ (side, index) = cc in
-        subst (λ (p : ArraysView K V). IsLocked p found.0 found.1) (sym s.unchanged)
+        subst (λ (p : ArraysView K V). IsLocked p found.0 found.1) (sym s.1)
         (subst (λ (p : Bool × ℕ). IsLocked old.arrays p.0 p.1) (sym same) locked)
   ]
 
   module _ (old new : TableView K V H) (missing : Missing) (a : Advances kind hash old side index from (Err missing) to new) where
     -- where something is ahead, it stays
     pub not_held : pairs_ahead (bucket_on old.arrays side index) from ≢ [] → ⊥
-    not_held some = let answer = (a.stays some).answer in absurd cc
+    not_held some = let answer = (a.stays some).0 in absurd cc
 
     -- without a next one the pointer is null
     pub none_null : to ≡ null_place

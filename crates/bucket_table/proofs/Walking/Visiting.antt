@@ -10,7 +10,7 @@ use Rattle.bucket_table.proofs.Words.{◌≡◌, ◌≤◌}
 use Rattle.bucket_table.specs.Resize.Asking.{ResizesIf}
 use Rattle.bucket_table.specs.Walking.Cursors.{AreKilledFor}
 use Rattle.bucket_table.specs.Views.Settings.{KeepsSettings}
-use Rattle.bucket_table.specs.Walking.Walks.{BeginsAt, EndsWell, IsKeptBy, IsVisitOf, KeepsBuckets, WalksBy, keys_in}
+use Rattle.bucket_table.specs.Walking.Walks.{BeginsAt, EndsWalk, IsKeptBy, IsVisitOf, KeepsBuckets, WalksBy, keys_in}
 use Rattle.bucket_table.proofs.Walking.Bounds.{is_in}
 use Rattle.bucket_table.proofs.Walking.Each.{all_permuted, each_back, each_implies, each_map, each_unmap, map_append}
 use Rattle.bucket_table.proofs.Walking.HomeSplit.{changed_there, splits, taken_there}
@@ -213,7 +213,7 @@ module _ {S K V : Type 0} (step : S → BucketView K V → Bool → Bool → Buc
   -- and so does the array's end, or the visitor
   pub walk_ended : {A E : Type 0} (a : A) (expected start : ℕ) (first now : S)
       (old table new : ArraysView K V) (from index : ℕ) (flag more : Bool) → BeginsAt (length old.current) expected start from
-      → WalkStands first now old from index flag more table → (more ≡ true → length table.current ≤ index) → EndsWell flag table new
+      → WalkStands first now old from index flag more table → (more ≡ true → length table.current ≤ index) → EndsWalk flag table new
       → WalksBy {E = E} step hash expected start first old (Ok a) now new
   walk_ended a expected start first now old table new from index flag more at w over ends = record {
     from = from;
@@ -268,9 +268,9 @@ module _ {K V H : Type 0} where
       locked_current ready index (omega (arith, same, seen, below)) dead
 
 module _ {K V : Type 0} where
-  pub unshrunk : (flag : Bool) (arrays : ArraysView K V) → flag ≡ false → EndsWell flag arrays arrays
-  unshrunk flag arrays is = subst (λ (f : Bool). EndsWell f arrays arrays) (sym is) refl
+  pub unshrunk : (flag : Bool) (arrays : ArraysView K V) → flag ≡ false → EndsWalk flag arrays arrays
+  unshrunk flag arrays is = subst (λ (f : Bool). EndsWalk f arrays arrays) (sym is) refl
 
   pub shrunk_at_end : (flag : Bool) (ended new : ArraysView K V) → flag ≡ true
-      → ResizesIf (AsksShrinking ended 0) ended new → Keeps ended new → EndsWell flag ended new
-  shrunk_at_end flag ended new is resized kept = subst (λ (f : Bool). EndsWell f ended new) (sym is) (resized, kept)
+      → ResizesIf (AsksShrinking ended 0) ended new → Keeps ended new → EndsWalk flag ended new
+  shrunk_at_end flag ended new is resized kept = subst (λ (f : Bool). EndsWalk f ended new) (sym is) (resized, kept)

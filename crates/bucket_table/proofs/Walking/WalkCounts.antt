@@ -3,15 +3,14 @@ use Rattle.bucket_table.proofs.Words.{ArraysView, Bool, BucketView, Err, IsLengt
 use Rattle.bucket_table.proofs.Words.{TableView, [], ap, arith, bound_of, cases_lt, counted, counted_to, false, false_from_ne_true, filter}
 use Rattle.bucket_table.proofs.Words.{filter_agree, has_home_in, inl, inr, length, length_permutation, lt-ltb, ltb-true, map, marks_in, min}
 use Rattle.bucket_table.proofs.Words.{nat_le, nat_lt, not, pairs_in, pairs_of, reading, refl, set, subst, sym, true, true≢false, ℕ, ◌++◌}
-use Rattle.bucket_table.proofs.Words.{◌+◌, ◌-◌, ◌<◌, ◌^◌, ◌∙◌, ◌∷◌, ◌≡◌, ◌≤◌}
+use Rattle.bucket_table.proofs.Words.{◌+◌, ◌-◌, ◌<◌, ◌^◌, ◌∙◌, ◌∷◌, ◌≡◌, ◌≤◌, ◌⊎◌}
 use Rattle.std.proofs.Common.{◌||◌}
 use Rattle.std.proofs.lemmas.List.{append-nil}
-use Rattle.bucket_table.specs.Scripts.Clearing.{ClearsAll, ClearsBelow}
-use Rattle.bucket_table.specs.Map.MapState.{state_of}
+use Rattle.bucket_table.specs.Map.MapState.{Becomes, state_of}
 use Rattle.bucket_table.specs.Walking.Retains.{Retains}
 use Rattle.bucket_table.specs.Scripts.Tallying.{Empties, Tallies, sum_to}
 use Rattle.bucket_table.specs.Walking.Visits.{AreCalls, HasStopped, Visited}
-use Rattle.bucket_table.specs.Walking.Walks.{EndsWell, IsWalk, IsWhole, KeepsBuckets, WalksBy, keys_in, pairs_left}
+use Rattle.bucket_table.specs.Walking.Walks.{EndsWalk, IsWalk, KeepsBuckets, WalksBy, keys_in, pairs_left}
 use Rattle.bucket_table.proofs.Walking.Each.{nothing}
 use Rattle.bucket_table.proofs.Views.Killed.{no_entries}
 use Rattle.bucket_table.proofs.Walking.LentPairs.{all_from, counted_from, is_from, lent_len, none_past, outside_is_from}
@@ -19,8 +18,12 @@ use Rattle.bucket_table.proofs.Map.MapKept.{others_than_pairs, pairs_kept}
 use Rattle.bucket_table.proofs.Walking.Retaining.{retains_none}
 
 module _ {K V : Type 0} where
+  -- the walk came to the array's end, or was stopped
+  abbrev pub IsWhole : ArraysView K V → ℕ → List (Visited (BucketView K V)) → Type 0
+  IsWhole old start visits = (length old.current ≤ start + length visits) ⊎ HasStopped visits
+
   -- what the resize at the end leaves
-  ended_pairs : (flag : Bool) (ended new : ArraysView K V) → EndsWell flag ended new → IsPermutation (pairs_of ended) (pairs_of new)
+  ended_pairs : (flag : Bool) (ended new : ArraysView K V) → EndsWalk flag ended new → IsPermutation (pairs_of ended) (pairs_of new)
   ended_pairs true ended new ends = pairs_kept _ _ ends.1.pairs
   ended_pairs false ended new ends = subst (λ (a : ArraysView K V). IsPermutation (pairs_of ended) (pairs_of a)) (sym ends)
       (IsPermutation-refl (pairs_of ended))
@@ -208,7 +211,8 @@ module _ {S K V : Type 0} (epoch count : S → ℕ) where
 module _ {K V H : Type 0} (kind : ℕ) (t s : TableView K V H) (hasher : s.hasher ≡ t.hasher) where
   -- the map of a table whose pairs went, or went in part
   pub clears_all : (count : ℕ) → s.arrays.minimum ≡ t.arrays.minimum → s.arrays.maximum ≡ t.arrays.maximum
-      → (pairs_of s.arrays ≡ []) × (count ≡ counted_to (pairs_of t.arrays)) → ClearsAll (state_of kind t) count (state_of kind s)
+      → (pairs_of s.arrays ≡ []) × (count ≡ counted_to (pairs_of t.arrays))
+      → (count ≡ counted_to (pairs_of t.arrays)) × (state_of kind s ≡ record (state_of kind t) { pairs = [] })
   clears_all count minimum maximum (none, counted) = (
     counted,
     others_than_pairs kind t s hasher minimum maximum ∙ ap (λ (ps : List (K × V)). record (state_of kind t) { pairs = ps }) none,
@@ -216,6 +220,7 @@ module _ {K V H : Type 0} (kind : ℕ) (t s : TableView K V H) (hasher : s.hashe
 
   pub clears_below : (hash : H → K → ℕ) → s.arrays.minimum ≡ t.arrays.minimum → s.arrays.maximum ≡ t.arrays.maximum
       → ((bound : ℕ) × IsPermutation (filter (λ pair. nat_le bound (hash t.hasher pair.0)) (pairs_of t.arrays)) (pairs_of s.arrays))
-      → ClearsBelow hash (state_of kind t) (state_of kind s)
+      → (bound : ℕ) × Becomes (state_of kind t) (filter (λ pair. nat_le bound (hash t.hasher pair.0)) (pairs_of t.arrays))
+      (state_of kind s)
   clears_below hash minimum maximum (bound, left) =
       (bound, record { pairs = left; others = others_than_pairs kind t s hasher minimum maximum })

@@ -10,7 +10,11 @@ use Rattle.bucket_slots.specs.Placing.{place_for_next, slots_with}
 use Rattle.bucket_slots.specs.Slots.{live_pair}
 use Rattle.bucket_table.specs.declared.arrays.moving.Landing.{Landing}
 use Rattle.bucket_table.specs.Layout.Landings.{landings_with}
-use Rattle.bucket_table.specs.Rehash.Relocation.{AreHome, HasOwnByte, HasRoomFor, IsWay, home_of}
+use Rattle.bucket_table.specs.Rehash.Relocation.{AreHome, HasRoomFor, IsWay, home_of}
+
+-- the entry's byte is the low byte of its key's hash
+abbrev pub HasOwnByte : {K V : Type 0} → (K → ℕ) → (K × V) × ℕ → Type 0
+HasOwnByte hash entry = entry.1 ≡ hash entry.0.0 % 256
 
 -- the pairs of a bucket can move into an array: each has its own byte and its home in a range of buckets, and there is room for all;
 -- those of the array are at home, and no bucket of it is killed

@@ -21,8 +21,7 @@ pub record MakesReady {K V : Type 0} (old : ArraysView K V) (index : ℕ) (new :
 -- and then they may grow: the answer says whether a growth was done, and it is done only where the bucket asks for it;
 -- a caller that needs it unfolds it, since the search of one that doesn't would go through all of it
 unfoldable pub ReadiesThenGrows : {K V : Type 0} → ℕ → ℕ → ArraysView K V → Bool → ℕ → ArraysView K V → Type 0
-ReadiesThenGrows {K} {V} kind hash old is_old index new =
-    (between : ArraysView K V) × MakesReady old index between
+ReadiesThenGrows {K} {V} kind hash old is_old index new = (between : ArraysView K V) × MakesReady old index between
     × ResizesIf (WriterAsksGrowth kind hash between index) between new × Grows is_old between new
 
 -- no bucket is found: a unit was worked; without an old array there was no current one either, and all stays

@@ -13,6 +13,5 @@ pub record MayLockAtOnce {K V : Type 0} (is_checked : Bool) (arrays : ArraysView
 
 -- there is no array, or an old one stands, or it is asked and the hash's home has 32 live pairs or more
 abbrev pub MayNotLockAtOnce : {K V : Type 0} → Bool → ArraysView K V → ℕ → Type 0
-MayNotLockAtOnce is_checked arrays hash =
-    (length arrays.current ≡ 0) ⊎ (0 < length arrays.linked
+MayNotLockAtOnce is_checked arrays hash = (length arrays.current ≡ 0) ⊎ (0 < length arrays.linked
     ⊎ ((is_checked ≡ true) × ((index : ℕ) × IsHome (length arrays.current) hash index × (32 ≤ length (pairs_in (bucket_on arrays false index))))))

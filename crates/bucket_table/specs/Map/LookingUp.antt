@@ -1,8 +1,8 @@
 -- What a look-up in the arrays answers.
-use Rattle.std.specs.Prelude.{ℕ, ◌≡◌, ◌+◌, ◌%◌, ◌++◌, Bool, true, false, Option, Some, None, List, [], ◌∷◌, length}
+use Rattle.std.specs.Prelude.{ℕ, ◌≡◌, ◌+◌, ◌%◌, ◌++◌, Bool, true, false, Option, List, [], ◌∷◌, length}
 use Rattle.std.specs.Borrow.{Bor}
 use Rattle.std.specs.List.{All, Contains}
-use Rattle.std.specs.Option.{option_or}
+use Rattle.std.specs.Option.{option_copied, option_or, unwrap_or}
 use Rattle.bucket_slots.specs.ArrayView.{bucket_at}
 use Rattle.bucket_slots.specs.BucketView.{BucketView, pairs_in}
 use Rattle.bucket_slots.specs.Searching.{matching_len, pair_wanted}
@@ -12,14 +12,6 @@ use Rattle.bucket_table.specs.Rehash.Relocation.{home_of}
 abbrev pub pairs_in_all : {K V : Type 0} → List (BucketView K V) → List (K × V)
 pairs_in_all [] = []
 pairs_in_all (bucket ∷ buckets) = pairs_in bucket ++ pairs_in_all buckets
-
--- no pair's key is wanted
-abbrev pub AreUnwanted : {K V : Type 0} → (K → Bool) → List (K × V) → Type 0
-AreUnwanted wants pairs = All (λ pair. wants pair.0 ≡ false) pairs
-
--- the pair is one of the pairs, and its key is wanted
-abbrev pub IsWantedOf : {K V : Type 0} → (K → Bool) → List (K × V) → K × V → Type 0
-IsWantedOf wants pairs pair = Contains pairs pair × (wants pair.0 ≡ true)
 
 -- no pair's key is equal to the key
 abbrev pub IsAbsent : {K V : Type 0} → (K → K → Bool) → K → List (K × V) → Type 0
@@ -35,8 +27,7 @@ home_bucket hash buckets = bucket_at buckets (home_of (length buckets) hash)
 
 -- the buckets of an array that is lent, none where none is
 abbrev pub lent_buckets : {K V : Type 0} → Option (Bor (List (BucketView K V))) → List (BucketView K V)
-lent_buckets None = []
-lent_buckets (Some array) = array.now
+lent_buckets lent = unwrap_or (option_copied lent) []
 
 -- the pair that a look-up of a hash finds: the first wanted one of its old home, else of its current one
 abbrev pub pair_looked_up : {K V : Type 0} → (K → Bool) → ℕ → List (BucketView K V) → List (BucketView K V) → Option (K × V)

@@ -1,5 +1,5 @@
 -- The map that a table is, apart from its layout, and what a call may do to it.
-use Rattle.std.specs.Prelude.{ℕ, ◌+◌, ◌-◌, ◌<◌, ◌≤◌, ◌≡◌, List, ◌∷◌}
+use Rattle.std.specs.Prelude.{ℕ, ◌+◌, ◌-◌, ◌≡◌, List, ◌∷◌, if◌then◌else◌, nat_le}
 use Rattle.std.specs.List.Sorted.{IsPermutation}
 use Rattle.bucket_table.specs.Views.ArraysView.{TableView, pairs_of}
 
@@ -27,14 +27,12 @@ KeepsPairs old new = Becomes old old.pairs new
 
 -- the minimum is raised by the answer: what was asked for, or nothing where it would pass the maximum; nothing else changes
 pub record RaisesMinimum {K V H : Type 0} (additional : ℕ) (old : MapState K V H) (answer : ℕ) (new : MapState K V H) : Type 0 where
-  pub too_much : old.maximum - old.minimum < additional → answer ≡ 0
-  pub raised : additional ≤ old.maximum - old.minimum → answer ≡ additional
+  pub granted : answer ≡ (if nat_le additional (old.maximum - old.minimum) then additional else 0)
   pub kept : KeepsPairs (record old { minimum = old.minimum + answer }) new
 
 -- the minimum is lowered by the answer: what was asked for, or nothing where that exceeds it; nothing else changes
 pub record LowersMinimum {K V H : Type 0} (released : ℕ) (old : MapState K V H) (answer : ℕ) (new : MapState K V H) : Type 0 where
-  pub too_much : old.minimum < released → answer ≡ 0
-  pub lowered : released ≤ old.minimum → answer ≡ released
+  pub granted : answer ≡ (if nat_le released old.minimum then released else 0)
   pub kept : KeepsPairs (record old { minimum = old.minimum - answer }) new
 
 -- one pair more, and nothing else

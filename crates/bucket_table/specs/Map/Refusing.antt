@@ -12,11 +12,6 @@ pub record IsRefused {K V H : Type 0} (kind : ℕ) (old after : TableView K V H)
   pub alone : length old.arrays.linked ≡ 0 → length old.arrays.current ≡ 0
   pub no_array : length old.arrays.current ≡ 0 → length after.arrays.current ≡ 0
 
--- it is refused for want of memory
-abbrev pub LacksMemory : {A : Type 0} → Result A Missing → Type 0
-LacksMemory (Ok x) = ⊥
-LacksMemory (Err missing) = missing ≡ Memory
-
 -- a bucket is given where a current array stands; nothing is there only where none does, and memory is wanted only
 -- beside an old one
 abbrev pub IsGivenFor : {A K V : Type 0} → Result A Missing → ArraysView K V → Type 0

@@ -11,6 +11,5 @@ has_own_key eq bucket key = list_any (λ pair. eq key pair.0) (live_pairs bucket
 
 -- each bucket lists its own pairs, followed by the source's listed pairs that stand in its own slots now, in the source's order
 abbrev pub CarriesPairs : {K V : Type 0} → (K → K → Bool) → BucketView K V → List (BucketView K V) → List (BucketView K V) → Type 0
-CarriesPairs eq source current new_current =
-    (j : ℕ) → listed_pairs (bucket_at new_current j)
+CarriesPairs eq source current new_current = (j : ℕ) → listed_pairs (bucket_at new_current j)
     ≡ listed_pairs (bucket_at current j) ++ filter (λ pair. has_own_key eq (bucket_at new_current j) pair.0) (listed_pairs source)

@@ -20,7 +20,3 @@ pub record IsCovered (killed : List Bool) (state : TicketState) : Type 0 where
   pub same_len : length killed ≡ state.len
   pub units_in_range : All (λ unit. 64 * unit < state.len) state.open_units
   pub done_or_open : (unit : ℕ) → unit < state.position → IsUnitKilled killed unit ⊎ Contains state.open_units unit
-
--- some unit is left to hand out or handed out
-abbrev pub IsGoingOn : TicketState → Type 0
-IsGoingOn state = (64 * state.position < state.len) ⊎ ((unit : ℕ) × Contains state.open_units unit)

@@ -1,33 +1,33 @@
 -- What the calls of a rehash do to a table's old array and its tickets.
-use Rattle.std.specs.Prelude.{ℕ, ◌/◌, ◌≡◌, Bool, true, [], Result, Ok, slice_set}
-use Rattle.bucket_slots.specs.BucketView.{BucketView}
+use Rattle.std.specs.Prelude.{ℕ, ◌/◌, ◌≡◌, Bool, true, [], Result, Ok, length, slice_set}
+use Rattle.bucket_slots.specs.ArrayView.{bucket_at}
+use Rattle.bucket_slots.specs.BucketView.{BucketView, pairs_in}
+use Rattle.bucket_slots.specs.Homes.{Meets}
 use Rattle.bucket_table.specs.Views.ArraysView.{ArraysView, killed_flags}
-use Rattle.bucket_table.specs.Rehash.Relocation.{IsRelocated, KeepsEntries}
+use Rattle.bucket_table.specs.Rehash.Relocation.{KeepsEntries}
 use Rattle.bucket_table.specs.Rehash.Covered.{AreAllKilled, IsUnitKilled}
 use Rattle.bucket_table.specs.Rehash.State.{TicketState, first_tickets}
 use Rattle.bucket_table.specs.Rehash.Steps.{Ends}
 use Rattle.bucket_table.specs.Views.Keeping.{KeepsArrays}
 use Rattle.bucket_table.specs.declared.tickets.TicketError.{TicketError}
 
--- a ticket ends as its unit's buckets are killed
-abbrev pub EndsBy : {K V : Type 0} → ArraysView K V → ℕ → Bool → Result Bool TicketError → TicketState → Type 0
-EndsBy arrays ticket success answer after =
-    Ends arrays.tickets ticket success (IsUnitKilled (killed_flags arrays.linked) (ticket / 2048)) answer after
-
--- a ticket is ended; the old array goes where nothing of it is left to do
+-- a ticket ends as its unit's buckets are killed; the old array goes where nothing of it is left to do
 abbrev pub EndsRehash : {K V : Type 0} → ArraysView K V → ℕ → Bool → Result Bool TicketError → ArraysView K V → Type 0
 EndsRehash old ticket success (Ok true) new =
-    ((last : TicketState) × EndsBy old ticket success (Ok true) last) × AreAllKilled (killed_flags old.linked)
-    × (new ≡ record old { linked = []; tickets = first_tickets 0 })
-EndsRehash old ticket success answer new = EndsBy old ticket success answer new.tickets × (new ≡ record old { tickets = new.tickets })
+    ((last : TicketState) × Ends old.tickets ticket success (IsUnitKilled (killed_flags old.linked) (ticket / 2048)) (Ok true) last)
+    × AreAllKilled (killed_flags old.linked) × (new ≡ record old { linked = []; tickets = first_tickets 0 })
+EndsRehash old ticket success answer new =
+    Ends old.tickets ticket success (IsUnitKilled (killed_flags old.linked) (ticket / 2048)) answer new.tickets
+    × (new ≡ record old { tickets = new.tickets })
 
--- the old bucket is killed, its pairs stand in the current array, and no other old bucket changes
+-- the old bucket is killed and empty, its pairs stand in the current array, and no other bucket changes but its targets
 pub record RelocatesAt {K V : Type 0} (index : ℕ) (old new : ArraysView K V) : Type 0 where
   pub bucket : BucketView K V
   pub is_killed : bucket.killed ≡ true
+  pub empty : pairs_in bucket ≡ []
   pub linked_is : new.linked ≡ slice_set old.linked index bucket
   pub tickets_are : new.tickets ≡ old.tickets
-  pub moved : IsRelocated index old.current old.linked new.current new.linked
+  pub others : (j : ℕ) → (Meets (length old.linked) index (length old.current) j → ⊥) → bucket_at new.current j ≡ bucket_at old.current j
   pub kept : KeepsArrays old new
 
 -- the old array and the pairs stay

@@ -1,5 +1,5 @@
 -- Two arrays while a rehash is on: where their pairs stand, and what becomes of them when a bucket's pairs move on.
-use Rattle.std.specs.Prelude.{ℕ, ◌≡◌, ◌==◌, ◌<◌, ◌≤◌, ◌%◌, ◌/◌, ◌++◌, true, false, List, [], ◌∷◌, flat_map, length}
+use Rattle.std.specs.Prelude.{ℕ, ◌≡◌, ◌==◌, ◌<◌, ◌≤◌, ◌%◌, ◌/◌, ◌++◌, true, false, List, [], flat_map, length}
 use Rattle.std.specs.List.{All, count_by}
 use Rattle.std.specs.List.Sorted.{IsPermutation}
 use Rattle.bucket_slots.specs.ArrayView.{bucket_at}
@@ -11,8 +11,7 @@ use Rattle.bucket_slots.specs.Slots.{all_free}
 
 -- the live pairs of some buckets with their bytes, bucket after bucket
 abbrev pub entries_among : {K V : Type 0} → List (BucketView K V) → List ((K × V) × ℕ)
-entries_among [] = []
-entries_among (bucket ∷ buckets) = entries_in bucket ++ entries_among buckets
+entries_among buckets = flat_map entries_in buckets
 
 -- the marked pairs of some buckets with their epochs, bucket after bucket
 abbrev pub marks_among : {K V : Type 0} → List (BucketView K V) → List ((K × V) × ℕ)
@@ -22,14 +21,10 @@ marks_among buckets = flat_map marks_in buckets
 abbrev pub home_of : ℕ → ℕ → ℕ
 home_of len hash = hash / interval_width len
 
--- the entry's byte is the low byte of its key's hash
-abbrev pub HasOwnByte : {K V : Type 0} → (K → ℕ) → (K × V) × ℕ → Type 0
-HasOwnByte hash entry = entry.1 ≡ hash entry.0.0 % 256
-
--- the entry stands in its home, with its byte
+-- the entry stands in its home, with the low byte of its key's hash
 pub record IsEntryHome {K V : Type 0} (hash : K → ℕ) (len index : ℕ) (entry : (K × V) × ℕ) : Type 0 where
   pub home : IsHome len (hash entry.0.0) index
-  pub own_byte : HasOwnByte hash entry
+  pub own_byte : entry.1 ≡ hash entry.0.0 % 256
 
 -- where a pair goes in an array: its home's index, and a number with the low byte of its hash
 pub record IsWay {K V : Type 0} (hash : K → ℕ) (len : ℕ) (pair : K × V) (index number : ℕ) : Type 0 where
@@ -38,8 +33,7 @@ pub record IsWay {K V : Type 0} (hash : K → ℕ) (len : ℕ) (pair : K × V) (
 
 -- each live pair of an array stands in its home, with its byte
 abbrev pub AreHome : {K V : Type 0} → (K → ℕ) → List (BucketView K V) → Type 0
-AreHome hash buckets =
-    (i : ℕ) → i < length buckets → All (IsEntryHome hash (length buckets) i) (entries_in (bucket_at buckets i))
+AreHome hash buckets = (i : ℕ) → i < length buckets → All (IsEntryHome hash (length buckets) i) (entries_in (bucket_at buckets i))
 
 -- how many of the pairs have their home in bucket `index` of an array of this length
 abbrev pub homed_len : {K V : Type 0} → (K → ℕ) → ℕ → ℕ → List (K × V) → ℕ

@@ -20,10 +20,6 @@ word_of state = 2048 * state.position + length state.open_units
 abbrev pub IsOpen : TicketState → ℕ → Type 0
 IsOpen state ticket = (unit : ℕ) × (ticket ≡ 2048 * unit) × Contains state.open_units unit
 
--- every unit was handed out
-abbrev pub IsHandedOut : TicketState → Type 0
-IsHandedOut state = state.len ≤ 64 * state.position
-
 -- what a count of tickets and a position keep
 pub record IsTicketState (state : TicketState) : Type 0 where
   pub few_buckets : state.len ≤ 2 ^ 58

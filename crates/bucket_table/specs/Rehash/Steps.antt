@@ -1,8 +1,8 @@
 -- Starting and ending a ticket.
-use Rattle.std.specs.Prelude.{ℕ, ◌+◌, ◌*◌, ◌<◌, ◌≡◌, ◌↔◌, ◌⊎◌, Bool, true, IsTrue, [], ◌∷◌, if◌then◌else◌, length, min, Option, Some, None}
-use Rattle.std.specs.Prelude.{Result, Ok, Err}
+use Rattle.std.specs.Prelude.{ℕ, ◌+◌, ◌*◌, ◌<◌, ◌≤◌, ◌≡◌, ◌↔◌, ◌⊎◌, Bool, true, IsTrue, [], ◌∷◌, if◌then◌else◌, length, min}
+use Rattle.std.specs.Prelude.{Option, Some, None, Result, Ok, Err}
 use Rattle.std.specs.List.Sorted.{IsPermutation}
-use Rattle.bucket_table.specs.Rehash.State.{TicketState, IsOpen, IsHandedOut}
+use Rattle.bucket_table.specs.Rehash.State.{TicketState, IsOpen}
 use Rattle.bucket_table.specs.declared.tickets.TicketError.{TicketError}
 use Rattle.bucket_table.specs.declared.tickets.TicketError.TheVariants.{NotOpen, NotDone}
 
@@ -16,7 +16,7 @@ pub record HandsOut (before : TicketState) (ticket : ℕ) (after : TicketState) 
   pub same_len : after.len ≡ before.len
 
 abbrev pub Starts : TicketState → Option ℕ → TicketState → Type 0
-Starts before None after = (IsHandedOut before ⊎ (length before.open_units ≡ 2047)) × (after ≡ before)
+Starts before None after = ((before.len ≤ 64 * before.position) ⊎ (length before.open_units ≡ 2047)) × (after ≡ before)
 Starts before (Some ticket) after = HandsOut before ticket after
 
 -- one ticket of the unit is closed, and a unit that failed is handed out again
@@ -27,7 +27,7 @@ pub record Closes (before : TicketState) (unit : ℕ) (success : Bool) (after : 
 
 -- no unit is left, neither open nor to hand out
 abbrev pub IsOver : TicketState → Type 0
-IsOver state = (state.open_units ≡ []) × IsHandedOut state
+IsOver state = (state.open_units ≡ []) × (state.len ≤ 64 * state.position)
 
 -- `Done` says that each bucket of the ticket's unit is killed, and the answer whether the old array goes
 abbrev pub Ends : TicketState → ℕ → Bool → Type 0 → Result Bool TicketError → TicketState → Type 0

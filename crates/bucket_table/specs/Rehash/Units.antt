@@ -35,13 +35,9 @@ pub record NeedsNoMemory {K V : Type 0} (start end : ℕ) (arrays : ArraysView K
   pub no_shorter : length arrays.linked ≤ length arrays.current
   pub few : (i : ℕ) → start ≤ i → i < end → length (pairs_in (bucket_at arrays.linked i)) ≤ 32
 
--- a bucket whose pairs have moved on
-abbrev pub IsSpent : {K V : Type 0} → BucketView K V → Type 0
-IsSpent bucket = (bucket.killed ≡ true) × (pairs_in bucket ≡ [])
-
--- each bucket is as it was, or its pairs have moved on
+-- each bucket is as it was, or its pairs have moved on: it is killed and has none
 abbrev pub SpendsSome : {K V : Type 0} → List (BucketView K V) → List (BucketView K V) → Type 0
-SpendsSome was is = (i : ℕ) → (bucket_at is i ≡ bucket_at was i) ⊎ IsSpent (bucket_at is i)
+SpendsSome was is = (i : ℕ) → (bucket_at is i ≡ bucket_at was i) ⊎ (((bucket_at is i).killed ≡ true) × (pairs_in (bucket_at is i) ≡ []))
 
 -- the next units of the old array, as many as `count`, are easy: the bag has room for a ticket, and no memory is needed
 pub record UnitsNeedNoMemory {K V : Type 0} (count : ℕ) (arrays : ArraysView K V) : Type 0 where

@@ -20,8 +20,7 @@ first_estimate counts large = estimate counts 0 large
 
 -- the estimate from the full sample, in the middle
 abbrev pub middle_estimate : List ℕ → ℕ
-middle_estimate counts =
-    estimate counts ((length counts - full_sample (length counts)) / 2) (full_sample (length counts))
+middle_estimate counts = estimate counts ((length counts - full_sample (length counts)) / 2) (full_sample (length counts))
 
 -- what is done where the middle estimate asks for a capacity: a growth is done, and a shrinking
 -- unless the first buckets ask for a greater capacity

@@ -1,5 +1,5 @@
 -- What becomes of a table's arrays in a resize.
-use Rattle.std.specs.Prelude.{ℕ, ◌+◌, ◌-◌, ◌<◌, ◌≤◌, ◌≡◌, Bool, true, false, List, [], Result, Ok, Err, length}
+use Rattle.std.specs.Prelude.{ℕ, ◌+◌, ◌-◌, ◌<◌, ◌≤◌, ◌≡◌, ◌⊎◌, Bool, true, false, List, [], Result, Ok, Err, length}
 use Rattle.bucket_slots.specs.ArrayView.{IsNewArray}
 use Rattle.bucket_slots.specs.BucketView.{BucketView}
 use Rattle.bucket_table.specs.Views.ArraysView.{ArraysView}
@@ -37,19 +37,11 @@ pub record IsPlanOf {K V : Type 0} (arrays : ArraysView K V) (plan : Plan) : Typ
   pub beside : 0 < length arrays.linked → plan ≡ Keep
   pub alone : 0 < length arrays.current → length arrays.linked ≡ 0 → IsPlan (live_counts arrays.current) arrays.minimum arrays.maximum plan
 
--- what a plan makes of the arrays
-abbrev pub Follows : {K V : Type 0} → Plan → ArraysView K V → ArraysView K V → Type 0
-Follows Keep old new = new ≡ old
-Follows GiveUp old new = IsGivenUp old new
-Follows (Resize capacity) old new = IsPushed capacity old new
-
-abbrev pub moves : Plan → Bool
-moves Keep = false
-moves plan = true
-
--- what a resize does, and its answer; for want of memory nothing changes
+-- what a resize does, and its answer: the arrays follow the plan, and for want of memory nothing changes
 abbrev pub TriesResize : {K V E : Type 0} → ArraysView K V → Result Bool E → ArraysView K V → Type 0
-TriesResize old (Ok moved) new = (plan : Plan) × IsPlanOf old plan × (moved ≡ moves plan) × Follows plan old new
+TriesResize old (Ok false) new = IsPlanOf old Keep × (new ≡ old)
+TriesResize old (Ok true) new = (IsPlanOf old GiveUp × IsGivenUp old new)
+    ⊎ ((capacity : ℕ) × IsPlanOf old (Resize capacity) × IsPushed capacity old new)
 TriesResize old (Err refused) new = (capacity : ℕ) × IsPlanOf old (Resize capacity) × (new ≡ old)
 
 -- a current array stands: the one that stood, or where none did an empty one for the minimum

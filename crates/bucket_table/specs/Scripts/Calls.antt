@@ -1,11 +1,10 @@
 -- What a call may reply, and what becomes of the map. A reply that isn't stated doesn't come; the replies to the calls of a rehash are told by
 -- the steps on its tickets.
-use Rattle.std.specs.Prelude.{ℕ, ◌≡◌, ◌≢◌, ◌<◌, ◌↔◌, Bool, true, IsTrue, length}
+use Rattle.std.specs.Prelude.{ℕ, ◌≡◌, ◌≢◌, ◌<◌, ◌↔◌, Bool, true, IsTrue, [], filter, length, nat_le}
 use Rattle.bucket_slots.specs.declared.bucket.TheConstants.{CACHE}
-use Rattle.bucket_table.specs.Scripts.Clearing.{ClearsAll, ClearsBelow}
 use Rattle.bucket_table.specs.Map.Counting.{counted_to}
 use Rattle.bucket_table.specs.Map.LookingUp.{IsAbsent, IsThere}
-use Rattle.bucket_table.specs.Map.MapState.{MapState, KeepsPairs, AddsPair, TakesPair, ChangesValue, RaisesMinimum, LowersMinimum}
+use Rattle.bucket_table.specs.Map.MapState.{MapState, Becomes, KeepsPairs, AddsPair, TakesPair, ChangesValue, RaisesMinimum, LowersMinimum}
 use Rattle.bucket_table.specs.declared.script.call.Call.{Call}
 use Rattle.bucket_table.specs.declared.script.call.Call.TheVariants.{Put, Write, Read, Peek, Remove, Touch, Evict, Count, Has, Reserve}
 use Rattle.bucket_table.specs.declared.script.call.Call.TheVariants.{Release, Start, Work, End, Walk, Clear}
@@ -19,8 +18,7 @@ module _ {K V H : Type 0} (eq : K → K → Bool) (hash : H → K → ℕ) where
   Step old (Put key value) Done new = IsAbsent eq key old.pairs × AddsPair old (key, value) new
   Step old (Put key value) Present new = ((pair : K × V) × IsThere eq key old.pairs pair) × KeepsPairs old new
   Step old (Put key value) Refused new = KeepsPairs old new
-  Step old (Write key value) (Old earlier) new =
-      (found : K) × (eq found key ≡ true) × ChangesValue old (found, earlier) value new
+  Step old (Write key value) (Old earlier) new = (found : K) × (eq found key ≡ true) × ChangesValue old (found, earlier) value new
   Step old (Write key value) Absent new = IsAbsent eq key old.pairs × KeepsPairs old new
   Step old (Read key) (Value value) new = ((found : K) × IsThere eq key old.pairs (found, value)) × KeepsPairs old new
   Step old (Read key) Absent new = IsAbsent eq key old.pairs × KeepsPairs old new
@@ -28,8 +26,7 @@ module _ {K V H : Type 0} (eq : K → K → Bool) (hash : H → K → ℕ) where
   Step old (Peek key) Absent new = IsAbsent eq key old.pairs × KeepsPairs old new
   Step old (Remove key) (Pair found value) new = (eq found key ≡ true) × TakesPair old (found, value) new
   Step old (Remove key) Absent new = IsAbsent eq key old.pairs × KeepsPairs old new
-  Step old (Touch key) Done new =
-      (old.kind ≡ CACHE) × ((pair : K × V) × IsThere eq key old.pairs pair) × KeepsPairs old new
+  Step old (Touch key) Done new = (old.kind ≡ CACHE) × ((pair : K × V) × IsThere eq key old.pairs pair) × KeepsPairs old new
   Step old (Touch key) Absent new = (old.kind ≡ CACHE) × IsAbsent eq key old.pairs × KeepsPairs old new
   Step old (Touch key) WrongKind new = (old.kind ≢ CACHE) × KeepsPairs old new
   Step old (Evict key) (Pair found value) new = (old.kind ≡ CACHE) × TakesPair old (found, value) new
@@ -45,6 +42,6 @@ module _ {K V H : Type 0} (eq : K → K → Bool) (hash : H → K → ℕ) where
   Step old (End ticket success) reply new = KeepsPairs old new
   Step old Walk (Walked buckets pairs) new = (pairs ≡ counted_to old.pairs) × KeepsPairs old new
   Step old Walk Refused new = KeepsPairs old new
-  Step old Clear (Cleared count) new = ClearsAll old count new
-  Step old Clear Refused new = ClearsBelow hash old new
+  Step old Clear (Cleared count) new = (count ≡ counted_to old.pairs) × (new ≡ record old { pairs = [] })
+  Step old Clear Refused new = (bound : ℕ) × Becomes old (filter (λ pair. nat_le bound (hash old.hasher pair.0)) old.pairs) new
   Step old call reply new = ⊥

@@ -1,13 +1,13 @@
 -- What contracts see of a table's arrays, and what they keep. No array has length 0: the empty list says that there is none.
-use Rattle.std.specs.Prelude.{ℕ, ◌≡◌, ◌*◌, ◌^◌, ◌<◌, ◌≤◌, ◌++◌, Bool, true, List, [], Option, Some, None, length, map}
-use Rattle.std.specs.List.{All, IsDistinct}
+use Rattle.std.specs.Prelude.{ℕ, ◌≡◌, ◌*◌, ◌^◌, ◌<◌, ◌≤◌, ◌++◌, ◌⊎◌, Bool, true, List, [], Option, Some, None, length, map}
+use Rattle.std.specs.List.{All, Contains, IsDistinct}
 use Rattle.bucket_slots.specs.ArrayView.{bucket_at}
 use Rattle.bucket_slots.specs.BucketView.{BucketView, pairs_in}
 use Rattle.bucket_slots.specs.Homes.{Meets}
 use Rattle.bucket_slots.specs.Sizing.{IsPowerIn}
 use Rattle.bucket_table.specs.Rehash.Relocation.{AreTwoArrays, entries_among, marks_among}
 use Rattle.bucket_table.specs.Rehash.State.{TicketState}
-use Rattle.bucket_table.specs.Rehash.Covered.{IsCovered, IsGoingOn}
+use Rattle.bucket_table.specs.Rehash.Covered.{IsCovered}
 
 -- the least and the greatest capacity, the current array, and the old one while a rehash is on, with its tickets
 pub record ArraysView (K V : Type 0) : Type 0 where
@@ -38,10 +38,10 @@ pairs_of arrays = map (λ entry. entry.0) (entries_of arrays)
 abbrev pub killed_flags : {K V : Type 0} → List (BucketView K V) → List Bool
 killed_flags buckets = map (λ bucket. bucket.killed) buckets
 
--- no unit of the old array is forgotten, and a killed bucket has no live pair
+-- no unit of the old array is forgotten, some unit is left to hand out or handed out, and a killed bucket has no live pair
 pub record LosesNoUnit {K V : Type 0} (linked : List (BucketView K V)) (tickets : TicketState) : Type 0 where
   pub covered : IsCovered (killed_flags linked) tickets
-  pub going_on : 0 < length linked → IsGoingOn tickets
+  pub going_on : 0 < length linked → (64 * tickets.position < tickets.len) ⊎ ((unit : ℕ) × Contains tickets.open_units unit)
   pub emptied : All (λ bucket. bucket.killed ≡ true → pairs_in bucket ≡ []) linked
 
 -- the capacities bound each other and the current array, an old array has a current one beside it, and the tickets are

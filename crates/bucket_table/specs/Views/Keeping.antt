@@ -8,13 +8,9 @@ use Rattle.bucket_slots.specs.Marking.{HasNoNewMark}
 use Rattle.bucket_table.specs.Views.ArraysView.{ArraysView, entries_of, marks_of}
 use Rattle.bucket_table.specs.Rehash.State.{TicketState}
 
--- how often a unit is open
-abbrev pub times_open : ℕ → TicketState → ℕ
-times_open unit tickets = count_by (λ other. other == unit) tickets.open_units
-
--- the bag of open units is as it was
+-- the bag of open units is as it was: each unit is open as often
 abbrev pub KeepsOpenTickets : TicketState → TicketState → Type 0
-KeepsOpenTickets old new = (unit : ℕ) → times_open unit new ≡ times_open unit old
+KeepsOpenTickets old new = (unit : ℕ) → count_by (λ other. other == unit) new.open_units ≡ count_by (λ other. other == unit) old.open_units
 
 -- the pairs, the capacities and the open tickets stay, and no mark is new
 pub record Keeps {K V : Type 0} (old new : ArraysView K V) : Type 0 where

@@ -1,5 +1,5 @@
 -- Where a cursor stands, and what it has behind it.
-use Rattle.std.specs.Prelude.{ℕ, ◌+◌, ◌-◌, ◌*◌, ◌<◌, ◌≤◌, ◌≡◌, ◌≢◌, Bool, false, Some, Result, Ok, Err, List, [], ◌∷◌, length}
+use Rattle.std.specs.Prelude.{ℕ, ◌+◌, ◌-◌, ◌*◌, ◌<◌, ◌≤◌, ◌≡◌, ◌≢◌, Bool, false, Some, Result, Ok, Err, IsErrAnd, List, [], ◌∷◌, length}
 use Rattle.std.specs.List.{AllByRecursion}
 use Rattle.bucket_slots.specs.ArrayView.{bucket_at}
 use Rattle.bucket_slots.specs.BucketView.{Place, null_place, pairs_in, slot_in}
@@ -14,13 +14,8 @@ use Rattle.bucket_table.specs.Map.MapState.{KeepsPairs, state_of}
 use Rattle.bucket_table.specs.Views.Keeping.{KeepsArrays, KeepsOpenTickets}
 use Rattle.bucket_table.specs.Views.Sides.{bucket_on, buckets_on}
 use Rattle.bucket_table.specs.Rehash.Units.{WorksUnits}
-use Rattle.bucket_table.specs.Map.Refusing.{LacksMemory}
 use Rattle.bucket_table.specs.declared.arrays.Missing.{Missing}
 use Rattle.bucket_table.specs.declared.arrays.Missing.TheVariants.{Nothing, Memory}
-
--- no pair has a hash from one bound up to below another
-abbrev pub HasNoneBetween : {K V : Type 0} → (K → ℕ) → ℕ → ℕ → List (K × V) → Type 0
-HasNoneBetween hash low high pairs = AllByRecursion (λ pair. low ≤ hash pair.0 → hash pair.0 < high → ⊥) pairs
 
 -- no pair has a hash from the bound on
 abbrev pub HasNoneFrom : {K V : Type 0} → (K → ℕ) → ℕ → List (K × V) → Type 0
@@ -38,10 +33,9 @@ pub record IsFirstFrom {K V : Type 0} (hash : K → ℕ) (arrays : ArraysView K 
   pub slot : live_pair (slot_in (bucket_on arrays false index) at) ≡ Some pair
   pub first : pairs_in (bucket_on arrays false index) ≡ pair ∷ pairs_ahead (bucket_on arrays false index) at
   pub current : (j : ℕ) → j < index → HasNoneFrom hash bound (pairs_in (bucket_on arrays false j))
-  pub old : (k target : ℕ) → k < length arrays.linked → target < index
-      → Meets (length arrays.linked) k (length arrays.current) target
+  pub old : (k target : ℕ) → k < length arrays.linked → target < index → Meets (length arrays.linked) k (length arrays.current) target
       → HasNoneFrom hash bound (pairs_in (bucket_at arrays.linked k))
-  pub passed : HasNoneBetween hash bound (bound_of (length arrays.current) index) (pairs_of arrays)
+  pub passed : AllByRecursion (λ pair. bound ≤ hash pair.0 → hash pair.0 < bound_of (length arrays.current) index → ⊥) (pairs_of arrays)
 
 -- a cursor that goes on from a hash finds no bucket: the pointer is null, and where that isn't for want of memory no live pair has a hash from there on
 pub record FindsNone {K V : Type 0} (hash : K → ℕ) (bound : ℕ) (missing : Missing) (arrays : ArraysView K V) (at : Place) : Type 0 where
@@ -53,13 +47,9 @@ abbrev pub IsFoundFrom : {K V : Type 0} → (K → ℕ) → ℕ → Result ℕ M
 IsFoundFrom hash bound (Ok index) arrays at = IsFirstFrom hash arrays bound index at
 IsFoundFrom hash bound (Err missing) arrays at = FindsNone hash bound missing arrays at
 
--- a current bucket reaches past a hash
-abbrev pub ReachesAt : {K V : Type 0} → ℕ → ℕ → ArraysView K V → Type 0
-ReachesAt bound index arrays = bound < bound_of (length arrays.current) (index + 1)
-
--- and so does the one that is found, if any is
+-- the current bucket that is found, if any is, reaches past a hash
 abbrev pub ReachesPast : {K V : Type 0} → ℕ → Result ℕ Missing → ArraysView K V → Type 0
-ReachesPast bound (Ok index) arrays = ReachesAt bound index arrays
+ReachesPast bound (Ok index) arrays = bound < bound_of (length arrays.current) (index + 1)
 ReachesPast bound (Err missing) arrays = Unit {0}
 
 -- a cursor leaves a bucket whose interval ends at a hash: it goes on from there, to a bucket that reaches past it
@@ -68,31 +58,24 @@ Leaves hash bound result arrays at = IsFoundFrom hash bound result arrays at × 
 
 -- the same where the answer names the side too: a cursor always goes on in the current array
 abbrev pub LeavesTo : {K V : Type 0} → (K → ℕ) → ℕ → Result (Bool × ℕ) Missing → ArraysView K V → Place → Type 0
-LeavesTo hash bound (Ok to) arrays at = (to.0 ≡ false) × IsFirstFrom hash arrays bound to.1 at × ReachesAt bound to.1 arrays
+LeavesTo hash bound (Ok to) arrays at = (to.0 ≡ false) × IsFirstFrom hash arrays bound to.1 at
+    × (bound < bound_of (length arrays.current) (to.1 + 1))
 LeavesTo hash bound (Err missing) arrays at = FindsNone hash bound missing arrays at
 
 -- the sources of each current bucket from `start` up to below `end` are killed
 abbrev pub AreKilledFor : {K V : Type 0} → ArraysView K V → ℕ → ℕ → Type 0
 AreKilledFor arrays start end = (index : ℕ) → start ≤ index → index < end → AreSourcesKilled arrays index
 
--- how many buckets are passed where none is found: all, and fewer for want of memory
-abbrev pub IsAllPassed : ℕ → ℕ → Missing → ℕ → Type 0
-IsAllPassed len from Nothing passed = passed ≡ len - from
-IsAllPassed len from Memory passed = passed < len - from
-
--- how many buckets a cursor passes from `from` on: up to the one that it answers, or all, and fewer where it is refused
+-- how many buckets a cursor passes from `from` on: up to the one that it answers, or all, and fewer for want of memory
 abbrev pub IsPassed : {A : Type 0} → (A → ℕ) → ℕ → ℕ → Result A Missing → ℕ → Type 0
 IsPassed index_of len from (Ok found) passed = from + passed ≡ index_of found + 1
-IsPassed index_of len from (Err missing) passed = IsAllPassed len from missing passed
+IsPassed index_of len from (Err Nothing) passed = passed ≡ len - from
+IsPassed index_of len from (Err Memory) passed = passed < len - from
 
 -- the units that are worked: one before each bucket, and one more before the one for which memory is wanted
-abbrev pub units_missing : Missing → ℕ → ℕ
-units_missing Nothing passed = passed
-units_missing Memory passed = passed + 1
-
 abbrev pub units_passed : {A : Type 0} → Result A Missing → ℕ → ℕ
-units_passed (Ok found) passed = passed
-units_passed (Err missing) passed = units_missing missing passed
+units_passed (Err Memory) passed = passed + 1
+units_passed result passed = passed
 
 -- a cursor passes current buckets, from the one whose interval has a hash on, or none where the hash is past all: before each a unit is worked,
 -- and its sources are killed then. Without an old array nothing changes, and it isn't refused
@@ -104,7 +87,7 @@ pub record Passes {K V A : Type 0} (index_of : A → ℕ) (bound : ℕ) (old : A
   pub units : WorksUnits (units_passed result passed) old new
   pub sources : AreKilledFor new from (from + passed)
   pub alone : length old.linked ≡ 0 → new ≡ old
-  pub succeeds : length old.linked ≡ 0 → LacksMemory result → ⊥
+  pub succeeds : length old.linked ≡ 0 → IsErrAnd result (λ missing. missing ≡ Memory) → ⊥
 
 -- a bucket is left: where it has no live pair, and a shrinking is asked for near it, the arrays follow the plan or stay for want of memory; else they stay.
 -- Then the buckets past it are passed, which keeps the pairs and the length of the current array
@@ -114,17 +97,6 @@ pub record ShrinksThenPasses {K V A : Type 0} (index_of : A → ℕ) (is_old : B
   pub passes : Passes index_of (bound_of (length (buckets_on old is_old)) (index + 1)) between result new
   pub kept : KeepsArrays between new
 
--- a cursor stays in its bucket, of the old or of the current array, at the next live pair
-pub record Stays {K V : Type 0} (is_old : Bool) (index : ℕ) (old : ArraysView K V) (from : Place) (result : Result (Bool × ℕ) Missing) (new : ArraysView K V) (to : Place) : Type 0 where
-  pub answer : result ≡ Ok (is_old, index)
-  pub unchanged : new ≡ old
-  pub moves : MovesToNext (bucket_on old is_old index) from to
-
--- an answer, with a view of what was found
-abbrev pub viewed : {A B : Type 0} → (A → B) → Result A Missing → Result B Missing
-viewed view (Ok found) = Ok (view found)
-viewed view (Err missing) = Err missing
-
 -- a cursor sets out in a table: the map and the open tickets stay, no mark is new, and it goes on from the least hash
 pub record SetsOut {K V H : Type 0} (kind : ℕ) (hash : H → K → ℕ) (old : TableView K V H) (result : Result ℕ Missing) (at : Place) (new : TableView K V H) : Type 0 where
   pub map : KeepsPairs (state_of kind old) (state_of kind new)
@@ -133,12 +105,14 @@ pub record SetsOut {K V H : Type 0} (kind : ℕ) (hash : H → K → ℕ) (old :
   pub found : IsFoundFrom (hash old.hasher) 0 result new.arrays at
   pub passes : Passes (λ index. index) 0 old.arrays result new.arrays
 
--- a cursor advances in a table: the map and the open tickets stay, and no mark is new. Where a live pair is ahead in its bucket it stays there, else it leaves
+-- a cursor advances in a table: the map and the open tickets stay, and no mark is new. Where a live pair is ahead in its bucket, of the
+-- old or of the current array, it stays there, at the next one; else it leaves
 pub record Advances {K V H : Type 0} (kind : ℕ) (hash : H → K → ℕ) (old : TableView K V H) (is_old : Bool) (index : ℕ) (from : Place) (result : Result (Bool × ℕ) Missing) (to : Place) (new : TableView K V H) : Type 0 where
   pub map : KeepsPairs (state_of kind old) (state_of kind new)
   pub bag : KeepsOpenTickets old.arrays.tickets new.arrays.tickets
   pub marks : HasNoNewMark (marks_of old.arrays) (marks_of new.arrays)
-  pub stays : pairs_ahead (bucket_on old.arrays is_old index) from ≢ [] → Stays is_old index old.arrays from result new.arrays to
+  pub stays : pairs_ahead (bucket_on old.arrays is_old index) from ≢ []
+      → (result ≡ Ok (is_old, index)) × (new.arrays ≡ old.arrays) × MovesToNext (bucket_on old.arrays is_old index) from to
   pub leaves : pairs_ahead (bucket_on old.arrays is_old index) from ≡ []
       → LeavesTo (hash old.hasher) (bound_of (length (buckets_on old.arrays is_old)) (index + 1)) result new.arrays to
   pub departs : pairs_ahead (bucket_on old.arrays is_old index) from ≡ [] → ShrinksThenPasses (λ to. to.1) is_old index old.arrays result new.arrays

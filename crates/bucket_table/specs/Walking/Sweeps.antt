@@ -1,15 +1,13 @@
 -- What a sweep does to the arrays, bucket after bucket.
-use Rattle.std.specs.Prelude.{ℕ, ◌≡◌, Bool, false, List, Result, Ok, Err}
+use Rattle.std.specs.Prelude.{ℕ, ◌≡◌, Bool, false, List, Result, Ok}
 use Rattle.bucket_slots.specs.BucketView.{BucketView, marks_in}
 use Rattle.bucket_slots.specs.Marking.{MarksBy}
-use Rattle.bucket_slots.specs.declared.bucket.AllocError.{AllocError}
 use Rattle.bucket_table.specs.Views.ArraysView.{ArraysView}
 use Rattle.bucket_table.specs.Walking.Cursors.{ShrinksThenPasses, Passes}
 use Rattle.bucket_table.specs.Walking.Retains.{Retains}
 use Rattle.bucket_table.specs.Scripts.Runs.{Run}
 use Rattle.bucket_table.specs.Views.Sides.{arrays_with, bucket_on}
 use Rattle.bucket_table.specs.declared.arrays.Missing.{Missing}
-use Rattle.bucket_table.specs.declared.arrays.Missing.TheVariants.{Nothing, Memory}
 
 -- a current bucket is left with what is kept, its marks with their epochs, and others with this one; nothing else changes
 pub record RetainsAt {K V : Type 0} (IsTest : (K × V → Bool) → Type 0) (epoch : ℕ) (old : ArraysView K V) (index : ℕ) (count : ℕ) (new : ArraysView K V) : Type 0 where
@@ -39,8 +37,3 @@ pub record Sweeps {K V : Type 0} (IsTest : (K × V → Bool) → Type 0) (epoch 
   pub indices : List ℕ
   pub places : List (Result ℕ Missing)
   pub run : Run (SweepsAt IsTest epoch) first indices places last
-
--- why a sweep's cursor has found no further bucket, by what the sweep answers
-abbrev pub why_over : Result ℕ AllocError → Missing
-why_over (Ok count) = Nothing
-why_over (Err refused) = Memory

@@ -1,6 +1,6 @@
 -- What a walk does to the map.
 use Rattle.std.specs.Prelude.{ℕ, ◌+◌, ◌<◌, ◌≡◌, ◌≢◌, ◌≤◌, ◌⊎◌, ◌&&◌, nat_le, nat_lt, not, Bool, true, false, List, [], ◌∷◌, ◌++◌, filter}
-use Rattle.std.specs.Prelude.{length, map, Result, Ok, Err, OnOk}
+use Rattle.std.specs.Prelude.{is_ok, length, map, Result, OnOk}
 use Rattle.std.specs.List.{AllByRecursion, flat_map}
 use Rattle.std.specs.List.Sorted.{IsPermutation}
 use Rattle.bucket_slots.specs.BucketView.{BucketView, entries_in, pairs_in}
@@ -57,24 +57,17 @@ pub record IsWalk {K V : Type 0} (hash : K → ℕ) (old : ArraysView K V) (star
       (pairs_left visits ++ filter (λ pair. not (has_home_in hash (length old.current) start (start + length visits) pair)) (pairs_of old))
       (pairs_of new)
 
--- the walk came to the array's end, or was stopped
-abbrev pub IsWhole : {K V : Type 0} → ArraysView K V → ℕ → List (Visited (BucketView K V)) → Type 0
-IsWhole old start visits = (length old.current ≤ start + length visits) ⊎ HasStopped visits
-
 -- the walk begins in the bucket with the first hash of bucket `start` of an array of the expected length; at `start` where none is expected
 pub record BeginsAt (len expected start from : ℕ) : Type 0 where
   pub as_given : expected ≡ 0 → from ≡ start
   pub early : expected ≢ 0 → 0 < len → bound_of len from ≤ bound_of expected start
   pub reaches : expected ≢ 0 → 0 < len → bound_of expected start < bound_of len (from + 1)
 
--- a walk that wasn't refused, and whose truth value is set, ends with a resize where its first buckets have few live pairs, which keeps the map
-abbrev pub EndsWell : {K V : Type 0} → Bool → ArraysView K V → ArraysView K V → Type 0
-EndsWell true ended new = ResizesIf (AsksShrinking ended 0) ended new × Keeps ended new
-EndsWell false ended new = new ≡ ended
-
-abbrev pub EndsWalk : {A E K V : Type 0} → Bool → Result A E → ArraysView K V → ArraysView K V → Type 0
-EndsWalk flag (Ok done) ended new = EndsWell flag ended new
-EndsWalk flag (Err refused) ended new = new ≡ ended
+-- where a walk wasn't refused, and its truth value is set, it ends with a resize where its first buckets have few live pairs, which
+-- keeps the map
+abbrev pub EndsWalk : {K V : Type 0} → Bool → ArraysView K V → ArraysView K V → Type 0
+EndsWalk true ended new = ResizesIf (AsksShrinking ended 0) ended new × Keeps ended new
+EndsWalk false ended new = new ≡ ended
 
 -- where no old array stands, each bucket is lent as it stood at entry, and nothing changes but what the visits left
 abbrev pub VisitsAlone : {K V : Type 0} → ArraysView K V → ℕ → List (Visited (BucketView K V)) → ArraysView K V → Type 0
@@ -82,7 +75,8 @@ VisitsAlone old index [] new = new ≡ old
 VisitsAlone old index (visit ∷ visits) new =
     (visit.lent ≡ bucket_on old false index) × VisitsAlone (arrays_with old false index visit.left) (index + 1) visits new
 
--- a walk by a visitor. Before its end the current array keeps its length, also beside an old array that goes
+-- a walk by a visitor: it comes to the array's end, is stopped or is refused. Before its end the current array keeps its length, also
+-- beside an old array that goes
 pub record WalksBy {S A E K V : Type 0} (step : S → BucketView K V → Bool → Bool → BucketView K V → Bool → S → Type 0) (hash : K → ℕ) (expected start : ℕ)
     (first : S) (old : ArraysView K V) (result : Result A E) (now : S) (new : ArraysView K V) : Type 0 where
   pub from : ℕ
@@ -96,6 +90,6 @@ pub record WalksBy {S A E K V : Type 0} (step : S → BucketView K V → Bool �
   pub units : WorksUnits (steps_of result (length visits)) old ended
   pub sources : AreKilledFor ended from (from + length visits)
   pub within : 0 < length visits → from + length visits ≤ length old.current
-  pub whole : OnOk result (IsWhole old from visits)
-  pub ends : EndsWalk flag result ended new
+  pub whole : OnOk result ((length old.current ≤ from + length visits) ⊎ HasStopped visits)
+  pub ends : EndsWalk (is_ok result && flag) ended new
   pub alone : length old.linked ≡ 0 → VisitsAlone old from visits ended

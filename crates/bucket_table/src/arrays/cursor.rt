@@ -1,12 +1,12 @@
 //! Cursors over the arrays.
-ghost use Rattle.std.specs.Prelude.{◌≡◌, ◌≢◌, ℕ, ◌<◌, ◌≤◌, ◌+◌, [], false, length, IfOk};
+ghost use Rattle.std.specs.Prelude.{◌≡◌, ◌≢◌, ℕ, ◌<◌, ◌≤◌, ◌+◌, [], Ok, false, length, IfOk};
 ghost use Rattle.bucket_slots.specs.BucketView.{BucketView};
 ghost use Rattle.bucket_slots.specs.Homes.{IsInInterval, interval_width};
 ghost use Rattle.bucket_slots.specs.Sizing.{IsLength};
-ghost use Rattle.bucket_slots.specs.Walking.{pairs_ahead};
+ghost use Rattle.bucket_slots.specs.Walking.{MovesToNext, pairs_ahead};
 ghost use Rattle.bucket_table.specs.Views.ArraysView.{ArePlaced};
 ghost use Rattle.bucket_table.specs.Walking.Cursors.{ShrinksThenPasses, IsFoundFrom, Leaves, LeavesTo, ReachesPast};
-ghost use Rattle.bucket_table.specs.Walking.Cursors.{Passes, Stays, bound_of};
+ghost use Rattle.bucket_table.specs.Walking.Cursors.{Passes, bound_of};
 ghost use Rattle.bucket_table.specs.Views.Keeping.{Keeps, KeepsArrays};
 ghost use Rattle.bucket_table.specs.Walking.Retains.{AnswersBy};
 ghost use Rattle.bucket_table.specs.Views.Sides.{arrays_with, bucket_on, buckets_on};
@@ -139,7 +139,8 @@ impl<K: Eq + Drop, V: Drop, L: LruList + Drop, const TYPE: u8> Arrays<K, V, L, T
         ensures placed { ArePlaced (H.hash_of hasher.now) self.new }
         ensures kept { Keeps self.old self.new }
         ensures stays { pairs_ahead (bucket_on self.old is_old index) at.old ≢ []
-            → Stays is_old index self.old at.old result self.new at.new }
+            → (result ≡ Ok (is_old, index)) × (self.new ≡ self.old)
+            × MovesToNext (bucket_on self.old is_old index) at.old at.new }
         ensures leaves { pairs_ahead (bucket_on self.old is_old index) at.old ≡ []
             → LeavesTo (H.hash_of hasher.now) (bound_of (length (buckets_on self.old is_old))
             (index + 1)) result self.new at.new }

@@ -1,8 +1,9 @@
 //! Look-ups: by key, and by a probe in code that knows no equality of keys.
-ghost use Rattle.std.specs.Prelude.{◌≡◌, ◌+◌, ◌≤◌, true, IfSome, IfNone};
+ghost use Rattle.std.specs.Prelude.{◌≡◌, ◌+◌, ◌≤◌, false, true, IfSome, IfNone};
 ghost use Rattle.std.specs.Borrow.{Bor};
+ghost use Rattle.std.specs.List.{All, Contains};
 ghost use Rattle.bucket_table.specs.Views.ArraysView.{pairs_of};
-ghost use Rattle.bucket_table.specs.Map.LookingUp.{AreUnwanted, IsAbsent, IsThere, IsWantedOf, looked_up_len};
+ghost use Rattle.bucket_table.specs.Map.LookingUp.{IsAbsent, IsThere, looked_up_len};
 ghost use Rattle.bucket_table.specs.Map.Preparing.{IsPrepared};
 
 use crate::hash_table::HashTable;
@@ -34,9 +35,10 @@ impl<K: Eq, V, H: KeyHash<K>, L: LruList, const TYPE: u8> HashTable<K, V, H, L, 
             → P.wants probe.old key ≡ true
             → H.hash_of self.now.hasher key ≡ hash }
         ensures found { IfSome result (λ pair.
-            IsWantedOf (P.wants probe.old) (pairs_of self.now.arrays) (pair.0.now, pair.1.now)) }
+            Contains (pairs_of self.now.arrays) (pair.0.now, pair.1.now)
+            × (P.wants probe.old pair.0.now ≡ true)) }
         ensures absent { IfNone result
-            (AreUnwanted (P.wants probe.old) (pairs_of self.now.arrays)) }
+            (All (λ pair. P.wants probe.old pair.0 ≡ false) (pairs_of self.now.arrays)) }
         ensures few { P.asked probe.new ≤ P.asked probe.old
             + looked_up_len hash
             self.now.arrays.linked self.now.arrays.current }

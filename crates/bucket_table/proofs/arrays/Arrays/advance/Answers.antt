@@ -4,11 +4,8 @@ use Rattle.bucket_table.proofs.Walking.PassingUnits.{departs_viewed}
 use Rattle.bucket_table.proofs.arrays.Arrays.advance.Goals as goal
 
 pub returns-then-find_next-clause-stays : goal.returns-then-find_next-clause-stays
-returns-then-find_next-clause-stays g c = λ some. record {
-  answer = refl;
-  unchanged = refl;
-  moves = moves_in _ _ _ _ c.bucket_of.ensures (c.find_next.ensures.ahead c.if-find_next.true);
-}
+returns-then-find_next-clause-stays g c = λ some.
+    (refl, refl, moves_in _ _ _ _ c.bucket_of.ensures (c.find_next.ensures.ahead c.if-find_next.true))
 
 pub returns-then-find_next-clause-leaves : goal.returns-then-find_next-clause-leaves
 returns-then-find_next-clause-leaves g c = λ none. absurd

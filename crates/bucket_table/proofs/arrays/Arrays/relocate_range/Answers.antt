@@ -18,7 +18,8 @@ buckets-preserved g c =
       range_more _ c.buckets.index _ _ _ c.buckets.invariant.0 c.in-Ok.ensures.done
           (omega (arith, c.buckets-test.true, c.requires.within, long)),
       c.in-Ok.ensures.placed,
-      spends_both _ _ _ c.buckets.invariant.2 (spends_one c.buckets.index _ _ c.in-Ok.ensures.done),
+      spends_both _ _ _ c.buckets.invariant.2 (spends_one c.buckets.index _ _ c.in-Ok.ensures.done
+          (omega (arith, c.buckets-test.true, c.requires.within, long))),
     )
 
 pub returns-clause-worked : goal.returns-clause-worked

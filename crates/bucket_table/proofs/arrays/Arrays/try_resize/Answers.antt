@@ -1,7 +1,7 @@
-use Rattle.std.proofs.Common.{arith, refl}
-use Rattle.bucket_table.specs.declared.arrays.plan.Plan.TheVariants.{GiveUp, Resize}
+use Rattle.std.proofs.Common.{arith, inl, inr}
+use Rattle.bucket_table.specs.declared.arrays.plan.Plan.TheVariants.{GiveUp}
 use Rattle.bucket_table.proofs.Resize.GivingUp.{gives_up, plan_alone, plan_stands}
-use Rattle.bucket_table.proofs.Resize.Following.{followed_keeps, followed_placed}
+use Rattle.bucket_table.proofs.Resize.Following.{given_up_keeps, given_up_placed, pushed_keeps, pushed_placed}
 use Rattle.bucket_table.proofs.arrays.Arrays.try_resize.Goals as goal
 
 pub give_array_up-requires : goal.give_array_up-requires
@@ -18,27 +18,22 @@ push_array-requires g c =
     )
 
 pub returns-in-GiveUp-clause-resized : goal.returns-in-GiveUp-clause-resized
-returns-in-GiveUp-clause-resized g c = (
-  GiveUp,
-  c.in-GiveUp.ensures.plan,
-  refl,
-  gives_up c.args.self.now _ c.in-GiveUp.ensures.plan
-      c.give_array_up.ensures,
-)
+returns-in-GiveUp-clause-resized g c =
+    inl (c.in-GiveUp.ensures.plan, gives_up c.args.self.now _ c.in-GiveUp.ensures.plan c.give_array_up.ensures)
 
 pub returns-in-GiveUp-clause-kept : goal.returns-in-GiveUp-clause-kept
-returns-in-GiveUp-clause-kept g c = followed_keeps GiveUp c.args.self.now _ (gives_up c.args.self.now _ c.in-GiveUp.ensures.plan
-    c.give_array_up.ensures)
+returns-in-GiveUp-clause-kept g c = given_up_keeps c.args.self.now _
+    (gives_up c.args.self.now _ c.in-GiveUp.ensures.plan c.give_array_up.ensures)
 
 pub returns-in-GiveUp-clause-placed : goal.returns-in-GiveUp-clause-placed
-returns-in-GiveUp-clause-placed g c = λ hash. followed_placed hash GiveUp c.args.self.now _
+returns-in-GiveUp-clause-placed g c = λ hash. given_up_placed hash c.args.self.now _
     (gives_up c.args.self.now _ c.in-GiveUp.ensures.plan c.give_array_up.ensures)
 
 pub returns-in-Ok-clause-resized : goal.returns-in-Ok-clause-resized
-returns-in-Ok-clause-resized g c = (Resize c.in-Resize.capacity, c.in-Resize.ensures.plan, refl, c.in-Ok.ensures.pushed)
+returns-in-Ok-clause-resized g c = inr (c.in-Resize.capacity, c.in-Resize.ensures.plan, c.in-Ok.ensures.pushed)
 
 pub returns-in-Ok-clause-kept : goal.returns-in-Ok-clause-kept
-returns-in-Ok-clause-kept g c = followed_keeps (Resize c.in-Resize.capacity) c.args.self.now _ c.in-Ok.ensures.pushed
+returns-in-Ok-clause-kept g c = pushed_keeps c.in-Resize.capacity c.args.self.now _ c.in-Ok.ensures.pushed
 
 pub returns-in-Ok-clause-placed : goal.returns-in-Ok-clause-placed
-returns-in-Ok-clause-placed g c = λ hash. followed_placed hash (Resize c.in-Resize.capacity) c.args.self.now _ c.in-Ok.ensures.pushed
+returns-in-Ok-clause-placed g c = λ hash. pushed_placed hash c.in-Resize.capacity c.args.self.now _ c.in-Ok.ensures.pushed

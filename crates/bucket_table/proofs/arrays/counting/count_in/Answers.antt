@@ -1,7 +1,8 @@
-use Rattle.bucket_table.proofs.Words.{ap, arith, counted_to, entries_among, length, live_len, ◌<◌, ◌∙◌}
+use Rattle.bucket_table.proofs.Words.{ap, arith, counted_to, entries_among, length, ◌<◌, ◌∙◌}
 use Rattle.std.proofs.lemmas.List.{take_all}
 use Rattle.bucket_table.proofs.Map.CountSteps.{entries_among_more}
 use Rattle.bucket_table.proofs.arrays.counting.count_in.Goals as goal
+use Rattle.bucket_table.proofs.Resize.Samples.{live_len}
 
 pub loop-index-preserved : goal.loop-index-preserved
 loop-index-preserved g c =

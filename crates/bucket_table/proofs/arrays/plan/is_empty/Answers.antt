@@ -1,6 +1,6 @@
-use Rattle.bucket_table.proofs.Words.{ap, arith, false≢true, length, live_counts, live_len, refl, sym, ◌<◌, ◌∙◌}
+use Rattle.bucket_table.proofs.Words.{ap, arith, false≢true, length, live_counts, refl, sym, ◌<◌, ◌∙◌}
 use Rattle.std.proofs.Common.{below_more}
-use Rattle.bucket_table.proofs.Resize.Samples.{get_or-live_counts, length-live_counts}
+use Rattle.bucket_table.proofs.Resize.Samples.{get_or-live_counts, length-live_counts, live_len}
 use Rattle.bucket_table.proofs.arrays.plan.is_empty.Goals as goal
 
 pub returns-then-len-ne0 : goal.returns-then-len-ne0

@@ -1,5 +1,5 @@
-use Rattle.bucket_table.proofs.Words.{ap, arith, counted, length, live_counts, live_len, min, subst, ◌+◌, ◌-◌, ◌<◌, ◌^◌, ◌∙◌, ◌≡◌}
-use Rattle.bucket_table.proofs.Resize.Samples.{counted_more, get_or-live_counts, length-live_counts}
+use Rattle.bucket_table.proofs.Words.{ap, arith, counted, length, live_counts, min, subst, ◌+◌, ◌-◌, ◌<◌, ◌^◌, ◌∙◌, ◌≡◌}
+use Rattle.bucket_table.proofs.Resize.Samples.{counted_more, get_or-live_counts, length-live_counts, live_len}
 use Rattle.bucket_table.proofs.arrays.sampling.live_slots.Goals as goal
 
 pub loop-offset-preserved : goal.loop-offset-preserved
