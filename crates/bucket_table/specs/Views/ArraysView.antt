@@ -38,7 +38,7 @@ pairs_of arrays = map (λ entry. entry.0) (entries_of arrays)
 abbrev pub killed_flags : {K V : Type 0} → List (BucketView K V) → List Bool
 killed_flags buckets = map (λ bucket. bucket.killed) buckets
 
--- no unit of the old array is forgotten, some unit is left to hand out or handed out, and a killed bucket has no live pair
+-- no unit of the old array is forgotten, while it stands one is left to hand out or handed out, and a killed bucket has no live pair
 pub record LosesNoUnit {K V : Type 0} (linked : List (BucketView K V)) (tickets : TicketState) : Type 0 where
   pub covered : IsCovered (killed_flags linked) tickets
   pub going_on : 0 < length linked → (64 * tickets.position < tickets.len) ⊎ ((unit : ℕ) × Contains tickets.open_units unit)
