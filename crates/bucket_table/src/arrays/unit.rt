@@ -1,5 +1,5 @@
 //! A unit of a rehash inside a call.
-ghost use Rattle.std.specs.Prelude.{◌≡◌, ◌+◌, ◌*◌, ◌<◌, [], true, None, length};
+ghost use Rattle.std.specs.Prelude.{◌≡◌, ◌+◌, ◌*◌, ◌<◌, [], true, IfNone, None, length};
 ghost use Rattle.bucket_table.specs.Views.ArraysView.{ArePlaced};
 ghost use Rattle.bucket_table.specs.Views.Keeping.{KeepsArrays};
 ghost use Rattle.bucket_table.specs.Rehash.Finishing.{Finishes};
@@ -19,6 +19,7 @@ impl<K: Eq + Drop, V: Drop, L: LruList + Drop, const TYPE: u8> Arrays<K, V, L, T
         ensures kept { KeepsArrays self.old self.new }
         ensures units { WorksUnits 1 self.old self.new }
         ensures alone { length self.old.linked ≡ 0 → (result ≡ None) × (self.new ≡ self.old) }
+        ensures none { IfNone result (self.new ≡ self.old) }
         ensures finishes { self.old.tickets.open_units ≡ [] → Finishes self.old result self.new }
     {
         self.sound();

@@ -60,3 +60,6 @@ returns-in_default-clause-finishes g c =
 pub returns-in_default-clause-placed : goal.returns-in_default-clause-placed
 returns-in_default-clause-placed g c =
     rw (none_changed c.args.self.now _ c.in_default.ensures.tickets c.in_default.ensures.others) c.requires.placed
+
+pub returns-in_default-clause-none : goal.returns-in_default-clause-none
+returns-in_default-clause-none g c = none_changed c.args.self.now _ c.in_default.ensures.tickets c.in_default.ensures.others
