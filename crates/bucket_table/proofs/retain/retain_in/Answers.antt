@@ -46,8 +46,8 @@ pairs-smaller g c =
 pub pairs-preserved : goal.pairs-preserved
 pairs-preserved g c =
     let m = c.find_next.ensures.ahead c.pairs-test.true in (
-      (steps _ c.args.bucket.now c.pairs.bucket c.retain_at-in-pairs.new.bucket c.pairs.at c.find_next.new.self c.retain_at-in-pairs.new.at m
-          (c.retain_at-in-pairs.ensures.retained m.pair m.here) c.pairs.invariant.0).0,
+      (steps _ c.args.bucket.now c.pairs.bucket c.retain_at-in-pairs.new.bucket c.pairs.at c.find_next.new.self
+          c.retain_at-in-pairs.new.at m (c.retain_at-in-pairs.ensures.retained m.pair m.here) c.pairs.invariant.0).0,
       by-trans _ (marks_in c.args.bucket.now) (marks_in c.pairs.bucket) (marks_in c.retain_at-in-pairs.new.bucket) c.pairs.invariant.1
           c.retain_at-in-pairs.ensures.marks,
     )

@@ -5,7 +5,8 @@ use Rattle.bucket_table.proofs.hash_table.locked_bucket.LockedBucket.mark_remove
 
 pub mark_at-requires : goal.mark_at-requires
 mark_at-requires g c =
-    (omega arith, (omega arith, (c.requires.index, (rw (← c.table.view_is) at c.args.self.locked.within, rw (← c.table.view_is) at c.requires.live_slot))))
+    (omega arith, (omega arith, (c.requires.index,
+    (rw (← c.table.view_is) at c.args.self.locked.within, rw (← c.table.view_is) at c.requires.live_slot))))
 
 pub invariant_of-table : goal.invariant_of-table
 invariant_of-table g c =
