@@ -1,5 +1,5 @@
 -- Runs of the same calls on a map and on tickets are one run on a script's table.
-use Rattle.std.proofs.Common.{◌≡◌, ℕ, ◌==◌, false, List, [], ◌∷◌, Option, length, nat_eq, refl, sym, subst}
+use Rattle.std.proofs.Common.{◌≡◌, ℕ, ◌==◌, false, List, [], ◌∷◌, length, nat_eq, refl, sym, subst}
 use Rattle.bucket_table.specs.Scripts.Calls.{Step}
 use Rattle.bucket_table.specs.Rehash.Covered.{RehashState}
 use Rattle.bucket_table.specs.Scripts.Hashes.{script_hash}

@@ -1,5 +1,5 @@
 -- A function called with each pair, one after another.
-use Rattle.std.proofs.Common.{ℕ, ◌≡◌, List, [], ◌∷◌, ◌++◌, Some, append_assoc, append-nil, ap, refl, subst, sym, ◌∙◌}
+use Rattle.std.proofs.Common.{◌≡◌, List, [], ◌∷◌, ◌++◌, Some, append_assoc, append-nil, ap, refl, subst, sym, ◌∙◌}
 use Rattle.std.specs.Borrow.{Bor}
 use Rattle.bucket_slots.specs.BucketView.{BucketView, Place, null_place, pairs_in, slot_in}
 use Rattle.bucket_slots.specs.Slots.{live_pair}

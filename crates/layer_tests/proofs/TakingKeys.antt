@@ -1,5 +1,5 @@
 -- A bucket out of which keys are taken, as a walk asks it of its visitor.
-use Rattle.std.proofs.Common.{ℕ, ◌≡◌, false, Some, List, [], ◌∷◌, ◌++◌, map, sym, ap, subst, ◌∙◌}
+use Rattle.std.proofs.Common.{ℕ, ◌≡◌, false, Some, [], ◌∷◌, ◌++◌, sym, subst, ◌∙◌}
 use Rattle.std.proofs.lemmas.List.{append_assoc}
 use Rattle.std.proofs.lemmas.List.Sorted.{IsPermutation-append_right, IsPermutation-map, IsPermutation-trans}
 use Rattle.std.specs.List.Sorted.{IsPermutation}

@@ -1,6 +1,6 @@
 -- A pair put into a locked bucket where its key is nowhere, and what that makes of the table in which the bucket was found.
 use Rattle.bucket_table.proofs.Words.{ArraysView, Bool, BucketView, Err, IsHome, IsLocked, IsOneMap, IsPermutation-refl, KeepsPairs, MapState, Ok}
-use Rattle.bucket_table.proofs.Words.{OnErr, OnOk, Result, ap, bucket_at, buckets_on, length, pairs_of, refl, slots_after_insertion, true, ℕ}
+use Rattle.bucket_table.proofs.Words.{OnErr, OnOk, Result, bucket_at, buckets_on, length, pairs_of, refl, slots_after_insertion, true, ℕ}
 use Rattle.bucket_table.proofs.Words.{IsEquivalence, TableView, inr, subst, sym, ◌%◌, ◌≡◌}
 use Rattle.bucket_table.specs.Map.ByKey.{AnswersInsertion, FindsThen, Inserts}
 use Rattle.bucket_table.specs.Map.Finding.{FindsBucket}

@@ -274,9 +274,10 @@ module _ {K V : Type 0} (hash : K → ℕ) where
       → IsMoving start end s0 c0 t d said null_place × (length (pairs_ahead t null_place) < length (pairs_ahead s old))
   moving_again {t} moving next one =
       let step = moving_step moving next one in
-      let all : length (entries_in t) ≡ length (pairs_ahead t null_place) = length-entries_in t in
-      (record { moves = step.0.moves; ready = step.0.ready; landing = step.0.landing; walked = record { left = all } },
-      omega (arith, step.1, step.0.walked.left, all))
+      let all : length (entries_in t) ≡ length (pairs_ahead t null_place) = length-entries_in t in (
+        record { moves = step.0.moves; ready = step.0.ready; landing = step.0.landing; walked = record { left = all } },
+        omega (arith, step.1, step.0.walked.left, all),
+      )
 
   -- after the last
   pub moving_done : {start end : ℕ} {s0 s : BucketView K V} {c0 c : List (BucketView K V)} {landings : List (Option Landing)} {at : Place}

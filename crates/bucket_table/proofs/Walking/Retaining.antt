@@ -3,7 +3,7 @@ use Rattle.bucket_table.proofs.Words.{AllByRecursion, Bool, BucketView, IsPermut
 use Rattle.bucket_table.proofs.Words.{IsPermutation-refl, IsPermutation-trans, List, MovesToNext, Place, Some, [], ap, arith, cond}
 use Rattle.bucket_table.proofs.Words.{entries_in, false, filter, is_live, length, length-append, length-map, length_permutation}
 use Rattle.bucket_table.proofs.Words.{live_from_pair, map, map-entries_in, min, not, not_from_false, not_from_true, null_place, pair_of}
-use Rattle.bucket_table.proofs.Words.{pairs_ahead, pairs_in, read_apart, refl, slot_in, suc, sym, true, zero, ℕ, ◌++◌, ◌+◌, ◌-◌, ◌<◌, ◌^◌}
+use Rattle.bucket_table.proofs.Words.{pairs_ahead, pairs_in, read_apart, refl, slot_in, sym, true, ℕ, ◌++◌, ◌+◌, ◌-◌, ◌<◌, ◌^◌}
 use Rattle.bucket_table.proofs.Words.{inl, inr, ◌∙◌, ◌∷◌, ◌≡◌, ◌≤◌}
 use Rattle.std.proofs.lemmas.Bool.{not-false}
 use Rattle.std.proofs.lemmas.List.Sorted.{IsPermutation-middle}
