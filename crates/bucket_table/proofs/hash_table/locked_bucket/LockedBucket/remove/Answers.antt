@@ -4,16 +4,10 @@ use Rattle.bucket_table.proofs.Map.SlotSteps.{takes}
 use Rattle.bucket_table.proofs.hash_table.locked_bucket.LockedBucket.remove.Goals as goal
 
 pub take_at-pair-requires : goal.take_at-pair-requires
-take_at-pair-requires g c = (
-  omega arith,
-  (
-    omega arith,
-    (
-      c.requires.not_index,
-      (rw (← c.table.view_is) at c.args.self.locked.within, rw (← c.table.view_is) at c.requires.live_slot),
-    ),
-  ),
-)
+take_at-pair-requires g c =
+    let within = rw (← c.table.view_is) at c.args.self.locked.within in
+    let here = rw (← c.table.view_is) at c.requires.live_slot in
+    (omega arith, (omega arith, (c.requires.not_index, (within, here))))
 
 pub invariant_of-table : goal.invariant_of-table
 invariant_of-table g c =
