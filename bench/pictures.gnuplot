@@ -11,8 +11,8 @@ set output docs."/calls.svg"
 set multiplot layout 2, 3 title "Nanoseconds a call, by the number of pairs"
 set xrange [700:6e6]
 set yrange [0:*]
-set key top left
 do for [call in "insert hit miss churn remove walk"] {
+    if (call eq "insert") { set key top left } else { unset key }
     set title call eq "insert" ? "insert, grown" : call eq "churn" ? "remove one, insert one" : call eq "walk" ? "walk, a pair" : call
     plot for [map in maps] folder."/".call."-".map using 1:2 with linespoints pt 7 ps 0.4 lw 1.6 lc rgb colour(map) title map
 }
