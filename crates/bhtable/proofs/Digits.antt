@@ -1,51 +1,63 @@
 -- The digits of a number, written from the last to the first.
-use Rattle.std.proofs.Common.{◌≡◌, ℕ, ◌+◌, ◌-◌, ◌*◌, ◌/◌, ◌%◌, ◌<◌, ◌≤◌, ◌^◌, List, ◌∷◌, ◌++◌, length, take, drop, slice_set, sym, ap, ◌∙◌}
+use Rattle.std.proofs.Common.{◌≡◌, ℕ, ◌+◌, ◌-◌, ◌*◌, ◌/◌, ◌%◌, ◌<◌, ◌≤◌, ◌^◌, List, ◌∷◌, ◌++◌, length, drop, slice_set, sym, ap, ◌∙◌}
 use Rattle.std.proofs.Common.{zero, suc, arith, add-one, append_assoc}
 use Rattle.std.proofs.Math.Nat.{pow-suc}
-use Rattle.std.proofs.lemmas.List.{take_rest, drop-set, length-set}
+use Rattle.std.proofs.lemmas.List.{drop-set, length-set}
 use Rattle.std.proofs.lemmas.Fmt.{decimal_step, decimal_digit}
 use Rattle.std.specs.Fmt.{decimal}
 
--- the digits after the place `start` are the last ones, and `rest` is what stands before them
-pub record AreWritten (number rest start : ℕ) (digits : List ℕ) : Type 0 where
-  pub within : start ≤ 19
-  pub small : rest < 10 ^ (start + 1)
-  pub room : length digits ≡ 20
-  pub written : decimal number ≡ decimal rest ++ drop (start + 1) digits
+-- what stands behind the place `last` are the last bytes of a text, and `rest` is the number before them
+pub record AreWritten (text : List ℕ) (rest last : ℕ) (digits : List ℕ) : Type 0 where
+  pub within : last ≤ 19
+  pub small : rest < 10 ^ (last + 1)
+  pub room : length digits ≡ 21
+  pub written : text ≡ decimal rest ++ drop (last + 1) digits
 
-pub small_before : (rest start : ℕ) → rest < 10 ^ (start + 1) → rest / 10 < 10 ^ start
-small_before rest start small =
-    let step : 10 ^ (start + 1) ≡ 10 ^ start * 10 = rw add-one (pow-suc 10 start) in
+small_before : (rest last : ℕ) → rest < 10 ^ (last + 1) → rest / 10 < 10 ^ last
+small_before rest last small =
+    let step : 10 ^ (last + 1) ≡ 10 ^ last * 10 = rw add-one (pow-suc 10 last) in
     omega arith
 
--- a digit more stands before them
-pub room_before : (rest start : ℕ) → 10 ≤ rest → rest < 10 ^ (start + 1) → 1 ≤ start
-room_before rest zero large small = omega arith
-room_before rest (suc start) large small = omega arith
+-- a digit more stands before the last
+one_before : (rest last : ℕ) → 10 ≤ rest → rest < 10 ^ (last + 1) → 1 ≤ last
+one_before rest zero large small = omega arith
+one_before rest (suc last) large small = omega arith
 
-pub one_written : (number rest start : ℕ) (digits : List ℕ) → AreWritten number rest start digits → 10 ≤ rest → rest < 2 ^ 64
-    → AreWritten number (rest / 10) (start - 1) (slice_set digits start (48 + rest % 10))
-one_written number rest start digits so_far large fits =
-    let room : 1 ≤ start = room_before rest start large so_far.small in
-    let back : start - 1 + 1 ≡ start = omega arith in
-    let set : drop start (slice_set digits start (48 + rest % 10)) ≡ (48 + rest % 10) ∷ drop (start + 1) digits =
-    drop-set digits start _ (omega (arith, so_far.within, so_far.room)) in
+one_written : (text : List ℕ) (rest last : ℕ) (digits : List ℕ) → AreWritten text rest last digits → 10 ≤ rest → rest < 2 ^ 64
+    → AreWritten text (rest / 10) (last - 1) (slice_set digits last (48 + rest % 10))
+one_written text rest last digits so_far large fits =
+    let room : 1 ≤ last = one_before rest last large so_far.small in
+    let back : last - 1 + 1 ≡ last = omega arith in
+    let set : drop last (slice_set digits last (48 + rest % 10)) ≡ (48 + rest % 10) ∷ drop (last + 1) digits =
+    drop-set digits last _ (omega (arith, so_far.within, so_far.room)) in
     record {
       within = omega (arith, so_far.within);
-      small = rw back (small_before rest start so_far.small);
-      room = length-set digits start _ ∙ so_far.room;
+      small = rw back (small_before rest last so_far.small);
+      room = length-set digits last _ ∙ so_far.room;
       written = rw (back, set) (so_far.written
-          ∙ ap (λ (t : List ℕ). t ++ drop (start + 1) digits) (decimal_step rest large fits)
+          ∙ ap (λ (t : List ℕ). t ++ drop (last + 1) digits) (decimal_step rest large fits)
           ∙ append_assoc (decimal (rest / 10)) _ _);
     }
 
-pub all_written : (number rest start : ℕ) (digits : List ℕ) → AreWritten number rest start digits → rest < 10
-    → take (20 - start) (drop start (slice_set digits start (48 + rest))) ≡ decimal number
-all_written number rest start digits so_far digit =
-    let room : length (slice_set digits start (48 + rest)) ≡ 20 = length-set digits start _ ∙ so_far.room in
-    let all : take (20 - start) (drop start (slice_set digits start (48 + rest))) ≡ drop start (slice_set digits start (48 + rest)) =
-    ap (λ (n : ℕ). take (n - start) (drop start (slice_set digits start (48 + rest)))) (sym room)
-    ∙ take_rest (slice_set digits start (48 + rest)) start in
-    all
-    ∙ drop-set digits start _ (omega (arith, so_far.within, so_far.room))
-    ∙ sym (so_far.written ∙ ap (λ (t : List ℕ). t ++ drop (start + 1) digits) (decimal_digit rest digit))
+pub two_written : (text : List ℕ) (rest last : ℕ) (digits : List ℕ) → AreWritten text rest last digits → 100 ≤ rest → rest < 2 ^ 64
+    → AreWritten text (rest / 100) (last - 2) (slice_set (slice_set digits last (48 + rest % 100 % 10)) (last - 1) (48 + rest % 100 / 10))
+two_written text rest last digits so_far large fits =
+    let ones : rest % 100 % 10 ≡ rest % 10 = omega arith in
+    let tens : rest % 100 / 10 ≡ rest / 10 % 10 = omega arith in
+    let front : rest / 100 ≡ rest / 10 / 10 = omega arith in
+    let back : last - 2 ≡ last - 1 - 1 = omega arith in
+    rw (ones, tens, front, back)
+    (one_written text (rest / 10) (last - 1) _ (one_written text rest last digits so_far (omega arith) fits) (omega arith) (omega arith))
+
+-- the first digit is the last that is written
+pub first_written : (text : List ℕ) (rest last : ℕ) (digits : List ℕ) → AreWritten text rest last digits → rest < 10
+    → drop last (slice_set digits last (48 + rest)) ≡ text
+first_written text rest last digits so_far digit =
+    drop-set digits last _ (omega (arith, so_far.within, so_far.room))
+    ∙ sym (so_far.written ∙ ap (λ (t : List ℕ). t ++ drop (last + 1) digits) (decimal_digit rest digit))
+
+-- the first two digits are the last that are written
+pub first_two_written : (text : List ℕ) (rest last : ℕ) (digits : List ℕ) → AreWritten text rest last digits → 10 ≤ rest → rest < 100
+    → drop (last - 1) (slice_set (slice_set digits last (48 + rest % 10)) (last - 1) (48 + rest / 10)) ≡ text
+first_two_written text rest last digits so_far large small =
+    first_written text (rest / 10) (last - 1) _ (one_written text rest last digits so_far large (omega arith)) (omega arith)

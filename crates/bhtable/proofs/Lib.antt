@@ -6,9 +6,11 @@ mod Finding
 mod Growing
 mod LineSplits
 mod Naming
+mod Newlines
 mod Numbers
 mod Outputs
 mod Parts
+mod Plain
 mod PowersOfTwo
 mod PushingAll
 mod Reading

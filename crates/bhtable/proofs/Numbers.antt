@@ -14,7 +14,7 @@ pub record IsNumber (word : List ℕ) : Type 0 where
   pub digits : all_ascii_digits word ≡ true
   pub fits : value_of word < 2 ^ 64
 
-number_parts : (bytes : List ℕ) → is_number bytes ≡ true → IsNumber bytes
+pub number_parts : (bytes : List ℕ) → is_number bytes ≡ true → IsNumber bytes
 unfolding is_number
 number_parts bytes holds =
     let fits = and_parts _ (nat_lt (value_of bytes) (2 ^ 64)) holds in

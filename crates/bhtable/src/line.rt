@@ -2,10 +2,11 @@
 //!
 //! A line is found first, as a value, and passed once its bytes are used, so that a caller can
 //! answer what it has before it asks for more.
-ghost use Rattle.std.specs.Prelude.{◌≡◌, ◌≤◌, ◌==◌, length, position};
+ghost use Rattle.std.specs.Prelude.{◌≡◌, ◌≤◌, ◌==◌, IfSome, length, position};
 
 use crate::stop::Stop;
 use crate::window::Window;
+use bucket_slots::matcher::match_partial_hash;
 use std::alloc::{AllocError, Global};
 use std::io::Read;
 use std::marker::Model;
@@ -73,6 +74,7 @@ impl<R: Read + Drop> Lines<R> {
     }
 
     /// What stands at the front.
+    #[inline(always)]
     pub(crate) fn find(&self) -> Found
         ensures found { IsFoundIn self.now.is_ended self.now.unread result }
         ensures within { IsWithin self.now.unread result }
@@ -129,7 +131,23 @@ impl<R: Read + Drop> Lines<R> {
 fn newline_in(bytes: &[u8]) -> Option<usize>
     ensures { result ≡ position (λ byte. byte == 10) bytes.now }
 {
-    bytes.iter().position(|byte| *byte == b'\n')
+    match newline_in_front(bytes) {
+        Some(at) => Some(at),
+        None => bytes.iter().position(|byte| *byte == b'\n'),
+    }
+}
+
+// The first newline, where it is one of the first 32 bytes, which are compared at once.
+#[inline(always)]
+fn newline_in_front(bytes: &[u8]) -> Option<usize>
+    ensures { IfSome result (λ _. result ≡ position (λ byte. byte == 10) bytes.now) }
+{
+    let front = bytes.first_chunk::<32>()?;
+    let newlines = match_partial_hash(front, b'\n');
+    if newlines == 0 {
+        return None;
+    }
+    Some(newlines.trailing_zeros() as usize)
 }
 
 impl Found {
@@ -137,6 +155,7 @@ impl Found {
     ghost use Rattle.bhtable.specs.Layout.Found.{IsFound, IsWithin};
 
     // A line of `len` bytes but for the one carriage return that may end them.
+    #[inline(always)]
     fn of(bytes: &[u8], len: usize, whole_len: usize) -> Found
         requires bytes { whole_len ≤ length bytes.now }
         requires end { len ≤ whole_len }
@@ -148,9 +167,9 @@ impl Found {
         } else {
             len
         };
-        if len > LONGEST_LINE {
-            return Found::TooLong;
+        if len <= LONGEST_LINE {
+            return Found::Line(Line { whole_len, len });
         }
-        Found::Line(Line { whole_len, len })
+        Found::TooLong
     }
 }

@@ -12,7 +12,7 @@ ghost use Rattle.bucket_table.specs.declared.script.call.Call.{Call};
 ghost use Rattle.bucket_table.specs.declared.script.generation.FixedGeneration.{FixedGeneration};
 
 use crate::meanings::meaning_of;
-use crate::words::Words;
+use crate::words::{Words, lone_number, two_numbers};
 use bucket_table::hash_table::MAXIMUM_CAPACITY_LIMIT;
 use bucket_table::script::{Call, FixedGeneration, ScriptHash};
 
@@ -127,6 +127,9 @@ pub(crate) fn request_in(line: &[u8]) -> Result<Option<Request>, Unreadable>
     ensures unreadable { OnErr result ((parts_of line.now ≡ [] → ⊥)
         × AsksNothing (parts_of line.now)) }
 {
+    if let Some(call) = plain_call(line) {
+        return Ok(Some(Request::Call(call)));
+    }
     let mut words = Words::of(line);
     let Some(first) = words.next_word() else {
         return Ok(None);
@@ -135,6 +138,35 @@ pub(crate) fn request_in(line: &[u8]) -> Result<Option<Request>, Unreadable>
         Some(request) => Ok(Some(request)),
         None => Err(Unreadable),
     }
+}
+
+// A call that has numbers alone, where one blank stands behind its verb and no other byte before
+// the first number. Most lines ask for one.
+fn plain_call(line: &[u8]) -> Option<Call<u64, u64>>
+    ensures { IfSome result (λ call. Asks (parts_of line.now) (Request.Call call)) }
+{
+    if let Some(key) = line.strip_prefix(b"peek ") {
+        return Some(Call::Peek(lone_number(key)?));
+    }
+    if let Some(key) = line.strip_prefix(b"read ") {
+        return Some(Call::Read(lone_number(key)?));
+    }
+    if let Some(pair) = line.strip_prefix(b"put ") {
+        let (key, value) = two_numbers(pair)?;
+        return Some(Call::Put(key, value));
+    }
+    if let Some(pair) = line.strip_prefix(b"write ") {
+        let (key, value) = two_numbers(pair)?;
+        return Some(Call::Write(key, value));
+    }
+    if let Some(key) = line.strip_prefix(b"remove ") {
+        return Some(Call::Remove(lone_number(key)?));
+    }
+    if let Some(key) = line.strip_prefix(b"touch ") {
+        return Some(Call::Touch(lone_number(key)?));
+    }
+    let key = line.strip_prefix(b"evict ")?;
+    Some(Call::Evict(lone_number(key)?))
 }
 
 // What a line asks for, with no word left over.

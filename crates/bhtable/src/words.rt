@@ -1,6 +1,5 @@
 //! The words of a line, and the numbers that they write.
-ghost use Rattle.std.specs.Prelude.{◌≡◌, ℕ, ◌-◌, ◌<◌, ◌≤◌, true, false, List, [], ◌∷◌, is_some, length, take, drop, slice_index, IfSome, MatchOption};
-ghost use Rattle.std.specs.Char.{is_ascii_digit};
+ghost use Rattle.std.specs.Prelude.{◌≡◌, ℕ, ◌<◌, ◌≤◌, true, false, List, [], ◌∷◌, is_some, length, take, drop, slice_index, IfSome, MatchOption};
 ghost use Rattle.bhtable.specs.Numbers.{is_number, value_of};
 ghost use Rattle.bhtable.specs.Words.{Part, number, is_blank, part_of, parts_of, with_word, words_of};
 
@@ -50,6 +49,26 @@ impl<'a> Words<'a> {
     }
 }
 
+/// The number that a line is, where it has nothing else, not even blanks.
+pub(crate) fn lone_number(line: &[u8]) -> Option<u64>
+    ensures { IfSome result (λ value. parts_of line.now ≡ number value ∷ []) }
+{
+    number_of(line)
+}
+
+/// The two numbers of a line that has no other word.
+pub(crate) fn two_numbers(line: &[u8]) -> Option<(u64, u64)>
+    ensures { IfSome result (λ pair. parts_of line.now ≡ number pair.0 ∷ number pair.1 ∷ []) }
+{
+    let mut words = Words::of(line);
+    let first = words.number()?;
+    let second = words.number()?;
+    match words.next_word() {
+        None => Some((first, second)),
+        Some(_) => None,
+    }
+}
+
 fn is_blank(byte: u8) -> bool
     ensures { result ≡ is_blank byte }
 {
@@ -95,18 +114,10 @@ fn number_of(word: &[u8]) -> Option<u64>
     }
     let mut number: u64 = 0;
     for byte in word {
-        let digit = digit_of(*byte)?;
-        number = number.checked_mul(10)?.checked_add(digit)?;
+        if !byte.is_ascii_digit() {
+            return None;
+        }
+        number = number.checked_mul(10)?.checked_add((*byte - b'0') as u64)?;
     }
     Some(number)
-}
-
-fn digit_of(byte: u8) -> Option<u64>
-    ensures { MatchOption result (is_ascii_digit byte ≡ false)
-        (λ digit. (is_ascii_digit byte ≡ true) × (digit ≡ byte - 48)) }
-{
-    match byte {
-        b'0'..=b'9' => Some((byte - b'0') as u64),
-        _ => None,
-    }
 }

@@ -9,16 +9,17 @@ returns-then-is_empty-clause-accepted c = no_number c.args.word.now (λ number. 
   | inr long ↦ omega (arith, number.few, long.1)
 ])
 
-pub returns-in_err-digit-clause-accepted : goal.returns-in_err-digit-clause-accepted
-returns-in_err-digit-clause-accepted c =
+pub returns-then-not-is_ascii_digit-clause-accepted : goal.returns-then-not-is_ascii_digit-clause-accepted
+returns-then-not-is_ascii_digit-clause-accepted c =
     let l = c.loop-byte in
-    none_if _ c.args.word.now c.from_residual.ensures
-    (other_byte_at _ l.number l.byte-index l.invariant c.loop-byte-test.true c.in_err-digit.ensures)
+    no_number c.args.word.now
+    (other_byte_at _ l.number l.byte-index l.invariant c.loop-byte-test.true
+    (sym c.is_ascii_digit.ensures.value ∙ c.if-not-is_ascii_digit.true))
 
 pub returns-in_err-checked_mul-clause-accepted : goal.returns-in_err-checked_mul-clause-accepted
 returns-in_err-checked_mul-clause-accepted c =
     let l = c.loop-byte in
-    none_if _ c.args.word.now c.from_residual-in_err-checked_mul.ensures
+    none_if _ c.args.word.now c.from_residual.ensures
     (too_large_at _ l.number l.byte-index l.invariant c.loop-byte-test.true (omega (arith, c.in_err-checked_mul.ensures)))
 
 pub returns-in_err-number-clause-accepted : goal.returns-in_err-number-clause-accepted
@@ -26,7 +27,7 @@ returns-in_err-number-clause-accepted c =
     let l = c.loop-byte in
     none_if _ c.args.word.now c.from_residual-in_err-number.ensures
     (too_large_at _ l.number l.byte-index l.invariant c.loop-byte-test.true
-    (omega (arith, c.in_err-number.ensures, c.in_ok-checked_mul.ensures, c.in_ok-digit.ensures.1)))
+    (omega (arith, c.in_err-number.ensures, c.in_ok-checked_mul.ensures)))
 
 pub returns-clause-accepted : goal.returns-clause-accepted
 returns-clause-accepted c =
