@@ -1,16 +1,13 @@
 -- Lists of equally long parts, and parts of which some buckets are made.
-use Rattle.std.proofs.Common.{ℕ, zero, suc, Bool, true, false, ◌+◌, ◌-◌, ◌*◌, ◌/◌, ◌%◌, ◌^◌, ◌<◌, ◌≤◌, ◌≡◌, List, [], ◌∷◌, ◌++◌, length, get_or, set, take, drop, replicate, inl, inr, refl, sym, ap, subst, ◌∙◌, arith}
-use Rattle.std.specs.List.{All}
-use Rattle.std.proofs.Math.Nat.{add-mul, one-mul, mul_comm, mod-lt, div-add-mod}
-use Rattle.std.proofs.lemmas.Nat.{pow_pos, div_below}
-use Rattle.std.proofs.lemmas.Bool.{cases_lt}
-use Rattle.std.proofs.lemmas.List.{append-nil, append_assoc, get_or-append_right, get_or_append_left, get_or-replicate, length-append, length-replicate, length-set, length-take-le, length_push, replicate-append-replicate, set-append_left, set-append_right, set-get_or, set_split}
-use Rattle.std.proofs.lemmas.List.Concat.{flat_map-append}
-use Rattle.std.proofs.lemmas.List.Elements.{All-get_or, All-head, All-replicate, All-same, All-set, All-tail, All-take}
+use Rattle.bucket_slots.proofs.Words.{All, All-head, All-tail, AreParts, Bool, BucketView, IsLengthFor, List, [], add-mul, ap, append-nil}
+use Rattle.bucket_slots.proofs.Words.{append_assoc, arith, cases_lt, div-add-mod, div_below, drop, empty_bucket, false, flat_map-append}
+use Rattle.bucket_slots.proofs.Words.{flattened, get_or, inl, inr, length, length-append, length-set, length-take-le, mod-lt, mul_comm}
+use Rattle.bucket_slots.proofs.Words.{one-mul, part_at, pow_pos, refl, replicate, set, set-get_or, set_split, subst, suc, sym, take, true}
+use Rattle.bucket_slots.proofs.Words.{unmade_bucket, with_unmade, zero, ℕ, ◌%◌, ◌*◌, ◌++◌, ◌+◌, ◌-◌, ◌/◌, ◌<◌, ◌^◌, ◌∙◌, ◌∷◌, ◌≡◌, ◌≤◌}
+use Rattle.std.proofs.lemmas.List.{get_or-append_right, get_or_append_left, length-replicate, length_push, replicate-append-replicate}
+use Rattle.std.proofs.lemmas.List.{set-append_left, set-append_right}
+use Rattle.std.proofs.lemmas.List.Elements.{All-get_or, All-replicate, All-same, All-set, All-take}
 use Rattle.bucket_slots.specs.ArrayView.{IsNewArray}
-use Rattle.bucket_slots.specs.BucketView.{BucketView, empty_bucket, flattened}
-use Rattle.bucket_slots.specs.Layout.ArrayParts.{AreParts, part_at, unmade_bucket, with_unmade}
-use Rattle.bucket_slots.specs.Sizing.{IsLengthFor}
 
 module _ {A : Type 0} where
   pub all_one : (xs : List A) (x d : A) → ((i : ℕ) → i < length xs → get_or xs i d ≡ x) → xs ≡ replicate (length xs) x
@@ -84,26 +81,7 @@ abbrev Buckets : Type 0 → Type 0 → Type 0
 Buckets K V = List (BucketView K V)
 
 module _ {K V : Type 0} where
-  -- where a bucket isn't made, a spare one is read
-  pub get_or-unmade : (made : Buckets K V) (len i : ℕ) (released : Bool) → length made ≤ i → i < length (with_unmade made len released)
-      → get_or (with_unmade made len released) i empty_bucket ≡ unmade_bucket released
-  get_or-unmade made len i released past below =
-      let spare : BucketView K V = unmade_bucket released in
-      let count : ℕ = len - length made in
-      let all = length-append made (replicate count spare) in
-      let within : i - length made < count = omega (arith, past, below, all, length-replicate count spare) in
-      get_or-append_right made (replicate count spare) (length made) i empty_bucket refl past
-      ∙ get_or-replicate count (i - length made) spare empty_bucket within
-
-  -- and so it is of the part t, which is made of these
-  pub spare_read : (made : Buckets K V) (len i : ℕ) (released killed : Bool) {t : Buckets K V} {bucket : BucketView K V}
-      → with_unmade made len released ≡ t → released ≡ killed → length made ≤ i → i < length t → bucket ≡ unmade_bucket killed
-      → bucket ≡ get_or t i empty_bucket
-  spare_read made len i released killed is same past below spare =
-      spare ∙ ap unmade_bucket (sym same) ∙ sym (get_or-unmade made len i released past (rw is below))
-      ∙ ap (λ l. get_or l i empty_bucket) is
-
-  -- where it is made, it is read
+  -- a bucket that is made is read
   pub get_or-made : (made : Buckets K V) (len i : ℕ) (released : Bool) → i < length made
       → get_or (with_unmade made len released) i empty_bucket ≡ get_or made i empty_bucket
   get_or-made made len i released there = get_or_append_left made (replicate (len - length made) (unmade_bucket released)) empty_bucket i there

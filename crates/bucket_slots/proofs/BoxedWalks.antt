@@ -1,9 +1,8 @@
 -- Rows on both sides of a place in a list of blocks.
-use Rattle.std.proofs.Common.{ℕ, ◌+◌, ◌-◌, ◌<◌, ◌≤◌, ◌≡◌, Option, Some, None, get_or, List, [], ◌∷◌, ◌++◌, length, take, drop, refl, sym, ap, ◌∙◌, arith, Box}
-use Rattle.std.proofs.Math.Seq.{take-add}
-use Rattle.std.proofs.lemmas.List.{append_assoc, drop-drop, drop_all, get_or-drop, length-drop}
+use Rattle.bucket_slots.proofs.Words.{List, None, Option, Some, [], ap, append_assoc, arith, drop, drop-drop, drop_all, get_or, get_or-drop}
+use Rattle.bucket_slots.proofs.Words.{length, length-drop, refl, rows_of, sym, take, ℕ, ◌++◌, ◌+◌, ◌-◌, ◌<◌, ◌∙◌, ◌∷◌, ◌≡◌, ◌≤◌}
+use Rattle.std.proofs.Common.{Box, take-add}
 use Rattle.bucket_slots.specs.declared.bucket.blocks.Block.{Block}
-use Rattle.bucket_slots.specs.Layout.BoxedRows.{rows_of}
 use Rattle.bucket_slots.specs.Layout.LinkLoans.{link_with_next, link_with_row}
 
 pub link_with_next-rows : {T A : Type 0} (link : Option (Box (Block T) A)) (rows : List T) → 0 < length (rows_of link)

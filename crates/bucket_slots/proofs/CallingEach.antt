@@ -17,12 +17,12 @@ module _ {S K V : Type 0} (step : S → Bor K → Bor V → S → Type 0) where
       → IsAmid first (pairs_in bucket) first (pairs_ahead bucket at)
   sets_out first bucket at is = record { done = []; parts = ap (λ p. pairs_ahead bucket p) (sym is); calls = refl }
 
-  called_once_more : (first now next : S) (pairs : List (K × V)) (own : Bor K) (value : Bor V) → CallsEach step first pairs now
-      → step now own value next → CallsEach step first (pairs ++ (own.now, value.now) ∷ []) next
-  called_once_more first now next [] own value calls more =
-      (own, value, refl, (next, subst (λ (s : S). step s own value next) calls more, refl))
-  called_once_more first now next (pair ∷ pairs) own value (o, v, is, (between, call, calls)) more =
-      (o, v, is, (between, call, called_once_more between now next pairs own value calls more))
+  -- some pairs, and then others
+  pub calls_joined : (first between last : S) (pairs others : List (K × V)) → CallsEach step first pairs between
+      → CallsEach step between others last → CallsEach step first (pairs ++ others) last
+  calls_joined first between last [] others calls more = subst (λ (s : S). CallsEach step s others last) calls more
+  calls_joined first between last (pair ∷ pairs) others (o, v, is, (next, call, calls)) more =
+      (o, v, is, (next, call, calls_joined next between last pairs others calls more))
 
   -- one more
   pub goes_on : (first now next : S) (all : List (K × V)) (bucket : BucketView K V) (at to : Place) (own : Bor K) (value : Bor V)
@@ -34,7 +34,7 @@ module _ {S K V : Type 0} (step : S → Bor K → Bor V → S → Type 0) where
         done = amid.done ++ (own.now, value.now) ∷ [];
         parts = amid.parts ∙ ap (λ l. amid.done ++ l) (moves.ahead ∙ ap (λ p. p ∷ pairs_ahead bucket to) same)
             ∙ sym (append_assoc amid.done ((own.now, value.now) ∷ []) (pairs_ahead bucket to));
-        calls = called_once_more first now next amid.done own value amid.calls call;
+        calls = calls_joined first now next amid.done ((own.now, value.now) ∷ []) amid.calls (own, value, refl, (next, call, refl));
       }
 
   -- all

@@ -1,8 +1,6 @@
 -- There is one optimal capacity, and what an array has for a capacity fits its bounds.
-use Rattle.std.proofs.Common.{ℕ, ◌*◌, ◌/◌, ◌<◌, ◌≤◌, ◌≡◌, max, min, ⊎_elim, sym, subst, ◌∙◌, arith}
-use Rattle.std.specs.Int.{IsPowerOfTwo}
-use Rattle.std.proofs.lemmas.Bool.{cases_lt}
-use Rattle.bucket_slots.specs.Sizing.{IsGrownCapacity, IsLeastDoubling, IsLengthFor, IsOptimalCapacity}
+use Rattle.bucket_slots.proofs.Words.{IsGrownCapacity, IsLeastDoubling, IsLengthFor, IsOptimalCapacity, IsPowerOfTwo, arith, cases_lt, max}
+use Rattle.bucket_slots.proofs.Words.{min, subst, sym, ℕ, ⊎_elim, ◌*◌, ◌/◌, ◌<◌, ◌∙◌, ◌≡◌, ◌≤◌}
 use Rattle.bucket_slots.proofs.PowersOfTwo.{least_is_one}
 
 below_least : (start entries maximum m n : ℕ) → IsLeastDoubling start entries maximum m → IsLeastDoubling start entries maximum n → m < n

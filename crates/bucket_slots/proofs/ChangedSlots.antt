@@ -1,16 +1,9 @@
 -- What the fields of a bucket keep where one of its slots changes.
-use Rattle.std.proofs.Common.{ℕ, ◌+◌, ◌-◌, ◌<◌, ◌≤◌, ◌≡◌, ◌≢◌, ◌==◌, inl, inr, true, false, not, IsTrue, List, [], length, get_or, set}
-use Rattle.std.proofs.Common.{refl, ap, ◌∙◌, arith, suc, zero, All, get_or-set_other, get_or-set_same, length-set}
-use Rattle.std.proofs.lemmas.Bool.{cases_eq}
-use Rattle.std.proofs.lemmas.Bool.Decides.{nat_tests}
-use Rattle.std.proofs.lemmas.List.Elements.{All-filter, filter_passes}
-use Rattle.bucket_slots.specs.declared.bucket.TheConstants.{CACHE, INDEX}
-use Rattle.bucket_slots.specs.BucketView.{BucketView, Place, all_slots, block_at, slot_in, with_slot, with_slot_at}
-use Rattle.bucket_slots.specs.Layout.BucketFields.{IsBucket}
-use Rattle.bucket_slots.specs.Marking.{slot_marked}
-use Rattle.bucket_slots.specs.Moving.{slots_vacated_at}
-use Rattle.bucket_slots.specs.Recency.{order_without}
-use Rattle.bucket_slots.specs.Slots.{Slot, free, is_live, is_marked, live, slot_at, slot_with_value}
+use Rattle.bucket_slots.proofs.Words.{All, All-filter, BucketView, CACHE, INDEX, IsBucket, IsTrue, List, Place, Slot, [], all_slots, ap}
+use Rattle.bucket_slots.proofs.Words.{arith, block_at, cases_eq, false, filter_passes, free, get_or, get_or-set_other, get_or-set_same, inl}
+use Rattle.bucket_slots.proofs.Words.{inr, is_live, is_marked, length, length-set, live, nat_tests, not, order_without, refl, set, slot_at}
+use Rattle.bucket_slots.proofs.Words.{slot_in, slot_marked, slot_with_value, slots_vacated_at, suc, true, with_slot, with_slot_at, zero, ℕ}
+use Rattle.bucket_slots.proofs.Words.{◌+◌, ◌-◌, ◌<◌, ◌==◌, ◌∙◌, ◌≡◌, ◌≢◌, ◌≤◌}
 use Rattle.bucket_slots.proofs.Counting.{length-live_pairs, linked_row, sum_by-with_slot, tally}
 use Rattle.bucket_slots.proofs.FirstPlaces.{live_occupied}
 use Rattle.bucket_slots.proofs.Pointing.{inside_row}

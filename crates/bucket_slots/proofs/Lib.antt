@@ -1,5 +1,9 @@
+pub mod Words
+pub mod WalkWords
 pub mod Matching
 pub mod CallingEach
+pub mod ChangingEach
+pub mod SlotFronts
 pub mod Recency
 pub mod CellsMemory
 pub mod OptionWalks

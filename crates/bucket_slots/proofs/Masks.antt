@@ -1,21 +1,11 @@
 -- Masks: what their bits say of a list's elements, and what they become where an element changes.
-use Rattle.std.proofs.Common.{ℕ, ◌+◌, ◌-◌, ◌<◌, ◌≤◌, ◌≡◌, ◌≢◌, ◌^◌, inl, inr, Bool, true, false, not, ◌&&◌, cond, min, eqb, List, [], ◌∷◌}
-use Rattle.std.proofs.Common.{Option, Some, None, is_some, length, map, get_or, set, refl, sym, ap, subst, ◌∙◌, arith, bit_and, w32}
-use Rattle.std.specs.Int.{bit_at}
-use Rattle.std.specs.List.{count_by, list_all, list_any, position}
-use Rattle.std.specs.Simd.Lanes.{mask_l}
-use Rattle.std.proofs.lemmas.Bool.{cases_eq, cases_lt, not-false, not-true}
-use Rattle.std.proofs.lemmas.Bool.Decides.{nat_tests}
-use Rattle.std.proofs.lemmas.Grind.{common_steps}
-use Rattle.std.proofs.lemmas.List.{get_or-map, get_or-set_other, get_or-set_same, get_or_past, length-map, map-set}
-use Rattle.std.proofs.lemmas.List.Folds.{list_any_at, list_any_none}
-use Rattle.std.proofs.lemmas.List.Quantifiers.{position-Some}
-use Rattle.std.proofs.lemmas.Nat.Bits.{bit_at-zero, bit_at_and, bit_at_not, same_from_bits}
-use Rattle.std.proofs.lemmas.Simd.{bit_mask_l, ones-mask_l}
+use Rattle.bucket_slots.proofs.Words.{Bool, IsLeft, IsLowest, IsLowestClear, IsMaskOf, List, None, Option, SetsBit, Some, [], ap, arith}
+use Rattle.bucket_slots.proofs.Words.{bit_and, bit_at, bit_at-zero, bit_at_and, bit_at_not, bit_mask_l, cases_eq, cases_lt, common_steps}
+use Rattle.bucket_slots.proofs.Words.{cond, count_by, eqb, false, get_or, get_or-map, get_or-set_other, get_or-set_same, get_or_past, inl}
+use Rattle.bucket_slots.proofs.Words.{inr, is_some, length, length-map, list_all, list_any, list_any_at, list_any_none, map, map-set}
+use Rattle.bucket_slots.proofs.Words.{mask_l, min, nat_tests, not, not-false, not-true, ones-mask_l, position, position-Some, refl}
+use Rattle.bucket_slots.proofs.Words.{same_from_bits, set, subst, sym, true, w32, ℕ, ◌&&◌, ◌+◌, ◌-◌, ◌<◌, ◌^◌, ◌∙◌, ◌∷◌, ◌≡◌, ◌≢◌, ◌≤◌}
 use lib.Count.{ones}
-use Rattle.bucket_slots.specs.Layout.Bitmaps.{IsLowest, IsLowestClear, SetsBit}
-use Rattle.bucket_slots.specs.Layout.Masks.{IsLeft}
-use Rattle.bucket_slots.specs.Masks.{IsMaskOf}
 use Rattle.bucket_slots.proofs.Positions.{position-None, position_at, position_nowhere}
 
 pub bit_is : (b : Bool) → ◌≡◌ {A = ℕ} (cond b 1 0) 1 → b ≡ true

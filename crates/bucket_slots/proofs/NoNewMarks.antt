@@ -1,11 +1,7 @@
 -- That no mark is new, of lists of marks, of rows of slots, and where a slot, a row or a bucket changes, comes or goes.
-use Rattle.std.proofs.Common.{ℕ, ◌≡◌, inl, inr, List, [], ◌∷◌, ◌++◌, ap, arith, get_or, map, set, sym, take, remove, subst, suc, zero}
-use Rattle.std.proofs.Common.{option_to_list}
-use Rattle.std.specs.List.{Contains, flat_map}
-use Rattle.std.proofs.lemmas.List.Elements.{Contains-append_cases, Contains-append_left, Contains-append_right}
-use Rattle.bucket_slots.specs.BucketView.{flattened, rows_with}
-use Rattle.bucket_slots.specs.Marking.{HasNoNewMark, MarksBy}
-use Rattle.bucket_slots.specs.Slots.{Slot, free, marked_entries, marked_entry}
+use Rattle.bucket_slots.proofs.Words.{Contains, Contains-append_cases, Contains-append_left, Contains-append_right, HasNoNewMark, List}
+use Rattle.bucket_slots.proofs.Words.{MarksBy, Slot, [], ap, arith, flat_map, flattened, free, get_or, inl, inr, map, marked_entries}
+use Rattle.bucket_slots.proofs.Words.{marked_entry, option_to_list, remove, rows_with, set, subst, suc, sym, take, zero, ℕ, ◌++◌, ◌∷◌, ◌≡◌}
 use Rattle.bucket_slots.proofs.Entries.{filter_map-flattened, filter_map-is}
 
 module _ {K V : Type 0} where

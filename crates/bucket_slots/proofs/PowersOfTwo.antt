@@ -1,9 +1,7 @@
 -- Powers of two: their order, their quotients, and the least one.
-use Rattle.std.proofs.Common.{refl, ◌≡◌, ℕ, ◌+◌, ◌-◌, ◌*◌, ◌/◌, ◌%◌, ◌^◌, ◌<◌, ◌≤◌, max, min, ⊎_elim, sym, ap, subst, ◌∙◌, arith, pow_mono}
-use Rattle.std.proofs.lemmas.Nat.{pow_pos, pow-add, pow_below, shl-shr}
-use Rattle.std.proofs.lemmas.Bool.{cases_lt}
-use Rattle.std.specs.Int.{IsPowerOfTwo}
-use Rattle.bucket_slots.specs.Sizing.{IsLeastPowerOfTwo, IsPowerIn}
+use Rattle.bucket_slots.proofs.Words.{IsLeastPowerOfTwo, IsPowerOfTwo, ap, arith, cases_lt, max, min, pow-add, pow_below, pow_mono, pow_pos}
+use Rattle.bucket_slots.proofs.Words.{refl, shl-shr, subst, sym, ℕ, ⊎_elim, ◌%◌, ◌*◌, ◌+◌, ◌-◌, ◌/◌, ◌<◌, ◌^◌, ◌∙◌, ◌≡◌, ◌≤◌}
+use Rattle.bucket_slots.specs.Sizing.{IsPowerIn}
 
 pub power_more : (k : ℕ) → 2 ^ (k + 1) ≡ 2 * 2 ^ k
 power_more k = pow-add 2 k 1 ∙ omega arith

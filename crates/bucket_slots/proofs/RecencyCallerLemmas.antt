@@ -1,19 +1,12 @@
 -- What callers cite of a placement and of a vacated slot: the own slots, the pairs of the chain and the recency list after it.
-use Rattle.std.proofs.Common.{ℕ, ◌<◌, ◌≡◌, ◌==◌, Bool, true, false, if◌then◌else◌, is_some, IsTrue, List, [], ◌∷◌, length, map, get_or, take, refl, sym, ap, ◌∙◌}
-use Rattle.std.proofs.Common.{arith, suc, zero, All, Contains, IsPermutation}
-use Rattle.std.proofs.lemmas.Bool.{eqb-true, ne_eqb, or_from, false_from_ne_true, true≢false, false≢true}
-use Rattle.std.proofs.lemmas.List.{get_or-set_other, get_or-set_same}
-use Rattle.std.proofs.lemmas.List.Elements.{All-contains, All-head, All-tail, Contains-append_left, Contains-append_right}
-use Rattle.std.proofs.lemmas.List.Folds.{list_any_at}
-use Rattle.std.proofs.lemmas.List.Sorted.{Contains-permutation}
-use Rattle.std.proofs.lemmas.Map.Views.{Contains-from_any}
-use Rattle.bucket_slots.specs.BucketLaws.{IsBucketOf}
-use Rattle.bucket_slots.specs.BucketView.{BucketView, block_at, first_place, flattened, listed_pairs, rows_with, with_slot_at}
-use Rattle.bucket_slots.specs.Moving.{slots_vacated_at}
-use Rattle.bucket_slots.specs.Placing.{free_block, place_for_next, slots_with, with_place_made}
-use Rattle.bucket_slots.specs.Recency.{IsRecencyOrder, is_listed}
-use Rattle.bucket_slots.specs.Slots.{Slot, free, is_free, is_live, live, live_pair, live_pairs, slot_at}
-use Rattle.bucket_slots.proofs.BucketPlacing.{place_made}
+use Rattle.bucket_slots.proofs.Words.{All, All-contains, All-head, All-tail, BucketView, Contains, Contains-append_left}
+use Rattle.bucket_slots.proofs.Words.{Contains-append_right, Contains-from_any, Contains-permutation, IsBucketOf, IsPermutation}
+use Rattle.bucket_slots.proofs.Words.{IsRecencyOrder, IsTrue, List, Slot, [], ap, arith, block_at, eqb-true, false, false_from_ne_true}
+use Rattle.bucket_slots.proofs.Words.{false≢true, flattened, free, get_or, get_or-set_other, get_or-set_same, is_free, is_listed, is_live}
+use Rattle.bucket_slots.proofs.Words.{length, list_any_at, listed_pairs, live, live_pair, live_pairs, map, ne_eqb, or_from, place_for_next}
+use Rattle.bucket_slots.proofs.Words.{refl, rows_with, slot_at, slots_vacated_at, slots_with, suc, sym, take, true, true≢false}
+use Rattle.bucket_slots.proofs.Words.{with_place_made, with_slot_at, zero, ℕ, ◌<◌, ◌==◌, ◌∙◌, ◌∷◌, ◌≡◌}
+use Rattle.bucket_slots.proofs.BucketPlacing.{place_made, same_made}
 use Rattle.bucket_slots.proofs.CallerLemmas.{live_not_free}
 use Rattle.bucket_slots.proofs.ChangedSlots.{live_inside}
 use Rattle.bucket_slots.proofs.Entries.{rows-exchanged}
@@ -39,20 +32,6 @@ next_is_new (first ∷ order) (suc k) is_order below =
     (next_is_new order k (older_order first order is_order) within)
 
 module _ {K V : Type 0} where
-  -- with or without a new block at the chain's head
-  own-made : (s : BucketView K V) (found : Bool) → (if found then s else record s { chain = free_block ∷ s.chain }).own ≡ s.own
-  own-made s true = refl
-  own-made s false = refl
-
-  listed-made : (s : BucketView K V) (found : Bool) → (if found then s else record s { chain = free_block ∷ s.chain }).listed ≡ s.listed
-  listed-made s true = refl
-  listed-made s false = refl
-
-  chain-made : (s : BucketView K V) (found : Bool)
-      → live_pairs (flattened (if found then s else record s { chain = free_block ∷ s.chain }).chain) ≡ live_pairs (flattened s.chain)
-  chain-made s true = refl
-  chain-made s false = refl
-
   -- another slot stands in the place of a free one
 
   own_still : (s : BucketView K V) (block pos : ℕ) (x : Slot K V) (slot : ℕ) → slot_at (block_at s block) pos ≡ free
@@ -98,7 +77,7 @@ module _ {K V : Type 0} where
 
   module _ (s : BucketView K V) (p : K × V) (b : ℕ) where
     same_own : (with_place_made s).own ≡ s.own
-    same_own = own-made s (is_some (first_place is_free s))
+    same_own = same_made (λ (t : BucketView K V). t.own) s refl
 
     -- every occupied own slot is as it was
     pub own_kept : (slot : ℕ) → is_free (slot_at s.own slot) ≡ false → slot_at (slots_with s p b).own slot ≡ slot_at s.own slot
@@ -122,14 +101,14 @@ module _ {K V : Type 0} where
     pub listed-slots_with : (slots_with s p b).listed ≡ s.listed
     listed-slots_with =
         let next = place_for_next s in
-        listed_still (with_place_made s) next.block next.pos (live p b) ∙ listed-made s (is_some (first_place is_free s))
+        listed_still (with_place_made s) next.block next.pos (live p b) ∙ same_made (λ (t : BucketView K V). t.listed) s refl
 
     -- the pairs of the chain stay there
     pub chain_kept : (q : K × V) → Contains (live_pairs (flattened s.chain)) q → Contains (live_pairs (flattened (slots_with s p b).chain)) q
     chain_kept q has =
         let next = place_for_next s in
         chain_still (with_place_made s) next.block next.pos p q b (place_made s).within (place_made s).slot
-        (rw (chain-made s (is_some (first_place is_free s))) has)
+        (rw (same_made (λ (t : BucketView K V). live_pairs (flattened t.chain)) s refl) has)
 
     -- the pair stands there where it wasn't given an own slot
     pub chain_put : ((place_for_next s).block ≡ 0 → ⊥) → Contains (live_pairs (flattened (slots_with s p b).chain)) p

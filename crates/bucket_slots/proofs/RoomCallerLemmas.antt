@@ -1,18 +1,12 @@
 -- What callers of a bucket cite of its free slots, of what is ahead of a pointer, and of killed buckets.
-use Rattle.std.proofs.Common.{ℕ, ◌+◌, ◌*◌, ◌<◌, ◌≡◌, ◌==◌, Bool, true, false, if◌then◌else◌, is_some, Option, Some, None, Result, Ok, Err}
-use Rattle.std.proofs.Common.{OnErr, [], ◌∷◌, ◌++◌, length, replicate, refl, ap, ◌∙◌, arith, suc, zero}
-use Rattle.std.proofs.lemmas.List.{nil_from_length}
-use Rattle.std.proofs.lemmas.List.Sums.{sum_by-append, sum_by-le}
-use Rattle.bucket_slots.specs.declared.bucket.TheConstants.{INDEX}
-use Rattle.bucket_slots.specs.BucketView.{BucketView, Place, all_slots, bucket_with_value, first_place, flattened, pairs_in, with_slot_at}
-use Rattle.bucket_slots.specs.Clearing.{looks_at_marks, slots_after_insertion, slots_without_expired, slots_without_free_end}
-use Rattle.bucket_slots.specs.Marking.{slots_marked}
-use Rattle.bucket_slots.specs.Moving.{slots_killed, slots_vacated, slots_vacated_at}
-use Rattle.bucket_slots.specs.Placing.{IsRefused, free_block, place_for_next, slots_with, with_place_made}
-use Rattle.bucket_slots.specs.Removing.{slots_unlinked_at, slots_without}
-use Rattle.bucket_slots.specs.Reserving.{free_len_in, with_free_blocks}
-use Rattle.bucket_slots.specs.Slots.{Slot, is_free, live, live_pairs}
-use Rattle.bucket_slots.proofs.BucketPlacing.{place_made}
+use Rattle.bucket_slots.proofs.Words.{Bool, BucketView, Err, INDEX, IsRefused, None, Ok, OnErr, Option, Place, Result, Slot, Some, []}
+use Rattle.bucket_slots.proofs.Words.{all_slots, ap, arith, bucket_with_value, false, first_place, flattened, free_block, free_len_in}
+use Rattle.bucket_slots.proofs.Words.{if◌then◌else◌, is_free, is_some, length, live, live_pairs, looks_at_marks, nil_from_length, pairs_in}
+use Rattle.bucket_slots.proofs.Words.{place_for_next, refl, replicate, slots_after_insertion, slots_killed, slots_marked, slots_unlinked_at}
+use Rattle.bucket_slots.proofs.Words.{slots_vacated, slots_vacated_at, slots_with, slots_without, slots_without_expired}
+use Rattle.bucket_slots.proofs.Words.{slots_without_free_end, suc, sum_by-append, sum_by-le, true, with_free_blocks, with_place_made}
+use Rattle.bucket_slots.proofs.Words.{with_slot_at, zero, ℕ, ◌*◌, ◌++◌, ◌+◌, ◌<◌, ◌==◌, ◌∙◌, ◌∷◌, ◌≡◌}
+use Rattle.bucket_slots.proofs.BucketPlacing.{place_made, same_made}
 use Rattle.bucket_slots.proofs.Counting.{free_len-blocks, length-live_pairs-append, sum_by-with_slot, tally}
 use Rattle.bucket_slots.proofs.FirstPlaces.{first_from-None}
 pub use Rattle.bucket_slots.proofs.AheadAfterRemoval.{pairs_ahead-slots_vacated}
@@ -69,14 +63,10 @@ module _ {K V : Type 0} where
   killed-with_slot_at s zero pos x = refl
   killed-with_slot_at s (suc i) pos x = refl
 
-  killed-made : (s : BucketView K V) (found : Bool) → (if found then s else record s { chain = free_block ∷ s.chain }).killed ≡ s.killed
-  killed-made s true = refl
-  killed-made s false = refl
-
   pub killed-slots_with : (s : BucketView K V) (pair : K × V) (byte : ℕ) → (slots_with s pair byte).killed ≡ s.killed
   killed-slots_with s pair byte =
       let next = place_for_next s in
-      killed-with_slot_at (with_place_made s) next.block next.pos (live pair byte) ∙ killed-made s (is_some (first_place is_free s))
+      killed-with_slot_at (with_place_made s) next.block next.pos (live pair byte) ∙ same_made (λ (t : BucketView K V). t.killed) s refl
 
   killed_placed : (looks : Bool) (keeps : ℕ → Bool) (s : BucketView K V) (pair : K × V) (byte : ℕ)
       → (if looks then slots_without_free_end (slots_with (slots_without_expired keeps s) pair byte) else slots_with s pair byte).killed

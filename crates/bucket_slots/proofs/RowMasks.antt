@@ -1,18 +1,10 @@
 -- What the bitmaps of a row say of its slots.
-use Rattle.std.proofs.Common.{ℕ, ◌-◌, ◌<◌, ◌≡◌, ◌==◌, ◌^◌, true, false, not, ◌&&◌, cond, min, if◌then◌else◌, Bool, List, Option, Some}
-use Rattle.std.proofs.Common.{is_some, length, map, get_or, set, refl, sym, ap, ◌∙◌, arith, bit_and}
-use Rattle.std.specs.Int.{bit_at}
-use Rattle.std.proofs.lemmas.Grind.{common_steps}
-use Rattle.std.proofs.lemmas.List.{get_or-map, get_or-set_other, get_or-set_same, get_or_default, map-set, set-get_or}
-use Rattle.std.proofs.lemmas.List.Folds.{map_fixed}
-use Rattle.std.proofs.lemmas.Nat.Bits.{bit_at-zero, bit_at_and}
-use Rattle.bucket_slots.specs.Clearing.{slot_without_expired}
-use Rattle.bucket_slots.specs.Layout.Bitmaps.{IsLowest, SetsBit}
-use Rattle.bucket_slots.specs.Layout.Blocks.{IsRow, row_slots, slot_of}
+use Rattle.bucket_slots.proofs.Words.{Bool, IsLowest, IsMaskOf, IsRow, List, Option, SetsBit, Slot, Some, ap, arith, bit_and, bit_at}
+use Rattle.bucket_slots.proofs.Words.{bit_at-zero, bit_at_and, common_steps, cond, false, free, get_or, get_or-map, get_or-set_other}
+use Rattle.bucket_slots.proofs.Words.{get_or-set_same, get_or_default, has_byte, if◌then◌else◌, is_free, is_live, is_marked, is_some}
+use Rattle.bucket_slots.proofs.Words.{is_wanted, length, live, map, map-set, map_fixed, marked, min, not, pair_of, refl, row_slots, set}
+use Rattle.bucket_slots.proofs.Words.{set-get_or, slot_at, slot_of, slot_without_expired, sym, true, ℕ, ◌&&◌, ◌-◌, ◌<◌, ◌==◌, ◌^◌, ◌∙◌, ◌≡◌}
 use Rattle.bucket_slots.specs.Layout.Expiring.{IsExpiring}
-use Rattle.bucket_slots.specs.Masks.{IsMaskOf}
-use Rattle.bucket_slots.specs.Searching.{has_byte, is_wanted}
-use Rattle.bucket_slots.specs.Slots.{Slot, free, is_free, is_live, is_marked, live, marked, pair_of, slot_at}
 use Rattle.bucket_slots.proofs.Masks.{IsLeft-first, IsLeft-next, IsMaskOf-alike, IsMaskOf-and_not, IsMaskOf-from, bit-mask, within}
 use Rattle.bucket_slots.proofs.RowSlots.{length-row_slots, slot_held}
 

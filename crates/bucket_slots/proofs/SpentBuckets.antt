@@ -1,11 +1,6 @@
 -- A bucket that is killed and holds nothing.
-use Rattle.std.proofs.Common.{ℕ, zero, suc, ◌≡◌, false, true, List, [], ◌∷◌, length, replicate, refl, sym, ap, ◌∙◌}
-use Rattle.std.specs.List.{All}
-use Rattle.std.specs.Prelude.{IsTrue}
-use Rattle.std.proofs.lemmas.List.Elements.{All-head}
-use Rattle.bucket_slots.specs.BucketView.{BucketView, empty_bucket}
-use Rattle.bucket_slots.specs.Layout.BucketFields.{IsBucket}
-use Rattle.bucket_slots.specs.Slots.{Slot, all_free, free, is_live, slot_at}
+use Rattle.bucket_slots.proofs.Words.{All, All-head, BucketView, IsBucket, IsTrue, List, Slot, [], all_free, ap, empty_bucket, false, free}
+use Rattle.bucket_slots.proofs.Words.{is_live, length, refl, replicate, slot_at, suc, sym, true, zero, ℕ, ◌∙◌, ◌∷◌, ◌≡◌}
 
 module _ {K V : Type 0} where
   free_slots : (slots : List (Slot K V)) → all_free slots ≡ true → slots ≡ replicate (length slots) free

@@ -1,11 +1,9 @@
 -- What the calls of a recency list answer and leave, by what `unlink` and `link` leave.
-use Rattle.std.proofs.Common.{ℕ, ◌+◌, ◌-◌, ◌<◌, ◌≡◌, ◌≢◌, ◌==◌, true, false, List, [], ◌∷◌, length, suc, Some, None, refl, sym, ap, ◌∙◌}
-use Rattle.std.proofs.Common.{arith, slice_set, subst}
-use Rattle.std.proofs.lemmas.Bool.{cond-true, eq-eqb, eqb-false, or_parts}
-use Rattle.bucket_slots.specs.Layout.RecencySteps.{LinksBefore, Unlinks, UnlinksBehind}
-use Rattle.bucket_slots.specs.Recency.{IsRecencyOrder, appending_answer, eviction_answer, is_listed, is_newest, order_after_touch}
-use Rattle.bucket_slots.specs.Recency.{order_with_oldest, order_without, order_without_oldest, removal_answer, tail_of, touch_answer}
-use Rattle.bucket_slots.specs.RecencyLinks.{IsOwnTail, Links, order_in, links_of}
+use Rattle.bucket_slots.proofs.Words.{IsOwnTail, IsRecencyOrder, Links, LinksBefore, List, None, Some, Unlinks, UnlinksBehind, [], ap}
+use Rattle.bucket_slots.proofs.Words.{arith, cond-true, eq-eqb, eqb-false, false, is_listed, is_newest, length, links_of, or_parts}
+use Rattle.bucket_slots.proofs.Words.{order_after_touch, order_in, order_with_oldest, order_without, order_without_oldest, refl, slice_set}
+use Rattle.bucket_slots.proofs.Words.{subst, suc, sym, tail_of, true, ℕ, ◌+◌, ◌-◌, ◌<◌, ◌==◌, ◌∙◌, ◌∷◌, ◌≡◌, ◌≢◌}
+use Rattle.bucket_slots.specs.Recency.{appending_answer, eviction_answer, removal_answer, touch_answer}
 use Rattle.bucket_slots.proofs.Recency.Linking.{link_first}
 use Rattle.bucket_slots.proofs.Recency.Orders.{eqb-same, is_listed-order_without, is_newest-behind, last_from, last_is_listed}
 use Rattle.bucket_slots.proofs.Recency.Orders.{newest_isnt_last, newest_listed, newest_once, oldest_of-last, order_has_newest}

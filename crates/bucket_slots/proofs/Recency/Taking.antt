@@ -1,9 +1,7 @@
 -- An order that is taken slot by slot, the newest first, into 32 bytes.
-use Rattle.std.proofs.Common.{ℕ, ◌+◌, ◌-◌, ◌<◌, ◌≡◌, ◌≢◌, suc, Some, List, [], ◌∷◌, ◌++◌, length, set, replicate, refl, sym, ap, subst, ◌∙◌}
-use Rattle.std.proofs.Common.{append_assoc, arith}
-use Rattle.std.proofs.Math.Seq.{set-append_seam}
-use Rattle.std.proofs.lemmas.List.{length-append}
-use Rattle.bucket_slots.specs.Recency.{IsRecencyOrder, order_and_zeros, order_without, removal_answer, tail_of}
+use Rattle.bucket_slots.proofs.Words.{IsRecencyOrder, List, Some, [], ap, append_assoc, arith, length, length-append, order_without, refl}
+use Rattle.bucket_slots.proofs.Words.{replicate, set, set-append_seam, subst, suc, sym, tail_of, ℕ, ◌++◌, ◌+◌, ◌-◌, ◌<◌, ◌∙◌, ◌∷◌, ◌≡◌, ◌≢◌}
+use Rattle.bucket_slots.specs.Recency.{order_and_zeros, removal_answer}
 use Rattle.bucket_slots.proofs.Recency.Orders.{eqb-same, length_at_most, newest_below, order_has_newest, order_without-newest}
 
 -- so many of the newest slots of an order are taken, and stand in the bytes; the others are left

@@ -1,5 +1,5 @@
-use Rattle.std.proofs.Common.{arith, sym, ◌∙◌, ◌≡◌}
-use Rattle.bucket_slots.proofs.BucketRecency.{IsBucket-appended, slots_appended-chain, slots_appended-own}
+use Rattle.bucket_slots.proofs.Words.{arith, order_with_oldest, sym, ◌∙◌, ◌≡◌}
+use Rattle.bucket_slots.proofs.BucketRecency.{IsBucket-appended, relisted-chain, relisted-own}
 use Rattle.bucket_slots.proofs.ChangedSlots.{live_inside}
 use Rattle.bucket_slots.proofs.bucket.Bucket.append_lru.Goals as goal
 
@@ -14,12 +14,12 @@ invariant_of-self g c =
 
 pub returns-then-block-eq0 : goal.returns-then-block-eq0
 returns-then-block-eq0 g c =
-    slots_appended-own g.L.LruList.KEEPS _ _ c.args.at.now _ c.self.view_is (sym c.block.ensures ∙ c.if-block-eq0.true)
+    relisted-own order_with_oldest g.L.LruList.KEEPS _ _ c.args.at.now _ c.self.view_is (sym c.block.ensures ∙ c.if-block-eq0.true)
     (rw c.pos.ensures at c.make_oldest-self-inside.ensures.order)
 
 pub returns-else-block-eq0 : goal.returns-else-block-eq0
 returns-else-block-eq0 g c =
-    slots_appended-chain g.L.LruList.KEEPS c.args.self.now c.args.at.now (λ own. c.if-block-eq0.false (c.block.ensures ∙ own))
+    relisted-chain order_with_oldest g.L.LruList.KEEPS c.args.self.now c.args.at.now (λ own. c.if-block-eq0.false (c.block.ensures ∙ own))
 
 pub overflow_cast-pos : goal.overflow_cast-pos
 overflow_cast-pos g c =

@@ -1,17 +1,11 @@
-use Rattle.std.proofs.Common.{arith, sym, ◌%◌}
-use Rattle.bucket_slots.specs.Searching.{is_wanted}
-use Rattle.bucket_slots.proofs.FirstPlaces.{first_chain, first_own, found_in_chain, matching_len-parts, none_wanted}
+use Rattle.bucket_slots.proofs.Words.{arith, is_wanted, sym, ◌%◌}
+use Rattle.bucket_slots.proofs.FirstPlaces.{first_chain, found_in_chain, matching_len-parts, none_wanted}
 use Rattle.bucket_slots.proofs.bucket.Bucket.find_by.Goals as goal
 
 pub returns-then-self-eq0-clause-place : goal.returns-then-self-eq0-clause-place
 returns-then-self-eq0-clause-place g c =
     rw (← c.self.view_is)
     (sym (none_wanted g.row.TYPE _ (g.P.KeyProbe.wants c.args.probe.now) _ (rw c.if-self-eq0.true at c.self.invariant.1)))
-
-pub returns-in-Some-clause-place : goal.returns-in-Some-clause-place
-returns-in-Some-clause-place g c =
-    let test = is_wanted (g.P.KeyProbe.wants c.args.probe.now) (c.args.hash % 256) in
-    rw (c.at.ensures, ← c.self.view_is) (first_own test c.self.inside.own c.self.inside.chain c.in-Some.pos c.in-Some.ensures.place)
 
 pub returns-clause-place : goal.returns-clause-place
 returns-clause-place g c =
@@ -22,15 +16,6 @@ returns-clause-place g c =
 pub returns-clause-pair : goal.returns-clause-pair
 returns-clause-pair g c =
     found_in_chain _ _ c.args.self.now c.find_by-2.result c.self.view_is c.find_by-2.ensures.place c.find_by-2.ensures.pair
-
-pub find_by-requires : goal.find_by-requires
-find_by-requires g c = omega arith
-
-pub find_by-requires-2 : goal.find_by-requires-2
-find_by-requires-2 g c = omega arith
-
-pub returns-in-Some-clause-pair : goal.returns-in-Some-clause-pair
-returns-in-Some-clause-pair g c = rw (c.at.ensures, ← c.self.view_is) c.in-Some.ensures.pair
 
 pub returns-in-Some-clause-few : goal.returns-in-Some-clause-few
 returns-in-Some-clause-few g c =

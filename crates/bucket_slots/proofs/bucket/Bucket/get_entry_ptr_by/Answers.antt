@@ -1,5 +1,4 @@
-use Rattle.std.proofs.Common.{arith, ◌%◌}
-use Rattle.bucket_slots.specs.Searching.{is_wanted}
+use Rattle.bucket_slots.proofs.Words.{arith, is_wanted, ◌%◌}
 use Rattle.bucket_slots.proofs.FirstPlaces.{found_short}
 use Rattle.bucket_slots.proofs.bucket.Bucket.get_entry_ptr_by.Goals as goal
 

@@ -1,7 +1,7 @@
-use Rattle.std.proofs.Common.{◌≡◌, ◌∙◌, sym, false, true}
+use Rattle.bucket_slots.proofs.Words.{false, sym, true, ◌∙◌, ◌≡◌}
 use Rattle.bucket_slots.proofs.SpentBuckets.{spent_is}
 use Rattle.bucket_slots.proofs.bucket.Bucket.is_spent.Goals as goal
-use Rattle.bucket_slots.proofs.bucket.Bucket.is_spent.Goals.{then-self, else-self}
+use Rattle.bucket_slots.proofs.bucket.Bucket.is_spent.Goals.{else-self, then-self}
 
 pub returns-then-is_empty : goal.returns-then-is_empty
 returns-then-is_empty g c = λ none.

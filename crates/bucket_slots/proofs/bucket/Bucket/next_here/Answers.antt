@@ -1,4 +1,4 @@
-use Rattle.std.proofs.Common.{sym, ◌∙◌}
+use Rattle.bucket_slots.proofs.Words.{sym, ◌∙◌}
 use Rattle.bucket_slots.proofs.NextPlaces.{steps_here}
 use Rattle.bucket_slots.proofs.bucket.Bucket.next_here.Goals as goal
 

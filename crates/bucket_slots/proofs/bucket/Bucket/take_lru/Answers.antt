@@ -1,5 +1,4 @@
-use Rattle.std.proofs.Common.{◌∙◌, ap, length, sym}
-use Rattle.bucket_slots.specs.Recency.{order_and_zeros}
+use Rattle.bucket_slots.proofs.Words.{ap, length, sym, ◌∙◌}
 use Rattle.bucket_slots.proofs.BucketRecency.{IsBucket-unlisted}
 use Rattle.bucket_slots.proofs.bucket.Bucket.take_lru.Goals as goal
 
@@ -8,9 +7,6 @@ invariant_of-self g c = (
   c.take_order-taken.ensures.tail,
   IsBucket-unlisted g.row.TYPE _ c.self.inside.len _ c.self.invariant.1 c.take_order-taken.ensures.emptied,
 )
-
-pub returns-clause-slots : goal.returns-clause-slots
-returns-clause-slots g c = c.take_order-taken.ensures.slots ∙ ap (λ s. order_and_zeros s.listed) c.self.view_is
 
 pub returns-clause-number : goal.returns-clause-number
 returns-clause-number g c = c.take_order-taken.ensures.number ∙ ap (λ s. length s.listed) c.self.view_is

@@ -1,4 +1,4 @@
-use Rattle.std.proofs.Common.{arith, ap, length}
+use Rattle.bucket_slots.proofs.Words.{ap, arith, length}
 use Rattle.bucket_slots.proofs.Recency.Taking.{takes_newest}
 use Rattle.bucket_slots.proofs.bucket.recency.take_order.Goals as goal
 

@@ -1,5 +1,4 @@
-use Rattle.std.proofs.Common.{◌≡◌, ◌<◌, ◌-◌, ◌^◌, ℕ, ap, ◌∙◌, arith}
-use Rattle.std.proofs.lemmas.Nat.{pow_pos}
+use Rattle.bucket_slots.proofs.Words.{ap, arith, pow_pos, ℕ, ◌-◌, ◌<◌, ◌^◌, ◌∙◌, ◌≡◌}
 use Rattle.bucket_slots.proofs.ArrayParts.{new_array, new_parts}
 use Rattle.bucket_slots.proofs.PowersOfTwo.{exponent_lt, log_is, shifted_one}
 use Rattle.bucket_slots.proofs.Sampled.{large_fits}

@@ -1,6 +1,4 @@
-use Rattle.std.proofs.Common.{◌∙◌, ◌<◌, [], ap, arith, get_or, length, rules}
-use Rattle.std.proofs.lemmas.List.{get_or_read}
-use Rattle.bucket_slots.specs.BucketView.{empty_bucket}
+use Rattle.bucket_slots.proofs.Words.{[], ap, arith, empty_bucket, get_or, get_or_read, length, rules, ◌<◌, ◌∙◌}
 use Rattle.bucket_slots.proofs.ArrayParts.{place_is}
 use Rattle.bucket_slots.proofs.bucket_array.BucketArray.bucket.Goals as goal
 

@@ -1,4 +1,4 @@
-use Rattle.std.proofs.Common.{◌∙◌, ap, sym, length, rules}
+use Rattle.bucket_slots.proofs.Words.{ap, length, rules, sym, ◌∙◌}
 use Rattle.bucket_slots.proofs.Intervals.{home_by_offset}
 use Rattle.bucket_slots.proofs.bucket_array.BucketArray.bucket_index.Goals as goal
 

@@ -1,4 +1,4 @@
-use Rattle.std.proofs.Common.{◌∙◌, arith, refl, rules}
+use Rattle.bucket_slots.proofs.Words.{arith, refl, rules, ◌∙◌}
 use Rattle.bucket_slots.proofs.ArrayParts.{place_is}
 use Rattle.bucket_slots.proofs.bucket_array.BucketArray.bucket_mut.Goals as goal
 

@@ -1,5 +1,4 @@
-use Rattle.std.proofs.Common.{◌∙◌, ap, length, subst, ℕ}
-use Rattle.bucket_slots.specs.Sampling.{IsLargeSample}
+use Rattle.bucket_slots.proofs.Words.{IsLargeSample, ap, length, subst, ℕ, ◌∙◌}
 use Rattle.bucket_slots.proofs.Sampled.{mask_starts_sampling}
 use Rattle.bucket_slots.proofs.bucket_array.BucketArray.initiate_sampling.Goals as goal
 

@@ -1,4 +1,4 @@
-use Rattle.std.proofs.Common.{arith, rules}
+use Rattle.bucket_slots.proofs.Words.{arith, rules}
 use Rattle.bucket_slots.proofs.ArrayParts.{place_is}
 use Rattle.bucket_slots.proofs.bucket_array.BucketArray.release_around.Goals as goal
 

@@ -1,7 +1,4 @@
-use Rattle.std.proofs.Common.{◌-◌, ◌<◌, ◌∙◌, arith, length, sym, true}
-use Rattle.std.proofs.lemmas.List.{get_or_read}
-use Rattle.bucket_slots.specs.BucketView.{empty_bucket}
-use Rattle.bucket_slots.specs.Layout.ArrayParts.{unmade_bucket}
+use Rattle.bucket_slots.proofs.Words.{arith, empty_bucket, get_or_read, length, sym, true, unmade_bucket, ◌-◌, ◌<◌, ◌∙◌}
 use Rattle.bucket_slots.proofs.ArrayParts.{all_one, from_one_less}
 use Rattle.bucket_slots.proofs.bucket_array.part.are_spent.Goals as goal
 

@@ -1,6 +1,4 @@
-use Rattle.std.proofs.Common.{◌≡◌, ◌<◌, ◌≤◌, ℕ, length, true, get_or, vec_len}
-use Rattle.bucket_slots.specs.BucketView.{empty_bucket}
-use Rattle.bucket_slots.specs.Layout.ArrayParts.{unmade_bucket}
+use Rattle.bucket_slots.proofs.Words.{empty_bucket, get_or, length, true, unmade_bucket, vec_len, ℕ, ◌<◌, ◌≡◌, ◌≤◌}
 use Rattle.bucket_slots.proofs.bucket_array.part.are_spent.Given as goal
 
 abbrev pub invariant-loop-left : goal.invariant-loop-left

@@ -1,5 +1,4 @@
-use Rattle.std.proofs.Common.{arith, [], refl}
-use Rattle.std.proofs.lemmas.List.{get_or_read}
+use Rattle.bucket_slots.proofs.Words.{[], arith, get_or_read, refl}
 use Rattle.bucket_slots.proofs.bucket_array.part.bucket_in.Goals as goal
 
 pub returns : goal.returns
@@ -7,9 +6,6 @@ returns g c =
     let here = get_or_read c.args.parts.now.items c.args.part c.index_mut-lent.result.now
     (omega (arith, c.args.parts.now.ok.0, c.requires.within)) c.index_mut-lent.ensures.value [] in
     ((refl, λ w. rw here refl), record { writes_back = tt; bucket = rw (← here) c.bucket_mut.ensures.bucket })
-
-pub index_mut-lent-requires : goal.index_mut-lent-requires
-index_mut-lent-requires g c = c.requires.within
 
 pub bucket_mut-requires : goal.bucket_mut-requires
 bucket_mut-requires g c =

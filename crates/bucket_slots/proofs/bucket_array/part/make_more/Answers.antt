@@ -1,4 +1,4 @@
-use Rattle.std.proofs.Common.{◌<◌, ◌∙◌, length, vec_capacity, arith}
+use Rattle.bucket_slots.proofs.Words.{arith, length, vec_capacity, ◌<◌, ◌∙◌}
 use Rattle.bucket_slots.proofs.ArrayParts.{made_one}
 use Rattle.bucket_slots.proofs.bucket_array.part.make_more.Goals as goal
 

@@ -1,5 +1,4 @@
-use Rattle.std.proofs.Common.{◌≡◌, ◌-◌, vec_capacity, vec_len}
-use Rattle.bucket_slots.specs.Layout.ArrayParts.{with_unmade}
+use Rattle.bucket_slots.proofs.Words.{vec_capacity, vec_len, with_unmade, ◌-◌, ◌≡◌}
 use Rattle.bucket_slots.proofs.bucket_array.part.make_more.Given as goal
 
 abbrev pub invariant-loop-alloc : goal.invariant-loop-alloc

@@ -1,4 +1,4 @@
-use Rattle.std.proofs.Common.{◌≡◌, ◌*◌, ◌/◌, ◌^◌, ◌≤◌, ℕ, rules, subst, sym}
+use Rattle.bucket_slots.proofs.Words.{rules, subst, sym, ℕ, ◌*◌, ◌/◌, ◌^◌, ◌≡◌, ◌≤◌}
 use Rattle.bucket_slots.proofs.PowersOfTwo.{log_is, power_divides}
 use Rattle.bucket_slots.proofs.bucket_array.sizing.parts_for.Goals as goal
 

@@ -1,5 +1,4 @@
-use Rattle.std.proofs.Common.{◌∙◌, ℕ, ap, bit_and}
-use Rattle.std.proofs.lemmas.Nat.{and_mask}
+use Rattle.bucket_slots.proofs.Words.{and_mask, ap, bit_and, ℕ, ◌∙◌}
 use Rattle.bucket_slots.proofs.bucket_array.sizing.place_of.Goals as goal
 
 pub returns-clause-offset : goal.returns-clause-offset

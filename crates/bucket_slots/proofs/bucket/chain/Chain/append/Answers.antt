@@ -1,4 +1,4 @@
-use Rattle.std.proofs.Common.{arith, ap, refl, ◌∙◌, ◌+◌, ◌≤◌, ◌≡◌, ◌^◌, ◌++◌, length}
+use Rattle.bucket_slots.proofs.Words.{ap, arith, length, refl, ◌++◌, ◌+◌, ◌^◌, ◌∙◌, ◌≡◌, ◌≤◌}
 use Rattle.bucket_slots.proofs.ChainRows.{IsCounted-append}
 use Rattle.bucket_slots.proofs.bucket.chain.Chain.append.Goals as goal
 
@@ -12,36 +12,6 @@ invariant_of-self g c =
     let count : c.set.new.self ≡ c.self.inside.len + length more =
     omega (arith, c.set.ensures, c.get-len.ensures, c.get-made.ensures, c.more.invariant.counted) in
     rw (joined, count) (IsCounted-append rows more c.self.inside.len c.self.invariant c.more.invariant.chain few)
-
-pub append-requires-clause-counted : goal.append-requires-clause-counted
-append-requires-clause-counted g c = omega (arith, c.get-len.ensures, c.self.invariant.counted)
-
-pub overflow_add-len : goal.overflow_add-len
-overflow_add-len g c =
-    omega (
-      arith,
-      c.get-len.ensures,
-      c.get-made.ensures,
-      c.self.invariant.counted,
-      c.self.invariant.chain.few,
-      c.more.invariant.counted,
-      c.more.invariant.chain.few,
-    )
-
-pub append-requires-clause-few : goal.append-requires-clause-few
-append-requires-clause-few g c =
-    omega (
-      arith,
-      c.get-len.ensures,
-      c.self.invariant.counted,
-      c.self.invariant.chain.few,
-      c.min.ensures,
-      c.free_blocks-more.ensures.most,
-      ap length c.more.view_is,
-      c.more.invariant.counted,
-      c.get-made.ensures,
-      c.if-made-gt0.true,
-    )
 
 pub invariant_of-more : goal.invariant_of-more
 invariant_of-more g c =

@@ -1,18 +1,8 @@
-use Rattle.std.proofs.Common.{arith, ap, sym, ◌∙◌, ◌+◌, ◌-◌, ◌≡◌, ◌∷◌, [], None, Some, count_by, drop, length}
-use Rattle.std.specs.List.{position}
-use Rattle.std.proofs.lemmas.Grind.{common_steps}
-use Rattle.std.proofs.lemmas.List.{get_or_read}
-use Rattle.std.proofs.lemmas.List.Sums.{sum_by-append}
-use Rattle.bucket_slots.specs.BucketView.{flattened}
-use Rattle.bucket_slots.specs.Searching.{has_byte, is_wanted}
+use Rattle.bucket_slots.proofs.Words.{None, Some, [], ap, arith, common_steps, count_by, drop, flattened, get_or_read, has_byte, is_wanted}
+use Rattle.bucket_slots.proofs.Words.{length, position, sum_by-append, sym, ◌+◌, ◌-◌, ◌∙◌, ◌∷◌, ◌≡◌}
 use Rattle.bucket_slots.proofs.BoxedWalks.{drop_behind, length-some, row_behind}
 use Rattle.bucket_slots.proofs.Counting.{tally}
 use Rattle.bucket_slots.proofs.bucket.chain.Chain.find_by.Goals as goal
-
-pub room-requires : goal.room-requires
-room-requires g c =
-    let some = length-some c.loop-at.at.now c.at.inside.first c.in-Some.block c.at.view_is c.in-Some.is in
-    omega (arith, ap length some, c.loop-at.invariant.one, c.loop-at.invariant.within)
 
 pub returns-in-Some-find_by-clause-place : goal.returns-in-Some-find_by-clause-place
 returns-in-Some-find_by-clause-place g c =

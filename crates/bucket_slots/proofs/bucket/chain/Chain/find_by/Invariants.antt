@@ -1,7 +1,4 @@
-use Rattle.std.proofs.Common.{◌≡◌, ◌+◌, ◌-◌, ◌≤◌, drop, length}
-use Rattle.std.specs.List.{count_by}
-use Rattle.bucket_slots.specs.BucketView.{first_from, flattened}
-use Rattle.bucket_slots.specs.Searching.{has_byte, is_wanted}
+use Rattle.bucket_slots.proofs.Words.{count_by, drop, first_from, flattened, has_byte, is_wanted, length, ◌+◌, ◌-◌, ◌≡◌, ◌≤◌}
 use Rattle.bucket_slots.proofs.bucket.chain.Chain.find_by.Given as goal
 
 abbrev pub invariant-loop-at : goal.invariant-loop-at

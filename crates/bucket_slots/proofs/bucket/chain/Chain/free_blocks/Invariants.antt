@@ -1,5 +1,4 @@
-use Rattle.std.proofs.Common.{◌≡◌, replicate}
-use Rattle.bucket_slots.specs.Placing.{free_block}
+use Rattle.bucket_slots.proofs.Words.{free_block, replicate, ◌≡◌}
 use Rattle.bucket_slots.proofs.bucket.chain.Chain.free_blocks.Given as goal
 
 abbrev pub invariant-loop-made : goal.invariant-loop-made

@@ -1,12 +1,8 @@
-use Rattle.std.proofs.Common.{arith, ap, refl, sym, ◌∙◌, ◌-◌, ◌≡◌, [], length, take}
-use Rattle.std.specs.List.{suffix_len}
-use Rattle.std.proofs.Math.Seq.{take-length}
-use Rattle.bucket_slots.specs.Layout.BoxedRows.{rows_of}
-use Rattle.bucket_slots.specs.Slots.{all_free}
+use Rattle.bucket_slots.proofs.Words.{all_free, ap, arith, length, refl, sym, ◌∙◌}
 use Rattle.bucket_slots.proofs.BoxedWalks.{drop_behind, length-some}
 use Rattle.bucket_slots.proofs.FreeEnds.{kept_passed}
 use Rattle.bucket_slots.proofs.bucket.chain.Chain.kept_len.Goals as goal
-use Rattle.bucket_slots.proofs.bucket.chain.Chain.kept_len.Goals.{then-not-is_empty, else-not-is_empty}
+use Rattle.bucket_slots.proofs.bucket.chain.Chain.kept_len.Goals.{else-not-is_empty, then-not-is_empty}
 
 pub loop-at-preserved : goal.loop-at-preserved
 loop-at-preserved g c =
@@ -27,14 +23,6 @@ loop-at-preserved g c =
             | else-not-is_empty w ↦ rw (seen ∙ w.if-not-is_empty.false) w.kept-is
           ]);
     }
-
-pub returns : goal.returns
-returns g c =
-    let rows = c.args.self.now in
-    let none : c.loop-at.at.now ≡ [] = sym c.at.view_is ∙ ap rows_of c.in_default.is in
-    let all : c.loop-at.passed ≡ length rows = omega (arith, ap length none, c.loop-at.invariant.within) in
-    let whole = ap (λ n. take n rows) all ∙ take-length rows in
-    c.loop-at.invariant.kept ∙ ap (λ l. c.loop-at.passed - suffix_len all_free l) whole ∙ ap (λ n. n - suffix_len all_free rows) all
 
 pub overflow_add-passed : goal.overflow_add-passed
 overflow_add-passed g c = omega (arith, c.loop-at.invariant.within, c.self.invariant.chain.few, ap length c.self.view_is)

@@ -1,6 +1,4 @@
-use Rattle.std.proofs.Common.{◌≡◌, ◌+◌, ◌-◌, drop, length, take}
-use Rattle.std.specs.List.{suffix_len}
-use Rattle.bucket_slots.specs.Slots.{all_free}
+use Rattle.bucket_slots.proofs.Words.{all_free, drop, length, suffix_len, take, ◌+◌, ◌-◌, ◌≡◌}
 use Rattle.bucket_slots.proofs.bucket.chain.Chain.kept_len.Given as goal
 
 -- of the blocks that were passed so many would be kept

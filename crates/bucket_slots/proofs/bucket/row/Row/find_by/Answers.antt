@@ -1,7 +1,4 @@
-use Rattle.std.proofs.Common.{arith, rules, refl, sym, ◌≡◌, ◌∙◌, false}
-use Rattle.bucket_slots.specs.Layout.Masks.{IsLeft}
-use Rattle.bucket_slots.specs.Searching.{has_byte, is_wanted}
-use Rattle.bucket_slots.specs.Slots.{free}
+use Rattle.bucket_slots.proofs.Words.{IsLeft, arith, false, free, has_byte, is_wanted, refl, rules, sym, ◌∙◌, ◌≡◌}
 use Rattle.bucket_slots.proofs.Bitmaps.{ones-cleared, ones-some}
 use Rattle.bucket_slots.proofs.FirstPlaces.{live_occupied}
 use Rattle.bucket_slots.proofs.Masks.{IsLeft-first, IsLeft-next, ones-mask, position-left, position-none_left}

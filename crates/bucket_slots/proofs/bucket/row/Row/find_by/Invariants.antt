@@ -1,9 +1,5 @@
-use Rattle.std.proofs.Common.{◌≡◌, ◌+◌, ◌≤◌, false}
-use Rattle.std.specs.List.{count_by}
+use Rattle.bucket_slots.proofs.Words.{IsLeft, count_by, false, free, has_byte, is_wanted, ◌+◌, ◌≡◌, ◌≤◌}
 use lib.Count.{ones}
-use Rattle.bucket_slots.specs.Layout.Masks.{IsLeft}
-use Rattle.bucket_slots.specs.Searching.{has_byte, is_wanted}
-use Rattle.bucket_slots.specs.Slots.{free}
 use Rattle.bucket_slots.proofs.bucket.row.Row.find_by.Given as goal
 
 abbrev pub invariant-loop-left : goal.invariant-loop-left

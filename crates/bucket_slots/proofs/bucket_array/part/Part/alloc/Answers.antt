@@ -1,6 +1,4 @@
-use Rattle.std.proofs.Common.{◌≡◌, ◌-◌, ◌∙◌, ap, arith, false, replicate, vec_capacity}
-use Rattle.bucket_slots.specs.BucketView.{empty_bucket}
-use Rattle.bucket_slots.specs.Layout.ArrayParts.{with_unmade}
+use Rattle.bucket_slots.proofs.Words.{ap, arith, empty_bucket, false, replicate, vec_capacity, with_unmade, ◌-◌, ◌∙◌, ◌≡◌}
 use Rattle.bucket_slots.proofs.bucket_array.part.Part.alloc.Goals as goal
 
 pub returns : goal.returns

@@ -1,5 +1,4 @@
-use Rattle.std.proofs.Common.{◌≡◌, ◌≤◌, replicate, vec_capacity}
-use Rattle.bucket_slots.specs.BucketView.{empty_bucket}
+use Rattle.bucket_slots.proofs.Words.{empty_bucket, replicate, vec_capacity, ◌≡◌, ◌≤◌}
 use Rattle.bucket_slots.proofs.bucket_array.part.Part.alloc_all.Given as goal
 
 abbrev pub invariant-loop-i : goal.invariant-loop-i

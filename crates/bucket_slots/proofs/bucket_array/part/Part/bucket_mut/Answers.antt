@@ -1,7 +1,5 @@
-use Rattle.std.proofs.Common.{◌<◌, ◌∙◌, ap, arith, get_or, set, length, refl, sym, vec_capacity}
-use Rattle.std.proofs.lemmas.Grind.{common_steps}
-use Rattle.std.proofs.lemmas.List.{get_or_read}
-use Rattle.bucket_slots.specs.BucketView.{empty_bucket}
+use Rattle.bucket_slots.proofs.Words.{ap, arith, common_steps, empty_bucket, get_or, get_or_read, length, refl, set, sym, vec_capacity, ◌<◌}
+use Rattle.bucket_slots.proofs.Words.{◌∙◌}
 use Rattle.bucket_slots.proofs.ArrayParts.{get_or-made, set-part}
 use Rattle.bucket_slots.proofs.bucket_array.part.Part.bucket_mut.Goals as goal
 
@@ -22,9 +20,6 @@ returns g c =
 pub make_to-requires : goal.make_to-requires
 make_to-requires g c =
     (c.requires.fits, (c.requires.fits, grind (arith, common_steps, ap length c.self.view_is, c.requires.within, c.self.inside.made.ok)))
-
-pub index_mut-requires : goal.index_mut-requires
-index_mut-requires g c = omega (arith, c.make_to.ensures.made)
 
 pub overflow_add-offset : goal.overflow_add-offset
 overflow_add-offset g c =

@@ -1,4 +1,4 @@
-use Rattle.std.proofs.Common.{◌≡◌, ◌∙◌, arith, length, vec_capacity}
+use Rattle.bucket_slots.proofs.Words.{arith, length, vec_capacity, ◌∙◌, ◌≡◌}
 use Rattle.bucket_slots.proofs.ArrayParts.{released_part}
 use Rattle.bucket_slots.proofs.bucket_array.part.Part.release.Goals as goal
 use Rattle.bucket_slots.proofs.bucket_array.part.Part.release.Goals.{in-Ok, in_default}

@@ -1,4 +1,4 @@
-use Rattle.std.proofs.lemmas.Bool.{true≢false}
+use Rattle.bucket_slots.proofs.Words.{true≢false}
 use Rattle.bucket_slots.proofs.Recency.Calls.{appends_behind, appends_first}
 use Rattle.bucket_slots.proofs.Recency.Linked.{HoldsSlots-Links}
 use Rattle.bucket_slots.proofs.lru.doubly_linked_list.DoublyLinkedListLruList.append.Goals as goal

@@ -1,0 +1,100 @@
+-- The pairs before a slot and behind it, whatever stands in it.
+use Rattle.bucket_slots.proofs.Words.{BucketView, IsBucketOf, IsChain, List, None, Place, Slot, Some, [], ap, append_assoc, arith, block_at}
+use Rattle.bucket_slots.proofs.Words.{cons_option, drop, filter_map-append, flattened, free, get_or, length, live_pair, live_pairs, map}
+use Rattle.bucket_slots.proofs.Words.{pairs_in, refl, set, set_split, set-get_or, slot_in, slot_marked, slots_marked, slots_vacated}
+use Rattle.bucket_slots.proofs.Words.{slots_vacated_at, slots_without, suc, sym, take, with_slot, with_slot_at, zero, ℕ}
+use Rattle.bucket_slots.proofs.Words.{◌++◌, ◌+◌, ◌<◌, ◌∙◌, ◌∷◌, ◌≡◌}
+use Rattle.std.proofs.lemmas.List.{append_cancel_right}
+use Rattle.bucket_slots.specs.Walking.{pairs_ahead}
+use Rattle.bucket_slots.proofs.CallerLemmas.{entries_unlinked, length-vacated, live_from_pair, live_is, there}
+use Rattle.bucket_slots.proofs.ChangedSlots.{live_inside}
+use Rattle.bucket_slots.proofs.Entries.{map-entries_in}
+use Rattle.bucket_slots.proofs.FirstPlaces.{block_short}
+use Rattle.bucket_slots.proofs.NextPlaces.{pairs_ahead-inside}
+
+module _ {K V : Type 0} where
+  -- the slots before one of a row, and of the rows before it
+  slots_before : List (List (Slot K V)) → ℕ → ℕ → List (Slot K V)
+  slots_before [] i pos = []
+  slots_before (row ∷ rows) zero pos = take pos row
+  slots_before (row ∷ rows) (suc i) pos = row ++ slots_before rows i pos
+
+  -- and those behind it
+  abbrev slots_behind : List (List (Slot K V)) → ℕ → ℕ → List (Slot K V)
+  slots_behind rows i pos = drop (suc pos) (get_or rows i []) ++ flattened (drop (suc i) rows)
+
+  flattened-set : (rows : List (List (Slot K V))) (i pos : ℕ) (x : Slot K V) → pos < length (get_or rows i [])
+      → flattened (set rows i (set (get_or rows i []) pos x)) ≡ slots_before rows i pos ++ x ∷ slots_behind rows i pos
+  unfolding slots_before
+  flattened-set [] zero pos x short = absurd (omega arith)
+  flattened-set [] (suc i) pos x short = absurd (omega arith)
+  flattened-set (row ∷ rows) zero pos x short =
+      ap (λ l. l ++ flattened rows) (set_split row pos x short)
+      ∙ append_assoc (take pos row) (x ∷ drop (suc pos) row) (flattened rows)
+  flattened-set (row ∷ rows) (suc i) pos x short =
+      ap (λ l. row ++ l) (flattened-set rows i pos x short) ∙ sym (append_assoc row (slots_before rows i pos) (x ∷ slots_behind rows i pos))
+
+  -- the live pairs before a place
+  pairs_before : BucketView K V → Place → List (K × V)
+  pairs_before s at = live_pairs (slots_before (s.own ∷ s.chain) at.block at.pos)
+
+  with_slot-same : (s : BucketView K V) (block pos : ℕ) → with_slot_at s block pos (slot_in s (record { block = block; pos = pos })) ≡ s
+  with_slot-same s zero pos = ap (λ own. record s { own = own }) (set-get_or s.own pos free)
+  with_slot-same s (suc i) pos =
+      ap (λ chain. record s { chain = chain })
+      (ap (λ row. set s.chain i row) (set-get_or (get_or s.chain i []) pos free) ∙ set-get_or s.chain i [])
+
+  cut : (s : BucketView K V) (block pos : ℕ) (x : Slot K V) → pos < length (block_at s block) → pos < 32
+      → pairs_in (with_slot_at s block pos x)
+      ≡ live_pairs (slots_before (s.own ∷ s.chain) block pos)
+      ++ cons_option (live_pair x) (pairs_ahead s (record { block = block; pos = pos }))
+  cut s zero pos x short few =
+      let number : pos + 1 ≡ suc pos = omega arith in
+      let behind = sym (pairs_ahead-inside s zero pos few ∙ rw number refl) in
+      ap live_pairs (flattened-set (s.own ∷ s.chain) zero pos x short)
+      ∙ filter_map-append live_pair (slots_before (s.own ∷ s.chain) zero pos) (x ∷ slots_behind (s.own ∷ s.chain) zero pos)
+      ∙ ap (λ l. live_pairs (slots_before (s.own ∷ s.chain) zero pos) ++ cons_option (live_pair x) l) behind
+  cut s (suc i) pos x short few =
+      let number : pos + 1 ≡ suc pos = omega arith in
+      let behind = sym (pairs_ahead-inside s (suc i) pos few ∙ rw number refl) in
+      ap live_pairs (flattened-set (s.own ∷ s.chain) (suc i) pos x short)
+      ∙ filter_map-append live_pair (slots_before (s.own ∷ s.chain) (suc i) pos) (x ∷ slots_behind (s.own ∷ s.chain) (suc i) pos)
+      ∙ ap (λ l. live_pairs (slots_before (s.own ∷ s.chain) (suc i) pos) ++ cons_option (live_pair x) l) behind
+
+  vacated : (s : BucketView K V) (block pos : ℕ) → pairs_in (slots_vacated_at s block pos) ≡ pairs_in (with_slot_at s block pos free)
+  vacated s zero pos = refl
+  vacated s (suc i) pos = refl
+
+  module _ (kind : ℕ) (s : BucketView K V) (at : Place) (p : K × V) (kept : IsBucketOf kind s) (here : live_pair (slot_in s at) ≡ Some p) where
+    at_slot : (x : Slot K V) → pairs_in (with_slot s at x) ≡ pairs_before s at ++ cons_option (live_pair x) (pairs_ahead s at)
+    unfolding pairs_before
+    at_slot x =
+        let chain : IsChain s.chain = record { long = kept.blocks_long; few = kept.few } in
+        let short = live_inside (block_at s at.block) at.pos (live_from_pair (slot_in s at) p here) in
+        cut s at.block at.pos x short (omega (arith, short, block_short s at.block kept.own_long chain))
+
+    -- another slot leaves what stands before its pair and what is ahead of it
+    pub pairs_in-with_slot : (x : Slot K V) (front : List (K × V)) → pairs_in s ≡ front ++ p ∷ pairs_ahead s at
+        → pairs_in (with_slot s at x) ≡ front ++ cons_option (live_pair x) (pairs_ahead s at)
+    pairs_in-with_slot x front is =
+        let here_is = ap pairs_in (sym (with_slot-same s at.block at.pos)) ∙ at_slot (slot_in s at)
+        ∙ ap (λ found. pairs_before s at ++ cons_option found (pairs_ahead s at)) here in
+        let same = append_cancel_right (pairs_before s at) front (p ∷ pairs_ahead s at) (sym here_is ∙ is) in
+        at_slot x ∙ ap (λ l. l ++ cons_option (live_pair x) (pairs_ahead s at)) same
+
+    -- a mark takes the pair from between them
+    pub pairs_in-slots_marked : (epoch : ℕ) (front : List (K × V)) → pairs_in s ≡ front ++ p ∷ pairs_ahead s at
+        → pairs_in (slots_marked s at epoch) ≡ front ++ pairs_ahead s at
+    pairs_in-slots_marked epoch front is =
+        let none : live_pair (slot_marked epoch (slot_in s at)) ≡ None =
+        ap (λ x. live_pair (slot_marked epoch x)) (live_is (slot_in s at) p here).1 in
+        pairs_in-with_slot (slot_marked epoch (slot_in s at)) front is ∙ ap (λ found. front ++ cons_option found (pairs_ahead s at)) none
+
+    -- and so does a removal
+    pub pairs_in-slots_without : (front : List (K × V)) → pairs_in s ≡ front ++ p ∷ pairs_ahead s at
+        → pairs_in (slots_without s at) ≡ front ++ pairs_ahead s at
+    pairs_in-slots_without front is =
+        let inside = there s at.block at.pos (live_inside (block_at s at.block) at.pos (live_from_pair (slot_in s at) p here)) in
+        let linked = entries_unlinked (slots_vacated s at) at.block (omega (arith, length-vacated s at.block at.pos)) in
+        sym (map-entries_in (slots_without s at)) ∙ ap (map (λ (e : (K × V) × ℕ). e.0)) linked ∙ map-entries_in (slots_vacated s at)
+        ∙ vacated s at.block at.pos ∙ pairs_in-with_slot free front is
