@@ -6,6 +6,8 @@ pub mod KeySteps
 pub mod TakeSteps
 pub mod LockedSteps
 pub mod Inserting
+pub mod Upserting
+pub mod Evicting
 pub mod Finding
 pub mod Preparing
 pub mod SlotSteps

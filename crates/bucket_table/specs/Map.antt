@@ -7,3 +7,4 @@ pub mod Finding
 pub mod Preparing
 pub mod Refusing
 pub mod Free
+pub mod StdHashes

@@ -6,8 +6,10 @@ ghost use Rattle.bucket_table.specs.Views.ArraysView.{AreArrays, list_of};
 ghost use Rattle.bucket_table.specs.Views.Sides.{buckets_on};
 ghost use Rattle.bucket_table.specs.Rehash.State.{IsTicketState, first_tickets, word_of};
 
+mod clearing;
 mod counting;
 mod cursor;
+mod each_pair;
 mod finding;
 mod finishing;
 mod lending;
@@ -30,16 +32,29 @@ use bucket_slots::lru::LruList;
 pub use peeking::peek_arrays;
 pub(crate) use searching::Spot;
 use std::alloc::Global;
+use std::error::Error;
+use std::fmt;
 use std::marker::Model;
 
 /// Why no bucket is locked.
-#[derive(Drop)]
+#[derive(Debug, Drop)]
 pub enum Missing {
     /// There is nothing to lock: no array, or no live pair further on.
     Nothing,
     /// Want of memory.
     Memory,
 }
+
+impl fmt::Display for Missing {
+    fn fmt<W: fmt::Write>(&self, f: &mut fmt::Formatter<W>) -> fmt::Result {
+        match self {
+            Missing::Nothing => write!(f, "nothing to lock"),
+            Missing::Memory => write!(f, "out of memory"),
+        }
+    }
+}
+
+impl Error for Missing {}
 
 /// A current array, and an old one with its tickets while a rehash is on.
 #[derive(Drop)]

@@ -6,7 +6,7 @@
 //! its byte, a killed bucket is empty, and no unit of the old array is forgotten.
 //!
 //! Ports scc's `src/hash_table.rs`. The table owns its arrays, and a lock is a borrow.
-ghost use Rattle.std.specs.Prelude.{◌≡◌, ◌↔◌, ◌<◌, ◌≤◌, ◌*◌, [], IsTrue, MatchOption, length};
+ghost use Rattle.std.specs.Prelude.{◌≡◌, ◌↔◌, ◌<◌, ◌≤◌, ◌*◌, ◌^◌, [], IsTrue, MatchOption, length};
 ghost use Rattle.std.specs.Int.{IsPowerOfTwo};
 ghost use Rattle.bucket_slots.specs.Homes.{IsHome};
 ghost use Rattle.bucket_slots.specs.Sizing.{IsLength};
@@ -14,12 +14,15 @@ ghost use Rattle.bucket_table.specs.Views.ArraysView.{IsOneMap, pairs_of};
 ghost use Rattle.bucket_table.specs.Rehash.State.{first_tickets, word_of};
 
 mod by_key;
+mod clearing;
 mod counting;
 mod cursor;
+mod each_pair;
 mod finishing;
 mod locked_bucket;
 mod lookup;
 mod resize;
+mod retaining;
 mod shrinking;
 mod tickets;
 mod walks;
@@ -31,7 +34,7 @@ pub use crate::capacity::{
     from_index_to_range, num_entries_from_hint, ranges_part_the_indices,
     table_capacity_from_num_entries,
 };
-pub use crate::key_hash::KeyHash;
+pub use crate::key_hash::{KeyHash, StdHash};
 pub use crate::tickets::{REF_COUNT_BITS, REHASHING_UNIT_LEN, TicketError};
 use bucket_slots::bucket::BUCKET_LEN;
 use bucket_slots::bucket_array::BucketArray;
@@ -46,7 +49,7 @@ pub const MAXIMUM_CAPACITY_LIMIT: usize = 1 << 63;
 const _: () = prove!(MAXIMUM_CAPACITY_LIMIT == 9223372036854775808);
 
 /// Why a pair was not inserted; the pair comes back.
-#[derive(Drop)]
+#[derive(Debug, Drop)]
 pub enum NotInserted<K, V> {
     /// An equal key is in the map.
     Present(K, V),
@@ -88,6 +91,24 @@ impl<K: Eq, V, H: KeyHash<K>, L: LruList, const TYPE: u8> HashTable<K, V, H, L, 
             hasher,
             arrays: Arrays::new(alloc, minimum, maximum),
         }
+    }
+
+    /// Returns a table with no array, and so no pair, that may shrink to none and grow as far as
+    /// tables do: its minimum is 0, and its maximum `MAXIMUM_CAPACITY_LIMIT`.
+    ///
+    /// The allocator serves all that the table will hold. Takes no memory. O(1). scc:
+    /// `HashMap::with_hasher`.
+    pub fn with_hasher(alloc: Global, hasher: H) -> Self
+        ensures hasher { result.hasher ≡ hasher }
+        ensures arrays { result.arrays ≡ record {
+          minimum = 0;
+          maximum = 2 ^ 63;
+          current = [];
+          linked = [];
+          tickets = first_tickets 0;
+        } }
+    {
+        HashTable::new(alloc, hasher, 0, MAXIMUM_CAPACITY_LIMIT)
     }
 
     /// Returns the hasher.

@@ -1,11 +1,12 @@
 //! Taking out of a bucket what a test refuses.
-ghost use Rattle.std.specs.Prelude.{◌≡◌, Some, IsTrue, ℕ, ◌∷◌};
+ghost use Rattle.std.specs.Prelude.{◌≡◌, Some, IsTrue, List, ℕ, ◌∷◌, ◌++◌};
 ghost use Rattle.std.specs.List.Sorted.{IsPermutation};
-ghost use Rattle.bucket_slots.specs.BucketView.{entries_in, marks_in, slot_in};
+ghost use Rattle.bucket_slots.specs.BucketView.{entries_in, marks_in, pairs_in, slot_in};
 ghost use Rattle.bucket_slots.specs.Marking.{MarksBy};
 ghost use Rattle.bucket_slots.specs.Slots.{is_live, live_pair};
 ghost use Rattle.bucket_slots.specs.Walking.{pairs_ahead};
 ghost use Rattle.bucket_table.specs.Walking.Retains.{AnswersBy, Retains, RetainsPair};
+ghost use Rattle.bucket_table.specs.Walking.Retains.{RetainsBucket, RetainsSlot};
 
 use bucket_slots::bucket::{Bucket, EntryPtr, Generation, INDEX};
 use bucket_slots::lru::LruList;
@@ -56,6 +57,61 @@ fn retain_at<K: Drop, V: Drop, L: LruList, F: Fn(&K, &V) -> bool, G: Generation,
     take_at(bucket, at, generation);
 }
 
+/// Lends `keep` the value of each live pair, in slot order, and takes out each pair that it refuses,
+/// or marks it in an index. Returns how many.
+pub(crate) fn retain_each_in<
+    K: Drop,
+    V: Drop,
+    L: LruList,
+    F: FnMut(&K, &mut V) -> bool,
+    G: Generation,
+    const TYPE: u8,
+>(bucket: &mut Bucket<K, V, L, TYPE>, keep: &mut F, generation: &G) -> usize
+    requires callable { F.IsAlwaysCallable keep.old }
+    ensures again { F.IsAlwaysCallable keep.new }
+    ensures retained { RetainsBucket
+        (λ state own before answer after last. F.step state own before answer after last)
+        (G.epoch_of generation.now) keep.old bucket.old bucket.new result keep.new }
+{
+    let before = bucket.len();
+    let mut at = EntryPtr::null();
+    'own: while at.find_next_here(bucket) {
+        retain_slot(bucket, &mut at, keep, generation);
+    }
+    'pairs: while at.find_next(bucket) {
+        retain_slot(bucket, &mut at, keep, generation);
+    }
+    before - bucket.len()
+}
+
+/// Lends `keep` the value in a live slot, and takes the pair out, or marks it in an index, where it
+/// is refused.
+#[inline(always)]
+fn retain_slot<
+    K: Drop,
+    V: Drop,
+    L: LruList,
+    F: FnMut(&K, &mut V) -> bool,
+    G: Generation,
+    const TYPE: u8,
+>(bucket: &mut Bucket<K, V, L, TYPE>, at: &mut EntryPtr<K, V, TYPE>, keep: &mut F, generation: &G)
+    requires callable { F.IsAlwaysCallable keep.old }
+    requires live_slot { IsTrue (is_live (slot_in bucket.old at.old)) }
+    ensures again { F.IsAlwaysCallable keep.new }
+    ensures retained { (pair : K × V) → live_pair (slot_in bucket.old at.old) ≡ Some pair
+        → RetainsSlot
+        (λ state own before answer after last. F.step state own before answer after last)
+        keep.old pair bucket.old at.old bucket.new at.new keep.new }
+    ensures marks { MarksBy (G.epoch_of generation.now) (marks_in bucket.old) (marks_in bucket.new) }
+{
+    bucket.sound();
+    let (key, value) = bucket.entry_mut(at);
+    if keep(key, value) {
+        return;
+    }
+    take_at(bucket, at, generation);
+}
+
 /// Takes the pair out of a live slot, or marks it in an index.
 pub(crate) fn take_at<K: Drop, V: Drop, L: LruList, G: Generation, const TYPE: u8>(
     bucket: &mut Bucket<K, V, L, TYPE>,
@@ -67,8 +123,13 @@ pub(crate) fn take_at<K: Drop, V: Drop, L: LruList, G: Generation, const TYPE: u
     ensures taken { (pair : K × V) → (live_pair (slot_in bucket.old at.old) ≡ Some pair)
         → (byte : ℕ) × IsPermutation (entries_in bucket.old) ((pair, byte) ∷ entries_in bucket.new) }
     ensures pairs_ahead { pairs_ahead bucket.new at.new ≡ pairs_ahead bucket.old at.old }
+    ensures order { (pair : K × V) (front : List (K × V))
+        → (live_pair (slot_in bucket.old at.old) ≡ Some pair)
+        → (pairs_in bucket.old ≡ front ++ pair ∷ pairs_ahead bucket.old at.old)
+        → pairs_in bucket.new ≡ front ++ pairs_ahead bucket.old at.old }
     ensures marks { MarksBy (G.epoch_of generation.now) (marks_in bucket.old) (marks_in bucket.new) }
 {
+    bucket.sound();
     if TYPE == INDEX {
         bucket.mark_removed(at, generation);
         return;

@@ -1,11 +1,13 @@
 //! What becomes of values that are counted: each is dropped once, when its pair goes, when a
-//! clearing lets it go, or with its bucket or its array.
+//! clearing lets it go, or with its bucket, its array or its cleared table.
 use crate::by_key::{kill_empty, mark_key, move_key, remove_at, write_key};
 use crate::checks::check_same;
 use crate::steps::{Answers, Kept, stories};
 use Act::*;
 use bucket_slots::bucket::{Bucket, INDEX, MAP};
 use bucket_slots::bucket_array::BucketArray;
+use bucket_table::hash_table::{HashTable, MAXIMUM_CAPACITY_LIMIT};
+use bucket_table::script::ScriptHash;
 use std::alloc::Global;
 use std::process::Abort;
 use std::rc::Rc;
@@ -279,5 +281,30 @@ fn pairs_in_a_few_parts_of_an_array_are_dropped_once(rt: HostRuntime) -> Result<
     check_same(&rt, Rc::strong_count(&counted), 1 + PAIRS - 20, "stay");
     drop(array);
     check_same(&rt, Rc::strong_count(&counted), 1, "gone");
+    Ok(())
+}
+
+#[test]
+fn a_cleared_table_drops_each_value_once(rt: HostRuntime) -> Result<(), Fail> {
+    let counted = Rc::new(rt.alloc(), 0)?;
+    let mut table: HashTable<u64, Rc<i32>, ScriptHash, (), MAP> = HashTable::new(
+        rt.alloc(),
+        ScriptHash::Spread,
+        4096,
+        MAXIMUM_CAPACITY_LIMIT,
+    );
+    table.insert_pair(5, counted.clone()?, &())?;
+    table.insert_pair(200, counted.clone()?, &())?;
+    let _ = table.reserve_capacity(4096);
+    table.insert_pair(250, counted.clone()?, &())?;
+    let before = (Rc::strong_count(&counted), table.has_linked_array());
+    check_same(&rt, before, (4, true), "before");
+    table.clear();
+    let cleared = (Rc::strong_count(&counted), table.has_linked_array());
+    check_same(&rt, cleared, (1, false), "cleared");
+    table.insert_pair(200, counted.clone()?, &())?;
+    check_same(&rt, Rc::strong_count(&counted), 2, "put again");
+    drop(table);
+    check_same(&rt, Rc::strong_count(&counted), 1, "dropped");
     Ok(())
 }

@@ -22,6 +22,9 @@ enum Step {
     Now(u8, Kept),
     /// A sweep marks the pairs of keys below a number, and so many.
     Sweeps(u64, usize),
+    /// Each pair that isn't marked is asked for, so many, and those of keys below a number are
+    /// marked.
+    Retains(u64, usize),
     /// A script clears the table of so many pairs.
     Clears(usize),
     /// A script removes a key, which is its own value.
@@ -40,6 +43,9 @@ const STORIES: &[Story] = steps! {
         Puts(33, (0, 0)) }),
     ("marks of another epoch than that of a sweep go", steps! {
         Now(7, Kept::All), Sweeps(4, 4), Now(0, FIVE), Puts(32, (0, 0)) }),
+    ("marked pairs are asked for no more", steps! {
+        Now(5, Kept::All), Retains(4, 32), Retains(4, 28), Now(0, FIVE), Puts(32, (1, 0)),
+        Now(0, Kept::But(5)), Puts(33, (0, 0)) }),
     ("a clearing marks with its epoch", steps! {
         Now(5, Kept::All), Clears(32), Now(0, FIVE), Puts(32, (1, 0)),
         Now(0, Kept::But(5)), Puts(33, (0, 0)) }),
@@ -71,6 +77,17 @@ fn new_index(alloc: Global) -> Index {
     HashTable::new(alloc, ScriptHash::Zero, 64, 64)
 }
 
+// Marks the pairs of keys below a number. Returns how many pairs were asked for.
+fn retain_from(table: &mut Index, from: u64, now: &Answers) -> usize {
+    let mut asked: usize = 0;
+    let mut keep = |key: &u64, _value: &mut u64| -> bool {
+        asked = asked.wrapping_add(1);
+        *key >= from
+    };
+    let _ = table.retain(&mut keep, now);
+    asked
+}
+
 // Takes one step after another, and compares what comes of it.
 fn play(
     rt: &impl Abort,
@@ -86,6 +103,9 @@ fn play(
             Sweeps(from, taken) => {
                 let keep = |key: &u64, _value: &u64| *key >= *from;
                 check_same(rt, table.sweep(&keep, &now)?, *taken, (story, row));
+            }
+            Retains(from, asked) => {
+                check_same(rt, retain_from(table, *from, &now), *asked, (story, row));
             }
             Clears(pairs) => {
                 let reply = reply_to(alloc, table, Call::Clear, &now)?;

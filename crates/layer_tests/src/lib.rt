@@ -40,6 +40,8 @@ pub mod probe;
 #[cfg(test)]
 mod recency_lists;
 #[cfg(test)]
+mod retains;
+#[cfg(test)]
 mod sizes;
 #[cfg(test)]
 mod stage;
@@ -49,4 +51,8 @@ mod steps;
 mod tables;
 pub mod taking;
 #[cfg(test)]
+mod updating;
+#[cfg(test)]
 mod walks;
+#[cfg(test)]
+mod words;

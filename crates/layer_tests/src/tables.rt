@@ -8,7 +8,7 @@ use crate::cursors::{Stop, follow};
 use crate::steps::Spot;
 use crate::walks::{finish, strip};
 use bucket_slots::bucket::EqProbe;
-use bucket_table::hash_table::{HashTable, MAXIMUM_CAPACITY_LIMIT};
+use bucket_table::hash_table::{HashTable, MAXIMUM_CAPACITY_LIMIT, TicketError};
 use bucket_table::script::ScriptHash;
 use std::alloc::Global;
 use std::process::Abort;
@@ -55,12 +55,20 @@ pub(crate) enum Step {
     Holds(u64),
     /// How many pairs a count finds.
     Counts(usize),
+    /// How many pairs there are, as a length has it, which moves nothing.
+    Lens(usize),
+    /// The keys that `for_each` gives, in its order, each with itself as its value.
+    Each(&'static [u64]),
+    /// The table is cleared.
+    Clears,
     /// The least capacity is raised.
     Raises(usize),
     /// The next unit is handed out under this ticket.
     Opens(usize),
     /// A ticket of a unit that is done is ended, and the old array stays.
     Ends(usize),
+    /// A ticket is none that is open.
+    Lost(usize),
     /// Whether a look-up by a probe finds a key, and how many keys the probe is asked of.
     Asks(u64, bool, u64),
     /// The array that is there, or is made, has so many buckets.
@@ -169,6 +177,11 @@ fn lock(rt: &impl Abort, table: &mut Map, at: At, step: &Step) {
             let stays = matches!(table.end_incremental_rehash(*ticket, true), Ok(false));
             check_same(rt, stays, true, at);
         }
+        Step::Lost(ticket) => {
+            let ended = table.end_incremental_rehash(*ticket, true);
+            check_same(rt, matches!(ended, Err(TicketError::NotOpen)), true, at);
+        }
+        Step::Clears => table.clear(),
         _ => look(rt, table, at, step),
     }
 }
@@ -186,6 +199,11 @@ fn look(rt: &impl Abort, table: &mut Map, at: At, step: &Step) {
         }
         Step::Holds(key) => check_same(rt, table.peek_entry(key), Some((key, key)), at),
         Step::Counts(pairs) => check_same(rt, table.num_entries(), *pairs, at),
+        Step::Lens(pairs) => {
+            let found = (table.len(), table.is_empty());
+            check_same(rt, found, (*pairs, *pairs == 0), at);
+        }
+        Step::Each(keys) => meet_each(rt, table, at, keys),
         Step::Raises(by) => check_same(rt, table.reserve_capacity(*by), *by, at),
         Step::Asks(key, found, asked) => {
             let mut probe = EqProbe::new(key);
@@ -194,4 +212,16 @@ fn look(rt: &impl Abort, table: &mut Map, at: At, step: &Step) {
         }
         _ => check_same(rt, true, false, (at, "no step")),
     }
+}
+
+// The pairs that `for_each` gives are these keys, each with itself as its value, in this order.
+fn meet_each(rt: &impl Abort, table: &Map, at: At, keys: &[u64]) {
+    let mut came: usize = 0;
+    let mut in_order = true;
+    let mut meet = |key: &u64, value: &u64| {
+        in_order = in_order && keys.get(came) == Some(key) && value == key;
+        came = came.saturating_add(1);
+    };
+    table.for_each(&mut meet);
+    check_same(rt, (came, in_order), (keys.len(), true), (at, "each"));
 }

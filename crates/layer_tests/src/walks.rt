@@ -23,6 +23,11 @@ const TWO_UNITS: &[Step] = steps! {
     Puts(5, 6), Sees(4096, None), Raises(4096), Sees(8192, Some(0)), Holds(5)
 };
 
+// An old array of 128 buckets with key 200 in its second unit, beside one of 256 with two keys.
+const ONE_UNIT_LEFT: &[Step] = steps! {
+    Puts(5, 6), Puts(200, 201), Raises(4096), Puts(250, 251), Sees(8192, Some(2048))
+};
+
 // A map of four buckets, the first with keys 0 to 31, and the third with the other seven.
 const SEVEN_BEHIND: &[Step] = steps! {
     Puts(0, 31), Puts(128, 159), Puts(31, 32), Reads(0), Sees(128, None), Takes(128, 152)
@@ -123,7 +128,19 @@ const STORIES: &[Story] = steps! {
             Sees(64, None), Counts(7) } },
     Story { name: "a sweep goes on over the shrink that it brings", hasher: ScriptHash::Spread,
         minimum: 0, start: SEVEN_BEHIND, steps: steps! {
-            Sweeps(128, 32), Sees(64, None), Counts(7), Holds(152) } }
+            Sweeps(128, 32), Sees(64, None), Counts(7), Holds(152) } },
+    Story { name: "each pair comes once, those of the old array last", hasher: ScriptHash::Spread,
+        minimum: 4096, start: ONE_UNIT_LEFT, steps: steps! {
+            Each(&[5, 250, 200]), Lens(3), Sees(8192, Some(2048)), Counts(3), Sees(8192, None),
+            Each(&[5, 200, 250]), Lens(3) } },
+    Story { name: "a length counts the old array alone", hasher: ScriptHash::Spread, minimum: 0,
+        start: DOUBLED, steps: steps! { Lens(63), Sees(128, Some(0)) } },
+    // The next array has the minimum's length, which was raised.
+    Story { name: "a cleared table forgets its arrays and tickets", hasher: ScriptHash::Spread,
+        minimum: 4096, start: ONE_UNIT_LEFT, steps: steps! {
+            Opens(2048), Sees(8192, Some(4097)), Clears, Sees(0, None), Lens(0), Each(&[]),
+            Lost(2048), Puts(200, 202), Sees(8192, None), Each(&[200, 201]), Lens(2),
+            Clears, Clears, Counts(0), Sees(0, None) } }
 };
 
 #[test]

@@ -135,6 +135,16 @@ pub(crate) fn read(table: &mut Map, key: u64) -> Answer {
     right_if(found == Some((key, key)))
 }
 
+/// Writes another value over a key's, which is never refused.
+pub(crate) fn write(table: &mut Map, beside: &mut Beside, key: u64) -> Answer {
+    let Some(earlier) = beside.value(key) else {
+        return Answer::Wrong;
+    };
+    let value = earlier.wrapping_add(1);
+    beside.set(key, Some(value));
+    right_if(table.upsert(key, value, &()) == Ok(Some(earlier)))
+}
+
 /// Relocates an old bucket, which has so many pairs. Refused, it keeps them all.
 pub(crate) fn relocate(table: &mut Map, index: usize, pairs: usize) -> Answer {
     if !table.has_old_bucket(index) {

@@ -44,6 +44,8 @@ pub(crate) enum Step {
     Resizes(bool),
     /// A key is found, which is never refused.
     Reads(u64),
+    /// Another value is written over a key's, which is never refused.
+    Writes(u64),
     /// An old bucket is relocated, which has so many pairs.
     Relocates(usize, usize),
     /// So many units are left, and worked.
@@ -116,7 +118,7 @@ const FIVE_BEFORE_THREE: &[Step] = &[
 // The hash of key 160.
 const OF_160: u64 = 160 << 56 | 160;
 
-pub(crate) const CASES: [Case; 20] = [
+pub(crate) const CASES: [Case; 21] = [
     // The script asks for its replies alone.
     Case {
         hasher: ScriptHash::Id,
@@ -203,6 +205,19 @@ pub(crate) const CASES: [Case; 20] = [
             Moved(10, 8),
             Sees((128, Some(2049))),
             Reads(160),
+            IsKilled(10),
+        ],
+        refused: Outcome::Unmoved,
+    },
+    // So does a value that is written.
+    Case {
+        hasher: ScriptHash::Spread,
+        start: THREE_TO_ONE,
+        steps: &[
+            Writes(160),
+            Moved(10, 8),
+            Sees((128, Some(2049))),
+            Writes(160),
             IsKilled(10),
         ],
         refused: Outcome::Unmoved,

@@ -100,6 +100,7 @@ fn take(alloc: Global, table: &mut Map, beside: &mut Beside, step: &Step) -> Ans
         Reserves(hash, index) => reserve(table, *hash, *index),
         Resizes(comes) => resize(table, *comes),
         Reads(key) => read(table, *key),
+        Writes(key) => write(table, beside, *key),
         Relocates(index, pairs) => relocate(table, *index, *pairs),
         Finishes(units) => finish(table, *units),
         Walks(whole, refused) => walk(table, *whole, *refused),

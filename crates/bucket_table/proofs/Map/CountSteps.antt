@@ -86,7 +86,7 @@ module _ {K V : Type 0} where
       (entries_of new) → n ≡ counted_to (entries_of new) → n ≡ counted_to (entries_of old)
   counted_kept old new n moved is = is ∙ ap (λ (k : ℕ). min k (2 ^ 64 - 1)) (length_permutation (entries_of old) (entries_of new) moved)
 
-  length-pairs_of : (arrays : ArraysView K V) → length (pairs_of arrays) ≡ length (entries_of arrays)
+  pub length-pairs_of : (arrays : ArraysView K V) → length (pairs_of arrays) ≡ length (entries_of arrays)
   length-pairs_of arrays = length-map (entries_of arrays) (λ (e : (K × V) × ℕ). e.0)
 
   -- a count of entries is one of the map's pairs

@@ -1,11 +1,12 @@
 -- What a table is once the pair in a live slot was touched, marked or taken out.
 use Rattle.bucket_table.proofs.Words.{ArePlaced, ArraysView, Bool, BucketView, IsEquivalence, IsOneMap, Keeps, KeepsOpenTickets, KeepsPairs}
-use Rattle.bucket_table.proofs.Words.{MapState, Place, Some, arrays_with, bucket_on, buckets_on, length, live_pair, slot_in, slots_marked}
+use Rattle.bucket_table.proofs.Words.{MapState, Place, Some, arrays_with, bucket_on, bucket_with_value, buckets_on, length, live_pair}
+use Rattle.bucket_table.proofs.Words.{slot_in, slots_marked}
 use Rattle.bucket_table.proofs.Words.{slots_touched, slots_without, ℕ, ◌<◌, ◌≡◌}
-use Rattle.bucket_table.specs.Map.MapState.{TakesPair, state_of}
+use Rattle.bucket_table.specs.Map.MapState.{ChangesValue, TakesPair, state_of}
 use Rattle.bucket_table.proofs.Map.LockedSteps.{bag_through, taken_through}
 use Rattle.bucket_table.proofs.Map.MapKept.{one_map_kept}
-use Rattle.bucket_table.proofs.Map.MapSteps.{Leaves, marked, removed, touched}
+use Rattle.bucket_table.proofs.Map.MapSteps.{Leaves, marked, removed, touched, wrote}
 use Rattle.bucket_table.proofs.Views.Keeping.{keeps_same}
 use Rattle.bucket_table.proofs.Views.SideChanges.{IsChangeable, changeable_holding}
 
@@ -50,3 +51,8 @@ module _ {K V H : Type 0} {eq : K → K → Bool} (laws : IsEquivalence eq) (has
   -- it was only touched
   pub touches : (keeps : Bool) → Leaves laws hash kind side i one held (KeepsPairs (state a)) (slots_touched keeps (bucket_on a side i) at)
   touches keeps = touched laws hash kind side i one held keeps at
+
+  -- its value is another one
+  pub writes : (value : V)
+      → Leaves laws hash kind side i one held (ChangesValue (state a) p value) (bucket_with_value (bucket_on a side i) at value)
+  writes value = wrote laws hash kind side i one held p value at here

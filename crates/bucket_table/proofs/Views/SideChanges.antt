@@ -74,7 +74,7 @@ module _ {K V : Type 0} where
       (IsPermutation-map pair _ _ (entries_exchanged a side i came out b within moved)))
 
   -- a bucket as killed as the one before leaves the flags as they were
-  flags_same : (bs : List (BucketView K V)) (i : ℕ) (b : BucketView K V) → i < length bs
+  pub flags_same : (bs : List (BucketView K V)) (i : ℕ) (b : BucketView K V) → i < length bs
       → b.killed ≡ (bucket_at bs i).killed → killed_flags (set bs i b) ≡ killed_flags bs
   flags_same bs i b within same = map-set (λ (c : BucketView K V). c.killed) bs i b ∙ ap (λ (flag : Bool). set (killed_flags bs) i flag)
       (same ∙ sym (get_or-killed_flags bs i within)) ∙ set-get_or (killed_flags bs) i false
@@ -144,25 +144,30 @@ module _ {K V : Type 0} where
       absurd (omega (arith, less, zero))
 
   -- a bucket that has a pair is no empty target, and isn't killed
-  pub changeable_holding : (hash : K → ℕ) (a : ArraysView K V) (side : Bool) (i : ℕ) (at : Place) (p : K × V) → ArePlaced hash a
-      → i < length (buckets_on a side) → live_pair (slot_in (bucket_at (buckets_on a side) i) at) ≡ Some p → IsChangeable a side i
-  changeable_holding hash a true i at p law within there = record {
+  pub changeable_filled : (hash : K → ℕ) (a : ArraysView K V) (side : Bool) (i : ℕ) → ArePlaced hash a
+      → i < length (buckets_on a side) → (pairs_in (bucket_at (buckets_on a side) i) ≡ [] → ⊥) → IsChangeable a side i
+  changeable_filled hash a true i law within some = record {
     within = within;
     filled = λ e. absurd (false≢true (sym e));
     alive = λ e. elim (cases_Bool (bucket_at a.linked i).killed) [
-      | inl dead ↦ absurd (no_pair (bucket_at a.linked i) at p there (law.homes.killed_empty i within dead))
+      | inl dead ↦ absurd (some (law.homes.killed_empty i within dead))
       | inr live ↦ live
     ];
   }
-  changeable_holding hash a false i at p law within there = record {
+  changeable_filled hash a false i law within some = record {
     within = within;
     filled = λ e longer k below meets. elim (cases_Bool (bucket_at a.linked k).killed) [
       | inl dead ↦ dead
-      | inr live ↦ absurd (no_pair (bucket_at a.current i) at p there
+      | inr live ↦ absurd (some
           (live_pairs-all_free (all_slots (bucket_at a.current i)) (law.homes.empty_targets longer k i below within live meets).free))
     ];
     alive = λ e. absurd (false≢true e);
   }
+
+  pub changeable_holding : (hash : K → ℕ) (a : ArraysView K V) (side : Bool) (i : ℕ) (at : Place) (p : K × V) → ArePlaced hash a
+      → i < length (buckets_on a side) → live_pair (slot_in (bucket_at (buckets_on a side) i) at) ≡ Some p → IsChangeable a side i
+  changeable_holding hash a side i at p law within there =
+      changeable_filled hash a side i law within (no_pair (bucket_at (buckets_on a side) i) at p there)
 
   -- the law stays
   pub placed_after : (hash : K → ℕ) (a : ArraysView K V) (side : Bool) (i : ℕ) (b : BucketView K V)

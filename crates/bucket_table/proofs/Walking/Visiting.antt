@@ -27,10 +27,23 @@ module _ {K V : Type 0} where
   abbrev pub key_of : (K × V) × ℕ → K × ℕ
   key_of e = (e.0.0, e.1)
 
-  keys_are : (es : List ((K × V) × ℕ)) → map (λ (p : K × V). p.0)
+  pub keys_are : (es : List ((K × V) × ℕ)) → map (λ (p : K × V). p.0)
       (map (λ (e : (K × V) × ℕ). e.0) es) ≡ map (λ (k : K × ℕ). k.0) (map key_of es)
   keys_are [] = refl
   keys_are (e ∷ es) = ap (λ ks. e.0.0 ∷ ks) (keys_are es)
+
+  -- some of the keys in their home
+  pub homes_kept : (hash : K → ℕ) (n index : ℕ) (lent left : BucketView K V) (gone : List (K × ℕ))
+      → IsPermutation (keys_in lent) (gone ++ keys_in left) → All (IsEntryHome hash n index) (entries_in lent)
+      → All (IsEntryHome hash n index) (entries_in left)
+  homes_kept hash n index lent left gone keys own =
+      let Own : K × ℕ → Type 0 = λ k. IsHome n (hash k.0) index × (k.1 ≡ hash k.0 % 256) in
+      let of_keys = each_map Own key_of (entries_in lent)
+      (each_implies (IsEntryHome hash n index) (λ e. Own (key_of e)) (λ e h. (h.home, h.own_byte))
+      _ (recursion_from_All (IsEntryHome hash n index) _ own)) in
+      let of_left = each_unmap Own key_of (entries_in left) (each_back Own gone (keys_in left) (all_permuted Own _ _ keys of_keys)) in
+      All-from_recursion (IsEntryHome hash n index) (entries_in left) (each_implies (λ e. Own (key_of e)) (IsEntryHome hash n index)
+      (λ e h. record { home = h.0; own_byte = h.1 }) (entries_in left) of_left)
 
   module _ (eq : K → K → Bool) (laws : IsEquivalence eq) (hash : K → ℕ) (arrays : ArraysView K V)
       (index : ℕ) (left : BucketView K V)
@@ -39,17 +52,8 @@ module _ {K V : Type 0} where
     after = arrays_with arrays false index left
 
     homes : All (IsEntryHome hash (length arrays.current) index) (entries_in left)
-    homes =
-        let n : ℕ = length arrays.current in
-        let Own : K × ℕ → Type 0 = λ k. IsHome n (hash k.0) index × (k.1 ≡ hash k.0 % 256) in
-        let lent = recursion_from_All (IsEntryHome hash n index) _ (one.placed.homes.current_home index locked.within) in
-        let of_keys = each_map Own key_of (entries_in (bucket_on arrays false index))
-        (each_implies (IsEntryHome hash n index) (λ e. Own (key_of e)) (λ e h. (h.home, h.own_byte))
-        _ lent) in
-        let of_left = each_unmap Own key_of (entries_in left)
-        (each_back Own kept.gone (keys_in left) (all_permuted Own _ _ kept.keys of_keys)) in
-        All-from_recursion (IsEntryHome hash n index) (entries_in left) (each_implies (λ e. Own (key_of e)) (IsEntryHome hash n index)
-        (λ e h. record { home = h.0; own_byte = h.1 }) (entries_in left) of_left)
+    homes = homes_kept hash (length arrays.current) index (bucket_on arrays false index) left kept.gone kept.keys
+        (one.placed.homes.current_home index locked.within)
 
     keys_left : IsPermutation (map key_of (entries_of arrays)) (kept.gone ++ map key_of (entries_of after))
     keys_left =

@@ -1,9 +1,12 @@
 -- What a call by key does to a table, in the words of its map. A reply that isn't stated doesn't come.
 use Rattle.std.specs.Prelude.{ℕ, ◌≡◌, ◌<◌, Bool, true, false, Option, Some, None, Result, Ok, Err, length, ◌⊎◌}
-use Rattle.std.specs.Borrow.{Bor}
-use Rattle.bucket_slots.specs.BucketView.{BucketView, Place, slot_in}
+use Rattle.std.specs.Borrow.{Bor, MutBor}
+use Rattle.std.specs.List.{Contains}
+use Rattle.bucket_slots.specs.BucketView.{BucketView, Place, bucket_with_value, slot_in}
+use Rattle.bucket_slots.specs.Evicting.{slot_to_evict, slots_evicted}
+use Rattle.bucket_slots.specs.Homes.{IsHome}
 use Rattle.bucket_slots.specs.Searching.{place_wanted}
-use Rattle.bucket_slots.specs.Slots.{live_pair}
+use Rattle.bucket_slots.specs.Slots.{free, live_pair, slot_at}
 use Rattle.bucket_table.specs.Views.ArraysView.{ArraysView, TableView, pairs_of}
 use Rattle.bucket_table.specs.Resize.Asking.{RemovesAndShrinks}
 use Rattle.bucket_table.specs.Map.Finding.{FindsBucket}
@@ -50,12 +53,42 @@ module _ {K V H : Type 0} (eq : K → K → Bool) (key : K) where
   Touches old true new = ((pair : K × V) × IsThere eq key old.pairs pair) × KeepsPairs old new
   Touches old false new = IsAbsent eq key old.pairs × KeepsPairs old new
 
+  -- the pair under the key is handed out, and its value is what was written; there is no answer exactly where the key is absent
+  abbrev pub Rewrites : {R : Type 0} → (Bor K → MutBor V → R → MutBor V → Type 0) → MapState K V H → Option R → MapState K V H
+      → Type 0
+  Rewrites changes old (Some answer) new =
+      (own : Bor K) × (before after : MutBor V) × changes own before answer after × (eq own.now key ≡ true)
+      × ChangesValue old (own.now, before.now) after.now new
+  Rewrites changes old None new = IsAbsent eq key old.pairs × KeepsPairs old new
+
+  -- a pair is put where its key is absent, and else its value is written and the earlier one comes back; what isn't put comes back too
+  abbrev pub Upserts : V → MapState K V H → Result (Option V) (K × V) → MapState K V H → Type 0
+  Upserts value old (Ok None) new = IsAbsent eq key old.pairs × AddsPair old (key, value) new
+  Upserts value old (Ok (Some earlier)) new = (found : K) × (eq found key ≡ true) × ChangesValue old (found, earlier) value new
+  Upserts value old (Err back) new = (back ≡ (key, value)) × IsAbsent eq key old.pairs × KeepsPairs old new
+
+-- a pair is taken out, or the map stays
+abbrev pub Evicts : {K V H E : Type 0} → MapState K V H → Result (Option (K × V)) E → MapState K V H → Type 0
+Evicts old (Ok (Some pair)) new = TakesPair old pair new
+Evicts old (Ok None) new = KeepsPairs old new
+Evicts old (Err refused) new = KeepsPairs old new
+
 -- an insertion into a bucket: no live slot has an equal key where a pair was put; one has where the answer says so; what isn't put comes back
 abbrev pub AnswersInsertion : {K V A : Type 0} → (K → K → Bool) → K → V → ℕ → BucketView K V → Result A (NotInserted K V) → Type 0
 AnswersInsertion eq key value byte bucket (Ok done) = place_wanted (λ own. eq own key) byte bucket ≡ None
 AnswersInsertion eq key value byte bucket (Err (Present k v)) =
     (k ≡ key) × (v ≡ value) × ((at : Place) × (place_wanted (λ own. eq own key) byte bucket ≡ Some at))
 AnswersInsertion eq key value byte bucket (Err (Memory k v)) = (k ≡ key) × (v ≡ value)
+
+-- a pair put into a bucket so where no live slot has an equal key, or its value written where one has; what isn't put comes back
+abbrev pub UpsertsIn : {K V : Type 0} → (K → K → Bool) → K → V → ℕ → (BucketView K V → BucketView K V) → BucketView K V
+    → Result (Option V) (K × V) → BucketView K V → Type 0
+UpsertsIn eq key value byte change old (Ok None) new = (place_wanted (λ own. eq own key) byte old ≡ None) × (new ≡ change old)
+UpsertsIn {K} eq key value byte change old (Ok (Some earlier)) new =
+    (at : Place) × (found : K) × (place_wanted (λ own. eq own key) byte old ≡ Some at)
+    × (live_pair (slot_in old at) ≡ Some (found, earlier)) × (new ≡ bucket_with_value old at value)
+UpsertsIn eq key value byte change old (Err back) new =
+    (back ≡ (key, value)) × (place_wanted (λ own. eq own key) byte old ≡ None) × (new ≡ old)
 
 -- a unit is worked first, as for a look-up, and then this is done
 pub record PreparesThen {K V H : Type 0} (kind : ℕ) (old : TableView K V H) (Then : TableView K V H → Type 0) : Type 0 where
@@ -75,10 +108,42 @@ module _ {K V H : Type 0} (change : BucketView K V → Place → BucketView K V)
       (side : Bool) × (index : ℕ) × (at : Place) × RemovesAndShrinks old.arrays side index (change (bucket_of old side index) at) new.arrays
   ShrinksAt false old new = new ≡ old
 
+-- where the key was found its value is another one, and nothing else is; else all stays
+abbrev pub WritesAt : {K V H : Type 0} → Bool → TableView K V H → TableView K V H → Type 0
+WritesAt {K} {V} true old new = (value : V) × ChangesAt (λ bucket at. bucket_with_value bucket at value) true old new
+WritesAt false old new = new ≡ old
+
+-- the pair of a hash's home that was touched longest ago is out, or where none is listed the one in slot 0; there is none where
+-- an own slot of that home is free or no array stands, and then all stays, as where it is refused
+abbrev pub EvictsAt : {K V H E : Type 0} → ℕ → TableView K V H → Result (Option (K × V)) E → TableView K V H → Type 0
+EvictsAt hash old (Ok (Some pair)) new =
+    (index : ℕ) × IsHome (length old.arrays.current) hash index
+    × (live_pair (slot_at (bucket_of old false index).own (slot_to_evict (bucket_of old false index))) ≡ Some pair)
+    × (new ≡ with_bucket old false index (slots_evicted (bucket_of old false index)))
+EvictsAt hash old (Ok None) new =
+    ((length old.arrays.current ≡ 0)
+    ⊎ ((index : ℕ) × IsHome (length old.arrays.current) hash index × Contains (bucket_of old false index).own free)) × (new ≡ old)
+EvictsAt hash old (Err refused) new = new ≡ old
+
+-- a writer's bucket is found for a hash, or none is and it is refused
+abbrev pub FindsOrIsRefused : {K V H : Type 0} → ℕ → ℕ → TableView K V H → TableView K V H → Type 0
+FindsOrIsRefused kind hash old new = IsRefused kind old new ⊎ ((side : Bool) × (index : ℕ) × FindsBucket kind hash old side index new)
+
 -- a writer's bucket is found for a hash, and then it is changed so where a pair was put; nothing else changes, and where no bucket is found it is refused
 abbrev pub FindsThen : {K V H A : Type 0} → ℕ → ℕ → (BucketView K V → BucketView K V) → TableView K V H → Result A (NotInserted K V) → TableView K V H → Type 0
 FindsThen {K} {V} {H} kind hash change old (Ok done) new =
     (between : TableView K V H) × (side : Bool) × (index : ℕ) × FindsBucket kind hash old side index between
     × (new ≡ with_bucket between side index (change (bucket_of between side index)))
 FindsThen kind hash change old (Err (Present k v)) new = (side : Bool) × (index : ℕ) × FindsBucket kind hash old side index new
-FindsThen kind hash change old (Err (Memory k v)) new = IsRefused kind old new ⊎ ((side : Bool) × (index : ℕ) × FindsBucket kind hash old side index new)
+FindsThen kind hash change old (Err (Memory k v)) new = FindsOrIsRefused kind hash old new
+
+-- the same, and where the key was found its value is another one in one bucket, also where no bucket is found for a writer
+abbrev pub UpsertsThen : {K V H : Type 0} → ℕ → ℕ → (BucketView K V → BucketView K V) → V → TableView K V H
+    → Result (Option V) (K × V) → TableView K V H → Type 0
+UpsertsThen {K} {V} {H} kind hash change value old (Ok None) new =
+    (between : TableView K V H) × (side : Bool) × (index : ℕ) × FindsBucket kind hash old side index between
+    × (new ≡ with_bucket between side index (change (bucket_of between side index)))
+UpsertsThen {K} {V} {H} kind hash change value old (Ok (Some earlier)) new =
+    (between : TableView K V H) × FindsOrIsRefused kind hash old between
+    × ChangesAt (λ bucket at. bucket_with_value bucket at value) true between new
+UpsertsThen kind hash change value old (Err back) new = FindsOrIsRefused kind hash old new

@@ -13,6 +13,11 @@ buckets_on arrays false = arrays.current
 abbrev pub bucket_on : {K V : Type 0} → ArraysView K V → Bool → ℕ → BucketView K V
 bucket_on arrays is_old index = bucket_at (buckets_on arrays is_old) index
 
+-- the arrays with other buckets on one side
+abbrev pub with_buckets : {K V : Type 0} → ArraysView K V → Bool → List (BucketView K V) → ArraysView K V
+with_buckets arrays true buckets = record arrays { linked = buckets }
+with_buckets arrays false buckets = record arrays { current = buckets }
+
 -- the arrays with another bucket on one side
 abbrev pub arrays_with : {K V : Type 0} → ArraysView K V → Bool → ℕ → BucketView K V → ArraysView K V
 arrays_with arrays true index bucket = record arrays { linked = slice_set arrays.linked index bucket }

@@ -21,6 +21,9 @@ ghost use Rattle.bucket_table.specs.Views.Sides.{bucket_of, buckets_on, with_buc
 ghost use Rattle.bucket_table.specs.Views.Keeping.{KeepsOpenTickets};
 ghost use Rattle.bucket_table.specs.Views.Locking.{IsLocked};
 
+mod evicting;
+mod updating;
+
 use crate::arrays::Spot;
 use crate::hash_table::{HashTable, NotInserted};
 use crate::key_hash::KeyHash;

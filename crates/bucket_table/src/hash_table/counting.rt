@@ -58,3 +58,27 @@ impl<K: Eq + Drop, V: Drop, H: KeyHash<K>, L: LruList + Drop, const TYPE: u8> Ha
         self.num_entries() > 0
     }
 }
+
+impl<K: Eq, V, H: KeyHash<K>, L: LruList, const TYPE: u8> HashTable<K, V, H, L, TYPE> {
+    /// Returns how many pairs the map has, at most 2^64 - 1.
+    ///
+    /// It changes nothing, works no unit, and counts the old array's pairs too.
+    ///
+    /// O(buckets). scc: `HashMap::len`.
+    pub fn len(&self) -> usize
+        ensures { result ≡ counted_to (pairs_of self.now.arrays) }
+    {
+        self.arrays.count()
+    }
+
+    /// Tests whether the map has no pair.
+    ///
+    /// It changes nothing and works no unit.
+    ///
+    /// O(buckets). scc: `HashMap::is_empty`.
+    pub fn is_empty(&self) -> bool
+        ensures { IsTrue result ↔ pairs_of self.now.arrays ≡ [] }
+    {
+        self.len() == 0
+    }
+}

@@ -10,12 +10,12 @@ ghost use Rattle.std.specs.Prelude.{OnSome, length};
 ghost use Rattle.std.specs.Borrow.{sem};
 ghost use Rattle.bucket_slots.specs.BucketView.{first_place, null_place, slot_in};
 ghost use Rattle.bucket_slots.specs.Clearing.{slots_after_insertion, slots_for_insertion};
-ghost use Rattle.bucket_slots.specs.Evicting.{slots_evicted, slots_touched};
+ghost use Rattle.bucket_slots.specs.Evicting.{slot_to_evict, slots_evicted, slots_touched};
 ghost use Rattle.bucket_slots.specs.Homes.{IsHome};
 ghost use Rattle.bucket_slots.specs.Marking.{slots_marked};
 ghost use Rattle.bucket_slots.specs.Placing.{place_for_next};
 ghost use Rattle.bucket_slots.specs.Removing.{slots_without};
-ghost use Rattle.bucket_slots.specs.Slots.{free, is_free, is_live, live, live_pair};
+ghost use Rattle.bucket_slots.specs.Slots.{free, is_free, is_live, live, live_pair, slot_at};
 ghost use Rattle.bucket_slots.specs.Walking.{pairs_ahead};
 ghost use Rattle.bucket_table.specs.Views.ArraysView.{pairs_of};
 ghost use Rattle.bucket_table.specs.Views.Keeping.{KeepsOpenTickets};
@@ -173,6 +173,10 @@ impl<'a, K: Eq, V, H: KeyHash<K>, L: LruList, const TYPE: u8> LockedBucket<'a, K
         ensures same_table { self.new.table.ghost_name ≡ self.old.table.ghost_name }
         ensures same_side { self.new.is_old ≡ self.old.is_old }
         ensures same_index { self.new.index ≡ self.old.index }
+        ensures pair { IfSome result (λ pair. live_pair
+            (slot_at (bucket_of self.old.table.now self.old.is_old self.old.index).own
+            (slot_to_evict (bucket_of self.old.table.now self.old.is_old self.old.index)))
+            ≡ Some pair) }
         ensures map { IfSome result
             (λ pair. TakesPair (state_of TYPE self.old.table.now) pair
             (state_of TYPE self.new.table.now)) }

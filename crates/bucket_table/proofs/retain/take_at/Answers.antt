@@ -1,6 +1,7 @@
 use Rattle.bucket_table.proofs.Words.{IsPermutation, ap, by-no_new, entries_in, marks_in, subst, sym, ◌∙◌, ◌∷◌}
 use Rattle.bucket_slots.proofs.CallerLemmas.{entries_in-slots_without}
 use Rattle.bucket_slots.proofs.MarkCallerLemmas.{by-one, entries_in-slots_marked, marks_in-slots_marked, marks_in-slots_without}
+use Rattle.bucket_slots.proofs.SlotFronts.{pairs_in-slots_marked, pairs_in-slots_without}
 use Rattle.bucket_slots.proofs.RoomCallerLemmas.{killed-slots_marked, killed-slots_without}
 use Rattle.bucket_table.proofs.Map.LockedSteps.{pair_there}
 use Rattle.bucket_table.proofs.retain.take_at.Goals as goal
@@ -36,3 +37,11 @@ returns-then-this-eq-INDEX-clause-marks g c =
 pub returns-clause-marks : goal.returns-clause-marks
 returns-clause-marks g c =
     rw c.remove.ensures.slots (by-no_new _ (marks_in c.args.bucket.now) _ (marks_in-slots_without c.args.bucket.now c.args.at.now))
+
+pub returns-then-this-eq-INDEX-clause-order : goal.returns-then-this-eq-INDEX-clause-order
+returns-then-this-eq-INDEX-clause-order g c = λ pair front here was.
+    rw c.mark_removed.ensures.slots (pairs_in-slots_marked g.row.TYPE c.args.bucket.now c.args.at.now pair c.sound.ensures here _ front was)
+
+pub returns-clause-order : goal.returns-clause-order
+returns-clause-order g c = λ pair front here was.
+    rw c.remove.ensures.slots (pairs_in-slots_without g.row.TYPE c.args.bucket.now c.args.at.now pair c.sound.ensures here front was)

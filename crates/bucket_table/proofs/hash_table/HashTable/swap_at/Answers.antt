@@ -1,6 +1,5 @@
 use Rattle.bucket_table.proofs.Words.{arith, refl}
-use Rattle.bucket_table.proofs.Map.MapSteps.{wrote}
-use Rattle.bucket_table.proofs.Views.SideChanges.{changeable_holding}
+use Rattle.bucket_table.proofs.Map.SlotSteps.{writes}
 use Rattle.bucket_table.proofs.Rehash.TicketSteps.{bag_with}
 use Rattle.bucket_table.proofs.hash_table.HashTable.swap_at.Goals as goal
 
@@ -16,25 +15,19 @@ invariant_of-self g c =
     let o = c.args.spot.now in
     let within = rw (← c.self.view_is) at c.requires.within in
     let here = rw c.bucket_of_mut-bucket.ensures.bucket at c.entry_mut.ensures.pair in
-    let key = c.entry_mut.result.0.now in
-    let value = c.entry_mut.result.1.now in
-    rw c.bucket_of_mut-bucket.ensures.bucket (wrote g.met.K.Eq.laws g.H.KeyHash.hash_of g.row.TYPE o.is_old o.index c.self.invariant
-    (changeable_holding _ _ _ _ o.at (key, value) c.self.invariant.placed within here) (key, value) c.replace.new.dest o.at
-    here).one_map
+    rw c.bucket_of_mut-bucket.ensures.bucket (writes g.met.K.Eq.laws g.H.KeyHash.hash_of g.row.TYPE o.is_old o.index c.self.invariant
+    within o.at _ here c.replace.new.dest).one_map
 
 pub returns-clause-map : goal.returns-clause-map
 returns-clause-map g c =
     let o = c.args.spot.now in
     let within = rw (← c.self.view_is) at c.requires.within in
     let here = rw c.bucket_of_mut-bucket.ensures.bucket at c.entry_mut.ensures.pair in
-    let key = c.entry_mut.result.0.now in
-    let value = c.entry_mut.result.1.now in
     rw (← c.self.view_is, c.bucket_of_mut-bucket.ensures.bucket, ← c.replace.ensures.after, c.replace.ensures.value) (
-      key,
+      c.entry_mut.result.0.now,
       here,
-      (wrote g.met.K.Eq.laws g.H.KeyHash.hash_of g.row.TYPE o.is_old o.index c.self.invariant
-          (changeable_holding _ _ _ _ o.at (key, value) c.self.invariant.placed within here) (key, value) c.replace.new.dest o.at
-          here).map,
+      (writes g.met.K.Eq.laws g.H.KeyHash.hash_of g.row.TYPE o.is_old o.index c.self.invariant within o.at _ here
+          c.replace.new.dest).map,
     )
 
 pub returns-clause-bag : goal.returns-clause-bag

@@ -23,6 +23,9 @@ invariant_of-self g c =
           (changeable_locked _ _ _ locked) c.evict_lru_head.result c.evict_lru_head.new.self e.pair e.slots e.unchanged).locked locked;
     }
 
+pub returns-clause-pair : goal.returns-clause-pair
+returns-clause-pair g c = rw (← c.table.view_is) (rw c.bucket_of_mut.ensures.bucket at c.evict_lru_head.ensures.pair)
+
 pub returns-clause-map : goal.returns-clause-map
 returns-clause-map g c =
     let o = c.args.self.now in

@@ -1,0 +1,39 @@
+use Rattle.bucket_table.proofs.Words.{refl}
+use Rattle.bucket_table.specs.Map.MapState.{state_of}
+use Rattle.bucket_table.proofs.Scripts.CallSteps.{then_changed}
+use Rattle.bucket_table.proofs.Map.TakeSteps.{same_taken}
+use Rattle.bucket_table.proofs.Views.Keeping.{bag_both}
+use Rattle.bucket_table.proofs.hash_table.HashTable.update.Goals as goal
+
+pub returns-in-Some-clause-map : goal.returns-in-Some-clause-map
+returns-in-Some-clause-map g c =
+    let keeps = c.fetch_spot.ensures.prepared.map in
+    let stands = c.in-Some.ensures.found in
+    let (own, before, after, changed, there, wrote) = c.update_at.ensures.map in (
+      own,
+      before,
+      after,
+      changed,
+      same_taken g.K.PartialEq.eq c.args.key.now _ _ stands.pair (own.now, before.now) stands.slot stands.there there,
+      then_changed (state_of g.row.TYPE c.args.self.now) (state_of g.row.TYPE c.fetch_spot.new.self)
+          (state_of g.row.TYPE c.update_at.new.self) (own.now, before.now) after.now keeps wrote,
+    )
+
+pub returns-in-None-clause-map : goal.returns-in-None-clause-map
+returns-in-None-clause-map g c = (c.in-None.ensures.absent, c.fetch_spot.ensures.prepared.map)
+
+pub returns-in-Some-clause-arrays : goal.returns-in-Some-clause-arrays
+returns-in-Some-clause-arrays g c =
+    let (value, is) = c.update_at.ensures.table in record {
+      between = c.fetch_spot.new.self;
+      prepared = c.fetch_spot.ensures.prepared;
+      done = (value, (c.in-Some.spot.is_old, c.in-Some.spot.index, c.in-Some.spot.at, is));
+    }
+
+pub returns-in-None-clause-arrays : goal.returns-in-None-clause-arrays
+returns-in-None-clause-arrays g c = record { between = c.fetch_spot.new.self; prepared = c.fetch_spot.ensures.prepared; done = refl }
+
+pub returns-in-Some-clause-bag : goal.returns-in-Some-clause-bag
+returns-in-Some-clause-bag g c =
+    bag_both c.args.self.now.arrays.tickets c.fetch_spot.new.self.arrays.tickets c.update_at.new.self.arrays.tickets
+    c.fetch_spot.ensures.prepared.kept.keeps.open_tickets c.update_at.ensures.bag

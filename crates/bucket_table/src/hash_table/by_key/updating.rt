@@ -1,0 +1,165 @@
+//! Calls by key that write a value where a pair is there: such a call is never refused.
+//!
+//! Own.
+ghost use Rattle.std.specs.Prelude.{◌≡◌, ◌%◌, ◌<◌, IsTrue, Some, is_some, length};
+ghost use Rattle.std.specs.Borrow.{Bor, MutBor};
+ghost use Rattle.bucket_slots.specs.BucketView.{BucketView, bucket_with_value, slot_in};
+ghost use Rattle.bucket_slots.specs.Clearing.{slots_after_insertion};
+ghost use Rattle.bucket_slots.specs.Homes.{IsHome};
+ghost use Rattle.bucket_slots.specs.Slots.{is_live, live_pair};
+ghost use Rattle.bucket_table.specs.Map.ByKey.{PreparesThen, Rewrites, WritesAt};
+ghost use Rattle.bucket_table.specs.Map.ByKey.{Upserts, UpsertsIn, UpsertsThen};
+ghost use Rattle.bucket_table.specs.Map.MapState.{ChangesValue, state_of};
+ghost use Rattle.bucket_table.specs.Views.Keeping.{KeepsOpenTickets};
+ghost use Rattle.bucket_table.specs.Views.Locking.{IsLocked};
+ghost use Rattle.bucket_table.specs.Views.Sides.{bucket_of, buckets_on, with_bucket};
+
+use crate::arrays::Spot;
+use crate::hash_table::HashTable;
+use crate::key_hash::KeyHash;
+use bucket_slots::bucket::{Bucket, Generation};
+use bucket_slots::lru::LruList;
+use std::mem;
+
+impl<K: Eq + Drop, V: Drop, H: KeyHash<K>, L: LruList + Drop, const TYPE: u8> HashTable<
+    K,
+    V,
+    H,
+    L,
+    TYPE,
+> {
+    /// Hands the pair whose key is equal to `change`, its value for writing, and returns what that
+    /// answers. `None` exactly where the map has none.
+    ///
+    /// Beside an old array it works one unit first, and moves the sources of the hash's home. May
+    /// take memory, and is never refused: without it a value is written in the old array.
+    ///
+    /// O(slots of a unit, of the sources and of their targets). Own.
+    #[inline(always)]
+    pub fn update<R, F: FnOnce(&K, &mut V) -> R>(&mut self, key: &K, change: F) -> Option<R>
+        requires callable { (own : Bor K) (value : MutBor V) → F.pre change own value }
+        ensures map { Rewrites K.eq key.now
+            (λ own before answer after. F.post change own before answer after)
+            (state_of TYPE self.old) result (state_of TYPE self.new) }
+        ensures bag { KeepsOpenTickets self.old.arrays.tickets self.new.arrays.tickets }
+        ensures arrays { PreparesThen TYPE self.old (λ between.
+            WritesAt (is_some result) between self.new) }
+    {
+        match self.fetch_spot(key) {
+            Some(spot) => Some(self.update_at(&spot, change)),
+            None => None,
+        }
+    }
+
+    /// Inserts a pair, or writes its value beside the key that is equal, and returns the earlier
+    /// value; the key that is there stays.
+    ///
+    /// Where an equal key is there it is never refused: without memory the value is written in the
+    /// old array.
+    ///
+    /// # Errors
+    ///
+    /// Want of memory, and the map has no such key: the pair comes back.
+    ///
+    /// O(slots of a unit, of the sources and of their targets; buckets that a resize makes). Own.
+    #[inline(always)]
+    pub fn upsert<G: Generation>(
+        &mut self,
+        key: K,
+        value: V,
+        generation: &G,
+    ) -> Result<Option<V>, (K, V)>
+        ensures map { Upserts K.eq key value (state_of TYPE self.old) result
+            (state_of TYPE self.new) }
+        ensures bag { KeepsOpenTickets self.old.arrays.tickets self.new.arrays.tickets }
+        ensures arrays { UpsertsThen TYPE (H.hash_of self.old.hasher key)
+            (λ bucket. slots_after_insertion TYPE (G.keeps generation.now) bucket (key, value)
+            (H.hash_of self.old.hasher key % 256)) value self.old result self.new }
+    {
+        let hash = self.hash(&key);
+        match self.find(hash) {
+            Ok((is_old, index)) => self.upsert_at(is_old, index, hash, key, value, generation),
+            Err(_) => match self.spot_of(&key, hash) {
+                Some(spot) => Ok(Some(self.swap_at(&spot, value))),
+                None => Err((key, value)),
+            },
+        }
+    }
+
+    /// Puts a pair into a locked bucket, or writes its value there.
+    #[inline(always)]
+    fn upsert_at<G: Generation>(
+        &mut self,
+        is_old: bool,
+        index: usize,
+        hash: u64,
+        key: K,
+        value: V,
+        generation: &G,
+    ) -> Result<Option<V>, (K, V)>
+        requires locked { IsLocked self.old.arrays is_old index }
+        requires own_hash { hash ≡ H.hash_of self.old.hasher key }
+        requires home { IsHome (length (buckets_on self.old.arrays is_old)) hash index }
+        ensures map { Upserts K.eq key value (state_of TYPE self.old) result
+            (state_of TYPE self.new) }
+        ensures bag { KeepsOpenTickets self.old.arrays.tickets self.new.arrays.tickets }
+        ensures bucket { (left : BucketView K V)
+            × UpsertsIn K.eq key value (hash % 256)
+            (λ bucket. slots_after_insertion TYPE (G.keeps generation.now) bucket (key, value)
+            (hash % 256)) (bucket_of self.old is_old index) result left
+            × (self.new ≡ with_bucket self.old is_old index left) }
+    {
+        self.arrays.room_of(is_old);
+        let bucket = self.arrays.bucket_of_mut(is_old, index);
+        upsert_in(bucket, hash, key, value, generation)
+    }
+
+    /// Hands the pair in a live slot to a closure, its value for writing.
+    #[inline(always)]
+    fn update_at<R, F: FnOnce(&K, &mut V) -> R>(&mut self, spot: &Spot<K, V, TYPE>, change: F) -> R
+        requires within { spot.now.index < length (buckets_on self.old.arrays spot.now.is_old) }
+        requires live_slot { IsTrue (is_live
+            (slot_in (bucket_of self.old spot.now.is_old spot.now.index) spot.now.at)) }
+        requires callable { (own : Bor K) (value : MutBor V) → F.pre change own value }
+        ensures map { (own : Bor K) × (before after : MutBor V)
+            × F.post change own before result after
+            × (live_pair (slot_in (bucket_of self.old spot.now.is_old spot.now.index) spot.now.at)
+            ≡ Some (own.now, before.now))
+            × ChangesValue (state_of TYPE self.old) (own.now, before.now) after.now
+            (state_of TYPE self.new) }
+        ensures bag { KeepsOpenTickets self.old.arrays.tickets self.new.arrays.tickets }
+        ensures table { (value : V) × (self.new ≡ with_bucket self.old spot.now.is_old
+            spot.now.index (bucket_with_value (bucket_of self.old spot.now.is_old spot.now.index)
+            spot.now.at value)) }
+    {
+        let is_old = spot.is_old;
+        let index = spot.index;
+        self.arrays.room_of(is_old);
+        let bucket = self.arrays.bucket_of_mut(is_old, index);
+        let (key, value) = bucket.entry_mut(&spot.at);
+        change(key, value)
+    }
+}
+
+/// Puts a pair into a bucket, or writes its value beside the key that is equal.
+#[inline(always)]
+fn upsert_in<K: Eq + Drop, V: Drop, L: LruList, G: Generation, const TYPE: u8>(
+    bucket: &mut Bucket<K, V, L, TYPE>,
+    hash: u64,
+    key: K,
+    value: V,
+    generation: &G,
+) -> Result<Option<V>, (K, V)>
+    ensures { UpsertsIn K.eq key value (hash % 256)
+        (λ bucket. slots_after_insertion TYPE (G.keeps generation.now) bucket (key, value)
+        (hash % 256)) bucket.old result bucket.new }
+{
+    let at = bucket.get_entry_ptr(&key, hash);
+    if at.is_valid() {
+        return Ok(Some(mem::replace(bucket.entry_mut(&at).1, value)));
+    }
+    match bucket.insert(hash, (key, value), generation) {
+        Ok(_) => Ok(None),
+        Err(pair) => Err(pair),
+    }
+}

@@ -1,0 +1,27 @@
+//! A table emptied at once.
+ghost use Rattle.std.specs.Prelude.{◌≡◌, []};
+ghost use Rattle.bucket_table.specs.Rehash.State.{first_tickets};
+
+use crate::hash_table::HashTable;
+use crate::key_hash::KeyHash;
+use bucket_slots::lru::LruList;
+
+impl<K: Eq + Drop, V: Drop, H: KeyHash<K>, L: LruList + Drop, const TYPE: u8> HashTable<
+    K,
+    V,
+    H,
+    L,
+    TYPE,
+> {
+    /// Drops both arrays with their pairs, live and marked. The open tickets are gone with the old
+    /// array; the hasher and the capacities stay.
+    ///
+    /// Takes no memory, and is never refused. O(pairs, and buckets). Own.
+    pub fn clear(&mut self)
+        ensures hasher { self.new.hasher ≡ self.old.hasher }
+        ensures arrays { self.new.arrays
+            ≡ record self.old.arrays { current = []; linked = []; tickets = first_tickets 0 } }
+    {
+        self.arrays.clear();
+    }
+}

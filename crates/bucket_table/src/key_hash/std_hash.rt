@@ -1,0 +1,40 @@
+//! Std's hashes as hashes of keys.
+ghost use Rattle.std.specs.Prelude.{◌≡◌};
+
+use crate::key_hash::KeyHash;
+use std::hash::{BuildHasher, Hash};
+
+/// Hashes a key as std's maps do: a builder makes a hasher anew for each key, and the key writes
+/// itself into it. Own.
+#[derive(Drop)]
+pub struct StdHash<S> {
+    /// What makes the hashers.
+    pub builder: S,
+}
+
+impl<S> StdHash<S> {
+    /// Hashes by a builder of hashers. Own.
+    pub fn new(builder: S) -> Self
+        ensures { result.builder ≡ builder }
+    {
+        StdHash { builder }
+    }
+}
+
+impl<K: Eq + Hash, S: BuildHasher> KeyHash<K> for StdHash<S> {
+    ghost use Rattle.std.proofs.Common.{ap, arith};
+    ghost use Rattle.std.proofs.Math.Nat.{mod-lt};
+    ghost use Rattle.bucket_table.specs.Map.StdHashes.{std_hash};
+
+    ghost hash_of = { λ hasher key. std_hash S.Hasher.finish S.Hasher.write
+        (S.build_hasher hasher.builder) (K.hash_input key) };
+
+    fn hash_one(&self, key: &K) -> u64 {
+        self.builder.hash_one(key)
+    }
+
+    ghost fits = { λ hasher key. mod-lt _ (omega arith) };
+
+    ghost alike = { λ hasher key other same. ap (std_hash S.Hasher.finish S.Hasher.write
+        (S.build_hasher hasher.builder)) (K.respects_eq key other same) };
+}

@@ -1,0 +1,150 @@
+//! Values written where a pair stands, pairs put where none does, and pairs that a cache evicts.
+use crate::by_lock::Table;
+use crate::checks::check_same;
+use Action::*;
+use bucket_slots::bucket::CACHE;
+use bucket_slots::lru::DoublyLinkedList;
+use bucket_table::hash_table::{HashTable, MAXIMUM_CAPACITY_LIMIT};
+use bucket_table::script::ScriptHash;
+use std::process::Abort;
+use std::test::Fail;
+
+type Cache = Table<DoublyLinkedList, CACHE>;
+
+/// A call on a cache, with what it answers.
+enum Action {
+    /// New keys are put, each with itself as its value.
+    Puts(u64, u64),
+    /// A value is put or written, and this was the earlier one.
+    Upserts(u64, u64, Option<u64>),
+    /// One is added to a key's value, and this was the earlier one.
+    Adds(u64, Option<u64>),
+    /// A key is touched, which is there.
+    Touches(u64),
+    /// The pair that goes from a key's home.
+    Evicts(u64, Option<(u64, u64)>),
+    /// The value that a key has.
+    Holds(u64, Option<u64>),
+    /// How many slots the current array has, and the rehash word.
+    Sees(usize, Option<usize>),
+    /// How many pairs there are.
+    Counts(usize),
+}
+
+// What happens, how keys are hashed, and the calls on a new cache.
+const STORIES: [(&str, ScriptHash, &[Action]); 3] = [
+    (
+        "a pair is put once, and then its value is written",
+        ScriptHash::Id,
+        &[
+            Adds(1, None),
+            Upserts(1, 10, None),
+            Upserts(1, 11, Some(10)),
+            Adds(1, Some(11)),
+            Adds(2, None),
+            Upserts(257, 5, None),
+            Holds(1, Some(12)),
+            Holds(2, None),
+            Counts(2),
+        ],
+    ),
+    (
+        "the pairs of an old array are written where they are by then",
+        ScriptHash::Spread,
+        &[
+            Puts(0, 31),
+            Puts(128, 159),
+            Upserts(31, 31, None),
+            Sees(128, Some(0)),
+            Upserts(5, 50, Some(5)),
+            Sees(128, None),
+            Adds(130, Some(130)),
+            Upserts(31, 32, Some(31)),
+            Holds(5, Some(50)),
+            Holds(130, Some(131)),
+            Holds(31, Some(32)),
+            Counts(63),
+        ],
+    ),
+    (
+        "a full home gives up its pairs in the order of their touches, and then slot zero",
+        ScriptHash::Zero,
+        &[
+            Evicts(0, None),
+            Puts(0, 32),
+            Touches(3),
+            Touches(1),
+            Touches(3),
+            Evicts(0, Some((1, 1))),
+            Evicts(0, None),
+            Upserts(32, 0, None),
+            Evicts(7, Some((3, 3))),
+            Upserts(33, 0, None),
+            Upserts(34, 0, None),
+            Evicts(40, Some((0, 0))),
+            Evicts(40, None),
+            Holds(0, None),
+            Holds(34, Some(0)),
+            Counts(32),
+        ],
+    ),
+];
+
+#[test]
+fn caches_are_updated_by_key(rt: HostRuntime) -> Result<(), Fail> {
+    for (name, hasher, actions) in &STORIES {
+        let mut cache = HashTable::new(rt.alloc(), *hasher, 0, MAXIMUM_CAPACITY_LIMIT);
+        for (row, action) in actions.iter().enumerate() {
+            act(&rt, &mut cache, (*name, row), action)?;
+        }
+    }
+    Ok(())
+}
+
+// Does a call that writes or evicts, and compares what it answers.
+fn act(
+    rt: &impl Abort,
+    cache: &mut Cache,
+    at: (&'static str, usize),
+    action: &Action,
+) -> Result<(), Fail> {
+    match action {
+        Puts(from, to) => {
+            for key in *from..*to {
+                let done = cache.insert_pair(key, key, &()).is_ok();
+                check_same(rt, done, true, (at, key));
+            }
+        }
+        Upserts(key, value, earlier) => {
+            check_same(rt, cache.upsert(*key, *value, &()), Ok(*earlier), at);
+        }
+        Adds(key, earlier) => check_same(rt, cache.update(key, add_one), *earlier, at),
+        Evicts(key, pair) => check_same(rt, cache.evict(key)?, *pair, at),
+        _ => look(rt, cache, at, action),
+    }
+    Ok(())
+}
+
+// Does a call that changes no pair.
+fn look(rt: &impl Abort, cache: &mut Cache, at: (&'static str, usize), action: &Action) {
+    match action {
+        Touches(key) => check_same(rt, cache.touch(key), true, at),
+        Holds(key, value) => {
+            let found = cache.peek_entry(key).map(|(_, value)| *value);
+            check_same(rt, found, *value, at);
+        }
+        Sees(slots, word) => {
+            let found = (cache.num_slots(), cache.rehashing_metadata());
+            check_same(rt, found, (*slots, *word), at);
+        }
+        Counts(pairs) => check_same(rt, cache.num_entries(), *pairs, at),
+        _ => check_same(rt, true, false, (at, "no look")),
+    }
+}
+
+// Adds one to a value, and returns the earlier one.
+fn add_one(_key: &u64, value: &mut u64) -> u64 {
+    let earlier = *value;
+    *value = earlier.wrapping_add(1);
+    earlier
+}

@@ -1,0 +1,97 @@
+//! A map whose keys are words, hashed as std's maps hash them.
+use crate::checks::check_same;
+use bucket_slots::bucket::MAP;
+use bucket_table::hash_table::{HashTable, Missing};
+use bucket_table::key_hash::StdHash;
+use std::hash::{BuildHasherDefault, FoldHasher};
+use std::process::Abort;
+use std::test::Fail;
+
+type Words = HashTable<&'static str, u64, StdHash<BuildHasherDefault<FoldHasher>>, (), MAP>;
+
+/// A call on a map of words.
+enum Step {
+    /// A word is put with a number, if it wasn't there.
+    Put(&'static str, u64, bool),
+    /// A word has this number, or isn't there.
+    Has(&'static str, Option<u64>),
+    /// A word is taken out with its number, if it was there.
+    Take(&'static str, Option<(&'static str, u64)>),
+    /// So many words are there.
+    Len(usize),
+    /// All words go.
+    Clear,
+}
+
+const STEPS: &[Step] = &[
+    Step::Len(0),
+    Step::Has("", None),
+    Step::Put("", 0, true),
+    Step::Put("ab", 2, true),
+    Step::Put("a", 1, true),
+    Step::Put("ab", 3, false),
+    Step::Has("ab", Some(2)),
+    Step::Has("b", None),
+    Step::Len(3),
+    Step::Take("ab", Some(("ab", 2))),
+    Step::Take("ab", None),
+    Step::Has("", Some(0)),
+    Step::Has("a", Some(1)),
+    Step::Len(2),
+    Step::Clear,
+    Step::Len(0),
+    Step::Has("a", None),
+    Step::Put("a", 4, true),
+    Step::Has("a", Some(4)),
+    Step::Len(1),
+];
+
+#[test]
+fn words_are_found_by_stds_hashes(rt: HostRuntime) -> Result<(), Fail> {
+    let hasher = StdHash::new(BuildHasherDefault::new());
+    let mut words: Words = HashTable::with_hasher(rt.alloc(), hasher);
+    for (row, step) in STEPS.iter().enumerate() {
+        play(&rt, &mut words, row, step);
+    }
+    Ok(())
+}
+
+// Takes a step, and compares what comes of it.
+fn play(rt: &impl Abort, words: &mut Words, row: usize, step: &Step) {
+    match *step {
+        Step::Put(word, number, done) => {
+            check_same(rt, words.insert_pair(word, number, &()).is_ok(), done, row);
+        }
+        Step::Has(word, number) => {
+            let found = words.peek_entry(&word).map(|pair| *pair.1);
+            check_same(rt, found, number, row);
+        }
+        Step::Take(word, pair) => check_same(rt, words.take(&word), pair, row),
+        Step::Len(words_there) => {
+            let found = (words.len(), words.is_empty());
+            check_same(rt, found, (words_there, words_there == 0), row);
+        }
+        Step::Clear => words.clear(),
+    }
+}
+
+// Why no bucket is locked, as a value and as a text.
+const MISSING: [(Missing, &str, &str); 2] = [
+    (Missing::Nothing, "Nothing", "nothing to lock"),
+    (Missing::Memory, "Memory", "out of memory"),
+];
+
+#[test]
+fn what_is_missing_has_a_text(rt: HostRuntime) -> Result<(), Fail> {
+    for (missing, name, text) in &MISSING {
+        let debug = format!(in rt.alloc(); "{missing:?}")?;
+        let shown = format!(in rt.alloc(); "{missing}")?;
+        check_same(
+            &rt,
+            (debug.as_str(), shown.as_str()),
+            (*name, *text),
+            "missing",
+        );
+    }
+    Ok(())
+}
