@@ -1,0 +1,132 @@
+-- Look-ups in a list of pairs whose keys are distinct, and what changes of the list do to them.
+use Rattle.std.proofs.Common.{ℕ, zero, suc, ◌≡◌, ◌<◌, ◌⊎◌, inl, inr, Bool, true, false, cond, Option, Some, None, List, [], ◌∷◌, length, map, refl, sym, ap, subst, ◌∙◌, arith}
+use Rattle.std.specs.Cmp.{IsEquivalence}
+use Rattle.std.specs.List.{All, Contains, IsDistinct}
+use Rattle.std.specs.List.Sorted.{IsPermutation}
+use Rattle.std.specs.Map.{keys_of, lookup}
+use Rattle.std.proofs.lemmas.Bool.{cases_Bool}
+use Rattle.std.proofs.lemmas.List.Sorted.{All-permutation, Contains-permutation, IsPermutation-map, IsPermutation-sym, IsPermutation-cons, length_permutation}
+use Rattle.std.proofs.lemmas.Map.{lookup-none}
+use Rattle.std.proofs.lemmas.Map.Entries.{lookup_head, lookup_tail, none_past_head, place_from_lookup, lookup_from_place}
+use Rattle.std.proofs.lemmas.Map.Keys.{IsDistinct-IsPermutation}
+use Rattle.std.proofs.lemmas.Option.{slice_get_within, slice_get_read, get_or_from_slice_get}
+use Rattle.bucket_table.specs.Map.LookingUp.{IsAbsent, IsThere}
+
+-- two ways to ask of the same key
+pub same_test : {K : Type 0} (eq : K → K → Bool) (laws : IsEquivalence eq) (k own q : K) → eq own k ≡ true → eq k q ≡ eq q own
+same_test eq laws k own q same = sym (laws.congr own k q same) ∙ laws.symm own q
+
+module _ {K V : Type 0} (eq : K → K → Bool) (laws : IsEquivalence eq) where
+  pub distinct_permuted : (xs ys : List (K × V)) → IsPermutation xs ys → IsDistinct eq (keys_of xs) → IsDistinct eq (keys_of ys)
+  distinct_permuted xs ys moved distinct =
+      IsDistinct-IsPermutation eq laws.symm _ _ (IsPermutation-map (λ (p : K × V). p.0) xs ys moved) distinct
+
+  none_tail : (q : K) (p : K × V) (ps : List (K × V)) → All (λ (o : K × V). eq q o.0 ≡ false) (p ∷ ps)
+      → All (λ (o : K × V). eq q o.0 ≡ false) ps
+  none_tail q p ps none = λ i d below. none (suc i) d (omega arith)
+
+  -- no key passes: nothing is found
+  pub lookup_absent : (q : K) (ps : List (K × V)) → All (λ (o : K × V). eq q o.0 ≡ false) ps
+      → lookup (eq q) ps ≡ None
+  lookup_absent q [] none = refl
+  lookup_absent q (p ∷ ps) none =
+      lookup_tail (eq q) p ps (none 0 p (omega arith)) ∙ lookup_absent q ps (none_tail q p ps none)
+
+  none_more : (q : K) (p : K × V) (ps : List (K × V)) → eq q p.0 ≡ false → All (λ (o : K × V). eq q o.0 ≡ false) ps
+      → All (λ (o : K × V). eq q o.0 ≡ false) (p ∷ ps)
+  none_more q p ps is all zero d below = is
+  none_more q p ps is all (suc i) d below = all i d (omega arith)
+
+  -- the other way
+  pub absent_from_lookup : (q : K) (ps : List (K × V)) → lookup (eq q) ps ≡ None
+      → All (λ (o : K × V). eq q o.0 ≡ false) ps
+  absent_from_lookup q [] none = λ i d below. absurd (omega arith)
+  absent_from_lookup q (p ∷ ps) none = elim (cases_Bool (eq q p.0)) [
+    | inl hit ↦ let found : Some p.1 ≡ None = sym (lookup_head (eq q) p ps hit) ∙ none in absurd cc
+    | inr miss ↦ none_more q p ps miss (absent_from_lookup q ps (sym (lookup_tail (eq q) p ps miss) ∙ none))
+  ]
+
+  -- equal keys find the same
+  pub lookup_same : (q k : K) (ps : List (K × V)) → eq q k ≡ true → lookup (eq q) ps ≡ lookup (eq k) ps
+  lookup_same q k [] same = refl
+  lookup_same q k (p ∷ ps) same =
+      let head = laws.congr q k p.0 same in
+      let tail = lookup_same q k ps same in
+      ap (λ (b : Bool). cond b (Some p.1) (lookup (eq q) ps)) head ∙ ap (λ (o : Option V). cond (eq k p.0) (Some p.1) o) tail
+
+  -- a pair that is there is found
+  pub lookup_there : (q : K) (ps : List (K × V)) (p : K × V) → IsDistinct eq (keys_of ps) → Contains ps p
+      → eq q p.0 ≡ true → lookup (eq q) ps ≡ Some p.1
+  lookup_there q ps p distinct there same =
+      lookup_same q p.0 ps same ∙ lookup_from_place laws ps there.0 p.0 p.1 distinct
+      (slice_get_read ps (length ps) there.0 p refl there.1 (sym there.2))
+
+  -- what is found is there
+  pub there_from_lookup : (q : K) (ps : List (K × V)) (v : V) → lookup (eq q) ps ≡ Some v
+      → (k : K) × Contains ps (k, v) × (eq q k ≡ true)
+  there_from_lookup q ps v found =
+      let place = place_from_lookup (eq q) ps v found in
+      let pair : K × V = (place.1, v) in
+      (place.1, (place.0, slice_get_within ps place.0 pair place.2, get_or_from_slice_get ps place.0 pair pair place.2), place.3)
+
+  -- another order finds the same
+  pub lookup_permuted : (q : K) (xs ys : List (K × V)) → IsDistinct eq (keys_of xs) → IsPermutation xs ys
+      → lookup (eq q) ys ≡ lookup (eq q) xs
+  lookup_permuted q xs ys distinct moved = from (lookup (eq q) xs) refl
+    where
+      from : (o : Option V) → lookup (eq q) xs ≡ o → lookup (eq q) ys ≡ lookup (eq q) xs
+      from None e =
+          lookup_absent q ys (All-permutation (λ (o : K × V). eq q o.0 ≡ false) xs ys moved (absent_from_lookup q xs e)) ∙ sym e
+      from (Some v) e =
+          let found = there_from_lookup q xs v e in
+          lookup_there q ys (found.0, v) (distinct_permuted xs ys moved distinct) (Contains-permutation xs ys (found.0, v) moved found.1) found.2 ∙ sym e
+
+  -- in the words of a table
+  pub get_absent : (k : K) (ps : List (K × V)) → IsAbsent eq k ps → lookup (eq k) ps ≡ None
+  get_absent k ps none = lookup_absent k ps (λ i d below. laws.symm k _ ∙ none i d below)
+
+  pub get_there : (k : K) (ps : List (K × V)) (p : K × V) → IsDistinct eq (keys_of ps) → IsThere eq k ps p
+      → lookup (eq k) ps ≡ Some p.1
+  get_there k ps p distinct there = lookup_there k ps p distinct there.0 (laws.symm k p.0 ∙ there.1)
+
+  -- a pair more
+  pub lookup_added : (q : K) (p : K × V) (xs ys : List (K × V)) → IsDistinct eq (keys_of ys)
+      → IsPermutation (p ∷ xs) ys → lookup (eq q) ys ≡ cond (eq p.0 q) (Some p.1) (lookup (eq q) xs)
+  lookup_added q p xs ys distinct moved =
+      lookup_permuted q (p ∷ xs) ys (distinct_permuted ys (p ∷ xs) (IsPermutation-sym (p ∷ xs) ys moved) distinct) moved
+      ∙ ap (λ (b : Bool). cond b (Some p.1) (lookup (eq q) xs)) (laws.symm q p.0)
+
+  -- a pair less
+  pub lookup_taken : (k q : K) (p : K × V) (xs ys : List (K × V)) → IsDistinct eq (keys_of xs)
+      → IsPermutation xs (p ∷ ys) → eq p.0 k ≡ true → lookup (eq q) ys ≡ cond (eq k q) None (lookup (eq q) xs)
+  lookup_taken k q p xs ys distinct moved same = elim (cases_Bool (eq k q)) [
+    | inl hit ↦
+        let own : eq q p.0 ≡ true = sym (same_test eq laws k p.0 q same) ∙ hit in
+        let none : lookup (eq q) ys ≡ None = lookup-none (eq q) ys (none_past_head laws q p ys (distinct_permuted xs (p ∷ ys) moved distinct) own) in
+        none ∙ ap (λ (b : Bool). cond b None (lookup (eq q) xs)) (sym hit)
+    | inr miss ↦
+        let own : eq q p.0 ≡ false = sym (same_test eq laws k p.0 q same) ∙ miss in
+        sym (lookup_tail (eq q) p ys own) ∙ lookup_permuted q xs (p ∷ ys) distinct moved
+        ∙ ap (λ (b : Bool). cond b None (lookup (eq q) xs)) (sym miss)
+  ]
+
+  distinct_with : (k : K) (v w : V) (ps : List (K × V)) → IsDistinct eq (keys_of ((k, v) ∷ ps)) → IsDistinct eq (keys_of ((k, w) ∷ ps))
+  distinct_with k v w ps distinct = distinct
+
+  -- a value changes
+  pub lookup_changed : (k q : K) (p : K × V) (v : V) (rest xs ys : List (K × V)) → IsDistinct eq (keys_of xs)
+      → IsPermutation xs (p ∷ rest) → IsPermutation ((p.0, v) ∷ rest) ys → eq p.0 k ≡ true
+      → lookup (eq q) ys ≡ cond (eq k q) (Some v) (lookup (eq q) xs)
+  lookup_changed k q p v rest xs ys distinct before after same =
+      let first = distinct_permuted xs (p ∷ rest) before distinct in
+      let found = lookup_permuted q ((p.0, v) ∷ rest) ys (distinct_with p.0 p.1 v rest first) after in
+      let was = lookup_permuted q xs (p ∷ rest) distinct before in
+      elim (cases_Bool (eq k q)) [
+        | inl hit ↦
+            let own : eq q p.0 ≡ true = sym (same_test eq laws k p.0 q same) ∙ hit in
+            found ∙ lookup_head (eq q) (p.0, v) rest own ∙ ap (λ (b : Bool). cond b (Some v) (lookup (eq q) xs)) (sym hit)
+        | inr miss ↦
+            let own : eq q p.0 ≡ false = sym (same_test eq laws k p.0 q same) ∙ miss in
+            found ∙ lookup_tail (eq q) (p.0, v) rest own ∙ sym (lookup_tail (eq q) p rest own) ∙ was
+            ∙ ap (λ (b : Bool). cond b (Some v) (lookup (eq q) xs)) (sym miss)
+      ]

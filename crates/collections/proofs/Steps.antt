@@ -1,0 +1,121 @@
+-- What the calls of a table by key do to the map that it is.
+use Rattle.std.proofs.Common.{ℕ, ◌≡◌, ◌+◌, ◌-◌, ◌≤◌, if◌then◌else◌, Bool, true, false, cond, Option, Some, None, Result, Ok, Err, inl, inr, List, ◌∷◌, length, refl, subst, sym, ap, ◌∙◌, arith}
+use Rattle.std.specs.Borrow.{Bor, MutBor}
+use Rattle.std.specs.Cmp.{IsEquivalence}
+use Rattle.std.specs.List.{Contains, IsDistinct}
+use Rattle.std.specs.List.Sorted.{IsPermutation}
+use Rattle.std.specs.Map.{keys_of}
+use Rattle.std.proofs.lemmas.Bool.{le-leb}
+use Rattle.std.proofs.lemmas.List.Sorted.{Contains-permutation, IsPermutation-sym, length_permutation}
+use Rattle.bucket_table.specs.Views.ArraysView.{TableView, pairs_of}
+use Rattle.bucket_table.specs.Map.LookingUp.{IsAbsent, IsThere}
+use Rattle.bucket_table.specs.Map.MapState.{AddsPair, Becomes, ChangesValue, KeepsPairs, LowersMinimum, TakesPair, state_of}
+use Rattle.bucket_table.specs.Map.ByKey as by_key
+use Rattle.bucket_table.specs.declared.hash_table.NotInserted.{NotInserted}
+use Rattle.bucket_table.specs.declared.hash_table.NotInserted.TheVariants.{Present, Memory}
+use Rattle.collections.specs.Maps.{MapView, get, map_of}
+use Rattle.collections.specs.Changes.{Adds, Inserts, Keeps, Removes, Replaces, Rewrites, Stays, Takes, Upserts}
+use Rattle.collections.proofs.Lookups.{get_absent, get_there, lookup_added, lookup_changed, lookup_permuted, lookup_same, lookup_taken}
+
+module _ {K V H : Type 0} (eq : K → K → Bool) (laws : IsEquivalence eq) where
+  module _ (kind : ℕ) (t s : TableView K V H) (distinct : IsDistinct eq (keys_of (pairs_of t.arrays)))
+      (after : IsDistinct eq (keys_of (pairs_of s.arrays))) where
+    kept : {those : List (K × V)} → Becomes (state_of kind t) those (state_of kind s) → Keeps eq (map_of t) (map_of s)
+    kept becomes = record { unique = after; hasher = ap (λ z. z.hasher) becomes.others; minimum = ap (λ z. z.minimum) becomes.others; maximum = ap (λ z. z.maximum) becomes.others }
+
+    pub stays : KeepsPairs (state_of kind t) (state_of kind s) → Stays eq (map_of t) (map_of s)
+    stays keeps = record {
+      entries = keeps.pairs;
+      len = length_permutation (pairs_of t.arrays) (pairs_of s.arrays) keeps.pairs;
+      gets = λ q. lookup_permuted eq laws q (pairs_of t.arrays) (pairs_of s.arrays) distinct keeps.pairs;
+      kept = kept keeps;
+    }
+
+    pub adds : (k : K) (v : V) → IsAbsent eq k (pairs_of t.arrays) → AddsPair (state_of kind t) (k, v) (state_of kind s)
+        → Adds eq (map_of t) k v (map_of s)
+    adds k v none added = record {
+      absent = get_absent eq laws k (pairs_of t.arrays) none;
+      entries = added.pairs;
+      len = let more = length_permutation ((k, v) ∷ pairs_of t.arrays) (pairs_of s.arrays) added.pairs in omega (arith, more);
+      updates = λ q. lookup_added eq laws q (k, v) (pairs_of t.arrays) (pairs_of s.arrays) after added.pairs;
+      kept = kept added;
+    }
+
+    first_there : (p : K × V) (rest : List (K × V)) → IsPermutation (pairs_of t.arrays) (p ∷ rest) → Contains (pairs_of t.arrays) p
+    first_there p rest moved = Contains-permutation (p ∷ rest) (pairs_of t.arrays) p
+        (IsPermutation-sym (pairs_of t.arrays) (p ∷ rest) moved) (0, omega arith, refl)
+
+    pub takes : (k : K) (p : K × V) → eq p.0 k ≡ true → TakesPair (state_of kind t) p (state_of kind s)
+        → Takes eq (map_of t) k p (map_of s)
+    takes k p same taken = record {
+      same = same;
+      value = get_there eq laws k (pairs_of t.arrays) p distinct (first_there p (pairs_of s.arrays) taken.pairs, same);
+      entries = taken.pairs;
+      len = let less = length_permutation (pairs_of t.arrays) (p ∷ pairs_of s.arrays) taken.pairs in omega (arith, less);
+      updates = λ q. lookup_taken eq laws k q p (pairs_of t.arrays) (pairs_of s.arrays) distinct taken.pairs same;
+      kept = record { unique = after; hasher = ap (λ z. z.hasher) taken.others; minimum = ap (λ z. z.minimum) taken.others; maximum = ap (λ z. z.maximum) taken.others };
+    }
+
+    pub replaces : (k : K) (p : K × V) (v : V) → eq p.0 k ≡ true → ChangesValue (state_of kind t) p v (state_of kind s)
+        → Replaces eq (map_of t) k p v (map_of s)
+    replaces k p v same changed =
+        let before = length_permutation (pairs_of t.arrays) (p ∷ changed.rest) changed.before in
+        let later = length_permutation ((p.0, v) ∷ changed.rest) (pairs_of s.arrays) changed.after.pairs in
+        record {
+          same = same;
+          value = get_there eq laws k (pairs_of t.arrays) p distinct (first_there p changed.rest changed.before, same);
+          rest = changed.rest;
+          before = changed.before;
+          after = changed.after.pairs;
+          len = omega (arith, before, later);
+          updates = λ q. lookup_changed eq laws k q p v changed.rest (pairs_of t.arrays) (pairs_of s.arrays) distinct changed.before
+              changed.after.pairs same;
+          kept = kept changed.after;
+        }
+
+    pub absent : (k : K) → IsAbsent eq k (pairs_of t.arrays) → get eq (map_of t) k ≡ None
+    absent k none = get_absent eq laws k (pairs_of t.arrays) none
+
+    pub inserts : {A : Type 0} (k : K) (v : V) (r : Result A (NotInserted K V))
+        → by_key.Inserts eq k v (state_of kind t) r (state_of kind s) → Inserts eq k v (map_of t) r (map_of s)
+    inserts k v (Ok x) done = adds k v done.0 done.1
+    inserts k v (Err (Present a b)) done =
+        (done.0, done.1, rw (get_there eq laws k (pairs_of t.arrays) done.2.0 distinct done.2.1) refl, stays done.3)
+    inserts k v (Err (Memory a b)) done = (done.0, done.1, stays done.2)
+
+    pub removes : (k : K) (r : Option (K × V)) → by_key.Takes eq k (state_of kind t) r (state_of kind s)
+        → Removes eq k (map_of t) r (map_of s)
+    removes k (Some p) done = takes k p done.0 done.1
+    removes k None done = (absent k done.0, stays done.1)
+
+    pub upserts : (k : K) (v : V) (r : Result (Option V) (K × V)) → by_key.Upserts eq k v (state_of kind t) r (state_of kind s)
+        → Upserts eq k v (map_of t) r (map_of s)
+    upserts k v (Ok None) done = adds k v done.0 done.1
+    upserts k v (Ok (Some earlier)) done = (done.0, replaces k (done.0, earlier) v done.1 done.2)
+    upserts k v (Err back) done = (done.0, absent k done.1, stays done.2)
+
+    pub rewrites : {R : Type 0} (changes : Bor K → MutBor V → R → MutBor V → Type 0) (k : K) (r : Option R)
+        → by_key.Rewrites eq k changes (state_of kind t) r (state_of kind s) → Rewrites eq k changes (map_of t) r (map_of s)
+    rewrites changes k (Some answer) done = (done.0, done.1, done.2, done.3, replaces k (done.0.now, done.1.now) done.2.now done.4 done.5)
+    rewrites changes k None done = (absent k done.0, stays done.1)
+
+  -- with another minimum
+  pub stays_by : (kind : ℕ) (t s : TableView K V H) → IsDistinct eq (keys_of (pairs_of t.arrays)) → IsDistinct eq (keys_of (pairs_of s.arrays))
+      → (minimum : ℕ) → KeepsPairs (record (state_of kind t) { minimum = minimum }) (state_of kind s)
+      → Stays eq (record (map_of t) { minimum = minimum }) (map_of s)
+  stays_by kind t s distinct after minimum keeps = record {
+    entries = keeps.pairs;
+    len = length_permutation (pairs_of t.arrays) (pairs_of s.arrays) keeps.pairs;
+    gets = λ q. lookup_permuted eq laws q (pairs_of t.arrays) (pairs_of s.arrays) distinct keeps.pairs;
+    kept = record { unique = after; hasher = ap (λ z. z.hasher) keeps.others; minimum = ap (λ z. z.minimum) keeps.others; maximum = ap (λ z. z.maximum) keeps.others };
+  }
+
+  -- all of the minimum is given back
+  pub released : (kind : ℕ) (t s : TableView K V H) → IsDistinct eq (keys_of (pairs_of t.arrays)) → IsDistinct eq (keys_of (pairs_of s.arrays))
+      → (m answer : ℕ) → m ≡ t.arrays.minimum → LowersMinimum m (state_of kind t) answer (state_of kind s)
+      → Stays eq (record (map_of t) { minimum = 0 }) (map_of s)
+  released kind t s distinct after m answer is lowers =
+      let all : answer ≡ m = lowers.granted ∙ ap (λ b. if b then m else 0) (le-leb m t.arrays.minimum (omega (arith, is))) in
+      let none : t.arrays.minimum - answer ≡ 0 = omega (arith, all, is) in
+      stays_by kind t s distinct after 0
+      (subst (λ (n : ℕ). KeepsPairs (record (state_of kind t) { minimum = n }) (state_of kind s)) none lowers.kept)

@@ -1,0 +1,90 @@
+-- What calls do to a map.
+use Rattle.std.specs.Prelude.{ℕ, ◌≡◌, ◌+◌, ◌-◌, Bool, true, false, cond, if◌then◌else◌, nat_le, List, ◌∷◌, Option, Some, None, Result, Ok, Err, IsSome}
+use Rattle.std.specs.Borrow.{Bor, MutBor}
+use Rattle.std.specs.List.Sorted.{IsPermutation}
+use Rattle.collections.specs.Maps.{MapView, IsUnique, get, map_len}
+use Rattle.bucket_table.specs.declared.hash_table.NotInserted.{NotInserted}
+use Rattle.bucket_table.specs.declared.hash_table.NotInserted.TheVariants.{Present, Memory}
+
+module _ {K V H : Type 0} (eq : K → K → Bool) where
+  -- no two keys of the new map are equal, and the hasher and the two capacities stay
+  pub record Keeps (old new : MapView K V H) : Type 0 where
+    pub unique : IsUnique eq new
+    pub hasher : new.hasher ≡ old.hasher
+    pub minimum : new.minimum ≡ old.minimum
+    pub maximum : new.maximum ≡ old.maximum
+
+  -- each key that is equal to the key has the value (none: the map hasn't it), and each other key what it had
+  abbrev pub Updates : MapView K V H → K → Option V → MapView K V H → Type 0
+  Updates old key value new = (other : K) → get eq new other ≡ cond (eq key other) value (get eq old other)
+
+  -- the pairs stay, in some order, and so each key has the value that it had
+  pub record Stays (old new : MapView K V H) : Type 0 where
+    pub entries : IsPermutation old.entries new.entries
+    pub len : map_len new ≡ map_len old
+    pub gets : (key : K) → get eq new key ≡ get eq old key
+    pub kept : Keeps old new
+
+  -- a pair more, whose key was absent
+  pub record Adds (old : MapView K V H) (key : K) (value : V) (new : MapView K V H) : Type 0 where
+    pub absent : get eq old key ≡ None
+    pub entries : IsPermutation ((key, value) ∷ old.entries) new.entries
+    pub len : map_len new ≡ map_len old + 1
+    pub updates : Updates old key (Some value) new
+    pub kept : Keeps old new
+
+  -- the pair under the key is gone
+  pub record Takes (old : MapView K V H) (key : K) (pair : K × V) (new : MapView K V H) : Type 0 where
+    pub same : eq pair.0 key ≡ true
+    pub value : get eq old key ≡ Some pair.1
+    pub entries : IsPermutation old.entries (pair ∷ new.entries)
+    pub len : map_len new + 1 ≡ map_len old
+    pub updates : Updates old key None new
+    pub kept : Keeps old new
+
+  -- the value under the key is another one, and its own key stays
+  pub record Replaces (old : MapView K V H) (key : K) (pair : K × V) (later : V) (new : MapView K V H) : Type 0 where
+    pub same : eq pair.0 key ≡ true
+    pub value : get eq old key ≡ Some pair.1
+    pub rest : List (K × V)
+    pub before : IsPermutation old.entries (pair ∷ rest)
+    pub after : IsPermutation ((pair.0, later) ∷ rest) new.entries
+    pub len : map_len new ≡ map_len old
+    pub updates : Updates old key (Some later) new
+    pub kept : Keeps old new
+
+module _ {K V H : Type 0} (eq : K → K → Bool) (key : K) where
+  -- a pair is put where its key is absent; else, and for want of memory, it comes back and all stays
+  abbrev pub Inserts : {A : Type 0} → V → MapView K V H → Result A (NotInserted K V) → MapView K V H → Type 0
+  Inserts value old (Ok done) new = Adds eq old key value new
+  Inserts value old (Err (Present k v)) new = (k ≡ key) × (v ≡ value) × IsSome (get eq old key) × Stays eq old new
+  Inserts value old (Err (Memory k v)) new = (k ≡ key) × (v ≡ value) × Stays eq old new
+
+  -- the pair under the key is taken out, and none is exactly where the key is absent
+  abbrev pub Removes : MapView K V H → Option (K × V) → MapView K V H → Type 0
+  Removes old (Some pair) new = Takes eq old key pair new
+  Removes old None new = (get eq old key ≡ None) × Stays eq old new
+
+  -- a pair is put, or its value stands beside the key that is there, and the earlier value is the answer; for want of memory
+  -- the pair comes back, and then its key is absent
+  abbrev pub Upserts : V → MapView K V H → Result (Option V) (K × V) → MapView K V H → Type 0
+  Upserts value old (Ok None) new = Adds eq old key value new
+  Upserts value old (Ok (Some earlier)) new = (own : K) × Replaces eq old key (own, earlier) value new
+  Upserts value old (Err back) new = (back ≡ (key, value)) × (get eq old key ≡ None) × Stays eq old new
+
+  -- the value under the key is lent to a call, and is what that leaves; there is no answer exactly where the key is absent
+  abbrev pub Rewrites : {R : Type 0} → (Bor K → MutBor V → R → MutBor V → Type 0) → MapView K V H → Option R → MapView K V H → Type 0
+  Rewrites changes old (Some answer) new = (own : Bor K) × (before : MutBor V) × (after : MutBor V) × changes own before answer after
+      × Replaces eq old key (own.now, before.now) after.now new
+  Rewrites changes old None new = (get eq old key ≡ None) × Stays eq old new
+
+-- the key of a set is taken out, and none is exactly where it is absent
+abbrev pub SetRemoves : {K H : Type 0} → (K → K → Bool) → K → MapView K (Unit {0}) H → Option K → MapView K (Unit {0}) H → Type 0
+SetRemoves eq key old (Some own) new = Takes eq old key (own, tt) new
+SetRemoves eq key old None new = (get eq old key ≡ None) × Stays eq old new
+
+module _ {K V H : Type 0} (eq : K → K → Bool) where
+  -- the minimum is raised by the answer: what was asked for, or nothing where it would pass the maximum
+  pub record Reserves (additional : ℕ) (old : MapView K V H) (answer : ℕ) (new : MapView K V H) : Type 0 where
+    pub granted : answer ≡ (if nat_le additional (old.maximum - old.minimum) then additional else 0)
+    pub stays : Stays eq (record old { minimum = old.minimum + answer }) new

@@ -1,0 +1,4 @@
+-- What contracts of the collections say.
+pub mod Maps
+pub mod Changes
+pub mod Room

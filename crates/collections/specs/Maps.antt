@@ -1,0 +1,40 @@
+-- What contracts see of a collection, in the words of std's `HashMap`.
+use Rattle.std.specs.Prelude.{ℕ, ◌≡◌, ◌*◌, Bool, cond, false, List, [], length, Option, IsSome, is_some}
+use Rattle.std.specs.List.{IsDistinct}
+use Rattle.std.specs.Map.{keys_of, lookup}
+use Rattle.bucket_table.specs.Views.ArraysView.{TableView, pairs_of}
+
+-- the pairs, in an order that any call may change, the hasher, the least number of slots that a shrink leaves and the
+-- greatest that a growth makes, and the number of slots
+pub record MapView (K V H : Type 0) : Type 0 where
+  pub entries : List (K × V)
+  pub hasher : H
+  pub minimum : ℕ
+  pub maximum : ℕ
+  pub slots : ℕ
+
+-- the map that a table is
+abbrev pub map_of : {K V H : Type 0} → TableView K V H → MapView K V H
+map_of table =
+    record { entries = pairs_of table.arrays; hasher = table.hasher; minimum = table.arrays.minimum; maximum = table.arrays.maximum; slots = 32 * length table.arrays.current }
+
+module _ {K V H : Type 0} where
+  -- how many pairs
+  abbrev pub map_len : MapView K V H → ℕ
+  map_len m = length m.entries
+
+  abbrev pub IsEmpty : MapView K V H → Type 0
+  IsEmpty m = m.entries ≡ []
+
+  module _ (eq : K → K → Bool) where
+    -- no two keys are equal
+    abbrev pub IsUnique : MapView K V H → Type 0
+    IsUnique m = IsDistinct eq (keys_of m.entries)
+
+    -- the map as a function: the value at a key
+    abbrev pub get : MapView K V H → K → Option V
+    get m key = lookup (eq key) m.entries
+
+    -- whether it has a key
+    abbrev pub contains : MapView K V H → K → Bool
+    contains m key = is_some (get m key)

@@ -1,0 +1,21 @@
+-- That the table of a collection fits in memory: a caller that is generic in the hasher owes it where it makes one.
+use Rattle.std.specs.Prelude.{ℕ, ◌≡◌, false, []}
+use Rattle.std.specs.Borrow.{RattleType}
+use Rattle.std.specs.Mem.{FitsInMemory}
+use denote.Param.{number}
+use denote.Plain.{Nothing}
+use Rattle.std.specs.declared.cmp.PartialEq as equals
+use Rattle.std.specs.declared.default.Default as default
+use Rattle.bucket_slots.specs.declared.lru.LruList as list
+use Rattle.bucket_table.specs.declared.key_hash.KeyHash as key_hash
+use Rattle.bucket_table.specs.Views.TableRow.{table_row}
+
+module _ (K V H : RattleType) (equal : equals.Ghosts K.Denot) (hashing : key_hash.Ghosts H.Denot K.Denot) where
+  -- the table of a map
+  abbrev pub MapFits : Type 0
+  MapFits = FitsInMemory (table_row K V H Nothing (number 83) equal hashing (record { KEEPS = false; listed = λ _ _. []; IsTail = λ _ tail. tail ≡ 0 }) (record { is_default = λ _. Unit {0} }))
+
+module _ (K H : RattleType) (equal : equals.Ghosts K.Denot) (hashing : key_hash.Ghosts H.Denot K.Denot) where
+  -- the table of a set
+  abbrev pub SetFits : Type 0
+  SetFits = MapFits K Nothing H equal hashing

@@ -1,0 +1,146 @@
+//! A set of keys: a map to `()`.
+//!
+//! Model: `MapView`, whose pairs are the keys beside `()`.
+//!
+//! Ports scc's `src/hash_set.rs` to an owned set.
+ghost use Rattle.std.specs.Prelude.{◌≡◌, ◌↔◌, ◌-◌, ◌^◌, [], IsTrue, min};
+ghost use Rattle.collections.specs.Changes.{Inserts, Reserves, SetRemoves, Stays};
+ghost use Rattle.collections.specs.Maps.{contains, IsEmpty, map_len};
+
+use crate::hash_map::{HashMap, NotInserted};
+use bucket_table::key_hash::KeyHash;
+use std::alloc::Global;
+use std::marker::Model;
+
+/// A set of keys. scc: `HashSet`.
+#[derive(Drop)]
+pub struct HashSet<K: Eq, H: KeyHash<K>> {
+    map: HashMap<K, (), H>,
+}
+
+impl<K: Eq, H: KeyHash<K>> Model for HashSet<K, H> {
+    ghost use Rattle.collections.specs.Maps.{MapView};
+
+    ghost Value = { MapView K (Unit {0}) H };
+
+    ghost view = { λ set. set.map };
+}
+
+impl<K: Eq, H: KeyHash<K>> HashSet<K, H> {
+    ghost use Rattle.collections.specs.Room.{SetFits};
+
+    /// Returns an empty set. Takes no memory.
+    ///
+    /// O(1). scc: `HashSet::with_hasher`.
+    pub fn with_hasher(alloc: Global, hasher: H) -> Self
+        requires { SetFits K.row H.row K.PartialEq H.KeyHash }
+        ensures empty { IsEmpty result }
+        ensures hasher { result.hasher ≡ hasher }
+        ensures minimum { result.minimum ≡ 0 }
+        ensures maximum { result.maximum ≡ 2 ^ 63 }
+        ensures slots { result.slots ≡ 0 }
+    {
+        HashSet {
+            map: HashMap::with_hasher(alloc, hasher),
+        }
+    }
+
+    /// Tests whether the set has a key.
+    ///
+    /// Moves nothing, and takes no memory. O(1) expected. scc: `HashSet::contains_sync`.
+    pub fn contains(&self, key: &K) -> bool
+        ensures { result ≡ contains K.eq self.now key.now }
+    {
+        self.map.contains(key)
+    }
+
+    /// Returns how many keys the set has, at most 2^64 - 1.
+    ///
+    /// O(slots / 32). scc: `HashSet::len`.
+    pub fn len(&self) -> usize
+        ensures { result ≡ min (map_len self.now) (2 ^ 64 - 1) }
+    {
+        self.map.len()
+    }
+
+    /// Tests whether the set has no key.
+    ///
+    /// O(slots / 32). scc: `HashSet::is_empty`.
+    pub fn is_empty(&self) -> bool
+        ensures { IsTrue result ↔ IsEmpty self.now }
+    {
+        self.map.is_empty()
+    }
+
+    /// Returns the hasher.
+    ///
+    /// O(1). scc: `HashSet::hasher`.
+    pub fn hasher(&self) -> &H
+        ensures { result.now ≡ self.now.hasher }
+    {
+        self.map.hasher()
+    }
+
+    /// Returns the number of slots, chains left out.
+    ///
+    /// O(1). scc: `HashSet::capacity`.
+    pub fn capacity(&self) -> usize
+        ensures { result ≡ self.now.slots }
+    {
+        self.map.capacity()
+    }
+}
+
+impl<K: Eq + Drop, H: KeyHash<K>> HashSet<K, H> {
+    /// Inserts a key that the set hasn't.
+    ///
+    /// # Errors
+    ///
+    /// An equal key is there, or want of memory: the key comes back.
+    ///
+    /// O(1) expected, beside a resize. scc: `HashSet::insert_sync`.
+    pub fn insert(&mut self, key: K) -> Result<(), NotInserted<K, ()>>
+        ensures { Inserts K.eq key tt self.old result self.new }
+    {
+        self.map.insert(key, ())
+    }
+
+    /// Takes out the key that is equal, and returns it; `None` where the set hasn't one.
+    ///
+    /// Never refused. O(1) expected, beside a resize. scc: `HashSet::remove_sync`.
+    pub fn remove(&mut self, key: &K) -> Option<K>
+        ensures { SetRemoves K.eq key.now self.old result self.new }
+    {
+        match self.map.remove(key) {
+            Some((own, _)) => Some(own),
+            None => None,
+        }
+    }
+
+    /// Raises the number of slots that a shrink leaves at least, as `HashMap::reserve` does.
+    ///
+    /// Never refused. O(slots). scc: `HashSet::reserve`.
+    pub fn reserve(&mut self, additional: usize) -> usize
+        ensures { Reserves K.eq additional self.old result self.new }
+    {
+        self.map.reserve(additional)
+    }
+
+    /// Sets the number of slots that a shrink leaves to 0, and gives slots back where few are live.
+    ///
+    /// Never refused. O(slots). Own: what ends scc's `Reserve`s.
+    pub fn shrink_to_fit(&mut self)
+        ensures { Stays K.eq (record self.old { minimum = 0 }) self.new }
+    {
+        self.map.shrink_to_fit();
+    }
+
+    /// Drops all keys and all slots; the hasher and the capacities stay.
+    ///
+    /// Never refused. O(slots). scc: `HashSet::clear_sync`.
+    pub fn clear(&mut self)
+        ensures { self.new ≡ record self.old { entries = []; slots = 0 } }
+    {
+        self.map.clear();
+    }
+}

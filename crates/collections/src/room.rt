@@ -1,0 +1,54 @@
+//! That a table fits in memory, which a collection learns once and keeps.
+//!
+//! A call of a table is proved of tables whose size is below 2^63 bytes, and generic code that
+//! doesn't name the table's type in its signature owes that. A collection keeps a token of it.
+use bucket_slots::lru::LruList;
+use bucket_table::key_hash::KeyHash;
+use std::marker::{Model, PhantomData};
+
+/// Says of a type that it fits in memory.
+pub(crate) trait Room {
+    /// That the type fits in memory.
+    ghost Fits: { Type 0 };
+}
+
+/// A token that a type fits in memory.
+#[derive(Drop)]
+pub(crate) struct Fits<R: Room> {
+    of: PhantomData<R>,
+}
+
+impl<R: Room> Model for Fits<R> {
+    ghost Value = { Unit {0} };
+
+    ghost view = { λ _. tt };
+
+    ghost invariant = { λ _. R.Fits };
+}
+
+impl<R: Room> Fits<R> {
+    /// Returns a token.
+    pub(crate) fn new() -> Self
+        requires { R.Fits }
+    {
+        Fits { of: PhantomData }
+    }
+
+    /// No work: a proof learns that the type fits in memory.
+    pub(crate) fn learn(&self)
+        ensures { R.Fits }
+    {
+        let _ = &self.of;
+    }
+}
+
+/// That the table of a collection fits in memory.
+pub(crate) struct TableRoom<K, V, H, L, const TYPE: u8>(PhantomData<(K, V, H, L)>);
+
+impl<K: Eq, V, H: KeyHash<K>, L: LruList, const TYPE: u8> Room for TableRoom<K, V, H, L, TYPE> {
+    ghost use Rattle.std.specs.Mem.{FitsInMemory};
+    ghost use Rattle.bucket_table.specs.Views.TableRow.{table_row};
+
+    ghost Fits = { FitsInMemory (table_row K.row V.row H.row L.row TYPE.row K.PartialEq H.KeyHash
+        (record { KEEPS = L.KEEPS; listed = L.listed; IsTail = L.IsTail }) L.Default) };
+}
