@@ -2,6 +2,7 @@
 pub mod MapState
 pub mod LookingUp
 pub mod ByKey
+pub mod Lending
 pub mod Counting
 pub mod Finding
 pub mod Preparing
