@@ -4,6 +4,7 @@ pub mod MapSteps
 pub mod LookUps
 pub mod KeySteps
 pub mod TakeSteps
+pub mod Lending
 pub mod LockedSteps
 pub mod Inserting
 pub mod Upserting
