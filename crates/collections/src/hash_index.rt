@@ -158,8 +158,8 @@ impl<K: Eq, V, H: KeyHash<K>> HashIndex<K, V, H> {
 }
 
 impl<K: Eq + Drop, V: Drop, H: KeyHash<K>> HashIndex<K, V, H> {
-    /// Inserts a pair whose key the index hasn't. Where no own slot of its home is free, it first
-    /// lets go each marked pair there whose mark the generation doesn't keep.
+    /// Inserts a pair whose key the index hasn't. Where no own slot of its home is free and one is
+    /// marked, it first lets go each marked pair there whose mark the generation doesn't keep.
     ///
     /// # Errors
     ///
