@@ -1,6 +1,6 @@
 -- That no mark is new where a table inserts, and where it resizes.
-use Rattle.std.proofs.Common.{ℕ, ◌≡◌, ◌<◌, ◌++◌, ◌==◌, ◌&&◌, inl, inr, Bool, true, false, if◌then◌else◌, Result, Ok, Err, List, [], ◌+◌}
-use Rattle.std.proofs.Common.{◌-◌, length, map, take, refl, ap, sym, subst, arith}
+use Rattle.std.proofs.Common.{ℕ, ◌≡◌, inl, inr, Bool, true, false, if◌then◌else◌, Result, Ok, Err, List, [], ◌+◌}
+use Rattle.std.proofs.Common.{◌-◌, length, map, take, ap, sym, subst, arith}
 use Rattle.std.proofs.lemmas.Bool.{cases_lt}
 use Rattle.std.proofs.lemmas.List.Elements.{filter_map-append}
 use Rattle.bucket_slots.specs.BucketView.{BucketView, flattened, marks_in}
@@ -14,12 +14,12 @@ use Rattle.bucket_slots.proofs.MarkCallerLemmas.{marks_in-slots_with, no_new-app
 use Rattle.bucket_slots.proofs.MarkCallerLemmas.{no_new-take, no_new-trans}
 use Rattle.bucket_slots.proofs.NoNewMarks.{mark_of}
 use Rattle.bucket_table.specs.Views.ArraysView.{ArraysView, TableView, marks_of}
-use Rattle.bucket_table.specs.Views.Sides.{arrays_with, bucket_of, bucket_on, with_bucket}
+use Rattle.bucket_table.specs.Views.Sides.{arrays_with, bucket_of, bucket_on}
 use Rattle.bucket_table.specs.Rehash.Relocation.{marks_among}
 use Rattle.bucket_table.specs.Map.ByKey.{FindsOrIsRefused, FindsThen}
-use Rattle.bucket_table.specs.Map.Finding.{FindsBucket, MakesReady, ReadiesThenGrows}
+use Rattle.bucket_table.specs.Map.Finding.{MakesReady, ReadiesThenGrows}
 use Rattle.bucket_table.specs.Resize.Growing.{Grows}
-use Rattle.bucket_table.specs.Resize.Resizing.{Releases, Reserves, Resizes, TriesResize, with_minimum}
+use Rattle.bucket_table.specs.Resize.Resizing.{Releases, Reserves, TriesResize, with_minimum}
 use Rattle.bucket_table.specs.declared.hash_table.NotInserted.{NotInserted}
 use Rattle.bucket_table.specs.declared.hash_table.NotInserted.TheVariants.{Present, Memory}
 use Rattle.bucket_table.proofs.Resize.Following.{given_up_keeps, pushed_keeps}

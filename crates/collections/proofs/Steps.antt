@@ -1,5 +1,5 @@
 -- What the calls of a table by key do to the map that it is.
-use Rattle.std.proofs.Common.{ℕ, ◌≡◌, ◌+◌, ◌-◌, ◌≤◌, if◌then◌else◌, Bool, true, false, cond, Option, Some, None, is_some, Result, Ok, Err, inl, inr, List, ◌∷◌, length, refl, subst, sym, ap, ◌∙◌, arith}
+use Rattle.std.proofs.Common.{ℕ, ◌≡◌, ◌+◌, ◌-◌, ◌≤◌, if◌then◌else◌, Bool, true, false, cond, Option, Some, None, Result, Ok, Err, inl, inr, List, ◌∷◌, length, refl, subst, sym, ap, ◌∙◌, arith}
 use Rattle.std.specs.Borrow.{Bor, MutBor}
 use Rattle.std.specs.Cmp.{IsEquivalence}
 use Rattle.std.specs.List.{Contains, IsDistinct}
@@ -14,7 +14,6 @@ use Rattle.bucket_table.specs.Map.ByKey as by_key
 use Rattle.bucket_table.specs.declared.hash_table.NotInserted.{NotInserted}
 use Rattle.bucket_table.specs.declared.hash_table.NotInserted.TheVariants.{Present, Memory}
 use Rattle.collections.specs.Maps.{MapView, get, map_of}
-use Rattle.collections.specs.Indexes.{ReadsOut, TakesOut}
 use Rattle.collections.specs.Changes.{Adds, Inserts, Keeps, Removes, Replaces, Rewrites, Stays, Takes, Upserts}
 use Rattle.collections.proofs.Lookups.{get_absent, get_there, lookup_added, lookup_changed, lookup_permuted, lookup_same, lookup_taken}
 
@@ -120,18 +119,3 @@ module _ {K V H : Type 0} (eq : K → K → Bool) (laws : IsEquivalence eq) wher
       let none : t.arrays.minimum - answer ≡ 0 = omega (arith, all, is) in
       stays_by kind t s distinct after 0
       (subst (λ (n : ℕ). KeepsPairs (record (state_of kind t) { minimum = n }) (state_of kind s)) none lowers.kept)
-
-module _ {K V H : Type 0} (eq : K → K → Bool) where
-  module _ (laws : IsEquivalence eq) (kind : ℕ) (t s : TableView K V H) (distinct : IsDistinct eq (keys_of (pairs_of t.arrays)))
-      (after : IsDistinct eq (keys_of (pairs_of s.arrays))) where
-    -- a pair that is read is marked, and so it is out
-    pub reads_out : {R : Type 0} (reads : Bor K → Bor V → R → Type 0) (k : K) (r : Option R)
-        → by_key.Marks eq k reads (state_of kind t) r (state_of kind s) → ReadsOut eq k reads (map_of t) r (map_of s)
-    reads_out reads k (Some answer) done =
-        (done.0, done.1, done.2, takes eq laws kind t s distinct after k (done.0.now, done.1.now) done.3 done.4)
-    reads_out reads k None done = (absent eq laws kind t s distinct after k done.0, stays eq laws kind t s distinct after done.1)
-
-  pub takes_out : {R : Type 0} (reads : Bor K → Bor V → R → Type 0) (k : K) (old new : MapView K V H) (r : Option R)
-      → ReadsOut eq k reads old r new → TakesOut eq k old (is_some r) new
-  takes_out reads k old new (Some answer) done = ((done.0.now, done.1.now), done.3)
-  takes_out reads k old new None done = done

@@ -1,4 +1,4 @@
-use Rattle.collections.proofs.Steps.{takes_out}
+use Rattle.collections.proofs.IndexSteps.{takes_out}
 use Rattle.collections.proofs.hash_index.HashIndex.remove.Goals as goal
 
 pub returns-clause-map : goal.returns-clause-map

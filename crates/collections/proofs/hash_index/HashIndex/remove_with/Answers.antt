@@ -1,4 +1,4 @@
-use Rattle.collections.proofs.Steps.{reads_out}
+use Rattle.collections.proofs.IndexSteps.{reads_out}
 use Rattle.collections.proofs.hash_index.HashIndex.remove_with.Goals as goal
 
 pub returns-clause-map : goal.returns-clause-map
