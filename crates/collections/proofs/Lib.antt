@@ -1,2 +1,4 @@
 pub mod Lookups
 pub mod Steps
+pub mod Marks
+pub mod IndexSteps
