@@ -11,3 +11,5 @@
 pub mod hash_map;
 pub mod hash_set;
 mod room;
+#[cfg(test)]
+mod tests;
