@@ -12,3 +12,5 @@ pub mod hash_index;
 pub mod hash_map;
 pub mod hash_set;
 mod room;
+#[cfg(test)]
+mod tests;
