@@ -2,3 +2,4 @@ pub mod Lookups
 pub mod Steps
 pub mod Marks
 pub mod IndexSteps
+pub mod Loans

@@ -3,3 +3,4 @@ pub mod Maps
 pub mod Changes
 pub mod Room
 pub mod Indexes
+pub mod Loans
