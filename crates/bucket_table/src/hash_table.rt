@@ -18,6 +18,7 @@ mod clearing;
 mod counting;
 mod cursor;
 mod each_pair;
+mod entries;
 mod finishing;
 mod locked_bucket;
 mod lookup;

@@ -6,6 +6,7 @@ use bucket_slots::bucket::CACHE;
 use bucket_slots::lru::DoublyLinkedList;
 use bucket_table::hash_table::HashTable;
 use bucket_table::script::ScriptHash;
+use std::mem;
 use std::process::Abort;
 use std::test::Fail;
 
@@ -19,6 +20,8 @@ enum Action {
     Upserts(u64, u64, Option<u64>),
     /// One is added to a key's value, and this was the earlier one.
     Adds(u64, Option<u64>),
+    /// A key's value is lent and written, and this was the earlier one.
+    Writes(u64, u64, Option<u64>),
     /// A key is touched, which is there.
     Touches(u64),
     /// The pair that goes from a key's home.
@@ -32,7 +35,7 @@ enum Action {
 }
 
 // What happens, how keys are hashed, and the calls on a new cache.
-const STORIES: [(&str, ScriptHash, &[Action]); 3] = [
+const STORIES: [(&str, ScriptHash, &[Action]); 4] = [
     (
         "a pair is put once, and then its value is written",
         ScriptHash::Id,
@@ -43,8 +46,11 @@ const STORIES: [(&str, ScriptHash, &[Action]); 3] = [
             Adds(1, Some(11)),
             Adds(2, None),
             Upserts(257, 5, None),
+            Writes(257, 6, Some(5)),
+            Writes(2, 6, None),
             Holds(1, Some(12)),
             Holds(2, None),
+            Holds(257, Some(6)),
             Counts(2),
         ],
     ),
@@ -63,6 +69,23 @@ const STORIES: [(&str, ScriptHash, &[Action]); 3] = [
             Holds(5, Some(50)),
             Holds(130, Some(131)),
             Holds(31, Some(32)),
+            Counts(63),
+        ],
+    ),
+    (
+        "a value of an old array is lent where it is by then",
+        ScriptHash::Spread,
+        &[
+            Puts(0, 31),
+            Puts(128, 159),
+            Upserts(31, 31, None),
+            Sees(128, Some(0)),
+            Writes(130, 50, Some(130)),
+            Sees(128, None),
+            Writes(130, 51, Some(50)),
+            Writes(160, 1, None),
+            Holds(130, Some(51)),
+            Holds(31, Some(31)),
             Counts(63),
         ],
     ),
@@ -119,6 +142,7 @@ fn act(
             check_same(rt, cache.upsert(*key, *value, &()), Ok(*earlier), at);
         }
         Adds(key, earlier) => check_same(rt, cache.update(key, add_one), *earlier, at),
+        Writes(key, value, earlier) => check_same(rt, write(cache, key, *value), *earlier, at),
         Evicts(key, pair) => check_same(rt, cache.evict(key)?, *pair, at),
         _ => look(rt, cache, at, action),
     }
@@ -139,6 +163,14 @@ fn look(rt: &impl Abort, cache: &mut Cache, at: (&'static str, usize), action: &
         }
         Counts(pairs) => check_same(rt, cache.num_entries(), *pairs, at),
         _ => check_same(rt, true, false, (at, "no look")),
+    }
+}
+
+// Writes a value where a key's value is lent, and returns the earlier one.
+fn write(cache: &mut Cache, key: &u64, value: u64) -> Option<u64> {
+    match cache.get_mut(key) {
+        Some(lent) => Some(mem::replace(lent, value)),
+        None => None,
     }
 }
 

@@ -1,6 +1,6 @@
 -- A value under a key was lent, after its slot was found.
-use Rattle.bucket_table.proofs.Words.{Bool, List, Place, Slot, Some, TableView, bucket_with_value, live_pair, pairs_of, refl, same_Some, slot_in}
-use Rattle.bucket_table.proofs.Words.{subst, sym, ℕ, ◌∙◌, ◌≡◌}
+use Rattle.bucket_table.proofs.Words.{Bool, List, Place, Slot, Some, TableView, bucket_with_value, live_pair, pairs_of, refl, same_Some}
+use Rattle.bucket_table.proofs.Words.{slot_in, subst, sym, ℕ, ◌∙◌, ◌≡◌}
 use Rattle.bucket_table.specs.Map.ByKey.{StandsAt}
 use Rattle.bucket_table.specs.Map.Lending.{WritesUnder, with_value}
 use Rattle.bucket_table.specs.Map.LookingUp.{IsThere}

@@ -140,6 +140,25 @@ impl<'a, K: Eq, V, H: KeyHash<K>, L: LruList, const TYPE: u8> LockedBucket<'a, K
         bucket.entry_mut(at)
     }
 
+    /// Ends the lock, and gives the table back, with the bucket's side and index: by these
+    /// `HashTable::entry_at` and `HashTable::entry_mut_at` lend a pair past the lock.
+    ///
+    /// O(1). Own.
+    pub fn into_table(self) -> (&'a mut HashTable<K, V, H, L, TYPE>, bool, usize)
+        ensures same_table { result.0.ghost_name ≡ self.entry.table.ghost_name }
+        ensures unchanged { result.0.now ≡ self.entry.table.now }
+        ensures side { result.1 ≡ self.entry.is_old }
+        ensures index { result.2 ≡ self.entry.index }
+        ensures locked { IsLocked result.0.now.arrays result.1 result.2 }
+    {
+        let LockedBucket {
+            table,
+            is_old,
+            index,
+        } = self;
+        (table, is_old, index)
+    }
+
     /// Makes a live own slot the one touched last; a slot of the chain isn't listed.
     ///
     /// Takes no memory. O(1). scc: `Bucket::update_lru_tail`.

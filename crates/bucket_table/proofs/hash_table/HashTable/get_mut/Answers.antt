@@ -5,20 +5,24 @@ use Rattle.bucket_table.proofs.hash_table.HashTable.get_mut.Goals as goal
 pub returns-in-Some : goal.returns-in-Some
 returns-in-Some g c =
     let o = c.in-Some.spot in
-    let eq = g.K.PartialEq.eq in
+    let own = c.entry_mut_at.result.0.now in
+    let e = c.entry_mut_at.ensures in
     let between = c.fetch_spot.new.self in
     let prepared = c.fetch_spot.ensures.prepared in
-    let stands = c.in-Some.ensures.found in
-    let (own, here, wrote) = c.lend_at.ensures.map in (
+    let stands = c.in-Some.ensures.found in (
       (
         refl,
-        λ value. lent_writes eq c.args.key.now g.row.TYPE c.args.self.now between prepared o.is_old o.index o.at stands own _ here value
-            (wrote value),
+        λ value. lent_writes g.K.PartialEq.eq c.args.key.now g.row.TYPE c.args.self.now between prepared o.is_old o.index o.at stands
+            own _ e.pair value (e.map value),
         tt,
       ),
       record {
         writes_back = tt;
-        found = (own, lent_there eq c.args.key.now g.row.TYPE c.args.self.now between prepared o.is_old o.index o.at stands own _ here);
+        found = (
+          own,
+          lent_there g.K.PartialEq.eq c.args.key.now g.row.TYPE c.args.self.now between prepared o.is_old o.index o.at stands own _
+              e.pair,
+        );
         absent = tt;
       },
     )
