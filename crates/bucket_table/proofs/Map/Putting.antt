@@ -1,9 +1,10 @@
 -- A pair put into a locked bucket of a cache, after what goes for it, and what that makes of the table in which the bucket was found.
-use Rattle.bucket_table.proofs.Words.{All-permutation, All-tail, ArraysView, Bool, BucketView, CACHE, Err, IfNone, IfSome, IsAbsent, IsEquivalence}
-use Rattle.bucket_table.proofs.Words.{false, IsHome, IsLocked, IsOneMap, IsPermutation-refl, IsPermutation-trans, KeepsPairs, MapState, None, Ok, Option}
-use Rattle.bucket_table.proofs.Words.{Place, Result, Some, TableView, ap, arith, arrays_with, bucket_at, buckets_on, flattened, free, is_free, length}
-use Rattle.bucket_table.proofs.Words.{length-set, live_from_pair, live_pair, pairs_of, refl, slot_at, slots_after_insertion, slots_touched, subst}
-use Rattle.bucket_table.proofs.Words.{Contains-append_left, get_or-set_same, sym, true, ℕ, ◌%◌, ◌<◌, ◌↔◌, ◌∙◌, ◌∷◌, ◌≡◌}
+use Rattle.bucket_table.proofs.Words.{All-permutation, All-tail, ArraysView, Bool, BucketView, CACHE, Err, IfNone, IfSome, IsAbsent}
+use Rattle.bucket_table.proofs.Words.{IsEquivalence, false, IsHome, IsLocked, IsOneMap, IsPermutation-refl, IsPermutation-trans}
+use Rattle.bucket_table.proofs.Words.{KeepsPairs, MapState, None, Ok, Option, Place, Result, Some, TableView, ap, arrays_with, bucket_at}
+use Rattle.bucket_table.proofs.Words.{buckets_on, flattened, free, is_free, length, length-set, live_from_pair, live_pair, pairs_of, refl}
+use Rattle.bucket_table.proofs.Words.{slot_at, slots_after_insertion, slots_touched, subst, Contains-append_left, get_or-set_same, sym}
+use Rattle.bucket_table.proofs.Words.{true, ℕ, ◌%◌, ◌<◌, ◌↔◌, ◌∙◌, ◌∷◌, ◌≡◌}
 use Rattle.std.proofs.Common.{IsNone, OnSome}
 use Rattle.std.specs.List.{Contains}
 use Rattle.bucket_slots.specs.BucketView.{first_place}
@@ -14,8 +15,8 @@ use Rattle.bucket_slots.proofs.ChangedSlots.{live_inside}
 use Rattle.bucket_slots.proofs.FirstPlaces.{first_from-None}
 use Rattle.bucket_table.specs.Map.ByKey.{Evicts}
 use Rattle.bucket_table.specs.Map.Finding.{FindsBucket}
-use Rattle.bucket_table.specs.Map.MapState.{AddsPair, Becomes, state_of}
-use Rattle.bucket_table.specs.Map.Putting.{Goes, Puts, PutsIn, PutsThen, ReplacesPair, slots_left, slots_put}
+use Rattle.bucket_table.specs.Map.MapState.{AddsPair, state_of}
+use Rattle.bucket_table.specs.Map.Putting.{Goes, Puts, PutsIn, PutsThen, slots_left, slots_put}
 use Rattle.bucket_table.specs.Views.Sides.{bucket_of, with_bucket}
 use Rattle.bucket_table.specs.declared.hash_table.NotInserted.{NotInserted}
 use Rattle.bucket_table.specs.declared.hash_table.NotInserted.TheVariants.{Memory, Present}
@@ -104,20 +105,24 @@ module _ {K V H : Type 0} where
       → Evicts {E = ℕ} old (Ok gone) left → AddsPair left (key, value) added → KeepsPairs added new → IsAbsent eq key old.pairs
       → Puts eq key value old (Ok gone) new
   put_over eq key value old left added new None keeps adds moved absent =
-      let more = then_added old left added (key, value) keeps adds in
-      (absent, record {
-        pairs = IsPermutation-trans ((key, value) ∷ old.pairs) added.pairs new.pairs more.pairs moved.pairs;
-        others = others_after old added new more.others moved.others;
-      })
-  put_over eq key value old left added new (Some pair) takes adds moved absent =
-      (absent, record {
-        rest = left.pairs;
-        before = takes.pairs;
-        after = record {
-          pairs = IsPermutation-trans ((key, value) ∷ left.pairs) added.pairs new.pairs adds.pairs moved.pairs;
-          others = others_after old added new (others_after old left added takes.others adds.others) moved.others;
-        };
-      })
+      let more = then_added old left added (key, value) keeps adds in (
+        absent,
+        record {
+          pairs = IsPermutation-trans ((key, value) ∷ old.pairs) added.pairs new.pairs more.pairs moved.pairs;
+          others = others_after old added new more.others moved.others;
+        },
+      )
+  put_over eq key value old left added new (Some pair) takes adds moved absent = (
+    absent,
+    record {
+      rest = left.pairs;
+      before = takes.pairs;
+      after = record {
+        pairs = IsPermutation-trans ((key, value) ∷ left.pairs) added.pairs new.pairs adds.pairs moved.pairs;
+        others = others_after old added new (others_after old left added takes.others adds.others) moved.others;
+      };
+    },
+  )
 
 module _ {K V H : Type 0} {eq : K → K → Bool} (laws : IsEquivalence eq) (hash : H → K → ℕ) (kind : ℕ) {hasher : H} {a : ArraysView K V}
     (side : Bool) (i : ℕ) (one : IsOneMap eq (hash hasher) a) (locked : IsLocked a side i) where
@@ -196,15 +201,18 @@ module _ {K V H : Type 0} {eq : K → K → Bool} (laws : IsEquivalence eq) (has
 module _ {K V H : Type 0} where
   -- the same where the map was the same before
   pub then_put : (eq : K → K → Bool) (key : K) (value : V) (old between new : MapState K V H)
-      (r : Result (Option (K × V)) (NotInserted K V)) → KeepsPairs old between → Puts eq key value between r new → Puts eq key value old r new
+      (r : Result (Option (K × V)) (NotInserted K V)) → KeepsPairs old between → Puts eq key value between r new
+      → Puts eq key value old r new
   then_put eq key value old between new (Ok None) keeps x =
       (absent_before eq key old between keeps x.0, then_added old between new (key, value) keeps x.1)
-  then_put eq key value old between new (Ok (Some gone)) keeps x =
-      (absent_before eq key old between keeps x.0, record {
-        rest = x.1.rest;
-        before = IsPermutation-trans old.pairs between.pairs (gone ∷ x.1.rest) keeps.pairs x.1.before;
-        after = record { pairs = x.1.after.pairs; others = others_after old between new keeps.others x.1.after.others };
-      })
+  then_put eq key value old between new (Ok (Some gone)) keeps x = (
+    absent_before eq key old between keeps x.0,
+    record {
+      rest = x.1.rest;
+      before = IsPermutation-trans old.pairs between.pairs (gone ∷ x.1.rest) keeps.pairs x.1.before;
+      after = record { pairs = x.1.after.pairs; others = others_after old between new keeps.others x.1.after.others };
+    },
+  )
   then_put eq key value old between new (Err (Present k v)) keeps x =
       (x.0, x.1, (x.2.0, there_before eq key old between x.2.0 keeps x.2.1), then_kept old between new keeps x.3)
   then_put eq key value old between new (Err (Memory k v)) keeps x = (x.0, x.1, then_kept old between new keeps x.2)

@@ -61,7 +61,7 @@ impl<K: Eq + Drop, V: Drop, H: KeyHash<K>, L: LruList + Drop, const TYPE: u8> Ha
     /// An equal key is there, or want of memory: the pair comes back, and none goes.
     ///
     /// O(slots of a unit, of the sources and of their targets; buckets that a resize makes). scc:
-    /// `HashCache::put`.
+    /// `HashCache::put_sync`.
     pub fn put(&mut self, key: K, value: V) -> Result<Option<(K, V)>, NotInserted<K, V>>
         requires cache { TYPE ≡ CACHE }
         ensures map { Puts K.eq key value (state_of TYPE self.old) result (state_of TYPE self.new) }
