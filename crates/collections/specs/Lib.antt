@@ -1,4 +1,5 @@
 -- What contracts of the collections say.
 pub mod Maps
 pub mod Changes
+pub mod Keys
 pub mod Room

@@ -9,14 +9,16 @@ ghost use Rattle.std.specs.Option.{option_copied};
 ghost use Rattle.std.specs.Borrow.{Bor, MutBor};
 ghost use Rattle.bucket_slots.specs.Walking.{CallsEach};
 ghost use Rattle.collections.specs.Maps.{contains, get, IsEmpty, map_len};
-ghost use Rattle.collections.specs.Changes.{Inserts, Removes, Reserves, Rewrites, Stays, Upserts};
+ghost use Rattle.collections.specs.Changes.{Inserts, Removes, Reserves, Retains, Rewrites, Stays, Upserts};
 
 use crate::room::{Fits, TableRoom};
 use bucket_slots::bucket::MAP;
 pub use bucket_table::hash_table::NotInserted;
 use bucket_table::hash_table::{HashTable, MAXIMUM_CAPACITY_LIMIT};
-use bucket_table::key_hash::KeyHash;
+use bucket_table::key_hash::{KeyHash, StdHash};
 use std::alloc::Global;
+use std::fmt::{self, Debug, Formatter, Write};
+use std::hash::{BuildHasherDefault, FoldHasher, Hash};
 use std::marker::Model;
 
 /// A map from keys to values. scc: `HashMap`.
@@ -220,6 +222,24 @@ impl<K: Eq + Drop, V: Drop, H: KeyHash<K>> HashMap<K, V, H> {
         outcome
     }
 
+    /// Asks a function of each pair once, its value lent for writing, and drops each pair for which
+    /// it answers `false`; the others stay, with the values that it left.
+    ///
+    /// Never refused, and takes no memory. O(slots), and the function's calls. scc:
+    /// `HashMap::retain_sync`.
+    #[inline(always)]
+    pub fn retain<F: FnMut(&K, &mut V) -> bool>(&mut self, f: &mut F)
+        requires callable { F.IsAlwaysCallable f.old }
+        ensures again { F.IsAlwaysCallable f.new }
+        ensures retained { Retains K.eq
+            (λ state own before answer after last. F.step state own before answer after last)
+            f.old self.old self.new f.new }
+    {
+        self.room.learn();
+        let _ = self.table.retain(f, &());
+        self.table.sound();
+    }
+
     /// Raises the number of slots that a shrink leaves at least, and makes slots where memory is
     /// there. Returns by how much it was raised: by nothing where it would pass 2^63.
     ///
@@ -255,5 +275,30 @@ impl<K: Eq + Drop, V: Drop, H: KeyHash<K>> HashMap<K, V, H> {
     {
         self.room.learn();
         self.table.clear();
+    }
+}
+
+/// The pairs, as std prints a map: `{key: value, ..}`.
+impl<K: Eq + Debug, V: Debug, H: KeyHash<K>> Debug for HashMap<K, V, H> {
+    fn fmt<W: Write>(&self, f: &mut Formatter<W>) -> fmt::Result {
+        let mut out = f.debug_map();
+        self.for_each(&mut |key: &K, value: &V| {
+            out.entry(key, value);
+        });
+        out.finish()
+    }
+}
+
+impl<K: Eq + Hash, V> HashMap<K, V, StdHash<BuildHasherDefault<FoldHasher>>> {
+    /// Returns an empty map that hashes by std's default. Takes no memory.
+    ///
+    /// O(1). scc: `HashMap::new`.
+    pub fn new(alloc: Global) -> Self
+        ensures empty { IsEmpty result }
+        ensures minimum { result.minimum ≡ 0 }
+        ensures maximum { result.maximum ≡ 2 ^ 63 }
+        ensures slots { result.slots ≡ 0 }
+    {
+        Self::with_hasher(alloc, StdHash::new(BuildHasherDefault::new()))
     }
 }

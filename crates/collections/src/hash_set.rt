@@ -3,8 +3,12 @@
 //! Model: `MapView`, whose pairs are the keys beside `()`.
 //!
 //! Ports scc's `src/hash_set.rs` to an owned set.
-ghost use Rattle.std.specs.Prelude.{◌≡◌, ◌↔◌, ◌-◌, ◌^◌, [], IsTrue, min};
+ghost use Rattle.std.specs.Prelude.{◌≡◌, ◌↔◌, ◌-◌, ◌^◌, [], IsTrue, min, not};
+ghost use Rattle.std.specs.Fn.{CalledAt};
+ghost use Rattle.std.specs.Map.{keys_of};
 ghost use Rattle.collections.specs.Changes.{Inserts, Reserves, SetRemoves, Stays};
+ghost use Rattle.collections.specs.Keys.{CallsEachKey, CallsIf, RetainsKeys};
+ghost use Rattle.collections.specs.Keys.{keys_of_either, keys_outside, keys_within};
 ghost use Rattle.collections.specs.Maps.{contains, IsEmpty, map_len};
 
 use crate::hash_map::{HashMap, NotInserted};
@@ -89,6 +93,77 @@ impl<K: Eq, H: KeyHash<K>> HashSet<K, H> {
     {
         self.map.capacity()
     }
+
+    /// Calls a function with each key once, in the order of the view.
+    ///
+    /// O(slots), and the function's calls. scc: `HashSet::iter_sync`.
+    pub fn for_each<F: FnMut(&K)>(&self, f: &mut F)
+        requires callable { F.IsAlwaysCallable f.old }
+        ensures again { F.IsAlwaysCallable f.new }
+        ensures calls { CallsEachKey F.FnMut f.old (keys_of self.now.entries) f.new }
+    {
+        let mut visit = |key: &K, _value: &()|
+            requires { F.IsAlwaysCallable f.now }
+            ensures { CalledAt F.FnMut f.entry.now key.now tt f.exit.now }
+        {
+            f(key);
+        };
+        self.map.for_each(&mut visit);
+    }
+
+    /// Calls a function with each key once that another set has too.
+    ///
+    /// O(slots) expected, and the function's calls. Own: std's `intersection`, by a function.
+    pub fn intersection<F: FnMut(&K)>(&self, other: &Self, f: &mut F)
+        requires callable { F.IsAlwaysCallable f.old }
+        ensures again { F.IsAlwaysCallable f.new }
+        ensures calls { CallsEachKey F.FnMut f.old (keys_within K.eq self.now other.now) f.new }
+    {
+        let mut visit = |key: &K, _value: &()|
+            requires { F.IsAlwaysCallable f.now }
+            ensures { CallsIf F.FnMut (contains K.eq other.entry.now key.now)
+                f.entry.now key.now f.exit.now }
+        {
+            if other.contains(key) {
+                f(key);
+            }
+        };
+        self.map.for_each(&mut visit);
+    }
+
+    /// Calls a function with each key once that another set hasn't.
+    ///
+    /// O(slots) expected, and the function's calls. Own: std's `difference`, by a function.
+    pub fn difference<F: FnMut(&K)>(&self, other: &Self, f: &mut F)
+        requires callable { F.IsAlwaysCallable f.old }
+        ensures again { F.IsAlwaysCallable f.new }
+        ensures calls { CallsEachKey F.FnMut f.old (keys_outside K.eq self.now other.now) f.new }
+    {
+        let mut visit = |key: &K, _value: &()|
+            requires { F.IsAlwaysCallable f.now }
+            ensures { CallsIf F.FnMut (not (contains K.eq other.entry.now key.now))
+                f.entry.now key.now f.exit.now }
+        {
+            let missing = !other.contains(key);
+            if missing {
+                f(key);
+            }
+        };
+        self.map.for_each(&mut visit);
+    }
+
+    /// Calls a function once with each key of either set: with the set's own keys, and then with
+    /// those of the other that it hasn't.
+    ///
+    /// O(slots of both) expected, and the function's calls. Own: std's `union`, by a function.
+    pub fn union<F: FnMut(&K)>(&self, other: &Self, f: &mut F)
+        requires callable { F.IsAlwaysCallable f.old }
+        ensures again { F.IsAlwaysCallable f.new }
+        ensures calls { CallsEachKey F.FnMut f.old (keys_of_either K.eq self.now other.now) f.new }
+    {
+        self.for_each(f);
+        other.difference(self, f);
+    }
 }
 
 impl<K: Eq + Drop, H: KeyHash<K>> HashSet<K, H> {
@@ -115,6 +190,24 @@ impl<K: Eq + Drop, H: KeyHash<K>> HashSet<K, H> {
             Some((own, _)) => Some(own),
             None => None,
         }
+    }
+
+    /// Asks a function of each key once, and drops each key for which it answers `false`.
+    ///
+    /// Never refused, and takes no memory. O(slots), and the function's calls. scc:
+    /// `HashSet::retain_sync`.
+    pub fn retain<F: FnMut(&K) -> bool>(&mut self, f: &mut F)
+        requires callable { F.IsAlwaysCallable f.old }
+        ensures again { F.IsAlwaysCallable f.new }
+        ensures retained { RetainsKeys K.eq F.FnMut f.old self.old self.new f.new }
+    {
+        let mut keep = |key: &K, _value: &mut ()|
+            requires { F.IsAlwaysCallable f.now }
+            ensures { CalledAt F.FnMut f.entry.now key.now result f.exit.now }
+        {
+            f(key)
+        };
+        self.map.retain(&mut keep);
     }
 
     /// Raises the number of slots that a shrink leaves at least, as `HashMap::reserve` does.
