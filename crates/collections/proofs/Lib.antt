@@ -1,3 +1,4 @@
+pub mod Equal
 pub mod Lookups
 pub mod Steps
 pub mod Visits

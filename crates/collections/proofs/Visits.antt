@@ -32,13 +32,26 @@ module _ {S F K V : Type 0} (inside : S → F) (IsKept : S → Type 0) where
       let key : called.0.now ≡ pair.0 = λ i. (called.2 i).0 in
       (rest.0, (inside between, subst (λ k. R (inside first) k (inside between)) key one.1, rest.1))
 
+  -- the same of pairs
+  pub pairs_visited : (step : S → Bor K → Bor V → S → Type 0) (R : F → K × V → F → Type 0)
+      → (says : (s : S) (own : Bor K) (value : Bor V) (t : S) → IsKept s → step s own value t
+      → IsKept t × R (inside s) (own.now, value.now) (inside t))
+      → (first : S) (pairs : List (K × V)) (last : S) → IsKept first → CallsEach step first pairs last
+      → IsKept last × FoldsTo R (inside first) pairs (inside last)
+  pairs_visited step R says first [] last kept is = (subst IsKept (sym is) kept, λ i. inside (sym is i))
+  pairs_visited step R says first (pair ∷ pairs) last kept called =
+      let between = called.3.0 in
+      let one = says first called.0 called.1 between kept called.3.1 in
+      let rest = pairs_visited step R says between pairs last one.0 called.3.2 in
+      (rest.0, (inside between, subst (λ p. R (inside first) p (inside between)) called.2 one.1, rest.1))
+
   -- and it was asked of each key
   pub keys_asked : (step : S → Bor K → MutBor V → Bool → MutBor V → S → Type 0) (R : F → K → Bool → F → Type 0)
       → (says : (s : S) (own : Bor K) (before : MutBor V) (answer : Bool) (after : MutBor V) (t : S) → IsKept s → step s own before answer after t
-          → IsKept t × R (inside s) own.now answer (inside t))
+      → IsKept t × R (inside s) own.now answer (inside t))
       → (first : S) (pairs left : List (K × V)) (last : S) → IsKept first → RetainsEach step first pairs left last
       → IsKept last × ((answers : List Bool) × (length answers ≡ length (keys_of pairs)) × ReturnsInTurn R (inside first) answers (keys_of pairs) (inside last)
-          × (keys_of left ≡ items_where_true answers (keys_of pairs)))
+      × (keys_of left ≡ items_where_true answers (keys_of pairs)))
   keys_asked step R says first [] left last kept is =
       (subst IsKept (sym is.1) kept, ([], refl, (λ i. inside (sym is.1 i)), ap keys_of is.0))
   keys_asked step R says first (pair ∷ pairs) left last kept asked =
@@ -47,9 +60,25 @@ module _ {S F K V : Type 0} (inside : S → F) (IsKept : S → Type 0) where
       let rest = keys_asked step R says between pairs asked.5 last one.0 asked.9 in
       let key : asked.0.now ≡ pair.0 = λ i. (asked.6 i).0 in
       let answers = asked.3 ∷ rest.1.0 in
-      let now = ap keys_of asked.8 ∙ keys_left asked.3 asked.0.now asked.2.now asked.5 rest.1.0 (keys_of pairs) rest.1.3 in
-      (rest.0, (answers, ap suc rest.1.1, (inside between, subst (λ k. R (inside first) k asked.3 (inside between)) key one.1, rest.1.2),
-          now ∙ ap (λ k. items_where_true answers (k ∷ keys_of pairs)) key))
+      let now = ap keys_of asked.8 ∙ keys_left asked.3 asked.0.now asked.2.now asked.5 rest.1.0 (keys_of pairs) rest.1.3 in (
+        rest.0,
+        (
+          answers,
+          ap suc rest.1.1,
+          (inside between, subst (λ k. R (inside first) k asked.3 (inside between)) key one.1, rest.1.2),
+          now ∙ ap (λ k. items_where_true answers (k ∷ keys_of pairs)) key,
+        ),
+      )
+
+-- pairs visited, where each call keeps what is fixed from the start on
+pub pairs_visited_from : {S F K V A : Type 0} (inside : S → F) (fixed : S → A) (step : S → Bor K → Bor V → S → Type 0)
+    (R : F → K × V → F → Type 0) (first : S) (pairs : List (K × V)) (last : S) → CallsEach step first pairs last
+    → (says : (s : S) (own : Bor K) (value : Bor V) (t : S) → fixed s ≡ fixed first → step s own value t
+    → (fixed t ≡ fixed s) × R (inside s) (own.now, value.now) (inside t))
+    → (fixed last ≡ fixed first) × FoldsTo R (inside first) pairs (inside last)
+pairs_visited_from inside fixed step R first pairs last called says =
+    pairs_visited inside (λ s. fixed s ≡ fixed first) step R
+    (λ s own value t kept e. let one = says s own value t kept e in (one.0 ∙ kept, one.1)) first pairs last refl called
 
 module _ {F K : Type 0} (calls : Mut F (Bor K × Unit {0}) (Unit {0})) where
   -- a function that may always be called may be after the calls

@@ -3,7 +3,7 @@
 //! Model: `MapView`, whose pairs are the keys beside `()`.
 //!
 //! Ports scc's `src/hash_set.rs` to an owned set.
-ghost use Rattle.std.specs.Prelude.{◌≡◌, ◌↔◌, ◌-◌, ◌^◌, [], IsTrue, min, not};
+ghost use Rattle.std.specs.Prelude.{◌≡◌, ◌↔◌, ◌-◌, ◌^◌, [], IsTrue, min, not, true};
 ghost use Rattle.std.specs.Fn.{CalledAt};
 ghost use Rattle.std.specs.Map.{keys_of};
 ghost use Rattle.collections.specs.Changes.{Inserts, Reserves, SetRemoves, Stays};
@@ -12,8 +12,10 @@ ghost use Rattle.collections.specs.Keys.{keys_of_either, keys_outside, keys_with
 ghost use Rattle.collections.specs.Maps.{contains, IsEmpty, map_len};
 
 use crate::hash_map::{HashMap, NotInserted};
-use bucket_table::key_hash::KeyHash;
+use bucket_table::key_hash::{KeyHash, StdHash};
 use std::alloc::Global;
+use std::fmt::{self, Debug, Formatter, Write};
+use std::hash::{BuildHasherDefault, FoldHasher, Hash};
 use std::marker::Model;
 
 /// A set of keys. scc: `HashSet`.
@@ -204,9 +206,7 @@ impl<K: Eq + Drop, H: KeyHash<K>> HashSet<K, H> {
         let mut keep = |key: &K, _value: &mut ()|
             requires { F.IsAlwaysCallable f.now }
             ensures { CalledAt F.FnMut f.entry.now key.now result f.exit.now }
-        {
-            f(key)
-        };
+        { f(key) };
         self.map.retain(&mut keep);
     }
 
@@ -235,5 +235,48 @@ impl<K: Eq + Drop, H: KeyHash<K>> HashSet<K, H> {
         ensures { self.new ≡ record self.old { entries = []; slots = 0 } }
     {
         self.map.clear();
+    }
+}
+
+impl<K: Eq + Hash> HashSet<K, StdHash<BuildHasherDefault<FoldHasher>>> {
+    /// Returns an empty set that hashes by std's default. Takes no memory.
+    ///
+    /// O(1). scc: `HashSet::new`.
+    pub fn new(alloc: Global) -> Self
+        ensures empty { IsEmpty result }
+        ensures minimum { result.minimum ≡ 0 }
+        ensures maximum { result.maximum ≡ 2 ^ 63 }
+        ensures slots { result.slots ≡ 0 }
+    {
+        Self::with_hasher(alloc, StdHash::new(BuildHasherDefault::new()))
+    }
+}
+
+/// The keys, as std prints a set: `{key, ..}`.
+impl<K: Eq + Debug, H: KeyHash<K>> Debug for HashSet<K, H> {
+    fn fmt<W: Write>(&self, f: &mut Formatter<W>) -> fmt::Result {
+        let mut out = f.debug_set();
+        self.for_each(&mut |key: &K| {
+            out.entry(key);
+        });
+        out.finish()
+    }
+}
+
+/// As std's sets: `==` is whether each has the keys of the other.
+impl<K: Eq, H: KeyHash<K>> PartialEq for HashSet<K, H> {
+    ghost use Rattle.collections.specs.Equality.{map_eq};
+    ghost use Rattle.collections.specs.EqualityLaws.{map_eq_joined, map_eq_turned};
+    ghost use Rattle.std.proofs.Common.{refl};
+
+    ghost eq = { map_eq K.eq (λ _ _. true) };
+
+    ghost laws = { record {
+      symm = map_eq_turned K.eq (λ _ _. true);
+      trans = map_eq_joined K.eq K.Eq.laws (λ _ _. true) (λ _ _. refl) (λ _ _ _ _ _. refl);
+    } };
+
+    fn eq(&self, other: &HashSet<K, H>) -> bool {
+        self.map.eq(&other.map)
     }
 }

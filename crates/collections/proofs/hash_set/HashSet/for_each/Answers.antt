@@ -17,7 +17,7 @@ went : (g : _) (c : goal.After-f-1 g) → (c.f-1.given.0 ≡ c.for_each.new.f.0.
     × CallsEachKey g.F.FnMut c.args.f.now (keys_of c.args.self.now.entries) c.for_each.new.f.0.now
 went g c =
     let all = keys_visited (λ s. s.0.now) (λ s. s.0.ghost_name ≡ c.visit-1.given) _ (λ p k q. CalledAt g.F.FnMut p k tt q)
-        (λ s own value t kept e. (e.met.0 ∙ kept, e.met.1)) _ _ _ refl c.for_each.ensures.calls in
+    (λ s own value t kept e. (e.met.0 ∙ kept, e.met.1)) _ _ _ refl c.for_each.ensures.calls in
     (c.f-1.given.1 (sym all.0), rw (← c.self.view_is) all.1)
 
 pub returns-clause-again : goal.returns-clause-again

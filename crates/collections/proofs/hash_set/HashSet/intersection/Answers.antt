@@ -16,10 +16,12 @@ went : (g : _) (c : goal.After-f-1 g) → (c.f-1.given.0 ≡ c.for_each.new.f.1.
     × CallsEachKey g.F.FnMut c.args.f.now (keys_within g.K.PartialEq.eq c.args.self.now c.args.other.now) c.for_each.new.f.1.now
 went g c =
     let all = keys_visited (λ s. s.1.now) (λ s. (s.0 ≡ c.args.other) × (s.1.ghost_name ≡ c.visit-1.given)) _
-        (λ p k q. CallsIf g.F.FnMut (contains g.K.PartialEq.eq c.args.other.now k) p k q)
-        (λ s own value t kept e. ((e.met.0.0 ∙ kept.0, e.met.0.1 ∙ kept.1),
-        subst (λ o. CallsIf g.F.FnMut (contains g.K.PartialEq.eq o.now own.now) s.1.now own.now t.1.now) kept.0 e.met.1))
-        _ _ _ (refl, refl) c.for_each.ensures.calls in
+    (λ p k q. CallsIf g.F.FnMut (contains g.K.PartialEq.eq c.args.other.now k) p k q)
+    (λ s own value t kept e. (
+      (e.met.0.0 ∙ kept.0, e.met.0.1 ∙ kept.1),
+      subst (λ o. CallsIf g.F.FnMut (contains g.K.PartialEq.eq o.now own.now) s.1.now own.now t.1.now) kept.0 e.met.1,
+    ))
+    _ _ _ (refl, refl) c.for_each.ensures.calls in
     (c.f-1.given.1 (sym all.0.1), rw (← c.self.view_is) (called_if g.F.FnMut (λ k. contains g.K.PartialEq.eq c.args.other.now k) _ _ _ all.1))
 
 pub returns-clause-again : goal.returns-clause-again

@@ -16,15 +16,17 @@ went : (g : _) (c : goal.After-f-1 g) → (c.f-1.given.0 ≡ c.retain.new.f.0.no
     × RetainsKeys g.K.PartialEq.eq g.F.FnMut c.args.f.now c.args.self.now c.retain.new.self c.retain.new.f.0.now
 went g c =
     let all = keys_asked (λ s. s.0.now) (λ s. s.0.ghost_name ≡ c.keep-1.given) _ (CalledAt g.F.FnMut)
-        (λ s own before answer after t kept e. (e.met.0 ∙ kept, e.met.1)) _ _ _ _ refl c.retain.ensures.retained.asked in
-    (c.f-1.given.1 (sym all.0), rw (← c.self.view_is) (record {
-      answers = all.1.0;
-      one_each = all.1.1;
-      asked = all.1.2;
-      left = all.1.3;
-      kept = c.retain.ensures.retained.kept;
-      slots = c.retain.ensures.retained.slots;
-    }))
+    (λ s own before answer after t kept e. (e.met.0 ∙ kept, e.met.1)) _ _ _ _ refl c.retain.ensures.retained.asked in (
+      c.f-1.given.1 (sym all.0),
+      rw (← c.self.view_is) (record {
+        answers = all.1.0;
+        one_each = all.1.1;
+        asked = all.1.2;
+        left = all.1.3;
+        kept = c.retain.ensures.retained.kept;
+        slots = c.retain.ensures.retained.slots;
+      }),
+    )
 
 pub returns-clause-again : goal.returns-clause-again
 returns-clause-again g c = rw (went g c).0 (askable_after g.F.FnMut _ _ _ _ (went g c).1.asked c.requires.callable)
