@@ -18,7 +18,8 @@ flag_after test true (x ∷ xs) last went = flag_after test went.0 xs last went.
 flag_after test false (x ∷ xs) last went = flag_after test went.0 xs last went.2 ∙ ap (λ flag. flag && list_all test xs) went.1
 
 -- two tests that say the same at each place
-same_all : {X : Type 0} (f g : X → Bool) (xs : List X) → ((k : ℕ) (d : X) → k < length xs → f (slice_index_or xs k d) ≡ g (slice_index_or xs k d))
+same_all : {X : Type 0} (f g : X → Bool) (xs : List X)
+    → ((k : ℕ) (d : X) → k < length xs → f (slice_index_or xs k d) ≡ g (slice_index_or xs k d))
     → list_all f xs ≡ list_all g xs
 same_all f g [] each = refl
 same_all f g (x ∷ xs) each =
@@ -32,5 +33,6 @@ module _ {K V H : Type 0} (eq : K → K → Bool) (laws : IsEquivalence eq) (sam
       → list_all (λ pair. option_eq same (Some pair.1) (get eq n pair.0)) m.entries ≡ is_within eq same m n
   asked_of_pairs m n unique = same_all _ _ m.entries (λ k d below.
       let pair = slice_index_or m.entries k d in
-      let there = lookup_there eq laws pair.0 m.entries pair unique (k, below, get_or_default m.entries k pair d below) (laws.refl pair.0) in
+      let there = lookup_there eq laws pair.0 m.entries pair unique (k, below, get_or_default m.entries k pair d below)
+      (laws.refl pair.0) in
       ap (λ o. option_eq same o (get eq n pair.0)) (sym there)) ∙ sym (list_all-map (agree_at eq same m n) (λ pair. pair.0) m.entries)

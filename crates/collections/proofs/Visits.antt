@@ -47,10 +47,12 @@ module _ {S F K V : Type 0} (inside : S → F) (IsKept : S → Type 0) where
 
   -- and it was asked of each key
   pub keys_asked : (step : S → Bor K → MutBor V → Bool → MutBor V → S → Type 0) (R : F → K → Bool → F → Type 0)
-      → (says : (s : S) (own : Bor K) (before : MutBor V) (answer : Bool) (after : MutBor V) (t : S) → IsKept s → step s own before answer after t
+      → (says : (s : S) (own : Bor K) (before : MutBor V) (answer : Bool) (after : MutBor V) (t : S)
+      → IsKept s → step s own before answer after t
       → IsKept t × R (inside s) own.now answer (inside t))
       → (first : S) (pairs left : List (K × V)) (last : S) → IsKept first → RetainsEach step first pairs left last
-      → IsKept last × ((answers : List Bool) × (length answers ≡ length (keys_of pairs)) × ReturnsInTurn R (inside first) answers (keys_of pairs) (inside last)
+      → IsKept last × ((answers : List Bool) × (length answers ≡ length (keys_of pairs))
+      × ReturnsInTurn R (inside first) answers (keys_of pairs) (inside last)
       × (keys_of left ≡ items_where_true answers (keys_of pairs)))
   keys_asked step R says first [] left last kept is =
       (subst IsKept (sym is.1) kept, ([], refl, (λ i. inside (sym is.1 i)), ap keys_of is.0))
@@ -82,32 +84,38 @@ pairs_visited_from inside fixed step R first pairs last called says =
 
 module _ {F K : Type 0} (calls : Mut F (Bor K × Unit {0}) (Unit {0})) where
   -- a function that may always be called may be after the calls
-  pub callable_after : (first : F) (keys : List K) (last : F) → CallsEachKey calls first keys last → always_mut calls first → always_mut calls last
+  pub callable_after : (first : F) (keys : List K) (last : F) → CallsEachKey calls first keys last → always_mut calls first
+      → always_mut calls last
   callable_after first [] last is may = subst (always_mut calls) is may
   callable_after first (key ∷ keys) last called may =
       callable_after called.0 keys last called.2 (mut_next calls first _ _ _ _ called.1.called refl may)
 
   -- and after one that a test decides
-  pub callable_if : (test : Bool) (first : F) (key : K) (last : F) → CallsIf calls test first key last → always_mut calls first → always_mut calls last
+  pub callable_if : (test : Bool) (first : F) (key : K) (last : F) → CallsIf calls test first key last → always_mut calls first
+      → always_mut calls last
   callable_if true first key last one may = mut_next calls first _ _ _ _ one.called refl may
   callable_if false first key last is may = subst (always_mut calls) (sym is) may
 
   -- where a test decides each call, it was called with the keys that pass
   pub called_if : (test : K → Bool) (first : F) (keys : List K) (last : F)
-      → FoldsTo (λ state key next. CallsIf calls (test key) state key next) first keys last → CallsEachKey calls first (filter test keys) last
+      → FoldsTo (λ state key next. CallsIf calls (test key) state key next) first keys last
+      → CallsEachKey calls first (filter test keys) last
   called_if test first [] last is = is
   called_if test first (key ∷ keys) last called = from (test key) refl called.1 (called_if test called.0 keys last called.2)
     where
-      from : (answer : Bool) → test key ≡ answer → CallsIf calls answer first key called.0 → CallsEachKey calls called.0 (filter test keys) last
+      from : (answer : Bool) → test key ≡ answer → CallsIf calls answer first key called.0
+          → CallsEachKey calls called.0 (filter test keys) last
           → CallsEachKey calls first (filter test (key ∷ keys)) last
       from true is one rest = rw is (called.0, one, rest)
       from false is one rest = rw is (subst (λ state. CallsEachKey calls state (filter test keys) last) one rest)
 
   -- calls after calls
-  pub called_then : (first : F) (keys more : List K) (between last : F) → CallsEachKey calls first keys between → CallsEachKey calls between more last
+  pub called_then : (first : F) (keys more : List K) (between last : F) → CallsEachKey calls first keys between
+      → CallsEachKey calls between more last
       → CallsEachKey calls first (keys ++ more) last
   called_then first [] more between last is rest = subst (λ state. CallsEachKey calls state more last) (sym is) rest
-  called_then first (key ∷ keys) more between last called rest = (called.0, called.1, called_then called.0 keys more between last called.2 rest)
+  called_then first (key ∷ keys) more between last called rest =
+      (called.0, called.1, called_then called.0 keys more between last called.2 rest)
 
 -- a test that may always be asked may be after its answers
 pub askable_after : {F K : Type 0} (asks : Mut F (Bor K × Unit {0}) Bool) (first : F) (answers : List Bool) (keys : List K) (last : F)

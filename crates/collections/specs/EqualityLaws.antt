@@ -15,7 +15,8 @@ passes_all test each [] = refl
 passes_all test each (x ∷ xs) = and_from (test x) (list_all test xs) (each x) (passes_all test each xs)
 
 -- a key has no value, or is equal to a key that passes
-absent_or_passing : {K V : Type 0} (eq : K → K → Bool) (test : K → Bool) (q : K) (pairs : List (K × V)) → list_all test (keys_of pairs) ≡ true
+absent_or_passing : {K V : Type 0} (eq : K → K → Bool) (test : K → Bool) (q : K) (pairs : List (K × V))
+    → list_all test (keys_of pairs) ≡ true
     → (lookup (eq q) pairs ≡ None) ⊎ ((k : K) × (eq q k ≡ true) × (test k ≡ true))
 absent_or_passing eq test q [] all = inl refl
 absent_or_passing {K} {V} eq test q (pair ∷ pairs) all =
@@ -44,8 +45,21 @@ module _ {V : Type 0} (same : V → V → Bool) where
   option_eq_joined through (Some u) (Some v) None one two = two
   option_eq_joined through (Some u) (Some v) (Some w) one two = through u v w one two
 
+-- a map is equal to itself where each value is
+pub map_eq_itself : {K V H : Type 0} (eq : K → K → Bool) (same : V → V → Bool) → ((v : V) → same v v ≡ true)
+    → (m : MapView K V H) → map_eq eq same m m ≡ true
+map_eq_itself {K} {V} eq same itself m = and_from (is_within eq same m m) (is_within eq same m m) all all
+  where
+    at : (o : Option V) → option_eq same o o ≡ true
+    at None = refl
+    at (Some v) = itself v
+
+    all : is_within eq same m m ≡ true
+    all = passes_all (agree_at eq same m m) (λ q. at (get eq m q)) (keys_of m.entries)
+
 -- equality may be asked either way
-pub map_eq_turned : {K V H : Type 0} (eq : K → K → Bool) (same : V → V → Bool) (m n : MapView K V H) → map_eq eq same m n ≡ map_eq eq same n m
+pub map_eq_turned : {K V H : Type 0} (eq : K → K → Bool) (same : V → V → Bool) (m n : MapView K V H)
+    → map_eq eq same m n ≡ map_eq eq same n m
 map_eq_turned eq same m n = turned (is_within eq same m n) (is_within eq same n m)
   where
     turned : (a b : Bool) → (a && b) ≡ (b && a)

@@ -31,6 +31,10 @@ module _ {K V H : Type 0} (eq : K → K → Bool) where
   abbrev pub keys_of_either : MapView K V H → MapView K V H → List K
   keys_of_either own other = keys_of own.entries ++ keys_outside other own
 
+  -- the keys of a map that another hasn't, and then those of the other that it hasn't
+  abbrev pub keys_of_one : MapView K V H → MapView K V H → List K
+  keys_of_one own other = keys_outside own other ++ keys_outside other own
+
   -- a function is asked of each key in turn, from one state to another: those for which it answers true are left, in their
   -- order, and the slots stay
   pub record RetainsKeys {F : Type 0} (asks : Mut F (Bor K × Unit {0}) Bool) (first : F) (old new : MapView K V H) (last : F) : Type 0 where

@@ -352,3 +352,14 @@ impl<K: Eq, V: PartialEq, H: KeyHash<K>> PartialEq for HashMap<K, V, H> {
         self.is_within(other) && other.is_within(self)
     }
 }
+
+impl<K: Eq, V: Eq, H: KeyHash<K>> Eq for HashMap<K, V, H> {
+    ghost use Rattle.collections.specs.EqualityLaws.{map_eq_itself, map_eq_joined, map_eq_turned};
+    ghost use Rattle.std.specs.Cmp.{equiv, partial_equiv_from_equiv};
+
+    ghost laws = { let v = V.Eq.laws in equiv (record {
+      symm = map_eq_turned K.eq V.eq;
+      trans = map_eq_joined K.eq K.Eq.laws V.eq v.symm (partial_equiv_from_equiv v).trans;
+    })
+        (map_eq_itself K.eq V.eq v.refl) };
+}

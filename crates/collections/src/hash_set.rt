@@ -8,7 +8,7 @@ ghost use Rattle.std.specs.Fn.{CalledAt};
 ghost use Rattle.std.specs.Map.{keys_of};
 ghost use Rattle.collections.specs.Changes.{Inserts, Reserves, SetRemoves, Stays};
 ghost use Rattle.collections.specs.Keys.{CallsEachKey, CallsIf, RetainsKeys};
-ghost use Rattle.collections.specs.Keys.{keys_of_either, keys_outside, keys_within};
+ghost use Rattle.collections.specs.Keys.{keys_of_either, keys_of_one, keys_outside, keys_within};
 ghost use Rattle.collections.specs.Maps.{contains, IsEmpty, map_len};
 
 use crate::hash_map::{HashMap, NotInserted};
@@ -166,6 +166,20 @@ impl<K: Eq, H: KeyHash<K>> HashSet<K, H> {
         self.for_each(f);
         other.difference(self, f);
     }
+
+    /// Calls a function once with each key of just one of two sets: with the set's own that the
+    /// other hasn't, and then with those of the other that it hasn't.
+    ///
+    /// O(slots of both) expected, and the function's calls. Own: std's `symmetric_difference`, by a
+    /// function.
+    pub fn symmetric_difference<F: FnMut(&K)>(&self, other: &Self, f: &mut F)
+        requires callable { F.IsAlwaysCallable f.old }
+        ensures again { F.IsAlwaysCallable f.new }
+        ensures calls { CallsEachKey F.FnMut f.old (keys_of_one K.eq self.now other.now) f.new }
+    {
+        self.difference(other, f);
+        other.difference(self, f);
+    }
 }
 
 impl<K: Eq + Drop, H: KeyHash<K>> HashSet<K, H> {
@@ -279,4 +293,16 @@ impl<K: Eq, H: KeyHash<K>> PartialEq for HashSet<K, H> {
     fn eq(&self, other: &HashSet<K, H>) -> bool {
         self.map.eq(&other.map)
     }
+}
+
+impl<K: Eq, H: KeyHash<K>> Eq for HashSet<K, H> {
+    ghost use Rattle.collections.specs.EqualityLaws.{map_eq_itself, map_eq_joined, map_eq_turned};
+    ghost use Rattle.std.proofs.Common.{refl};
+    ghost use Rattle.std.specs.Cmp.{equiv};
+
+    ghost laws = { equiv (record {
+      symm = map_eq_turned K.eq (λ _ _. true);
+      trans = map_eq_joined K.eq K.Eq.laws (λ _ _. true) (λ _ _. refl) (λ _ _ _ _ _. refl);
+    })
+        (map_eq_itself K.eq (λ _ _. true) (λ _. refl)) };
 }

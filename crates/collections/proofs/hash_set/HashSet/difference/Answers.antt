@@ -21,8 +21,10 @@ went g c =
       (e.met.0.0 ∙ kept.0, e.met.0.1 ∙ kept.1),
       subst (λ o. CallsIf g.F.FnMut (not (contains g.K.PartialEq.eq o.now own.now)) s.1.now own.now t.1.now) kept.0 e.met.1,
     ))
-    _ _ _ (refl, refl) c.for_each.ensures.calls in
-    (c.f-1.given.1 (sym all.0.1), rw (← c.self.view_is) (called_if g.F.FnMut (λ k. not (contains g.K.PartialEq.eq c.args.other.now k)) _ _ _ all.1))
+    _ _ _ (refl, refl) c.for_each.ensures.calls in (
+      c.f-1.given.1 (sym all.0.1),
+      rw (← c.self.view_is) (called_if g.F.FnMut (λ k. not (contains g.K.PartialEq.eq c.args.other.now k)) _ _ _ all.1),
+    )
 
 pub returns-clause-again : goal.returns-clause-again
 returns-clause-again g c = rw (went g c).0 (callable_after g.F.FnMut _ _ _ (went g c).1 c.requires.callable)
