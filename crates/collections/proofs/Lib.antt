@@ -1,5 +1,7 @@
+pub mod Equal
 pub mod Lookups
 pub mod Steps
 pub mod Marks
 pub mod IndexSteps
 pub mod Loans
+pub mod Visits

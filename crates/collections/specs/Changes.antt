@@ -3,6 +3,7 @@ use Rattle.std.specs.Prelude.{ℕ, ◌≡◌, ◌+◌, ◌-◌, Bool, true, fals
 use Rattle.std.specs.Borrow.{Bor, MutBor}
 use Rattle.std.specs.List.Sorted.{IsPermutation}
 use Rattle.collections.specs.Maps.{MapView, IsUnique, get, map_len}
+use Rattle.bucket_table.specs.Walking.Retains.{RetainsEach}
 use Rattle.bucket_table.specs.declared.hash_table.NotInserted.{NotInserted}
 use Rattle.bucket_table.specs.declared.hash_table.NotInserted.TheVariants.{Present, Memory}
 
@@ -88,3 +89,10 @@ module _ {K V H : Type 0} (eq : K → K → Bool) where
   pub record Reserves (additional : ℕ) (old : MapView K V H) (answer : ℕ) (new : MapView K V H) : Type 0 where
     pub granted : answer ≡ (if nat_le additional (old.maximum - old.minimum) then additional else 0)
     pub stays : Stays eq (record old { minimum = old.minimum + answer }) new
+
+  -- a function is asked of each pair in turn, from one state to another: those that it keeps are left, with the values last
+  -- written, and the slots stay
+  pub record Retains {S : Type 0} (step : S → Bor K → MutBor V → Bool → MutBor V → S → Type 0) (first : S) (old new : MapView K V H) (last : S) : Type 0 where
+    pub asked : RetainsEach step first old.entries new.entries last
+    pub kept : Keeps eq old new
+    pub slots : new.slots ≡ old.slots

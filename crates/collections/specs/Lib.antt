@@ -1,6 +1,9 @@
 -- What contracts of the collections say.
 pub mod Maps
 pub mod Changes
+pub mod Equality
+pub mod EqualityLaws
+pub mod Keys
 pub mod Room
 pub mod Indexes
 pub mod Loans

@@ -4,12 +4,14 @@
 //! map answers as std's `HashMap` does: `get` is a look-up of the pairs.
 //!
 //! Ports scc's `src/hash_map.rs` to an owned map: a borrow stands where scc locks.
-ghost use Rattle.std.specs.Prelude.{◌≡◌, ◌↔◌, ◌-◌, ◌^◌, [], IsTrue, min};
-ghost use Rattle.std.specs.Option.{option_copied};
+ghost use Rattle.std.specs.Prelude.{◌≡◌, ◌↔◌, ◌-◌, ◌^◌, ◌&&◌, [], IsTrue, Some, min};
+ghost use Rattle.std.specs.Option.{option_copied, option_eq};
 ghost use Rattle.std.specs.Borrow.{Bor, MutBor};
 ghost use Rattle.bucket_slots.specs.Walking.{CallsEach};
+ghost use Rattle.collections.specs.Equality.{is_within};
 ghost use Rattle.collections.specs.Maps.{contains, get, IsEmpty, map_len};
-ghost use Rattle.collections.specs.Changes.{Inserts, Removes, Reserves, Rewrites, Stays, Upserts};
+ghost use Rattle.collections.specs.Changes.{Inserts, Removes, Reserves, Retains, Rewrites};
+ghost use Rattle.collections.specs.Changes.{Stays, Upserts};
 
 mod lending;
 
@@ -17,8 +19,10 @@ use crate::room::{Fits, TableRoom};
 use bucket_slots::bucket::MAP;
 pub use bucket_table::hash_table::NotInserted;
 use bucket_table::hash_table::{HashTable, MAXIMUM_CAPACITY_LIMIT};
-use bucket_table::key_hash::KeyHash;
+use bucket_table::key_hash::{KeyHash, StdHash};
 use std::alloc::Global;
+use std::fmt::{self, Debug, Formatter, Write};
+use std::hash::{BuildHasherDefault, FoldHasher, Hash};
 use std::marker::Model;
 
 /// A map from keys to values. scc: `HashMap`.
@@ -222,6 +226,24 @@ impl<K: Eq + Drop, V: Drop, H: KeyHash<K>> HashMap<K, V, H> {
         outcome
     }
 
+    /// Asks a function of each pair once, its value lent for writing, and drops each pair for which
+    /// it answers `false`; the others stay, with the values that it left.
+    ///
+    /// Never refused, and takes no memory. O(slots), and the function's calls. scc:
+    /// `HashMap::retain_sync`.
+    #[inline(always)]
+    pub fn retain<F: FnMut(&K, &mut V) -> bool>(&mut self, f: &mut F)
+        requires callable { F.IsAlwaysCallable f.old }
+        ensures again { F.IsAlwaysCallable f.new }
+        ensures retained { Retains K.eq
+            (λ state own before answer after last. F.step state own before answer after last)
+            f.old self.old self.new f.new }
+    {
+        self.room.learn();
+        let _ = self.table.retain(f, &());
+        self.table.sound();
+    }
+
     /// Raises the number of slots that a shrink leaves at least, and makes slots where memory is
     /// there. Returns by how much it was raised: by nothing where it would pass 2^63.
     ///
@@ -258,4 +280,88 @@ impl<K: Eq + Drop, V: Drop, H: KeyHash<K>> HashMap<K, V, H> {
         self.room.learn();
         self.table.clear();
     }
+}
+
+/// The pairs, as std prints a map: `{key: value, ..}`.
+impl<K: Eq + Debug, V: Debug, H: KeyHash<K>> Debug for HashMap<K, V, H> {
+    fn fmt<W: Write>(&self, f: &mut Formatter<W>) -> fmt::Result {
+        let mut out = f.debug_map();
+        self.for_each(&mut |key: &K, value: &V| {
+            out.entry(key, value);
+        });
+        out.finish()
+    }
+}
+
+impl<K: Eq + Hash, V> HashMap<K, V, StdHash<BuildHasherDefault<FoldHasher>>> {
+    /// Returns an empty map that hashes by std's default. Takes no memory.
+    ///
+    /// O(1). scc: `HashMap::new`.
+    pub fn new(alloc: Global) -> Self
+        ensures empty { IsEmpty result }
+        ensures minimum { result.minimum ≡ 0 }
+        ensures maximum { result.maximum ≡ 2 ^ 63 }
+        ensures slots { result.slots ≡ 0 }
+    {
+        Self::with_hasher(alloc, StdHash::new(BuildHasherDefault::new()))
+    }
+}
+
+impl<K: Eq, V: PartialEq, H: KeyHash<K>> HashMap<K, V, H> {
+    /// Tests whether the map has an equal value under a key.
+    fn has_value(&self, key: &K, value: &V) -> bool
+        ensures { result ≡ option_eq V.eq (Some value.now) (get K.eq self.now key.now) }
+    {
+        match self.get(key) {
+            Some(own) => value.eq(own),
+            None => false,
+        }
+    }
+
+    /// Tests whether another map has each key of this one, beside an equal value.
+    fn is_within(&self, other: &Self) -> bool
+        ensures { result ≡ is_within K.eq V.eq self.now other.now }
+    {
+        self.room.learn();
+        self.table.sound();
+        let mut all = true;
+        let mut visit = |key: &K, value: &V|
+            ensures { all.exit ≡ (all.entry
+                && option_eq V.eq (Some value.now) (get K.eq other.entry.now key.now)) }
+        {
+            if all {
+                all = other.has_value(key, value);
+            }
+        };
+        self.for_each(&mut visit);
+        all
+    }
+}
+
+/// As std's maps: `==` is whether each has the keys of the other, beside equal values.
+impl<K: Eq, V: PartialEq, H: KeyHash<K>> PartialEq for HashMap<K, V, H> {
+    ghost use Rattle.collections.specs.Equality.{map_eq};
+    ghost use Rattle.collections.specs.EqualityLaws.{map_eq_joined, map_eq_turned};
+
+    ghost eq = { map_eq K.eq V.eq };
+
+    ghost laws = { let v = V.laws in record {
+      symm = map_eq_turned K.eq V.eq;
+      trans = map_eq_joined K.eq K.Eq.laws V.eq v.symm v.trans;
+    } };
+
+    fn eq(&self, other: &HashMap<K, V, H>) -> bool {
+        self.is_within(other) && other.is_within(self)
+    }
+}
+
+impl<K: Eq, V: Eq, H: KeyHash<K>> Eq for HashMap<K, V, H> {
+    ghost use Rattle.collections.specs.EqualityLaws.{map_eq_itself, map_eq_joined, map_eq_turned};
+    ghost use Rattle.std.specs.Cmp.{equiv, partial_equiv_from_equiv};
+
+    ghost laws = { let v = V.Eq.laws in equiv (record {
+      symm = map_eq_turned K.eq V.eq;
+      trans = map_eq_joined K.eq K.Eq.laws V.eq v.symm (partial_equiv_from_equiv v).trans;
+    })
+        (map_eq_itself K.eq V.eq v.refl) };
 }

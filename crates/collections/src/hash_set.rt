@@ -3,13 +3,19 @@
 //! Model: `MapView`, whose pairs are the keys beside `()`.
 //!
 //! Ports scc's `src/hash_set.rs` to an owned set.
-ghost use Rattle.std.specs.Prelude.{◌≡◌, ◌↔◌, ◌-◌, ◌^◌, [], IsTrue, min};
+ghost use Rattle.std.specs.Prelude.{◌≡◌, ◌↔◌, ◌-◌, ◌^◌, [], IsTrue, min, not, true};
+ghost use Rattle.std.specs.Fn.{CalledAt};
+ghost use Rattle.std.specs.Map.{keys_of};
 ghost use Rattle.collections.specs.Changes.{Inserts, Reserves, SetRemoves, Stays};
+ghost use Rattle.collections.specs.Keys.{CallsEachKey, CallsIf, RetainsKeys};
+ghost use Rattle.collections.specs.Keys.{keys_of_either, keys_of_one, keys_outside, keys_within};
 ghost use Rattle.collections.specs.Maps.{contains, IsEmpty, map_len};
 
 use crate::hash_map::{HashMap, NotInserted};
-use bucket_table::key_hash::KeyHash;
+use bucket_table::key_hash::{KeyHash, StdHash};
 use std::alloc::Global;
+use std::fmt::{self, Debug, Formatter, Write};
+use std::hash::{BuildHasherDefault, FoldHasher, Hash};
 use std::marker::Model;
 
 /// A set of keys. scc: `HashSet`.
@@ -89,6 +95,91 @@ impl<K: Eq, H: KeyHash<K>> HashSet<K, H> {
     {
         self.map.capacity()
     }
+
+    /// Calls a function with each key once, in the order of the view.
+    ///
+    /// O(slots), and the function's calls. scc: `HashSet::iter_sync`.
+    pub fn for_each<F: FnMut(&K)>(&self, f: &mut F)
+        requires callable { F.IsAlwaysCallable f.old }
+        ensures again { F.IsAlwaysCallable f.new }
+        ensures calls { CallsEachKey F.FnMut f.old (keys_of self.now.entries) f.new }
+    {
+        let mut visit = |key: &K, _value: &()|
+            requires { F.IsAlwaysCallable f.now }
+            ensures { CalledAt F.FnMut f.entry.now key.now tt f.exit.now }
+        {
+            f(key);
+        };
+        self.map.for_each(&mut visit);
+    }
+
+    /// Calls a function with each key once that another set has too.
+    ///
+    /// O(slots) expected, and the function's calls. Own: std's `intersection`, by a function.
+    pub fn intersection<F: FnMut(&K)>(&self, other: &Self, f: &mut F)
+        requires callable { F.IsAlwaysCallable f.old }
+        ensures again { F.IsAlwaysCallable f.new }
+        ensures calls { CallsEachKey F.FnMut f.old (keys_within K.eq self.now other.now) f.new }
+    {
+        let mut visit = |key: &K, _value: &()|
+            requires { F.IsAlwaysCallable f.now }
+            ensures { CallsIf F.FnMut (contains K.eq other.entry.now key.now)
+                f.entry.now key.now f.exit.now }
+        {
+            if other.contains(key) {
+                f(key);
+            }
+        };
+        self.map.for_each(&mut visit);
+    }
+
+    /// Calls a function with each key once that another set hasn't.
+    ///
+    /// O(slots) expected, and the function's calls. Own: std's `difference`, by a function.
+    pub fn difference<F: FnMut(&K)>(&self, other: &Self, f: &mut F)
+        requires callable { F.IsAlwaysCallable f.old }
+        ensures again { F.IsAlwaysCallable f.new }
+        ensures calls { CallsEachKey F.FnMut f.old (keys_outside K.eq self.now other.now) f.new }
+    {
+        let mut visit = |key: &K, _value: &()|
+            requires { F.IsAlwaysCallable f.now }
+            ensures { CallsIf F.FnMut (not (contains K.eq other.entry.now key.now))
+                f.entry.now key.now f.exit.now }
+        {
+            let missing = !other.contains(key);
+            if missing {
+                f(key);
+            }
+        };
+        self.map.for_each(&mut visit);
+    }
+
+    /// Calls a function once with each key of either set: with the set's own keys, and then with
+    /// those of the other that it hasn't.
+    ///
+    /// O(slots of both) expected, and the function's calls. Own: std's `union`, by a function.
+    pub fn union<F: FnMut(&K)>(&self, other: &Self, f: &mut F)
+        requires callable { F.IsAlwaysCallable f.old }
+        ensures again { F.IsAlwaysCallable f.new }
+        ensures calls { CallsEachKey F.FnMut f.old (keys_of_either K.eq self.now other.now) f.new }
+    {
+        self.for_each(f);
+        other.difference(self, f);
+    }
+
+    /// Calls a function once with each key of just one of two sets: with the set's own that the
+    /// other hasn't, and then with those of the other that it hasn't.
+    ///
+    /// O(slots of both) expected, and the function's calls. Own: std's `symmetric_difference`, by a
+    /// function.
+    pub fn symmetric_difference<F: FnMut(&K)>(&self, other: &Self, f: &mut F)
+        requires callable { F.IsAlwaysCallable f.old }
+        ensures again { F.IsAlwaysCallable f.new }
+        ensures calls { CallsEachKey F.FnMut f.old (keys_of_one K.eq self.now other.now) f.new }
+    {
+        self.difference(other, f);
+        other.difference(self, f);
+    }
 }
 
 impl<K: Eq + Drop, H: KeyHash<K>> HashSet<K, H> {
@@ -117,6 +208,22 @@ impl<K: Eq + Drop, H: KeyHash<K>> HashSet<K, H> {
         }
     }
 
+    /// Asks a function of each key once, and drops each key for which it answers `false`.
+    ///
+    /// Never refused, and takes no memory. O(slots), and the function's calls. scc:
+    /// `HashSet::retain_sync`.
+    pub fn retain<F: FnMut(&K) -> bool>(&mut self, f: &mut F)
+        requires callable { F.IsAlwaysCallable f.old }
+        ensures again { F.IsAlwaysCallable f.new }
+        ensures retained { RetainsKeys K.eq F.FnMut f.old self.old self.new f.new }
+    {
+        let mut keep = |key: &K, _value: &mut ()|
+            requires { F.IsAlwaysCallable f.now }
+            ensures { CalledAt F.FnMut f.entry.now key.now result f.exit.now }
+        { f(key) };
+        self.map.retain(&mut keep);
+    }
+
     /// Raises the number of slots that a shrink leaves at least, as `HashMap::reserve` does.
     ///
     /// Never refused. O(slots). scc: `HashSet::reserve`.
@@ -143,4 +250,59 @@ impl<K: Eq + Drop, H: KeyHash<K>> HashSet<K, H> {
     {
         self.map.clear();
     }
+}
+
+impl<K: Eq + Hash> HashSet<K, StdHash<BuildHasherDefault<FoldHasher>>> {
+    /// Returns an empty set that hashes by std's default. Takes no memory.
+    ///
+    /// O(1). scc: `HashSet::new`.
+    pub fn new(alloc: Global) -> Self
+        ensures empty { IsEmpty result }
+        ensures minimum { result.minimum ≡ 0 }
+        ensures maximum { result.maximum ≡ 2 ^ 63 }
+        ensures slots { result.slots ≡ 0 }
+    {
+        Self::with_hasher(alloc, StdHash::new(BuildHasherDefault::new()))
+    }
+}
+
+/// The keys, as std prints a set: `{key, ..}`.
+impl<K: Eq + Debug, H: KeyHash<K>> Debug for HashSet<K, H> {
+    fn fmt<W: Write>(&self, f: &mut Formatter<W>) -> fmt::Result {
+        let mut out = f.debug_set();
+        self.for_each(&mut |key: &K| {
+            out.entry(key);
+        });
+        out.finish()
+    }
+}
+
+/// As std's sets: `==` is whether each has the keys of the other.
+impl<K: Eq, H: KeyHash<K>> PartialEq for HashSet<K, H> {
+    ghost use Rattle.collections.specs.Equality.{map_eq};
+    ghost use Rattle.collections.specs.EqualityLaws.{map_eq_joined, map_eq_turned};
+    ghost use Rattle.std.proofs.Common.{refl};
+
+    ghost eq = { map_eq K.eq (λ _ _. true) };
+
+    ghost laws = { record {
+      symm = map_eq_turned K.eq (λ _ _. true);
+      trans = map_eq_joined K.eq K.Eq.laws (λ _ _. true) (λ _ _. refl) (λ _ _ _ _ _. refl);
+    } };
+
+    fn eq(&self, other: &HashSet<K, H>) -> bool {
+        self.map.eq(&other.map)
+    }
+}
+
+impl<K: Eq, H: KeyHash<K>> Eq for HashSet<K, H> {
+    ghost use Rattle.collections.specs.EqualityLaws.{map_eq_itself, map_eq_joined, map_eq_turned};
+    ghost use Rattle.std.proofs.Common.{refl};
+    ghost use Rattle.std.specs.Cmp.{equiv};
+
+    ghost laws = { equiv (record {
+      symm = map_eq_turned K.eq (λ _ _. true);
+      trans = map_eq_joined K.eq K.Eq.laws (λ _ _. true) (λ _ _. refl) (λ _ _ _ _ _. refl);
+    })
+        (map_eq_itself K.eq (λ _ _. true) (λ _. refl)) };
 }

@@ -1,0 +1,126 @@
+-- What a closure does that calls a function of keys, where it is called with each pair.
+use Rattle.std.proofs.Common.{suc, ◌≡◌, ◌∙◌, Bool, true, false, if◌then◌else◌, List, [], ◌∷◌, ◌++◌, length, refl, sym, ap, subst}
+use denote.Param.Always.{always_mut, mut_next}
+use Rattle.std.specs.Prelude.{filter}
+use Rattle.std.specs.Borrow.{Bor, MutBor}
+use Rattle.std.specs.Fn.{CalledAt, Mut}
+use Rattle.std.specs.List.{FoldsTo, items_where_true}
+use Rattle.std.specs.List.Retain.{ReturnsInTurn}
+use Rattle.std.specs.Map.{keys_of}
+use Rattle.bucket_slots.specs.Walking.{CallsEach}
+use Rattle.bucket_table.specs.Walking.Retains.{RetainsEach}
+use Rattle.collections.specs.Keys.{CallsEachKey, CallsIf}
+
+-- the key of a pair is left where the answer is true
+keys_left : {K V : Type 0} (answer : Bool) (key : K) (value : V) (kept : List (K × V)) (answers : List Bool) (keys : List K)
+    → keys_of kept ≡ items_where_true answers keys
+    → keys_of (if answer then (key, value) ∷ kept else kept) ≡ items_where_true (answer ∷ answers) (key ∷ keys)
+keys_left true key value kept answers keys is = ap (λ ks. key ∷ ks) is
+keys_left false key value kept answers keys is = is
+
+module _ {S F K V : Type 0} (inside : S → F) (IsKept : S → Type 0) where
+  -- what the closure borrows went over the keys, and what each call keeps is kept
+  pub keys_visited : (step : S → Bor K → Bor V → S → Type 0) (R : F → K → F → Type 0)
+      → (says : (s : S) (own : Bor K) (value : Bor V) (t : S) → IsKept s → step s own value t → IsKept t × R (inside s) own.now (inside t))
+      → (first : S) (pairs : List (K × V)) (last : S) → IsKept first → CallsEach step first pairs last
+      → IsKept last × FoldsTo R (inside first) (keys_of pairs) (inside last)
+  keys_visited step R says first [] last kept is = (subst IsKept (sym is) kept, λ i. inside (sym is i))
+  keys_visited step R says first (pair ∷ pairs) last kept called =
+      let between = called.3.0 in
+      let one = says first called.0 called.1 between kept called.3.1 in
+      let rest = keys_visited step R says between pairs last one.0 called.3.2 in
+      let key : called.0.now ≡ pair.0 = λ i. (called.2 i).0 in
+      (rest.0, (inside between, subst (λ k. R (inside first) k (inside between)) key one.1, rest.1))
+
+  -- the same of pairs
+  pub pairs_visited : (step : S → Bor K → Bor V → S → Type 0) (R : F → K × V → F → Type 0)
+      → (says : (s : S) (own : Bor K) (value : Bor V) (t : S) → IsKept s → step s own value t
+      → IsKept t × R (inside s) (own.now, value.now) (inside t))
+      → (first : S) (pairs : List (K × V)) (last : S) → IsKept first → CallsEach step first pairs last
+      → IsKept last × FoldsTo R (inside first) pairs (inside last)
+  pairs_visited step R says first [] last kept is = (subst IsKept (sym is) kept, λ i. inside (sym is i))
+  pairs_visited step R says first (pair ∷ pairs) last kept called =
+      let between = called.3.0 in
+      let one = says first called.0 called.1 between kept called.3.1 in
+      let rest = pairs_visited step R says between pairs last one.0 called.3.2 in
+      (rest.0, (inside between, subst (λ p. R (inside first) p (inside between)) called.2 one.1, rest.1))
+
+  -- and it was asked of each key
+  pub keys_asked : (step : S → Bor K → MutBor V → Bool → MutBor V → S → Type 0) (R : F → K → Bool → F → Type 0)
+      → (says : (s : S) (own : Bor K) (before : MutBor V) (answer : Bool) (after : MutBor V) (t : S)
+      → IsKept s → step s own before answer after t
+      → IsKept t × R (inside s) own.now answer (inside t))
+      → (first : S) (pairs left : List (K × V)) (last : S) → IsKept first → RetainsEach step first pairs left last
+      → IsKept last × ((answers : List Bool) × (length answers ≡ length (keys_of pairs))
+      × ReturnsInTurn R (inside first) answers (keys_of pairs) (inside last)
+      × (keys_of left ≡ items_where_true answers (keys_of pairs)))
+  keys_asked step R says first [] left last kept is =
+      (subst IsKept (sym is.1) kept, ([], refl, (λ i. inside (sym is.1 i)), ap keys_of is.0))
+  keys_asked step R says first (pair ∷ pairs) left last kept asked =
+      let between = asked.4 in
+      let one = says first asked.0 asked.1 asked.3 asked.2 between kept asked.7 in
+      let rest = keys_asked step R says between pairs asked.5 last one.0 asked.9 in
+      let key : asked.0.now ≡ pair.0 = λ i. (asked.6 i).0 in
+      let answers = asked.3 ∷ rest.1.0 in
+      let now = ap keys_of asked.8 ∙ keys_left asked.3 asked.0.now asked.2.now asked.5 rest.1.0 (keys_of pairs) rest.1.3 in (
+        rest.0,
+        (
+          answers,
+          ap suc rest.1.1,
+          (inside between, subst (λ k. R (inside first) k asked.3 (inside between)) key one.1, rest.1.2),
+          now ∙ ap (λ k. items_where_true answers (k ∷ keys_of pairs)) key,
+        ),
+      )
+
+-- pairs visited, where each call keeps what is fixed from the start on
+pub pairs_visited_from : {S F K V A : Type 0} (inside : S → F) (fixed : S → A) (step : S → Bor K → Bor V → S → Type 0)
+    (R : F → K × V → F → Type 0) (first : S) (pairs : List (K × V)) (last : S) → CallsEach step first pairs last
+    → (says : (s : S) (own : Bor K) (value : Bor V) (t : S) → fixed s ≡ fixed first → step s own value t
+    → (fixed t ≡ fixed s) × R (inside s) (own.now, value.now) (inside t))
+    → (fixed last ≡ fixed first) × FoldsTo R (inside first) pairs (inside last)
+pairs_visited_from inside fixed step R first pairs last called says =
+    pairs_visited inside (λ s. fixed s ≡ fixed first) step R
+    (λ s own value t kept e. let one = says s own value t kept e in (one.0 ∙ kept, one.1)) first pairs last refl called
+
+module _ {F K : Type 0} (calls : Mut F (Bor K × Unit {0}) (Unit {0})) where
+  -- a function that may always be called may be after the calls
+  pub callable_after : (first : F) (keys : List K) (last : F) → CallsEachKey calls first keys last → always_mut calls first
+      → always_mut calls last
+  callable_after first [] last is may = subst (always_mut calls) is may
+  callable_after first (key ∷ keys) last called may =
+      callable_after called.0 keys last called.2 (mut_next calls first _ _ _ _ called.1.called refl may)
+
+  -- and after one that a test decides
+  pub callable_if : (test : Bool) (first : F) (key : K) (last : F) → CallsIf calls test first key last → always_mut calls first
+      → always_mut calls last
+  callable_if true first key last one may = mut_next calls first _ _ _ _ one.called refl may
+  callable_if false first key last is may = subst (always_mut calls) (sym is) may
+
+  -- where a test decides each call, it was called with the keys that pass
+  pub called_if : (test : K → Bool) (first : F) (keys : List K) (last : F)
+      → FoldsTo (λ state key next. CallsIf calls (test key) state key next) first keys last
+      → CallsEachKey calls first (filter test keys) last
+  called_if test first [] last is = is
+  called_if test first (key ∷ keys) last called = from (test key) refl called.1 (called_if test called.0 keys last called.2)
+    where
+      from : (answer : Bool) → test key ≡ answer → CallsIf calls answer first key called.0
+          → CallsEachKey calls called.0 (filter test keys) last
+          → CallsEachKey calls first (filter test (key ∷ keys)) last
+      from true is one rest = rw is (called.0, one, rest)
+      from false is one rest = rw is (subst (λ state. CallsEachKey calls state (filter test keys) last) one rest)
+
+  -- calls after calls
+  pub called_then : (first : F) (keys more : List K) (between last : F) → CallsEachKey calls first keys between
+      → CallsEachKey calls between more last
+      → CallsEachKey calls first (keys ++ more) last
+  called_then first [] more between last is rest = subst (λ state. CallsEachKey calls state more last) (sym is) rest
+  called_then first (key ∷ keys) more between last called rest =
+      (called.0, called.1, called_then called.0 keys more between last called.2 rest)
+
+-- a test that may always be asked may be after its answers
+pub askable_after : {F K : Type 0} (asks : Mut F (Bor K × Unit {0}) Bool) (first : F) (answers : List Bool) (keys : List K) (last : F)
+    → ReturnsInTurn (CalledAt asks) first answers keys last → always_mut asks first → always_mut asks last
+askable_after asks first [] keys last is may = subst (always_mut asks) is may
+askable_after asks first (answer ∷ answers) [] last asked may = absurd asked
+askable_after asks first (answer ∷ answers) (key ∷ keys) last asked may =
+    askable_after asks asked.0 answers keys last asked.2 (mut_next asks first _ _ _ _ asked.1.called refl may)

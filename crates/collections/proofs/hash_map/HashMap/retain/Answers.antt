@@ -1,0 +1,14 @@
+use Rattle.collections.proofs.Steps.{same_slots}
+use Rattle.collections.proofs.hash_map.HashMap.retain.Goals as goal
+
+pub returns-clause-retained : goal.returns-clause-retained
+returns-clause-retained g c = rw (← c.self.view_is) (record {
+  asked = c.retain.ensures.retained;
+  kept = record {
+    unique = c.sound.ensures.one_map.distinct;
+    hasher = c.retain.ensures.settings.hasher;
+    minimum = c.retain.ensures.settings.minimum;
+    maximum = c.retain.ensures.settings.maximum;
+  };
+  slots = same_slots c.self.inside.table.arrays.current c.retain.new.self.arrays.current c.retain.ensures.current;
+})

@@ -1,0 +1,46 @@
+-- Functions called with the keys of a set.
+use Rattle.std.specs.Prelude.{◌≡◌, Bool, true, false, List, ◌++◌, filter, length, not}
+use Rattle.std.specs.Borrow.{Bor}
+use Rattle.std.specs.Fn.{CalledAt, Mut}
+use Rattle.std.specs.List.{FoldsTo, items_where_true}
+use Rattle.std.specs.List.Retain.{ReturnsInTurn}
+use Rattle.std.specs.Map.{keys_of}
+use Rattle.collections.specs.Changes.{Keeps}
+use Rattle.collections.specs.Maps.{MapView, contains}
+
+module _ {F K : Type 0} (calls : Mut F (Bor K × Unit {0}) (Unit {0})) where
+  -- a function is called with each key in turn, from one state to another
+  abbrev pub CallsEachKey : F → List K → F → Type 0
+  CallsEachKey first keys last = FoldsTo (λ state key next. CalledAt calls state key tt next) first keys last
+
+  -- a function is called with a key where a test passes, and else all stays
+  abbrev pub CallsIf : Bool → F → K → F → Type 0
+  CallsIf true first key last = CalledAt calls first key tt last
+  CallsIf false first key last = last ≡ first
+
+module _ {K V H : Type 0} (eq : K → K → Bool) where
+  -- the keys of a map that another has too
+  abbrev pub keys_within : MapView K V H → MapView K V H → List K
+  keys_within own other = filter (contains eq other) (keys_of own.entries)
+
+  -- the keys of a map that another hasn't
+  abbrev pub keys_outside : MapView K V H → MapView K V H → List K
+  keys_outside own other = filter (λ key. not (contains eq other key)) (keys_of own.entries)
+
+  -- the keys of a map, and then those of another that it hasn't
+  abbrev pub keys_of_either : MapView K V H → MapView K V H → List K
+  keys_of_either own other = keys_of own.entries ++ keys_outside other own
+
+  -- the keys of a map that another hasn't, and then those of the other that it hasn't
+  abbrev pub keys_of_one : MapView K V H → MapView K V H → List K
+  keys_of_one own other = keys_outside own other ++ keys_outside other own
+
+  -- a function is asked of each key in turn, from one state to another: those for which it answers true are left, in their
+  -- order, and the slots stay
+  pub record RetainsKeys {F : Type 0} (asks : Mut F (Bor K × Unit {0}) Bool) (first : F) (old new : MapView K V H) (last : F) : Type 0 where
+    pub answers : List Bool
+    pub one_each : length answers ≡ length (keys_of old.entries)
+    pub asked : ReturnsInTurn (CalledAt asks) first answers (keys_of old.entries) last
+    pub left : keys_of new.entries ≡ items_where_true answers (keys_of old.entries)
+    pub kept : Keeps eq old new
+    pub slots : new.slots ≡ old.slots
