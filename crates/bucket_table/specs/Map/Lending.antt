@@ -1,5 +1,5 @@
 -- What a table ends as where the value of one of its slots was lent for writing.
-use Rattle.std.specs.Prelude.{ℕ, ◌≡◌, Bool, true, Ok, Option, IfNone, IfSome}
+use Rattle.std.specs.Prelude.{ℕ, Bool, true, Ok, Option, IfNone, IfSome}
 use Rattle.std.specs.Borrow.{Fml, Lends, LendsSo, MutBor, RattleType}
 use denote.Param.{number}
 use Rattle.std.specs.declared.cmp.PartialEq as equals
