@@ -4,10 +4,12 @@ pub mod MapSteps
 pub mod LookUps
 pub mod KeySteps
 pub mod TakeSteps
+pub mod Lending
 pub mod LockedSteps
 pub mod Inserting
 pub mod Upserting
 pub mod Evicting
+pub mod Putting
 pub mod Finding
 pub mod Preparing
 pub mod SlotSteps

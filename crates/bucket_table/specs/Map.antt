@@ -2,6 +2,8 @@
 pub mod MapState
 pub mod LookingUp
 pub mod ByKey
+pub mod Putting
+pub mod Lending
 pub mod Counting
 pub mod Finding
 pub mod Preparing

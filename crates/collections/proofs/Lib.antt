@@ -1,2 +1,5 @@
 pub mod Lookups
 pub mod Steps
+pub mod Marks
+pub mod IndexSteps
+pub mod Loans

@@ -110,7 +110,7 @@ module _ {K V : Type 0} (eq : K → K → Bool) (laws : IsEquivalence eq) where
         ∙ ap (λ (b : Bool). cond b None (lookup (eq q) xs)) (sym miss)
   ]
 
-  distinct_with : (k : K) (v w : V) (ps : List (K × V)) → IsDistinct eq (keys_of ((k, v) ∷ ps)) → IsDistinct eq (keys_of ((k, w) ∷ ps))
+  pub distinct_with : (k : K) (v w : V) (ps : List (K × V)) → IsDistinct eq (keys_of ((k, v) ∷ ps)) → IsDistinct eq (keys_of ((k, w) ∷ ps))
   distinct_with k v w ps distinct = distinct
 
   -- a value changes

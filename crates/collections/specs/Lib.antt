@@ -2,3 +2,5 @@
 pub mod Maps
 pub mod Changes
 pub mod Room
+pub mod Indexes
+pub mod Loans

@@ -19,3 +19,8 @@ module _ (K H : RattleType) (equal : equals.Ghosts K.Denot) (hashing : key_hash.
   -- the table of a set
   abbrev pub SetFits : Type 0
   SetFits = MapFits K Nothing H equal hashing
+
+module _ (K V H : RattleType) (equal : equals.Ghosts K.Denot) (hashing : key_hash.Ghosts H.Denot K.Denot) where
+  -- the table of an index
+  abbrev pub IndexFits : Type 0
+  IndexFits = FitsInMemory (table_row K V H Nothing (number 79) equal hashing (record { KEEPS = false; listed = λ _ _. []; IsTail = λ _ tail. tail ≡ 0 }) (record { is_default = λ _. Unit {0} }))

@@ -11,6 +11,8 @@ ghost use Rattle.bucket_slots.specs.Walking.{CallsEach};
 ghost use Rattle.collections.specs.Maps.{contains, get, IsEmpty, map_len};
 ghost use Rattle.collections.specs.Changes.{Inserts, Removes, Reserves, Rewrites, Stays, Upserts};
 
+mod lending;
+
 use crate::room::{Fits, TableRoom};
 use bucket_slots::bucket::MAP;
 pub use bucket_table::hash_table::NotInserted;

@@ -8,6 +8,9 @@
 //! collections: a borrow stands where scc locks. SPDX-License-Identifier: Apache-2.0
 #![tactic(auto)]
 
+pub mod hash_index;
 pub mod hash_map;
 pub mod hash_set;
 mod room;
+#[cfg(test)]
+mod tests;

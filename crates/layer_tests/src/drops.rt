@@ -6,7 +6,7 @@ use crate::steps::{Answers, Kept, stories};
 use Act::*;
 use bucket_slots::bucket::{Bucket, INDEX, MAP};
 use bucket_slots::bucket_array::BucketArray;
-use bucket_table::hash_table::{HashTable, MAXIMUM_CAPACITY_LIMIT};
+use bucket_table::hash_table::HashTable;
 use bucket_table::script::ScriptHash;
 use std::alloc::Global;
 use std::process::Abort;
@@ -287,12 +287,11 @@ fn pairs_in_a_few_parts_of_an_array_are_dropped_once(rt: HostRuntime) -> Result<
 #[test]
 fn a_cleared_table_drops_each_value_once(rt: HostRuntime) -> Result<(), Fail> {
     let counted = Rc::new(rt.alloc(), 0)?;
-    let mut table: HashTable<u64, Rc<i32>, ScriptHash, (), MAP> = HashTable::new(
+    let mut table: HashTable<u64, Rc<i32>, ScriptHash, (), MAP> = HashTable::with_hasher(
         rt.alloc(),
         ScriptHash::Spread,
-        4096,
-        MAXIMUM_CAPACITY_LIMIT,
     );
+    let _ = table.reserve_capacity(4096);
     table.insert_pair(5, counted.clone()?, &())?;
     table.insert_pair(200, counted.clone()?, &())?;
     let _ = table.reserve_capacity(4096);

@@ -28,7 +28,7 @@ fn retain_some(table: &mut Map) -> (usize, usize) {
 // Each key that was put is kept once more, or gone.
 fn check_kept(rt: &impl Abort, table: &Map, times: u64) {
     for key in 0..160 {
-        let value = key + times;
+        let value = times.wrapping_add(key);
         let wanted = if is_put(key) && key % 3 != 0 {
             Some((&key, &value))
         } else {

@@ -4,7 +4,7 @@ use crate::checks::check_same;
 use Action::*;
 use bucket_slots::bucket::CACHE;
 use bucket_slots::lru::DoublyLinkedList;
-use bucket_table::hash_table::{HashTable, MAXIMUM_CAPACITY_LIMIT};
+use bucket_table::hash_table::HashTable;
 use bucket_table::script::ScriptHash;
 use std::process::Abort;
 use std::test::Fail;
@@ -93,7 +93,7 @@ const STORIES: [(&str, ScriptHash, &[Action]); 3] = [
 #[test]
 fn caches_are_updated_by_key(rt: HostRuntime) -> Result<(), Fail> {
     for (name, hasher, actions) in &STORIES {
-        let mut cache = HashTable::new(rt.alloc(), *hasher, 0, MAXIMUM_CAPACITY_LIMIT);
+        let mut cache = HashTable::with_hasher(rt.alloc(), *hasher);
         for (row, action) in actions.iter().enumerate() {
             act(&rt, &mut cache, (*name, row), action)?;
         }

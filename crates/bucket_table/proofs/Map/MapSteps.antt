@@ -78,7 +78,8 @@ module _ {K V : Type 0} (a : ArraysView K V) (side : Bool) (i : ℕ) (within : i
   touches keeps at = record { within = within; moved = IsPermutation-refl (entries_in bucket); alive = refl }
 
 module _ {K V : Type 0} where
-  set_again : (a : ArraysView K V) (side : Bool) (i : ℕ) (b c : BucketView K V) → arrays_with (arrays_with a side i b) side i c ≡
+  -- the same bucket changed twice
+  pub set_again : (a : ArraysView K V) (side : Bool) (i : ℕ) (b c : BucketView K V) → arrays_with (arrays_with a side i b) side i c ≡
       arrays_with a side i c
   set_again a true i b c = ap (λ (bs : List (BucketView K V)). record a { linked = bs }) (set-set a.linked i b c)
   set_again a false i b c = ap (λ (bs : List (BucketView K V)). record a { current = bs }) (set-set a.current i b c)

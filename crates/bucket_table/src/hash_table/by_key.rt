@@ -22,6 +22,7 @@ ghost use Rattle.bucket_table.specs.Views.Keeping.{KeepsOpenTickets};
 ghost use Rattle.bucket_table.specs.Views.Locking.{IsLocked};
 
 mod evicting;
+mod lending;
 mod updating;
 
 use crate::arrays::Spot;

@@ -1,14 +1,19 @@
-//! The call by key that evicts a pair of a cache.
+//! Calls by key that evict a pair of a cache.
 //!
 //! Own.
-ghost use Rattle.std.specs.Prelude.{◌≡◌, IsOk, length};
+ghost use Rattle.std.specs.Prelude.{◌≡◌, ◌%◌, IsOk, length};
+ghost use Rattle.bucket_slots.specs.BucketView.{BucketView};
+ghost use Rattle.bucket_slots.specs.Homes.{IsHome};
 ghost use Rattle.bucket_table.specs.Map.ByKey.{Evicts, EvictsAt, PreparesThen};
 ghost use Rattle.bucket_table.specs.Map.MapState.{state_of};
+ghost use Rattle.bucket_table.specs.Map.Putting.{Puts, PutsIn, PutsThen};
 ghost use Rattle.bucket_table.specs.Views.Keeping.{KeepsOpenTickets};
+ghost use Rattle.bucket_table.specs.Views.Locking.{IsLocked};
+ghost use Rattle.bucket_table.specs.Views.Sides.{bucket_of, buckets_on, with_bucket};
 
-use crate::hash_table::{HashTable, Missing};
+use crate::hash_table::{HashTable, Missing, NotInserted};
 use crate::key_hash::KeyHash;
-use bucket_slots::bucket::{AllocError, CACHE};
+use bucket_slots::bucket::{AllocError, Bucket, CACHE};
 use bucket_slots::lru::LruList;
 
 impl<K: Eq + Drop, V: Drop, H: KeyHash<K>, L: LruList + Drop, const TYPE: u8> HashTable<
@@ -46,4 +51,75 @@ impl<K: Eq + Drop, V: Drop, H: KeyHash<K>, L: LruList + Drop, const TYPE: u8> Ha
         };
         Ok(locked.evict_lru_head())
     }
+
+    /// Puts a pair whose key the map hasn't into a cache, as the one of its bucket touched last.
+    /// Where no own slot of that bucket is free, the pair that was touched longest ago goes first,
+    /// or where none is listed the one in slot 0, and comes back.
+    ///
+    /// # Errors
+    ///
+    /// An equal key is there, or want of memory: the pair comes back, and none goes.
+    ///
+    /// O(slots of a unit, of the sources and of their targets; buckets that a resize makes). scc:
+    /// `HashCache::put`.
+    pub fn put(&mut self, key: K, value: V) -> Result<Option<(K, V)>, NotInserted<K, V>>
+        requires cache { TYPE ≡ CACHE }
+        ensures map { Puts K.eq key value (state_of TYPE self.old) result (state_of TYPE self.new) }
+        ensures bag { KeepsOpenTickets self.old.arrays.tickets self.new.arrays.tickets }
+        ensures arrays { PutsThen TYPE (H.hash_of self.old.hasher key) L.KEEPS (key, value) self.old
+            result self.new }
+    {
+        let hash = self.hash(&key);
+        let Ok((is_old, index)) = self.find(hash) else {
+            return Err(NotInserted::Memory(key, value));
+        };
+        self.put_at(is_old, index, hash, key, value)
+    }
+
+    /// Puts a pair into a locked bucket.
+    fn put_at(
+        &mut self,
+        is_old: bool,
+        index: usize,
+        hash: u64,
+        key: K,
+        value: V,
+    ) -> Result<Option<(K, V)>, NotInserted<K, V>>
+        requires cache { TYPE ≡ CACHE }
+        requires locked { IsLocked self.old.arrays is_old index }
+        requires own_hash { hash ≡ H.hash_of self.old.hasher key }
+        requires home { IsHome (length (buckets_on self.old.arrays is_old)) hash index }
+        ensures map { Puts K.eq key value (state_of TYPE self.old) result (state_of TYPE self.new) }
+        ensures bag { KeepsOpenTickets self.old.arrays.tickets self.new.arrays.tickets }
+        ensures bucket { (left : BucketView K V)
+            × PutsIn K.eq L.KEEPS key value (hash % 256) (bucket_of self.old is_old index) result
+            left
+            × (self.new ≡ with_bucket self.old is_old index left) }
+    {
+        self.arrays.room_of(is_old);
+        let bucket = self.arrays.bucket_of_mut(is_old, index);
+        put_in(bucket, hash, key, value)
+    }
+}
+
+/// Puts a pair into a bucket where no live slot of it has an equal key, as the one touched last,
+/// and returns the pair that went for it.
+fn put_in<K: Eq + Drop, V: Drop, L: LruList, const TYPE: u8>(
+    bucket: &mut Bucket<K, V, L, TYPE>,
+    hash: u64,
+    key: K,
+    value: V,
+) -> Result<Option<(K, V)>, NotInserted<K, V>>
+    requires cache { TYPE ≡ CACHE }
+    ensures { PutsIn K.eq L.KEEPS key value (hash % 256) bucket.old result bucket.new }
+{
+    if bucket.get_entry_ptr(&key, hash).is_valid() {
+        return Err(NotInserted::Present(key, value));
+    }
+    let gone = bucket.evict_lru_head();
+    let Ok(at) = bucket.insert(hash, (key, value), &()) else {
+        unreachable!()
+    };
+    bucket.update_lru_tail(&at);
+    Ok(gone)
 }

@@ -1,0 +1,222 @@
+-- A pair put into a locked bucket of a cache, after what goes for it, and what that makes of the table in which the bucket was found.
+use Rattle.bucket_table.proofs.Words.{All-permutation, All-tail, ArraysView, Bool, BucketView, CACHE, Err, IfNone, IfSome, IsAbsent, IsEquivalence}
+use Rattle.bucket_table.proofs.Words.{false, IsHome, IsLocked, IsOneMap, IsPermutation-refl, IsPermutation-trans, KeepsPairs, MapState, None, Ok, Option}
+use Rattle.bucket_table.proofs.Words.{Place, Result, Some, TableView, ap, arith, arrays_with, bucket_at, buckets_on, flattened, free, is_free, length}
+use Rattle.bucket_table.proofs.Words.{length-set, live_from_pair, live_pair, pairs_of, refl, slot_at, slots_after_insertion, slots_touched, subst}
+use Rattle.bucket_table.proofs.Words.{Contains-append_left, get_or-set_same, sym, true, ℕ, ◌%◌, ◌<◌, ◌↔◌, ◌∙◌, ◌∷◌, ◌≡◌}
+use Rattle.std.proofs.Common.{IsNone, OnSome}
+use Rattle.std.specs.List.{Contains}
+use Rattle.bucket_slots.specs.BucketView.{first_place}
+use Rattle.bucket_slots.specs.Clearing.{slots_for_insertion}
+use Rattle.bucket_slots.specs.Evicting.{slot_to_evict, slots_evicted}
+use Rattle.bucket_slots.specs.Placing.{place_for_next, slots_with}
+use Rattle.bucket_slots.proofs.ChangedSlots.{live_inside}
+use Rattle.bucket_slots.proofs.FirstPlaces.{first_from-None}
+use Rattle.bucket_table.specs.Map.ByKey.{Evicts}
+use Rattle.bucket_table.specs.Map.Finding.{FindsBucket}
+use Rattle.bucket_table.specs.Map.MapState.{AddsPair, Becomes, state_of}
+use Rattle.bucket_table.specs.Map.Putting.{Goes, Puts, PutsIn, PutsThen, ReplacesPair, slots_left, slots_put}
+use Rattle.bucket_table.specs.Views.Sides.{bucket_of, with_bucket}
+use Rattle.bucket_table.specs.declared.hash_table.NotInserted.{NotInserted}
+use Rattle.bucket_table.specs.declared.hash_table.NotInserted.TheVariants.{Memory, Present}
+use Rattle.bucket_table.proofs.Map.LockedSteps.{put_there, with_own}
+use Rattle.bucket_table.proofs.Map.LookUps.{searched_absent, searched_found}
+use Rattle.bucket_table.proofs.Map.MapSteps.{Leaves, evicted, inserted, set_again, touched, unchanged}
+use Rattle.bucket_table.proofs.Map.TakeSteps.{absent_before}
+use Rattle.bucket_table.proofs.Scripts.CallSteps.{then_added, then_kept, there_before}
+use Rattle.bucket_table.proofs.Views.SideChanges.{buckets_on-arrays_with, changeable_locked}
+
+module _ {K V : Type 0} where
+  -- what an eviction says of a bucket
+  pub goes : (s t : BucketView K V) (r : Option (K × V)) → IsNone r ↔ Contains s.own free
+      → IfSome r (λ pair. live_pair (slot_at s.own (slot_to_evict s)) ≡ Some pair) → OnSome r (t ≡ slots_evicted s) → IfNone r (t ≡ s)
+      → Goes s r × (t ≡ slots_left s r)
+  goes s t None none there gone same = (none.0 refl, same)
+  goes s t (Some pair) none there gone same = ((λ has. let no = none.1 has in absurd cc, there), gone)
+
+  -- an own slot is free then
+  left_free : (s : BucketView K V) (gone : Option (K × V)) → Goes s gone → Contains (slots_left s gone).own free
+  left_free s None has = has
+  left_free s (Some pair) went =
+      let pos = slot_to_evict s in
+      let within = live_inside s.own pos (live_from_pair (slot_at s.own pos) pair went.1) in
+      (pos, rw length-set within, get_or-set_same s.own pos free free within)
+
+  -- so a place is
+  left_room : (s : BucketView K V) (gone : Option (K × V)) → Goes s gone → first_place is_free (slots_left s gone) ≡ None → ⊥
+  left_room s gone went none =
+      let t = slots_left s gone in
+      let has = Contains-append_left t.own (flattened t.chain) free (left_free s gone went) in
+      let no = first_from-None is_free 0 (t.own ∷ t.chain) none has.0 free has.1 in
+      let yes = ap is_free has.2 in
+      absurd cc
+
+  -- an insertion into a cache looks at no mark
+  for_insertion-cache : (kind : ℕ) (keeps : ℕ → Bool) (s : BucketView K V) → kind ≡ CACHE → slots_for_insertion kind keeps s ≡ s
+  for_insertion-cache kind keeps s cache = rw cache refl
+
+  after_insertion-cache : (kind : ℕ) (keeps : ℕ → Bool) (s : BucketView K V) (pair : K × V) (byte : ℕ) → kind ≡ CACHE
+      → slots_after_insertion kind keeps s pair byte ≡ slots_with s pair byte
+  after_insertion-cache kind keeps s pair byte cache = rw cache refl
+
+module _ {K V : Type 0} (kind : ℕ) (marks : ℕ → Bool) (s t : BucketView K V) (gone : Option (K × V)) (cache : kind ≡ CACHE)
+    (is : t ≡ slots_left s gone) where
+  -- so it isn't refused
+  pub never_full : Goes s gone → first_place is_free (slots_for_insertion kind marks t) ≡ None → ⊥
+  never_full went none = left_room s gone went
+      (subst (λ (b : BucketView K V). first_place is_free b ≡ None) (for_insertion-cache kind marks t cache ∙ is) none)
+
+  -- and what it leaves, once the pair is touched
+  pub put_is : (keeps : Bool) (pair : K × V) (byte : ℕ) (at : Place) (after new : BucketView K V)
+      → at ≡ place_for_next (slots_for_insertion kind marks t) → after ≡ slots_after_insertion kind marks t pair byte
+      → new ≡ slots_touched keeps after at → new ≡ slots_put keeps (slots_left s gone) pair byte
+  put_is keeps pair byte at after new place put touched =
+      let b = slots_left s gone in
+      let in_it : after ≡ slots_with b pair byte = put ∙ after_insertion-cache kind marks t pair byte cache
+      ∙ ap (λ (u : BucketView K V). slots_with u pair byte) is in
+      let there : at ≡ place_for_next b = place
+      ∙ ap (λ (u : BucketView K V). place_for_next u) (for_insertion-cache kind marks t cache ∙ is) in
+      touched ∙ ap (λ (u : BucketView K V). slots_touched keeps u at) in_it
+      ∙ ap (λ (q : Place). slots_touched keeps (slots_with b pair byte) q) there
+
+module _ {K V H : Type 0} where
+  others_after : (a b d : MapState K V H) → b ≡ record a { pairs = b.pairs } → d ≡ record b { pairs = d.pairs }
+      → d ≡ record a { pairs = d.pairs }
+  others_after a b d first then = then ∙ ap (λ (m : MapState K V H). record {
+    kind = m.kind;
+    hasher = m.hasher;
+    minimum = m.minimum;
+    maximum = m.maximum;
+    pairs = d.pairs;
+  }) first
+
+  -- a key that is absent is so once a pair is out
+  absent_left : (eq : K → K → Bool) (key : K) (old left : MapState K V H) (gone : Option (K × V)) → Evicts {E = ℕ} old (Ok gone) left
+      → IsAbsent eq key old.pairs → IsAbsent eq key left.pairs
+  absent_left eq key old left None keeps absent =
+      All-permutation (λ (p : K × V). eq p.0 key ≡ false) old.pairs left.pairs keeps.pairs absent
+  absent_left eq key old left (Some pair) takes absent =
+      let P : K × V → Type 0 = λ p. eq p.0 key ≡ false in
+      All-tail P pair left.pairs (All-permutation P old.pairs (pair ∷ left.pairs) takes.pairs absent)
+
+  -- what goes, then a pair more, then another order
+  put_over : (eq : K → K → Bool) (key : K) (value : V) (old left added new : MapState K V H) (gone : Option (K × V))
+      → Evicts {E = ℕ} old (Ok gone) left → AddsPair left (key, value) added → KeepsPairs added new → IsAbsent eq key old.pairs
+      → Puts eq key value old (Ok gone) new
+  put_over eq key value old left added new None keeps adds moved absent =
+      let more = then_added old left added (key, value) keeps adds in
+      (absent, record {
+        pairs = IsPermutation-trans ((key, value) ∷ old.pairs) added.pairs new.pairs more.pairs moved.pairs;
+        others = others_after old added new more.others moved.others;
+      })
+  put_over eq key value old left added new (Some pair) takes adds moved absent =
+      (absent, record {
+        rest = left.pairs;
+        before = takes.pairs;
+        after = record {
+          pairs = IsPermutation-trans ((key, value) ∷ left.pairs) added.pairs new.pairs adds.pairs moved.pairs;
+          others = others_after old added new (others_after old left added takes.others adds.others) moved.others;
+        };
+      })
+
+module _ {K V H : Type 0} {eq : K → K → Bool} (laws : IsEquivalence eq) (hash : H → K → ℕ) (kind : ℕ) {hasher : H} {a : ArraysView K V}
+    (side : Bool) (i : ℕ) (one : IsOneMap eq (hash hasher) a) (locked : IsLocked a side i) where
+  abbrev state : ArraysView K V → MapState K V H
+  state b = state_of kind (record { hasher = hasher; arrays = b })
+
+  abbrev was : BucketView K V
+  was = bucket_at (buckets_on a side) i
+
+  abbrev LeavesWith : (MapState K V H → Type 0) → BucketView K V → Type 0
+  LeavesWith Changes b = Leaves laws hash kind side i one (changeable_locked a side i locked) Changes b
+
+  -- a bucket that changes once more
+  then_leaves : (First Then : MapState K V H → Type 0) (b : BucketView K V) (change : BucketView K V → BucketView K V)
+      (x : LeavesWith First b)
+      → Leaves laws hash kind {hasher = hasher} {a = arrays_with a side i b} side i x.one_map
+      (changeable_locked (arrays_with a side i b) side i (x.locked locked)) Then
+      (change (bucket_at (buckets_on (arrays_with a side i b) side) i))
+      → LeavesWith Then (change b)
+  then_leaves First Then b change x y =
+      let there = put_there a side i b locked.within in
+      let z = rw there at y in
+      let again = set_again a side i b (change b) in
+      record {
+        one_map = subst (λ (c : ArraysView K V). IsOneMap eq (hash hasher) c) again z.one_map;
+        map = subst (λ (c : ArraysView K V). Then (state c)) again z.map;
+        within = subst (λ (c : ArraysView K V). i < length (buckets_on c side)) again z.within;
+        locked = λ held. subst (λ (c : ArraysView K V). IsLocked c side i) again (z.locked (x.locked held));
+      }
+
+  leaves_left : (gone : Option (K × V)) → Goes was gone → LeavesWith (Evicts {E = ℕ} (state a) (Ok gone)) (slots_left was gone)
+  leaves_left None went = unchanged laws hash kind side i one (changeable_locked a side i locked) _
+      (record { pairs = IsPermutation-refl (pairs_of a); others = refl })
+  leaves_left (Some pair) went =
+      evicted laws hash kind side i one (changeable_locked a side i locked) (Some pair) (slots_evicted was) went.1 refl tt
+
+  puts : (gone : Option (K × V)) (keeps : Bool) (key : K) (value : V) (h : ℕ) → h ≡ hash hasher key
+      → IsHome (length (buckets_on a side)) h i → IsAbsent eq key (pairs_of a) → kind ≡ CACHE → Goes was gone
+      → LeavesWith (Puts eq key value (state a) (Ok gone)) (slots_put keeps (slots_left was gone) (key, value) (h % 256))
+  puts gone keeps key value h own home absent cache went =
+      let b = slots_left was gone in
+      let left = arrays_with a side i b in
+      let x = leaves_left gone went in
+      let none = absent_left eq key (state a) (state left) gone x.map absent in
+      let at_home : IsHome (length (buckets_on left side)) h i = rw (buckets_on-arrays_with a side i b, length-set) home in
+      let y = then_leaves _ (AddsPair (state left) (key, value)) b
+      (λ s. slots_after_insertion kind (λ _. true) s (key, value) (h % 256)) x
+      (inserted laws hash kind side i x.one_map (changeable_locked left side i (x.locked locked)) (λ _. true) (key, value) h own at_home
+      none) in
+      let d = slots_after_insertion kind (λ _. true) b (key, value) (h % 256) in
+      let added = arrays_with a side i d in
+      let at = place_for_next b in
+      let z = then_leaves _ (KeepsPairs (state added)) d (λ s. slots_touched keeps s at) y
+      (touched laws hash kind side i y.one_map (changeable_locked added side i (y.locked locked)) keeps at) in
+      let is : d ≡ slots_with b (key, value) (h % 256) = after_insertion-cache kind (λ _. true) b (key, value) (h % 256) cache in
+      let all : LeavesWith (Puts eq key value (state a) (Ok gone)) (slots_touched keeps d at) = record {
+        one_map = z.one_map;
+        map = put_over eq key value (state a) (state left) (state added) _ gone x.map y.map z.map absent;
+        within = z.within;
+        locked = z.locked;
+      } in
+      subst (λ (s : BucketView K V). LeavesWith (Puts eq key value (state a) (Ok gone)) (slots_touched keeps s at)) is all
+
+  pub put_leaves : (r : Result (Option (K × V)) (NotInserted K V)) (b : BucketView K V) (keeps : Bool) (key : K) (value : V) (h : ℕ)
+      → ((own : K) → eq own key ≡ true → hash hasher own ≡ h) → h ≡ hash hasher key → IsHome (length (buckets_on a side)) h i
+      → kind ≡ CACHE → PutsIn eq keeps key value (h % 256) was r b → LeavesWith (Puts eq key value (state a) r) b
+  put_leaves (Ok gone) b keeps key value h alike own home cache x =
+      let absent = searched_absent (λ k. eq k key) h (hash hasher) alike a side _ i one.placed locked home refl x.0 in
+      rw x.2 (puts gone keeps key value h own home absent cache x.1)
+  put_leaves (Err (Present k v)) b keeps key value h alike own home cache x =
+      let found = searched_found (λ k. eq k key) a side _ (h % 256) i x.2.0 refl x.2.1 in
+      rw x.3 (unchanged laws hash kind side i one (changeable_locked a side i locked) _
+      (x.0, x.1, (found.0, found.2), record { pairs = IsPermutation-refl (pairs_of a); others = refl }))
+  put_leaves (Err (Memory k v)) b keeps key value h alike own home cache x = absurd x
+
+module _ {K V H : Type 0} where
+  -- the same where the map was the same before
+  pub then_put : (eq : K → K → Bool) (key : K) (value : V) (old between new : MapState K V H)
+      (r : Result (Option (K × V)) (NotInserted K V)) → KeepsPairs old between → Puts eq key value between r new → Puts eq key value old r new
+  then_put eq key value old between new (Ok None) keeps x =
+      (absent_before eq key old between keeps x.0, then_added old between new (key, value) keeps x.1)
+  then_put eq key value old between new (Ok (Some gone)) keeps x =
+      (absent_before eq key old between keeps x.0, record {
+        rest = x.1.rest;
+        before = IsPermutation-trans old.pairs between.pairs (gone ∷ x.1.rest) keeps.pairs x.1.before;
+        after = record { pairs = x.1.after.pairs; others = others_after old between new keeps.others x.1.after.others };
+      })
+  then_put eq key value old between new (Err (Present k v)) keeps x =
+      (x.0, x.1, (x.2.0, there_before eq key old between x.2.0 keeps x.2.1), then_kept old between new keeps x.3)
+  then_put eq key value old between new (Err (Memory k v)) keeps x = (x.0, x.1, then_kept old between new keeps x.2)
+
+  -- a bucket found for the hash of a key, and the pair put there
+  pub found_put : (eq : K → K → Bool) (kind h n : ℕ) (keeps : Bool) (key : K) (value : V) (old between new : TableView K V H)
+      (side : Bool) (i : ℕ) (r : Result (Option (K × V)) (NotInserted K V)) (left : BucketView K V) → h ≡ n
+      → FindsBucket kind h old side i between → PutsIn eq keeps key value (h % 256) (bucket_of between side i) r left
+      → new ≡ with_bucket between side i left → PutsThen kind n keeps (key, value) old r new
+  found_put eq kind h n keeps key value old between new side i (Ok out) left own found x is =
+      rw (← own) (between, side, i, found, x.1, is ∙ ap (λ (b : BucketView K V). with_bucket between side i b) x.2)
+  found_put eq kind h n keeps key value old between new side i (Err (Present k v)) left own found x is =
+      let same : new ≡ between = is ∙ with_own between.hasher between.arrays side i left x.3 in
+      rw (← own) (side, i, subst (λ (t : TableView K V H). FindsBucket kind h old side i t) (sym same) found)
+  found_put eq kind h n keeps key value old between new side i (Err (Memory k v)) left own found x is = absurd x

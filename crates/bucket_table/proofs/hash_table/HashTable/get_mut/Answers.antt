@@ -1,0 +1,28 @@
+use Rattle.bucket_table.proofs.Words.{refl}
+use Rattle.bucket_table.proofs.Map.Lending.{lent_there, lent_writes}
+use Rattle.bucket_table.proofs.hash_table.HashTable.get_mut.Goals as goal
+
+pub returns-in-Some : goal.returns-in-Some
+returns-in-Some g c =
+    let o = c.in-Some.spot in
+    let eq = g.K.PartialEq.eq in
+    let between = c.fetch_spot.new.self in
+    let prepared = c.fetch_spot.ensures.prepared in
+    let stands = c.in-Some.ensures.found in
+    let (own, here, wrote) = c.lend_at.ensures.map in (
+      (
+        refl,
+        λ value. lent_writes eq c.args.key.now g.row.TYPE c.args.self.now between prepared o.is_old o.index o.at stands own _ here value
+            (wrote value),
+        tt,
+      ),
+      record {
+        writes_back = tt;
+        found = (own, lent_there eq c.args.key.now g.row.TYPE c.args.self.now between prepared o.is_old o.index o.at stands own _ here);
+        absent = tt;
+      },
+    )
+
+pub returns-in-None : goal.returns-in-None
+returns-in-None g c =
+    ((refl, λ value. tt, c.fetch_spot.ensures.prepared), record { writes_back = tt; found = tt; absent = c.in-None.ensures.absent })

@@ -1,0 +1,35 @@
+use Rattle.bucket_table.proofs.Words.{arith, refl}
+use Rattle.bucket_table.proofs.Map.SlotSteps.{writes}
+use Rattle.bucket_table.proofs.hash_table.HashTable.lend_at.Goals as goal
+
+pub bucket_of_mut-bucket-requires : goal.bucket_of_mut-bucket-requires
+bucket_of_mut-bucket-requires g c = (omega arith, (c.room_of.ensures, rw (← c.self.view_is) at c.requires.within))
+
+pub entry_mut-requires : goal.entry_mut-requires
+entry_mut-requires g c =
+    (c.room_of.ensures, (omega arith, rw c.bucket_of_mut-bucket.ensures.bucket (rw (← c.self.view_is) at c.requires.live_slot)))
+
+pub invariant_of-self-lent : goal.invariant_of-self-lent
+invariant_of-self-lent g c value =
+    let o = c.args.spot.now in
+    let within = rw (← c.self.view_is) at c.requires.within in
+    let here = rw c.bucket_of_mut-bucket.ensures.bucket at c.entry_mut.ensures.pair in
+    rw c.bucket_of_mut-bucket.ensures.bucket (writes g.met.K.Eq.laws g.H.KeyHash.hash_of g.row.TYPE o.is_old o.index c.self.invariant
+    within o.at _ here value).one_map
+
+pub returns : goal.returns
+returns g c =
+    let o = c.args.spot.now in
+    let within = rw (← c.self.view_is) at c.requires.within in
+    let here = rw c.bucket_of_mut-bucket.ensures.bucket at c.entry_mut.ensures.pair in (
+      (refl, λ value. rw (← c.self.view_is, c.bucket_of_mut-bucket.ensures.bucket) refl),
+      record {
+        writes_back = tt;
+        map = (
+          c.entry_mut.result.0.now,
+          rw (← c.self.view_is) here,
+          λ value. rw (← c.self.view_is) (writes g.met.K.Eq.laws g.H.KeyHash.hash_of g.row.TYPE o.is_old o.index c.self.invariant within
+              o.at _ here value).map,
+        );
+      },
+    )

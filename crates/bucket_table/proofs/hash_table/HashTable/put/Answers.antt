@@ -1,0 +1,28 @@
+use Rattle.bucket_table.proofs.Words.{ap, rules, sym, ◌∙◌}
+use Rattle.bucket_table.specs.Map.MapState.{state_of}
+use Rattle.bucket_table.proofs.Map.MapKept.{hasher_kept}
+use Rattle.bucket_table.proofs.Map.Putting.{found_put, then_put}
+use Rattle.bucket_table.proofs.Views.Keeping.{bag_both}
+use Rattle.bucket_table.proofs.hash_table.HashTable.put.Goals as goal
+
+pub put_at-requires : goal.put_at-requires
+put_at-requires g c =
+    let own = c.hash-hash.ensures ∙ ap (λ h. g.H.KeyHash.hash_of h c.args.key) (sym (hasher_kept _ _ c.in-Ok.ensures.found.map)) in
+    search (rules, own)
+
+pub returns-clause-map : goal.returns-clause-map
+returns-clause-map g c =
+    then_put g.K.PartialEq.eq c.args.key c.args.value (state_of g.row.TYPE c.args.self.now) (state_of g.row.TYPE c.find.new.self) _
+    c.put_at.result c.in-Ok.ensures.found.map c.put_at.ensures.map
+
+pub returns-clause-bag : goal.returns-clause-bag
+returns-clause-bag g c =
+    bag_both c.args.self.now.arrays.tickets c.find.new.self.arrays.tickets c.put_at.new.self.arrays.tickets c.in-Ok.ensures.found.bag
+    c.put_at.ensures.bag
+
+pub returns-clause-arrays : goal.returns-clause-arrays
+returns-clause-arrays g c =
+    let (left, put, is) = c.put_at.ensures.bucket in
+    found_put g.K.PartialEq.eq g.row.TYPE c.hash-hash.result (g.H.KeyHash.hash_of c.args.self.now.hasher c.args.key) g.L.LruList.KEEPS
+    c.args.key c.args.value c.args.self.now c.find.new.self c.put_at.new.self c.in-Ok.is_old c.in-Ok.index c.put_at.result left
+    c.hash-hash.ensures c.in-Ok.ensures.found put is

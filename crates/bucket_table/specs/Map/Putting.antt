@@ -1,0 +1,66 @@
+-- What a put does to a cache: a pair goes in where its key is absent, and where its home has no free own slot another goes out.
+use Rattle.std.specs.Prelude.{ℕ, ◌≡◌, ◌%◌, Bool, Option, Some, None, Result, Ok, Err, List, ◌∷◌, if◌then◌else◌, is_some}
+use Rattle.std.specs.List.{Contains}
+use Rattle.std.specs.List.Sorted.{IsPermutation}
+use Rattle.bucket_slots.specs.BucketView.{BucketView, Place}
+use Rattle.bucket_slots.specs.Evicting.{slot_to_evict, slots_evicted, slots_touched}
+use Rattle.bucket_slots.specs.Placing.{place_for_next, slots_with}
+use Rattle.bucket_slots.specs.Searching.{place_wanted}
+use Rattle.bucket_slots.specs.Slots.{free, live_pair, slot_at}
+use Rattle.bucket_table.specs.Views.ArraysView.{TableView}
+use Rattle.bucket_table.specs.Map.Finding.{FindsBucket}
+use Rattle.bucket_table.specs.Map.LookingUp.{IsAbsent, IsThere}
+use Rattle.bucket_table.specs.Map.MapState.{MapState, AddsPair, Becomes, KeepsPairs}
+use Rattle.bucket_table.specs.Map.Refusing.{IsRefused}
+use Rattle.bucket_table.specs.Views.Sides.{bucket_of, with_bucket}
+use Rattle.bucket_table.specs.declared.hash_table.NotInserted.{NotInserted}
+use Rattle.bucket_table.specs.declared.hash_table.NotInserted.TheVariants.{Present, Memory}
+
+-- one pair is out and another in, and nothing else changes: the rest of the pairs stays
+pub record ReplacesPair {K V H : Type 0} (old : MapState K V H) (gone pair : K × V) (new : MapState K V H) : Type 0 where
+  pub rest : List (K × V)
+  pub before : IsPermutation old.pairs (gone ∷ rest)
+  pub after : Becomes old (pair ∷ rest) new
+
+-- a pair is put where its key is absent, and a pair that goes for it comes back; what isn't put comes back too, and then all stays
+abbrev pub Puts : {K V H : Type 0} → (K → K → Bool) → K → V → MapState K V H → Result (Option (K × V)) (NotInserted K V) → MapState K V H
+    → Type 0
+Puts eq key value old (Ok None) new = IsAbsent eq key old.pairs × AddsPair old (key, value) new
+Puts eq key value old (Ok (Some gone)) new = IsAbsent eq key old.pairs × ReplacesPair old gone (key, value) new
+Puts {K} {V} eq key value old (Err (Present k v)) new =
+    (k ≡ key) × (v ≡ value) × ((pair : K × V) × IsThere eq key old.pairs pair) × KeepsPairs old new
+Puts eq key value old (Err (Memory k v)) new = (k ≡ key) × (v ≡ value) × KeepsPairs old new
+
+module _ {K V : Type 0} where
+  -- what goes for a new pair: none where an own slot is free, and else the pair touched longest ago, or slot 0's where none is listed
+  abbrev pub Goes : BucketView K V → Option (K × V) → Type 0
+  Goes bucket None = Contains bucket.own free
+  Goes bucket (Some gone) = (Contains bucket.own free → ⊥) × (live_pair (slot_at bucket.own (slot_to_evict bucket)) ≡ Some gone)
+
+  -- the bucket without it
+  abbrev pub slots_left : BucketView K V → Option (K × V) → BucketView K V
+  slots_left bucket gone = if is_some gone then slots_evicted bucket else bucket
+
+  -- the bucket with a pair in its first free slot, touched: the newest of its list where that keeps slots
+  abbrev pub slots_put : Bool → BucketView K V → K × V → ℕ → BucketView K V
+  slots_put keeps bucket pair byte = slots_touched keeps (slots_with bucket pair byte) (place_for_next bucket)
+
+  -- a put into a bucket: the pair is in where no live slot has an equal key, after what goes for it; memory is never wanted
+  abbrev pub PutsIn : (K → K → Bool) → Bool → K → V → ℕ → BucketView K V → Result (Option (K × V)) (NotInserted K V) → BucketView K V
+      → Type 0
+  PutsIn eq keeps key value byte old (Ok gone) new =
+      (place_wanted (λ own. eq own key) byte old ≡ None) × Goes old gone × (new ≡ slots_put keeps (slots_left old gone) (key, value) byte)
+  PutsIn eq keeps key value byte old (Err (Present k v)) new =
+      (k ≡ key) × (v ≡ value) × ((at : Place) × (place_wanted (λ own. eq own key) byte old ≡ Some at)) × (new ≡ old)
+  PutsIn eq keeps key value byte old (Err (Memory k v)) new = ⊥
+
+-- a writer's bucket is found for a hash, and the pair is in it, after what goes for it; nothing else changes, and memory is wanted
+-- only where no bucket is found
+abbrev pub PutsThen : {K V H : Type 0} → ℕ → ℕ → Bool → K × V → TableView K V H → Result (Option (K × V)) (NotInserted K V)
+    → TableView K V H → Type 0
+PutsThen {K} {V} {H} kind hash keeps pair old (Ok gone) new =
+    (between : TableView K V H) × (side : Bool) × (index : ℕ) × FindsBucket kind hash old side index between
+    × Goes (bucket_of between side index) gone
+    × (new ≡ with_bucket between side index (slots_put keeps (slots_left (bucket_of between side index) gone) pair (hash % 256)))
+PutsThen kind hash keeps pair old (Err (Present k v)) new = (side : Bool) × (index : ℕ) × FindsBucket kind hash old side index new
+PutsThen kind hash keeps pair old (Err (Memory k v)) new = IsRefused kind old new

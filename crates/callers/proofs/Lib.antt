@@ -1,0 +1,2 @@
+pub mod KeyCounts
+pub mod Seen

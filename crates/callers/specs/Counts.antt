@@ -1,0 +1,17 @@
+-- Maps that count the keys of a list.
+use Rattle.std.specs.Prelude.{ℕ, ◌≡◌, ◌==◌, Bool, if◌then◌else◌, List, take, Option, Some, None}
+use Rattle.std.specs.List.{count_by}
+use Rattle.collections.specs.Maps.{MapView, get}
+
+-- a number, where there is something to count
+abbrev pub unless_zero : ℕ → Option ℕ
+unless_zero number = if number == 0 then None else Some number
+
+module _ {K H : Type 0} (eq : K → K → Bool) where
+  -- each key of the list has the number of its occurrences, and the map has no other key
+  abbrev pub Counts : List K → MapView K ℕ H → Type 0
+  Counts keys counts = (key : K) → get eq counts key ≡ unless_zero (count_by (eq key) keys)
+
+  -- the map counts the first keys of the list, up to some place
+  abbrev pub CountsFirst : List K → MapView K ℕ H → Type 0
+  CountsFirst keys counts = (place : ℕ) × Counts (take place keys) counts

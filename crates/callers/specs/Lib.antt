@@ -1,0 +1,3 @@
+-- What the callers answer.
+pub mod Counts
+pub mod Repeats

@@ -1,0 +1,11 @@
+//! Callers of the collections, as a user writes them, each with a contract that is proved from those
+//! of the calls.
+//!
+//! SPDX-License-Identifier: Apache-2.0
+#![tactic(auto)]
+
+mod counting;
+mod repeats;
+
+pub use counting::count_keys;
+pub use repeats::without_repeats;

@@ -1,0 +1,28 @@
+-- What a removal that marks does to the map that a table is.
+use Rattle.std.proofs.Common.{ℕ, Bool, Option, Some, None, is_some}
+use Rattle.std.specs.Borrow.{Bor}
+use Rattle.std.specs.Cmp.{IsEquivalence}
+use Rattle.std.specs.List.{IsDistinct}
+use Rattle.std.specs.Map.{keys_of}
+use Rattle.bucket_table.specs.Map.ByKey.{Marks}
+use Rattle.bucket_table.specs.Map.MapState.{state_of}
+use Rattle.bucket_table.specs.Views.ArraysView.{TableView, pairs_of}
+use Rattle.collections.specs.Indexes.{ReadsOut, TakesOut}
+use Rattle.collections.specs.Maps.{MapView, map_of}
+use Rattle.collections.proofs.Steps.{absent, stays, takes}
+
+module _ {K V H : Type 0} (eq : K → K → Bool) where
+  module _ (laws : IsEquivalence eq) (kind : ℕ) (t s : TableView K V H) (distinct : IsDistinct eq (keys_of (pairs_of t.arrays)))
+      (after : IsDistinct eq (keys_of (pairs_of s.arrays))) where
+    -- a pair that is read is marked, and so it is out
+    pub reads_out : {R : Type 0} (reads : Bor K → Bor V → R → Type 0) (k : K) (r : Option R)
+        → Marks eq k reads (state_of kind t) r (state_of kind s) → ReadsOut eq k reads (map_of t) r (map_of s)
+    reads_out reads k (Some answer) done =
+        (done.0, done.1, done.2, takes eq laws kind t s distinct after k (done.0.now, done.1.now) done.3 done.4)
+    reads_out reads k None done = (absent eq laws kind t s distinct after k done.0, stays eq laws kind t s distinct after done.1)
+
+  -- whatever is read of it
+  pub takes_out : {R : Type 0} (reads : Bor K → Bor V → R → Type 0) (k : K) (old new : MapView K V H) (r : Option R)
+      → ReadsOut eq k reads old r new → TakesOut eq k old (is_some r) new
+  takes_out reads k old new (Some answer) done = ((done.0.now, done.1.now), done.3)
+  takes_out reads k old new None done = done

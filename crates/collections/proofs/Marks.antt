@@ -1,0 +1,165 @@
+-- That no mark is new where a table inserts, and where it resizes.
+use Rattle.std.proofs.Common.{ℕ, ◌≡◌, inl, inr, Bool, true, false, if◌then◌else◌, Result, Ok, Err, List, [], ◌+◌}
+use Rattle.std.proofs.Common.{◌-◌, length, map, take, ap, sym, subst, arith}
+use Rattle.std.proofs.lemmas.Bool.{cases_lt}
+use Rattle.std.proofs.lemmas.List.Elements.{filter_map-append}
+use Rattle.bucket_slots.specs.BucketView.{BucketView, flattened, marks_in}
+use Rattle.bucket_slots.specs.Clearing.{looks_at_marks, slot_without_expired, slots_after_insertion, slots_without_expired}
+use Rattle.bucket_slots.specs.Clearing.{slots_without_free_end}
+use Rattle.bucket_slots.specs.Marking.{HasNoNewMark}
+use Rattle.bucket_slots.specs.Placing.{slots_with}
+use Rattle.bucket_slots.specs.Slots.{Slot, free, live, marked, marked_entries, marked_entry}
+use Rattle.bucket_slots.proofs.Entries.{filter_map-flattened, filter_map-is}
+use Rattle.bucket_slots.proofs.MarkCallerLemmas.{marks_in-slots_with, no_new-append, no_new-map, no_new-none, no_new-refl, no_new-same}
+use Rattle.bucket_slots.proofs.MarkCallerLemmas.{no_new-take, no_new-trans}
+use Rattle.bucket_slots.proofs.NoNewMarks.{mark_of}
+use Rattle.bucket_table.specs.Views.ArraysView.{ArraysView, TableView, marks_of}
+use Rattle.bucket_table.specs.Views.Sides.{arrays_with, bucket_of, bucket_on}
+use Rattle.bucket_table.specs.Rehash.Relocation.{marks_among}
+use Rattle.bucket_table.specs.Map.ByKey.{FindsOrIsRefused, FindsThen}
+use Rattle.bucket_table.specs.Map.Finding.{MakesReady, ReadiesThenGrows}
+use Rattle.bucket_table.specs.Resize.Growing.{Grows}
+use Rattle.bucket_table.specs.Resize.Resizing.{Releases, Reserves, TriesResize, with_minimum}
+use Rattle.bucket_table.specs.declared.hash_table.NotInserted.{NotInserted}
+use Rattle.bucket_table.specs.declared.hash_table.NotInserted.TheVariants.{Present, Memory}
+use Rattle.bucket_table.proofs.Resize.Following.{given_up_keeps, pushed_keeps}
+use Rattle.bucket_table.proofs.Resize.Growing.{kept_made}
+use Rattle.bucket_table.proofs.Views.MarksKept.{marks_among-set}
+
+module _ {K V : Type 0} where
+  module _ (keeps : ℕ → Bool) where
+    kept_or_gone : (pair : K × V) (epoch : ℕ) (stays : Bool)
+        → HasNoNewMark (mark_of (marked pair epoch)) (mark_of (if stays then marked pair epoch else free))
+    kept_or_gone pair epoch true = no_new-refl (mark_of (marked pair epoch))
+    kept_or_gone pair epoch false = no_new-none (mark_of (marked pair epoch))
+
+    unexpired : (slot : Slot K V) → HasNoNewMark (mark_of slot) (mark_of (slot_without_expired keeps slot))
+    unexpired free = no_new-refl []
+    unexpired (live pair byte) = no_new-refl []
+    unexpired (marked pair epoch) = kept_or_gone pair epoch (keeps epoch)
+
+    -- marks that a test lets go: of a row, of the chain and of the bucket
+    row_unexpired : (slots : List (Slot K V))
+        → HasNoNewMark (marked_entries slots) (marked_entries (map (slot_without_expired keeps) slots))
+    row_unexpired slots =
+        rw (filter_map-is marked_entry slots, filter_map-is marked_entry (map (slot_without_expired keeps) slots))
+        (no_new-map mark_of (slot_without_expired keeps) unexpired slots)
+
+    chain_unexpired : (rows : List (List (Slot K V)))
+        → HasNoNewMark (marked_entries (flattened rows)) (marked_entries (flattened (map (map (slot_without_expired keeps)) rows)))
+    chain_unexpired rows =
+        rw (filter_map-flattened marked_entry rows, filter_map-flattened marked_entry (map (map (slot_without_expired keeps)) rows))
+        (no_new-map marked_entries (map (slot_without_expired keeps)) row_unexpired rows)
+
+    pub marks_in-slots_without_expired : (s : BucketView K V) → HasNoNewMark (marks_in s) (marks_in (slots_without_expired keeps s))
+    marks_in-slots_without_expired s =
+        let own = map (slot_without_expired keeps) s.own in
+        let rows = map (map (slot_without_expired keeps)) s.chain in
+        rw (filter_map-append marked_entry s.own (flattened s.chain), filter_map-append marked_entry own (flattened rows))
+        (no_new-append (marked_entries s.own) (marked_entries (flattened s.chain)) (marked_entries own) (marked_entries (flattened rows))
+        (row_unexpired s.own) (chain_unexpired s.chain))
+
+  chain_front : (rows : List (List (Slot K V))) (n : ℕ)
+      → HasNoNewMark (marked_entries (flattened rows)) (marked_entries (flattened (take n rows)))
+  chain_front rows n =
+      rw (filter_map-flattened marked_entry rows, filter_map-flattened marked_entry (take n rows)) (no_new-take marked_entries n rows)
+
+  -- a chain that is cut
+  with_chain_front : (s : BucketView K V) (n : ℕ) → HasNoNewMark (marks_in s) (marks_in (record s { chain = take n s.chain }))
+  with_chain_front s n =
+      let own = marked_entries s.own in
+      rw (filter_map-append marked_entry s.own (flattened s.chain), filter_map-append marked_entry s.own (flattened (take n s.chain)))
+      (no_new-append own (marked_entries (flattened s.chain)) own (marked_entries (flattened (take n s.chain))) (no_new-refl own)
+      (chain_front s.chain n))
+
+  pub marks_in-slots_without_free_end : (s : BucketView K V) → HasNoNewMark (marks_in s) (marks_in (slots_without_free_end s))
+  marks_in-slots_without_free_end s = with_chain_front s _
+
+  inserted : (keeps : ℕ → Bool) (s : BucketView K V) (pair : K × V) (byte : ℕ) (looks : Bool) → HasNoNewMark (marks_in s)
+      (marks_in (if looks then slots_without_free_end (slots_with (slots_without_expired keeps s) pair byte) else slots_with s pair byte))
+  inserted keeps s pair byte true =
+      let cleared = slots_without_expired keeps s in
+      no_new-trans _ _ _ (marks_in-slots_without_expired keeps s) (no_new-trans _ _ _ (marks_in-slots_with cleared pair byte)
+      (marks_in-slots_without_free_end (slots_with cleared pair byte)))
+  inserted keeps s pair byte false = marks_in-slots_with s pair byte
+
+  -- an insertion into a bucket brings no mark, whatever it lets go
+  pub marks_in-slots_after_insertion : (kind : ℕ) (keeps : ℕ → Bool) (s : BucketView K V) (pair : K × V) (byte : ℕ)
+      → HasNoNewMark (marks_in s) (marks_in (slots_after_insertion kind keeps s pair byte))
+  marks_in-slots_after_insertion kind keeps s pair byte = inserted keeps s pair byte (looks_at_marks kind s)
+
+  -- nor does another bucket that brings none to its own
+  pub marks_of-arrays_with : (arrays : ArraysView K V) (side : Bool) (index : ℕ) (left : BucketView K V)
+      → HasNoNewMark (marks_in (bucket_on arrays side index)) (marks_in left)
+      → HasNoNewMark (marks_of arrays) (marks_of (arrays_with arrays side index left))
+  marks_of-arrays_with arrays false index left here =
+      no_new-append (marks_among arrays.current) (marks_among arrays.linked) _ (marks_among arrays.linked)
+      (marks_among-set arrays.current index left here) (no_new-refl (marks_among arrays.linked))
+  marks_of-arrays_with arrays true index left here =
+      no_new-append (marks_among arrays.current) (marks_among arrays.linked) (marks_among arrays.current) _
+      (no_new-refl (marks_among arrays.current)) (marks_among-set arrays.linked index left here)
+
+  no_new-arrays : (old new : ArraysView K V) → new ≡ old → HasNoNewMark (marks_of old) (marks_of new)
+  no_new-arrays old new same = no_new-same (marks_of old) (marks_of new) (ap (λ (arrays : ArraysView K V). marks_of arrays) same)
+
+  -- nor does a resize
+  no_new-tried : {E : Type 0} (old new : ArraysView K V) (answer : Result Bool E) → TriesResize old answer new
+      → HasNoNewMark (marks_of old) (marks_of new)
+  no_new-tried old new (Ok false) tries = no_new-arrays old new tries.1
+  no_new-tried old new (Ok true) (inl gone) = (given_up_keeps old new gone.1).marks
+  no_new-tried old new (Ok true) (inr moved) = (pushed_keeps moved.0 old new moved.2).marks
+  no_new-tried old new (Err refused) tries = no_new-arrays old new tries.2
+
+  pub no_new-reserves : (additional answer : ℕ) (old new : ArraysView K V) → Reserves additional old answer new
+      → HasNoNewMark (marks_of old) (marks_of new)
+  no_new-reserves additional answer old new reserves = elim (cases_lt (old.maximum - old.minimum) additional) [
+    | inl much ↦ no_new-arrays old new (reserves.too_much much).1
+    | inr fits ↦
+        let done = (reserves.raised fits).1 in
+        no_new-tried (with_minimum old (old.minimum + additional)) new done.0 done.1
+  ]
+
+  pub no_new-releases : (released answer : ℕ) (old new : ArraysView K V) → Releases released old answer new
+      → HasNoNewMark (marks_of old) (marks_of new)
+  no_new-releases released answer old new releases = elim (cases_lt old.minimum released) [
+    | inl much ↦ no_new-arrays old new (releases.too_much much).1
+    | inr fits ↦
+        let done = (releases.lowered fits).1 in
+        no_new-tried (with_minimum old (old.minimum - released)) new done.0 done.1
+  ]
+
+  readied : (old new : ArraysView K V) (index : ℕ) → MakesReady old index new → HasNoNewMark (marks_of old) (marks_of new)
+  readied old new index ready = elim (cases_lt 0 (length old.linked)) [
+    | inl some ↦ (ready.beside some).keeps.marks
+    | inr none ↦ (kept_made old new (ready.first (omega (arith, none)))).marks
+  ]
+
+  grown : (old new : ArraysView K V) (done : Bool) → Grows done old new → HasNoNewMark (marks_of old) (marks_of new)
+  grown old new true grows = (pushed_keeps grows.0 old new grows.1).marks
+  grown old new false same = no_new-arrays old new same
+
+  found : (kind hash : ℕ) (old new : ArraysView K V) (side : Bool) (index : ℕ) → ReadiesThenGrows kind hash old side index new
+      → HasNoNewMark (marks_of old) (marks_of new)
+  unfolding ReadiesThenGrows
+  found kind hash old new side index done =
+      no_new-trans (marks_of old) (marks_of done.0) (marks_of new) (readied old done.0 index done.1) (grown done.0 new side done.3)
+
+module _ {K V H : Type 0} (kind hash : ℕ) (old new : TableView K V H) where
+  no_new-found_or_refused : FindsOrIsRefused kind hash old new → HasNoNewMark (marks_of old.arrays) (marks_of new.arrays)
+  no_new-found_or_refused (inl refused) = refused.prepared.kept.keeps.marks
+  no_new-found_or_refused (inr finds) = found kind hash old.arrays new.arrays finds.0 finds.1 finds.2.found
+
+  -- an insertion into a table brings no mark
+  pub no_new-inserted : {A : Type 0} (keeps : ℕ → Bool) (pair : K × V) (byte : ℕ) (r : Result A (NotInserted K V))
+      → FindsThen kind hash (λ bucket. slots_after_insertion kind keeps bucket pair byte) old r new
+      → HasNoNewMark (marks_of old.arrays) (marks_of new.arrays)
+  no_new-inserted keeps pair byte (Ok done) finds =
+      let between = finds.0 in
+      let left = slots_after_insertion kind keeps (bucket_of between finds.1 finds.2) pair byte in
+      let put = marks_of-arrays_with between.arrays finds.1 finds.2 left
+      (marks_in-slots_after_insertion kind keeps (bucket_of between finds.1 finds.2) pair byte) in
+      no_new-trans (marks_of old.arrays) (marks_of between.arrays) (marks_of new.arrays)
+      (found kind hash old.arrays between.arrays finds.1 finds.2 finds.3.found)
+      (subst (λ (table : TableView K V H). HasNoNewMark (marks_of between.arrays) (marks_of table.arrays)) (sym finds.4) put)
+  no_new-inserted keeps pair byte (Err (Present k v)) finds = found kind hash old.arrays new.arrays finds.0 finds.1 finds.2.found
+  no_new-inserted keeps pair byte (Err (Memory k v)) finds = no_new-found_or_refused finds

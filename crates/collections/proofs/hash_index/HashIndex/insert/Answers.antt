@@ -1,0 +1,13 @@
+use Rattle.collections.proofs.Marks.{no_new-inserted}
+use Rattle.collections.proofs.Steps.{inserts}
+use Rattle.collections.proofs.hash_index.HashIndex.insert.Goals as goal
+
+pub returns-clause-map : goal.returns-clause-map
+returns-clause-map g c = rw (← c.self.view_is) (inserts g.K.PartialEq.eq g.met.K.Eq.laws 79 c.self.inside.table
+    c.insert_pair-outcome.new.self c.sound.ensures.one_map.distinct c.sound-2.ensures.one_map.distinct
+    c.args.key c.args.value c.insert_pair-outcome.result
+    c.insert_pair-outcome.ensures.map)
+
+pub returns-clause-marks : goal.returns-clause-marks
+returns-clause-marks g c = rw (← c.self.view_is) (no_new-inserted 79 _ c.self.inside.table c.insert_pair-outcome.new.self _ _ _
+    c.insert_pair-outcome.result c.insert_pair-outcome.ensures.arrays)

@@ -1,0 +1,9 @@
+use Rattle.collections.proofs.IndexSteps.{reads_out}
+use Rattle.collections.proofs.hash_index.HashIndex.remove_with.Goals as goal
+
+pub returns-clause-map : goal.returns-clause-map
+returns-clause-map g c = rw (← c.self.view_is) (reads_out g.K.PartialEq.eq g.met.K.Eq.laws 79 c.self.inside.table c.mark-outcome.new.self
+    c.sound.ensures.one_map.distinct c.sound-2.ensures.one_map.distinct _ c.args.key.now c.mark-outcome.result c.mark-outcome.ensures.map)
+
+pub returns-clause-marks : goal.returns-clause-marks
+returns-clause-marks g c = rw (← c.self.view_is) c.mark-outcome.ensures.marks

@@ -1,0 +1,17 @@
+-- What a map ends as, where a value of it was lent for writing.
+use Rattle.std.specs.Prelude.{◌≡◌, Option, None, IfNone, IfSome}
+use Rattle.std.specs.Borrow.{Fml, LendsSo, MutBor, RattleType}
+use Rattle.std.specs.declared.cmp.PartialEq as equals
+use Rattle.bucket_table.specs.declared.key_hash.KeyHash as key_hash
+use Rattle.collections.specs.Maps.{MapView, get}
+use Rattle.collections.specs.Changes.{Replaces, Stays}
+use Rattle.collections.specs.contracts.hash_map.HashMap.{the_row}
+
+module _ (K V H : RattleType) (equal : equals.Ghosts K.Denot) (hashing : key_hash.Ghosts H.Denot K.Denot)
+    (map : MutBor (MapView K.Denot V.Denot H.Denot)) where
+  -- the value under the key is the last one written through the loan; where there is none the key is absent, and all stays
+  abbrev pub LendsValue : K.Denot → Option (MutBor V.Denot) → Fml
+  LendsValue key loan =
+      LendsSo (the_row K V H (record {}) equal hashing) V map loan
+      (λ new value. IfSome loan (λ lent. (own : K.Denot) × Replaces equal.eq map.now key (own, lent.now) value new))
+      (λ new. IfNone loan ((get equal.eq map.now key ≡ None) × Stays equal.eq map.now new))

@@ -1,0 +1,261 @@
+//! A map that is read without moving anything, and whose removed pairs stay in their slots, each
+//! marked with the epoch of its removal, until an insertion finds that its generation lets it go.
+//!
+//! Model: `IndexView`, the map and the marked pairs. A marked pair isn't in the map: no look-up, no
+//! walk and no count sees it. Only a removal marks, with the epoch of the generation that it is
+//! given; a mark may go in any call that changes the index, with the array in which it stands.
+//!
+//! Ports scc's `src/hash_index.rs` to an owned index: a generation that the caller hands in stands
+//! where scc asks its collector.
+ghost use Rattle.std.specs.Prelude.{◌≡◌, ◌↔◌, ◌-◌, ◌^◌, [], IsTrue, min};
+ghost use Rattle.std.specs.Option.{option_copied};
+ghost use Rattle.std.specs.Borrow.{Bor};
+ghost use Rattle.bucket_slots.specs.Marking.{HasNoNewMark, MarksBy};
+ghost use Rattle.bucket_slots.specs.Walking.{CallsEach};
+ghost use Rattle.collections.specs.Maps.{contains, get, IsEmpty, map_len};
+ghost use Rattle.collections.specs.Changes.{Inserts, Reserves, Stays};
+ghost use Rattle.collections.specs.Indexes.{ReadsOut, TakesOut};
+
+use crate::hash_map::NotInserted;
+use crate::room::{Fits, TableRoom};
+use bucket_slots::bucket::{Generation, INDEX};
+use bucket_table::hash_table::{HashTable, MAXIMUM_CAPACITY_LIMIT};
+use bucket_table::key_hash::KeyHash;
+use std::alloc::Global;
+use std::marker::Model;
+
+/// A map whose removed pairs wait for their epoch. scc: `HashIndex`.
+#[derive(Drop)]
+pub struct HashIndex<K: Eq, V, H: KeyHash<K>> {
+    table: HashTable<K, V, H, (), INDEX>,
+    room: Fits<TableRoom<K, V, H, (), INDEX>>,
+}
+
+impl<K: Eq, V, H: KeyHash<K>> Model for HashIndex<K, V, H> {
+    ghost use Rattle.collections.specs.Indexes.{IndexView, index_of};
+
+    ghost Value = { IndexView K V H };
+
+    ghost view = { λ index. index_of index.table };
+}
+
+impl<K: Eq, V, H: KeyHash<K>> HashIndex<K, V, H> {
+    ghost use Rattle.collections.specs.Room.{IndexFits};
+
+    /// Returns an empty index. Takes no memory.
+    ///
+    /// O(1). scc: `HashIndex::with_hasher`.
+    pub fn with_hasher(alloc: Global, hasher: H) -> Self
+        requires { IndexFits K.row V.row H.row K.PartialEq H.KeyHash }
+        ensures empty { IsEmpty result.map }
+        ensures unmarked { result.marks ≡ [] }
+        ensures hasher { result.map.hasher ≡ hasher }
+        ensures minimum { result.map.minimum ≡ 0 }
+        ensures maximum { result.map.maximum ≡ 2 ^ 63 }
+        ensures slots { result.map.slots ≡ 0 }
+    {
+        Self::with_capacity(alloc, hasher, 0)
+    }
+
+    /// Returns an empty index whose first array has room for this many pairs, or for 2^63. Takes no
+    /// memory: the first insertion makes the array.
+    ///
+    /// O(1). scc: `HashIndex::with_capacity_and_hasher`.
+    pub fn with_capacity(alloc: Global, hasher: H, capacity: usize) -> Self
+        requires { IndexFits K.row V.row H.row K.PartialEq H.KeyHash }
+        ensures empty { IsEmpty result.map }
+        ensures unmarked { result.marks ≡ [] }
+        ensures hasher { result.map.hasher ≡ hasher }
+        ensures minimum { result.map.minimum ≡ min capacity (2 ^ 63) }
+        ensures maximum { result.map.maximum ≡ 2 ^ 63 }
+        ensures slots { result.map.slots ≡ 0 }
+    {
+        let minimum = capacity.min(MAXIMUM_CAPACITY_LIMIT);
+        HashIndex {
+            table: HashTable::new(alloc, hasher, minimum, MAXIMUM_CAPACITY_LIMIT),
+            room: Fits::new(),
+        }
+    }
+
+    /// Returns the hasher.
+    ///
+    /// O(1). scc: `HashIndex::hasher`.
+    pub fn hasher(&self) -> &H
+        ensures { result.now ≡ self.now.map.hasher }
+    {
+        self.room.learn();
+        self.table.hasher()
+    }
+
+    /// Returns how many pairs the index has, marked ones left out, at most 2^64 - 1.
+    ///
+    /// O(slots / 32). scc: `HashIndex::len`.
+    pub fn len(&self) -> usize
+        ensures { result ≡ min (map_len self.now.map) (2 ^ 64 - 1) }
+    {
+        self.room.learn();
+        self.table.len()
+    }
+
+    /// Tests whether the index has no pair; a marked one isn't its pair any more.
+    ///
+    /// O(slots / 32). scc: `HashIndex::is_empty`.
+    pub fn is_empty(&self) -> bool
+        ensures { IsTrue result ↔ IsEmpty self.now.map }
+    {
+        self.room.learn();
+        self.table.is_empty()
+    }
+
+    /// Returns the number of slots, chains left out.
+    ///
+    /// O(1). scc: `HashIndex::capacity`.
+    pub fn capacity(&self) -> usize
+        ensures { result ≡ self.now.map.slots }
+    {
+        self.room.learn();
+        self.table.num_slots()
+    }
+
+    /// Calls a function with each pair once, in the order of the view, and with no marked one.
+    ///
+    /// O(slots), and the function's calls. scc: `HashIndex::iter_sync`.
+    #[inline(always)]
+    pub fn for_each<F: FnMut(&K, &V)>(&self, f: &mut F)
+        requires callable { F.IsAlwaysCallable f.old }
+        ensures again { F.IsAlwaysCallable f.new }
+        ensures calls { CallsEach (λ state own value last. F.step state own value tt last) f.old
+            self.now.map.entries f.new }
+    {
+        self.room.learn();
+        self.table.for_each(f);
+    }
+
+    /// Returns the value under a key; `None` where the index hasn't the key.
+    ///
+    /// Moves nothing, and takes no memory. O(1) expected. scc: `HashIndex::peek`.
+    #[inline(always)]
+    pub fn peek(&self, key: &K) -> Option<&V>
+        ensures { option_copied result ≡ get K.eq self.now.map key.now }
+    {
+        self.room.learn();
+        self.table.sound();
+        match self.table.peek_entry(key) {
+            Some((_, value)) => Some(value),
+            None => None,
+        }
+    }
+
+    /// Tests whether the index has a key.
+    ///
+    /// Moves nothing, and takes no memory. O(1) expected. scc: `HashIndex::contains`.
+    #[inline(always)]
+    pub fn contains(&self, key: &K) -> bool
+        ensures { result ≡ contains K.eq self.now.map key.now }
+    {
+        self.peek(key).is_some()
+    }
+}
+
+impl<K: Eq + Drop, V: Drop, H: KeyHash<K>> HashIndex<K, V, H> {
+    /// Inserts a pair whose key the index hasn't. Where no own slot of its home is free and one is
+    /// marked, it first lets go each marked pair there whose mark the generation doesn't keep.
+    ///
+    /// # Errors
+    ///
+    /// An equal key is there, or want of memory: the pair comes back.
+    ///
+    /// O(1) expected, beside a resize. scc: `HashIndex::insert_sync`.
+    #[inline(always)]
+    pub fn insert<G: Generation>(
+        &mut self,
+        key: K,
+        value: V,
+        generation: &G,
+    ) -> Result<(), NotInserted<K, V>>
+        ensures map { Inserts K.eq key value self.old.map result self.new.map }
+        ensures marks { HasNoNewMark self.old.marks self.new.marks }
+    {
+        self.room.learn();
+        self.table.sound();
+        let outcome = self.table.insert_pair(key, value, generation);
+        self.table.sound();
+        outcome
+    }
+
+    /// Marks the pair whose key is equal with the generation's epoch, so that the index is without
+    /// it. Returns whether there was one.
+    ///
+    /// Never refused. O(1) expected, beside a resize. scc: `HashIndex::remove_sync`.
+    #[inline(always)]
+    pub fn remove<G: Generation>(&mut self, key: &K, generation: &G) -> bool
+        ensures map { TakesOut K.eq key.now self.old.map result self.new.map }
+        ensures marks { MarksBy (G.epoch_of generation.now) self.old.marks self.new.marks }
+    {
+        let removed = self.remove_with(key, generation, |_own: &K, _value: &V| ());
+        removed.is_some()
+    }
+
+    /// Hands the pair whose key is equal to a function, marks it as `remove` does, and returns what
+    /// the function answers; `None` where the index hasn't the key.
+    ///
+    /// Never refused. O(1) expected, beside a resize. Own.
+    #[inline(always)]
+    pub fn remove_with<R, F: FnOnce(&K, &V) -> R, G: Generation>(
+        &mut self,
+        key: &K,
+        generation: &G,
+        reader: F,
+    ) -> Option<R>
+        requires callable { (own : Bor K) (value : Bor V) → F.pre reader own value }
+        ensures map { ReadsOut K.eq key.now (λ own value answer. F.post reader own value answer)
+            self.old.map result self.new.map }
+        ensures marks { MarksBy (G.epoch_of generation.now) self.old.marks self.new.marks }
+    {
+        self.room.learn();
+        self.table.sound();
+        let outcome = self.table.mark(key, generation, reader);
+        self.table.sound();
+        outcome
+    }
+
+    /// Raises the number of slots that a shrink leaves at least, and makes slots where memory is
+    /// there. Returns by how much it was raised: by nothing where it would pass 2^63.
+    ///
+    /// Never refused. O(slots). scc: `HashIndex::reserve`.
+    pub fn reserve(&mut self, additional: usize) -> usize
+        ensures map { Reserves K.eq additional self.old.map result self.new.map }
+        ensures marks { HasNoNewMark self.old.marks self.new.marks }
+    {
+        self.room.learn();
+        self.table.sound();
+        let raised = self.table.reserve_capacity(additional);
+        self.table.sound();
+        raised
+    }
+
+    /// Sets the number of slots that a shrink leaves to 0, and gives slots back where few are live.
+    ///
+    /// Never refused. O(slots). Own: what ends scc's `Reserve`s.
+    pub fn shrink_to_fit(&mut self)
+        ensures map { Stays K.eq (record self.old.map { minimum = 0 }) self.new.map }
+        ensures marks { HasNoNewMark self.old.marks self.new.marks }
+    {
+        self.room.learn();
+        self.table.sound();
+        let minimum = self.table.minimum_capacity();
+        let _ = self.table.release_capacity(minimum);
+        self.table.sound();
+    }
+
+    /// Drops all pairs, the marked ones too, and all slots; the hasher and the capacities stay.
+    ///
+    /// Never refused. O(slots). scc: `HashIndex::clear_sync`, which marks the pairs.
+    pub fn clear(&mut self)
+        ensures map { self.new.map ≡ record self.old.map { entries = []; slots = 0 } }
+        ensures unmarked { self.new.marks ≡ [] }
+    {
+        self.room.learn();
+        self.table.clear();
+    }
+}

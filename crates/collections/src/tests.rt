@@ -1,0 +1,30 @@
+//! Tests of what no clause says: that calls succeed where memory is there, that slots come and go,
+//! and that values are dropped once; and calls by chance beside a map of the standard library.
+mod by_chance;
+mod drops;
+mod maps;
+mod sets;
+mod tags;
+
+use std::fmt::Debug;
+use std::process::Abort;
+
+// A step's place: its story, and its number there.
+type At = (&'static str, usize);
+
+// Two values are equal. The row helps to find the place.
+fn check_same<T: PartialEq + Debug + Drop, R: Debug + Drop>(
+    rt: &impl Abort,
+    found: T,
+    wanted: T,
+    row: R,
+) {
+    assert_eq!(rt; found, wanted, "row {row:?}");
+}
+
+// Steps, several on a line.
+macro_rules! steps {
+    ($($step:expr),+ $(,)?) => { &[$($step),+] };
+}
+
+use steps;

@@ -1,0 +1,144 @@
+//! Calls by chance on a map of numbers, beside a map of the standard library. Pairs come and go
+//! like tides, so that the map gets longer arrays and shorter ones again.
+use super::check_same;
+use super::maps::Map;
+use crate::hash_map::HashMap;
+use bucket_table::script::ScriptHash;
+use std::alloc::Global;
+use std::collections::BTreeMap;
+use std::process::Abort;
+use std::test::Fail;
+
+// How many calls there are under each hash.
+const CALLS: [(ScriptHash, u64); 3] = [
+    (ScriptHash::Id, 100_000),
+    (ScriptHash::Spread, 20_000),
+    (ScriptHash::Zero, 20_000),
+];
+
+const KEYS: u64 = 300;
+
+// For how many calls pairs come, and for how many they go.
+const TIDE: u64 = 2500;
+
+// After how many calls the maps are compared as a whole.
+const WHOLE: u64 = 500;
+
+// An odd number with its bits spread, so that keys take homes all over the array.
+const SPREADING: u64 = 11400714819323198485;
+
+/// Two maps that have the same pairs, and a sequence of numbers that chooses the calls.
+#[derive(Drop)]
+struct Course {
+    map: Map,
+    std: BTreeMap<u64, u64>,
+    state: u64,
+}
+
+impl Course {
+    fn new(alloc: Global, hasher: ScriptHash) -> Self {
+        Course {
+            map: HashMap::with_hasher(alloc, hasher),
+            std: BTreeMap::new(alloc),
+            state: 1,
+        }
+    }
+
+    // One step of a linear congruential generator, whose upper bits are the better ones.
+    fn step(&mut self) -> u64 {
+        self.state = self
+            .state
+            .wrapping_mul(6364136223846793005)
+            .wrapping_add(1442695040888963407);
+        self.state >> 32
+    }
+
+    fn key(&mut self) -> u64 {
+        (self.step() % KEYS).wrapping_mul(SPREADING)
+    }
+
+    // A call by a key: while pairs come few are removed, and while they go none is put.
+    fn call(&mut self, rt: &impl Abort, comes: bool) -> Result<(), Fail> {
+        let (key, value) = (self.key(), self.step());
+        let there = self.std.get(&key).copied();
+        match (self.step() % 16, comes) {
+            (0..=3, true) => {
+                let done = self.map.insert(key, value).is_ok();
+                check_same(rt, done, there.is_none(), ("insert", key));
+                if done {
+                    self.std.insert(key, value)?;
+                }
+            }
+            (4..=6, true) => {
+                let earlier = self.map.upsert(key, value);
+                check_same(rt, earlier, Ok(there), ("upsert", key));
+                self.std.insert(key, value)?;
+            }
+            (0..=6, false) | (7..=8, _) => {
+                let pair = there.map(|value| (key, value));
+                check_same(rt, self.map.remove(&key), pair, ("remove", key));
+                self.std.remove(&key);
+            }
+            (9..=11, _) => {
+                let earlier = self.map.update(&key, |_own: &u64, own: &mut u64| {
+                    let earlier = *own;
+                    *own = value;
+                    earlier
+                });
+                check_same(rt, earlier, there, ("update", key));
+                if earlier.is_some() {
+                    self.std.insert(key, value)?;
+                }
+            }
+            _ => check_same(rt, self.map.get(&key).copied(), there, ("get", key)),
+        }
+        Ok(())
+    }
+
+    // A call on the whole map.
+    fn call_on_all(&mut self, rt: &impl Abort) {
+        match self.step() % 8 {
+            0 => {
+                self.map.clear();
+                self.std.clear();
+            }
+            1..=3 => check_same(rt, self.map.reserve(256), 256, "reserve"),
+            _ => self.map.shrink_to_fit(),
+        }
+    }
+
+    // The maps have the same pairs.
+    fn compare(&self, rt: &impl Abort) {
+        let mut came: usize = 0;
+        let mut are_there = true;
+        let mut meet = |key: &u64, value: &u64| {
+            came = came.saturating_add(1);
+            are_there = are_there && self.std.get(key) == Some(value);
+        };
+        self.map.for_each(&mut meet);
+        let found = (came, are_there, self.map.len());
+        check_same(rt, found, (self.std.len(), true, self.std.len()), "pairs");
+        for (key, value) in &self.std {
+            check_same(rt, self.map.get(key), Some(value), *key);
+        }
+    }
+}
+
+#[test]
+fn a_map_has_the_pairs_of_a_btree_map(rt: HostRuntime) -> Result<(), Fail> {
+    for (hasher, calls) in CALLS {
+        let mut course = Course::new(rt.alloc(), hasher);
+        let mut most: usize = 0;
+        for number in 0..calls {
+            course.call(&rt, number / TIDE % 2 == 0)?;
+            most = most.max(course.map.capacity());
+            if number % WHOLE == 0 {
+                course.call_on_all(&rt);
+                course.compare(&rt);
+            }
+        }
+        course.compare(&rt);
+        check_same(&rt, most >= 256, true, (hasher, "two doublings"));
+    }
+    Ok(())
+}

@@ -1,0 +1,80 @@
+//! Values that are counted, under words as keys: each is dropped once, when its pair goes.
+use super::{At, check_same, steps};
+use crate::hash_map::HashMap;
+use Step::*;
+use bucket_table::key_hash::StdHash;
+use std::hash::{BuildHasherDefault, FoldHasher};
+use std::process::Abort;
+use std::rc::Rc;
+use std::test::Fail;
+
+type Words = HashMap<&'static str, Rc<u64>, StdHash<BuildHasherDefault<FoldHasher>>>;
+
+/// A call on a map, and how many values there are when it has returned and its answer is dropped.
+enum Step {
+    /// A word is inserted with a clone, or the clone is dropped where the word is there.
+    Insert(&'static str, usize),
+    /// A word gets a clone, and the earlier value is dropped.
+    Upsert(&'static str, usize),
+    /// A clone is written over the value of a word that is there, and else dropped.
+    Update(&'static str, usize),
+    /// A word goes.
+    Remove(&'static str, usize),
+    /// All words go.
+    Clear,
+}
+
+const STEPS: &[Step] = steps! {
+    Insert("", 1), Insert("ab", 2), Insert("a", 3), Insert("ab", 3), Upsert("ab", 3),
+    Upsert("b", 4), Update("ab", 4), Update("c", 4), Remove("ab", 3), Remove("ab", 3),
+    Insert("ab", 4), Clear, Clear, Upsert("a", 1), Insert("b", 2)
+};
+
+#[test]
+fn each_value_is_dropped_once(rt: HostRuntime) -> Result<(), Fail> {
+    let counted = Rc::new(rt.alloc(), 0)?;
+    let hasher = StdHash::new(BuildHasherDefault::new());
+    let mut words: Words = HashMap::with_hasher(rt.alloc(), hasher);
+    for (row, step) in STEPS.iter().enumerate() {
+        take(&rt, &mut words, &counted, ("values", row), step)?;
+    }
+    drop(words);
+    check_same(&rt, Rc::strong_count(&counted), 1, "dropped");
+    Ok(())
+}
+
+// Takes a step, and compares how many values there are beside the first.
+fn take(
+    rt: &impl Abort,
+    words: &mut Words,
+    counted: &Rc<u64>,
+    at: At,
+    step: &Step,
+) -> Result<(), Fail> {
+    let left = match step {
+        Insert(word, left) => {
+            let _ = words.insert(*word, counted.clone()?);
+            *left
+        }
+        Upsert(word, left) => {
+            let _ = words.upsert(*word, counted.clone()?);
+            *left
+        }
+        Update(word, left) => {
+            let value = counted.clone()?;
+            let _ = words.update(word, |_own: &&str, own: &mut Rc<u64>| *own = value);
+            *left
+        }
+        Remove(word, left) => {
+            let _ = words.remove(word);
+            *left
+        }
+        Clear => {
+            words.clear();
+            0
+        }
+    };
+    let found = (words.len(), Rc::strong_count(counted));
+    check_same(rt, found, (left, left.saturating_add(1)), at);
+    Ok(())
+}

@@ -1,0 +1,216 @@
+//! Stories of a map of numbers: what each call answers, how many slots there are then, and which
+//! pairs `for_each` hands over.
+use super::{At, check_same, steps};
+use crate::hash_map::{HashMap, NotInserted};
+use Step::*;
+use bucket_table::script::ScriptHash;
+use std::process::Abort;
+use std::test::Fail;
+
+pub(super) type Map = HashMap<u64, u64, ScriptHash>;
+
+/// A call on a map with what it answers, or what is seen of the map. Of two keys the second is the
+/// first that is not meant.
+enum Step {
+    /// Keys are inserted, each as its own value.
+    Fills(u64, u64),
+    /// A pair is inserted.
+    Inserts(u64, u64),
+    /// A pair comes back, since its key is there.
+    Returns(u64, u64),
+    /// A pair comes back from both calls that put one, since there is no memory for an array.
+    Refuses(u64, u64),
+    /// A value is put or written, and this was the earlier one.
+    Upserts(u64, u64, Option<u64>),
+    /// One is added to a value, and the pair was this one.
+    Updates(u64, Option<(u64, u64)>),
+    /// The pair that is taken out.
+    Removes(u64, Option<(u64, u64)>),
+    /// Keys are taken out, each with itself as its value.
+    Drains(u64, u64),
+    /// The minimum is to be raised by the first number, and is by the second.
+    Reserves(usize, usize),
+    /// The minimum is given back.
+    Shrinks,
+    /// All pairs go.
+    Clears,
+    /// The value that a key has.
+    Holds(u64, Option<u64>),
+    /// How many pairs there are.
+    Len(usize),
+    /// How many slots there are.
+    Slots(usize),
+}
+
+/// What happens on a new map.
+struct Story {
+    name: &'static str,
+    hasher: ScriptHash,
+    capacity: usize,
+    steps: &'static [Step],
+}
+
+// The greatest number of slots. There is no memory for so many.
+const MOST: usize = 1 << 63;
+
+// Of two buckets the first has the keys below 128, under the hash that spreads low bytes. The table
+// grows as the first one is full, and key 255 is always in the last bucket.
+const STORIES: &[Story] = steps! {
+    Story { name: "an insertion gives the pair back where the key is there",
+        hasher: ScriptHash::Id, capacity: 0, steps: steps! {
+            Slots(0), Inserts(1, 10), Returns(1, 11), Holds(1, Some(10)), Holds(2, None),
+            Inserts(2, 10), Holds(2, Some(10)), Len(2), Slots(64) } },
+    Story { name: "an upsert puts a pair once, and then writes its value",
+        hasher: ScriptHash::Id, capacity: 0, steps: steps! {
+            Upserts(1, 10, None), Upserts(1, 11, Some(10)), Upserts(2, 5, None), Len(2),
+            Holds(1, Some(11)), Returns(1, 12), Upserts(1, 13, Some(11)), Len(2) } },
+    Story { name: "an update writes where a pair is there, and makes none",
+        hasher: ScriptHash::Id, capacity: 0, steps: steps! {
+            Updates(1, None), Len(0), Slots(0), Inserts(1, 10), Updates(1, Some((1, 10))),
+            Updates(1, Some((1, 11))), Updates(2, None), Holds(1, Some(12)), Len(1) } },
+    Story { name: "a removal takes a pair out once",
+        hasher: ScriptHash::Id, capacity: 0, steps: steps! {
+            Removes(1, None), Inserts(1, 10), Inserts(2, 20), Removes(1, Some((1, 10))),
+            Removes(1, None), Holds(1, None), Holds(2, Some(20)), Len(1), Inserts(1, 11),
+            Removes(1, Some((1, 11))) } },
+    Story { name: "pairs are the same before, amid and after a growth",
+        hasher: ScriptHash::Spread, capacity: 0, steps: steps! {
+            Fills(0, 31), Fills(128, 159), Slots(64), Len(62), Inserts(31, 31), Slots(128), Len(63),
+            Holds(5, Some(5)), Holds(158, Some(158)), Updates(5, Some((5, 5))), Slots(128),
+            Len(63), Holds(5, Some(6)), Upserts(130, 1, Some(130)), Removes(130, Some((130, 1))),
+            Len(62) } },
+    Story { name: "a removal and an upsert amid a growth find the pair where it is",
+        hasher: ScriptHash::Spread, capacity: 0, steps: steps! {
+            Fills(0, 31), Fills(128, 159), Fills(31, 32), Slots(128), Removes(7, Some((7, 7))),
+            Upserts(8, 9, Some(8)), Holds(7, None), Holds(8, Some(9)), Len(62) } },
+    Story { name: "keys of one hash make a chain", hasher: ScriptHash::Zero, capacity: 0,
+        steps: steps! {
+            Fills(0, 100), Slots(64), Len(100), Removes(50, Some((50, 50))), Returns(99, 1),
+            Holds(99, Some(99)), Updates(33, Some((33, 33))), Drains(51, 100), Len(50) } },
+    Story { name: "the first array has room for what is asked for", hasher: ScriptHash::Id,
+        capacity: 100, steps: steps! { Slots(0), Inserts(1, 1), Slots(128) } },
+    Story { name: "a minimum is raised, and given back", hasher: ScriptHash::Spread, capacity: 100,
+        steps: steps! {
+            Reserves(28, 28), Slots(0), Inserts(255, 255), Slots(128), Reserves(3968, 3968),
+            Slots(4096), Len(1), Holds(255, Some(255)), Updates(255, Some((255, 255))), Shrinks,
+            Slots(64), Holds(255, Some(256)), Len(1) } },
+    Story { name: "no minimum passes the greatest number of slots", hasher: ScriptHash::Id,
+        capacity: 1, steps: steps! {
+            Reserves(MOST, 0), Reserves(MOST - 1, MOST - 1), Reserves(1, 0), Reserves(0, 0),
+            Refuses(1, 10), Len(0), Shrinks, Reserves(1, 1), Inserts(1, 10), Slots(64) } },
+    // An array that stands stays, and takes pairs.
+    Story { name: "a minimum is raised where there is no memory for it", hasher: ScriptHash::Id,
+        capacity: 0, steps: steps! {
+            Inserts(1, 10), Reserves(MOST, MOST), Slots(64), Inserts(2, 20), Holds(1, Some(10)),
+            Clears, Refuses(3, 30), Shrinks, Inserts(3, 30), Slots(64), Len(1) } },
+    Story { name: "a cleared map keeps its minimum", hasher: ScriptHash::Spread, capacity: 100,
+        steps: steps! {
+            Fills(0, 40), Slots(128), Clears, Len(0), Slots(0), Holds(5, None), Removes(5, None),
+            Clears, Inserts(5, 6), Slots(128), Len(1), Holds(5, Some(6)) } },
+    Story { name: "a map is cleared amid a growth", hasher: ScriptHash::Spread, capacity: 0,
+        steps: steps! {
+            Fills(0, 31), Fills(128, 159), Fills(31, 32), Slots(128), Clears, Len(0), Slots(0),
+            Inserts(200, 1), Slots(64), Len(1) } }
+};
+
+#[test]
+fn maps_go_through_their_stories(rt: HostRuntime) -> Result<(), Fail> {
+    for story in STORIES {
+        let mut map: Map = HashMap::with_capacity(rt.alloc(), story.hasher, story.capacity);
+        for (row, step) in story.steps.iter().enumerate() {
+            take(&rt, &mut map, (story.name, row), step)?;
+            check_same(&rt, *map.hasher(), story.hasher, (story.name, row));
+        }
+    }
+    Ok(())
+}
+
+// Takes a step that puts pairs, and compares what it answers.
+fn take(rt: &impl Abort, map: &mut Map, at: At, step: &Step) -> Result<(), Fail> {
+    match step {
+        Fills(from, to) => {
+            for key in *from..*to {
+                map.insert(key, key)?;
+            }
+        }
+        Inserts(key, value) => map.insert(*key, *value)?,
+        Returns(key, value) => match map.insert(*key, *value) {
+            Err(NotInserted::Present(own, back)) => {
+                check_same(rt, (own, back), (*key, *value), at);
+            }
+            _ => check_same(rt, true, false, (at, "inserted")),
+        },
+        Refuses(key, value) => {
+            match map.insert(*key, *value) {
+                Err(NotInserted::Memory(own, back)) => {
+                    check_same(rt, (own, back), (*key, *value), at);
+                }
+                _ => check_same(rt, true, false, (at, "inserted")),
+            }
+            check_same(rt, map.upsert(*key, *value), Err((*key, *value)), at);
+        }
+        Upserts(key, value, earlier) => {
+            check_same(rt, map.upsert(*key, *value), Ok(*earlier), at);
+        }
+        _ => change(rt, map, at, step),
+    }
+    Ok(())
+}
+
+// Takes a step that takes or writes pairs, or sets the minimum.
+fn change(rt: &impl Abort, map: &mut Map, at: At, step: &Step) {
+    match step {
+        Updates(key, pair) => check_same(rt, map.update(key, add_one), *pair, at),
+        Removes(key, pair) => check_same(rt, map.remove(key), *pair, at),
+        Drains(from, to) => {
+            for key in *from..*to {
+                check_same(rt, map.remove(&key), Some((key, key)), (at, key));
+            }
+        }
+        Reserves(additional, raised) => check_same(rt, map.reserve(*additional), *raised, at),
+        Shrinks => map.shrink_to_fit(),
+        Clears => map.clear(),
+        _ => look(rt, map, at, step),
+    }
+}
+
+// Adds one to a value, and returns the pair that was there.
+fn add_one(key: &u64, value: &mut u64) -> (u64, u64) {
+    let earlier = *value;
+    *value = earlier.wrapping_add(1);
+    (*key, earlier)
+}
+
+// Takes a step that looks.
+fn look(rt: &impl Abort, map: &Map, at: At, step: &Step) {
+    match step {
+        Holds(key, value) => {
+            let found = (map.get(key).copied(), map.contains(key));
+            check_same(rt, found, (*value, value.is_some()), at);
+        }
+        Len(len) => {
+            check_same(rt, (map.len(), map.is_empty()), (*len, *len == 0), at);
+            check_same(rt, met(map), Some(*len), (at, "for_each"));
+        }
+        Slots(slots) => check_same(rt, map.capacity(), *slots, at),
+        _ => check_same(rt, true, false, (at, "no step")),
+    }
+}
+
+// How many pairs `for_each` hands over: keys below 256, each once and with its value, or else none.
+fn met(map: &Map) -> Option<usize> {
+    let mut is_met = [false; 256];
+    let mut came = Some(0usize);
+    let mut meet = |key: &u64, value: &u64| {
+        let is_new = match is_met.get_mut(*key as usize) {
+            Some(place) => !std::mem::replace(place, true),
+            None => false,
+        };
+        came = match came {
+            Some(before) if is_new && map.get(key) == Some(value) => Some(before.saturating_add(1)),
+            _ => None,
+        };
+    };
+    map.for_each(&mut meet);
+    came
+}

@@ -1,0 +1,29 @@
+#!/usr/bin/env bash
+# Runs crates/refused_collections with requests for memory refused by chance, others in each run. The
+# program judges each answer of its maps itself: see the head of its main.rt.
+#
+# Needs rt and a C compiler cc on the PATH. Ends with status 0 where every run was right and pairs
+# were refused in it under each hash, else with 1.
+set -u
+source "$(dirname "${BASH_SOURCE[0]}")/lib/refusing.sh"
+prepare_refusing refused_collections
+
+# How many runs there are, and the words of a line that says how many pairs were refused.
+runs=8
+count='s/^.* \([0-9][0-9]*\) refused, right$/\1/p'
+
+requests=0
+pairs=0
+for ((seed = 1; seed <= runs; seed++)); do
+    run_by_chance "$seed" </dev/null
+    [ "$status" = 0 ] || fail "seed $seed: status $status"
+    mapfile -t refused < <(sed -n "$count" "$folder/output")
+    [ "${#refused[@]}" = 3 ] || fail "seed $seed: ${#refused[@]} of three maps were right"
+    for pairs_of_one in "${refused[@]}"; do
+        ((pairs_of_one > 0)) || fail "seed $seed: no pair was refused under one of the hashes"
+        pairs=$((pairs + pairs_of_one))
+    done
+    requests=$((requests + refusals))
+done
+
+echo "$runs runs: $requests requests and $pairs pairs refused, every answer right"
