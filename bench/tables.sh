@@ -1,8 +1,8 @@
 #!/usr/bin/env bash
-# Prints what calls cost on a table that grew from nothing, on the kit's `HashMap` and, where
-# `rustc` is there, on that of Rust's standard library: one hash, the same keys, the maps in turn in
-# each round. A figure is a median, with the least and the greatest; ratios are of medians. It
-# asserts nothing.
+# Prints what calls cost on a table that grew from nothing, on the `HashMap` of the collections over
+# it, on the kit's and, where `rustc` is there, on that of Rust's standard library: one hash, the
+# same keys, the maps in turn in each round. A figure is a median, with the least and the greatest;
+# ratios are of medians. It asserts nothing.
 #
 # Called as `bench/tables.sh [-i] [-p] [ROUNDS]`. With -i it prints instructions a call as well,
 # where `valgrind` is there. With -p it draws docs/calls.svg and docs/insertions.svg anew, by
@@ -31,16 +31,16 @@ if ! (cd "$root/crates/table_bench" && rt run) >"$folder/log" 2>&1; then
     exit 1
 fi
 program=$root/crates/table_bench/out/table_bench
-maps="table kit"
+maps="table collections kit"
 if command -v rustc >/dev/null; then
     rustc -O --edition 2021 -o "$folder/std_map" "$root/bench/std_map.rs"
-    maps="table kit std"
+    maps="table collections kit std"
 fi
 
 # run MAP COURSE PAIRS, with a command in front where there are more words: runs a course.
 run() {
     case $1 in
-        table) "${@:4}" "$program" table "$2" "$3" ;;
+        table | collections) "${@:4}" "$program" "$1" "$2" "$3" ;;
         kit) "${@:4}" "$program" map "$2" "$3" ;;
         std) "${@:4}" "$folder/std_map" "$2" "$3" ;;
     esac
@@ -173,5 +173,7 @@ if [ -n "$with_pictures" ]; then
     for file in "$folder"/*-*; do
         sort -g -o "$file" "$file"
     done
-    gnuplot -e "folder = '$folder'; maps = '$maps'; docs = '$root/docs'" "$root/bench/pictures.gnuplot"
+    drawn=${maps/collections /}
+    gnuplot -e "folder = '$folder'; maps = '$drawn'; docs = '$root/docs'" \
+        "$root/bench/pictures.gnuplot"
 fi

@@ -1,17 +1,20 @@
-//! What calls on a table cost, beside the standard library's map under the same hash.
+//! What calls on a table cost, and on a map over it, beside the standard library's map under the
+//! same hash.
 //!
-//! The arguments say what runs: `table` or `map`, then `calls`, `large` or `single`, and a number
-//! of pairs; or `arrays`. Small numbers of pairs run several times. Without arguments all courses
-//! run once, over few pairs, and nothing is printed that varies.
+//! The arguments say what runs: `table`, `collections` or `map`, then `calls`, `large` or `single`,
+//! and a number of pairs; or `arrays`. Small numbers of pairs run several times. Without arguments
+//! all courses run once, over few pairs, and nothing is printed that varies.
 #![tactic(auto)]
 
 mod arrays;
+mod collected;
 mod course;
 mod hashes;
 mod measured;
 mod resident;
 
 use crate::arrays::run_arrays;
+use crate::collected::Collected;
 use crate::course::{run_calls, run_large, run_single};
 use crate::measured::{Map, Measured, Table};
 use std::{env, io};
@@ -34,10 +37,11 @@ fn main(rt: HostRuntime) -> io::Result<()> {
         return Err(io::Error::from(io::ErrorKind::InvalidInput));
     };
     for _ in 0..(PAIRS / pairs.max(1)).max(1) {
-        if what.as_str() == "table" {
-            run_course::<Table>(&rt, course.as_str(), pairs)?;
-        } else {
-            run_course::<Map>(&rt, course.as_str(), pairs)?;
+        match what.as_str() {
+            "table" => run_course::<Table>(&rt, course.as_str(), pairs)?,
+            "collections" => run_course::<Collected>(&rt, course.as_str(), pairs)?,
+            "map" => run_course::<Map>(&rt, course.as_str(), pairs)?,
+            _ => return Err(io::Error::from(io::ErrorKind::InvalidInput)),
         }
     }
     Ok(())
@@ -58,6 +62,8 @@ fn run_all(rt: &HostRuntime) -> io::Result<()> {
     run_arrays(rt, false)?;
     println!(rt; "table")?;
     run_small::<Table>(rt)?;
+    println!(rt; "collections")?;
+    run_small::<Collected>(rt)?;
     println!(rt; "map")?;
     run_small::<Map>(rt)
 }
