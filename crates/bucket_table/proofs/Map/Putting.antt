@@ -6,11 +6,12 @@ use Rattle.bucket_table.proofs.Words.{buckets_on, flattened, free, is_free, leng
 use Rattle.bucket_table.proofs.Words.{slot_at, slots_after_insertion, slots_touched, subst, Contains-append_left, get_or-set_same, sym}
 use Rattle.bucket_table.proofs.Words.{true, ℕ, ◌%◌, ◌<◌, ◌↔◌, ◌∙◌, ◌∷◌, ◌≡◌}
 use Rattle.std.proofs.Common.{IsNone, OnSome}
-use Rattle.std.specs.List.{Contains}
+use Rattle.std.specs.List.{Contains, position}
 use Rattle.bucket_slots.specs.BucketView.{first_place}
 use Rattle.bucket_slots.specs.Clearing.{slots_for_insertion}
 use Rattle.bucket_slots.specs.Evicting.{slot_to_evict, slots_evicted}
 use Rattle.bucket_slots.specs.Placing.{place_for_next, slots_with}
+use Rattle.bucket_slots.proofs.BucketRecency.{none_free}
 use Rattle.bucket_slots.proofs.ChangedSlots.{live_inside}
 use Rattle.bucket_slots.proofs.FirstPlaces.{first_from-None}
 use Rattle.bucket_table.specs.Map.ByKey.{Evicts}
@@ -43,7 +44,23 @@ module _ {K V : Type 0} where
       let within = live_inside s.own pos (live_from_pair (slot_at s.own pos) pair went.1) in
       (pos, rw length-set within, get_or-set_same s.own pos free free within)
 
-  -- so a place is
+  placed_own : (t : BucketView K V) (pair : K × V) (byte : ℕ) (found : Option ℕ) → position is_free t.own ≡ found → Contains t.own free
+      → (slots_with t pair byte).chain ≡ t.chain
+  placed_own t pair byte None is has = absurd (none_free t.own is has)
+  placed_own t pair byte (Some pos) is has = rw is refl
+
+  same_chain : (s : BucketView K V) (gone : Option (K × V)) → (slots_left s gone).chain ≡ s.chain
+  same_chain s None = refl
+  same_chain s (Some pair) = refl
+
+  -- the pair stands there, so the chain stays
+  pub chain-slots_put : (keeps : Bool) (s : BucketView K V) (gone : Option (K × V)) (pair : K × V) (byte : ℕ) → Goes s gone
+      → (slots_put keeps (slots_left s gone) pair byte).chain ≡ s.chain
+  chain-slots_put keeps s gone pair byte went =
+      let t = slots_left s gone in
+      placed_own t pair byte (position is_free t.own) refl (left_free s gone went) ∙ same_chain s gone
+
+  -- and a place is
   left_room : (s : BucketView K V) (gone : Option (K × V)) → Goes s gone → first_place is_free (slots_left s gone) ≡ None → ⊥
   left_room s gone went none =
       let t = slots_left s gone in
