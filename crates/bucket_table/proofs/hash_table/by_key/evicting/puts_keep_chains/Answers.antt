@@ -1,4 +1,4 @@
-use Rattle.bucket_table.proofs.Map.Putting.{chain-slots_put}
+use Rattle.bucket_table.proofs.Map.PutSlots.{chain-slots_put}
 use Rattle.bucket_table.proofs.hash_table.by_key.evicting.puts_keep_chains.Goals as goal
 
 pub returns : goal.returns
