@@ -9,6 +9,7 @@ pub mod LockedSteps
 pub mod Inserting
 pub mod Upserting
 pub mod Evicting
+pub mod PutSlots
 pub mod Putting
 pub mod Finding
 pub mod Preparing

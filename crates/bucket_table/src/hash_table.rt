@@ -40,6 +40,7 @@ pub use crate::tickets::{REF_COUNT_BITS, REHASHING_UNIT_LEN, TicketError};
 use bucket_slots::bucket::BUCKET_LEN;
 use bucket_slots::bucket_array::BucketArray;
 use bucket_slots::lru::LruList;
+pub use by_key::puts_keep_chains;
 pub use locked_bucket::LockedBucket;
 use std::alloc::Global;
 use std::marker::Model;

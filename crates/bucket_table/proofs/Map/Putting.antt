@@ -1,18 +1,10 @@
 -- A pair put into a locked bucket of a cache, after what goes for it, and what that makes of the table in which the bucket was found.
-use Rattle.bucket_table.proofs.Words.{All-permutation, All-tail, ArraysView, Bool, BucketView, CACHE, Err, IfNone, IfSome, IsAbsent}
-use Rattle.bucket_table.proofs.Words.{IsEquivalence, false, IsHome, IsLocked, IsOneMap, IsPermutation-refl, IsPermutation-trans}
-use Rattle.bucket_table.proofs.Words.{KeepsPairs, MapState, None, Ok, Option, Place, Result, Some, TableView, ap, arrays_with, bucket_at}
-use Rattle.bucket_table.proofs.Words.{buckets_on, flattened, free, is_free, length, length-set, live_from_pair, live_pair, pairs_of, refl}
-use Rattle.bucket_table.proofs.Words.{slot_at, slots_after_insertion, slots_touched, subst, Contains-append_left, get_or-set_same, sym}
-use Rattle.bucket_table.proofs.Words.{true, ℕ, ◌%◌, ◌<◌, ◌↔◌, ◌∙◌, ◌∷◌, ◌≡◌}
-use Rattle.std.proofs.Common.{IsNone, OnSome}
-use Rattle.std.specs.List.{Contains}
-use Rattle.bucket_slots.specs.BucketView.{first_place}
-use Rattle.bucket_slots.specs.Clearing.{slots_for_insertion}
-use Rattle.bucket_slots.specs.Evicting.{slot_to_evict, slots_evicted}
+use Rattle.bucket_table.proofs.Words.{All-permutation, All-tail, ArraysView, Bool, BucketView, CACHE, Err, IsAbsent, IsEquivalence, false}
+use Rattle.bucket_table.proofs.Words.{IsHome, IsLocked, IsOneMap, IsPermutation-refl, IsPermutation-trans, KeepsPairs, MapState, None, Ok}
+use Rattle.bucket_table.proofs.Words.{Option, Result, Some, TableView, ap, arrays_with, bucket_at, buckets_on, length, length-set}
+use Rattle.bucket_table.proofs.Words.{pairs_of, refl, slots_after_insertion, slots_touched, subst, sym, true, ℕ, ◌%◌, ◌<◌, ◌∙◌, ◌∷◌, ◌≡◌}
+use Rattle.bucket_slots.specs.Evicting.{slots_evicted}
 use Rattle.bucket_slots.specs.Placing.{place_for_next, slots_with}
-use Rattle.bucket_slots.proofs.ChangedSlots.{live_inside}
-use Rattle.bucket_slots.proofs.FirstPlaces.{first_from-None}
 use Rattle.bucket_table.specs.Map.ByKey.{Evicts}
 use Rattle.bucket_table.specs.Map.Finding.{FindsBucket}
 use Rattle.bucket_table.specs.Map.MapState.{AddsPair, state_of}
@@ -26,59 +18,7 @@ use Rattle.bucket_table.proofs.Map.MapSteps.{Leaves, evicted, inserted, set_agai
 use Rattle.bucket_table.proofs.Map.TakeSteps.{absent_before}
 use Rattle.bucket_table.proofs.Scripts.CallSteps.{then_added, then_kept, there_before}
 use Rattle.bucket_table.proofs.Views.SideChanges.{buckets_on-arrays_with, changeable_locked}
-
-module _ {K V : Type 0} where
-  -- what an eviction says of a bucket
-  pub goes : (s t : BucketView K V) (r : Option (K × V)) → IsNone r ↔ Contains s.own free
-      → IfSome r (λ pair. live_pair (slot_at s.own (slot_to_evict s)) ≡ Some pair) → OnSome r (t ≡ slots_evicted s) → IfNone r (t ≡ s)
-      → Goes s r × (t ≡ slots_left s r)
-  goes s t None none there gone same = (none.0 refl, same)
-  goes s t (Some pair) none there gone same = ((λ has. let no = none.1 has in absurd cc, there), gone)
-
-  -- an own slot is free then
-  left_free : (s : BucketView K V) (gone : Option (K × V)) → Goes s gone → Contains (slots_left s gone).own free
-  left_free s None has = has
-  left_free s (Some pair) went =
-      let pos = slot_to_evict s in
-      let within = live_inside s.own pos (live_from_pair (slot_at s.own pos) pair went.1) in
-      (pos, rw length-set within, get_or-set_same s.own pos free free within)
-
-  -- so a place is
-  left_room : (s : BucketView K V) (gone : Option (K × V)) → Goes s gone → first_place is_free (slots_left s gone) ≡ None → ⊥
-  left_room s gone went none =
-      let t = slots_left s gone in
-      let has = Contains-append_left t.own (flattened t.chain) free (left_free s gone went) in
-      let no = first_from-None is_free 0 (t.own ∷ t.chain) none has.0 free has.1 in
-      let yes = ap is_free has.2 in
-      absurd cc
-
-  -- an insertion into a cache looks at no mark
-  for_insertion-cache : (kind : ℕ) (keeps : ℕ → Bool) (s : BucketView K V) → kind ≡ CACHE → slots_for_insertion kind keeps s ≡ s
-  for_insertion-cache kind keeps s cache = rw cache refl
-
-  after_insertion-cache : (kind : ℕ) (keeps : ℕ → Bool) (s : BucketView K V) (pair : K × V) (byte : ℕ) → kind ≡ CACHE
-      → slots_after_insertion kind keeps s pair byte ≡ slots_with s pair byte
-  after_insertion-cache kind keeps s pair byte cache = rw cache refl
-
-module _ {K V : Type 0} (kind : ℕ) (marks : ℕ → Bool) (s t : BucketView K V) (gone : Option (K × V)) (cache : kind ≡ CACHE)
-    (is : t ≡ slots_left s gone) where
-  -- so it isn't refused
-  pub never_full : Goes s gone → first_place is_free (slots_for_insertion kind marks t) ≡ None → ⊥
-  never_full went none = left_room s gone went
-      (subst (λ (b : BucketView K V). first_place is_free b ≡ None) (for_insertion-cache kind marks t cache ∙ is) none)
-
-  -- and what it leaves, once the pair is touched
-  pub put_is : (keeps : Bool) (pair : K × V) (byte : ℕ) (at : Place) (after new : BucketView K V)
-      → at ≡ place_for_next (slots_for_insertion kind marks t) → after ≡ slots_after_insertion kind marks t pair byte
-      → new ≡ slots_touched keeps after at → new ≡ slots_put keeps (slots_left s gone) pair byte
-  put_is keeps pair byte at after new place put touched =
-      let b = slots_left s gone in
-      let in_it : after ≡ slots_with b pair byte = put ∙ after_insertion-cache kind marks t pair byte cache
-      ∙ ap (λ (u : BucketView K V). slots_with u pair byte) is in
-      let there : at ≡ place_for_next b = place
-      ∙ ap (λ (u : BucketView K V). place_for_next u) (for_insertion-cache kind marks t cache ∙ is) in
-      touched ∙ ap (λ (u : BucketView K V). slots_touched keeps u at) in_it
-      ∙ ap (λ (q : Place). slots_touched keeps (slots_with b pair byte) q) there
+use Rattle.bucket_table.proofs.Map.PutSlots.{after_insertion-cache}
 
 module _ {K V H : Type 0} where
   others_after : (a b d : MapState K V H) → b ≡ record a { pairs = b.pairs } → d ≡ record b { pairs = d.pairs }

@@ -30,6 +30,7 @@ use crate::hash_table::{HashTable, NotInserted};
 use crate::key_hash::KeyHash;
 use bucket_slots::bucket::{Bucket, CACHE, Generation, INDEX};
 use bucket_slots::lru::LruList;
+pub use evicting::puts_keep_chains;
 use std::mem;
 
 impl<K: Eq + Drop, V: Drop, H: KeyHash<K>, L: LruList + Drop, const TYPE: u8> HashTable<

@@ -1,12 +1,13 @@
 //! Calls by key that evict a pair of a cache.
 //!
 //! Own.
-ghost use Rattle.std.specs.Prelude.{◌≡◌, ◌%◌, IsOk, length};
+ghost use Rattle.std.specs.Prelude.{◌≡◌, ◌%◌, ℕ, Bool, IsOk, Option, length};
 ghost use Rattle.bucket_slots.specs.BucketView.{BucketView};
 ghost use Rattle.bucket_slots.specs.Homes.{IsHome};
 ghost use Rattle.bucket_table.specs.Map.ByKey.{Evicts, EvictsAt, PreparesThen};
 ghost use Rattle.bucket_table.specs.Map.MapState.{state_of};
-ghost use Rattle.bucket_table.specs.Map.Putting.{Puts, PutsIn, PutsThen};
+ghost use Rattle.bucket_table.specs.Map.Putting.{Goes, Puts, PutsIn, PutsThen};
+ghost use Rattle.bucket_table.specs.Map.Putting.{slots_left, slots_put};
 ghost use Rattle.bucket_table.specs.Views.Keeping.{KeepsOpenTickets};
 ghost use Rattle.bucket_table.specs.Views.Locking.{IsLocked};
 ghost use Rattle.bucket_table.specs.Views.Sides.{bucket_of, buckets_on, with_bucket};
@@ -123,3 +124,10 @@ fn put_in<K: Eq + Drop, V: Drop, L: LruList, const TYPE: u8>(
     bucket.update_lru_tail(&at);
     Ok(gone)
 }
+
+/// No work: a put stands its pair in an own slot, so that it changes no chain. Own.
+pub fn puts_keep_chains<K, V>()
+    ensures { (keeps : Bool) (bucket : BucketView K V) (gone : Option (K × V)) (pair : K × V)
+        (byte : ℕ) → Goes bucket gone
+        → (slots_put keeps (slots_left bucket gone) pair byte).chain ≡ bucket.chain }
+{}

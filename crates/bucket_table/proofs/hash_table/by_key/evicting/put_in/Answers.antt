@@ -1,7 +1,7 @@
 use Rattle.bucket_table.proofs.Words.{rules, true, ◌%◌}
 use Rattle.bucket_slots.proofs.RoomCallerLemmas.{refused_full}
 use Rattle.bucket_table.proofs.Map.LookUps.{null_is}
-use Rattle.bucket_table.proofs.Map.Putting.{goes, never_full, put_is}
+use Rattle.bucket_table.proofs.Map.PutSlots.{goes, never_full, put_is}
 use Rattle.bucket_table.proofs.hash_table.by_key.evicting.put_in.Goals as goal
 
 pub unreachable-requires : goal.unreachable-requires
