@@ -53,7 +53,8 @@ module _ {K H : Type 0} (eq : K → K → Bool) (laws : IsEquivalence eq) where
   -- an empty map counts the keys of no list
   pub counts_none : (counts : MapView K ℕ H) → IsEmpty counts → Counts eq [] counts × IsUnique eq counts
   unfolding IsDistinct
-  counts_none counts empty = (λ key. ap (lookup (eq key)) empty, subst (λ (entries : List (K × ℕ)). IsDistinct eq (keys_of entries)) (sym empty) (search rules))
+  counts_none counts empty =
+      (λ key. ap (lookup (eq key)) empty, subst (λ (entries : List (K × ℕ)). IsDistinct eq (keys_of entries)) (sym empty) (search rules))
 
   module _ (keys : List K) (place : ℕ) (key : K) (old : MapView K ℕ H) (below : place < length keys) (item : key ≡ get_or keys place key)
       (counts : Counts eq (take place keys) old) (changes : Bor K → MutBor ℕ → Unit {0} → MutBor ℕ → Type 0) where

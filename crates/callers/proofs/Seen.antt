@@ -64,8 +64,8 @@ or_false : (b : Bool) → (b || false) ≡ b
 or_false true = refl
 or_false false = refl
 
-module _ {K H : Type 0} (eq : K → K → Bool) (laws : IsEquivalence eq) (keys : List K) (place : ℕ) (key : K) (old new : MapView K (Unit {0}) H)
-    (below : place < length keys) (item : key ≡ get_or keys place key) (seen : IsSetOf eq (take place keys) old) where
+module _ {K H : Type 0} (eq : K → K → Bool) (laws : IsEquivalence eq) (keys : List K) (place : ℕ) (key : K)
+    (old new : MapView K (Unit {0}) H) (below : place < length keys) (item : key ≡ get_or keys place key) (seen : IsSetOf eq (take place keys) old) where
   any_more : (q : K) → list_any (eq q) (take (place + 1) keys) ≡ (list_any (eq q) (take place keys) || eq q key)
   any_more q = list_any_more (eq q) keys place key below ∙ ap (λ (k : K). list_any (eq q) (take place keys) || eq q k) (sym item)
 
@@ -74,10 +74,12 @@ module _ {K H : Type 0} (eq : K → K → Bool) (laws : IsEquivalence eq) (keys 
   seen_new updates q = elim (cases_Bool (eq key q)) [
     | inl hit ↦
         ap is_some (updates q ∙ ap (λ (b : Bool). cond b (Some tt) (get eq old q)) hit)
-        ∙ sym (any_more q ∙ ap (λ (b : Bool). list_any (eq q) (take place keys) || b) (laws.symm q key ∙ hit) ∙ or_true (list_any (eq q) (take place keys)))
+        ∙ sym (any_more q ∙ ap (λ (b : Bool). list_any (eq q) (take place keys) || b) (laws.symm q key ∙ hit)
+        ∙ or_true (list_any (eq q) (take place keys)))
     | inr miss ↦
         ap is_some (updates q ∙ ap (λ (b : Bool). cond b (Some tt) (get eq old q)) miss) ∙ seen q
-        ∙ sym (any_more q ∙ ap (λ (b : Bool). list_any (eq q) (take place keys) || b) (laws.symm q key ∙ miss) ∙ or_false (list_any (eq q) (take place keys)))
+        ∙ sym (any_more q ∙ ap (λ (b : Bool). list_any (eq q) (take place keys) || b) (laws.symm q key ∙ miss)
+        ∙ or_false (list_any (eq q) (take place keys)))
   ]
 
   pub firsts_new : get eq old key ≡ None → firsts_of eq (take (place + 1) keys) ≡ firsts_of eq (take place keys) ++ key ∷ []

@@ -1,5 +1,5 @@
-//! Callers of the collections, as a user writes them, each with a contract that is proved from those
-//! of the calls.
+//! Callers of the collections, as a user writes them, each with a contract that is proved from
+//! those of the calls.
 //!
 //! SPDX-License-Identifier: Apache-2.0
 #![tactic(auto)]

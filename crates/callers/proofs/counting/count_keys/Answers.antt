@@ -7,13 +7,19 @@ pub loop-key-init : goal.loop-key-init
 loop-key-init g c = counts_none g.K.PartialEq.eq g.met.K.Eq.laws c.args.counts.now c.requires.empty
 
 pub loop-key-preserved : goal.loop-key-preserved
-loop-key-preserved g c = elim c.else-is_none.branch [
-  | else-is_none-via-then-is_none+else-is_err w ↦ rw w.counts-is (counts_put g.K.PartialEq.eq g.met.K.Eq.laws c.args.keys.now c.loop-key.key-index
-      c.key-item.result c.loop-key.counts c.loop-key-test.true c.key-item.is c.loop-key.invariant.0 _ c.update-raised.result c.update-raised.new.self
-      w.insert.new.self w.insert.result (c.is_none.ensures ∙ ap not w.if-is_none.true) (search (rules, w.is_err.ensures, w.if-is_err.false)) c.update-raised.ensures
-      w.insert.ensures)
-  | else-is_none-via-else-is_none w ↦ rw w.counts-is (counts_raised g.K.PartialEq.eq g.met.K.Eq.laws c.args.keys.now c.loop-key.key-index
-      c.key-item.result c.loop-key.counts c.loop-key-test.true c.key-item.is c.loop-key.invariant.0 _ (search rules)
-      (λ own before after changed. first_of (search (rules, changed), grind (arith, changed))) c.update-raised.result c.update-raised.new.self (c.is_none.ensures ∙ ap not w.if-is_none.false)
-      c.update-raised.ensures)
-]
+loop-key-preserved g c =
+    let eq = g.K.PartialEq.eq in
+    let laws = g.met.K.Eq.laws in
+    let keys = c.args.keys.now in
+    let at = c.loop-key in
+    let raised = c.update-raised in
+    elim c.else-is_none.branch [
+      | else-is_none-via-then-is_none+else-is_err w ↦ rw w.counts-is (counts_put eq laws keys at.key-index c.key-item.result at.counts
+          c.loop-key-test.true c.key-item.is at.invariant.0 _ raised.result raised.new.self w.insert.new.self w.insert.result
+          (c.is_none.ensures ∙ ap not w.if-is_none.true) (search (rules, w.is_err.ensures, w.if-is_err.false)) raised.ensures
+          w.insert.ensures)
+      | else-is_none-via-else-is_none w ↦ rw w.counts-is (counts_raised eq laws keys at.key-index c.key-item.result at.counts
+          c.loop-key-test.true c.key-item.is at.invariant.0 _ (search rules)
+          (λ own before after changed. first_of (search (rules, changed), grind (arith, changed)))
+          raised.result raised.new.self (c.is_none.ensures ∙ ap not w.if-is_none.false) raised.ensures)
+    ]

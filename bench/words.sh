@@ -1,0 +1,63 @@
+#!/usr/bin/env bash
+# Prints how long crates/word_count takes to count the lines of a file, and how long
+# `sort | uniq -c | sort -rn` takes, in turn in each round: a median, with the least and the
+# greatest, in milliseconds. The file has 1,000,000 lines of 100,000 words, some far more often than
+# others. It asserts only that both print the same counts and lines.
+#
+# Called as `bench/words.sh [ROUNDS]`. Without a number there are 5 rounds.
+set -eu
+export LC_ALL=C
+root=$(dirname -- "$(dirname -- "$(readlink -f -- "${BASH_SOURCE[0]}")")")
+rounds=${1:-5}
+
+folder=$(mktemp -d)
+trap 'rm -r "$folder"' EXIT
+
+# The program is proved and built where it has to be.
+if ! (cd "$root/crates/word_count" && rt run) >"$folder/log" 2>&1; then
+    cat "$folder/log" >&2
+    exit 1
+fi
+program=$root/crates/word_count/out/word_count
+
+# The square of a number drawn evenly from 0 to 1 is often small: words of low numbers come often.
+awk 'BEGIN {
+    srand(1)
+    for (line = 0; line < 1000000; line++) {
+        drawn = rand()
+        print "word " int(drawn * drawn * 100000)
+    }
+}' >"$folder/words"
+
+count_by_table() {
+    "$program" <"$folder/words" >"$folder/table"
+}
+
+count_by_sort() {
+    sort "$folder/words" | uniq -c | sort -rn >"$folder/sorted"
+}
+
+# Milliseconds of a command.
+timed() {
+    local begun
+    begun=$(date +%s%N)
+    "$@"
+    echo $((($(date +%s%N) - begun) / 1000000))
+}
+
+for ((round = 0; round < rounds; round++)); do
+    for way in table sort; do
+        echo "$way $(timed "count_by_$way")"
+    done
+done >"$folder/times"
+
+# The same counts and lines, in whatever order lines of one count come.
+diff <(sort "$folder/table") <(sed 's/^ *//' "$folder/sorted" | sort) >"$folder/log" ||
+    { echo "bench/words.sh: the two disagree" >&2 && exit 1; }
+
+echo "$(wc -l <"$folder/words") lines, $(wc -l <"$folder/table") of them different"
+for way in table sort; do
+    grep "^$way " "$folder/times" | cut -d ' ' -f 2 | sort -n | awk -v way="$way" '
+        { time[NR] = $1 }
+        END { printf "%s: %d ms (%d to %d)\n", way, time[int((NR + 1) / 2)], time[1], time[NR] }'
+done
