@@ -2,3 +2,4 @@
 pub mod Maps
 pub mod Changes
 pub mod Room
+pub mod CacheLoans
