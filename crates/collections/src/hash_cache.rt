@@ -5,18 +5,21 @@
 //!
 //! Ports scc's `src/hash_cache.rs` to an owned cache: a borrow stands where scc locks.
 ghost use Rattle.std.specs.Prelude.{◌≡◌, ◌↔◌, ◌^◌, ◌*◌, ◌-◌, [], IsTrue, is_some, length, max, min};
+ghost use Rattle.std.specs.Prelude.{true};
 ghost use Rattle.std.specs.Borrow.{sem};
 ghost use Rattle.std.specs.Option.{option_copied};
 ghost use Rattle.bucket_slots.specs.Sizing.{IsLeastPowerOfTwo};
 ghost use Rattle.bucket_slots.specs.Walking.{CallsEach};
+ghost use Rattle.bucket_table.specs.Map.Putting.{PutsThen};
 ghost use Rattle.bucket_table.specs.Rehash.State.{first_tickets};
 ghost use Rattle.bucket_table.specs.Views.ArraysView.{pairs_of};
-ghost use Rattle.collections.specs.Changes.{Removes};
+ghost use Rattle.collections.specs.Changes.{Puts, Removes};
 ghost use Rattle.collections.specs.Maps.{contains, get, IsEmpty, map_len, map_of};
 
 use crate::room::{Fits, TableRoom};
 use bucket_slots::bucket::CACHE;
 use bucket_slots::lru::DoublyLinkedList;
+pub use bucket_table::hash_table::NotInserted;
 use bucket_table::hash_table::{HashTable, MAXIMUM_CAPACITY_LIMIT};
 use bucket_table::key_hash::KeyHash;
 use std::alloc::Global;
@@ -191,6 +194,27 @@ impl<K: Eq + Drop, V: Drop, H: KeyHash<K>> HashCache<K, V, H> {
             Some((_, value)) => Some(value),
             None => None,
         }
+    }
+
+    /// Puts a pair whose key the cache hasn't, as the one of its bucket touched last. Where no own
+    /// slot of that bucket is free, the pair that was touched longest ago goes first, or where
+    /// none was touched the one in slot 0, and comes back.
+    ///
+    /// # Errors
+    ///
+    /// An equal key is there, or want of memory: the pair comes back, and none goes.
+    ///
+    /// O(1) expected, beside a resize. scc: `HashCache::put_sync`.
+    pub fn put(&mut self, key: K, value: V) -> Result<Option<(K, V)>, NotInserted<K, V>>
+        ensures map { Puts K.eq key value (map_of self.old) result (map_of self.new) }
+        ensures arrays { PutsThen CACHE (H.hash_of self.old.hasher key) true (key, value) self.old
+            result self.new }
+    {
+        self.room.learn();
+        self.table.sound();
+        let outcome = self.table.put(key, value);
+        self.table.sound();
+        outcome
     }
 
     /// Takes out the pair whose key is equal, and returns it; `None` where the cache hasn't the
