@@ -198,7 +198,8 @@ impl<K: Eq + Drop, V: Drop, H: KeyHash<K>> HashCache<K, V, H> {
 
     /// Puts a pair whose key the cache hasn't, as the one of its bucket touched last. Where no own
     /// slot of that bucket is free, the pair that was touched longest ago goes first, or where
-    /// none was touched the one in slot 0, and comes back.
+    /// none was touched the one in slot 0, and comes back. The pair stands in an own slot, so no
+    /// chain gets longer.
     ///
     /// # Errors
     ///
