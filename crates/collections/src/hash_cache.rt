@@ -203,7 +203,8 @@ impl<K: Eq + Drop, V: Drop, H: KeyHash<K>> HashCache<K, V, H> {
     ///
     /// # Errors
     ///
-    /// An equal key is there, or want of memory: the pair comes back, and none goes.
+    /// An equal key is there, or want of memory, which can come first: the pair comes back, and
+    /// none goes.
     ///
     /// O(1) expected, beside a resize. scc: `HashCache::put_sync`.
     pub fn put(&mut self, key: K, value: V) -> Result<Option<(K, V)>, NotInserted<K, V>>
