@@ -4,3 +4,4 @@ pub mod Changes
 pub mod Room
 pub mod Indexes
 pub mod Loans
+pub mod Entries

@@ -11,6 +11,7 @@ ghost use Rattle.bucket_slots.specs.Walking.{CallsEach};
 ghost use Rattle.collections.specs.Maps.{contains, get, IsEmpty, map_len};
 ghost use Rattle.collections.specs.Changes.{Inserts, Removes, Reserves, Rewrites, Stays, Upserts};
 
+pub mod entry;
 mod lending;
 
 use crate::room::{Fits, TableRoom};
