@@ -3,3 +3,4 @@ pub mod Steps
 pub mod Marks
 pub mod IndexSteps
 pub mod Loans
+pub mod Adding
