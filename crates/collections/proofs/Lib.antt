@@ -4,3 +4,4 @@ pub mod Marks
 pub mod IndexSteps
 pub mod Loans
 pub mod Adding
+pub mod Entries

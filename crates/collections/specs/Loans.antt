@@ -1,11 +1,16 @@
 -- What a map ends as, where a value of it was lent for writing.
-use Rattle.std.specs.Prelude.{◌≡◌, Option, None, Result, IfNone, IfSome}
+use Rattle.std.specs.Prelude.{◌≡◌, Bool, Option, None, Result, IfNone, IfSome, MatchOption}
 use Rattle.std.specs.Borrow.{Fml, LendsSo, LendsSoOk, MutBor, RattleType}
 use Rattle.std.specs.declared.cmp.PartialEq as equals
 use Rattle.bucket_table.specs.declared.key_hash.KeyHash as key_hash
 use Rattle.collections.specs.Maps.{MapView, get}
 use Rattle.collections.specs.Changes.{Adds, Replaces, Stays}
 use Rattle.collections.specs.contracts.hash_map.HashMap.{the_row}
+
+-- the value stands under the key: a pair more, or beside the key that is there
+abbrev pub Puts : {K V H : Type 0} → (K → K → Bool) → MapView K V H → K → V → MapView K V H → Type 0
+Puts {K} {V} {H} eq old key value new =
+    MatchOption (get eq old key) (Adds eq old key value new) (λ before. (own : K) × Replaces eq old key (own, before) value new)
 
 module _ (K V H : RattleType) (equal : equals.Ghosts K.Denot) (hashing : key_hash.Ghosts H.Denot K.Denot)
     (map : MutBor (MapView K.Denot V.Denot H.Denot)) where
@@ -21,4 +26,12 @@ module _ (K V H : RattleType) (equal : equals.Ghosts K.Denot) (hashing : key_has
   LendsAdded key loan =
       LendsSoOk (the_row K V H (record {}) equal hashing) V map loan
       (λ new value. Adds equal.eq map.now key value new)
+      (λ new. Stays equal.eq map.now new)
+
+  -- the value under the key is the last one written through the loan, whether the map had the key or not; where nothing is
+  -- lent all stays
+  abbrev pub LendsPut : {E : Type 0} → K.Denot → Result (MutBor V.Denot) E → Fml
+  LendsPut key loan =
+      LendsSoOk (the_row K V H (record {}) equal hashing) V map loan
+      (λ new value. Puts equal.eq map.now key value new)
       (λ new. Stays equal.eq map.now new)
