@@ -55,7 +55,8 @@ module _ {K V H : Type 0} (eq : K → K → Bool) (laws : IsEquivalence eq) (kin
     (distinct : IsDistinct eq (keys_of (pairs_of t.arrays))) where
   -- what moves pairs and adds none
   pub kept_stays : (s : TableView K V H) → KeepsPairs (state_of kind t) (state_of kind s) → Stays eq (map_of t) (map_of s)
-  kept_stays s keeps = stays eq laws kind t s distinct (distinct_permuted eq laws (pairs_of t.arrays) (pairs_of s.arrays) keeps.pairs distinct) keeps
+  kept_stays s keeps =
+      stays eq laws kind t s distinct (distinct_permuted eq laws (pairs_of t.arrays) (pairs_of s.arrays) keeps.pairs distinct) keeps
 
   -- the pairs move, one is added, and then its value is another one
   pub added_lent : (between added s : TableView K V H) (k : K) (v w : V) → get eq (map_of t) k ≡ None
@@ -75,8 +76,8 @@ module _ {K V H : Type 0} (eq : K → K → Bool) (laws : IsEquivalence eq) (kin
       let moved = IsPermutation-trans xs ys changed.rest keeps.pairs rest in
       adds eq laws kind t s distinct after k w (absent_permuted eq laws k xs xs none (IsPermutation-refl xs))
       (record {
-        pairs = IsPermutation-trans ((k, w) ∷ xs) ((k, w) ∷ changed.rest) (pairs_of s.arrays) (IsPermutation-cons (k, w) xs changed.rest moved)
-            changed.after.pairs;
+        pairs = IsPermutation-trans ((k, w) ∷ xs) ((k, w) ∷ changed.rest) (pairs_of s.arrays)
+            (IsPermutation-cons (k, w) xs changed.rest moved) changed.after.pairs;
         others = changed.after.others ∙ ap (λ (z : MapState K V H). record z { pairs = pairs_of s.arrays })
             (puts.others ∙ ap (λ (z : MapState K V H). record z { pairs = zs }) keeps.others);
       })

@@ -21,11 +21,12 @@ module _ {K V H : Type 0} (eq : K → K → Bool) (map new : MapView K V H) (key
   -- and so the value is put
   pub puts_there : Puts eq map key value new
   puts_there =
-      subst (λ (o : Option V). MatchOption o (Adds eq map key value new) (λ before. (own : K) × Replaces eq map key (own, before) value new))
-      (sym replaces_there.1.value) replaces_there
+      subst (λ (held : Option V). MatchOption held (Adds eq map key value new)
+      (λ before. (own : K) × Replaces eq map key (own, before) value new)) (sym replaces_there.1.value) replaces_there
 
   -- and the map has the key still
   pub still_there : IsEquivalence eq → IsSome (get eq new key)
   still_there laws =
-      let found : get eq new key ≡ Some value = replaces_there.1.updates key ∙ ap (λ b. cond b (Some value) (get eq map key)) (laws.refl key) in
+      let found : get eq new key ≡ Some value =
+      replaces_there.1.updates key ∙ ap (λ b. cond b (Some value) (get eq map key)) (laws.refl key) in
       subst IsSome (sym found) refl

@@ -13,5 +13,9 @@ returns-in-Some g c =
             c.in-Some.is (lent.holds value),
         tt,
       ),
-      record { writes_back = tt; value = same_as_lent (goal.F-post g c.args.make) _ c.in-Some.value.now c.in-Some.ensures.value; refused = tt },
+      record {
+        writes_back = tt;
+        value = same_as_lent (goal.F-post g c.args.make) _ c.in-Some.value.now c.in-Some.ensures.value;
+        refused = tt;
+      },
     )
