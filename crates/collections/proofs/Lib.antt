@@ -6,3 +6,5 @@ pub mod IndexSteps
 pub mod Loans
 pub mod Visits
 pub mod Touching
+pub mod Adding
+pub mod Entries

@@ -8,3 +8,4 @@ pub mod Room
 pub mod Indexes
 pub mod Loans
 pub mod CacheLoans
+pub mod Entries

@@ -1,0 +1,83 @@
+-- A pair was added, and its value lent: what is written through the loan stands beside the key.
+use Rattle.std.proofs.Common.{ℕ, suc, ◌≡◌, Bool, false, not, Some, None, List, [], ◌∷◌, refl, sym, ap, ◌∙◌, arith}
+use Rattle.std.specs.Cmp.{IsEquivalence}
+use Rattle.std.specs.List.{All, IsDistinct, filter}
+use Rattle.std.specs.List.Sorted.{IsPermutation}
+use Rattle.std.specs.Map.{keys_of, lookup}
+use Rattle.std.proofs.lemmas.List.Sorted.{All-permutation, IsPermutation-cons, IsPermutation-refl, IsPermutation-sym, IsPermutation-trans}
+use Rattle.std.proofs.lemmas.Map.{lookup-none}
+use Rattle.std.proofs.lemmas.Map.Entries.{none_past_head}
+use Rattle.bucket_slots.specs.Slots.{Slot, live, live_pair}
+use Rattle.bucket_table.specs.Views.ArraysView.{TableView, pairs_of}
+use Rattle.bucket_table.specs.Map.LookingUp.{IsAbsent}
+use Rattle.bucket_table.specs.Map.MapState.{AddsPair, ChangesValue, KeepsPairs, MapState, state_of}
+use Rattle.bucket_table.proofs.Walking.Filters.{IsPermutation-filter}
+use Rattle.collections.specs.Changes.{Adds, Stays}
+use Rattle.collections.specs.Maps.{get, map_of}
+use Rattle.collections.proofs.Lookups.{absent_from_lookup, distinct_permuted, distinct_with}
+use Rattle.collections.proofs.Steps.{adds, stays}
+
+module _ {K V : Type 0} (eq : K → K → Bool) (laws : IsEquivalence eq) where
+  abbrev others : K → List (K × V) → List (K × V)
+  others k ps = filter (λ (o : K × V). not (eq k o.0)) ps
+
+  all_others : (k : K) (ps : List (K × V)) → All (λ (o : K × V). eq k o.0 ≡ false) ps → others k ps ≡ ps
+  all_others k [] none = refl
+  all_others k (p ∷ ps) none =
+      let rest = all_others k ps (λ i d below. none (suc i) d (omega arith)) in
+      rw (none 0 p (omega arith), rest) refl
+
+  not_first : (p : K × V) (ps : List (K × V)) → IsDistinct eq (keys_of (p ∷ ps)) → others p.0 (p ∷ ps) ≡ ps
+  not_first p ps distinct =
+      let none = absent_from_lookup eq laws p.0 ps (lookup-none (eq p.0) ps (none_past_head laws p.0 p ps distinct (laws.refl p.0))) in
+      rw (laws.refl p.0, all_others p.0 ps none) refl
+
+  -- of two lists that are the same but for the order, one pair less leaves lists that are
+  pub permuted_rest : (p : K × V) (xs ys : List (K × V)) → IsDistinct eq (keys_of (p ∷ xs)) → IsPermutation (p ∷ xs) (p ∷ ys)
+      → IsPermutation xs ys
+  permuted_rest p xs ys distinct moved =
+      let less = IsPermutation-filter (λ (o : K × V). not (eq p.0 o.0)) (p ∷ xs) (p ∷ ys) moved in
+      rw (not_first p xs distinct, not_first p ys (distinct_permuted eq laws (p ∷ xs) (p ∷ ys) moved distinct)) at less
+
+  -- what a look-up doesn't find, another order hasn't either
+  pub absent_permuted : (k : K) (xs ys : List (K × V)) → lookup (eq k) xs ≡ None → IsPermutation xs ys → IsAbsent eq k ys
+  absent_permuted k xs ys none moved = λ i d below.
+      laws.symm _ k ∙ All-permutation (λ (o : K × V). eq k o.0 ≡ false) xs ys moved (absent_from_lookup eq laws k xs none) i d below
+
+-- the pair of a live slot
+pub pair_named : {K V : Type 0} (slot : Slot K V) (p q : K × V) (byte : ℕ) → slot ≡ live p byte → live_pair slot ≡ Some q → q ≡ p
+pair_named slot p q byte named found =
+    let own : live_pair slot ≡ Some p = ap live_pair named in
+    let same : Some q ≡ Some p = sym found ∙ own in
+    cc
+
+module _ {K V H : Type 0} (eq : K → K → Bool) (laws : IsEquivalence eq) (kind : ℕ) (t : TableView K V H)
+    (distinct : IsDistinct eq (keys_of (pairs_of t.arrays))) where
+  -- what moves pairs and adds none
+  pub kept_stays : (s : TableView K V H) → KeepsPairs (state_of kind t) (state_of kind s) → Stays eq (map_of t) (map_of s)
+  kept_stays s keeps =
+      stays eq laws kind t s distinct (distinct_permuted eq laws (pairs_of t.arrays) (pairs_of s.arrays) keeps.pairs distinct) keeps
+
+  -- the pairs move, one is added, and then its value is another one
+  pub added_lent : (between added s : TableView K V H) (k : K) (v w : V) → get eq (map_of t) k ≡ None
+      → KeepsPairs (state_of kind t) (state_of kind between) → AddsPair (state_of kind between) (k, v) (state_of kind added)
+      → IsDistinct eq (keys_of (pairs_of added.arrays)) → ChangesValue (state_of kind added) (k, v) w (state_of kind s)
+      → Adds eq (map_of t) k w (map_of s)
+  added_lent between added s k v w none keeps puts one_more changed =
+      let xs = pairs_of t.arrays in
+      let ys = pairs_of between.arrays in
+      let zs = pairs_of added.arrays in
+      let first = distinct_permuted eq laws zs ((k, v) ∷ changed.rest) changed.before one_more in
+      let whole = distinct_permuted eq laws zs ((k, v) ∷ ys) (IsPermutation-sym ((k, v) ∷ ys) zs puts.pairs) one_more in
+      let rest = permuted_rest eq laws (k, v) ys changed.rest whole
+      (IsPermutation-trans ((k, v) ∷ ys) zs ((k, v) ∷ changed.rest) puts.pairs changed.before) in
+      let after = distinct_permuted eq laws ((k, w) ∷ changed.rest) (pairs_of s.arrays) changed.after.pairs
+      (distinct_with eq laws k v w changed.rest first) in
+      let moved = IsPermutation-trans xs ys changed.rest keeps.pairs rest in
+      adds eq laws kind t s distinct after k w (absent_permuted eq laws k xs xs none (IsPermutation-refl xs))
+      (record {
+        pairs = IsPermutation-trans ((k, w) ∷ xs) ((k, w) ∷ changed.rest) (pairs_of s.arrays)
+            (IsPermutation-cons (k, w) xs changed.rest moved) changed.after.pairs;
+        others = changed.after.others ∙ ap (λ (z : MapState K V H). record z { pairs = pairs_of s.arrays })
+            (puts.others ∙ ap (λ (z : MapState K V H). record z { pairs = zs }) keeps.others);
+      })

@@ -1,0 +1,18 @@
+use Rattle.std.proofs.Common.{ap, refl}
+use Rattle.std.specs.Prelude.{unwrap_or}
+use Rattle.collections.proofs.Entries.{puts_there}
+use Rattle.collections.proofs.hash_map.entry.Entry.or_insert.Goals as goal
+
+pub returns-in-Some : goal.returns-in-Some
+returns-in-Some g c =
+    let lent = c.into_mut.follows in
+    let place = c.in-Occupied.entry in
+    rw c.in-Occupied.is (
+      (
+        refl,
+        λ value is. puts_there g.K.PartialEq.eq place.map.now (lent.lender value) place.key c.into_mut.result c.in-Some.value value
+            c.in-Some.is (lent.holds value),
+        tt,
+      ),
+      record { writes_back = tt; value = ap (λ held. unwrap_or held c.args.default) c.in-Some.ensures.value; refused = tt },
+    )

@@ -1,0 +1,38 @@
+//! A key's place in a map, in the words of std's `Entry`: occupied where the map has the key, and
+//! else vacant.
+//!
+//! An entry holds the map and the key that was asked for, and moves nothing until it is written.
+ghost use Rattle.std.specs.Prelude.{◌≡◌, None, IsSome};
+ghost use Rattle.collections.specs.Maps.{get};
+
+mod occupied;
+mod vacant;
+mod whole;
+
+use crate::hash_map::HashMap;
+use bucket_table::key_hash::KeyHash;
+
+/// A key's place in a map. std: `hash_map::Entry`.
+#[derive(Drop)]
+pub enum Entry<'a, K: Eq, V, H: KeyHash<K>> {
+    /// The map has the key.
+    Occupied(OccupiedEntry<'a, K, V, H>),
+    /// The map hasn't the key.
+    Vacant(VacantEntry<'a, K, V, H>),
+}
+
+/// The place of a key that the map has. std: `hash_map::OccupiedEntry`.
+#[derive(Drop)]
+pub struct OccupiedEntry<'a, K: Eq, V, H: KeyHash<K>> {
+    map: &'a mut HashMap<K, V, H>,
+    key: K,
+    ghost there: { IsSome (get K.eq map.now key) },
+}
+
+/// The place of a key that the map hasn't. std: `hash_map::VacantEntry`.
+#[derive(Drop)]
+pub struct VacantEntry<'a, K: Eq, V, H: KeyHash<K>> {
+    map: &'a mut HashMap<K, V, H>,
+    key: K,
+    ghost absent: { get K.eq map.now key ≡ None },
+}

@@ -1,0 +1,101 @@
+//! The calls of an occupied entry.
+ghost use Rattle.std.specs.Prelude.{◌≡◌, Some, IsSome};
+ghost use Rattle.std.specs.Borrow.{MutBor, sem};
+ghost use Rattle.std.specs.Option.{option_copied_mut};
+ghost use Rattle.collections.specs.Maps.{get};
+ghost use Rattle.collections.specs.Changes.{Replaces, Takes};
+
+use crate::hash_map::entry::OccupiedEntry;
+use bucket_table::key_hash::KeyHash;
+use std::mem;
+
+impl<'a, K: Eq, V, H: KeyHash<K>> OccupiedEntry<'a, K, V, H> {
+    /// Returns the key that was asked for; the map's own is equal to it.
+    ///
+    /// O(1). std: `OccupiedEntry::key`.
+    pub fn key(&self) -> &K
+        ensures { result.now ≡ self.now.key }
+    {
+        &self.key
+    }
+
+    /// Returns the value under the key.
+    ///
+    /// Moves nothing. O(1) expected. std: `OccupiedEntry::get`.
+    pub fn get(&self) -> &V
+        ensures { get K.eq self.now.map.now self.now.key ≡ Some result.now }
+    {
+        self.map.get(&self.key).unwrap()
+    }
+}
+
+impl<'a, K: Eq + Drop, V: Drop, H: KeyHash<K>> OccupiedEntry<'a, K, V, H> {
+    ghost use Rattle.collections.specs.Loans.{LendsValue};
+
+    /// Hands the value under the key to a function, for writing, and returns what that answers.
+    ///
+    /// Never refused. O(1) expected. Own: it stands for std's `OccupiedEntry::get_mut`.
+    pub fn update<R, F: FnOnce(&mut V) -> R>(&mut self, change: F) -> R
+        requires callable { (value : MutBor V) → F.pre change value }
+        ensures same_map { self.new.map.ghost_name ≡ self.old.map.ghost_name }
+        ensures same_key { self.new.key ≡ self.old.key }
+        ensures updated { (own : K) × (before after : MutBor V) × F.post change before result after
+            × Replaces K.eq self.old.map.now self.old.key (own, before.now) after.now
+            self.new.map.now }
+    {
+        match self.map.get_mut(&self.key) {
+            Some(value) => change(value),
+            None => unreachable!(),
+        }
+    }
+
+    /// Lends the value under the key for writing: always `Some`. Once the loan ends, the key has
+    /// the value last written, and each other key what it had.
+    ///
+    /// Never refused. O(1) expected. std: `OccupiedEntry::into_mut`.
+    pub fn into_mut(self) -> Option<&'a mut V>
+        ensures* writes_back { sem 𝓛
+            (LendsValue K.row V.row H.row K.PartialEq H.KeyHash self.entry.map self.entry.key
+            result) }
+        ensures value { option_copied_mut result ≡ get K.eq self.entry.map.now self.entry.key }
+        ensures there { IsSome result }
+    {
+        let OccupiedEntry { map, key } = self;
+        map.get_mut(&key)
+    }
+
+    /// Writes the value under the key, and returns the earlier one; the map's own key stays.
+    ///
+    /// Never refused. O(1) expected. std: `OccupiedEntry::insert`.
+    pub fn insert(&mut self, value: V) -> V
+        ensures same_map { self.new.map.ghost_name ≡ self.old.map.ghost_name }
+        ensures same_key { self.new.key ≡ self.old.key }
+        ensures replaced { (own : K)
+            × Replaces K.eq self.old.map.now self.old.key (own, result) value self.new.map.now }
+    {
+        self.map
+            .update(&self.key, |_own, held| mem::replace(held, value))
+            .unwrap()
+    }
+
+    /// Takes the pair out of the map, and returns it: the map's own key, and its value.
+    ///
+    /// Never refused. O(1) expected, beside a resize. std: `OccupiedEntry::remove_entry`.
+    pub fn remove_entry(self) -> (K, V)
+        ensures { Takes K.eq self.entry.map.now self.entry.key result self.exit.0.now }
+    {
+        let key = self.key;
+        self.map.remove(&key).unwrap()
+    }
+
+    /// Takes the pair out of the map, and returns its value.
+    ///
+    /// Never refused. O(1) expected, beside a resize. std: `OccupiedEntry::remove`.
+    pub fn remove(self) -> V
+        ensures { (own : K)
+            × Takes K.eq self.entry.map.now self.entry.key (own, result) self.exit.0.now }
+    {
+        let (_own, value) = self.remove_entry();
+        value
+    }
+}

@@ -1,0 +1,83 @@
+//! The calls of a vacant entry.
+ghost use Rattle.std.specs.Prelude.{◌≡◌, None, IfErr, IfOk};
+ghost use Rattle.std.specs.Borrow.{sem};
+ghost use Rattle.collections.specs.Maps.{get};
+
+use crate::hash_map::HashMap;
+use crate::hash_map::entry::VacantEntry;
+use bucket_table::key_hash::KeyHash;
+
+impl<'a, K: Eq, V, H: KeyHash<K>> VacantEntry<'a, K, V, H> {
+    /// Returns the key that was asked for.
+    ///
+    /// O(1). std: `VacantEntry::key`.
+    pub fn key(&self) -> &K
+        ensures { result.now ≡ self.now.key }
+    {
+        &self.key
+    }
+
+    /// Gives the key back; the map is as it was.
+    ///
+    /// O(1). std: `VacantEntry::into_key`.
+    pub fn into_key(self) -> K
+        ensures key { result ≡ self.entry.key }
+        ensures unchanged { self.exit.0.now ≡ self.entry.map.now }
+    {
+        let VacantEntry { map: _map, key } = self;
+        key
+    }
+}
+
+impl<'a, K: Eq + Drop, V: Drop, H: KeyHash<K>> VacantEntry<'a, K, V, H> {
+    ghost use Rattle.collections.specs.Loans.{LendsAdded};
+
+    /// Inserts the key with a value, and lends that for writing. Once the loan ends, the map has
+    /// the pair of the key and of the value last written more.
+    ///
+    /// # Errors
+    ///
+    /// Want of memory: the pair comes back, and the map has the pairs that it had.
+    ///
+    /// O(1) expected, beside a resize. std: `VacantEntry::insert`.
+    pub fn insert(self, value: V) -> Result<&'a mut V, (K, V)>
+        ensures* writes_back { sem 𝓛
+            (LendsAdded K.row V.row H.row K.PartialEq H.KeyHash self.entry.map self.entry.key
+            result) }
+        ensures value { IfOk result (λ lent. lent.now ≡ value) }
+        ensures pair_returned { IfErr result (λ back. back ≡ (self.entry.key, value)) }
+    {
+        let VacantEntry { map, key } = self;
+        map.add(key, value)
+    }
+}
+
+impl<K: Eq + Drop, V: Drop, H: KeyHash<K>> HashMap<K, V, H> {
+    ghost use Rattle.collections.specs.Loans.{LendsAdded};
+
+    /// Inserts a pair whose key the map hasn't, and lends its value for writing.
+    fn add(&mut self, key: K, value: V) -> Result<&mut V, (K, V)>
+        requires absent { get K.eq self.old key ≡ None }
+        ensures* writes_back { sem 𝓛
+            (LendsAdded K.row V.row H.row K.PartialEq H.KeyHash self.entry key result) }
+        ensures value { IfOk result (λ lent. lent.now ≡ value) }
+        ensures pair_returned { IfErr result (λ back. back ≡ (key, value)) }
+    {
+        self.room.learn();
+        self.table.sound();
+        let hash = self.table.hash(&key);
+        let Ok((is_old, index)) = self.table.find(hash) else {
+            return Err((key, value));
+        };
+        let at = match self
+            .table
+            .lock(is_old, index)
+            .insert(hash, (key, value), &())
+        {
+            Ok(at) => at,
+            Err(pair) => return Err(pair),
+        };
+        self.table.sound();
+        Ok(self.table.entry_mut_at(is_old, index, &at).1)
+    }
+}

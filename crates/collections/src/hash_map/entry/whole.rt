@@ -1,0 +1,130 @@
+//! The call that makes an entry, and the calls of entries of either kind.
+ghost use Rattle.std.specs.Prelude.{◌≡◌, None, false, IfErr, IfOk, MatchOption, unwrap_or};
+ghost use Rattle.std.specs.Borrow.{MutBor, sem};
+ghost use Rattle.collections.specs.Maps.{contains, get};
+
+use crate::hash_map::HashMap;
+use crate::hash_map::entry::{Entry, OccupiedEntry, VacantEntry};
+use bucket_table::key_hash::KeyHash;
+
+impl<K: Eq, V, H: KeyHash<K>> HashMap<K, V, H> {
+    ghost use Rattle.collections.specs.Entries.{entry_key, entry_map, is_occupied};
+
+    /// Returns the entry of a key, which is occupied exactly where the map has the key.
+    ///
+    /// Never refused: it moves nothing, and takes no memory. O(1) expected. std: `HashMap::entry`.
+    pub fn entry(&mut self, key: K) -> Entry<'_, K, V, H>
+        ensures key { entry_key result ≡ key }
+        ensures found { is_occupied result ≡ contains K.eq self.old key }
+        ensures same_map { (entry_map result).ghost_name ≡ self.entry.ghost_name }
+        ensures unchanged { (entry_map result).now ≡ self.old }
+    {
+        if self.contains(&key) {
+            Entry::Occupied(OccupiedEntry { map: self, key })
+        } else {
+            Entry::Vacant(VacantEntry { map: self, key })
+        }
+    }
+}
+
+impl<'a, K: Eq, V, H: KeyHash<K>> Entry<'a, K, V, H> {
+    ghost use Rattle.collections.specs.Entries.{entry_key};
+
+    /// Returns the key that was asked for.
+    ///
+    /// O(1). std: `Entry::key`.
+    pub fn key(&self) -> &K
+        ensures { result.now ≡ entry_key self.now }
+    {
+        match self {
+            Entry::Occupied(entry) => entry.key(),
+            Entry::Vacant(entry) => entry.key(),
+        }
+    }
+}
+
+impl<'a, K: Eq + Drop, V: Drop, H: KeyHash<K>> Entry<'a, K, V, H> {
+    ghost use Rattle.collections.specs.Entries.{Modifies, entry_key, entry_map, is_occupied};
+    ghost use Rattle.collections.specs.Loans.{LendsPut};
+
+    /// Hands the value under the key to a function, for writing, where the map has the key; else
+    /// the function isn't called. Returns the entry.
+    ///
+    /// Never refused. O(1) expected. std: `Entry::and_modify`.
+    pub fn and_modify<F: FnOnce(&mut V)>(self, change: F) -> Entry<'a, K, V, H>
+        requires callable { (value : MutBor V) → F.pre change value }
+        ensures same_map { (entry_map result).ghost_name ≡ (entry_map self.entry).ghost_name }
+        ensures same_key { entry_key result ≡ entry_key self.entry }
+        ensures same_kind { is_occupied result ≡ is_occupied self.entry }
+        ensures modified { Modifies K.eq (λ before after. F.post change before tt after) self.entry
+            (entry_map result).now }
+    {
+        match self {
+            Entry::Occupied(mut entry) => {
+                entry.update(change);
+                Entry::Occupied(entry)
+            }
+            Entry::Vacant(entry) => Entry::Vacant(entry),
+        }
+    }
+
+    /// Lends the value under the key for writing; where the map hasn't the key, it inserts it with
+    /// the default first. Once the loan ends, the key has the value last written, and each other
+    /// key what it had. Where the map has the key it is never refused.
+    ///
+    /// # Errors
+    ///
+    /// Want of memory, and the map hasn't the key: the pair comes back, and the map has the pairs
+    /// that it had.
+    ///
+    /// O(1) expected, beside a resize. std: `Entry::or_insert`.
+    pub fn or_insert(self, default: V) -> Result<&'a mut V, (K, V)>
+        ensures* writes_back { sem 𝓛
+            (LendsPut K.row V.row H.row K.PartialEq H.KeyHash (entry_map self.entry)
+            (entry_key self.entry) result) }
+        ensures value { IfOk result (λ lent. lent.now
+            ≡ unwrap_or (get K.eq (entry_map self.entry).now (entry_key self.entry)) default) }
+        ensures refused { IfErr result (λ back. (back ≡ (entry_key self.entry, default))
+            × (get K.eq (entry_map self.entry).now (entry_key self.entry) ≡ None)) }
+    {
+        match self {
+            Entry::Occupied(entry) => match entry.into_mut() {
+                Some(value) => Ok(value),
+                None => unreachable!(),
+            },
+            Entry::Vacant(entry) => entry.insert(default),
+        }
+    }
+
+    /// Lends the value under the key for writing; where the map hasn't the key, it inserts it with
+    /// what the function makes first. Once the loan ends, the key has the value last written, and
+    /// each other key what it had. Where the map has the key the function isn't called, and it is
+    /// never refused.
+    ///
+    /// # Errors
+    ///
+    /// Want of memory, and the map hasn't the key: the key comes back with what was made, and the
+    /// map has the pairs that it had.
+    ///
+    /// O(1) expected, beside a resize. std: `Entry::or_insert_with`.
+    pub fn or_insert_with<F: FnOnce() -> V>(self, make: F) -> Result<&'a mut V, (K, V)>
+        requires callable { is_occupied self ≡ false → F.pre make }
+        ensures* writes_back { sem 𝓛
+            (LendsPut K.row V.row H.row K.PartialEq H.KeyHash (entry_map self.entry)
+            (entry_key self.entry) result) }
+        ensures value { IfOk result (λ lent.
+            MatchOption (get K.eq (entry_map self.entry).now (entry_key self.entry))
+            (F.post make lent.now) (λ held. lent.now ≡ held)) }
+        ensures refused { IfErr result (λ back. (back.0 ≡ entry_key self.entry)
+            × F.post make back.1
+            × (get K.eq (entry_map self.entry).now (entry_key self.entry) ≡ None)) }
+    {
+        match self {
+            Entry::Occupied(entry) => match entry.into_mut() {
+                Some(value) => Ok(value),
+                None => unreachable!(),
+            },
+            Entry::Vacant(entry) => entry.insert(make()),
+        }
+    }
+}
