@@ -1,3 +1,4 @@
 -- What the callers answer.
 pub mod Counts
 pub mod Repeats
+pub mod Without

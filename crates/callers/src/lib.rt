@@ -6,6 +6,8 @@
 
 mod counting;
 mod repeats;
+mod retiring;
 
 pub use counting::count_keys;
 pub use repeats::without_repeats;
+pub use retiring::retire_keys;
