@@ -1,3 +1,4 @@
 pub mod KeyCounts
 pub mod Seen
 pub mod WithoutKeys
+pub mod Putting

@@ -46,5 +46,5 @@ marks_joined epoch old between new one two = record {
   stood = λ mark is. elim (two.stood mark is) [
     | inl was ↦ one.stood mark was
     | inr this ↦ inr this
-  ]
+  ];
 }

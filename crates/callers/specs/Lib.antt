@@ -2,3 +2,4 @@
 pub mod Counts
 pub mod Repeats
 pub mod Without
+pub mod Sessions
