@@ -1,5 +1,6 @@
 //! Sessions of users, in a cache of bounded size.
-ghost use Rattle.std.specs.Prelude.{◌≡◌, IfErr, IfOk, None, OnErr};
+ghost use Rattle.std.specs.Prelude.{◌≡◌, IfErr, IfOk, IsSome, None, OnErr, true};
+ghost use Rattle.collections.specs.CacheLoans.{IsTouched};
 ghost use Rattle.collections.specs.Changes.{Stays};
 ghost use Rattle.collections.specs.Maps.{get, map_of};
 ghost use Rattle.callers.specs.Sessions.{HasSession};
@@ -7,8 +8,8 @@ ghost use Rattle.callers.specs.Sessions.{HasSession};
 use bucket_table::key_hash::KeyHash;
 use collections::hash_cache::{HashCache, NotInserted};
 
-/// Touches the session of a user, or puts a fresh one where the user has none, and returns the
-/// session that went for it.
+/// Touches the session of a user, or puts a fresh one where the user has none. Returns the session
+/// that went for the fresh one, where one did, beside its user.
 ///
 /// # Errors
 ///
@@ -22,6 +23,10 @@ pub fn session_for<U: Eq + Drop, S: Drop, H: KeyHash<U>>(
 ) -> Result<Option<(U, S)>, S>
     ensures session { IfOk result (λ gone. HasSession U.eq user fresh gone (map_of cache.old)
         (map_of cache.new)) }
+    ensures touched { IsSome (get U.eq (map_of cache.old) user)
+        → IsTouched U.eq true cache.old cache.new }
+
+    // A refusal gives the fresh session back and changes nothing; a user who has one meets none.
     ensures session_returned { IfErr result (λ back. back ≡ fresh) }
     ensures absent { OnErr result (get U.eq (map_of cache.old) user ≡ None) }
     ensures unchanged { OnErr result (Stays U.eq (map_of cache.old) (map_of cache.new)) }
