@@ -1,2 +1,4 @@
 pub mod KeyCounts
+pub mod Putting
 pub mod Seen
+pub mod WithoutKeys

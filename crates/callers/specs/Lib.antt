@@ -1,3 +1,5 @@
 -- What the callers answer.
 pub mod Counts
 pub mod Repeats
+pub mod Sessions
+pub mod Without

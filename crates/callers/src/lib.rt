@@ -6,6 +6,10 @@
 
 mod counting;
 mod repeats;
+mod retiring;
+mod sessions;
 
 pub use counting::count_keys;
 pub use repeats::without_repeats;
+pub use retiring::retire_keys;
+pub use sessions::session_for;

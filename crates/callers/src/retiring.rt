@@ -1,0 +1,36 @@
+//! Retiring keys of an index, which is read while their pairs wait for their epoch.
+ghost use Rattle.std.specs.Prelude.{◌≡◌};
+ghost use Rattle.std.specs.List.{count_by};
+ghost use Rattle.bucket_slots.specs.Marking.{MarksBy};
+ghost use Rattle.collections.specs.Maps.{contains};
+ghost use Rattle.callers.specs.Without.{IsWithout};
+
+use bucket_slots::bucket::Generation;
+use bucket_table::key_hash::KeyHash;
+use collections::hash_index::HashIndex;
+
+/// Removes the keys of a list from an index, and returns how many keys of another list it still
+/// has. Each removed pair waits in its slot for the epoch of the generation.
+///
+/// Never refused. O(keys) expected, beside a resize. Own.
+pub fn retire_keys<K: Eq + Drop, V: Drop, H: KeyHash<K>, G: Generation>(
+    index: &mut HashIndex<K, V, H>,
+    retired: &[K],
+    asked: &[K],
+    generation: &G,
+) -> usize
+    ensures left { result ≡ count_by (contains K.eq index.new.map) asked.now }
+    ensures map { IsWithout K.eq retired.now index.old.map index.new.map }
+    ensures marks { MarksBy (G.epoch_of generation.now) index.old.marks index.new.marks }
+{
+    for key in retired {
+        index.remove(key, generation);
+    }
+    let mut left = 0;
+    for other in asked {
+        if index.contains(other) {
+            left += 1;
+        }
+    }
+    left
+}
