@@ -2,9 +2,14 @@
 //! and that values are dropped once; and calls by chance beside a map of the standard library.
 mod by_chance;
 mod drops;
+mod equality;
+mod indexes;
 mod maps;
+mod marks;
+mod printing;
 mod sets;
 mod tags;
+mod two_sets;
 
 use std::fmt::Debug;
 use std::process::Abort;
