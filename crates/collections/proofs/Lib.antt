@@ -5,3 +5,4 @@ pub mod Marks
 pub mod IndexSteps
 pub mod Loans
 pub mod Visits
+pub mod Touching

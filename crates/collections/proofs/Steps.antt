@@ -13,10 +13,11 @@ use Rattle.bucket_table.specs.Views.ArraysView.{TableView, killed_flags, pairs_o
 use Rattle.bucket_table.specs.Map.LookingUp.{IsAbsent, IsThere}
 use Rattle.bucket_table.specs.Map.MapState.{AddsPair, Becomes, ChangesValue, KeepsPairs, LowersMinimum, TakesPair, state_of}
 use Rattle.bucket_table.specs.Map.ByKey as by_key
+use Rattle.bucket_table.specs.Map.Putting as putting
 use Rattle.bucket_table.specs.declared.hash_table.NotInserted.{NotInserted}
 use Rattle.bucket_table.specs.declared.hash_table.NotInserted.TheVariants.{Present, Memory}
 use Rattle.collections.specs.Maps.{MapView, get, map_of}
-use Rattle.collections.specs.Changes.{Adds, Inserts, Keeps, Removes, Replaces, Rewrites, Stays, Takes, Upserts}
+use Rattle.collections.specs.Changes.{Adds, Displaces, Inserts, Keeps, Puts, Removes, Replaces, Rewrites, Stays, Takes, Upserts}
 use Rattle.collections.proofs.Lookups.{get_absent, get_there, lookup_added, lookup_changed, lookup_permuted, lookup_same, lookup_taken}
 
 module _ {K V H : Type 0} (eq : K → K → Bool) (laws : IsEquivalence eq) where
@@ -84,6 +85,33 @@ module _ {K V H : Type 0} (eq : K → K → Bool) (laws : IsEquivalence eq) wher
     inserts k v (Err (Present a b)) done =
         (done.0, done.1, rw (get_there eq laws k (pairs_of t.arrays) done.2.0 distinct done.2.1) refl, stays done.3)
     inserts k v (Err (Memory a b)) done = (done.0, done.1, stays done.2)
+
+    displaces : (gone : K × V) (k : K) (v : V) → IsAbsent eq k (pairs_of t.arrays)
+        → putting.ReplacesPair (state_of kind t) gone (k, v) (state_of kind s) → Displaces eq (map_of t) gone k v (map_of s)
+    displaces gone k v none replaced =
+        let before = length_permutation (pairs_of t.arrays) (gone ∷ replaced.rest) replaced.before in
+        let later = length_permutation ((k, v) ∷ replaced.rest) (pairs_of s.arrays) replaced.after.pairs in
+        record {
+          absent = absent k none;
+          went = get_there eq laws gone.0 (pairs_of t.arrays) gone distinct
+              (first_there gone replaced.rest replaced.before, laws.refl gone.0);
+          rest = replaced.rest;
+          before = replaced.before;
+          after = replaced.after.pairs;
+          len = omega (arith, before, later);
+          gets = λ q. lookup_added eq laws q (k, v) replaced.rest (pairs_of s.arrays) after replaced.after.pairs
+              ∙ ap (λ (o : Option V). cond (eq k q) (Some v) o) (lookup_taken eq laws gone.0 q gone (pairs_of t.arrays) replaced.rest
+              distinct replaced.before (laws.refl gone.0));
+          kept = kept replaced.after;
+        }
+
+    pub puts : (k : K) (v : V) (r : Result (Option (K × V)) (NotInserted K V))
+        → putting.Puts eq k v (state_of kind t) r (state_of kind s) → Puts eq k v (map_of t) r (map_of s)
+    puts k v (Ok None) done = adds k v done.0 done.1
+    puts k v (Ok (Some gone)) done = displaces gone k v done.0 done.1
+    puts k v (Err (Present a b)) done =
+        (done.0, done.1, rw (get_there eq laws k (pairs_of t.arrays) done.2.0 distinct done.2.1) refl, stays done.3)
+    puts k v (Err (Memory a b)) done = (done.0, done.1, stays done.2)
 
     pub removes : (k : K) (r : Option (K × V)) → by_key.Takes eq k (state_of kind t) r (state_of kind s)
         → Removes eq k (map_of t) r (map_of s)

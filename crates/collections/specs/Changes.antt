@@ -54,12 +54,31 @@ module _ {K V H : Type 0} (eq : K → K → Bool) where
     pub updates : Updates old key (Some later) new
     pub kept : Keeps old new
 
+  -- a pair is in, whose key was absent, and another is out
+  pub record Displaces (old : MapView K V H) (gone : K × V) (key : K) (value : V) (new : MapView K V H) : Type 0 where
+    pub absent : get eq old key ≡ None
+    pub went : get eq old gone.0 ≡ Some gone.1
+    pub rest : List (K × V)
+    pub before : IsPermutation old.entries (gone ∷ rest)
+    pub after : IsPermutation ((key, value) ∷ rest) new.entries
+    pub len : map_len new ≡ map_len old
+    pub gets : (other : K) → get eq new other ≡ cond (eq key other) (Some value) (cond (eq gone.0 other) None (get eq old other))
+    pub kept : Keeps old new
+
 module _ {K V H : Type 0} (eq : K → K → Bool) (key : K) where
   -- a pair is put where its key is absent; else, and for want of memory, it comes back and all stays
   abbrev pub Inserts : {A : Type 0} → V → MapView K V H → Result A (NotInserted K V) → MapView K V H → Type 0
   Inserts value old (Ok done) new = Adds eq old key value new
   Inserts value old (Err (Present k v)) new = (k ≡ key) × (v ≡ value) × IsSome (get eq old key) × Stays eq old new
   Inserts value old (Err (Memory k v)) new = (k ≡ key) × (v ≡ value) × Stays eq old new
+
+  -- a pair is put where its key is absent, and a pair that goes for it comes back; else, and for want of memory, the pair itself
+  -- comes back and all stays
+  abbrev pub Puts : V → MapView K V H → Result (Option (K × V)) (NotInserted K V) → MapView K V H → Type 0
+  Puts value old (Ok None) new = Adds eq old key value new
+  Puts value old (Ok (Some gone)) new = Displaces eq old gone key value new
+  Puts value old (Err (Present k v)) new = (k ≡ key) × (v ≡ value) × IsSome (get eq old key) × Stays eq old new
+  Puts value old (Err (Memory k v)) new = (k ≡ key) × (v ≡ value) × Stays eq old new
 
   -- the pair under the key is taken out, and none is exactly where the key is absent
   abbrev pub Removes : MapView K V H → Option (K × V) → MapView K V H → Type 0

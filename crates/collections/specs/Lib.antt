@@ -7,3 +7,4 @@ pub mod Keys
 pub mod Room
 pub mod Indexes
 pub mod Loans
+pub mod CacheLoans

@@ -163,7 +163,7 @@ impl<K: Eq + Drop, V: Drop, H: KeyHash<K>> HashIndex<K, V, H> {
     ///
     /// # Errors
     ///
-    /// An equal key is there, or want of memory: the pair comes back.
+    /// An equal key is there, or want of memory, which can come first: the pair comes back.
     ///
     /// O(1) expected, beside a resize. scc: `HashIndex::insert_sync`.
     #[inline(always)]

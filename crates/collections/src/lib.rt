@@ -8,6 +8,7 @@
 //! collections: a borrow stands where scc locks. SPDX-License-Identifier: Apache-2.0
 #![tactic(auto)]
 
+pub mod hash_cache;
 pub mod hash_index;
 pub mod hash_map;
 pub mod hash_set;

@@ -4,7 +4,7 @@ use crate::checks::check_same;
 use Action::*;
 use bucket_slots::bucket::CACHE;
 use bucket_slots::lru::DoublyLinkedList;
-use bucket_table::hash_table::HashTable;
+use bucket_table::hash_table::{HashTable, NotInserted};
 use bucket_table::script::ScriptHash;
 use std::mem;
 use std::process::Abort;
@@ -26,6 +26,10 @@ enum Action {
     Touches(u64),
     /// The pair that goes from a key's home.
     Evicts(u64, Option<(u64, u64)>),
+    /// A new pair is put, and this one goes for it.
+    Places(u64, u64, Option<(u64, u64)>),
+    /// A pair isn't put, since its key is there.
+    Returns(u64, u64),
     /// The value that a key has.
     Holds(u64, Option<u64>),
     /// How many slots the current array has, and the rehash word.
@@ -35,7 +39,7 @@ enum Action {
 }
 
 // What happens, how keys are hashed, and the calls on a new cache.
-const STORIES: [(&str, ScriptHash, &[Action]); 4] = [
+const STORIES: [(&str, ScriptHash, &[Action]); 5] = [
     (
         "a pair is put once, and then its value is written",
         ScriptHash::Id,
@@ -111,6 +115,27 @@ const STORIES: [(&str, ScriptHash, &[Action]); 4] = [
             Counts(32),
         ],
     ),
+    (
+        "a pair put into a full home takes the place of the one touched longest ago",
+        ScriptHash::Zero,
+        &[
+            Places(0, 1, None),
+            Returns(0, 2),
+            Holds(0, Some(1)),
+            Upserts(0, 0, Some(1)),
+            Puts(1, 32),
+            Places(32, 320, Some((0, 0))),
+            Touches(5),
+            Places(33, 330, Some((32, 320))),
+            Places(34, 340, Some((5, 5))),
+            Returns(34, 1),
+            Places(35, 350, Some((33, 330))),
+            Holds(34, Some(340)),
+            Holds(33, None),
+            Holds(1, Some(1)),
+            Counts(32),
+        ],
+    ),
 ];
 
 #[test]
@@ -144,6 +169,10 @@ fn act(
         Adds(key, earlier) => check_same(rt, cache.update(key, add_one), *earlier, at),
         Writes(key, value, earlier) => check_same(rt, write(cache, key, *value), *earlier, at),
         Evicts(key, pair) => check_same(rt, cache.evict(key)?, *pair, at),
+        Places(key, value, pair) => check_same(rt, placed(cache, *key, *value), Ok(*pair), at),
+        Returns(key, value) => {
+            check_same(rt, placed(cache, *key, *value), Err((*key, *value)), at);
+        }
         _ => look(rt, cache, at, action),
     }
     Ok(())
@@ -179,4 +208,13 @@ fn add_one(_key: &u64, value: &mut u64) -> u64 {
     let earlier = *value;
     *value = earlier.wrapping_add(1);
     earlier
+}
+
+// Puts a pair. Returns what goes for it, or the pair where its key is there.
+fn placed(cache: &mut Cache, key: u64, value: u64) -> Result<Option<(u64, u64)>, (u64, u64)> {
+    match cache.put(key, value) {
+        Ok(gone) => Ok(gone),
+        Err(NotInserted::Present(key, value)) => Err((key, value)),
+        Err(NotInserted::Memory(_, _)) => Err((0, 0)),
+    }
 }

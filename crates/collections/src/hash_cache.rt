@@ -1,0 +1,248 @@
+//! A cache: a map of bounded size, whose insertions may make an earlier pair go.
+//!
+//! Model: the table's own view, since which pair goes is said of a key's home. The map is `map_of`
+//! it, and answers as std's `HashMap` does.
+//!
+//! Ports scc's `src/hash_cache.rs` to an owned cache: a borrow stands where scc locks.
+ghost use Rattle.std.specs.Prelude.{◌≡◌, ◌↔◌, ◌^◌, ◌*◌, ◌-◌, [], IsTrue, is_some, length, max, min};
+ghost use Rattle.std.specs.Prelude.{true};
+ghost use Rattle.std.specs.Borrow.{sem};
+ghost use Rattle.std.specs.Option.{option_copied};
+ghost use Rattle.bucket_slots.specs.Sizing.{IsLeastPowerOfTwo};
+ghost use Rattle.bucket_slots.specs.Walking.{CallsEach};
+ghost use Rattle.bucket_table.specs.Map.Putting.{PutsThen};
+ghost use Rattle.bucket_table.specs.Rehash.State.{first_tickets};
+ghost use Rattle.bucket_table.specs.Views.ArraysView.{pairs_of};
+ghost use Rattle.collections.specs.Changes.{Puts, Removes};
+ghost use Rattle.collections.specs.Maps.{contains, get, IsEmpty, map_len, map_of};
+
+use crate::room::{Fits, TableRoom};
+use bucket_slots::bucket::CACHE;
+use bucket_slots::lru::DoublyLinkedList;
+pub use bucket_table::hash_table::NotInserted;
+use bucket_table::hash_table::{HashTable, MAXIMUM_CAPACITY_LIMIT};
+use bucket_table::key_hash::KeyHash;
+use std::alloc::Global;
+use std::marker::Model;
+
+/// The greatest number of slots of a cache that isn't told one. scc: `DEFAULT_MAXIMUM_CAPACITY`.
+pub const DEFAULT_MAXIMUM_CAPACITY: usize = 256;
+
+/// The least number of slots that an array has.
+const LEAST_CAPACITY: usize = 64;
+
+/// A cache: a map of bounded size, whose insertions may make an earlier pair go. scc: `HashCache`.
+#[derive(Drop)]
+pub struct HashCache<K: Eq, V, H: KeyHash<K>> {
+    table: HashTable<K, V, H, DoublyLinkedList, CACHE>,
+    room: Fits<TableRoom<K, V, H, DoublyLinkedList, CACHE>>,
+}
+
+impl<K: Eq, V, H: KeyHash<K>> Model for HashCache<K, V, H> {
+    ghost use Rattle.bucket_table.specs.Views.ArraysView.{TableView};
+
+    ghost Value = { TableView K V H };
+
+    ghost view = { λ cache. cache.table };
+}
+
+impl<K: Eq, V, H: KeyHash<K>> HashCache<K, V, H> {
+    ghost use Rattle.collections.specs.Room.{CacheFits};
+
+    /// Returns an empty cache of at most 256 slots and what hangs off them. Takes no memory.
+    ///
+    /// O(1). scc: `HashCache::with_hasher`.
+    pub fn with_hasher(alloc: Global, hasher: H) -> Self
+        requires { CacheFits K.row V.row H.row K.PartialEq H.KeyHash }
+        ensures empty { IsEmpty (map_of result) }
+        ensures hasher { result.hasher ≡ hasher }
+        ensures minimum { result.arrays.minimum ≡ 0 }
+        ensures maximum { result.arrays.maximum ≡ 256 }
+        ensures slots { length result.arrays.current ≡ 0 }
+    {
+        HashCache {
+            table: HashTable::new(alloc, hasher, 0, DEFAULT_MAXIMUM_CAPACITY),
+            room: Fits::new(),
+        }
+    }
+
+    /// Returns an empty cache whose arrays have at least `minimum` slots, or 2^63, and at most the
+    /// least power of two that is at least `maximum`, the minimum and 64, or 2^63. Takes no memory:
+    /// the first insertion makes the array.
+    ///
+    /// O(1). scc: `HashCache::with_capacity_and_hasher`.
+    pub fn with_capacity(alloc: Global, hasher: H, minimum: usize, maximum: usize) -> Self
+        requires { CacheFits K.row V.row H.row K.PartialEq H.KeyHash }
+        ensures empty { IsEmpty (map_of result) }
+        ensures hasher { result.hasher ≡ hasher }
+        ensures minimum { result.arrays.minimum ≡ min minimum (2 ^ 63) }
+        ensures maximum { IsLeastPowerOfTwo (min (max (max maximum minimum) 64) (2 ^ 63))
+            result.arrays.maximum }
+        ensures slots { length result.arrays.current ≡ 0 }
+    {
+        let least = minimum.min(MAXIMUM_CAPACITY_LIMIT);
+        let greatest = maximum
+            .max(minimum)
+            .max(LEAST_CAPACITY)
+            .min(MAXIMUM_CAPACITY_LIMIT)
+            .next_power_of_two();
+        HashCache {
+            table: HashTable::new(alloc, hasher, least, greatest),
+            room: Fits::new(),
+        }
+    }
+
+    /// Returns the hasher.
+    ///
+    /// O(1). scc: `HashCache::hasher`.
+    pub fn hasher(&self) -> &H
+        ensures { result.now ≡ self.now.hasher }
+    {
+        self.room.learn();
+        self.table.hasher()
+    }
+
+    /// Returns how many pairs the cache has, at most 2^64 - 1.
+    ///
+    /// O(slots / 32). scc: `HashCache::len`.
+    pub fn len(&self) -> usize
+        ensures { result ≡ min (map_len (map_of self.now)) (2 ^ 64 - 1) }
+    {
+        self.room.learn();
+        self.table.len()
+    }
+
+    /// Tests whether the cache has no pair.
+    ///
+    /// O(slots / 32). scc: `HashCache::is_empty`.
+    pub fn is_empty(&self) -> bool
+        ensures { IsTrue result ↔ IsEmpty (map_of self.now) }
+    {
+        self.room.learn();
+        self.table.is_empty()
+    }
+
+    /// Calls a function with each pair once, in the order of the view. None is touched.
+    ///
+    /// O(slots), and the function's calls. scc: `HashCache::iter_sync`.
+    #[inline(always)]
+    pub fn for_each<F: FnMut(&K, &V)>(&self, f: &mut F)
+        requires callable { F.IsAlwaysCallable f.old }
+        ensures again { F.IsAlwaysCallable f.new }
+        ensures calls { CallsEach (λ state own value last. F.step state own value tt last) f.old
+            (pairs_of self.now.arrays) f.new }
+    {
+        self.room.learn();
+        self.table.for_each(f);
+    }
+
+    /// Returns the number of slots, chains left out.
+    ///
+    /// O(1). scc: `HashCache::capacity`.
+    pub fn capacity(&self) -> usize
+        ensures { result ≡ 32 * length self.now.arrays.current }
+    {
+        self.room.learn();
+        self.table.num_slots()
+    }
+
+    /// Returns the value under a key, which isn't touched; `None` where the cache hasn't the key.
+    ///
+    /// Moves nothing, and takes no memory. O(1) expected. scc: `HashCache::peek_with`.
+    #[inline(always)]
+    pub fn peek(&self, key: &K) -> Option<&V>
+        ensures { option_copied result ≡ get K.eq (map_of self.now) key.now }
+    {
+        self.room.learn();
+        self.table.sound();
+        match self.table.peek_entry(key) {
+            Some((_, value)) => Some(value),
+            None => None,
+        }
+    }
+
+    /// Tests whether the cache has a key, which isn't touched.
+    ///
+    /// Moves nothing, and takes no memory. O(1) expected. scc: `HashCache::contains_sync`.
+    #[inline(always)]
+    pub fn contains(&self, key: &K) -> bool
+        ensures { result ≡ contains K.eq (map_of self.now) key.now }
+    {
+        self.peek(key).is_some()
+    }
+}
+
+impl<K: Eq + Drop, V: Drop, H: KeyHash<K>> HashCache<K, V, H> {
+    ghost use Rattle.collections.specs.CacheLoans.{EndsSo, IsTouched};
+
+    /// Returns the value under a key, whose pair is now the one of its bucket touched last; a pair
+    /// that doesn't stand in an own slot of its bucket isn't listed. `None` where the cache hasn't
+    /// the key.
+    ///
+    /// Never refused. O(1) expected. scc: `HashCache::get_sync`.
+    #[inline(always)]
+    pub fn get(&mut self, key: &K) -> Option<&V>
+        ensures value { option_copied result ≡ get K.eq (map_of self.old) key.now }
+        ensures* ends { sem 𝓛 (EndsSo K.row V.row H.row K.PartialEq H.KeyHash self.entry
+            (IsTouched K.eq (is_some result) self.old)) }
+    {
+        self.room.learn();
+        self.table.sound();
+        let _there = self.table.touch(key);
+        self.table.sound();
+        match self.table.peek_entry(key) {
+            Some((_, value)) => Some(value),
+            None => None,
+        }
+    }
+
+    /// Puts a pair whose key the cache hasn't, as the one of its bucket touched last. Where no own
+    /// slot of that bucket is free, the pair that was touched longest ago goes first, or where
+    /// none was touched the one in slot 0, and comes back. The pair stands in an own slot, so no
+    /// chain gets longer.
+    ///
+    /// # Errors
+    ///
+    /// An equal key is there, or want of memory, which can come first: the pair comes back, and
+    /// none goes.
+    ///
+    /// O(1) expected, beside a resize. scc: `HashCache::put_sync`.
+    pub fn put(&mut self, key: K, value: V) -> Result<Option<(K, V)>, NotInserted<K, V>>
+        ensures map { Puts K.eq key value (map_of self.old) result (map_of self.new) }
+        ensures arrays { PutsThen CACHE (H.hash_of self.old.hasher key) true (key, value) self.old
+            result self.new }
+    {
+        self.room.learn();
+        self.table.sound();
+        let outcome = self.table.put(key, value);
+        self.table.sound();
+        outcome
+    }
+
+    /// Takes out the pair whose key is equal, and returns it; `None` where the cache hasn't the
+    /// key.
+    ///
+    /// Never refused. O(1) expected, beside a resize. scc: `HashCache::remove_sync`.
+    #[inline(always)]
+    pub fn remove(&mut self, key: &K) -> Option<(K, V)>
+        ensures { Removes K.eq key.now (map_of self.old) result (map_of self.new) }
+    {
+        self.room.learn();
+        self.table.sound();
+        let taken = self.table.take(key);
+        self.table.sound();
+        taken
+    }
+
+    /// Drops all pairs and all slots; the hasher and the capacities stay.
+    ///
+    /// Never refused. O(slots). scc: `HashCache::clear_sync`.
+    pub fn clear(&mut self)
+        ensures hasher { self.new.hasher ≡ self.old.hasher }
+        ensures arrays { self.new.arrays
+            ≡ record self.old.arrays { current = []; linked = []; tickets = first_tickets 0 } }
+    {
+        self.room.learn();
+        self.table.clear();
+    }
+}
