@@ -1,10 +1,16 @@
 //! Tests of what no clause says: that calls succeed where memory is there, that slots come and go,
 //! and that values are dropped once; and calls by chance beside a map of the standard library.
 mod by_chance;
+mod caches;
 mod drops;
+mod equality;
+mod indexes;
 mod maps;
+mod marks;
+mod printing;
 mod sets;
 mod tags;
+mod two_sets;
 
 use std::fmt::Debug;
 use std::process::Abort;

@@ -18,6 +18,10 @@ enum Step {
     Upsert(&'static str, usize),
     /// A clone is written over the value of a word that is there, and else dropped.
     Update(&'static str, usize),
+    /// A clone is written over the value of a word that is lent, and else dropped.
+    Lend(&'static str, usize),
+    /// All words go but one.
+    Keep(&'static str, usize),
     /// A word goes.
     Remove(&'static str, usize),
     /// All words go.
@@ -27,7 +31,8 @@ enum Step {
 const STEPS: &[Step] = steps! {
     Insert("", 1), Insert("ab", 2), Insert("a", 3), Insert("ab", 3), Upsert("ab", 3),
     Upsert("b", 4), Update("ab", 4), Update("c", 4), Remove("ab", 3), Remove("ab", 3),
-    Insert("ab", 4), Clear, Clear, Upsert("a", 1), Insert("b", 2)
+    Insert("ab", 4), Lend("ab", 4), Lend("c", 4), Keep("a", 1), Insert("ab", 2), Insert("b", 3),
+    Keep("c", 0), Keep("", 0), Insert("ab", 1), Clear, Clear, Upsert("a", 1), Insert("b", 2)
 };
 
 #[test]
@@ -65,16 +70,34 @@ fn take(
             let _ = words.update(word, |_own: &&str, own: &mut Rc<u64>| *own = value);
             *left
         }
-        Remove(word, left) => {
-            let _ = words.remove(word);
+        Lend(word, left) => {
+            let value = counted.clone()?;
+            if let Some(own) = words.get_mut(word) {
+                *own = value;
+            }
             *left
         }
-        Clear => {
-            words.clear();
-            0
-        }
+        _ => take_words(words, step),
     };
     let found = (words.len(), Rc::strong_count(counted));
     check_same(rt, found, (left, left.saturating_add(1)), at);
     Ok(())
+}
+
+// Takes a step by which words go. Returns how many are to be left.
+fn take_words(words: &mut Words, step: &Step) -> usize {
+    match step {
+        Keep(word, left) => {
+            words.retain(&mut |own: &&str, _value: &mut Rc<u64>| *own == *word);
+            *left
+        }
+        Remove(word, left) => {
+            let _ = words.remove(word);
+            *left
+        }
+        _ => {
+            words.clear();
+            0
+        }
+    }
 }

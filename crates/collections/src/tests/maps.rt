@@ -24,6 +24,11 @@ enum Step {
     Upserts(u64, u64, Option<u64>),
     /// One is added to a value, and the pair was this one.
     Updates(u64, Option<(u64, u64)>),
+    /// A value is lent and written, and this was the earlier one.
+    Lends(u64, u64, Option<u64>),
+    /// One is added to each value, and the pairs stay whose keys leave the second number, divided by
+    /// the first. So many pairs were asked for.
+    Retains(u64, u64, usize),
     /// The pair that is taken out.
     Removes(u64, Option<(u64, u64)>),
     /// Keys are taken out, each with itself as its value.
@@ -83,10 +88,33 @@ const STORIES: &[Story] = steps! {
         hasher: ScriptHash::Spread, capacity: 0, steps: steps! {
             Fills(0, 31), Fills(128, 159), Fills(31, 32), Slots(128), Removes(7, Some((7, 7))),
             Upserts(8, 9, Some(8)), Holds(7, None), Holds(8, Some(9)), Len(62) } },
+    Story { name: "a loan writes where a pair is there, and makes none",
+        hasher: ScriptHash::Id, capacity: 0, steps: steps! {
+            Lends(1, 10, None), Len(0), Slots(0), Inserts(1, 10), Lends(1, 11, Some(10)),
+            Holds(1, Some(11)), Lends(2, 20, None), Holds(2, None), Lends(1, 12, Some(11)),
+            Removes(1, Some((1, 12))), Lends(1, 13, None), Len(0) } },
+    Story { name: "a loan amid a growth is of the pair where it is",
+        hasher: ScriptHash::Spread, capacity: 0, steps: steps! {
+            Fills(0, 31), Fills(128, 159), Fills(31, 32), Slots(128), Lends(5, 50, Some(5)),
+            Lends(158, 1, Some(158)), Lends(32, 1, None), Holds(5, Some(50)), Holds(4, Some(4)),
+            Holds(158, Some(1)), Holds(157, Some(157)), Len(63) } },
+    Story { name: "what is retained has the values that were left", hasher: ScriptHash::Id,
+        capacity: 0, steps: steps! {
+            Retains(2, 0, 0), Len(0), Fills(0, 10), Retains(1, 0, 10), Len(10), Holds(3, Some(4)),
+            Retains(3, 1, 10), Len(3), Holds(1, Some(3)), Holds(4, Some(6)), Holds(7, Some(9)),
+            Holds(3, None), Returns(4, 1), Inserts(3, 30), Retains(8, 3, 4), Len(1),
+            Holds(3, Some(31)), Retains(2, 0, 1), Len(0), Inserts(3, 3), Len(1) } },
+    // The even keys of both ranges are 16 and 16.
+    Story { name: "pairs are retained amid a growth", hasher: ScriptHash::Spread, capacity: 0,
+        steps: steps! {
+            Fills(0, 31), Fills(128, 159), Fills(31, 32), Slots(128), Retains(2, 0, 63), Len(32),
+            Holds(0, Some(1)), Holds(30, Some(31)), Holds(31, None), Holds(157, None),
+            Holds(158, Some(159)), Inserts(31, 7), Retains(2, 1, 33), Len(1), Holds(31, Some(8)) } },
     Story { name: "keys of one hash make a chain", hasher: ScriptHash::Zero, capacity: 0,
         steps: steps! {
             Fills(0, 100), Slots(64), Len(100), Removes(50, Some((50, 50))), Returns(99, 1),
-            Holds(99, Some(99)), Updates(33, Some((33, 33))), Drains(51, 100), Len(50) } },
+            Holds(99, Some(99)), Updates(33, Some((33, 33))), Lends(98, 98, Some(98)),
+            Drains(51, 100), Len(50), Retains(2, 1, 50), Len(25), Holds(49, Some(50)) } },
     Story { name: "the first array has room for what is asked for", hasher: ScriptHash::Id,
         capacity: 100, steps: steps! { Slots(0), Inserts(1, 1), Slots(128) } },
     Story { name: "a minimum is raised, and given back", hasher: ScriptHash::Spread, capacity: 100,
@@ -161,6 +189,10 @@ fn take(rt: &impl Abort, map: &mut Map, at: At, step: &Step) -> Result<(), Fail>
 fn change(rt: &impl Abort, map: &mut Map, at: At, step: &Step) {
     match step {
         Updates(key, pair) => check_same(rt, map.update(key, add_one), *pair, at),
+        Lends(key, value, earlier) => check_same(rt, write(map, key, *value), *earlier, at),
+        Retains(divisor, rest, asked) => {
+            check_same(rt, retain(map, *divisor, *rest), *asked, at);
+        }
         Removes(key, pair) => check_same(rt, map.remove(key), *pair, at),
         Drains(from, to) => {
             for key in *from..*to {
@@ -179,6 +211,26 @@ fn add_one(key: &u64, value: &mut u64) -> (u64, u64) {
     let earlier = *value;
     *value = earlier.wrapping_add(1);
     (*key, earlier)
+}
+
+// Writes a value that is lent, and returns the earlier one.
+fn write(map: &mut Map, key: &u64, value: u64) -> Option<u64> {
+    match map.get_mut(key) {
+        Some(own) => Some(std::mem::replace(own, value)),
+        None => None,
+    }
+}
+
+// Adds one to each value, and keeps the keys that leave a rest. Returns how many were asked for.
+fn retain(map: &mut Map, divisor: u64, rest: u64) -> usize {
+    let mut asked: usize = 0;
+    let mut keep = |key: &u64, value: &mut u64| -> bool {
+        asked = asked.saturating_add(1);
+        *value = value.wrapping_add(1);
+        divisor != 0 && *key % divisor == rest
+    };
+    map.retain(&mut keep);
+    asked
 }
 
 // Takes a step that looks.
@@ -213,4 +265,16 @@ fn met(map: &Map) -> Option<usize> {
     };
     map.for_each(&mut meet);
     came
+}
+
+#[test]
+fn a_new_map_takes_words(rt: HostRuntime) -> Result<(), Fail> {
+    let mut words = HashMap::new(rt.alloc());
+    check_same(&rt, (words.len(), words.capacity()), (0, 0), "new");
+    words.insert("a", 1u64)?;
+    words.insert("b", 2)?;
+    let found = (words.get(&"a").copied(), words.get(&"c").copied());
+    check_same(&rt, found, (Some(1), None), "get");
+    check_same(&rt, words.remove(&"b"), Some(("b", 2)), "remove");
+    Ok(())
 }

@@ -1,13 +1,15 @@
 //! The story of a set of numbers.
+use super::two_sets::{Ranges, listed};
 use super::{At, check_same, steps};
 use crate::hash_map::NotInserted;
 use crate::hash_set::HashSet;
 use Step::*;
 use bucket_table::script::ScriptHash;
+use std::alloc::Global;
 use std::process::Abort;
 use std::test::Fail;
 
-type Set = HashSet<u64, ScriptHash>;
+pub(super) type Set = HashSet<u64, ScriptHash>;
 
 /// A call on a set with what it answers, or what is seen of the set.
 enum Step {
@@ -17,6 +19,8 @@ enum Step {
     Returns(u64),
     /// The key that is taken out.
     Removes(u64, Option<u64>),
+    /// The keys stay that a number divides. So many were asked for.
+    Retains(u64, usize),
     /// The minimum is to be raised by the first number, and is by the second.
     Reserves(usize, usize),
     /// The minimum is given back.
@@ -25,6 +29,8 @@ enum Step {
     Clears,
     /// Whether a key is there.
     Holds(u64, bool),
+    /// The keys that `for_each` hands over.
+    Has(Ranges),
     /// How many keys and slots there are.
     Sees(usize, usize),
 }
@@ -34,21 +40,24 @@ const STEPS: &[Step] = steps! {
     Holds(1, true), Holds(3, false), Removes(1, Some(1)), Removes(1, None), Holds(1, false),
     Holds(2, true), Clears, Sees(0, 0), Holds(2, false), Reserves(200, 200), Inserts(255),
     Sees(1, 256), Shrinks, Sees(1, 64), Holds(255, true), Reserves(1 << 63, 1 << 63),
-    Reserves(1, 0), Returns(255)
+    Reserves(1, 0), Returns(255), Has(&[(255, 256)]), Retains(5, 1), Has(&[(255, 256)]),
+    Inserts(7), Inserts(0), Inserts(14), Has(&[(0, 1), (7, 8), (14, 15), (255, 256)]), Retains(7, 4),
+    Has(&[(0, 1), (7, 8), (14, 15)]), Returns(7), Retains(100, 3), Has(&[(0, 1)]), Clears,
+    Has(&[]), Retains(1, 0)
 };
 
 #[test]
 fn a_set_goes_through_its_story(rt: HostRuntime) -> Result<(), Fail> {
     let mut set: Set = HashSet::with_hasher(rt.alloc(), ScriptHash::Spread);
     for (row, step) in STEPS.iter().enumerate() {
-        take(&rt, &mut set, ("a set", row), step)?;
+        take(&rt, rt.alloc(), &mut set, ("a set", row), step)?;
         check_same(&rt, *set.hasher(), ScriptHash::Spread, row);
     }
     Ok(())
 }
 
 // Takes a step, and compares what comes of it.
-fn take(rt: &impl Abort, set: &mut Set, at: At, step: &Step) -> Result<(), Fail> {
+fn take(rt: &impl Abort, alloc: Global, set: &mut Set, at: At, step: &Step) -> Result<(), Fail> {
     match step {
         Inserts(key) => set.insert(*key)?,
         Returns(key) => match set.insert(*key) {
@@ -56,14 +65,47 @@ fn take(rt: &impl Abort, set: &mut Set, at: At, step: &Step) -> Result<(), Fail>
             _ => check_same(rt, true, false, (at, "inserted")),
         },
         Removes(key, taken) => check_same(rt, set.remove(key), *taken, at),
+        Retains(divisor, asked) => check_same(rt, retain(set, *divisor), *asked, at),
         Reserves(additional, raised) => check_same(rt, set.reserve(*additional), *raised, at),
         Shrinks => set.shrink_to_fit(),
         Clears => set.clear(),
         Holds(key, there) => check_same(rt, set.contains(key), *there, at),
+        Has(ranges) => check_same(rt, keys_of(alloc, set)?, listed(alloc, ranges)?, at),
         Sees(keys, slots) => {
             let found = (set.len(), set.is_empty(), set.capacity());
             check_same(rt, found, (*keys, *keys == 0, *slots), at);
         }
     }
+    Ok(())
+}
+
+// Keeps the keys that a number divides. Returns how many were asked for.
+fn retain(set: &mut Set, divisor: u64) -> usize {
+    let mut asked: usize = 0;
+    let mut keep = |key: &u64| -> bool {
+        asked = asked.saturating_add(1);
+        divisor != 0 && *key % divisor == 0
+    };
+    set.retain(&mut keep);
+    asked
+}
+
+// The keys that `for_each` hands over, in order.
+fn keys_of(alloc: Global, set: &Set) -> Result<Vec<u64>, Fail> {
+    let mut keys = Vec::new(alloc);
+    set.for_each(&mut |key: &u64| {
+        let _ = keys.push(*key);
+    });
+    keys.sort()?;
+    Ok(keys)
+}
+
+#[test]
+fn a_new_set_takes_words(rt: HostRuntime) -> Result<(), Fail> {
+    let mut words = HashSet::new(rt.alloc());
+    check_same(&rt, (words.len(), words.capacity()), (0, 0), "new");
+    words.insert("a")?;
+    let found = (words.contains(&"a"), words.contains(&"b"));
+    check_same(&rt, found, (true, false), "contains");
     Ok(())
 }

@@ -1,0 +1,89 @@
+//! Which maps and sets are equal: neither the order in which pairs came nor the hasher counts.
+use super::maps::Map;
+use super::sets::Set;
+use super::{check_same, steps};
+use crate::hash_map::HashMap;
+use crate::hash_set::HashSet;
+use bucket_table::script::ScriptHash;
+use std::alloc::Global;
+use std::process::Abort;
+use std::test::Fail;
+
+type Pairs = &'static [(u64, u64)];
+
+/// Two lists of pairs, whether the maps of them are equal, and whether the sets of their keys are.
+type Row = (Pairs, Pairs, bool, bool);
+
+const ROWS: &[Row] = steps! {
+    (&[], &[], true, true),
+    (&[(1, 10)], &[(1, 10)], true, true),
+    (&[(1, 10), (2, 20), (3, 30)], &[(3, 30), (1, 10), (2, 20)], true, true),
+    (&[(1, 10), (2, 20), (3, 30)], &[(3, 30), (1, 10), (2, 21)], false, true),
+    (&[(1, 10), (2, 20)], &[(1, 20), (2, 10)], false, true),
+    (&[(1, 10)], &[], false, false),
+    (&[(1, 10), (2, 20)], &[(2, 20)], false, false),
+    (&[(1, 10), (2, 20)], &[(2, 20), (3, 10)], false, false)
+};
+
+#[test]
+fn equal_are_maps_of_the_same_pairs(rt: HostRuntime) -> Result<(), Fail> {
+    for (row, (pairs, others, maps, sets)) in ROWS.iter().enumerate() {
+        let one = map_of(rt.alloc(), ScriptHash::Id, pairs)?;
+        let other = map_of(rt.alloc(), ScriptHash::Zero, others)?;
+        check_equal(&rt, &one, &other, *maps, (row, "maps"));
+        let keys = keys_of(rt.alloc(), ScriptHash::Spread, pairs)?;
+        let other_keys = keys_of(rt.alloc(), ScriptHash::Id, others)?;
+        check_equal(&rt, &keys, &other_keys, *sets, (row, "sets"));
+    }
+    Ok(())
+}
+
+// Both ways two values are equal, or aren't, and each is equal to itself.
+fn check_equal<T: Eq>(rt: &impl Abort, one: &T, other: &T, equal: bool, row: (usize, &str)) {
+    let found = (one == other, other == one, one == one, other == other);
+    check_same(rt, found, (equal, equal, true, true), row);
+}
+
+fn map_of(alloc: Global, hasher: ScriptHash, pairs: Pairs) -> Result<Map, Fail> {
+    let mut map = HashMap::with_hasher(alloc, hasher);
+    for (key, value) in pairs {
+        map.insert(*key, *value)?;
+    }
+    Ok(map)
+}
+
+fn keys_of(alloc: Global, hasher: ScriptHash, pairs: Pairs) -> Result<Set, Fail> {
+    let mut set = HashSet::with_hasher(alloc, hasher);
+    for (key, _) in pairs {
+        set.insert(*key)?;
+    }
+    Ok(set)
+}
+
+// The first map grows as its last key comes, and the other has room from the first.
+#[test]
+fn a_map_amid_a_growth_is_equal_to_its_like(rt: HostRuntime) -> Result<(), Fail> {
+    let mut one: Map = HashMap::with_hasher(rt.alloc(), ScriptHash::Spread);
+    let mut other: Map = HashMap::with_capacity(rt.alloc(), ScriptHash::Id, 128);
+    for key in 128..159 {
+        one.insert(key, key)?;
+        other.insert(key, key)?;
+    }
+    for key in 0..32 {
+        check_equal(&rt, &one, &other, true, (one.len(), "as many"));
+        one.insert(key, key)?;
+        check_equal(&rt, &one, &other, false, (one.len(), "one more"));
+        other.insert(key, key)?;
+    }
+    check_same(&rt, (one.capacity(), other.capacity()), (128, 128), "slots");
+    check_equal(&rt, &one, &other, true, (63, "amid a growth"));
+    if let Some(value) = other.get_mut(&150) {
+        *value = 0;
+    }
+    check_equal(&rt, &one, &other, false, (63, "another value"));
+    check_same(&rt, other.remove(&150), Some((150, 0)), "remove");
+    check_equal(&rt, &one, &other, false, (63, "without a key"));
+    other.insert(150, 150)?;
+    check_equal(&rt, &one, &other, true, (63, "as before"));
+    Ok(())
+}

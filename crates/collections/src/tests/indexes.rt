@@ -1,0 +1,206 @@
+//! Stories of an index of numbers: what each call answers, and which pairs are seen then.
+use super::{At, check_same, steps};
+use crate::hash_index::HashIndex;
+use crate::hash_map::NotInserted;
+use Step::*;
+use bucket_table::script::{FixedGeneration, ScriptHash};
+use std::process::Abort;
+use std::test::Fail;
+
+type Index = HashIndex<u64, u64, ScriptHash>;
+
+/// A call on an index with what it answers, or what is seen of the index. Of two keys the second is
+/// the first that is not meant.
+enum Step {
+    /// Keys are inserted, each as its own value.
+    Fills(u64, u64),
+    /// A pair is inserted.
+    Inserts(u64, u64),
+    /// A pair comes back, since its key is there.
+    Returns(u64, u64),
+    /// A pair is marked, if its key is there.
+    Removes(u64, bool),
+    /// The pair that is handed over and marked.
+    Reads(u64, Option<(u64, u64)>),
+    /// Keys are marked.
+    Drains(u64, u64),
+    /// The minimum is to be raised by the first number, and is by the second.
+    Reserves(usize, usize),
+    /// The minimum is given back.
+    Shrinks,
+    /// All pairs go.
+    Clears,
+    /// The value that a key has.
+    Holds(u64, Option<u64>),
+    /// How many pairs there are.
+    Len(usize),
+    /// How many slots there are.
+    Slots(usize),
+}
+
+/// What happens on a new index, under an epoch whose marks are kept or not.
+struct Story {
+    name: &'static str,
+    hasher: ScriptHash,
+    capacity: usize,
+    steps: &'static [Step],
+}
+
+// The greatest number of slots. There is no memory for so many.
+const MOST: usize = 1 << 63;
+
+// Of two buckets the first has the keys below 128, under the hash that spreads low bytes. The table
+// grows as the first one is full, and key 255 is always in the last bucket.
+const STORIES: &[Story] = steps! {
+    Story { name: "an insertion gives the pair back where the key is there",
+        hasher: ScriptHash::Id, capacity: 0, steps: steps! {
+            Slots(0), Holds(1, None), Inserts(1, 10), Returns(1, 11), Holds(1, Some(10)),
+            Holds(2, None), Inserts(2, 10), Len(2), Slots(64) } },
+    Story { name: "a removal finds a pair once", hasher: ScriptHash::Id, capacity: 0,
+        steps: steps! {
+            Removes(1, false), Len(0), Inserts(1, 10), Inserts(2, 20), Removes(1, true),
+            Removes(1, false), Holds(1, None), Holds(2, Some(20)), Len(1), Removes(2, true),
+            Removes(2, false), Len(0) } },
+    Story { name: "a removal hands its pair over once", hasher: ScriptHash::Id, capacity: 0,
+        steps: steps! {
+            Reads(1, None), Inserts(1, 10), Inserts(2, 20), Reads(1, Some((1, 10))),
+            Reads(1, None), Removes(1, false), Holds(1, None), Len(1), Removes(2, true),
+            Reads(2, None), Len(0) } },
+    Story { name: "a removed key comes again with another value", hasher: ScriptHash::Id,
+        capacity: 0, steps: steps! {
+            Inserts(1, 10), Inserts(2, 20), Removes(1, true), Inserts(1, 11), Holds(1, Some(11)),
+            Len(2), Returns(1, 12), Reads(1, Some((1, 11))), Holds(1, None), Inserts(1, 13),
+            Holds(1, Some(13)), Len(2) } },
+    Story { name: "keys of one hash make a chain", hasher: ScriptHash::Zero, capacity: 0,
+        steps: steps! {
+            Fills(0, 100), Slots(64), Len(100), Removes(50, true), Holds(50, None),
+            Reads(99, Some((99, 99))), Returns(98, 1), Inserts(50, 5), Holds(50, Some(5)), Len(99),
+            Drains(51, 99), Len(51), Removes(50, true), Len(50), Holds(49, Some(49)) } },
+    Story { name: "pairs are the same before, amid and after a growth",
+        hasher: ScriptHash::Spread, capacity: 0, steps: steps! {
+            Fills(0, 31), Fills(128, 159), Slots(64), Len(62), Inserts(31, 31), Slots(128), Len(63),
+            Holds(5, Some(5)), Holds(158, Some(158)), Removes(5, true), Removes(5, false),
+            Reads(158, Some((158, 158))), Slots(128), Len(61), Holds(5, None), Holds(158, None),
+            Holds(6, Some(6)), Inserts(5, 50), Holds(5, Some(50)), Len(62) } },
+    // Three marks are in the array when it goes.
+    Story { name: "what is removed before a growth doesn't come again",
+        hasher: ScriptHash::Spread, capacity: 0, steps: steps! {
+            Fills(0, 31), Fills(128, 159), Removes(0, true), Removes(9, true), Removes(130, true),
+            Inserts(9, 90), Reserves(256, 256), Slots(256), Len(60), Holds(0, None),
+            Holds(9, Some(90)), Removes(0, false), Returns(9, 91), Slots(256), Len(60),
+            Inserts(0, 1), Inserts(130, 1), Len(62) } },
+    Story { name: "a minimum is raised, and given back", hasher: ScriptHash::Spread, capacity: 100,
+        steps: steps! {
+            Reserves(28, 28), Slots(0), Inserts(255, 255), Slots(128), Reserves(3968, 3968),
+            Slots(4096), Len(1), Holds(255, Some(255)), Removes(254, false), Shrinks, Slots(64),
+            Holds(255, Some(255)), Len(1), Reserves(MOST, MOST), Slots(64), Reserves(1, 0) } },
+    Story { name: "a cleared index keeps its minimum", hasher: ScriptHash::Spread, capacity: 100,
+        steps: steps! {
+            Fills(0, 40), Slots(128), Removes(5, true), Clears, Len(0), Slots(0), Holds(6, None),
+            Removes(6, false), Clears, Inserts(5, 6), Slots(128), Len(1), Holds(5, Some(6)) } }
+};
+
+// What is answered is the same whether marks are kept.
+#[test]
+fn indexes_go_through_their_stories(rt: HostRuntime) -> Result<(), Fail> {
+    for (number, story) in STORIES.iter().enumerate() {
+        for keep in [true, false] {
+            let now = FixedGeneration {
+                epoch: (number % 256) as u8,
+                keep,
+            };
+            let mut index: Index = HashIndex::with_capacity(
+                rt.alloc(),
+                story.hasher,
+                story.capacity,
+            );
+            for (row, step) in story.steps.iter().enumerate() {
+                take(&rt, &mut index, &now, (story.name, row), step)?;
+                check_same(&rt, *index.hasher(), story.hasher, (story.name, row));
+            }
+        }
+    }
+    Ok(())
+}
+
+// Takes a step that puts pairs, and compares what it answers.
+fn take(
+    rt: &impl Abort,
+    index: &mut Index,
+    now: &FixedGeneration,
+    at: At,
+    step: &Step,
+) -> Result<(), Fail> {
+    match step {
+        Fills(from, to) => {
+            for key in *from..*to {
+                index.insert(key, key, now)?;
+            }
+        }
+        Inserts(key, value) => index.insert(*key, *value, now)?,
+        Returns(key, value) => match index.insert(*key, *value, now) {
+            Err(NotInserted::Present(own, back)) => {
+                check_same(rt, (own, back), (*key, *value), at);
+            }
+            _ => check_same(rt, true, false, (at, "inserted")),
+        },
+        _ => change(rt, index, now, at, step),
+    }
+    Ok(())
+}
+
+// Takes a step that marks pairs, or sets the minimum.
+fn change(rt: &impl Abort, index: &mut Index, now: &FixedGeneration, at: At, step: &Step) {
+    match step {
+        Removes(key, there) => check_same(rt, index.remove(key, now), *there, at),
+        Reads(key, pair) => {
+            let found = index.remove_with(key, now, |own: &u64, value: &u64| (*own, *value));
+            check_same(rt, found, *pair, at);
+        }
+        Drains(from, to) => {
+            for key in *from..*to {
+                check_same(rt, index.remove(&key, now), true, (at, key));
+            }
+        }
+        Reserves(additional, raised) => check_same(rt, index.reserve(*additional), *raised, at),
+        Shrinks => index.shrink_to_fit(),
+        Clears => index.clear(),
+        _ => look(rt, index, at, step),
+    }
+}
+
+// Takes a step that looks.
+fn look(rt: &impl Abort, index: &Index, at: At, step: &Step) {
+    match step {
+        Holds(key, value) => {
+            let found = (index.peek(key).copied(), index.contains(key));
+            check_same(rt, found, (*value, value.is_some()), at);
+        }
+        Len(len) => {
+            check_same(rt, (index.len(), index.is_empty()), (*len, *len == 0), at);
+            check_same(rt, met(index), Some(*len), (at, "for_each"));
+        }
+        Slots(slots) => check_same(rt, index.capacity(), *slots, at),
+        _ => check_same(rt, true, false, (at, "no step")),
+    }
+}
+
+// How many pairs `for_each` hands over: keys below 256, each once and with its value, or else none.
+fn met(index: &Index) -> Option<usize> {
+    let mut is_met = [false; 256];
+    let mut came = Some(0usize);
+    let mut meet = |key: &u64, value: &u64| {
+        let is_new = match is_met.get_mut(*key as usize) {
+            Some(place) => !std::mem::replace(place, true),
+            None => false,
+        };
+        came = match came {
+            Some(before) if is_new && index.peek(key) == Some(value) => {
+                Some(before.saturating_add(1))
+            }
+            _ => None,
+        };
+    };
+    index.for_each(&mut meet);
+    came
+}

@@ -1,0 +1,152 @@
+//! Values that are counted, in an index: a removed one stays while its mark waits, and is dropped
+//! once, as its mark is let go, as the pairs are cleared, or with its array.
+use super::{At, check_same, steps};
+use crate::hash_index::HashIndex;
+use Step::*;
+use bucket_table::script::{FixedGeneration, ScriptHash};
+use std::process::Abort;
+use std::rc::Rc;
+use std::test::Fail;
+
+type Index = HashIndex<u64, Rc<u64>, ScriptHash>;
+
+/// A setting for the steps that follow, a call, or what is seen of the index. Of two keys the second
+/// is the first that is not meant.
+enum Step {
+    /// The epoch from here on, and whether marks are kept. At first it is 0, and they are.
+    Now(u8, bool),
+    /// Keys are inserted.
+    Fills(u64, u64),
+    /// A key is inserted.
+    Inserts(u64),
+    /// A key is there, and its new value is dropped.
+    Returns(u64),
+    /// A pair is marked, if its key is there.
+    Removes(u64, bool),
+    /// A pair is handed over and marked, and a clone of its value dropped, if its key is there.
+    Reads(u64, bool),
+    /// The minimum is raised.
+    Reserves(usize),
+    /// All pairs go.
+    Clears,
+    /// How many pairs and how many values there are.
+    Sees(usize, usize),
+}
+
+/// A name, the hasher, and what happens on a new index.
+type Story = (&'static str, ScriptHash, &'static [Step]);
+
+// Under the hash 0 all keys have one bucket, of 32 own slots, and the index keeps its 64.
+const STORIES: &[Story] = steps! {
+    // Both marks that wait are let go by one insertion.
+    ("a marked value is dropped when an insertion lets it go", ScriptHash::Zero, steps! {
+        Fills(0, 32), Sees(32, 32), Removes(0, true), Removes(0, false), Removes(5, true),
+        Sees(30, 32), Inserts(32), Sees(31, 33), Now(1, false), Sees(31, 33), Inserts(33),
+        Sees(32, 32) }),
+    // Key 34 takes the slot of key 5.
+    ("marks wait while an own slot is free", ScriptHash::Zero, steps! {
+        Fills(0, 32), Now(0, false), Removes(0, true), Removes(5, true), Inserts(33), Sees(31, 31),
+        Removes(7, true), Sees(30, 31), Inserts(34), Sees(31, 32), Inserts(35), Sees(32, 32) }),
+    ("a removed key is inserted while its marks wait", ScriptHash::Zero, steps! {
+        Fills(0, 32), Removes(3, true), Sees(31, 32), Inserts(3), Sees(32, 33), Removes(3, true),
+        Sees(31, 33), Inserts(3), Sees(32, 34), Returns(3), Sees(32, 34), Now(9, false),
+        Returns(3), Sees(32, 34), Inserts(40), Sees(33, 33), Removes(3, true), Sees(32, 33) }),
+    ("a value that is handed over waits as others do", ScriptHash::Zero, steps! {
+        Fills(0, 32), Reads(4, true), Reads(4, false), Sees(31, 32), Removes(4, false),
+        Now(255, false), Inserts(4), Sees(32, 32) }),
+    ("a clearing drops marked values too", ScriptHash::Zero, steps! {
+        Fills(0, 40), Removes(1, true), Removes(39, true), Inserts(1), Sees(39, 41), Clears,
+        Sees(0, 0), Inserts(1), Sees(1, 1), Clears, Clears, Sees(0, 0) }),
+    ("an index drops marked values as it goes", ScriptHash::Zero, steps! {
+        Fills(0, 40), Removes(1, true), Removes(39, true), Removes(0, true), Sees(37, 40) }),
+    // Keys 0 to 30 are in the first bucket of two.
+    ("marks go with their array as the index has more slots", ScriptHash::Spread, steps! {
+        Fills(0, 31), Removes(2, true), Removes(3, true), Sees(29, 31), Reserves(128),
+        Inserts(255), Sees(30, 30) }),
+    ("marks go with the array of the last pair", ScriptHash::Zero, steps! {
+        Fills(0, 3), Removes(1, true), Removes(0, true), Sees(1, 3), Removes(2, true), Sees(0, 0),
+        Inserts(2), Sees(1, 1) })
+};
+
+#[test]
+fn each_marked_value_is_dropped_once(rt: HostRuntime) -> Result<(), Fail> {
+    let counted = Rc::new(rt.alloc(), 0)?;
+    for (name, hasher, steps) in STORIES {
+        let mut index: Index = HashIndex::with_hasher(rt.alloc(), *hasher);
+        let mut now = FixedGeneration {
+            epoch: 0,
+            keep: true,
+        };
+        for (row, step) in steps.iter().enumerate() {
+            match step {
+                Now(epoch, keep) => {
+                    now = FixedGeneration {
+                        epoch: *epoch,
+                        keep: *keep,
+                    };
+                }
+                _ => take(&rt, &mut index, &counted, &now, (*name, row), step)?,
+            }
+        }
+        drop(index);
+        check_same(&rt, Rc::strong_count(&counted), 1, (*name, "dropped"));
+    }
+    Ok(())
+}
+
+// Takes a step, and compares what comes of it.
+fn take(
+    rt: &impl Abort,
+    index: &mut Index,
+    counted: &Rc<u64>,
+    now: &FixedGeneration,
+    at: At,
+    step: &Step,
+) -> Result<(), Fail> {
+    match step {
+        Fills(from, to) => {
+            for key in *from..*to {
+                let done = index.insert(key, counted.clone()?, now).is_ok();
+                check_same(rt, done, true, (at, key));
+            }
+        }
+        Inserts(key) => {
+            let done = index.insert(*key, counted.clone()?, now).is_ok();
+            check_same(rt, done, true, at);
+        }
+        Returns(key) => {
+            let done = index.insert(*key, counted.clone()?, now).is_ok();
+            check_same(rt, done, false, at);
+        }
+        Reads(key, there) => {
+            let copied = |_own: &u64, value: &Rc<u64>| value.clone().is_ok();
+            let found = index.remove_with(key, now, copied);
+            check_same(rt, found.is_some(), *there, at);
+        }
+        _ => change(rt, index, counted, now, at, step),
+    }
+    Ok(())
+}
+
+// Takes a step that marks pairs, raises the minimum, or looks.
+fn change(
+    rt: &impl Abort,
+    index: &mut Index,
+    counted: &Rc<u64>,
+    now: &FixedGeneration,
+    at: At,
+    step: &Step,
+) {
+    match step {
+        Removes(key, there) => check_same(rt, index.remove(key, now), *there, at),
+        Reserves(additional) => {
+            let _ = index.reserve(*additional);
+        }
+        Clears => index.clear(),
+        Sees(pairs, values) => {
+            let found = (index.len(), Rc::strong_count(counted).saturating_sub(1));
+            check_same(rt, found, (*pairs, *values), at);
+        }
+        _ => check_same(rt, true, false, (at, "no step")),
+    }
+}

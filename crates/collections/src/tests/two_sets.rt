@@ -1,0 +1,105 @@
+//! What two sets have together, apart, and of one alone.
+use super::sets::Set;
+use super::{check_same, steps};
+use crate::hash_set::HashSet;
+use bucket_table::script::ScriptHash;
+use std::alloc::Global;
+use std::test::Fail;
+
+/// Keys in order. Of each two the second is the first that is not meant.
+pub(super) type Ranges = &'static [(u64, u64)];
+
+/// The keys of two sets, and those that four calls hand over.
+struct Row {
+    one: Ranges,
+    other: Ranges,
+    union: Ranges,
+    intersection: Ranges,
+    difference: Ranges,
+    symmetric_difference: Ranges,
+}
+
+/// A call on two sets.
+#[derive(Clone, Copy, Debug)]
+enum Call {
+    Union,
+    Intersection,
+    Difference,
+    SymmetricDifference,
+}
+
+// A set of the keys 0 to 31 and 128 to 158 grows as its last key comes.
+const ROWS: &[Row] = steps! {
+    Row { one: &[], other: &[], union: &[], intersection: &[], difference: &[],
+        symmetric_difference: &[] },
+    Row { one: &[(1, 3)], other: &[], union: &[(1, 3)], intersection: &[], difference: &[(1, 3)],
+        symmetric_difference: &[(1, 3)] },
+    Row { one: &[], other: &[(1, 3)], union: &[(1, 3)], intersection: &[], difference: &[],
+        symmetric_difference: &[(1, 3)] },
+    Row { one: &[(1, 2), (3, 4)], other: &[(3, 4), (5, 6)], union: &[(1, 2), (3, 4), (5, 6)],
+        intersection: &[(3, 4)], difference: &[(1, 2)], symmetric_difference: &[(1, 2), (5, 6)] },
+    Row { one: &[(4, 9)], other: &[(4, 9)], union: &[(4, 9)], intersection: &[(4, 9)],
+        difference: &[], symmetric_difference: &[] },
+    Row { one: &[(4, 9)], other: &[(0, 20)], union: &[(0, 20)], intersection: &[(4, 9)],
+        difference: &[], symmetric_difference: &[(0, 4), (9, 20)] },
+    Row { one: &[(128, 159), (0, 32)], other: &[(16, 48), (140, 170)],
+        union: &[(0, 48), (128, 170)], intersection: &[(16, 32), (140, 159)],
+        difference: &[(0, 16), (128, 140)],
+        symmetric_difference: &[(0, 16), (32, 48), (128, 140), (159, 170)] }
+};
+
+#[test]
+fn two_sets_are_joined_and_parted(rt: HostRuntime) -> Result<(), Fail> {
+    for (number, row) in ROWS.iter().enumerate() {
+        let one = set_of(rt.alloc(), ScriptHash::Spread, row.one)?;
+        let other = set_of(rt.alloc(), ScriptHash::Id, row.other)?;
+        for (call, ranges) in [
+            (Call::Union, row.union),
+            (Call::Intersection, row.intersection),
+            (Call::Difference, row.difference),
+            (Call::SymmetricDifference, row.symmetric_difference),
+        ] {
+            let found = handed_over(rt.alloc(), &one, &other, call)?;
+            check_same(&rt, found, listed(rt.alloc(), ranges)?, (number, call));
+        }
+    }
+    Ok(())
+}
+
+// A set of keys.
+fn set_of(alloc: Global, hasher: ScriptHash, ranges: Ranges) -> Result<Set, Fail> {
+    let mut set = HashSet::with_hasher(alloc, hasher);
+    for (from, to) in ranges {
+        for key in *from..*to {
+            set.insert(key)?;
+        }
+    }
+    Ok(set)
+}
+
+// The keys that a call hands over, in order.
+fn handed_over(alloc: Global, one: &Set, other: &Set, call: Call) -> Result<Vec<u64>, Fail> {
+    let mut keys = Vec::new(alloc);
+    let mut meet = |key: &u64| {
+        let _ = keys.push(*key);
+    };
+    match call {
+        Call::Union => one.union(other, &mut meet),
+        Call::Intersection => one.intersection(other, &mut meet),
+        Call::Difference => one.difference(other, &mut meet),
+        Call::SymmetricDifference => one.symmetric_difference(other, &mut meet),
+    }
+    keys.sort()?;
+    Ok(keys)
+}
+
+// The keys of ranges.
+pub(super) fn listed(alloc: Global, ranges: Ranges) -> Result<Vec<u64>, Fail> {
+    let mut keys = Vec::new(alloc);
+    for (from, to) in ranges {
+        for key in *from..*to {
+            keys.push(key)?;
+        }
+    }
+    Ok(keys)
+}
