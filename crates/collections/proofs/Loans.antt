@@ -1,5 +1,5 @@
 -- A value of a map was lent: what is written through the loan stands under the key.
-use Rattle.std.proofs.Common.{ℕ, Bool, List, ◌∷◌, Option, Some, None, ◌≡◌, sym}
+use Rattle.std.proofs.Common.{ℕ, Bool, ◌∷◌, Option, Some, None, ◌≡◌, sym}
 use Rattle.std.specs.Borrow.{MutBor}
 use Rattle.std.specs.Cmp.{IsEquivalence}
 use Rattle.std.specs.List.{IsDistinct}

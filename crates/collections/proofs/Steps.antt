@@ -1,5 +1,5 @@
 -- What the calls of a table by key do to the map that it is.
-use Rattle.std.proofs.Common.{ℕ, ◌≡◌, ◌+◌, ◌-◌, ◌*◌, ◌≤◌, if◌then◌else◌, Bool, true, false, cond, Option, Some, None, Result, Ok, Err, inl, inr, List, ◌∷◌, length, refl, subst, sym, ap, ◌∙◌, arith}
+use Rattle.std.proofs.Common.{ℕ, ◌≡◌, ◌-◌, ◌*◌, if◌then◌else◌, Bool, true, cond, Option, Some, None, Result, Ok, Err, List, ◌∷◌, length, refl, subst, sym, ap, ◌∙◌, arith}
 use Rattle.std.specs.Borrow.{Bor, MutBor}
 use Rattle.std.specs.Cmp.{IsEquivalence}
 use Rattle.std.specs.List.{Contains, IsDistinct}
@@ -10,15 +10,15 @@ use Rattle.std.proofs.lemmas.List.{length-map}
 use Rattle.std.proofs.lemmas.List.Sorted.{Contains-permutation, IsPermutation-sym, length_permutation}
 use Rattle.bucket_slots.specs.BucketView.{BucketView}
 use Rattle.bucket_table.specs.Views.ArraysView.{TableView, killed_flags, pairs_of}
-use Rattle.bucket_table.specs.Map.LookingUp.{IsAbsent, IsThere}
+use Rattle.bucket_table.specs.Map.LookingUp.{IsAbsent}
 use Rattle.bucket_table.specs.Map.MapState.{AddsPair, Becomes, ChangesValue, KeepsPairs, LowersMinimum, TakesPair, state_of}
 use Rattle.bucket_table.specs.Map.ByKey as by_key
 use Rattle.bucket_table.specs.Map.Putting as putting
 use Rattle.bucket_table.specs.declared.hash_table.NotInserted.{NotInserted}
 use Rattle.bucket_table.specs.declared.hash_table.NotInserted.TheVariants.{Present, Memory}
-use Rattle.collections.specs.Maps.{MapView, get, map_of}
+use Rattle.collections.specs.Maps.{get, map_of}
 use Rattle.collections.specs.Changes.{Adds, Displaces, Inserts, Keeps, Puts, Removes, Replaces, Rewrites, Stays, Takes, Upserts}
-use Rattle.collections.proofs.Lookups.{get_absent, get_there, lookup_added, lookup_changed, lookup_permuted, lookup_same, lookup_taken}
+use Rattle.collections.proofs.Lookups.{get_absent, get_there, lookup_added, lookup_changed, lookup_permuted, lookup_taken}
 
 module _ {K V H : Type 0} (eq : K → K → Bool) (laws : IsEquivalence eq) where
   module _ (kind : ℕ) (t s : TableView K V H) (distinct : IsDistinct eq (keys_of (pairs_of t.arrays)))

@@ -1,5 +1,5 @@
 -- What calls do to a map.
-use Rattle.std.specs.Prelude.{ℕ, ◌≡◌, ◌+◌, ◌-◌, Bool, true, false, cond, if◌then◌else◌, nat_le, List, ◌∷◌, Option, Some, None, Result, Ok, Err, IsSome}
+use Rattle.std.specs.Prelude.{ℕ, ◌≡◌, ◌+◌, ◌-◌, Bool, true, cond, if◌then◌else◌, nat_le, List, ◌∷◌, Option, Some, None, Result, Ok, Err, IsSome}
 use Rattle.std.specs.Borrow.{Bor, MutBor}
 use Rattle.std.specs.List.Sorted.{IsPermutation}
 use Rattle.collections.specs.Maps.{MapView, IsUnique, get, map_len}

@@ -1,5 +1,5 @@
 -- Equality of maps, as `==` of std's maps has it.
-use Rattle.std.specs.Prelude.{Bool, ◌&&◌, List}
+use Rattle.std.specs.Prelude.{Bool, ◌&&◌}
 use Rattle.std.specs.List.{list_all}
 use Rattle.std.specs.Map.{keys_of}
 use Rattle.std.specs.Option.{option_eq}

@@ -1,5 +1,5 @@
 -- What contracts see of a collection, in the words of std's `HashMap`.
-use Rattle.std.specs.Prelude.{ℕ, ◌≡◌, ◌*◌, Bool, cond, false, List, [], length, Option, IsSome, is_some}
+use Rattle.std.specs.Prelude.{ℕ, ◌≡◌, ◌*◌, Bool, List, [], length, Option, is_some}
 use Rattle.std.specs.List.{IsDistinct}
 use Rattle.std.specs.Map.{keys_of, lookup}
 use Rattle.bucket_table.specs.Views.ArraysView.{TableView, pairs_of}

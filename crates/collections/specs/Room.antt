@@ -1,15 +1,13 @@
 -- That the table of a collection fits in memory: a caller that is generic in the hasher owes it where it makes one.
-use Rattle.std.specs.Prelude.{ℕ, ◌≡◌, false, []}
+use Rattle.std.specs.Prelude.{◌≡◌, false, []}
 use Rattle.std.specs.Borrow.{RattleType}
 use Rattle.std.specs.Mem.{FitsInMemory}
 use denote.Param.{number}
 use denote.Plain.{Nothing}
 use Rattle.std.specs.declared.cmp.PartialEq as equals
-use Rattle.std.specs.declared.default.Default as default
 use Rattle.bucket_slots.specs.contracts.lru.doubly_linked_list.DoublyLinkedList as linked_list
 use Rattle.bucket_slots.specs.contracts.lru.doubly_linked_list.DoublyLinkedListDefault.TheImpl as linked_list_default
 use Rattle.bucket_slots.specs.contracts.lru.doubly_linked_list.DoublyLinkedListLruList.TheImpl as linked_list_listing
-use Rattle.bucket_slots.specs.declared.lru.LruList as list
 use Rattle.bucket_table.specs.declared.key_hash.KeyHash as key_hash
 use Rattle.bucket_table.specs.Views.TableRow.{table_row}
 
