@@ -18,10 +18,7 @@ impl Beside {
 
     /// The value under a key.
     pub(crate) fn value(&self, key: u64) -> Option<u64> {
-        match self.values.get(key as usize) {
-            Some(value) => *value,
-            None => None,
-        }
+        *self.values.get(key as usize)?
     }
 
     /// How many keys have a value.

@@ -1,50 +1,49 @@
-//! A map and what it must have, and calls on both. Pairs come and go like tides, so that the map
-//! gets longer arrays and shorter ones again.
+//! A collection and what it must have, and calls on both. Pairs come and go like tides, so that the
+//! collection gets longer arrays and shorter ones again.
 use crate::beside::{Beside, KEYS};
 use crate::chance::Chance;
-use bucket_table::script::ScriptHash;
-use collections::hash_map::{HashMap, NotInserted};
-use std::alloc::Global;
+use crate::collection::Collection;
+use collections::hash_map::NotInserted;
 use std::mem;
 
 // For how many calls pairs come, and for how many they go.
 const TIDE: u64 = 4000;
 
-// After how many calls the map is compared as a whole, and one call is made on the whole map.
+// After how many calls the collection is compared as a whole, and one call is made on all of it.
 const WHOLE: u64 = 250;
 
 // An odd number with its bits spread, so that keys take homes all over the array.
 const SPREADING: u64 = 11400714819323198485;
 
-/// A map, what it must have, and how often a pair was put and refused.
+// Times the other number this is 1, modulo 2^64.
+const GATHERING: u64 = 17428512612931826493;
+
+/// A collection, what it must have, and how often a pair was put, refused, and let go for another.
 #[derive(Drop)]
 pub(crate) struct Course {
-    map: HashMap<u64, u64, ScriptHash>,
+    collection: Collection,
     beside: Beside,
     chance: Chance,
-    put: u64,
-    refused: u64,
+    pub(crate) put: u64,
+    pub(crate) refused: u64,
+    pub(crate) gone: u64,
 }
 
 impl Course {
-    /// The map has no pair.
-    pub(crate) fn new(alloc: Global, hasher: ScriptHash) -> Self {
+    /// The collection has no pair.
+    pub(crate) fn new(collection: Collection) -> Self {
         Course {
-            map: HashMap::with_hasher(alloc, hasher),
+            collection,
             beside: Beside::new(),
             chance: Chance::new(),
             put: 0,
             refused: 0,
+            gone: 0,
         }
     }
 
-    /// How many pairs were put, and how many came back for want of memory.
-    pub(crate) fn counts(&self) -> (u64, u64) {
-        (self.put, self.refused)
-    }
-
     /// Makes so many calls, to the first that answers wrongly. Returns whether there is none, and
-    /// the map has the pairs.
+    /// the collection has the pairs.
     pub(crate) fn play(&mut self, calls: u64) -> bool {
         for number in 0..calls {
             if !self.call(number / TIDE % 2 == 0) {
@@ -61,24 +60,26 @@ impl Course {
     /// removed, and while they go none is put.
     fn call(&mut self, comes: bool) -> bool {
         let number = self.chance.next() % KEYS;
-        let value = self.chance.next();
+        let has_values = !matches!(self.collection, Collection::Set(_));
+        let value = self.chance.next().wrapping_mul(u64::from(has_values));
         match (self.chance.next() % 16, comes) {
             (0..=3, true) => self.insert(number, value),
             (4..=6, true) => self.upsert(number, value),
             (0..=6, false) | (7..=8, _) => self.remove(number),
             (9..=11, _) => self.update(number, value),
-            _ => self.map.get(&key_of(number)).copied() == self.beside.value(number),
+            _ => self.collection.value(key_of(number)) == self.beside.value(number),
         }
     }
 
-    /// Inserts a pair. Without memory the map may not have looked for the key.
+    /// Inserts a pair. Without memory the collection may not have looked for the key.
     fn insert(&mut self, number: u64, value: u64) -> bool {
         let key = key_of(number);
         let is_there = self.beside.value(number).is_some();
-        match self.map.insert(key, value) {
-            Ok(()) => {
+        match self.collection.insert(key, value) {
+            Ok(gone) => {
+                let is_right = !is_there && self.goes(gone);
                 self.puts(number, value);
-                !is_there
+                is_right
             }
             Err(NotInserted::Present(own, back)) => is_there && (own, back) == (key, value),
             Err(NotInserted::Memory(own, back)) => {
@@ -88,11 +89,26 @@ impl Course {
         }
     }
 
-    /// Puts a pair, or writes its value.
+    /// Notes the pair that goes for another, and returns whether it was there.
+    fn goes(&mut self, gone: Option<(u64, u64)>) -> bool {
+        let Some((key, value)) = gone else {
+            return true;
+        };
+        let number = key.wrapping_mul(GATHERING);
+        let was_there = self.beside.value(number) == Some(value);
+        self.beside.set(number, None);
+        self.gone = self.gone.saturating_add(1);
+        was_there
+    }
+
+    /// Puts a pair of a map, or writes its value; inserts a pair of another collection.
     fn upsert(&mut self, number: u64, value: u64) -> bool {
         let key = key_of(number);
         let wanted = self.beside.value(number);
-        match self.map.upsert(key, value) {
+        let Collection::Map(map) = &mut self.collection else {
+            return self.insert(number, value);
+        };
+        match map.upsert(key, value) {
             Ok(None) => {
                 self.puts(number, value);
                 wanted.is_none()
@@ -119,49 +135,49 @@ impl Course {
         let key = key_of(number);
         let wanted = self.beside.value(number).map(|value| (key, value));
         self.beside.set(number, None);
-        self.map.remove(&key) == wanted
+        self.collection.remove(key) == wanted
     }
 
-    /// Writes the value of a pair that is there.
+    /// Writes the value of a map's pair that is there, touches a cache's pair, or looks it up.
     fn update(&mut self, number: u64, value: u64) -> bool {
         let key = key_of(number);
-        let wanted = self.beside.value(number).map(|value| (key, value));
-        if wanted.is_some() {
-            self.beside.set(number, Some(value));
+        let wanted = self.beside.value(number);
+        match &mut self.collection {
+            Collection::Map(map) => {
+                self.beside.set(number, wanted.map(|_| value));
+                let found = map.update(&key, |own: &u64, earlier: &mut u64| {
+                    (*own, mem::replace(earlier, value))
+                });
+                found == wanted.map(|earlier| (key, earlier))
+            }
+            Collection::Cache(cache) => cache.get(&key).copied() == wanted,
+            other => other.value(key) == wanted,
         }
-        let found = self.map.update(&key, |own: &u64, earlier: &mut u64| {
-            (*own, mem::replace(earlier, value))
-        });
-        found == wanted
     }
 
-    /// Clears the map, or raises the minimum or gives it back.
+    /// Clears the collection, or raises the minimum or gives it back.
     fn call_on_all(&mut self) -> bool {
         match self.chance.next() % 8 {
             0 => {
-                self.map.clear();
                 self.beside = Beside::new();
-                self.map.capacity() == 0
+                self.collection.clear()
             }
-            1..=3 => self.map.reserve(256) == 256,
+            1..=3 => self.collection.reserve(256),
             _ => {
-                self.map.shrink_to_fit();
+                self.collection.shrink_to_fit();
                 true
             }
         }
     }
 
-    /// Whether the map has the pairs that it must have, and no more.
+    /// Whether the collection has the pairs that it must have, and no more.
     fn is_same(&self) -> bool {
-        let mut came: usize = 0;
-        let mut meet = |_key: &u64, _value: &u64| came = came.saturating_add(1);
-        self.map.for_each(&mut meet);
         for number in 0..KEYS {
-            if self.map.get(&key_of(number)).copied() != self.beside.value(number) {
+            if self.collection.value(key_of(number)) != self.beside.value(number) {
                 return false;
             }
         }
-        (came, self.map.len()) == (self.beside.len(), self.beside.len())
+        self.collection.lens() == (self.beside.len(), self.beside.len())
     }
 }
 

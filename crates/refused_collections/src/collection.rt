@@ -1,0 +1,121 @@
+//! The four collections, and the calls that they share.
+use Collection::{Cache, Index, Map, Set};
+use bucket_table::script::{FixedGeneration, ScriptHash};
+use collections::hash_cache::HashCache;
+use collections::hash_index::HashIndex;
+use collections::hash_map::{HashMap, NotInserted};
+use collections::hash_set::HashSet;
+use std::alloc::Global;
+
+/// A collection. The value under each key of a set is 0.
+#[derive(Drop)]
+pub(crate) enum Collection {
+    Map(HashMap<u64, u64, ScriptHash>),
+    Set(HashSet<u64, ScriptHash>),
+    /// An index, and what it is told of its marks: each removal has the next epoch, and marks are
+    /// kept in every second one.
+    Index(HashIndex<u64, u64, ScriptHash>, FixedGeneration),
+    /// A cache of at most 128 slots.
+    Cache(HashCache<u64, u64, ScriptHash>),
+}
+
+/// The same call on any collection, or another one on a cache.
+macro_rules! on_each {
+    ($collection:expr, $any:ident => $call:expr, $cache:pat => $of_cache:expr) => {
+        match $collection {
+            Map($any) => $call,
+            Set($any) => $call,
+            Index($any, _) => $call,
+            Cache($cache) => $of_cache,
+        }
+    };
+}
+
+impl Collection {
+    /// One of each with its name, and no pair.
+    pub(crate) fn all(alloc: Global, hasher: ScriptHash) -> [(&'static str, Self); 4] {
+        let first = FixedGeneration {
+            epoch: 0,
+            keep: true,
+        };
+        let cache = HashCache::with_capacity(alloc, hasher, 0, 128);
+        [
+            ("map", Map(HashMap::with_hasher(alloc, hasher))),
+            ("set", Set(HashSet::with_hasher(alloc, hasher))),
+            ("index", Index(HashIndex::with_hasher(alloc, hasher), first)),
+            ("cache", Cache(cache)),
+        ]
+    }
+
+    /// Inserts a pair, and returns the one that a cache lets go for it.
+    pub(crate) fn insert(
+        &mut self,
+        key: u64,
+        value: u64,
+    ) -> Result<Option<(u64, u64)>, NotInserted<u64, u64>> {
+        match self {
+            Map(map) => map.insert(key, value)?,
+            Set(set) => match set.insert(key) {
+                Ok(()) => {}
+                Err(NotInserted::Present(own, _)) => return Err(NotInserted::Present(own, 0)),
+                Err(NotInserted::Memory(own, _)) => return Err(NotInserted::Memory(own, 0)),
+            },
+            Index(index, generation) => index.insert(key, value, generation)?,
+            Cache(cache) => return cache.put(key, value),
+        }
+        Ok(None)
+    }
+
+    /// Takes a pair out.
+    pub(crate) fn remove(&mut self, key: u64) -> Option<(u64, u64)> {
+        match self {
+            Map(map) => map.remove(&key),
+            Set(set) => set.remove(&key).map(|own| (own, 0)),
+            Index(index, generation) => {
+                generation.epoch = generation.epoch.wrapping_add(1);
+                generation.keep = !generation.keep;
+                index.remove_with(&key, generation, |own: &u64, value: &u64| (*own, *value))
+            }
+            Cache(cache) => cache.remove(&key),
+        }
+    }
+
+    /// The value under a key.
+    pub(crate) fn value(&self, key: u64) -> Option<u64> {
+        match self {
+            Map(map) => map.get(&key).copied(),
+            Set(set) => set.contains(&key).then_some(0),
+            Index(index, _) => index.peek(&key).copied(),
+            Cache(cache) => cache.peek(&key).copied(),
+        }
+    }
+
+    /// How many pairs it shows, and how many it says that it has.
+    pub(crate) fn lens(&self) -> (usize, usize) {
+        let mut came: usize = 0;
+        let mut meet = |_key: &u64, _value: &u64| came = came.saturating_add(1);
+        match self {
+            Map(map) => map.for_each(&mut meet),
+            Set(set) => set.for_each(&mut |key: &u64| meet(key, &0)),
+            Index(index, _) => index.for_each(&mut meet),
+            Cache(cache) => cache.for_each(&mut meet),
+        }
+        (came, on_each!(self, any => any.len(), cache => cache.len()))
+    }
+
+    /// Clears it, and returns whether it has no slot then.
+    pub(crate) fn clear(&mut self) -> bool {
+        on_each!(self, any => any.clear(), cache => cache.clear());
+        on_each!(self, any => any.capacity(), cache => cache.capacity()) == 0
+    }
+
+    /// Raises the minimum, where there is one, and returns whether it did.
+    pub(crate) fn reserve(&mut self, additional: usize) -> bool {
+        on_each!(self, any => any.reserve(additional) == additional, _ => true)
+    }
+
+    /// Gives the minimum back, where there is one.
+    pub(crate) fn shrink_to_fit(&mut self) {
+        on_each!(self, any => any.shrink_to_fit(), _ => {});
+    }
+}
