@@ -3,6 +3,7 @@
 mod by_chance;
 mod caches;
 mod drops;
+mod entries;
 mod equality;
 mod indexes;
 mod maps;

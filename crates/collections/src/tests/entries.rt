@@ -1,0 +1,132 @@
+//! Stories of entries: the place of a key, occupied or vacant.
+use super::maps::Map;
+use super::{At, check_same, steps};
+use crate::hash_map::HashMap;
+use crate::hash_map::entry::Entry;
+use Step::*;
+use bucket_table::script::ScriptHash;
+use std::process::Abort;
+use std::test::Fail;
+
+/// What is done at a key's place, or what is seen of the map.
+enum Step {
+    /// Keys are inserted by vacant entries, each as its own value.
+    Fills(u64, u64),
+    /// A value is put where there is none, and one is added to what is there then: this comes out.
+    Counts(u64, u64, u64),
+    /// The value there is doubled, or the second number is put: this is there then.
+    Doubles(u64, u64, u64),
+    /// A value is written where one is there, and this was the earlier one.
+    Writes(u64, u64, Option<u64>),
+    /// The pair that is taken out.
+    Takes(u64, Option<(u64, u64)>),
+    /// The value that a key has.
+    Holds(u64, Option<u64>),
+    /// How many pairs there are.
+    Len(usize),
+}
+
+/// What happens on a new map.
+struct Story {
+    name: &'static str,
+    hasher: ScriptHash,
+    steps: &'static [Step],
+}
+
+const STORIES: &[Story] = steps! {
+    Story { name: "a value is put once, and then it is the one that is lent",
+        hasher: ScriptHash::Id, steps: steps! {
+            Counts(1, 10, 11), Counts(1, 10, 12), Counts(2, 0, 1), Holds(1, Some(12)),
+            Holds(2, Some(1)), Len(2) } },
+    Story { name: "what is there is modified, and what isn't is put",
+        hasher: ScriptHash::Id, steps: steps! {
+            Doubles(3, 5, 5), Doubles(3, 6, 10), Doubles(3, 7, 20), Doubles(4, 8, 8),
+            Holds(3, Some(20)), Len(2) } },
+    Story { name: "an occupied place is written and taken, a vacant one stays",
+        hasher: ScriptHash::Id, steps: steps! {
+            Writes(1, 10, None), Takes(1, None), Len(0), Counts(1, 4, 5), Writes(1, 10, Some(5)),
+            Writes(1, 11, Some(10)), Takes(1, Some((1, 11))), Takes(1, None), Holds(1, None),
+            Len(0) } },
+    Story { name: "places amid a growth are those of the pairs where they are",
+        hasher: ScriptHash::Spread, steps: steps! {
+            Fills(0, 31), Fills(128, 159), Fills(31, 32), Len(63), Counts(5, 0, 6),
+            Counts(158, 0, 159), Writes(130, 1, Some(130)), Takes(7, Some((7, 7))),
+            Doubles(40, 9, 9), Holds(4, Some(4)), Holds(5, Some(6)), Holds(130, Some(1)),
+            Len(63) } },
+    Story { name: "keys of one hash have places of their own",
+        hasher: ScriptHash::Zero, steps: steps! {
+            Fills(0, 80), Counts(79, 0, 80), Counts(80, 0, 1), Takes(40, Some((40, 40))),
+            Counts(40, 3, 4), Holds(79, Some(80)), Holds(41, Some(41)), Len(81) } },
+};
+
+#[test]
+fn entries_are_the_places_of_keys(rt: HostRuntime) -> Result<(), Fail> {
+    for story in STORIES {
+        let mut map: Map = HashMap::with_hasher(rt.alloc(), story.hasher);
+        for (row, step) in story.steps.iter().enumerate() {
+            take(&rt, &mut map, (story.name, row), step);
+        }
+    }
+    Ok(())
+}
+
+// Takes a step, and compares what it answers.
+fn take(rt: &impl Abort, map: &mut Map, at: At, step: &Step) {
+    match *step {
+        Fills(from, to) => {
+            for key in from..to {
+                check_same(rt, put_where_vacant(map, key), true, (at, key));
+            }
+        }
+        Counts(key, value, after) => check_same(rt, count(map, key, value), Some(after), at),
+        Doubles(key, value, after) => check_same(rt, double(map, key, value), Some(after), at),
+        Writes(key, value, earlier) => check_same(rt, write(map, key, value), earlier, at),
+        Takes(key, pair) => check_same(rt, take_out(map, key), pair, at),
+        Holds(key, value) => check_same(rt, map.get(&key).copied(), value, at),
+        Len(pairs) => check_same(rt, map.len(), pairs, at),
+    }
+}
+
+// Puts a key as its own value. Returns whether its place was vacant and it came.
+fn put_where_vacant(map: &mut Map, key: u64) -> bool {
+    match map.entry(key) {
+        Entry::Vacant(place) => place.insert(key).is_ok(),
+        Entry::Occupied(_) => false,
+    }
+}
+
+// Puts a value where there is none, adds one to what is lent, and returns what the map has then.
+fn count(map: &mut Map, key: u64, value: u64) -> Option<u64> {
+    if let Ok(held) = map.entry(key).or_insert(value) {
+        *held = held.wrapping_add(1);
+    }
+    map.get(&key).copied()
+}
+
+// Doubles the value there, or puts one, and returns what the map has then.
+fn double(map: &mut Map, key: u64, value: u64) -> Option<u64> {
+    let entry = map
+        .entry(key)
+        .and_modify(|held| *held = held.wrapping_mul(2));
+    let _ = entry.or_insert_with(|| value);
+    map.get(&key).copied()
+}
+
+// Writes a value where one is there, and returns the earlier one.
+fn write(map: &mut Map, key: u64, value: u64) -> Option<u64> {
+    match map.entry(key) {
+        Entry::Occupied(mut place) => Some(place.insert(value)),
+        Entry::Vacant(_) => None,
+    }
+}
+
+// Takes the pair of a key out.
+fn take_out(map: &mut Map, key: u64) -> Option<(u64, u64)> {
+    match map.entry(key) {
+        Entry::Occupied(place) => Some(place.remove_entry()),
+        Entry::Vacant(place) => {
+            let _ = place.into_key();
+            None
+        }
+    }
+}
