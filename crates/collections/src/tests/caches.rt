@@ -50,9 +50,10 @@ struct Story {
 const STORIES: &[Story] = steps! {
     Story { name: "the pair touched longest ago goes from a full home", hasher: ScriptHash::Zero,
         bounds: (0, 256), steps: steps! {
-            Slots(0), Fills(0, 32), Slots(64), Len(32), Gets(0, Some(0)), Puts(32, 320, Some((1, 1))),
-            Len(32), Holds(1, None), Holds(0, Some(0)), Holds(32, Some(320)),
-            Puts(33, 330, Some((2, 2))), Gets(3, Some(3)), Puts(34, 340, Some((4, 4))),
+            Slots(0), Fills(0, 32), Slots(64), Len(32), Gets(0, Some(0)),
+            Puts(32, 320, Some((1, 1))), Len(32), Holds(1, None), Holds(0, Some(0)),
+            Holds(32, Some(320)), Puts(33, 330, Some((2, 2))), Gets(3, Some(3)),
+            Puts(34, 340, Some((4, 4))),
             Holds(3, Some(3)), Slots(64), Len(32) } },
     // The keys 3 to 31 go first, and then the touched ones, and then those that came for them.
     Story { name: "pairs go in the order of their touches", hasher: ScriptHash::Zero,

@@ -26,8 +26,8 @@ enum Step {
     Updates(u64, Option<(u64, u64)>),
     /// A value is lent and written, and this was the earlier one.
     Lends(u64, u64, Option<u64>),
-    /// One is added to each value, and the pairs stay whose keys leave the second number, divided by
-    /// the first. So many pairs were asked for.
+    /// One is added to each value, and the pairs stay whose keys leave the second number, divided
+    /// by the first. So many pairs were asked for.
     Retains(u64, u64, usize),
     /// The pair that is taken out.
     Removes(u64, Option<(u64, u64)>),
@@ -109,7 +109,8 @@ const STORIES: &[Story] = steps! {
         steps: steps! {
             Fills(0, 31), Fills(128, 159), Fills(31, 32), Slots(128), Retains(2, 0, 63), Len(32),
             Holds(0, Some(1)), Holds(30, Some(31)), Holds(31, None), Holds(157, None),
-            Holds(158, Some(159)), Inserts(31, 7), Retains(2, 1, 33), Len(1), Holds(31, Some(8)) } },
+            Holds(158, Some(159)), Inserts(31, 7), Retains(2, 1, 33), Len(1),
+            Holds(31, Some(8)) } },
     Story { name: "keys of one hash make a chain", hasher: ScriptHash::Zero, capacity: 0,
         steps: steps! {
             Fills(0, 100), Slots(64), Len(100), Removes(50, Some((50, 50))), Returns(99, 1),

@@ -10,8 +10,8 @@ use std::test::Fail;
 
 type Index = HashIndex<u64, Rc<u64>, ScriptHash>;
 
-/// A setting for the steps that follow, a call, or what is seen of the index. Of two keys the second
-/// is the first that is not meant.
+/// A setting for the steps that follow, a call, or what is seen of the index. Of two keys the
+/// second is the first that is not meant.
 enum Step {
     /// The epoch from here on, and whether marks are kept. At first it is 0, and they are.
     Now(u8, bool),

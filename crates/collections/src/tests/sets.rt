@@ -41,9 +41,9 @@ const STEPS: &[Step] = steps! {
     Holds(2, true), Clears, Sees(0, 0), Holds(2, false), Reserves(200, 200), Inserts(255),
     Sees(1, 256), Shrinks, Sees(1, 64), Holds(255, true), Reserves(1 << 63, 1 << 63),
     Reserves(1, 0), Returns(255), Has(&[(255, 256)]), Retains(5, 1), Has(&[(255, 256)]),
-    Inserts(7), Inserts(0), Inserts(14), Has(&[(0, 1), (7, 8), (14, 15), (255, 256)]), Retains(7, 4),
-    Has(&[(0, 1), (7, 8), (14, 15)]), Returns(7), Retains(100, 3), Has(&[(0, 1)]), Clears,
-    Has(&[]), Retains(1, 0)
+    Inserts(7), Inserts(0), Inserts(14), Has(&[(0, 1), (7, 8), (14, 15), (255, 256)]),
+    Retains(7, 4), Has(&[(0, 1), (7, 8), (14, 15)]), Returns(7), Retains(100, 3), Has(&[(0, 1)]),
+    Clears, Has(&[]), Retains(1, 0)
 };
 
 #[test]
