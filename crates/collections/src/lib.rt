@@ -13,5 +13,3 @@ pub mod hash_index;
 pub mod hash_map;
 pub mod hash_set;
 mod room;
-#[cfg(test)]
-mod tests;

@@ -1,9 +1,9 @@
 //! Stories of a map of numbers: what each call answers, how many slots there are then, and which
 //! pairs `for_each` hands over.
 use super::{At, check_same, steps};
-use crate::hash_map::{HashMap, NotInserted};
 use Step::*;
 use bucket_table::script::ScriptHash;
+use collections::hash_map::{HashMap, NotInserted};
 use std::process::Abort;
 use std::test::Fail;
 

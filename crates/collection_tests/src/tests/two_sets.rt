@@ -1,8 +1,8 @@
 //! What two sets have together, apart, and of one alone.
 use super::sets::Set;
 use super::{check_same, steps};
-use crate::hash_set::HashSet;
 use bucket_table::script::ScriptHash;
+use collections::hash_set::HashSet;
 use std::alloc::Global;
 use std::test::Fail;
 

@@ -1,9 +1,9 @@
 //! Stories of an index of numbers: what each call answers, and which pairs are seen then.
 use super::{At, check_same, steps};
-use crate::hash_index::HashIndex;
-use crate::hash_map::NotInserted;
 use Step::*;
 use bucket_table::script::{FixedGeneration, ScriptHash};
+use collections::hash_index::HashIndex;
+use collections::hash_map::NotInserted;
 use std::process::Abort;
 use std::test::Fail;
 

@@ -1,10 +1,10 @@
 //! The story of a set of numbers.
 use super::two_sets::{Ranges, listed};
 use super::{At, check_same, steps};
-use crate::hash_map::NotInserted;
-use crate::hash_set::HashSet;
 use Step::*;
 use bucket_table::script::ScriptHash;
+use collections::hash_map::NotInserted;
+use collections::hash_set::HashSet;
 use std::alloc::Global;
 use std::process::Abort;
 use std::test::Fail;

@@ -1,9 +1,9 @@
 //! Values that are counted, in an index: a removed one stays while its mark waits, and is dropped
 //! once, as its mark is let go, as the pairs are cleared, or with its array.
 use super::{At, check_same, steps};
-use crate::hash_index::HashIndex;
 use Step::*;
 use bucket_table::script::{FixedGeneration, ScriptHash};
+use collections::hash_index::HashIndex;
 use std::process::Abort;
 use std::rc::Rc;
 use std::test::Fail;

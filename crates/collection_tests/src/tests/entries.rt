@@ -1,10 +1,10 @@
 //! Stories of entries: the place of a key, occupied or vacant.
 use super::maps::Map;
 use super::{At, check_same, steps};
-use crate::hash_map::HashMap;
-use crate::hash_map::entry::Entry;
 use Step::*;
 use bucket_table::script::ScriptHash;
+use collections::hash_map::HashMap;
+use collections::hash_map::entry::Entry;
 use std::process::Abort;
 use std::test::Fail;
 

@@ -2,9 +2,9 @@
 use super::maps::Map;
 use super::sets::Set;
 use super::{check_same, steps};
-use crate::hash_map::HashMap;
-use crate::hash_set::HashSet;
 use bucket_table::script::ScriptHash;
+use collections::hash_map::HashMap;
+use collections::hash_set::HashSet;
 use std::test::Fail;
 
 /// A pair or none, how the map of it is printed in a line and in several, and how the set of its

@@ -4,9 +4,9 @@ ghost use Rattle.std.specs.Cmp.Rules.{comparing};
 ghost use Rattle.std.proofs.Common.{arith, rules};
 
 use super::check_same;
-use crate::hash_map::{HashMap, NotInserted};
-use crate::hash_set::HashSet;
 use bucket_table::key_hash::KeyHash;
+use collections::hash_map::{HashMap, NotInserted};
+use collections::hash_set::HashSet;
 use std::test::Fail;
 
 /// A number that is compared, and a tag that isn't.

@@ -1,8 +1,8 @@
 //! Values that are counted, under words as keys: each is dropped once, when its pair goes.
 use super::{At, check_same, steps};
-use crate::hash_map::HashMap;
 use Step::*;
 use bucket_table::key_hash::StdHash;
+use collections::hash_map::HashMap;
 use std::hash::{BuildHasherDefault, FoldHasher};
 use std::process::Abort;
 use std::rc::Rc;

@@ -1,9 +1,9 @@
 //! Stories of a cache of numbers: which pair goes for another, and what is seen of the cache then.
 //! And values that are counted: each is dropped once.
 use super::{At, check_same, steps};
-use crate::hash_cache::{HashCache, NotInserted};
 use Step::*;
 use bucket_table::script::ScriptHash;
+use collections::hash_cache::{HashCache, NotInserted};
 use std::process::Abort;
 use std::rc::Rc;
 use std::test::Fail;

@@ -2,9 +2,9 @@
 use super::maps::Map;
 use super::sets::Set;
 use super::{check_same, steps};
-use crate::hash_map::HashMap;
-use crate::hash_set::HashSet;
 use bucket_table::script::ScriptHash;
+use collections::hash_map::HashMap;
+use collections::hash_set::HashSet;
 use std::alloc::Global;
 use std::process::Abort;
 use std::test::Fail;

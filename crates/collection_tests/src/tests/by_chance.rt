@@ -2,8 +2,8 @@
 //! like tides, so that the map gets longer arrays and shorter ones again.
 use super::check_same;
 use super::maps::Map;
-use crate::hash_map::HashMap;
 use bucket_table::script::ScriptHash;
+use collections::hash_map::HashMap;
 use std::alloc::Global;
 use std::collections::BTreeMap;
 use std::process::Abort;
