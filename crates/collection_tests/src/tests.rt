@@ -2,6 +2,7 @@
 //! and that values are dropped once; and calls by chance beside a map of the standard library.
 mod by_chance;
 mod caches;
+mod copies;
 mod drops;
 mod entries;
 mod equality;

@@ -8,3 +8,4 @@ pub mod Visits
 pub mod Touching
 pub mod Adding
 pub mod Entries
+mod Copying

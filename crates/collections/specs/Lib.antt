@@ -9,3 +9,4 @@ pub mod Indexes
 pub mod Loans
 pub mod CacheLoans
 pub mod Entries
+pub mod Copies

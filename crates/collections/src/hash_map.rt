@@ -13,6 +13,7 @@ ghost use Rattle.collections.specs.Maps.{contains, get, IsEmpty, map_len};
 ghost use Rattle.collections.specs.Changes.{Inserts, Removes, Reserves, Retains, Rewrites};
 ghost use Rattle.collections.specs.Changes.{Stays, Upserts};
 
+mod cloning;
 pub mod entry;
 mod lending;
 

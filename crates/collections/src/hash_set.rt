@@ -3,17 +3,18 @@
 //! Model: `MapView`, whose pairs are the keys beside `()`.
 //!
 //! Ports scc's `src/hash_set.rs` to an owned set.
-ghost use Rattle.std.specs.Prelude.{◌≡◌, ◌↔◌, ◌-◌, ◌^◌, [], IsTrue, min, not, true};
+ghost use Rattle.std.specs.Prelude.{◌≡◌, ◌↔◌, ◌-◌, ◌^◌, [], IfOk, IsTrue, min, not, true};
 ghost use Rattle.std.specs.Fn.{CalledAt};
 ghost use Rattle.std.specs.Map.{keys_of};
 ghost use Rattle.collections.specs.Changes.{Inserts, Reserves, SetRemoves, Stays};
+ghost use Rattle.collections.specs.Copies.{IsCopy};
 ghost use Rattle.collections.specs.Keys.{CallsEachKey, CallsIf, RetainsKeys};
 ghost use Rattle.collections.specs.Keys.{keys_of_either, keys_of_one, keys_outside, keys_within};
 ghost use Rattle.collections.specs.Maps.{contains, IsEmpty, map_len};
 
 use crate::hash_map::{HashMap, NotInserted};
 use bucket_table::key_hash::{KeyHash, StdHash};
-use std::alloc::Global;
+use std::alloc::{AllocError, Global};
 use std::fmt::{self, Debug, Formatter, Write};
 use std::hash::{BuildHasherDefault, FoldHasher, Hash};
 use std::marker::Model;
@@ -249,6 +250,23 @@ impl<K: Eq + Drop, H: KeyHash<K>> HashSet<K, H> {
         ensures { self.new ≡ record self.old { entries = []; slots = 0 } }
     {
         self.map.clear();
+    }
+}
+
+impl<K: Eq + Copy, H: KeyHash<K> + Copy> HashSet<K, H> {
+    /// Returns another set with the same keys, hasher and capacities, whose memory comes from the
+    /// allocator.
+    ///
+    /// # Errors
+    ///
+    /// Want of memory.
+    ///
+    /// O(slots) expected. scc: `HashSet::clone`.
+    pub fn try_clone(&self, alloc: Global) -> Result<Self, AllocError>
+        ensures { IfOk result (λ copy. IsCopy K.eq self.now copy) }
+    {
+        let map = self.map.try_clone(alloc)?;
+        Ok(HashSet { map })
     }
 }
 
