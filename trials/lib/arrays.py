@@ -258,7 +258,8 @@ class Arrays:
             self.pairs[self.home(hash, len(self.pairs))] += 1
 
     def kept(self, state, reply):
-        return [state] if reply == "refused 3" else []
+        """The state where old pairs haven't come: then none is put."""
+        return [state] if reply in ("refused 3", "present") else []
 
     def inserted(self, state, hash, reply):
         """A pair beyond the own slots may need a block, as may any beside marks."""

@@ -63,7 +63,7 @@ class Beside:
         if verb in ("touch", "evict") and self.kind != "cache":
             return [map] if reply == "wrong kind" else []
         if reply == "refused 3":
-            return self.cleared(map) if verb == "clear" else [map] if verb in REFUSABLE else []
+            return self.refused(map, verb, numbers)
         if verb == "evict":
             taken = re.fullmatch("pair ([0-9]+) ([0-9]+)", reply)
             if not taken:
@@ -74,6 +74,13 @@ class Beside:
             return [map] if re.fullmatch(f"walked [0-9]+ {len(map)}", reply) else []
         wanted, after = answer(map, verb, *numbers)
         return [after] if reply == wanted else []
+
+    def refused(self, map, verb, numbers):
+        """The maps that a refused line may leave: a put is refused only where its key is absent."""
+        if verb == "clear":
+            return self.cleared(map)
+        is_right = verb in REFUSABLE and not (verb == "put" and numbers[0] in map)
+        return [map] if is_right else []
 
     def cleared(self, map):
         """What a refused clearing may leave: the pairs whose hash is not below some bound."""

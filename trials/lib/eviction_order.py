@@ -92,7 +92,7 @@ class Cache:
     """The buckets by their index, and what has become of the array so far.
 
     Where requests for memory may be refused, it's untold which old buckets have moved on when a key
-    is touched, until a put or an eviction of their home isn't refused.
+    is touched, until an eviction of their home isn't refused, or a pair is put there.
     """
 
     def __init__(self, hash, may_be_refused=False):
@@ -156,8 +156,8 @@ class Cache:
         length = slots // OWN
         if not self.buckets:
             self.resize(length)
-        if verb in ("put", "evict"):
-            # The bucket's last pairs have come.
+        if verb == "evict" or (verb, reply) == ("put", "ok"):
+            # The bucket's last pairs have come. A put may find its key where they are still to come.
             self.home(key).came = {}
         if verb == "evict":
             is_right = self.evicts(key, reply)

@@ -71,7 +71,7 @@ impl Course {
         }
     }
 
-    /// Inserts a pair. Without memory the collection may not have looked for the key.
+    /// Inserts a pair.
     fn insert(&mut self, number: u64, value: u64) -> bool {
         let key = key_of(number);
         let is_there = self.beside.value(number).is_some();
@@ -84,7 +84,7 @@ impl Course {
             Err(NotInserted::Present(own, back)) => is_there && (own, back) == (key, value),
             Err(NotInserted::Memory(own, back)) => {
                 self.refused = self.refused.saturating_add(1);
-                (own, back) == (key, value)
+                !is_there && (own, back) == (key, value)
             }
         }
     }

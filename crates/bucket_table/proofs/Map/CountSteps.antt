@@ -1,9 +1,13 @@
 -- Counts of pairs, bucket by bucket, and what a table without pairs drops.
 use Rattle.bucket_table.proofs.Words.{All, ArraysView, Bool, BucketView, Err, IsPermutation, Keeps, List, Ok, Result, TableView, [], ap}
-use Rattle.bucket_table.proofs.Words.{arith, bucket_at, counted, counted_to, entries_among, entries_in, entries_of, get_or, length}
+use Rattle.bucket_table.proofs.Words.{arith, bucket_at, counted, counted_to, entries_among, entries_in, entries_of, flattened, get_or, is_live, length, live_pairs}
 use Rattle.bucket_table.proofs.Words.{length-entries_in, length-map, length_permutation, live_counts, map, min, pairs_in, pairs_of, refl}
-use Rattle.bucket_table.proofs.Words.{suc, sum_by-cons, sym, take, zero, ℕ, ◌*◌, ◌+◌, ◌-◌, ◌/◌, ◌<◌, ◌^◌, ◌∙◌, ◌∷◌, ◌≡◌}
+use Rattle.bucket_table.proofs.Words.{suc, sum_by-cons, sym, take, zero, ℕ, ◌*◌, ◌+◌, ◌-◌, ◌/◌, ◌<◌, ◌^◌, ◌∙◌, ◌∷◌, ◌≡◌, ◌++◌}
 use Rattle.std.proofs.Common.{length-append, sum, zero-mul, false, inl, inr, true}
+use Rattle.std.proofs.lemmas.Grind.{flat_map-append}
+use Rattle.std.proofs.lemmas.List.Sums.{count_by-le-length}
+use Rattle.bucket_slots.proofs.Counting.{length-live_pairs, length-live_pairs-append}
+use Rattle.bucket_table.specs.Map.Counting.{IsHeldBy, chained_among}
 use Rattle.bucket_table.specs.Resize.Sampling.{estimate}
 use Rattle.bucket_table.specs.Resize.Resizing.{IsPlanOf, TriesResize}
 use Rattle.bucket_table.specs.declared.arrays.plan.Plan.TheVariants.{Resize}
@@ -47,6 +51,27 @@ module _ {K V : Type 0} where
       let e : suc i + 1 ≡ suc (i + 1) = omega arith in
       rw (e, length-append (entries_in b) (entries_among (take (i + 1) bs)), length-append (entries_in b) (entries_among (take i bs)))
       (omega (arith, again))
+
+  -- buckets with 32 own slots have no more pairs than those and what their chains have
+  pub held_by : (bs : List (BucketView K V)) → ((i : ℕ) → i < length bs → length (bucket_at bs i).own ≡ 32)
+      → IsHeldBy (entries_among bs) bs
+  held_by [] long = omega arith
+  held_by (b ∷ bs) long =
+      let rest = held_by bs (λ i within. long (suc i) (omega (arith, within))) in
+      let own = long 0 (omega arith) in
+      let here = length-entries_in b in
+      let parts = length-live_pairs-append b.own (flattened b.chain) in
+      let live = length-live_pairs b.own in
+      let few = count_by-le-length is_live b.own in
+      rw (length-append (entries_in b) (entries_among bs), length-append (live_pairs (flattened b.chain)) (chained_among bs))
+      (omega (arith, rest, own, here, parts, live, few))
+
+  -- two arrays
+  pub held_by_both : (bs cs : List (BucketView K V)) → IsHeldBy (entries_among bs) bs → IsHeldBy (entries_among cs) cs
+      → IsHeldBy (entries_among bs ++ entries_among cs) (bs ++ cs)
+  held_by_both bs cs first second =
+      rw (length-append (entries_among bs) (entries_among cs), length-append bs cs, flat_map-append (λ (b : BucketView K V). live_pairs
+      (flattened b.chain)) bs cs, length-append (chained_among bs) (chained_among cs)) (omega (arith, first, second))
 
   zero_counts : (bs : List (BucketView K V)) → length (entries_among bs) ≡ 0 → All (λ count. count ≡ 0) (live_counts bs)
   zero_counts bs none i d below = each bs none i d below

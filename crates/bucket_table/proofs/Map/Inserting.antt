@@ -2,7 +2,7 @@
 use Rattle.bucket_table.proofs.Words.{ArraysView, Bool, BucketView, Err, IsHome, IsLocked, IsOneMap, IsPermutation-refl, KeepsPairs, MapState, Ok}
 use Rattle.bucket_table.proofs.Words.{OnErr, OnOk, Result, bucket_at, buckets_on, length, pairs_of, refl, slots_after_insertion, true, ℕ}
 use Rattle.bucket_table.proofs.Words.{IsEquivalence, TableView, inr, subst, sym, ◌%◌, ◌≡◌}
-use Rattle.bucket_table.specs.Map.ByKey.{AnswersInsertion, FindsThen, Inserts}
+use Rattle.bucket_table.specs.Map.ByKey.{AnswersInsertion, FindsThen, HandsBack, Inserts}
 use Rattle.bucket_table.specs.Map.Finding.{FindsBucket}
 use Rattle.bucket_table.specs.Map.MapState.{state_of}
 use Rattle.bucket_table.specs.Views.Sides.{bucket_of, with_bucket}
@@ -31,10 +31,18 @@ module _ {K V H : Type 0} {eq : K → K → Bool} (laws : IsEquivalence eq) (has
   inserted_where_absent (Err (Present k v)) b keeps key value h alike own home answer put same =
       let found = searched_found (λ k. eq k key) a side _ (h % 256) i answer.2.0 refl answer.2.1 in
       rw same (unchanged laws hash kind side i one (changeable_locked a side i locked) _
-      (answer.0, answer.1, (found.0, found.2), record { pairs = IsPermutation-refl (pairs_of a); others = refl }))
+      ((answer.0, answer.1, (found.0, found.2)), record { pairs = IsPermutation-refl (pairs_of a); others = refl }))
   inserted_where_absent (Err (Memory k v)) b keeps key value h alike own home answer put same =
+      let absent = searched_absent (λ k. eq k key) h (hash hasher) alike a side _ i one.placed locked home refl answer.2 in
       rw same (unchanged laws hash kind side i one (changeable_locked a side i locked) _
-      (answer.0, answer.1, record { pairs = IsPermutation-refl (pairs_of a); others = refl }))
+      ((answer.0, answer.1, absent), record { pairs = IsPermutation-refl (pairs_of a); others = refl }))
+
+module _ {K V H : Type 0} where
+  -- a pair that comes back where the map was the same before
+  pub handed_back : (eq : K → K → Bool) (key : K) (value : V) (old between : MapState K V H) (why : NotInserted K V)
+      → KeepsPairs old between → HandsBack eq key value between.pairs why → HandsBack eq key value old.pairs why
+  handed_back eq key value old between (Present k v) keeps x = (x.0, x.1, (x.2.0, there_before eq key old between x.2.0 keeps x.2.1))
+  handed_back eq key value old between (Memory k v) keeps x = (x.0, x.1, absent_before eq key old between keeps x.2)
 
 module _ {K V H A : Type 0} where
   -- an insertion where the map was the same before
@@ -42,9 +50,8 @@ module _ {K V H A : Type 0} where
       → KeepsPairs old between → Inserts eq key value between r new → Inserts eq key value old r new
   then_inserted eq key value old between new (Ok done) keeps x =
       (absent_before eq key old between keeps x.0, then_added old between new (key, value) keeps x.1)
-  then_inserted eq key value old between new (Err (Present k v)) keeps x =
-      (x.0, x.1, (x.2.0, there_before eq key old between x.2.0 keeps x.2.1), then_kept old between new keeps x.3)
-  then_inserted eq key value old between new (Err (Memory k v)) keeps x = (x.0, x.1, then_kept old between new keeps x.2)
+  then_inserted eq key value old between new (Err why) keeps x =
+      (handed_back eq key value old between why keeps x.0, then_kept old between new keeps x.1)
 
   -- a bucket found for the hash of a key, and changed where a pair was put
   pub found_then : (kind h n : ℕ) (keeps : ℕ → Bool) (pair : K × V) (old between new : TableView K V H) (side : Bool) (i : ℕ)
@@ -53,7 +60,5 @@ module _ {K V H A : Type 0} where
       → OnErr r (new ≡ between) → FindsThen kind n (λ bucket. slots_after_insertion kind keeps bucket pair (n % 256)) old r new
   found_then kind h n keeps pair old between new side i (Ok done) own found put same =
       rw (← own) (between, side, i, found, put)
-  found_then kind h n keeps pair old between new side i (Err (Present k v)) own found put same =
-      rw (← own) (side, i, subst (λ (t : TableView K V H). FindsBucket kind h old side i t) (sym same) found)
-  found_then kind h n keeps pair old between new side i (Err (Memory k v)) own found put same =
+  found_then kind h n keeps pair old between new side i (Err why) own found put same =
       rw (← own) (inr (side, i, subst (λ (t : TableView K V H). FindsBucket kind h old side i t) (sym same) found))

@@ -2,21 +2,23 @@
 use Rattle.bucket_table.proofs.Words.{All-permutation, All-tail, ArraysView, Bool, BucketView, CACHE, Err, IsAbsent, IsEquivalence, false}
 use Rattle.bucket_table.proofs.Words.{IsHome, IsLocked, IsOneMap, IsPermutation-refl, IsPermutation-trans, KeepsPairs, MapState, None, Ok}
 use Rattle.bucket_table.proofs.Words.{Option, Result, Some, TableView, ap, arrays_with, bucket_at, buckets_on, length, length-set}
-use Rattle.bucket_table.proofs.Words.{pairs_of, refl, slots_after_insertion, slots_touched, subst, sym, true, ℕ, ◌%◌, ◌<◌, ◌∙◌, ◌∷◌, ◌≡◌}
+use Rattle.bucket_table.proofs.Words.{inl, inr, pairs_of, refl, slots_after_insertion, slots_touched, subst, sym, true, ℕ, ◌%◌, ◌<◌, ◌∙◌, ◌∷◌, ◌≡◌}
 use Rattle.bucket_slots.specs.Evicting.{slots_evicted}
 use Rattle.bucket_slots.specs.Placing.{place_for_next, slots_with}
 use Rattle.bucket_table.specs.Map.ByKey.{Evicts}
 use Rattle.bucket_table.specs.Map.Finding.{FindsBucket}
 use Rattle.bucket_table.specs.Map.MapState.{AddsPair, state_of}
+use Rattle.bucket_table.specs.Map.Refusing.{IsRefused}
 use Rattle.bucket_table.specs.Map.Putting.{Goes, Puts, PutsIn, PutsThen, slots_left, slots_put}
 use Rattle.bucket_table.specs.Views.Sides.{bucket_of, with_bucket}
 use Rattle.bucket_table.specs.declared.hash_table.NotInserted.{NotInserted}
 use Rattle.bucket_table.specs.declared.hash_table.NotInserted.TheVariants.{Memory, Present}
+use Rattle.bucket_table.proofs.Map.Inserting.{handed_back}
 use Rattle.bucket_table.proofs.Map.LockedSteps.{put_there, with_own}
 use Rattle.bucket_table.proofs.Map.LookUps.{searched_absent, searched_found}
 use Rattle.bucket_table.proofs.Map.MapSteps.{Leaves, evicted, inserted, set_again, touched, unchanged}
 use Rattle.bucket_table.proofs.Map.TakeSteps.{absent_before}
-use Rattle.bucket_table.proofs.Scripts.CallSteps.{then_added, then_kept, there_before}
+use Rattle.bucket_table.proofs.Scripts.CallSteps.{then_added, then_kept}
 use Rattle.bucket_table.proofs.Views.SideChanges.{buckets_on-arrays_with, changeable_locked}
 use Rattle.bucket_table.proofs.Map.PutSlots.{after_insertion-cache}
 
@@ -135,7 +137,7 @@ module _ {K V H : Type 0} {eq : K → K → Bool} (laws : IsEquivalence eq) (has
   put_leaves (Err (Present k v)) b keeps key value h alike own home cache x =
       let found = searched_found (λ k. eq k key) a side _ (h % 256) i x.2.0 refl x.2.1 in
       rw x.3 (unchanged laws hash kind side i one (changeable_locked a side i locked) _
-      (x.0, x.1, (found.0, found.2), record { pairs = IsPermutation-refl (pairs_of a); others = refl }))
+      ((x.0, x.1, (found.0, found.2)), record { pairs = IsPermutation-refl (pairs_of a); others = refl }))
   put_leaves (Err (Memory k v)) b keeps key value h alike own home cache x = absurd x
 
 module _ {K V H : Type 0} where
@@ -153,9 +155,8 @@ module _ {K V H : Type 0} where
       after = record { pairs = x.1.after.pairs; others = others_after old between new keeps.others x.1.after.others };
     },
   )
-  then_put eq key value old between new (Err (Present k v)) keeps x =
-      (x.0, x.1, (x.2.0, there_before eq key old between x.2.0 keeps x.2.1), then_kept old between new keeps x.3)
-  then_put eq key value old between new (Err (Memory k v)) keeps x = (x.0, x.1, then_kept old between new keeps x.2)
+  then_put eq key value old between new (Err why) keeps x =
+      (handed_back eq key value old between why keeps x.0, then_kept old between new keeps x.1)
 
   -- a bucket found for the hash of a key, and the pair put there
   pub found_put : (eq : K → K → Bool) (kind h n : ℕ) (keeps : Bool) (key : K) (value : V) (old between new : TableView K V H)
@@ -166,5 +167,11 @@ module _ {K V H : Type 0} where
       rw (← own) (between, side, i, found, x.1, is ∙ ap (λ (b : BucketView K V). with_bucket between side i b) x.2)
   found_put eq kind h n keeps key value old between new side i (Err (Present k v)) left own found x is =
       let same : new ≡ between = is ∙ with_own between.hasher between.arrays side i left x.3 in
-      rw (← own) (side, i, subst (λ (t : TableView K V H). FindsBucket kind h old side i t) (sym same) found)
+      rw (← own) (inr (side, i, subst (λ (t : TableView K V H). FindsBucket kind h old side i t) (sym same) found))
   found_put eq kind h n keeps key value old between new side i (Err (Memory k v)) left own found x is = absurd x
+
+  -- no bucket found, and so no pair put
+  pub refused_put : (kind n : ℕ) (keeps : Bool) (pair : K × V) (old new : TableView K V H) (why : NotInserted K V) → IsRefused kind old new
+      → PutsThen kind n keeps pair old (Err why) new
+  refused_put kind n keeps pair old new (Present k v) refused = inl refused
+  refused_put kind n keeps pair old new (Memory k v) refused = refused

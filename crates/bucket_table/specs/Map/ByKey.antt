@@ -1,5 +1,5 @@
 -- What a call by key does to a table, in the words of its map. A reply that isn't stated doesn't come.
-use Rattle.std.specs.Prelude.{ℕ, ◌≡◌, ◌<◌, Bool, true, false, Option, Some, None, Result, Ok, Err, length, ◌⊎◌}
+use Rattle.std.specs.Prelude.{ℕ, ◌≡◌, ◌<◌, Bool, true, false, List, Option, Some, None, Result, Ok, Err, length, ◌⊎◌}
 use Rattle.std.specs.Borrow.{Bor, MutBor}
 use Rattle.std.specs.List.{Contains}
 use Rattle.bucket_slots.specs.BucketView.{BucketView, Place, bucket_with_value, slot_in}
@@ -25,6 +25,11 @@ pub record StandsAt {K V : Type 0} (eq : K → K → Bool) (key : K) (arrays : A
   pub slot : live_pair (slot_in (bucket_on arrays is_old index) at) ≡ Some pair
   pub there : IsThere eq key (pairs_of arrays) pair
 
+-- why a pair comes back that wasn't put: an equal key is there, or memory is wanted, and then none is
+abbrev pub HandsBack : {K V : Type 0} → (K → K → Bool) → K → V → List (K × V) → NotInserted K V → Type 0
+HandsBack {K} {V} eq key value pairs (Present k v) = (k ≡ key) × (v ≡ value) × ((pair : K × V) × IsThere eq key pairs pair)
+HandsBack eq key value pairs (Memory k v) = (k ≡ key) × (v ≡ value) × IsAbsent eq key pairs
+
 module _ {K V H : Type 0} (eq : K → K → Bool) (key : K) where
   -- the pair under the key is taken out, and there is none exactly where the key is absent
   abbrev pub Takes : MapState K V H → Option (K × V) → MapState K V H → Type 0
@@ -39,8 +44,7 @@ module _ {K V H : Type 0} (eq : K → K → Bool) (key : K) where
   -- a pair is put where its key is absent; else, and for want of memory, it comes back
   abbrev pub Inserts : {A : Type 0} → V → MapState K V H → Result A (NotInserted K V) → MapState K V H → Type 0
   Inserts value old (Ok done) new = IsAbsent eq key old.pairs × AddsPair old (key, value) new
-  Inserts value old (Err (Present k v)) new = (k ≡ key) × (v ≡ value) × ((pair : K × V) × IsThere eq key old.pairs pair) × KeepsPairs old new
-  Inserts value old (Err (Memory k v)) new = (k ≡ key) × (v ≡ value) × KeepsPairs old new
+  Inserts value old (Err why) new = HandsBack eq key value old.pairs why × KeepsPairs old new
 
   -- the pair under the key is read and marked, and the map is without it; there is no answer exactly where the key is absent
   abbrev pub Marks : {R : Type 0} → (Bor K → Bor V → R → Type 0) → MapState K V H → Option R → MapState K V H → Type 0
@@ -73,12 +77,14 @@ Evicts old (Ok (Some pair)) new = TakesPair old pair new
 Evicts old (Ok None) new = KeepsPairs old new
 Evicts old (Err refused) new = KeepsPairs old new
 
--- an insertion into a bucket: no live slot has an equal key where a pair was put; one has where the answer says so; what isn't put comes back
+-- an insertion into a bucket: no live slot has an equal key where a pair was put, or memory is wanted; one has where the answer says so;
+-- what isn't put comes back
 abbrev pub AnswersInsertion : {K V A : Type 0} → (K → K → Bool) → K → V → ℕ → BucketView K V → Result A (NotInserted K V) → Type 0
 AnswersInsertion eq key value byte bucket (Ok done) = place_wanted (λ own. eq own key) byte bucket ≡ None
 AnswersInsertion eq key value byte bucket (Err (Present k v)) =
     (k ≡ key) × (v ≡ value) × ((at : Place) × (place_wanted (λ own. eq own key) byte bucket ≡ Some at))
-AnswersInsertion eq key value byte bucket (Err (Memory k v)) = (k ≡ key) × (v ≡ value)
+AnswersInsertion eq key value byte bucket (Err (Memory k v)) =
+    (k ≡ key) × (v ≡ value) × (place_wanted (λ own. eq own key) byte bucket ≡ None)
 
 -- a pair put into a bucket so where no live slot has an equal key, or its value written where one has; what isn't put comes back
 abbrev pub UpsertsIn : {K V : Type 0} → (K → K → Bool) → K → V → ℕ → (BucketView K V → BucketView K V) → BucketView K V
@@ -129,13 +135,13 @@ EvictsAt hash old (Err refused) new = new ≡ old
 abbrev pub FindsOrIsRefused : {K V H : Type 0} → ℕ → ℕ → TableView K V H → TableView K V H → Type 0
 FindsOrIsRefused kind hash old new = IsRefused kind old new ⊎ ((side : Bool) × (index : ℕ) × FindsBucket kind hash old side index new)
 
--- a writer's bucket is found for a hash, and then it is changed so where a pair was put; nothing else changes, and where no bucket is found it is refused
+-- a writer's bucket is found for a hash, and then it is changed so where a pair was put; nothing else changes, and no pair is put
+-- where no bucket is found
 abbrev pub FindsThen : {K V H A : Type 0} → ℕ → ℕ → (BucketView K V → BucketView K V) → TableView K V H → Result A (NotInserted K V) → TableView K V H → Type 0
 FindsThen {K} {V} {H} kind hash change old (Ok done) new =
     (between : TableView K V H) × (side : Bool) × (index : ℕ) × FindsBucket kind hash old side index between
     × (new ≡ with_bucket between side index (change (bucket_of between side index)))
-FindsThen kind hash change old (Err (Present k v)) new = (side : Bool) × (index : ℕ) × FindsBucket kind hash old side index new
-FindsThen kind hash change old (Err (Memory k v)) new = FindsOrIsRefused kind hash old new
+FindsThen kind hash change old (Err why) new = FindsOrIsRefused kind hash old new
 
 -- the same, and where the key was found its value is another one in one bucket, also where no bucket is found for a writer
 abbrev pub UpsertsThen : {K V H : Type 0} → ℕ → ℕ → (BucketView K V → BucketView K V) → V → TableView K V H

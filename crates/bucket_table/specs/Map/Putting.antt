@@ -8,8 +8,9 @@ use Rattle.bucket_slots.specs.Placing.{place_for_next, slots_with}
 use Rattle.bucket_slots.specs.Searching.{place_wanted}
 use Rattle.bucket_slots.specs.Slots.{free, live_pair, slot_at}
 use Rattle.bucket_table.specs.Views.ArraysView.{TableView}
+use Rattle.bucket_table.specs.Map.ByKey.{FindsOrIsRefused, HandsBack}
 use Rattle.bucket_table.specs.Map.Finding.{FindsBucket}
-use Rattle.bucket_table.specs.Map.LookingUp.{IsAbsent, IsThere}
+use Rattle.bucket_table.specs.Map.LookingUp.{IsAbsent}
 use Rattle.bucket_table.specs.Map.MapState.{MapState, AddsPair, Becomes, KeepsPairs}
 use Rattle.bucket_table.specs.Map.Refusing.{IsRefused}
 use Rattle.bucket_table.specs.Views.Sides.{bucket_of, with_bucket}
@@ -27,9 +28,7 @@ abbrev pub Puts : {K V H : Type 0} → (K → K → Bool) → K → V → MapSta
     → Type 0
 Puts eq key value old (Ok None) new = IsAbsent eq key old.pairs × AddsPair old (key, value) new
 Puts eq key value old (Ok (Some gone)) new = IsAbsent eq key old.pairs × ReplacesPair old gone (key, value) new
-Puts {K} {V} eq key value old (Err (Present k v)) new =
-    (k ≡ key) × (v ≡ value) × ((pair : K × V) × IsThere eq key old.pairs pair) × KeepsPairs old new
-Puts eq key value old (Err (Memory k v)) new = (k ≡ key) × (v ≡ value) × KeepsPairs old new
+Puts eq key value old (Err why) new = HandsBack eq key value old.pairs why × KeepsPairs old new
 
 module _ {K V : Type 0} where
   -- what goes for a new pair: none where an own slot is free, and else the pair touched longest ago, or slot 0's where none is listed
@@ -54,13 +53,13 @@ module _ {K V : Type 0} where
       (k ≡ key) × (v ≡ value) × ((at : Place) × (place_wanted (λ own. eq own key) byte old ≡ Some at)) × (new ≡ old)
   PutsIn eq keeps key value byte old (Err (Memory k v)) new = ⊥
 
--- a writer's bucket is found for a hash, and the pair is in it, after what goes for it; nothing else changes, and memory is wanted
--- only where no bucket is found
+-- a writer's bucket is found for a hash, and the pair is in it, after what goes for it; nothing else changes, no pair is put where
+-- no bucket is found, and memory is wanted only there
 abbrev pub PutsThen : {K V H : Type 0} → ℕ → ℕ → Bool → K × V → TableView K V H → Result (Option (K × V)) (NotInserted K V)
     → TableView K V H → Type 0
 PutsThen {K} {V} {H} kind hash keeps pair old (Ok gone) new =
     (between : TableView K V H) × (side : Bool) × (index : ℕ) × FindsBucket kind hash old side index between
     × Goes (bucket_of between side index) gone
     × (new ≡ with_bucket between side index (slots_put keeps (slots_left (bucket_of between side index) gone) pair (hash % 256)))
-PutsThen kind hash keeps pair old (Err (Present k v)) new = (side : Bool) × (index : ℕ) × FindsBucket kind hash old side index new
+PutsThen kind hash keeps pair old (Err (Present k v)) new = FindsOrIsRefused kind hash old new
 PutsThen kind hash keeps pair old (Err (Memory k v)) new = IsRefused kind old new

@@ -17,7 +17,7 @@ module _ {K V H : Type 0} (eq : K → K → Bool) (hash : H → K → ℕ) where
   abbrev pub Step : MapState K V H → Call K V → Reply K V → MapState K V H → Type 0
   Step old (Put key value) Done new = IsAbsent eq key old.pairs × AddsPair old (key, value) new
   Step old (Put key value) Present new = ((pair : K × V) × IsThere eq key old.pairs pair) × KeepsPairs old new
-  Step old (Put key value) Refused new = KeepsPairs old new
+  Step old (Put key value) Refused new = IsAbsent eq key old.pairs × KeepsPairs old new
   Step old (Write key value) (Old earlier) new = (found : K) × (eq found key ≡ true) × ChangesValue old (found, earlier) value new
   Step old (Write key value) Absent new = IsAbsent eq key old.pairs × KeepsPairs old new
   Step old (Read key) (Value value) new = ((found : K) × IsThere eq key old.pairs (found, value)) × KeepsPairs old new

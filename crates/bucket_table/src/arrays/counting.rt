@@ -1,8 +1,8 @@
 //! How many pairs the arrays have.
-ghost use Rattle.std.specs.Prelude.{◌≡◌, ◌-◌, ℕ, [], length};
+ghost use Rattle.std.specs.Prelude.{◌≡◌, ◌-◌, ◌++◌, ℕ, [], length};
 ghost use Rattle.bucket_table.specs.Views.ArraysView.{ArePlaced, entries_of, list_of};
 ghost use Rattle.bucket_table.specs.Resize.Asking.{ResizesIf};
-ghost use Rattle.bucket_table.specs.Map.Counting.{CountsAndResizes, counted_to};
+ghost use Rattle.bucket_table.specs.Map.Counting.{CountsAndResizes, IsHeldBy, counted_to};
 ghost use Rattle.bucket_table.specs.Views.Keeping.{Keeps};
 ghost use Rattle.bucket_table.specs.Rehash.Relocation.{entries_among};
 ghost use Rattle.bucket_table.specs.Rehash.Units.{WorksUnits};
@@ -52,7 +52,8 @@ impl<K: Eq + Drop, V: Drop, L: LruList + Drop, const TYPE: u8> Arrays<K, V, L, T
 impl<K, V, L: LruList, const TYPE: u8> Arrays<K, V, L, TYPE> {
     /// Returns how many pairs there are, saturating.
     pub(crate) fn count(&self) -> usize
-        ensures { result ≡ counted_to (entries_of self.now) }
+        ensures count { result ≡ counted_to (entries_of self.now) }
+        ensures within { IsHeldBy (entries_of self.now) (self.now.current ++ self.now.linked) }
     {
         count_on(&self.current).saturating_add(count_on(&self.linked))
     }
@@ -60,7 +61,8 @@ impl<K, V, L: LruList, const TYPE: u8> Arrays<K, V, L, TYPE> {
 
 /// Returns how many pairs one side has, saturating.
 fn count_on<K, V, L: LruList, const TYPE: u8>(side: &Option<BucketArray<K, V, L, TYPE>>) -> usize
-    ensures { result ≡ counted_to (entries_among (list_of side.now)) }
+    ensures count { result ≡ counted_to (entries_among (list_of side.now)) }
+    ensures within { IsHeldBy (entries_among (list_of side.now)) (list_of side.now) }
 {
     match side {
         None => 0,
@@ -70,13 +72,16 @@ fn count_on<K, V, L: LruList, const TYPE: u8>(side: &Option<BucketArray<K, V, L,
 
 /// Returns how many pairs an array has, saturating.
 fn count_in<K, V, L: LruList, const TYPE: u8>(array: &BucketArray<K, V, L, TYPE>) -> usize
-    ensures { result ≡ counted_to (entries_among array.now) }
+    ensures count { result ≡ counted_to (entries_among array.now) }
+    ensures within { IsHeldBy (entries_among array.now) array.now }
 {
     array.room();
     let mut live: usize = 0;
     let len = array.len();
     for index in 0..len {
-        let here = array.bucket(index).len();
+        let bucket = array.bucket(index);
+        bucket.sound();
+        let here = bucket.len();
         live = live.saturating_add(here);
     }
     live

@@ -12,8 +12,8 @@ ghost use Rattle.bucket_slots.specs.Marking.{MarksBy, slots_marked};
 ghost use Rattle.bucket_slots.specs.Removing.{slots_without};
 ghost use Rattle.bucket_slots.specs.Slots.{is_live, live_pair};
 ghost use Rattle.bucket_table.specs.Views.ArraysView.{marks_of, pairs_of};
-ghost use Rattle.bucket_table.specs.Map.ByKey.{AnswersInsertion, ChangesAt, FindsThen, PreparesThen, ShrinksAt, StandsAt};
-ghost use Rattle.bucket_table.specs.Map.ByKey.{Inserts, Marks, Swaps, Takes, Touches};
+ghost use Rattle.bucket_table.specs.Map.ByKey.{AnswersInsertion, ChangesAt, FindsThen, HandsBack, PreparesThen};
+ghost use Rattle.bucket_table.specs.Map.ByKey.{Inserts, Marks, ShrinksAt, StandsAt, Swaps, Takes, Touches};
 ghost use Rattle.bucket_table.specs.Map.LookingUp.{IsAbsent};
 ghost use Rattle.bucket_table.specs.Map.Preparing.{IsPrepared};
 ghost use Rattle.bucket_table.specs.Map.MapState.{ChangesValue, state_of};
@@ -152,7 +152,7 @@ impl<K: Eq + Drop, V: Drop, H: KeyHash<K>, L: LruList + Drop, const TYPE: u8> Ha
     ///
     /// # Errors
     ///
-    /// An equal key is there, or want of memory: the pair comes back.
+    /// An equal key is there; or want of memory, and then none is: the pair comes back.
     ///
     /// O(slots of a unit, of the sources and of their targets; buckets that a resize makes). Own.
     #[inline(always)]
@@ -171,7 +171,7 @@ impl<K: Eq + Drop, V: Drop, H: KeyHash<K>, L: LruList + Drop, const TYPE: u8> Ha
     {
         let hash = self.hash(&key);
         let Ok((is_old, index)) = self.find(hash) else {
-            return Err(NotInserted::Memory(key, value));
+            return Err(self.not_inserted(hash, key, value));
         };
         self.insert_at(is_old, index, hash, key, value, generation)
     }
@@ -251,6 +251,17 @@ impl<K: Eq, V, H: KeyHash<K>, L: LruList, const TYPE: u8> HashTable<K, V, H, L, 
         match self.arrays.search_on(true, key, hash) {
             Some(spot) => Some(spot),
             None => self.arrays.search_on(false, key, hash),
+        }
+    }
+
+    /// Gives a pair back for which no bucket was found: an equal key is there, or memory is wanted.
+    pub(super) fn not_inserted(&self, hash: u64, key: K, value: V) -> NotInserted<K, V>
+        requires own_hash { hash ≡ H.hash_of self.now.hasher key }
+        ensures { HandsBack K.eq key value (pairs_of self.now.arrays) result }
+    {
+        match self.spot_of(&key, hash) {
+            Some(_) => NotInserted::Present(key, value),
+            None => NotInserted::Memory(key, value),
         }
     }
 

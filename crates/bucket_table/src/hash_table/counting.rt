@@ -4,9 +4,9 @@
 //! Invariant: the table's, `IsOneMap`; a count keeps the pairs and the open tickets.
 //!
 //! Ports `num_entries` and `has_entry` of scc's `src/hash_table.rs`.
-ghost use Rattle.std.specs.Prelude.{◌≡◌, ◌↔◌, ◌<◌, [], IsTrue, length};
+ghost use Rattle.std.specs.Prelude.{◌≡◌, ◌↔◌, ◌<◌, ◌++◌, [], IsTrue, length};
 ghost use Rattle.bucket_table.specs.Views.ArraysView.{pairs_of};
-ghost use Rattle.bucket_table.specs.Map.Counting.{CountsAndResizes, counted_to};
+ghost use Rattle.bucket_table.specs.Map.Counting.{CountsAndResizes, IsHeldBy, counted_to};
 ghost use Rattle.bucket_table.specs.Views.Keeping.{KeepsOpenTickets};
 ghost use Rattle.bucket_table.specs.Map.MapState.{KeepsPairs, state_of};
 ghost use Rattle.bucket_table.specs.Rehash.Units.{WorksUnits};
@@ -66,7 +66,9 @@ impl<K: Eq, V, H: KeyHash<K>, L: LruList, const TYPE: u8> HashTable<K, V, H, L, 
     ///
     /// O(buckets). scc: `HashMap::len`.
     pub fn len(&self) -> usize
-        ensures { result ≡ counted_to (pairs_of self.now.arrays) }
+        ensures count { result ≡ counted_to (pairs_of self.now.arrays) }
+        ensures within { IsHeldBy (pairs_of self.now.arrays)
+            (self.now.arrays.current ++ self.now.arrays.linked) }
     {
         self.arrays.count()
     }

@@ -59,7 +59,8 @@ impl<K: Eq + Drop, V: Drop, H: KeyHash<K>, L: LruList + Drop, const TYPE: u8> Ha
     ///
     /// # Errors
     ///
-    /// An equal key is there, or want of memory: the pair comes back, and none goes.
+    /// An equal key is there; or want of memory, and then none is: the pair comes back, and none
+    /// goes.
     ///
     /// O(slots of a unit, of the sources and of their targets; buckets that a resize makes). scc:
     /// `HashCache::put_sync`.
@@ -72,7 +73,7 @@ impl<K: Eq + Drop, V: Drop, H: KeyHash<K>, L: LruList + Drop, const TYPE: u8> Ha
     {
         let hash = self.hash(&key);
         let Ok((is_old, index)) = self.find(hash) else {
-            return Err(NotInserted::Memory(key, value));
+            return Err(self.not_inserted(hash, key, value));
         };
         self.put_at(is_old, index, hash, key, value)
     }

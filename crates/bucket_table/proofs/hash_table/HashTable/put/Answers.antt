@@ -1,7 +1,8 @@
 use Rattle.bucket_table.proofs.Words.{ap, rules, sym, ◌∙◌}
 use Rattle.bucket_table.specs.Map.MapState.{state_of}
+use Rattle.bucket_table.proofs.Map.Inserting.{handed_back}
 use Rattle.bucket_table.proofs.Map.MapKept.{hasher_kept}
-use Rattle.bucket_table.proofs.Map.Putting.{found_put, then_put}
+use Rattle.bucket_table.proofs.Map.Putting.{found_put, refused_put, then_put}
 use Rattle.bucket_table.proofs.Views.Keeping.{bag_both}
 use Rattle.bucket_table.proofs.hash_table.HashTable.put.Goals as goal
 
@@ -9,6 +10,19 @@ pub put_at-requires : goal.put_at-requires
 put_at-requires g c =
     let own = c.hash-hash.ensures ∙ ap (λ h. g.H.KeyHash.hash_of h c.args.key) (sym (hasher_kept _ _ c.in-Ok.ensures.found.map)) in
     search (rules, own)
+
+pub returns-in_default-clause-map : goal.returns-in_default-clause-map
+returns-in_default-clause-map g c =
+    let keeps = c.in_default.ensures.refused.prepared.map in (
+      handed_back g.K.PartialEq.eq c.args.key c.args.value (state_of g.row.TYPE c.args.self.now) (state_of g.row.TYPE c.find.new.self)
+          c.not_inserted.result keeps c.not_inserted.ensures,
+      keeps,
+    )
+
+pub returns-in_default-clause-arrays : goal.returns-in_default-clause-arrays
+returns-in_default-clause-arrays g c =
+    refused_put g.row.TYPE _ g.L.LruList.KEEPS (c.args.key, c.args.value) c.args.self.now c.find.new.self c.not_inserted.result
+    c.in_default.ensures.refused
 
 pub returns-clause-map : goal.returns-clause-map
 returns-clause-map g c =
