@@ -4,7 +4,6 @@ use Rattle.std.specs.Cmp.{IsEquivalence}
 use Rattle.std.specs.Option.{unwrap_or}
 use Rattle.std.proofs.lemmas.List.Sorted.{IsPermutation-trans}
 use Rattle.bucket_table.specs.declared.hash_table.NotInserted.{NotInserted}
-use Rattle.bucket_table.specs.declared.hash_table.NotInserted.TheVariants.{Present, Memory}
 use Rattle.collections.specs.Changes.{Puts, Stays}
 use Rattle.collections.specs.Maps.{MapView, get}
 use Rattle.callers.specs.Sessions.{HasSession}
@@ -27,11 +26,7 @@ module _ {U S H : Type 0} (eq : U → U → Bool) (old between : MapView U S H) 
   -- what a put that is refused leaves
   pub refused_stays : (user : U) (fresh : S) (put : Result (Option (U × S)) (NotInserted U S)) (why : NotInserted U S) (new : MapView U S H)
       → put ≡ Err why → Puts eq user fresh between put new → Stays eq old new
-  refused_stays user fresh put why new is done = stays_joined new (from why (subst (λ p. Puts eq user fresh between p new) is done))
-    where
-      from : (w : NotInserted U S) → Puts eq user fresh between (Err w) new → Stays eq between new
-      from (Present k v) put = put.3
-      from (Memory k v) put = put.2
+  refused_stays user fresh put why new is done = stays_joined new (subst (λ p. Puts eq user fresh between p new) is done).1
 
   -- what a put that is done gives
   pub put_session : IsEquivalence eq → (user : U) (fresh : S) (put : Result (Option (U × S)) (NotInserted U S)) (gone : Option (U × S))

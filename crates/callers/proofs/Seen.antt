@@ -54,7 +54,7 @@ pub present_stays : {K H : Type 0} (eq : K → K → Bool) (key : K) (old new : 
     (own : K) (value : Unit {0}) → why ≡ Present own value → Inserts eq key {A = Unit {0}} tt old (Err why) new
     → IsSome (get eq old key) × Stays eq old new
 present_stays {K} eq key old new why own value is done =
-    let there = subst (λ (w : NotInserted K (Unit {0})). Inserts eq key {A = Unit {0}} tt old (Err w) new) is done in (there.2, there.3)
+    let there = subst (λ (w : NotInserted K (Unit {0})). Inserts eq key {A = Unit {0}} tt old (Err w) new) is done in (there.0.2, there.1)
 
 or_true : (b : Bool) → (b || true) ≡ true
 or_true true = refl

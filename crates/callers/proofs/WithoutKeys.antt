@@ -6,8 +6,7 @@ use Rattle.std.specs.List.{list_any}
 use Rattle.std.proofs.lemmas.Bool.{cases_Bool}
 use Rattle.std.proofs.lemmas.List.Folds.{list_any_more}
 use Rattle.bucket_slots.specs.Marking.{MarksBy}
-use Rattle.collections.specs.Changes.{Updates}
-use Rattle.collections.specs.Indexes.{TakesOut}
+use Rattle.collections.specs.Changes.{TakesOut, Updates}
 use Rattle.collections.specs.Maps.{MapView, get}
 use Rattle.callers.specs.Without.{IsWithout}
 

@@ -2,7 +2,8 @@
 ghost use Rattle.std.specs.Prelude.{◌≡◌};
 ghost use Rattle.std.specs.List.{count_by};
 ghost use Rattle.bucket_slots.specs.Marking.{MarksBy};
-ghost use Rattle.collections.specs.Maps.{contains};
+ghost use Rattle.bucket_table.specs.Views.ArraysView.{marks_of};
+ghost use Rattle.collections.specs.Maps.{contains, map_of};
 ghost use Rattle.callers.specs.Without.{IsWithout};
 
 use bucket_slots::bucket::Generation;
@@ -19,9 +20,10 @@ pub fn retire_keys<K: Eq + Drop, V: Drop, H: KeyHash<K>, G: Generation>(
     asked: &[K],
     generation: &G,
 ) -> usize
-    ensures left { result ≡ count_by (contains K.eq index.new.map) asked.now }
-    ensures map { IsWithout K.eq retired.now index.old.map index.new.map }
-    ensures marks { MarksBy (G.epoch_of generation.now) index.old.marks index.new.marks }
+    ensures left { result ≡ count_by (contains K.eq (map_of index.new)) asked.now }
+    ensures map { IsWithout K.eq retired.now (map_of index.old) (map_of index.new) }
+    ensures marks { MarksBy (G.epoch_of generation.now) (marks_of index.old.arrays)
+        (marks_of index.new.arrays) }
 {
     for key in retired {
         index.remove(key, generation);

@@ -7,7 +7,7 @@ use Rattle.std.specs.Map.{keys_of}
 use Rattle.bucket_table.specs.Map.ByKey.{Marks}
 use Rattle.bucket_table.specs.Map.MapState.{state_of}
 use Rattle.bucket_table.specs.Views.ArraysView.{TableView, pairs_of}
-use Rattle.collections.specs.Indexes.{ReadsOut, TakesOut}
+use Rattle.collections.specs.Changes.{ReadsOut, TakesOut}
 use Rattle.collections.specs.Maps.{MapView, map_of}
 use Rattle.collections.proofs.Steps.{absent, stays, takes}
 

@@ -21,7 +21,6 @@ use Rattle.bucket_table.specs.Map.Finding.{MakesReady, ReadiesThenGrows}
 use Rattle.bucket_table.specs.Resize.Growing.{Grows}
 use Rattle.bucket_table.specs.Resize.Resizing.{Releases, Reserves, TriesResize, with_minimum}
 use Rattle.bucket_table.specs.declared.hash_table.NotInserted.{NotInserted}
-use Rattle.bucket_table.specs.declared.hash_table.NotInserted.TheVariants.{Present, Memory}
 use Rattle.bucket_table.proofs.Resize.Following.{given_up_keeps, pushed_keeps}
 use Rattle.bucket_table.proofs.Resize.Growing.{kept_made}
 use Rattle.bucket_table.proofs.Views.MarksKept.{marks_among-set}
@@ -161,5 +160,4 @@ module _ {K V H : Type 0} (kind hash : ℕ) (old new : TableView K V H) where
       no_new-trans (marks_of old.arrays) (marks_of between.arrays) (marks_of new.arrays)
       (found kind hash old.arrays between.arrays finds.1 finds.2 finds.3.found)
       (subst (λ (table : TableView K V H). HasNoNewMark (marks_of between.arrays) (marks_of table.arrays)) (sym finds.4) put)
-  no_new-inserted keeps pair byte (Err (Present k v)) finds = found kind hash old.arrays new.arrays finds.0 finds.1 finds.2.found
-  no_new-inserted keeps pair byte (Err (Memory k v)) finds = no_new-found_or_refused finds
+  no_new-inserted keeps pair byte (Err why) finds = no_new-found_or_refused finds

@@ -17,7 +17,7 @@ use Rattle.bucket_table.specs.Map.Putting as putting
 use Rattle.bucket_table.specs.declared.hash_table.NotInserted.{NotInserted}
 use Rattle.bucket_table.specs.declared.hash_table.NotInserted.TheVariants.{Present, Memory}
 use Rattle.collections.specs.Maps.{get, map_of}
-use Rattle.collections.specs.Changes.{Adds, Displaces, Inserts, Keeps, Puts, Removes, Replaces, Rewrites, Stays, Takes, Upserts}
+use Rattle.collections.specs.Changes.{Adds, Displaces, HandsBack, Inserts, Keeps, Puts, Removes, Replaces, Rewrites, Stays, Takes, Upserts}
 use Rattle.collections.proofs.Lookups.{get_absent, get_there, lookup_added, lookup_changed, lookup_permuted, lookup_taken}
 
 module _ {K V H : Type 0} (eq : K → K → Bool) (laws : IsEquivalence eq) where
@@ -79,12 +79,15 @@ module _ {K V H : Type 0} (eq : K → K → Bool) (laws : IsEquivalence eq) wher
     pub absent : (k : K) → IsAbsent eq k (pairs_of t.arrays) → get eq (map_of t) k ≡ None
     absent k none = get_absent eq laws k (pairs_of t.arrays) none
 
+    handed_back : (k : K) (v : V) (why : NotInserted K V) → by_key.HandsBack eq k v (pairs_of t.arrays) why
+        → HandsBack eq k v (map_of t) why
+    handed_back k v (Present a b) x = (x.0, x.1, rw (get_there eq laws k (pairs_of t.arrays) x.2.0 distinct x.2.1) refl)
+    handed_back k v (Memory a b) x = (x.0, x.1, absent k x.2)
+
     pub inserts : {A : Type 0} (k : K) (v : V) (r : Result A (NotInserted K V))
         → by_key.Inserts eq k v (state_of kind t) r (state_of kind s) → Inserts eq k v (map_of t) r (map_of s)
     inserts k v (Ok x) done = adds k v done.0 done.1
-    inserts k v (Err (Present a b)) done =
-        (done.0, done.1, rw (get_there eq laws k (pairs_of t.arrays) done.2.0 distinct done.2.1) refl, stays done.3)
-    inserts k v (Err (Memory a b)) done = (done.0, done.1, stays done.2)
+    inserts k v (Err why) done = (handed_back k v why done.0, stays done.1)
 
     displaces : (gone : K × V) (k : K) (v : V) → IsAbsent eq k (pairs_of t.arrays)
         → putting.ReplacesPair (state_of kind t) gone (k, v) (state_of kind s) → Displaces eq (map_of t) gone k v (map_of s)
@@ -109,9 +112,7 @@ module _ {K V H : Type 0} (eq : K → K → Bool) (laws : IsEquivalence eq) wher
         → putting.Puts eq k v (state_of kind t) r (state_of kind s) → Puts eq k v (map_of t) r (map_of s)
     puts k v (Ok None) done = adds k v done.0 done.1
     puts k v (Ok (Some gone)) done = displaces gone k v done.0 done.1
-    puts k v (Err (Present a b)) done =
-        (done.0, done.1, rw (get_there eq laws k (pairs_of t.arrays) done.2.0 distinct done.2.1) refl, stays done.3)
-    puts k v (Err (Memory a b)) done = (done.0, done.1, stays done.2)
+    puts k v (Err why) done = (handed_back k v why done.0, stays done.1)
 
     pub removes : (k : K) (r : Option (K × V)) → by_key.Takes eq k (state_of kind t) r (state_of kind s)
         → Removes eq k (map_of t) r (map_of s)

@@ -1,5 +1,5 @@
 -- What calls do to a map.
-use Rattle.std.specs.Prelude.{ℕ, ◌≡◌, ◌+◌, ◌-◌, Bool, true, cond, if◌then◌else◌, nat_le, List, ◌∷◌, Option, Some, None, Result, Ok, Err, IsSome}
+use Rattle.std.specs.Prelude.{ℕ, ◌≡◌, ◌+◌, ◌-◌, Bool, true, false, cond, if◌then◌else◌, nat_le, List, ◌∷◌, Option, Some, None, Result, Ok, Err, IsSome}
 use Rattle.std.specs.Borrow.{Bor, MutBor}
 use Rattle.std.specs.List.Sorted.{IsPermutation}
 use Rattle.collections.specs.Maps.{MapView, IsUnique, get, map_len}
@@ -66,24 +66,38 @@ module _ {K V H : Type 0} (eq : K → K → Bool) where
     pub kept : Keeps old new
 
 module _ {K V H : Type 0} (eq : K → K → Bool) (key : K) where
+  -- why a pair comes back that wasn't put: an equal key is there, or memory is wanted, and then none is
+  abbrev pub HandsBack : V → MapView K V H → NotInserted K V → Type 0
+  HandsBack value map (Present k v) = (k ≡ key) × (v ≡ value) × IsSome (get eq map key)
+  HandsBack value map (Memory k v) = (k ≡ key) × (v ≡ value) × (get eq map key ≡ None)
+
   -- a pair is put where its key is absent; else, and for want of memory, it comes back and all stays
   abbrev pub Inserts : {A : Type 0} → V → MapView K V H → Result A (NotInserted K V) → MapView K V H → Type 0
   Inserts value old (Ok done) new = Adds eq old key value new
-  Inserts value old (Err (Present k v)) new = (k ≡ key) × (v ≡ value) × IsSome (get eq old key) × Stays eq old new
-  Inserts value old (Err (Memory k v)) new = (k ≡ key) × (v ≡ value) × Stays eq old new
+  Inserts value old (Err why) new = HandsBack value old why × Stays eq old new
 
   -- a pair is put where its key is absent, and a pair that goes for it comes back; else, and for want of memory, the pair itself
   -- comes back and all stays
   abbrev pub Puts : V → MapView K V H → Result (Option (K × V)) (NotInserted K V) → MapView K V H → Type 0
   Puts value old (Ok None) new = Adds eq old key value new
   Puts value old (Ok (Some gone)) new = Displaces eq old gone key value new
-  Puts value old (Err (Present k v)) new = (k ≡ key) × (v ≡ value) × IsSome (get eq old key) × Stays eq old new
-  Puts value old (Err (Memory k v)) new = (k ≡ key) × (v ≡ value) × Stays eq old new
+  Puts value old (Err why) new = HandsBack value old why × Stays eq old new
 
   -- the pair under the key is taken out, and none is exactly where the key is absent
   abbrev pub Removes : MapView K V H → Option (K × V) → MapView K V H → Type 0
   Removes old (Some pair) new = Takes eq old key pair new
   Removes old None new = (get eq old key ≡ None) × Stays eq old new
+
+  -- the pair under the key is gone, and the answer is whether there was one
+  abbrev pub TakesOut : MapView K V H → Bool → MapView K V H → Type 0
+  TakesOut old true new = (pair : K × V) × Takes eq old key pair new
+  TakesOut old false new = (get eq old key ≡ None) × Stays eq old new
+
+  -- the pair under the key is read and then gone; there is no answer exactly where the key is absent
+  abbrev pub ReadsOut : {R : Type 0} → (Bor K → Bor V → R → Type 0) → MapView K V H → Option R → MapView K V H → Type 0
+  ReadsOut reads old (Some answer) new =
+      (own : Bor K) × (value : Bor V) × reads own value answer × Takes eq old key (own.now, value.now) new
+  ReadsOut reads old None new = (get eq old key ≡ None) × Stays eq old new
 
   -- a pair is put, or its value stands beside the key that is there, and the earlier value is the answer; for want of memory
   -- the pair comes back, and then its key is absent

@@ -5,7 +5,6 @@ pub mod Equality
 pub mod EqualityLaws
 pub mod Keys
 pub mod Room
-pub mod Indexes
 pub mod Loans
 pub mod CacheLoans
 pub mod Entries

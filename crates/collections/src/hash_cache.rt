@@ -4,12 +4,15 @@
 //! it, and answers as std's `HashMap` does.
 //!
 //! Ports scc's `src/hash_cache.rs` to an owned cache: a borrow stands where scc locks.
-ghost use Rattle.std.specs.Prelude.{◌≡◌, ◌↔◌, ◌^◌, ◌*◌, ◌-◌, [], IsTrue, is_some, length, max, min};
+ghost use Rattle.std.specs.Prelude.{◌≡◌, ◌↔◌, ◌^◌, ◌*◌, ◌-◌, ◌++◌, [], IsTrue, is_some, length, max, min};
 ghost use Rattle.std.specs.Prelude.{true};
 ghost use Rattle.std.specs.Borrow.{sem};
 ghost use Rattle.std.specs.Option.{option_copied};
+ghost use Rattle.bucket_slots.specs.Removing.{slots_without};
 ghost use Rattle.bucket_slots.specs.Sizing.{IsLeastPowerOfTwo};
 ghost use Rattle.bucket_slots.specs.Walking.{CallsEach};
+ghost use Rattle.bucket_table.specs.Map.ByKey.{PreparesThen, ShrinksAt};
+ghost use Rattle.bucket_table.specs.Map.Counting.{IsHeldBy};
 ghost use Rattle.bucket_table.specs.Map.Putting.{PutsThen};
 ghost use Rattle.bucket_table.specs.Rehash.State.{first_tickets};
 ghost use Rattle.bucket_table.specs.Views.ArraysView.{pairs_of};
@@ -102,11 +105,14 @@ impl<K: Eq, V, H: KeyHash<K>> HashCache<K, V, H> {
         self.table.hasher()
     }
 
-    /// Returns how many pairs the cache has, at most 2^64 - 1.
+    /// Returns how many pairs the cache has, at most 2^64 - 1: no more than its arrays have slots,
+    /// and pairs in their chains.
     ///
     /// O(slots / 32). scc: `HashCache::len`.
     pub fn len(&self) -> usize
-        ensures { result ≡ min (map_len (map_of self.now)) (2 ^ 64 - 1) }
+        ensures count { result ≡ min (map_len (map_of self.now)) (2 ^ 64 - 1) }
+        ensures within { IsHeldBy (pairs_of self.now.arrays)
+            (self.now.arrays.current ++ self.now.arrays.linked) }
     {
         self.room.learn();
         self.table.len()
@@ -203,8 +209,8 @@ impl<K: Eq + Drop, V: Drop, H: KeyHash<K>> HashCache<K, V, H> {
     ///
     /// # Errors
     ///
-    /// An equal key is there, or want of memory, which can come first: the pair comes back, and
-    /// none goes.
+    /// An equal key is there; or want of memory, and then none is: the pair comes back, and none
+    /// goes.
     ///
     /// O(1) expected, beside a resize. scc: `HashCache::put_sync`.
     pub fn put(&mut self, key: K, value: V) -> Result<Option<(K, V)>, NotInserted<K, V>>
@@ -225,7 +231,9 @@ impl<K: Eq + Drop, V: Drop, H: KeyHash<K>> HashCache<K, V, H> {
     /// Never refused. O(1) expected, beside a resize. scc: `HashCache::remove_sync`.
     #[inline(always)]
     pub fn remove(&mut self, key: &K) -> Option<(K, V)>
-        ensures { Removes K.eq key.now (map_of self.old) result (map_of self.new) }
+        ensures map { Removes K.eq key.now (map_of self.old) result (map_of self.new) }
+        ensures arrays { PreparesThen CACHE self.old (λ between.
+            ShrinksAt slots_without (is_some result) between self.new) }
     {
         self.room.learn();
         self.table.sound();

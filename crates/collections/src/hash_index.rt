@@ -1,20 +1,24 @@
 //! A map that is read without moving anything, and whose removed pairs stay in their slots, each
 //! marked with the epoch of its removal, until an insertion finds that its generation lets it go.
 //!
-//! Model: `IndexView`, the map and the marked pairs. A marked pair isn't in the map: no look-up, no
-//! walk and no count sees it. Only a removal marks, with the epoch of the generation that it is
-//! given; a mark may go in any call that changes the index, with the array in which it stands.
+//! Model: the table's own view, since which marks an insertion lets go is said of a key's home. The
+//! map is `map_of` it, and answers as std's `HashMap` does; its marked pairs, which no look-up, walk
+//! or count sees, are `marks_of` its arrays. Only a removal marks, with the epoch of the generation
+//! that it is given; a mark may go in any call that changes the index, with its array.
 //!
 //! Ports scc's `src/hash_index.rs` to an owned index: a generation that the caller hands in stands
 //! where scc asks its collector.
-ghost use Rattle.std.specs.Prelude.{◌≡◌, ◌↔◌, ◌-◌, ◌^◌, [], IsTrue, min};
+ghost use Rattle.std.specs.Prelude.{◌≡◌, ◌↔◌, ◌-◌, ◌*◌, ◌%◌, ◌^◌, [], IsTrue, is_some, length, min};
 ghost use Rattle.std.specs.Option.{option_copied};
 ghost use Rattle.std.specs.Borrow.{Bor};
-ghost use Rattle.bucket_slots.specs.Marking.{HasNoNewMark, MarksBy};
+ghost use Rattle.bucket_slots.specs.Clearing.{slots_after_insertion};
+ghost use Rattle.bucket_slots.specs.Marking.{HasNoNewMark, MarksBy, slots_marked};
 ghost use Rattle.bucket_slots.specs.Walking.{CallsEach};
-ghost use Rattle.collections.specs.Maps.{contains, get, IsEmpty, map_len};
-ghost use Rattle.collections.specs.Changes.{Inserts, Reserves, Stays};
-ghost use Rattle.collections.specs.Indexes.{ReadsOut, TakesOut};
+ghost use Rattle.bucket_table.specs.Map.ByKey.{FindsThen, PreparesThen, ShrinksAt};
+ghost use Rattle.bucket_table.specs.Rehash.State.{first_tickets};
+ghost use Rattle.bucket_table.specs.Views.ArraysView.{marks_of, pairs_of};
+ghost use Rattle.collections.specs.Maps.{contains, get, IsEmpty, map_len, map_of};
+ghost use Rattle.collections.specs.Changes.{Inserts, ReadsOut, Reserves, Stays, TakesOut};
 
 use crate::hash_map::NotInserted;
 use crate::room::{Fits, TableRoom};
@@ -32,11 +36,11 @@ pub struct HashIndex<K: Eq, V, H: KeyHash<K>> {
 }
 
 impl<K: Eq, V, H: KeyHash<K>> Model for HashIndex<K, V, H> {
-    ghost use Rattle.collections.specs.Indexes.{IndexView, index_of};
+    ghost use Rattle.bucket_table.specs.Views.ArraysView.{TableView};
 
-    ghost Value = { IndexView K V H };
+    ghost Value = { TableView K V H };
 
-    ghost view = { λ index. index_of index.table };
+    ghost view = { λ index. index.table };
 }
 
 impl<K: Eq, V, H: KeyHash<K>> HashIndex<K, V, H> {
@@ -47,12 +51,12 @@ impl<K: Eq, V, H: KeyHash<K>> HashIndex<K, V, H> {
     /// O(1). scc: `HashIndex::with_hasher`.
     pub fn with_hasher(alloc: Global, hasher: H) -> Self
         requires { IndexFits K.row V.row H.row K.PartialEq H.KeyHash }
-        ensures empty { IsEmpty result.map }
-        ensures unmarked { result.marks ≡ [] }
-        ensures hasher { result.map.hasher ≡ hasher }
-        ensures minimum { result.map.minimum ≡ 0 }
-        ensures maximum { result.map.maximum ≡ 2 ^ 63 }
-        ensures slots { result.map.slots ≡ 0 }
+        ensures empty { IsEmpty (map_of result) }
+        ensures unmarked { marks_of result.arrays ≡ [] }
+        ensures hasher { result.hasher ≡ hasher }
+        ensures minimum { result.arrays.minimum ≡ 0 }
+        ensures maximum { result.arrays.maximum ≡ 2 ^ 63 }
+        ensures slots { length result.arrays.current ≡ 0 }
     {
         Self::with_capacity(alloc, hasher, 0)
     }
@@ -63,12 +67,12 @@ impl<K: Eq, V, H: KeyHash<K>> HashIndex<K, V, H> {
     /// O(1). scc: `HashIndex::with_capacity_and_hasher`.
     pub fn with_capacity(alloc: Global, hasher: H, capacity: usize) -> Self
         requires { IndexFits K.row V.row H.row K.PartialEq H.KeyHash }
-        ensures empty { IsEmpty result.map }
-        ensures unmarked { result.marks ≡ [] }
-        ensures hasher { result.map.hasher ≡ hasher }
-        ensures minimum { result.map.minimum ≡ min capacity (2 ^ 63) }
-        ensures maximum { result.map.maximum ≡ 2 ^ 63 }
-        ensures slots { result.map.slots ≡ 0 }
+        ensures empty { IsEmpty (map_of result) }
+        ensures unmarked { marks_of result.arrays ≡ [] }
+        ensures hasher { result.hasher ≡ hasher }
+        ensures minimum { result.arrays.minimum ≡ min capacity (2 ^ 63) }
+        ensures maximum { result.arrays.maximum ≡ 2 ^ 63 }
+        ensures slots { length result.arrays.current ≡ 0 }
     {
         let minimum = capacity.min(MAXIMUM_CAPACITY_LIMIT);
         HashIndex {
@@ -81,7 +85,7 @@ impl<K: Eq, V, H: KeyHash<K>> HashIndex<K, V, H> {
     ///
     /// O(1). scc: `HashIndex::hasher`.
     pub fn hasher(&self) -> &H
-        ensures { result.now ≡ self.now.map.hasher }
+        ensures { result.now ≡ self.now.hasher }
     {
         self.room.learn();
         self.table.hasher()
@@ -91,7 +95,7 @@ impl<K: Eq, V, H: KeyHash<K>> HashIndex<K, V, H> {
     ///
     /// O(slots / 32). scc: `HashIndex::len`.
     pub fn len(&self) -> usize
-        ensures { result ≡ min (map_len self.now.map) (2 ^ 64 - 1) }
+        ensures { result ≡ min (map_len (map_of self.now)) (2 ^ 64 - 1) }
     {
         self.room.learn();
         self.table.len()
@@ -101,7 +105,7 @@ impl<K: Eq, V, H: KeyHash<K>> HashIndex<K, V, H> {
     ///
     /// O(slots / 32). scc: `HashIndex::is_empty`.
     pub fn is_empty(&self) -> bool
-        ensures { IsTrue result ↔ IsEmpty self.now.map }
+        ensures { IsTrue result ↔ IsEmpty (map_of self.now) }
     {
         self.room.learn();
         self.table.is_empty()
@@ -111,7 +115,7 @@ impl<K: Eq, V, H: KeyHash<K>> HashIndex<K, V, H> {
     ///
     /// O(1). scc: `HashIndex::capacity`.
     pub fn capacity(&self) -> usize
-        ensures { result ≡ self.now.map.slots }
+        ensures { result ≡ 32 * length self.now.arrays.current }
     {
         self.room.learn();
         self.table.num_slots()
@@ -125,7 +129,7 @@ impl<K: Eq, V, H: KeyHash<K>> HashIndex<K, V, H> {
         requires callable { F.IsAlwaysCallable f.old }
         ensures again { F.IsAlwaysCallable f.new }
         ensures calls { CallsEach (λ state own value last. F.step state own value tt last) f.old
-            self.now.map.entries f.new }
+            (pairs_of self.now.arrays) f.new }
     {
         self.room.learn();
         self.table.for_each(f);
@@ -136,7 +140,7 @@ impl<K: Eq, V, H: KeyHash<K>> HashIndex<K, V, H> {
     /// Moves nothing, and takes no memory. O(1) expected. scc: `HashIndex::peek`.
     #[inline(always)]
     pub fn peek(&self, key: &K) -> Option<&V>
-        ensures { option_copied result ≡ get K.eq self.now.map key.now }
+        ensures { option_copied result ≡ get K.eq (map_of self.now) key.now }
     {
         self.room.learn();
         self.table.sound();
@@ -151,7 +155,7 @@ impl<K: Eq, V, H: KeyHash<K>> HashIndex<K, V, H> {
     /// Moves nothing, and takes no memory. O(1) expected. scc: `HashIndex::contains`.
     #[inline(always)]
     pub fn contains(&self, key: &K) -> bool
-        ensures { result ≡ contains K.eq self.now.map key.now }
+        ensures { result ≡ contains K.eq (map_of self.now) key.now }
     {
         self.peek(key).is_some()
     }
@@ -163,7 +167,7 @@ impl<K: Eq + Drop, V: Drop, H: KeyHash<K>> HashIndex<K, V, H> {
     ///
     /// # Errors
     ///
-    /// An equal key is there, or want of memory, which can come first: the pair comes back.
+    /// An equal key is there; or want of memory, and then none is: the pair comes back.
     ///
     /// O(1) expected, beside a resize. scc: `HashIndex::insert_sync`.
     #[inline(always)]
@@ -173,8 +177,11 @@ impl<K: Eq + Drop, V: Drop, H: KeyHash<K>> HashIndex<K, V, H> {
         value: V,
         generation: &G,
     ) -> Result<(), NotInserted<K, V>>
-        ensures map { Inserts K.eq key value self.old.map result self.new.map }
-        ensures marks { HasNoNewMark self.old.marks self.new.marks }
+        ensures map { Inserts K.eq key value (map_of self.old) result (map_of self.new) }
+        ensures marks { HasNoNewMark (marks_of self.old.arrays) (marks_of self.new.arrays) }
+        ensures arrays { FindsThen INDEX (H.hash_of self.old.hasher key)
+            (λ bucket. slots_after_insertion INDEX (G.keeps generation.now) bucket (key, value)
+            (H.hash_of self.old.hasher key % 256)) self.old result self.new }
     {
         self.room.learn();
         self.table.sound();
@@ -189,8 +196,12 @@ impl<K: Eq + Drop, V: Drop, H: KeyHash<K>> HashIndex<K, V, H> {
     /// Never refused. O(1) expected, beside a resize. scc: `HashIndex::remove_sync`.
     #[inline(always)]
     pub fn remove<G: Generation>(&mut self, key: &K, generation: &G) -> bool
-        ensures map { TakesOut K.eq key.now self.old.map result self.new.map }
-        ensures marks { MarksBy (G.epoch_of generation.now) self.old.marks self.new.marks }
+        ensures map { TakesOut K.eq key.now (map_of self.old) result (map_of self.new) }
+        ensures marks { MarksBy (G.epoch_of generation.now) (marks_of self.old.arrays)
+            (marks_of self.new.arrays) }
+        ensures arrays { PreparesThen INDEX self.old (λ between.
+            ShrinksAt (λ bucket at. slots_marked bucket at (G.epoch_of generation.now)) result
+            between self.new) }
     {
         let removed = self.remove_with(key, generation, |_own: &K, _value: &V| ());
         removed.is_some()
@@ -209,8 +220,12 @@ impl<K: Eq + Drop, V: Drop, H: KeyHash<K>> HashIndex<K, V, H> {
     ) -> Option<R>
         requires callable { (own : Bor K) (value : Bor V) → F.pre reader own value }
         ensures map { ReadsOut K.eq key.now (λ own value answer. F.post reader own value answer)
-            self.old.map result self.new.map }
-        ensures marks { MarksBy (G.epoch_of generation.now) self.old.marks self.new.marks }
+            (map_of self.old) result (map_of self.new) }
+        ensures marks { MarksBy (G.epoch_of generation.now) (marks_of self.old.arrays)
+            (marks_of self.new.arrays) }
+        ensures arrays { PreparesThen INDEX self.old (λ between.
+            ShrinksAt (λ bucket at. slots_marked bucket at (G.epoch_of generation.now))
+            (is_some result) between self.new) }
     {
         self.room.learn();
         self.table.sound();
@@ -224,8 +239,8 @@ impl<K: Eq + Drop, V: Drop, H: KeyHash<K>> HashIndex<K, V, H> {
     ///
     /// Never refused. O(slots). scc: `HashIndex::reserve`.
     pub fn reserve(&mut self, additional: usize) -> usize
-        ensures map { Reserves K.eq additional self.old.map result self.new.map }
-        ensures marks { HasNoNewMark self.old.marks self.new.marks }
+        ensures map { Reserves K.eq additional (map_of self.old) result (map_of self.new) }
+        ensures marks { HasNoNewMark (marks_of self.old.arrays) (marks_of self.new.arrays) }
     {
         self.room.learn();
         self.table.sound();
@@ -238,8 +253,8 @@ impl<K: Eq + Drop, V: Drop, H: KeyHash<K>> HashIndex<K, V, H> {
     ///
     /// Never refused. O(slots). Own: what ends scc's `Reserve`s.
     pub fn shrink_to_fit(&mut self)
-        ensures map { Stays K.eq (record self.old.map { minimum = 0 }) self.new.map }
-        ensures marks { HasNoNewMark self.old.marks self.new.marks }
+        ensures map { Stays K.eq (record (map_of self.old) { minimum = 0 }) (map_of self.new) }
+        ensures marks { HasNoNewMark (marks_of self.old.arrays) (marks_of self.new.arrays) }
     {
         self.room.learn();
         self.table.sound();
@@ -252,8 +267,9 @@ impl<K: Eq + Drop, V: Drop, H: KeyHash<K>> HashIndex<K, V, H> {
     ///
     /// Never refused. O(slots). scc: `HashIndex::clear_sync`, which marks the pairs.
     pub fn clear(&mut self)
-        ensures map { self.new.map ≡ record self.old.map { entries = []; slots = 0 } }
-        ensures unmarked { self.new.marks ≡ [] }
+        ensures hasher { self.new.hasher ≡ self.old.hasher }
+        ensures arrays { self.new.arrays
+            ≡ record self.old.arrays { current = []; linked = []; tickets = first_tickets 0 } }
     {
         self.room.learn();
         self.table.clear();

@@ -1,3 +1,5 @@
+use Rattle.bucket_table.specs.Views.ArraysView.{marks_of}
+use Rattle.collections.specs.Maps.{map_of}
 use Rattle.callers.proofs.WithoutKeys.{marks_joined, updates_out, without_more}
 use Rattle.callers.proofs.retiring.retire_keys.Goals as goal
 
@@ -8,8 +10,9 @@ loop-key-preserved g c =
     let at = c.loop-key in
     let key = c.key-item.result in
     let new = c.remove.new.self in (
-      without_more eq laws c.args.retired.now at.key-index key c.args.index.now.map at.index.map new.map c.loop-key-test.true
-          c.key-item.is at.invariant.0 (updates_out eq laws key at.index.map c.remove.result new.map c.remove.ensures.map),
-      marks_joined (g.G.Generation.epoch_of c.args.generation.now) c.args.index.now.marks at.index.marks new.marks at.invariant.1
-          c.remove.ensures.marks,
+      without_more eq laws c.args.retired.now at.key-index key (map_of c.args.index.now) (map_of at.index) (map_of new)
+          c.loop-key-test.true c.key-item.is at.invariant.0 (updates_out eq laws key (map_of at.index) c.remove.result (map_of new)
+          c.remove.ensures.map),
+      marks_joined (g.G.Generation.epoch_of c.args.generation.now) (marks_of c.args.index.now.arrays) (marks_of at.index.arrays)
+          (marks_of new.arrays) at.invariant.1 c.remove.ensures.marks,
     )

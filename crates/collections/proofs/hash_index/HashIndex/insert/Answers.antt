@@ -11,3 +11,6 @@ returns-clause-map g c = rw (← c.self.view_is) (inserts g.K.PartialEq.eq g.met
 pub returns-clause-marks : goal.returns-clause-marks
 returns-clause-marks g c = rw (← c.self.view_is) (no_new-inserted 79 _ c.self.inside.table c.insert_pair-outcome.new.self _ _ _
     c.insert_pair-outcome.result c.insert_pair-outcome.ensures.arrays)
+
+pub returns-clause-arrays : goal.returns-clause-arrays
+returns-clause-arrays g c = rw (← c.self.view_is) c.insert_pair-outcome.ensures.arrays

@@ -7,3 +7,6 @@ returns-clause-map g c = rw (← c.self.view_is) (reads_out g.K.PartialEq.eq g.m
 
 pub returns-clause-marks : goal.returns-clause-marks
 returns-clause-marks g c = rw (← c.self.view_is) c.mark-outcome.ensures.marks
+
+pub returns-clause-arrays : goal.returns-clause-arrays
+returns-clause-arrays g c = rw (← c.self.view_is) c.mark-outcome.ensures.arrays
