@@ -1,5 +1,6 @@
 -- How a script ends: what is answered, and what is left in the output.
-use Rattle.std.proofs.Common.{◌≡◌, ℕ, ◌+◌, ◌↔◌, inl, inr, List, [], ◌∷◌, ◌++◌, Option, IsSome, Result, Ok, Err, MatchResult, length, refl, sym, append-nil}
+use Rattle.std.proofs.Common.{◌≡◌, ℕ, ◌+◌, ◌↔◌, inl, inr, List, [], ◌∷◌, ◌++◌, Option, IsSome, Result, Ok, Err, MatchResult, length, refl}
+use Rattle.std.proofs.Common.{sym, append-nil}
 use Rattle.std.specs.Result.{result_and}
 use Rattle.bhtable.specs.Answers.{IsUnreadable, ScriptTable}
 use Rattle.bhtable.specs.Layout.Sessions.{HasEnded, HasReplied, HasRepliedSome, HasStopped, HasTaken, HasTakenSome, table_at_hand}

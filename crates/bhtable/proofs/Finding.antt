@@ -1,12 +1,14 @@
 -- What is found at the front of the bytes that are read is the first of the lines.
-use Rattle.std.proofs.Common.{◌≡◌, ℕ, ◌+◌, ◌<◌, ◌≤◌, List, [], ◌∷◌, ◌++◌, Bool, true, false, nat_lt, length, take, drop, inl, inr, refl, ap, ◌∙◌, arith, length-take-le, ltb-true, ltb-false}
+use Rattle.std.proofs.Common.{◌≡◌, ℕ, ◌+◌, ◌<◌, ◌≤◌, List, [], ◌∷◌, ◌++◌, Bool, true, false, nat_lt, length, take, drop, inl, inr, refl}
+use Rattle.std.proofs.Common.{ap, ◌∙◌, arith, length-take-le, ltb-true, ltb-false}
 use Rattle.std.proofs.lemmas.Bool.{cases_Bool}
 use Rattle.std.proofs.lemmas.List.{drop_all, take-take}
 use Rattle.bhtable.specs.InputLines.{last_line, line_len, lines_after, lines_of, without_return}
 use Rattle.bhtable.specs.Layout.Found.{IsFound, IsFoundIn, IsFoundUnended}
 use Rattle.bhtable.specs.declared.line.Found.TheVariants.{Line as FoundLine, TooLong, Cut, End}
 use Rattle.bhtable.specs.declared.line.Line.{Line}
-use Rattle.bhtable.proofs.LineSplits.{begins_with, first_line, length-without_return, line_goes_on, line_len-append, line_len-le, newline_at}
+use Rattle.bhtable.proofs.LineSplits.{begins_with, first_line, length-without_return, line_goes_on, line_len-append, line_len-le}
+use Rattle.bhtable.proofs.LineSplits.{newline_at}
 
 last_is : (bytes : List ℕ) → 0 < length bytes → last_line bytes ≡ without_return bytes ∷ []
 last_is [] some = absurd (omega arith)

@@ -1,5 +1,6 @@
 -- What an answer from rows of words and meanings says of the word.
-use Rattle.std.proofs.Common.{◌≡◌, ℕ, Bool, true, false, cond, find, option_map, List, [], ◌∷◌, Option, Some, None, IfSome, refl, sym, ap, ◌∙◌}
+use Rattle.std.proofs.Common.{◌≡◌, ℕ, Bool, true, false, cond, find, option_map, List, [], ◌∷◌, Option, Some, None, IfSome, refl, sym, ap}
+use Rattle.std.proofs.Common.{◌∙◌}
 use lib.Pointwise.{bytes_decides}
 use Rattle.std.specs.Prelude.{⊤}
 use Rattle.std.specs.Str.{bytes_eq}

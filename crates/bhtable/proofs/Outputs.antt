@@ -1,5 +1,6 @@
 -- What is left in the output once everything is written out, or a write has failed, and with which status.
-use Rattle.std.proofs.Common.{◌≡◌, ℕ, inl, inr, List, [], ◌++◌, Option, Some, None, Result, Ok, Err, IfErr, MatchResult, codes, refl, sym, subst, append-nil}
+use Rattle.std.proofs.Common.{◌≡◌, ℕ, inl, inr, List, [], ◌++◌, Option, Some, None, Result, Ok, Err, IfErr, MatchResult, codes, refl, sym}
+use Rattle.std.proofs.Common.{subst, append-nil}
 use Rattle.std.proofs.KnownBytes.{Appends-nil, Appends-trans}
 use Rattle.std.specs.Io.KnownBytes.{Appends, append_known}
 use Rattle.std.specs.Result.{result_and}

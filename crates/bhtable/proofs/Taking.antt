@@ -1,5 +1,6 @@
 -- What a session holds after a line, and after the calls that wait are answered.
-use Rattle.std.proofs.Common.{◌≡◌, ℕ, ◌≤◌, ◌==◌, inl, inr, true, List, [], ◌∷◌, ◌++◌, Option, Some, IsSome, Result, Ok, Err, MatchResult, length, arith, eqb-true, refl, sym, ap, ◌∙◌, append_assoc, append-nil}
+use Rattle.std.proofs.Common.{◌≡◌, ℕ, ◌≤◌, ◌==◌, inl, inr, true, List, [], ◌∷◌, ◌++◌, Option, Some, IsSome, Result, Ok, Err, MatchResult}
+use Rattle.std.proofs.Common.{length, arith, eqb-true, refl, sym, ap, ◌∙◌, append_assoc, append-nil}
 use Rattle.bucket_table.specs.declared.script.call.Call.{Call}
 use Rattle.bucket_table.specs.declared.script.reply.Reply.{Reply}
 use Rattle.bhtable.specs.Answers.{AreAnswers, ScriptTable}

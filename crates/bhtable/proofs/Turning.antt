@@ -1,5 +1,6 @@
 -- What a session holds after a line that changes no pair, and after its replies are written out.
-use Rattle.std.proofs.Common.{◌≡◌, ℕ, ◌≤◌, List, [], ◌∷◌, ◌++◌, Option, None, Some, IsSome, Result, Ok, Err, MatchResult, length, refl, ◌∙◌, append-nil}
+use Rattle.std.proofs.Common.{◌≡◌, ℕ, ◌≤◌, List, [], ◌∷◌, ◌++◌, Option, None, Some, IsSome, Result, Ok, Err, MatchResult, length, refl}
+use Rattle.std.proofs.Common.{◌∙◌, append-nil}
 use Rattle.bucket_table.specs.declared.script.generation.FixedGeneration.{FixedGeneration}
 use Rattle.bucket_table.specs.declared.script.reply.Reply.{Reply}
 use Rattle.bucket_table.specs.declared.script.reply.Reply.TheVariants.{Done}

@@ -1,5 +1,6 @@
 -- A line's verb tells of its form, and so how many parts stand behind it.
-use Rattle.std.proofs.Common.{◌≡◌, ℕ, List, [], ◌∷◌, length, map, Option, Some, None, MatchOption, refl, sym, ap, ◌∙◌, subst, arith, append-nil, length-append, rules}
+use Rattle.std.proofs.Common.{◌≡◌, ℕ, List, [], ◌∷◌, length, map, Option, Some, None, MatchOption, refl, sym, ap, ◌∙◌, subst, arith}
+use Rattle.std.proofs.Common.{append-nil, length-append, rules}
 use Rattle.bhtable.specs.Layout.Forms.{AsksNothing, Begins, form_word}
 use Rattle.bhtable.specs.Layout.Meanings.{meaning}
 use Rattle.bhtable.specs.Numbers.{is_number}
@@ -9,7 +10,8 @@ use Rattle.bhtable.specs.declared.request.Form.{Form}
 use Rattle.bhtable.specs.declared.request.Form.TheVariants.{Table, Epoch, Question as Questions, Call as Calls}
 use Rattle.bhtable.specs.declared.request.Question.TheVariants.{Slots, Word}
 use Rattle.bhtable.specs.declared.request.Request.{Request}
-use Rattle.bhtable.specs.declared.request.Request.TheVariants.{New as RequestNew, Call as RequestCall, Question as RequestQuestion, Epoch as RequestEpoch}
+use Rattle.bhtable.specs.declared.request.Request.TheVariants.{New as RequestNew, Call as RequestCall, Question as RequestQuestion}
+use Rattle.bhtable.specs.declared.request.Request.TheVariants.{Epoch as RequestEpoch}
 use Rattle.bhtable.specs.declared.request.TheConstants.{FORMS}
 use Rattle.bucket_table.specs.declared.script.call.Call.TheVariants.{Put}
 use Rattle.bhtable.proofs.Naming.{AreNamed, named_by_meaning}

@@ -1,5 +1,6 @@
 -- What one more key does to a count.
-use Rattle.std.proofs.Common.{length-take-le, ℕ, ◌≡◌, ◌+◌, ◌-◌, ◌^◌, ◌<◌, min, inl, inr, Bool, true, false, cond, List, [], length, take, get_or, Option, Some, None, Result, Ok, Err, sym, ap, subst, ◌∙◌, rules, arith}
+use Rattle.std.proofs.Common.{length-take-le, ℕ, ◌≡◌, ◌+◌, ◌-◌, ◌^◌, ◌<◌, min, inl, inr, Bool, true, false, cond, List, [], length, take}
+use Rattle.std.proofs.Common.{get_or, Option, Some, None, Result, Ok, Err, sym, ap, subst, ◌∙◌, rules, arith}
 use Rattle.std.specs.Borrow.{Bor, MutBor}
 use Rattle.std.specs.Cmp.{IsEquivalence}
 use Rattle.std.specs.List.{IsDistinct, count_by}

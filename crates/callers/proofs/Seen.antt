@@ -1,5 +1,6 @@
 -- What one more key does to a list without repeats, and to the set of what was seen.
-use Rattle.std.proofs.Common.{ℕ, ◌≡◌, ◌+◌, ◌<◌, inl, inr, Bool, true, false, not, ◌||◌, cond, List, [], ◌∷◌, ◌++◌, length, take, get_or, Some, None, Err, refl, sym, ap, subst, ◌∙◌, append-nil}
+use Rattle.std.proofs.Common.{ℕ, ◌≡◌, ◌+◌, ◌<◌, inl, inr, Bool, true, false, not, ◌||◌, cond, List, [], ◌∷◌, ◌++◌, length, take, get_or}
+use Rattle.std.proofs.Common.{Some, None, Err, refl, sym, ap, subst, ◌∙◌, append-nil}
 use Rattle.std.specs.Cmp.{IsEquivalence}
 use Rattle.std.specs.List.{filter, list_any}
 use Rattle.std.specs.Option.{IsSome, is_some}
@@ -65,7 +66,8 @@ or_false true = refl
 or_false false = refl
 
 module _ {K H : Type 0} (eq : K → K → Bool) (laws : IsEquivalence eq) (keys : List K) (place : ℕ) (key : K)
-    (old new : MapView K (Unit {0}) H) (below : place < length keys) (item : key ≡ get_or keys place key) (seen : IsSetOf eq (take place keys) old) where
+    (old new : MapView K (Unit {0}) H) (below : place < length keys) (item : key ≡ get_or keys place key)
+    (seen : IsSetOf eq (take place keys) old) where
   any_more : (q : K) → list_any (eq q) (take (place + 1) keys) ≡ (list_any (eq q) (take place keys) || eq q key)
   any_more q = list_any_more (eq q) keys place key below ∙ ap (λ (k : K). list_any (eq q) (take place keys) || eq q k) (sym item)
 

@@ -1,5 +1,6 @@
 -- Asking of each pair of a map is asking of each key.
-use Rattle.std.proofs.Common.{ℕ, suc, ◌≡◌, ◌<◌, ◌&&◌, ◌∙◌, Bool, true, false, Some, List, [], ◌∷◌, length, slice_index_or, refl, sym, ap, arith}
+use Rattle.std.proofs.Common.{ℕ, suc, ◌≡◌, ◌<◌, ◌&&◌, ◌∙◌, Bool, true, false, Some, List, [], ◌∷◌, length, slice_index_or, refl, sym, ap}
+use Rattle.std.proofs.Common.{arith}
 use Rattle.std.specs.Cmp.{IsEquivalence}
 use Rattle.std.specs.List.{FoldsTo, list_all}
 use Rattle.std.specs.Option.{option_eq}

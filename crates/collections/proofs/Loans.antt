@@ -22,7 +22,8 @@ module _ {K V H : Type 0} (eq : K → K → Bool) (laws : IsEquivalence eq) (kin
       → IsDistinct eq (keys_of (pairs_of s.arrays))
   distinct_changed s p v changed =
       distinct_permuted eq laws ((p.0, v) ∷ changed.rest) (pairs_of s.arrays) changed.after.pairs
-      (distinct_with eq laws p.0 p.1 v changed.rest (distinct_permuted eq laws (pairs_of t.arrays) (p ∷ changed.rest) changed.before distinct))
+      (distinct_with eq laws p.0 p.1 v changed.rest (distinct_permuted eq laws (pairs_of t.arrays)
+      (p ∷ changed.rest) changed.before distinct))
 
   -- what is written through the loan
   pub lent_replaces : (loan : Option (MutBor V)) (s : TableView K V H) (v : V)

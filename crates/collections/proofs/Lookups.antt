@@ -1,5 +1,6 @@
 -- Look-ups in a list of pairs whose keys are distinct, and what changes of the list do to them.
-use Rattle.std.proofs.Common.{zero, suc, ◌≡◌, inl, inr, Bool, true, false, cond, Option, Some, None, List, [], ◌∷◌, length, refl, sym, ap, ◌∙◌, arith}
+use Rattle.std.proofs.Common.{zero, suc, ◌≡◌, inl, inr, Bool, true, false, cond, Option, Some, None, List, [], ◌∷◌, length, refl, sym, ap}
+use Rattle.std.proofs.Common.{◌∙◌, arith}
 use Rattle.std.specs.Cmp.{IsEquivalence}
 use Rattle.std.specs.List.{All, Contains, IsDistinct}
 use Rattle.std.specs.List.Sorted.{IsPermutation}
@@ -79,7 +80,8 @@ module _ {K V : Type 0} (eq : K → K → Bool) (laws : IsEquivalence eq) where
           lookup_absent q ys (All-permutation (λ (o : K × V). eq q o.0 ≡ false) xs ys moved (absent_from_lookup q xs e)) ∙ sym e
       from (Some v) e =
           let found = there_from_lookup q xs v e in
-          lookup_there q ys (found.0, v) (distinct_permuted xs ys moved distinct) (Contains-permutation xs ys (found.0, v) moved found.1) found.2 ∙ sym e
+          lookup_there q ys (found.0, v) (distinct_permuted xs ys moved distinct)
+          (Contains-permutation xs ys (found.0, v) moved found.1) found.2 ∙ sym e
 
   -- in the words of a table
   pub get_absent : (k : K) (ps : List (K × V)) → IsAbsent eq k ps → lookup (eq k) ps ≡ None
@@ -102,7 +104,8 @@ module _ {K V : Type 0} (eq : K → K → Bool) (laws : IsEquivalence eq) where
   lookup_taken k q p xs ys distinct moved same = elim (cases_Bool (eq k q)) [
     | inl hit ↦
         let own : eq q p.0 ≡ true = sym (same_test eq laws k p.0 q same) ∙ hit in
-        let none : lookup (eq q) ys ≡ None = lookup-none (eq q) ys (none_past_head laws q p ys (distinct_permuted xs (p ∷ ys) moved distinct) own) in
+        let none : lookup (eq q) ys ≡ None = lookup-none (eq q) ys
+        (none_past_head laws q p ys (distinct_permuted xs (p ∷ ys) moved distinct) own) in
         none ∙ ap (λ (b : Bool). cond b None (lookup (eq q) xs)) (sym hit)
     | inr miss ↦
         let own : eq q p.0 ≡ false = sym (same_test eq laws k p.0 q same) ∙ miss in

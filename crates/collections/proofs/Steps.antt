@@ -1,5 +1,6 @@
 -- What the calls of a table by key do to the map that it is.
-use Rattle.std.proofs.Common.{ℕ, ◌≡◌, ◌-◌, ◌*◌, if◌then◌else◌, Bool, true, cond, Option, Some, None, Result, Ok, Err, List, ◌∷◌, length, refl, subst, sym, ap, ◌∙◌, arith}
+use Rattle.std.proofs.Common.{ℕ, ◌≡◌, ◌-◌, ◌*◌, if◌then◌else◌, Bool, true, cond, Option, Some, None, Result, Ok, Err, List, ◌∷◌, length}
+use Rattle.std.proofs.Common.{refl, subst, sym, ap, ◌∙◌, arith}
 use Rattle.std.specs.Borrow.{Bor, MutBor}
 use Rattle.std.specs.Cmp.{IsEquivalence}
 use Rattle.std.specs.List.{Contains, IsDistinct}
@@ -24,7 +25,12 @@ module _ {K V H : Type 0} (eq : K → K → Bool) (laws : IsEquivalence eq) wher
   module _ (kind : ℕ) (t s : TableView K V H) (distinct : IsDistinct eq (keys_of (pairs_of t.arrays)))
       (after : IsDistinct eq (keys_of (pairs_of s.arrays))) where
     kept : {those : List (K × V)} → Becomes (state_of kind t) those (state_of kind s) → Keeps eq (map_of t) (map_of s)
-    kept becomes = record { unique = after; hasher = ap (λ z. z.hasher) becomes.others; minimum = ap (λ z. z.minimum) becomes.others; maximum = ap (λ z. z.maximum) becomes.others }
+    kept becomes = record {
+      unique = after;
+      hasher = ap (λ z. z.hasher) becomes.others;
+      minimum = ap (λ z. z.minimum) becomes.others;
+      maximum = ap (λ z. z.maximum) becomes.others;
+    }
 
     pub stays : KeepsPairs (state_of kind t) (state_of kind s) → Stays eq (map_of t) (map_of s)
     stays keeps = record {
@@ -56,7 +62,12 @@ module _ {K V H : Type 0} (eq : K → K → Bool) (laws : IsEquivalence eq) wher
       entries = taken.pairs;
       len = let less = length_permutation (pairs_of t.arrays) (p ∷ pairs_of s.arrays) taken.pairs in omega (arith, less);
       updates = λ q. lookup_taken eq laws k q p (pairs_of t.arrays) (pairs_of s.arrays) distinct taken.pairs same;
-      kept = record { unique = after; hasher = ap (λ z. z.hasher) taken.others; minimum = ap (λ z. z.minimum) taken.others; maximum = ap (λ z. z.maximum) taken.others };
+      kept = record {
+        unique = after;
+        hasher = ap (λ z. z.hasher) taken.others;
+        minimum = ap (λ z. z.minimum) taken.others;
+        maximum = ap (λ z. z.maximum) taken.others;
+      };
     }
 
     pub replaces : (k : K) (p : K × V) (v : V) → eq p.0 k ≡ true → ChangesValue (state_of kind t) p v (state_of kind s)
@@ -131,18 +142,25 @@ module _ {K V H : Type 0} (eq : K → K → Bool) (laws : IsEquivalence eq) wher
     rewrites changes k None done = (absent k done.0, stays done.1)
 
   -- with another minimum
-  pub stays_by : (kind : ℕ) (t s : TableView K V H) → IsDistinct eq (keys_of (pairs_of t.arrays)) → IsDistinct eq (keys_of (pairs_of s.arrays))
+  pub stays_by : (kind : ℕ) (t s : TableView K V H) → IsDistinct eq (keys_of (pairs_of t.arrays))
+      → IsDistinct eq (keys_of (pairs_of s.arrays))
       → (minimum : ℕ) → KeepsPairs (record (state_of kind t) { minimum = minimum }) (state_of kind s)
       → Stays eq (record (map_of t) { minimum = minimum }) (map_of s)
   stays_by kind t s distinct after minimum keeps = record {
     entries = keeps.pairs;
     len = length_permutation (pairs_of t.arrays) (pairs_of s.arrays) keeps.pairs;
     gets = λ q. lookup_permuted eq laws q (pairs_of t.arrays) (pairs_of s.arrays) distinct keeps.pairs;
-    kept = record { unique = after; hasher = ap (λ z. z.hasher) keeps.others; minimum = ap (λ z. z.minimum) keeps.others; maximum = ap (λ z. z.maximum) keeps.others };
+    kept = record {
+      unique = after;
+      hasher = ap (λ z. z.hasher) keeps.others;
+      minimum = ap (λ z. z.minimum) keeps.others;
+      maximum = ap (λ z. z.maximum) keeps.others;
+    };
   }
 
   -- all of the minimum is given back
-  pub released : (kind : ℕ) (t s : TableView K V H) → IsDistinct eq (keys_of (pairs_of t.arrays)) → IsDistinct eq (keys_of (pairs_of s.arrays))
+  pub released : (kind : ℕ) (t s : TableView K V H) → IsDistinct eq (keys_of (pairs_of t.arrays))
+      → IsDistinct eq (keys_of (pairs_of s.arrays))
       → (m answer : ℕ) → m ≡ t.arrays.minimum → LowersMinimum m (state_of kind t) answer (state_of kind s)
       → Stays eq (record (map_of t) { minimum = 0 }) (map_of s)
   released kind t s distinct after m answer is lowers =

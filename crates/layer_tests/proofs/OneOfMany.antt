@@ -3,7 +3,8 @@ use Rattle.std.proofs.Common.{ℕ, ◌≡◌, Result, Ok, Err, OnErr, List, get_
 use Rattle.std.proofs.lemmas.List.{set-get_or}
 
 -- where a call on the member fails and leaves it, the list is as it was
-pub unchanged_by_failure : {A E X : Type 0} (result : Result A E) (members : List X) (index : ℕ) (before after : X) → before ≡ get_or members index before → OnErr result (after ≡ before)
+pub unchanged_by_failure : {A E X : Type 0} (result : Result A E) (members : List X) (index : ℕ) (before after : X)
+    → before ≡ get_or members index before → OnErr result (after ≡ before)
     → OnErr result (set members index after ≡ members)
 unchanged_by_failure (Ok answer) members index before after member same = tt
 unchanged_by_failure (Err error) members index before after member same =

@@ -1,6 +1,8 @@
 use Rattle.std.proofs.Common.{arith}
 use Rattle.bhtable.proofs.PowersOfTwo.{next_is_same, at_most_half, refused}
-use Rattle.bhtable.proofs.request.limits_of.Goals.{then-maximum-lt64-via-then-maximum-lt64, then-maximum-lt64-via-else-maximum-lt64+then-maximum-gt-MAXIMUM_CAPACITY_LIMIT, then-maximum-lt64-via-else-maximum-lt64+else-maximum-gt-MAXIMUM_CAPACITY_LIMIT+then-minimum-maximum}
+use Rattle.bhtable.proofs.request.limits_of.Goals.{then-maximum-lt64-via-then-maximum-lt64}
+use Rattle.bhtable.proofs.request.limits_of.Goals.{then-maximum-lt64-via-else-maximum-lt64+then-maximum-gt-MAXIMUM_CAPACITY_LIMIT}
+use Rattle.bhtable.proofs.request.limits_of.Goals.{then-maximum-lt64-via-else-maximum-lt64+else-maximum-gt-MAXIMUM_CAPACITY_LIMIT+then-minimum-maximum}
 use Rattle.bhtable.proofs.request.limits_of.Goals as goal
 
 pub returns-then-maximum-lt64-clause-accepted : goal.returns-then-maximum-lt64-clause-accepted

@@ -8,7 +8,8 @@ use Rattle.layer_tests.proofs.probe.insert_at.Goals as goal
 
 pub returns-clause-place : goal.returns-clause-place
 returns-clause-place g c =
-    rw (c.index_mut.ensures.value ∙ get_or_default c.args.buckets.now.items c.args.index _ empty_bucket c.requires.within) at c.insert.ensures.place
+    rw (c.index_mut.ensures.value ∙ get_or_default c.args.buckets.now.items c.args.index _ empty_bucket c.requires.within) at
+    c.insert.ensures.place
 
 pub returns-clause-buckets : goal.returns-clause-buckets
 returns-clause-buckets g c =
@@ -17,8 +18,10 @@ returns-clause-buckets g c =
 
 pub returns-clause-unchanged : goal.returns-clause-unchanged
 returns-clause-unchanged g c =
-    unchanged_by_failure c.insert.result c.args.buckets.now.items c.args.index _ _ c.index_mut.ensures.value (refused_unchanged c.insert.result _ _ _ c.insert.ensures.refused)
+    unchanged_by_failure c.insert.result c.args.buckets.now.items c.args.index _ _ c.index_mut.ensures.value
+    (refused_unchanged c.insert.result _ _ _ c.insert.ensures.refused)
 
 pub returns-clause-no_free_slot : goal.returns-clause-no_free_slot
 returns-clause-no_free_slot g c =
-    rw (c.index_mut.ensures.value ∙ get_or_default c.args.buckets.now.items c.args.index _ empty_bucket c.requires.within) at (refused_full c.insert.result _ _ _ c.insert.ensures.refused)
+    rw (c.index_mut.ensures.value ∙ get_or_default c.args.buckets.now.items c.args.index _ empty_bucket c.requires.within) at
+    (refused_full c.insert.result _ _ _ c.insert.ensures.refused)

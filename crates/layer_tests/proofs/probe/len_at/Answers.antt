@@ -5,4 +5,5 @@ use Rattle.layer_tests.proofs.probe.len_at.Goals as goal
 
 pub returns : goal.returns
 returns g c =
-    c.len.ensures ∙ ap (λ bucket. length (pairs_in bucket)) (c.index.ensures ∙ get_or_default c.args.buckets.now.items c.args.index _ _ c.requires)
+    c.len.ensures ∙ ap (λ bucket. length (pairs_in bucket))
+    (c.index.ensures ∙ get_or_default c.args.buckets.now.items c.args.index _ _ c.requires)
