@@ -1,9 +1,9 @@
 //! A collection and what it must have, and calls on both. Pairs come and go like tides, so that the
 //! collection gets longer arrays and shorter ones again.
-use crate::beside::{Beside, KEYS};
 use crate::chance::Chance;
 use crate::collection::Collection;
 use collections::hash_map::NotInserted;
+use few_keys::{FewKeys, KEYS};
 use std::mem;
 
 // For how many calls pairs come, and for how many they go.
@@ -22,7 +22,7 @@ const GATHERING: u64 = 17428512612931826493;
 #[derive(Drop)]
 pub(crate) struct Course {
     collection: Collection,
-    beside: Beside,
+    beside: FewKeys,
     chance: Chance,
     pub(crate) put: u64,
     pub(crate) refused: u64,
@@ -34,7 +34,7 @@ impl Course {
     pub(crate) fn new(collection: Collection) -> Self {
         Course {
             collection,
-            beside: Beside::new(),
+            beside: FewKeys::new(),
             chance: Chance::new(),
             put: 0,
             refused: 0,
@@ -159,7 +159,7 @@ impl Course {
     fn call_on_all(&mut self) -> bool {
         match self.chance.next() % 8 {
             0 => {
-                self.beside = Beside::new();
+                self.beside = FewKeys::new();
                 self.collection.clear()
             }
             1..=3 => self.collection.reserve(256),

@@ -7,7 +7,6 @@
 //! each cache let pairs go. How many of them a cache takes depends on its slots, and isn't written.
 #![tactic(auto)]
 
-mod beside;
 mod chance;
 mod collection;
 mod course;

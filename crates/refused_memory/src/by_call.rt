@@ -2,11 +2,11 @@
 ghost use Rattle.std.specs.Prelude.{◌≡◌, false};
 ghost use Rattle.bucket_table.specs.Rehash.Finishing.{IsUnopened};
 
-use crate::beside::Beside;
 use bucket_slots::bucket::{Bucket, EntryPtr, MAP};
 use bucket_table::hash_table::{HashTable, LockedBucket, Missing};
 use bucket_table::script::{Call, Reply, ScriptHash, run};
 use bucket_table::tickets::TICKET_STEP;
+use few_keys::FewKeys;
 use std::alloc::Global;
 
 /// A map of numbers.
@@ -43,7 +43,7 @@ fn refused_if(holds: bool) -> Answer {
 }
 
 /// Puts a new key as its own value.
-pub(crate) fn put(table: &mut Map, beside: &mut Beside, key: u64) -> Answer {
+pub(crate) fn put(table: &mut Map, beside: &mut FewKeys, key: u64) -> Answer {
     let hash = table.hash(&key);
     let mut locked = match table.writer_sync(hash) {
         Ok(locked) => locked,
@@ -81,7 +81,7 @@ pub(crate) fn run_calls(alloc: Global, table: &mut Map, key: u64) -> Answer {
 }
 
 /// Takes a key out, which may shrink the table.
-pub(crate) fn take_out(table: &mut Map, beside: &mut Beside, key: u64) -> Answer {
+pub(crate) fn take_out(table: &mut Map, beside: &mut FewKeys, key: u64) -> Answer {
     let hash = table.hash(&key);
     let locked = match table.optional_writer_sync(hash) {
         Ok(locked) => locked,
@@ -136,7 +136,7 @@ pub(crate) fn read(table: &mut Map, key: u64) -> Answer {
 }
 
 /// Writes another value over a key's, which is never refused.
-pub(crate) fn write(table: &mut Map, beside: &mut Beside, key: u64) -> Answer {
+pub(crate) fn write(table: &mut Map, beside: &mut FewKeys, key: u64) -> Answer {
     let Some(earlier) = beside.value(key) else {
         return Answer::Wrong;
     };
@@ -265,7 +265,7 @@ fn stands_at(
 }
 
 /// Sweeps away the keys below one. Refused, it has swept those below another one alone.
-pub(crate) fn sweep(table: &mut Map, beside: &mut Beside, below: u64, passed: u64) -> Answer {
+pub(crate) fn sweep(table: &mut Map, beside: &mut FewKeys, below: u64, passed: u64) -> Answer {
     let keep = |key: &u64, _value: &u64| *key >= below;
     match table.sweep(&keep, &()) {
         Ok(taken) => right_if(taken == beside.drop_below(below)),

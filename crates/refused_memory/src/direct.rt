@@ -1,11 +1,11 @@
 //! Calls on tables, each on a table of its own, for runs in which a request for memory
 //! is refused. A refused call leaves what it promises, and comes through when it is made again.
-use crate::beside::{Beside, KEYS};
 use crate::by_call::*;
 use crate::cases::Step::*;
 use crate::cases::{CASES, Case, Seen, Step};
 use crate::outcome::Outcome;
 use bucket_table::hash_table::{HashTable, MAXIMUM_CAPACITY_LIMIT};
+use few_keys::{FewKeys, KEYS};
 use std::alloc::Global;
 
 /// Plays the cases, each where the one before was done.
@@ -22,7 +22,7 @@ pub(crate) fn direct_calls(alloc: Global) -> Outcome {
 /// Plays a case, and judges it: what a refusal in its steps makes of it is the case's own.
 fn perform(alloc: Global, case: &Case) -> Outcome {
     let mut table: Map = HashTable::new(alloc, case.hasher, 0, MAXIMUM_CAPACITY_LIMIT);
-    let mut beside = Beside::new();
+    let mut beside = FewKeys::new();
     let mut outcome = Outcome::Done;
     for step in case.start {
         match play(alloc, &mut table, &mut beside, step) {
@@ -41,7 +41,7 @@ fn perform(alloc: Global, case: &Case) -> Outcome {
 }
 
 /// The outcome, where the table has the map's pairs.
-fn judged(table: &mut Map, beside: &Beside, outcome: Outcome) -> Outcome {
+fn judged(table: &mut Map, beside: &FewKeys, outcome: Outcome) -> Outcome {
     if holds(table, beside) && table.num_entries() == beside.len() {
         outcome
     } else {
@@ -50,7 +50,7 @@ fn judged(table: &mut Map, beside: &Beside, outcome: Outcome) -> Outcome {
 }
 
 /// Takes a step, or those of a range of keys.
-fn play(alloc: Global, table: &mut Map, beside: &mut Beside, step: &Step) -> Outcome {
+fn play(alloc: Global, table: &mut Map, beside: &mut FewKeys, step: &Step) -> Outcome {
     let (from, to, puts) = match step {
         Puts(from, to) => (*from, *to, true),
         Takes(from, to) => (*from, *to, false),
@@ -69,7 +69,7 @@ fn play(alloc: Global, table: &mut Map, beside: &mut Beside, step: &Step) -> Out
 }
 
 /// Takes a step, and once more where it was refused and left the slots, the word and the pairs.
-fn attempt(alloc: Global, table: &mut Map, beside: &mut Beside, step: &Step) -> Outcome {
+fn attempt(alloc: Global, table: &mut Map, beside: &mut FewKeys, step: &Step) -> Outcome {
     let before = seen_of(table);
     match take(alloc, table, beside, step) {
         Answer::Right => return Outcome::Done,
@@ -88,7 +88,7 @@ fn attempt(alloc: Global, table: &mut Map, beside: &mut Beside, step: &Step) -> 
 }
 
 /// Takes a step.
-fn take(alloc: Global, table: &mut Map, beside: &mut Beside, step: &Step) -> Answer {
+fn take(alloc: Global, table: &mut Map, beside: &mut FewKeys, step: &Step) -> Answer {
     match step {
         Put(key) => put(table, beside, *key),
         Runs(key) => run_calls(alloc, table, *key),
@@ -160,7 +160,7 @@ fn seen_of(table: &Map) -> Seen {
 }
 
 /// Whether the table has the map's values.
-fn holds(table: &Map, beside: &Beside) -> bool {
+fn holds(table: &Map, beside: &FewKeys) -> bool {
     for key in 0..KEYS {
         let there = match table.peek_entry(&key) {
             Some((_, found)) => Some(*found),

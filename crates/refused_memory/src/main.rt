@@ -6,7 +6,6 @@
 #![tactic(auto)]
 
 mod arrays;
-mod beside;
 mod buckets;
 mod by_call;
 mod cases;

@@ -1,49 +1,49 @@
-//! What a map of few keys would have, kept in an array, which takes no memory.
+//! What a map of few keys has, kept in an array, which takes no memory: for programs that run while
+//! requests for memory are refused.
+//!
+//! SPDX-License-Identifier: Apache-2.0
+#![tactic(auto)]
+
 /// How many keys there are: those below.
-pub(crate) const KEYS: u64 = 512;
+pub const KEYS: u64 = 512;
 
 /// The value under each key.
 #[derive(Drop)]
-pub(crate) struct Beside {
+pub struct FewKeys {
     values: [Option<u64>; 512],
 }
 
-impl Beside {
+impl FewKeys {
     /// No key has a value.
-    pub(crate) fn new() -> Self {
-        Beside {
+    pub fn new() -> Self {
+        FewKeys {
             values: [None; 512],
         }
     }
 
     /// The value under a key.
-    pub(crate) fn value(&self, key: u64) -> Option<u64> {
-        match self.values.get(key as usize) {
-            Some(value) => *value,
-            None => None,
-        }
+    pub fn value(&self, key: u64) -> Option<u64> {
+        *self.values.get(key as usize)?
     }
 
     /// How many keys have a value.
-    pub(crate) fn len(&self) -> usize {
+    pub fn len(&self) -> usize {
         let mut len: usize = 0;
         for value in &self.values {
-            if value.is_some() {
-                len = len.saturating_add(1);
-            }
+            len = len.saturating_add(usize::from(value.is_some()));
         }
         len
     }
 
     /// Gives a key this value, or none.
-    pub(crate) fn set(&mut self, key: u64, value: Option<u64>) {
+    pub fn set(&mut self, key: u64, value: Option<u64>) {
         if let Some(place) = self.values.get_mut(key as usize) {
             *place = value;
         }
     }
 
     /// Takes the keys below a bound away, and returns how many there were.
-    pub(crate) fn drop_below(&mut self, bound: u64) -> usize {
+    pub fn drop_below(&mut self, bound: u64) -> usize {
         let len = self.len();
         for key in 0..bound.min(KEYS) {
             self.set(key, None);
