@@ -84,7 +84,8 @@ module _ {K V : Type 0} where
   -- a bucket that is made is read
   pub get_or-made : (made : Buckets K V) (len i : ℕ) (released : Bool) → i < length made
       → get_or (with_unmade made len released) i empty_bucket ≡ get_or made i empty_bucket
-  get_or-made made len i released there = get_or_append_left made (replicate (len - length made) (unmade_bucket released)) empty_bucket i there
+  get_or-made made len i released there =
+      get_or_append_left made (replicate (len - length made) (unmade_bucket released)) empty_bucket i there
 
   -- one more bucket is made
   pub made_one : (made : Buckets K V) (len : ℕ) (released : Bool) → length made < len
@@ -119,7 +120,8 @@ module _ {K V : Type 0} where
   parts_with parts part offset bucket = set parts part (set (part_at parts part) offset bucket)
 
   -- the place of the bucket with an index: a read there is one of the array, and so is a write
-  pub record IsPlace (parts : List (Buckets K V)) (spare : Buckets K V) (len bits part offset index : ℕ) (buckets : Buckets K V) : Type 0 where
+  pub record IsPlace (parts : List (Buckets K V)) (spare : Buckets K V) (len bits part offset index : ℕ)
+      (buckets : Buckets K V) : Type 0 where
     pub within : part < length parts
     pub inside : offset < length (part_at parts part)
     pub read : get_or (part_at parts part) offset empty_bucket ≡ get_or buckets index empty_bucket
@@ -177,7 +179,8 @@ module _ {K V : Type 0} where
       empty = new_view ∙ ap (λ n. replicate n empty_bucket) (sym new_len);
     }
 
-    pub new_parts : (spare : Buckets K V) → bits < 64 → spare ≡ unmade_bucket false ∷ unmade_bucket true ∷ [] → AreParts parts spare len bits
+    pub new_parts : (spare : Buckets K V) → bits < 64 → spare ≡ unmade_bucket false ∷ unmade_bucket true ∷ []
+        → AreParts parts spare len bits
     new_parts spare few empty =
         let part : Buckets K V = replicate part_len empty_bucket in
         let all_long = All-replicate (λ row. length row ≡ 2 ^ bits) count part (length-replicate part_len empty_bucket ∙ long) in

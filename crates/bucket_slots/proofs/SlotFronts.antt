@@ -65,7 +65,8 @@ module _ {K V : Type 0} where
   vacated s zero pos = refl
   vacated s (suc i) pos = refl
 
-  module _ (kind : ℕ) (s : BucketView K V) (at : Place) (p : K × V) (kept : IsBucketOf kind s) (here : live_pair (slot_in s at) ≡ Some p) where
+  module _ (kind : ℕ) (s : BucketView K V) (at : Place) (p : K × V) (kept : IsBucketOf kind s)
+      (here : live_pair (slot_in s at) ≡ Some p) where
     at_slot : (x : Slot K V) → pairs_in (with_slot s at x) ≡ pairs_before s at ++ cons_option (live_pair x) (pairs_ahead s at)
     unfolding pairs_before
     at_slot x =

@@ -13,7 +13,8 @@ module _ {K V : Type 0} where
   slot_at-free (suc n) zero = refl
   slot_at-free (suc n) (suc slot) = slot_at-free n slot
 
-  no_live : (own : List (Slot K V)) (listed : List ℕ) → own ≡ replicate 32 free → All (λ slot. IsTrue (is_live (slot_at own slot))) listed → listed ≡ []
+  no_live : (own : List (Slot K V)) (listed : List ℕ) → own ≡ replicate 32 free
+      → All (λ slot. IsTrue (is_live (slot_at own slot))) listed → listed ≡ []
   no_live own [] vacant live = refl
   no_live own (slot ∷ listed) vacant live =
       let none : is_live (slot_at own slot) ≡ is_live {K = K} {V = V} free =
@@ -22,7 +23,8 @@ module _ {K V : Type 0} where
       let impossible : false ≡ true = sym none ∙ here in
       absurd cc
 
-  pub spent_is : (kind len : ℕ) (s t : BucketView K V) → s ≡ t → IsBucket kind s len → s.killed ≡ true → all_free s.own ≡ true → s.chain ≡ []
+  pub spent_is : (kind len : ℕ) (s t : BucketView K V) → s ≡ t → IsBucket kind s len → s.killed ≡ true → all_free s.own ≡ true
+      → s.chain ≡ []
       → t ≡ record empty_bucket { killed = true }
   spent_is kind len s t is kept killed vacant none =
       let own : s.own ≡ replicate 32 free = free_slots s.own vacant ∙ ap (λ n. replicate n free) kept.own_long in

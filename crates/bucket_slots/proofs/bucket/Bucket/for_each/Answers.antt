@@ -38,7 +38,8 @@ pub pairs-preserved : goal.pairs-preserved
 pairs-preserved g c = (
   λ always. let here = c.pairs.invariant.0 always in search of_calls,
   goes_on _ c.args.f.now c.pairs.f c.f-in-pairs.new.self (pairs_in c.args.self.now) c.args.self.now c.pairs.at c.find_next.new.self
-      c.entry-in-pairs.result.0 c.entry-in-pairs.result.1 c.pairs.invariant.1 (c.find_next.ensures.ahead c.pairs-test.true) c.entry-in-pairs.ensures.pair c.f-in-pairs.ensures,
+      c.entry-in-pairs.result.0 c.entry-in-pairs.result.1 c.pairs.invariant.1 (c.find_next.ensures.ahead c.pairs-test.true)
+      c.entry-in-pairs.ensures.pair c.f-in-pairs.ensures,
 )
 
 pub returns-clause-calls : goal.returns-clause-calls

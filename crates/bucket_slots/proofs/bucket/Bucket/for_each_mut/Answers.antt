@@ -46,7 +46,8 @@ values-preserved g c = (
   goes_on _ c.args.f.now c.values.f c.f-in-values.new.self g.row.TYPE c.args.self.now c.values.self _ c.values.at c.find_next.new.self
       c.entry_mut-value-in-values.result.0 c.entry_mut-value-in-values.result.1
       (record c.entry_mut-value-in-values.result.1 { now = c.f-in-values.new.arg3 }) c.values.invariant.1
-      (c.find_next.ensures.ahead c.values-test.true) c.sound-in-values.ensures c.entry_mut-value-in-values.ensures.pair c.f-in-values.ensures refl,
+      (c.find_next.ensures.ahead c.values-test.true) c.sound-in-values.ensures c.entry_mut-value-in-values.ensures.pair
+      c.f-in-values.ensures refl,
 )
 
 pub returns-clause-calls : goal.returns-clause-calls

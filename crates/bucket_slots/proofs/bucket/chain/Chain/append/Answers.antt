@@ -6,8 +6,9 @@ pub invariant_of-self : goal.invariant_of-self
 invariant_of-self g c =
     let rows = c.self.inside.blocks in
     let more = c.more.inside.blocks in
+    let most = c.free_blocks-more.ensures.most in
     let few : length rows + length more ≤ 2 ^ 28 =
-    omega (arith, c.get-len.ensures, c.self.invariant.counted, c.self.invariant.chain.few, c.min.ensures, c.free_blocks-more.ensures.most, ap length c.more.view_is) in
+    omega (arith, c.get-len.ensures, c.self.invariant.counted, c.self.invariant.chain.few, c.min.ensures, most, ap length c.more.view_is) in
     let joined : c.append.new.self ≡ rows ++ more = c.append.ensures ∙ ap (λ l. rows ++ l) c.replace.ensures.value in
     let count : c.set.new.self ≡ c.self.inside.len + length more =
     omega (arith, c.set.ensures, c.get-len.ensures, c.get-made.ensures, c.more.invariant.counted) in

@@ -13,7 +13,8 @@ returns g c =
       record {
         writes_back = tt;
         bucket = get_or_read made.items at c.index_mut.result.now there c.index_mut.ensures.value empty_bucket
-            ∙ sym (get_or-made made.items (vec_capacity made) at c.self.inside.released there) ∙ ap (λ buckets. get_or buckets at empty_bucket) same;
+            ∙ sym (get_or-made made.items (vec_capacity made) at c.self.inside.released there)
+            ∙ ap (λ buckets. get_or buckets at empty_bucket) same;
       },
     )
 
