@@ -2,7 +2,7 @@
 use Rattle.bucket_slots.proofs.Words.{All, All-head, All-tail, AreParts, Bool, BucketView, IsLengthFor, List, [], add-mul, ap, append-nil}
 use Rattle.bucket_slots.proofs.Words.{append_assoc, arith, cases_lt, div-add-mod, div_below, drop, empty_bucket, false, flat_map-append}
 use Rattle.bucket_slots.proofs.Words.{flattened, get_or, inl, inr, length, length-append, length-set, length-take-le, mod-lt, mul_comm}
-use Rattle.bucket_slots.proofs.Words.{one-mul, part_at, pow_pos, refl, replicate, set, set-get_or, set_split, subst, suc, sym, take, true}
+use Rattle.bucket_slots.proofs.Words.{one-mul, part_at, pow_pos, replicate, set, set-get_or, set_split, subst, suc, sym, take, true}
 use Rattle.bucket_slots.proofs.Words.{unmade_bucket, with_unmade, zero, ℕ, ◌%◌, ◌*◌, ◌++◌, ◌+◌, ◌-◌, ◌/◌, ◌<◌, ◌^◌, ◌∙◌, ◌∷◌, ◌≡◌, ◌≤◌}
 use Rattle.std.proofs.lemmas.List.{get_or-append_right, get_or_append_left, length-replicate, length_push, replicate-append-replicate}
 use Rattle.std.proofs.lemmas.List.{set-append_left, set-append_right}
@@ -10,12 +10,6 @@ use Rattle.std.proofs.lemmas.List.Elements.{All-get_or, All-replicate, All-same,
 use Rattle.bucket_slots.specs.ArrayView.{IsNewArray}
 
 module _ {A : Type 0} where
-  pub all_one : (xs : List A) (x d : A) → ((i : ℕ) → i < length xs → get_or xs i d ≡ x) → xs ≡ replicate (length xs) x
-  all_one [] x d each = refl
-  all_one (y ∷ xs) x d each =
-      ap (λ l. y ∷ l) (all_one xs x d (λ i below. each (suc i) (omega (arith, below))))
-      ∙ ap (λ z. z ∷ replicate (length xs) x) (each 0 (omega arith))
-
   -- each element from a number on is one value, where that element is and each behind it
   pub from_one_less : (xs : List A) (x d : A) (left : ℕ) → get_or xs left d ≡ x
       → ((i : ℕ) → suc left ≤ i → i < length xs → get_or xs i d ≡ x)

@@ -80,6 +80,12 @@ module _ {K V : Type 0} where
   pub live_inside : (slots : List (Slot K V)) (pos : ℕ) → is_live (slot_at slots pos) ≡ true → pos < length slots
   live_inside slots pos alive = inside_row slots pos (live_occupied (slot_at slots pos) alive).0
 
+  -- a live slot of block 0 is one of the own row; s is what the bucket t is made of
+  pub own_live : {kind len : ℕ} (s t : BucketView K V) (p : Place) (pos : ℕ) → s ≡ t → p.block ≡ 0 → pos ≡ p.pos → IsBucket kind s len
+      → is_live (slot_in t p) ≡ true → (pos < 32) × (is_live (slot_at s.own pos) ≡ true)
+  own_live s t p pos is own here kept alive =
+      let live = rw (← is, own, ← here) at alive in (omega (arith, kept.own_long, live_inside s.own pos live), live)
+
   -- with a live slot the stored length isn't 0
   pub some_live : (kind : ℕ) (s : BucketView K V) (len block pos : ℕ) → IsBucket kind s len
       → is_live (slot_at (block_at s block) pos) ≡ true

@@ -55,13 +55,8 @@ module _ {K V : Type 0} where
         candidate_bit (slot_at slots i) byte (get_or bytes i 0) (bit_at mask i) held.whole (λ h.
         match i ∙ ap (λ b. cond b 1 0) (get_or-map (λ own. own == byte) bytes i 0 false
         (omega (arith, row.bytes_long, length-slots, within is_live slots i free refl h)))) in
-        omega (
-          arith,
-          bit_at_and (bit_and mask occupied) (2 ^ 32 - 1 - marks) i,
-          bit_at_and mask occupied i,
-          bit_at_and occupied
-              (2 ^ 32 - 1 - marks) i,
-        ))
+        let all = bit_at_and (bit_and mask occupied) (2 ^ 32 - 1 - marks) i in
+        omega (arith, all, bit_at_and mask occupied i, bit_at_and occupied (2 ^ 32 - 1 - marks) i))
 
   -- a candidate is live
   pub candidate_live : (byte : ℕ) (slot : Slot K V) → has_byte byte slot ≡ true → is_live slot ≡ true
