@@ -12,8 +12,7 @@ use Rattle.bucket_slots.specs.ArrayView.{IsNewArray}
 module _ {A : Type 0} where
   -- each element from a number on is one value, where that element is and each behind it
   pub from_one_less : (xs : List A) (x d : A) (left : ℕ) → get_or xs left d ≡ x
-      → ((i : ℕ) → suc left ≤ i → i < length xs → get_or xs i d ≡ x)
-      → (i : ℕ) → left ≤ i → i < length xs → get_or xs i d ≡ x
+      → ((i : ℕ) → suc left ≤ i → i < length xs → get_or xs i d ≡ x) → (i : ℕ) → left ≤ i → i < length xs → get_or xs i d ≡ x
   from_one_less xs x d left here behind i from below = elim (cases_lt left i) [
     | inl past ↦ behind i (omega (arith, past)) below
     | inr upto ↦ let same : i ≡ left = omega (arith, from, upto) in rw same here

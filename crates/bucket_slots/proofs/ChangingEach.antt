@@ -1,12 +1,9 @@
 -- A function that is lent the value of each pair, one after another.
-use Rattle.bucket_slots.proofs.Words.{Bor, BucketView, IsBucketOf, List, MutBor, Place, Slot, Some, [], ap, append-nil, append_assoc}
-use Rattle.bucket_slots.proofs.Words.{block_at, bucket_with_value, cons_option, free, is_live, live, live_pair, map, pairs_in, refl}
-use Rattle.bucket_slots.proofs.Words.{slot_at, slot_in, slot_with_value, subst, suc, sym, true, with_slot_at, zero, ℕ, ◌++◌, ◌∙◌, ◌∷◌, ◌≡◌}
+use Rattle.bucket_slots.proofs.Words.{Bor, BucketView, ChangesEach, IsBucketOf, IsChain, List, MovesToNext, MutBor, Place, Slot, Some, []}
+use Rattle.bucket_slots.proofs.Words.{ap, append-nil, append_assoc, block_at, bucket_with_value, cons_option, free, is_live, live}
+use Rattle.bucket_slots.proofs.Words.{live_pair, map, null_place, pairs_ahead, pairs_in, refl, slot_at, slot_in, slot_with_value}
+use Rattle.bucket_slots.proofs.Words.{slot_without_value, subst, suc, sym, true, with_slot_at, without_values, zero, ℕ, ◌++◌, ◌∙◌, ◌∷◌, ◌≡◌}
 use Rattle.std.proofs.Math.Seq.{map-set_same}
-use Rattle.bucket_slots.specs.BucketView.{null_place, without_values}
-use Rattle.bucket_slots.specs.Layout.BucketFields.{IsChain}
-use Rattle.bucket_slots.specs.Slots.{slot_without_value}
-use Rattle.bucket_slots.specs.Walking.{ChangesEach, MovesToNext, pairs_ahead}
 use Rattle.bucket_slots.proofs.AheadAfterRemoval.{pairs_ahead-with_slot}
 use Rattle.bucket_slots.proofs.CallerLemmas.{live_from_pair, live_is}
 use Rattle.bucket_slots.proofs.ChangedSlots.{live_inside, slot_in-with_slot}

@@ -110,8 +110,7 @@ module _ {K V : Type 0} (keeps : ℕ → Bool) where
 
   -- one slot that is left is freed, where it is expired
   pub IsExpiring-next : (old new : List (Slot K V)) (left pos after : ℕ) → IsExpiring keeps old new left → IsLowest left pos
-      → SetsBit left pos 0 after
-      → IsExpiring keeps old (set new pos (slot_without_expired keeps (slot_at new pos))) after
+      → SetsBit left pos 0 after → IsExpiring keeps old (set new pos (slot_without_expired keeps (slot_at new pos))) after
   IsExpiring-next old new left pos after x low s =
       let slot = slot_without_expired keeps (slot_at new pos) in
       let below = within is_marked new pos free refl (x.waiting.waiting pos low.set) in

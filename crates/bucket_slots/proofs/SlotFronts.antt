@@ -1,11 +1,10 @@
 -- The pairs before a slot and behind it, whatever stands in it.
 use Rattle.bucket_slots.proofs.Words.{BucketView, IsBucketOf, IsChain, List, None, Place, Slot, Some, [], add-one, ap, append_assoc, arith}
 use Rattle.bucket_slots.proofs.Words.{block_at, cons_option, drop, filter_map-append, flattened, free, get_or, length, live_pair}
-use Rattle.bucket_slots.proofs.Words.{live_pairs, map, pairs_in, refl, set, set-get_or, set_split, slot_in, slot_marked, slots_marked}
-use Rattle.bucket_slots.proofs.Words.{slots_vacated, slots_vacated_at, slots_without, suc, sym, take, with_slot, with_slot_at, zero, ℕ}
-use Rattle.bucket_slots.proofs.Words.{◌++◌, ◌+◌, ◌<◌, ◌∙◌, ◌∷◌, ◌≡◌}
+use Rattle.bucket_slots.proofs.Words.{live_pairs, map, pairs_ahead, pairs_in, refl, set, set-get_or, set_split, slot_in, slot_marked}
+use Rattle.bucket_slots.proofs.Words.{slots_marked, slots_vacated, slots_vacated_at, slots_without, suc, sym, take, with_slot, with_slot_at}
+use Rattle.bucket_slots.proofs.Words.{zero, ℕ, ◌++◌, ◌+◌, ◌<◌, ◌∙◌, ◌∷◌, ◌≡◌}
 use Rattle.std.proofs.lemmas.List.{append_cancel_right}
-use Rattle.bucket_slots.specs.Walking.{pairs_ahead}
 use Rattle.bucket_slots.proofs.CallerLemmas.{entries_unlinked, length-vacated, live_from_pair, live_is, there}
 use Rattle.bucket_slots.proofs.ChangedSlots.{live_inside}
 use Rattle.bucket_slots.proofs.Entries.{map-entries_in}

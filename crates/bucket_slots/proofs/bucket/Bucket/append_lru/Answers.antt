@@ -1,4 +1,4 @@
-use Rattle.bucket_slots.proofs.Words.{arith, order_with_oldest, sym, ◌∙◌, ◌≡◌}
+use Rattle.bucket_slots.proofs.Words.{arith, order_with_oldest, sym, ◌∙◌}
 use Rattle.bucket_slots.proofs.BucketRecency.{IsBucket-appended, relisted-chain, relisted-own}
 use Rattle.bucket_slots.proofs.ChangedSlots.{own_live}
 use Rattle.bucket_slots.proofs.bucket.Bucket.append_lru.Goals as goal
@@ -19,16 +19,3 @@ returns-then-block-eq0 g c =
 pub returns-else-block-eq0 : goal.returns-else-block-eq0
 returns-else-block-eq0 g c =
     relisted-chain order_with_oldest g.L.LruList.KEEPS c.args.self.now c.args.at.now (λ own. c.if-block-eq0.false (c.block.ensures ∙ own))
-
-pub overflow_cast-pos : goal.overflow_cast-pos
-overflow_cast-pos g c =
-    omega (arith, (own_live _ _ c.args.at.now _ c.self.view_is (omega arith) c.pos.ensures c.self.invariant.1 c.requires.live_slot).0)
-
-pub make_oldest-self-inside-requires-clause-own_slot : goal.make_oldest-self-inside-requires-clause-own_slot
-make_oldest-self-inside-requires-clause-own_slot g c =
-    (own_live _ _ c.args.at.now _ c.self.view_is (omega arith) c.pos.ensures c.self.invariant.1 c.requires.live_slot).0
-
-pub make_oldest-self-inside-requires-clause-not_listed : goal.make_oldest-self-inside-requires-clause-not_listed
-make_oldest-self-inside-requires-clause-not_listed g c =
-    let own : c.args.at.now.block ≡ 0 = omega arith in
-    rw (← c.self.view_is, ← c.pos.ensures) at (c.requires.not_listed own)

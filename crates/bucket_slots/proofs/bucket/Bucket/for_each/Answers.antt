@@ -1,6 +1,4 @@
-use Rattle.std.proofs.Common.{ap, arith, length, of_calls, rules}
-use Rattle.bucket_slots.specs.BucketView.{pairs_in, slot_in}
-use Rattle.bucket_slots.specs.Walking.{pairs_ahead}
+use Rattle.bucket_slots.proofs.Words.{ap, arith, length, of_calls, pairs_ahead, pairs_in, rules, slot_in}
 use Rattle.bucket_slots.proofs.CallerLemmas.{live_from_pair}
 use Rattle.bucket_slots.proofs.CallingEach.{done, goes_on, sets_out}
 use Rattle.bucket_slots.proofs.bucket.Bucket.for_each.Goals as goal
@@ -22,9 +20,6 @@ own-preserved g c = (
   goes_on _ c.args.f.now c.own.f c.f.new.self (pairs_in c.args.self.now) c.args.self.now c.own.at c.find_next_here.new.self
       c.entry.result.0 c.entry.result.1 c.own.invariant.1 (c.find_next_here.ensures.ahead c.own-test.true) c.entry.ensures.pair c.f.ensures,
 )
-
-pub pairs-init : goal.pairs-init
-pairs-init g c = rw (c.find_next_here.ensures.stays c.own-test.false) c.own.invariant
 
 pub entry-requires-in-pairs : goal.entry-requires-in-pairs
 entry-requires-in-pairs g c =

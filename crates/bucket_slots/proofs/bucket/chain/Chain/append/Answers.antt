@@ -1,4 +1,4 @@
-use Rattle.bucket_slots.proofs.Words.{ap, arith, length, refl, ◌++◌, ◌+◌, ◌^◌, ◌∙◌, ◌≡◌, ◌≤◌}
+use Rattle.bucket_slots.proofs.Words.{ap, arith, length, ◌++◌, ◌+◌, ◌^◌, ◌∙◌, ◌≡◌, ◌≤◌}
 use Rattle.bucket_slots.proofs.ChainRows.{IsCounted-append}
 use Rattle.bucket_slots.proofs.bucket.chain.Chain.append.Goals as goal
 
@@ -13,8 +13,3 @@ invariant_of-self g c =
     let count : c.set.new.self ≡ c.self.inside.len + length more =
     omega (arith, c.set.ensures, c.get-len.ensures, c.get-made.ensures, c.more.invariant.counted) in
     rw (joined, count) (IsCounted-append rows more c.self.inside.len c.self.invariant c.more.invariant.chain few)
-
-pub invariant_of-more : goal.invariant_of-more
-invariant_of-more g c =
-    rw (c.replace.ensures.after, c.new.ensures, c.set-then-made-gt0.ensures)
-    (record { chain = record { long = λ i below. absurd (omega arith); few = omega arith }; counted = refl })

@@ -58,11 +58,3 @@ loop-at-preserved g c =
       few = omega (arith, parts, step, bytes, c.find_by.ensures.few, c.loop-at.invariant.few);
       fixed = c.find_by.ensures.fixed ∙ c.loop-at.invariant.fixed;
     }
-
-pub overflow_add-number : goal.overflow_add-number
-overflow_add-number g c = omega (arith, c.loop-at.invariant.within, c.self.invariant.chain.few, ap length c.self.view_is)
-
-pub loop-at-smaller : goal.loop-at-smaller
-loop-at-smaller g c =
-    let some = length-some c.loop-at.at.now c.at.inside.first c.in-Some.block c.at.view_is c.in-Some.is in
-    omega (arith, ap length some, ap (λ block. length block.next) c.deref-in-Some.ensures)
