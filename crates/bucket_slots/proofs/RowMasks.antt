@@ -58,13 +58,7 @@ module _ {K V : Type 0} where
         let all = bit_at_and (bit_and mask occupied) (2 ^ 32 - 1 - marks) i in
         omega (arith, all, bit_at_and mask occupied i, bit_at_and occupied (2 ^ 32 - 1 - marks) i))
 
-  -- a candidate is live
-  pub candidate_live : (byte : ℕ) (slot : Slot K V) → has_byte byte slot ≡ true → is_live slot ≡ true
-  candidate_live byte free matches = cc
-  candidate_live byte (live pair own) matches = refl
-  candidate_live byte (marked pair own) matches = cc
-
-  -- and wanted as what is said of its key
+  -- a candidate is wanted as what is said of its key
   pub candidate_wanted : (wants now : K → Bool) (byte : ℕ) (slot : Slot K V) (key : K) (value : V) (said : Bool) → has_byte byte slot ≡ true
       → pair_of slot ≡ Some (key, value) → now ≡ wants → said ≡ now key → is_wanted wants byte slot ≡ said
   candidate_wanted wants now byte free key value said matches read same answer = cc
