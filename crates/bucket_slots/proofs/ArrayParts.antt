@@ -2,7 +2,7 @@
 use Rattle.bucket_slots.proofs.Words.{All, All-head, All-tail, AreParts, Bool, BucketView, IsLengthFor, List, [], add-mul, ap, append-nil}
 use Rattle.bucket_slots.proofs.Words.{append_assoc, arith, cases_lt, div-add-mod, div_below, drop, empty_bucket, false, flat_map-append}
 use Rattle.bucket_slots.proofs.Words.{flattened, get_or, inl, inr, length, length-append, length-set, length-take-le, mod-lt, mul_comm}
-use Rattle.bucket_slots.proofs.Words.{one-mul, part_at, pow_pos, refl, replicate, set, set-get_or, set_split, subst, suc, sym, take, true}
+use Rattle.bucket_slots.proofs.Words.{one-mul, part_at, pow_pos, replicate, set, set-get_or, set_split, subst, suc, sym, take, true}
 use Rattle.bucket_slots.proofs.Words.{unmade_bucket, with_unmade, zero, ℕ, ◌%◌, ◌*◌, ◌++◌, ◌+◌, ◌-◌, ◌/◌, ◌<◌, ◌^◌, ◌∙◌, ◌∷◌, ◌≡◌, ◌≤◌}
 use Rattle.std.proofs.lemmas.List.{get_or-append_right, get_or_append_left, length-replicate, length_push, replicate-append-replicate}
 use Rattle.std.proofs.lemmas.List.{set-append_left, set-append_right}
@@ -10,16 +10,9 @@ use Rattle.std.proofs.lemmas.List.Elements.{All-get_or, All-replicate, All-same,
 use Rattle.bucket_slots.specs.ArrayView.{IsNewArray}
 
 module _ {A : Type 0} where
-  pub all_one : (xs : List A) (x d : A) → ((i : ℕ) → i < length xs → get_or xs i d ≡ x) → xs ≡ replicate (length xs) x
-  all_one [] x d each = refl
-  all_one (y ∷ xs) x d each =
-      ap (λ l. y ∷ l) (all_one xs x d (λ i below. each (suc i) (omega (arith, below))))
-      ∙ ap (λ z. z ∷ replicate (length xs) x) (each 0 (omega arith))
-
   -- each element from a number on is one value, where that element is and each behind it
   pub from_one_less : (xs : List A) (x d : A) (left : ℕ) → get_or xs left d ≡ x
-      → ((i : ℕ) → suc left ≤ i → i < length xs → get_or xs i d ≡ x)
-      → (i : ℕ) → left ≤ i → i < length xs → get_or xs i d ≡ x
+      → ((i : ℕ) → suc left ≤ i → i < length xs → get_or xs i d ≡ x) → (i : ℕ) → left ≤ i → i < length xs → get_or xs i d ≡ x
   from_one_less xs x d left here behind i from below = elim (cases_lt left i) [
     | inl past ↦ behind i (omega (arith, past)) below
     | inr upto ↦ let same : i ≡ left = omega (arith, from, upto) in rw same here
@@ -84,7 +77,8 @@ module _ {K V : Type 0} where
   -- a bucket that is made is read
   pub get_or-made : (made : Buckets K V) (len i : ℕ) (released : Bool) → i < length made
       → get_or (with_unmade made len released) i empty_bucket ≡ get_or made i empty_bucket
-  get_or-made made len i released there = get_or_append_left made (replicate (len - length made) (unmade_bucket released)) empty_bucket i there
+  get_or-made made len i released there =
+      get_or_append_left made (replicate (len - length made) (unmade_bucket released)) empty_bucket i there
 
   -- one more bucket is made
   pub made_one : (made : Buckets K V) (len : ℕ) (released : Bool) → length made < len
@@ -119,7 +113,8 @@ module _ {K V : Type 0} where
   parts_with parts part offset bucket = set parts part (set (part_at parts part) offset bucket)
 
   -- the place of the bucket with an index: a read there is one of the array, and so is a write
-  pub record IsPlace (parts : List (Buckets K V)) (spare : Buckets K V) (len bits part offset index : ℕ) (buckets : Buckets K V) : Type 0 where
+  pub record IsPlace (parts : List (Buckets K V)) (spare : Buckets K V) (len bits part offset index : ℕ)
+      (buckets : Buckets K V) : Type 0 where
     pub within : part < length parts
     pub inside : offset < length (part_at parts part)
     pub read : get_or (part_at parts part) offset empty_bucket ≡ get_or buckets index empty_bucket
@@ -177,7 +172,8 @@ module _ {K V : Type 0} where
       empty = new_view ∙ ap (λ n. replicate n empty_bucket) (sym new_len);
     }
 
-    pub new_parts : (spare : Buckets K V) → bits < 64 → spare ≡ unmade_bucket false ∷ unmade_bucket true ∷ [] → AreParts parts spare len bits
+    pub new_parts : (spare : Buckets K V) → bits < 64 → spare ≡ unmade_bucket false ∷ unmade_bucket true ∷ []
+        → AreParts parts spare len bits
     new_parts spare few empty =
         let part : Buckets K V = replicate part_len empty_bucket in
         let all_long = All-replicate (λ row. length row ≡ 2 ^ bits) count part (length-replicate part_len empty_bucket ∙ long) in

@@ -1,7 +1,7 @@
 -- Rows on both sides of a place in a list of blocks.
-use Rattle.bucket_slots.proofs.Words.{List, None, Option, Some, [], ap, append_assoc, arith, drop, drop-drop, drop_all, get_or, get_or-drop}
-use Rattle.bucket_slots.proofs.Words.{length, length-drop, refl, rows_of, sym, take, ℕ, ◌++◌, ◌+◌, ◌-◌, ◌<◌, ◌∙◌, ◌∷◌, ◌≡◌, ◌≤◌}
-use Rattle.std.proofs.Common.{Box, take-add}
+use Rattle.bucket_slots.proofs.Words.{Box, List, None, Option, Some, [], ap, append_assoc, arith, drop, drop-drop, drop_all, get_or}
+use Rattle.bucket_slots.proofs.Words.{get_or-drop, length, length-drop, refl, rows_of, sym, take, take-add, ℕ, ◌++◌, ◌+◌, ◌-◌, ◌<◌, ◌∙◌}
+use Rattle.bucket_slots.proofs.Words.{◌∷◌, ◌≡◌, ◌≤◌}
 use Rattle.bucket_slots.specs.declared.bucket.blocks.Block.{Block}
 use Rattle.bucket_slots.specs.Layout.LinkLoans.{link_with_next, link_with_row}
 
@@ -32,8 +32,7 @@ link_with_row-rows None row some = absurd (omega (arith, some))
 link_with_row-rows (Some block) row some = refl
 
 -- what stands first behind some rows is the next one
-pub row_behind : {T : Type 0} (rows behind : List T) (row : T) (index : ℕ) → drop index rows ≡ row ∷ behind
-    → row ≡ get_or rows index row
+pub row_behind : {T : Type 0} (rows behind : List T) (row : T) (index : ℕ) → drop index rows ≡ row ∷ behind → row ≡ get_or rows index row
 row_behind rows behind row index here =
     let there : index + 0 ≡ index = omega arith in
     ap (λ l. get_or l 0 row) (sym here) ∙ get_or-drop index rows 0 row ∙ ap (λ n. get_or rows n row) there

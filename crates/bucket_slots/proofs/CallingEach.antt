@@ -1,9 +1,6 @@
 -- A function called with each pair, one after another.
-use Rattle.std.proofs.Common.{◌≡◌, List, [], ◌∷◌, ◌++◌, Some, append_assoc, append-nil, ap, refl, subst, sym, ◌∙◌}
-use Rattle.std.specs.Borrow.{Bor}
-use Rattle.bucket_slots.specs.BucketView.{BucketView, Place, null_place, pairs_in, slot_in}
-use Rattle.bucket_slots.specs.Slots.{live_pair}
-use Rattle.bucket_slots.specs.Walking.{CallsEach, MovesToNext, pairs_ahead}
+use Rattle.bucket_slots.proofs.Words.{Bor, BucketView, CallsEach, List, MovesToNext, Place, Some, [], ap, append-nil, append_assoc}
+use Rattle.bucket_slots.proofs.Words.{live_pair, null_place, pairs_ahead, pairs_in, refl, slot_in, subst, sym, ◌++◌, ◌∙◌, ◌∷◌, ◌≡◌}
 
 module _ {S K V : Type 0} (step : S → Bor K → Bor V → S → Type 0) where
   -- so far it was called with each of some pairs, and these and what is left are all

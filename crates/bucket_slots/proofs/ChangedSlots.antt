@@ -36,8 +36,7 @@ module _ {K V : Type 0} where
   pub block_at-with_slot : (s : BucketView K V) (block pos : ℕ) (x : Slot K V) → pos < length (block_at s block)
       → block_at (with_slot_at s block pos x) block ≡ set (block_at s block) pos x
   block_at-with_slot s zero pos x short = refl
-  block_at-with_slot s (suc i) pos x short =
-      get_or-set_same s.chain i (set (get_or s.chain i []) pos x) [] (linked_row s.chain i pos short)
+  block_at-with_slot s (suc i) pos x short = get_or-set_same s.chain i (set (get_or s.chain i []) pos x) [] (linked_row s.chain i pos short)
 
   pub slot_in-with_slot : (s : BucketView K V) (at : Place) (x : Slot K V) → at.pos < length (block_at s at.block)
       → slot_in (with_slot s at x) at ≡ x
@@ -80,10 +79,15 @@ module _ {K V : Type 0} where
   pub live_inside : (slots : List (Slot K V)) (pos : ℕ) → is_live (slot_at slots pos) ≡ true → pos < length slots
   live_inside slots pos alive = inside_row slots pos (live_occupied (slot_at slots pos) alive).0
 
+  -- a live slot of block 0 is one of the own row; s is what the bucket t is made of
+  pub own_live : {kind len : ℕ} (s t : BucketView K V) (p : Place) (pos : ℕ) → s ≡ t → p.block ≡ 0 → pos ≡ p.pos → IsBucket kind s len
+      → is_live (slot_in t p) ≡ true → (pos < 32) × (is_live (slot_at s.own pos) ≡ true)
+  own_live s t p pos is own here kept alive =
+      let live = rw (← is, own, ← here) at alive in (omega (arith, kept.own_long, live_inside s.own pos live), live)
+
   -- with a live slot the stored length isn't 0
   pub some_live : (kind : ℕ) (s : BucketView K V) (len block pos : ℕ) → IsBucket kind s len
-      → is_live (slot_at (block_at s block) pos) ≡ true
-      → 1 ≤ len
+      → is_live (slot_at (block_at s block) pos) ≡ true → 1 ≤ len
   some_live kind s len block pos h alive =
       let lives = sum_by-with_slot (λ (y : Slot K V). tally (is_live y)) s block pos free (live_inside (block_at s block) pos alive) in
       omega (arith, h.counted, length-live_pairs (all_slots s), ap tally alive)
@@ -99,8 +103,7 @@ module _ {K V : Type 0} where
 
   -- a live slot is vacated
   pub IsBucket-vacated : (kind : ℕ) (s : BucketView K V) (len block pos : ℕ) → IsBucket kind s len
-      → is_live (slot_at (block_at s block) pos) ≡ true
-      → IsBucket kind (slots_vacated_at s block pos) (len - 1)
+      → is_live (slot_at (block_at s block) pos) ≡ true → IsBucket kind (slots_vacated_at s block pos) (len - 1)
   IsBucket-vacated kind s len zero pos h alive =
       IsBucket-changed kind s len (len - 1) zero pos free (order_without s.listed pos) h (live_inside s.own pos alive)
       (omega (arith, some_live kind s len zero pos h alive, ap tally alive)) (λ _. refl)

@@ -1,20 +1,17 @@
 -- A function that is lent the value of each pair, one after another.
-use Rattle.bucket_slots.proofs.Words.{Bor, BucketView, IsBucketOf, List, MutBor, Place, Slot, Some, [], ap, append-nil, append_assoc}
-use Rattle.bucket_slots.proofs.Words.{block_at, bucket_with_value, cons_option, free, is_live, live, live_pair, map, pairs_in, refl}
-use Rattle.bucket_slots.proofs.Words.{slot_at, slot_in, slot_with_value, subst, suc, sym, true, with_slot_at, zero, ℕ}
-use Rattle.bucket_slots.proofs.Words.{◌++◌, ◌∙◌, ◌∷◌, ◌≡◌}
+use Rattle.bucket_slots.proofs.Words.{Bor, BucketView, ChangesEach, IsBucketOf, IsChain, List, MovesToNext, MutBor, Place, Slot, Some, []}
+use Rattle.bucket_slots.proofs.Words.{ap, append-nil, append_assoc, block_at, bucket_with_value, cons_option, free, is_live, live}
+use Rattle.bucket_slots.proofs.Words.{live_pair, map, null_place, pairs_ahead, pairs_in, refl, slot_at, slot_in, slot_with_value}
+use Rattle.bucket_slots.proofs.Words.{slot_without_value, subst, suc, sym, true, with_slot_at, without_values, zero, ℕ, ◌++◌, ◌∙◌, ◌∷◌, ◌≡◌}
 use Rattle.std.proofs.Math.Seq.{map-set_same}
-use Rattle.bucket_slots.specs.BucketView.{null_place, without_values}
-use Rattle.bucket_slots.specs.Layout.BucketFields.{IsChain}
-use Rattle.bucket_slots.specs.Slots.{slot_without_value}
-use Rattle.bucket_slots.specs.Walking.{ChangesEach, MovesToNext, pairs_ahead}
 use Rattle.bucket_slots.proofs.AheadAfterRemoval.{pairs_ahead-with_slot}
 use Rattle.bucket_slots.proofs.CallerLemmas.{live_from_pair, live_is}
 use Rattle.bucket_slots.proofs.ChangedSlots.{live_inside, slot_in-with_slot}
 use Rattle.bucket_slots.proofs.SlotFronts.{pairs_in-with_slot}
 
 module _ {K V : Type 0} where
-  slot_same : (slot : Slot K V) (value : V) → is_live slot ≡ true → slot_without_value (slot_with_value slot value) ≡ slot_without_value slot
+  slot_same : (slot : Slot K V) (value : V) → is_live slot ≡ true
+      → slot_without_value (slot_with_value slot value) ≡ slot_without_value slot
   slot_same (live pair byte) value alive = refl
   slot_same slot value alive = cc
 
@@ -28,7 +25,8 @@ module _ {K V : Type 0} where
       let row = block_at s (suc i) in
       let same = slot_same (slot_at row pos) value alive in
       ap (λ chain. record (without_values s) { chain = chain })
-      (map-set_same (map slot_without_value) s.chain i _ [] (map-set_same slot_without_value row pos (slot_with_value (slot_at row pos) value) free same))
+      (map-set_same (map slot_without_value) s.chain i _ []
+      (map-set_same slot_without_value row pos (slot_with_value (slot_at row pos) value) free same))
 
   -- another value in a live slot changes nothing else
   pub without_values-bucket_with_value : (s : BucketView K V) (at : Place) (value : V) → is_live (slot_in s at) ≡ true
@@ -87,7 +85,8 @@ module _ {S K V : Type 0} (step : S → Bor K → MutBor V → MutBor V → S �
 
   -- one more
   pub goes_on : (first state next : S) (kind : ℕ) (old now new : BucketView K V) (at to : Place) (own : Bor K) (before after : MutBor V)
-      → IsAmid first old state now at → MovesToNext now at to → IsBucketOf kind now → live_pair (slot_in now to) ≡ Some (own.now, before.now)
+      → IsAmid first old state now at → MovesToNext now at to → IsBucketOf kind now
+      → live_pair (slot_in now to) ≡ Some (own.now, before.now)
       → step state own before after next → new ≡ bucket_with_value now to after.now → IsAmid first old next new to
   goes_on first state next kind old now new at to own before after amid moves kept read call new_is =
       let p : K × V = (own.now, before.now) in

@@ -3,9 +3,8 @@ use Rattle.bucket_slots.proofs.Words.{Bool, IsLeft, IsLowest, IsLowestClear, IsM
 use Rattle.bucket_slots.proofs.Words.{bit_and, bit_at, bit_at-zero, bit_at_and, bit_at_not, bit_mask_l, cases_eq, cases_lt, common_steps}
 use Rattle.bucket_slots.proofs.Words.{cond, count_by, eqb, false, get_or, get_or-map, get_or-set_other, get_or-set_same, get_or_past, inl}
 use Rattle.bucket_slots.proofs.Words.{inr, is_some, length, length-map, list_all, list_any, list_any_at, list_any_none, map, map-set}
-use Rattle.bucket_slots.proofs.Words.{mask_l, min, nat_tests, not, not-false, not-true, ones-mask_l, position, position-Some, refl}
+use Rattle.bucket_slots.proofs.Words.{mask_l, min, nat_tests, not, not-false, not-true, ones, ones-mask_l, position, position-Some, refl}
 use Rattle.bucket_slots.proofs.Words.{same_from_bits, set, subst, sym, true, w32, ℕ, ◌&&◌, ◌+◌, ◌-◌, ◌<◌, ◌^◌, ◌∙◌, ◌∷◌, ◌≡◌, ◌≢◌, ◌≤◌}
-use lib.Count.{ones}
 use Rattle.bucket_slots.proofs.Positions.{position-None, position_at, position_nowhere}
 
 pub bit_is : (b : Bool) → ◌≡◌ {A = ℕ} (cond b 1 0) 1 → b ≡ true
@@ -118,8 +117,7 @@ module _ {A : Type 0} (test : A → Bool) where
 
   -- the bits of a mask are left at first
   pub IsLeft-first : (P : A → Type 0) (d : A) (xs : List A) (bits : ℕ) → test d ≡ false → ((x : A) → test x ≡ false → P x)
-      → IsMaskOf test xs bits
-      → IsLeft test P d xs bits
+      → IsMaskOf test xs bits → IsLeft test P d xs bits
   IsLeft-first P d xs bits fails others mask = record {
     waiting = λ i h. bit_is (test (get_or xs i d)) (sym (bit-mask xs bits mask i d fails) ∙ h);
     done = λ i h. others _ (bit_is_not (test (get_or xs i d)) (sym (bit-mask xs bits mask i d fails) ∙ h));

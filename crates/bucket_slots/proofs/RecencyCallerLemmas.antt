@@ -104,7 +104,8 @@ module _ {K V : Type 0} where
         listed_still (with_place_made s) next.block next.pos (live p b) ∙ same_made (λ (t : BucketView K V). t.listed) s refl
 
     -- the pairs of the chain stay there
-    pub chain_kept : (q : K × V) → Contains (live_pairs (flattened s.chain)) q → Contains (live_pairs (flattened (slots_with s p b).chain)) q
+    pub chain_kept : (q : K × V) → Contains (live_pairs (flattened s.chain)) q
+        → Contains (live_pairs (flattened (slots_with s p b).chain)) q
     chain_kept q has =
         let next = place_for_next s in
         chain_still (with_place_made s) next.block next.pos p q b (place_made s).within (place_made s).slot

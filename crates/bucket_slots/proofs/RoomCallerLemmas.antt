@@ -50,13 +50,8 @@ module _ {K V : Type 0} where
   -- a block makes four free slots
   pub free_len_in-with_free_blocks : (s : BucketView K V) (n : ℕ) → free_len_in (with_free_blocks s n) ≡ free_len_in s + 4 * n
   free_len_in-with_free_blocks s n =
-      let one : Slot K V → ℕ = λ x. tally (is_free x) in
-      omega (
-        arith,
-        sum_by-append one s.own (flattened s.chain),
-        sum_by-append one s.own (flattened (s.chain ++ replicate n free_block)),
-        free_len-blocks s.chain n,
-      )
+      let parts = sum_by-append (λ (x : Slot K V). tally (is_free x)) s.own in
+      omega (arith, parts (flattened s.chain), parts (flattened (s.chain ++ replicate n free_block)), free_len-blocks s.chain n)
 
   -- no call but kill changes whether a bucket is killed
   killed-with_slot_at : (s : BucketView K V) (block pos : ℕ) (x : Slot K V) → (with_slot_at s block pos x).killed ≡ s.killed

@@ -55,21 +55,10 @@ module _ {K V : Type 0} where
         candidate_bit (slot_at slots i) byte (get_or bytes i 0) (bit_at mask i) held.whole (λ h.
         match i ∙ ap (λ b. cond b 1 0) (get_or-map (λ own. own == byte) bytes i 0 false
         (omega (arith, row.bytes_long, length-slots, within is_live slots i free refl h)))) in
-        omega (
-          arith,
-          bit_at_and (bit_and mask occupied) (2 ^ 32 - 1 - marks) i,
-          bit_at_and mask occupied i,
-          bit_at_and occupied
-              (2 ^ 32 - 1 - marks) i,
-        ))
+        let all = bit_at_and (bit_and mask occupied) (2 ^ 32 - 1 - marks) i in
+        omega (arith, all, bit_at_and mask occupied i, bit_at_and occupied (2 ^ 32 - 1 - marks) i))
 
-  -- a candidate is live
-  pub candidate_live : (byte : ℕ) (slot : Slot K V) → has_byte byte slot ≡ true → is_live slot ≡ true
-  candidate_live byte free matches = cc
-  candidate_live byte (live pair own) matches = refl
-  candidate_live byte (marked pair own) matches = cc
-
-  -- and wanted as what is said of its key
+  -- a candidate is wanted as what is said of its key
   pub candidate_wanted : (wants now : K → Bool) (byte : ℕ) (slot : Slot K V) (key : K) (value : V) (said : Bool) → has_byte byte slot ≡ true
       → pair_of slot ≡ Some (key, value) → now ≡ wants → said ≡ now key → is_wanted wants byte slot ≡ said
   candidate_wanted wants now byte free key value said matches read same answer = cc
@@ -115,8 +104,7 @@ module _ {K V : Type 0} (keeps : ℕ → Bool) where
 
   -- one slot that is left is freed, where it is expired
   pub IsExpiring-next : (old new : List (Slot K V)) (left pos after : ℕ) → IsExpiring keeps old new left → IsLowest left pos
-      → SetsBit left pos 0 after
-      → IsExpiring keeps old (set new pos (slot_without_expired keeps (slot_at new pos))) after
+      → SetsBit left pos 0 after → IsExpiring keeps old (set new pos (slot_without_expired keeps (slot_at new pos))) after
   IsExpiring-next old new left pos after x low s =
       let slot = slot_without_expired keeps (slot_at new pos) in
       let below = within is_marked new pos free refl (x.waiting.waiting pos low.set) in

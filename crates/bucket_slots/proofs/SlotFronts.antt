@@ -1,11 +1,10 @@
 -- The pairs before a slot and behind it, whatever stands in it.
-use Rattle.bucket_slots.proofs.Words.{BucketView, IsBucketOf, IsChain, List, None, Place, Slot, Some, [], ap, append_assoc, arith, block_at}
-use Rattle.bucket_slots.proofs.Words.{cons_option, drop, filter_map-append, flattened, free, get_or, length, live_pair, live_pairs, map}
-use Rattle.bucket_slots.proofs.Words.{pairs_in, refl, set, set_split, set-get_or, slot_in, slot_marked, slots_marked, slots_vacated}
-use Rattle.bucket_slots.proofs.Words.{slots_vacated_at, slots_without, suc, sym, take, with_slot, with_slot_at, zero, ℕ}
-use Rattle.bucket_slots.proofs.Words.{◌++◌, ◌+◌, ◌<◌, ◌∙◌, ◌∷◌, ◌≡◌}
+use Rattle.bucket_slots.proofs.Words.{BucketView, IsBucketOf, IsChain, List, None, Place, Slot, Some, [], add-one, ap, append_assoc, arith}
+use Rattle.bucket_slots.proofs.Words.{block_at, cons_option, drop, filter_map-append, flattened, free, get_or, length, live_pair}
+use Rattle.bucket_slots.proofs.Words.{live_pairs, map, pairs_ahead, pairs_in, refl, set, set-get_or, set_split, slot_in, slot_marked}
+use Rattle.bucket_slots.proofs.Words.{slots_marked, slots_vacated, slots_vacated_at, slots_without, suc, sym, take, with_slot, with_slot_at}
+use Rattle.bucket_slots.proofs.Words.{zero, ℕ, ◌++◌, ◌+◌, ◌<◌, ◌∙◌, ◌∷◌, ◌≡◌}
 use Rattle.std.proofs.lemmas.List.{append_cancel_right}
-use Rattle.bucket_slots.specs.Walking.{pairs_ahead}
 use Rattle.bucket_slots.proofs.CallerLemmas.{entries_unlinked, length-vacated, live_from_pair, live_is, there}
 use Rattle.bucket_slots.proofs.ChangedSlots.{live_inside}
 use Rattle.bucket_slots.proofs.Entries.{map-entries_in}
@@ -44,28 +43,29 @@ module _ {K V : Type 0} where
       ap (λ chain. record s { chain = chain })
       (ap (λ row. set s.chain i row) (set-get_or (get_or s.chain i []) pos free) ∙ set-get_or s.chain i [])
 
+  cut_rows : (rows : List (List (Slot K V))) (block pos : ℕ) (x : Slot K V) (ahead : List (K × V)) → pos < length (get_or rows block [])
+      → live_pairs (drop (pos + 1) (get_or rows block []) ++ flattened (drop (suc block) rows)) ≡ ahead
+      → live_pairs (flattened (set rows block (set (get_or rows block []) pos x)))
+      ≡ live_pairs (slots_before rows block pos) ++ cons_option (live_pair x) ahead
+  cut_rows rows block pos x ahead short is =
+      ap live_pairs (flattened-set rows block pos x short)
+      ∙ filter_map-append live_pair (slots_before rows block pos) (x ∷ slots_behind rows block pos)
+      ∙ ap (λ l. live_pairs (slots_before rows block pos) ++ cons_option (live_pair x) l)
+      (sym (ap (λ n. live_pairs (drop n (get_or rows block []) ++ flattened (drop (suc block) rows))) (add-one pos)) ∙ is)
+
   cut : (s : BucketView K V) (block pos : ℕ) (x : Slot K V) → pos < length (block_at s block) → pos < 32
       → pairs_in (with_slot_at s block pos x)
       ≡ live_pairs (slots_before (s.own ∷ s.chain) block pos)
       ++ cons_option (live_pair x) (pairs_ahead s (record { block = block; pos = pos }))
-  cut s zero pos x short few =
-      let number : pos + 1 ≡ suc pos = omega arith in
-      let behind = sym (pairs_ahead-inside s zero pos few ∙ rw number refl) in
-      ap live_pairs (flattened-set (s.own ∷ s.chain) zero pos x short)
-      ∙ filter_map-append live_pair (slots_before (s.own ∷ s.chain) zero pos) (x ∷ slots_behind (s.own ∷ s.chain) zero pos)
-      ∙ ap (λ l. live_pairs (slots_before (s.own ∷ s.chain) zero pos) ++ cons_option (live_pair x) l) behind
-  cut s (suc i) pos x short few =
-      let number : pos + 1 ≡ suc pos = omega arith in
-      let behind = sym (pairs_ahead-inside s (suc i) pos few ∙ rw number refl) in
-      ap live_pairs (flattened-set (s.own ∷ s.chain) (suc i) pos x short)
-      ∙ filter_map-append live_pair (slots_before (s.own ∷ s.chain) (suc i) pos) (x ∷ slots_behind (s.own ∷ s.chain) (suc i) pos)
-      ∙ ap (λ l. live_pairs (slots_before (s.own ∷ s.chain) (suc i) pos) ++ cons_option (live_pair x) l) behind
+  cut s zero pos x short few = cut_rows (s.own ∷ s.chain) zero pos x _ short (sym (pairs_ahead-inside s zero pos few))
+  cut s (suc i) pos x short few = cut_rows (s.own ∷ s.chain) (suc i) pos x _ short (sym (pairs_ahead-inside s (suc i) pos few))
 
   vacated : (s : BucketView K V) (block pos : ℕ) → pairs_in (slots_vacated_at s block pos) ≡ pairs_in (with_slot_at s block pos free)
   vacated s zero pos = refl
   vacated s (suc i) pos = refl
 
-  module _ (kind : ℕ) (s : BucketView K V) (at : Place) (p : K × V) (kept : IsBucketOf kind s) (here : live_pair (slot_in s at) ≡ Some p) where
+  module _ (kind : ℕ) (s : BucketView K V) (at : Place) (p : K × V) (kept : IsBucketOf kind s)
+      (here : live_pair (slot_in s at) ≡ Some p) where
     at_slot : (x : Slot K V) → pairs_in (with_slot s at x) ≡ pairs_before s at ++ cons_option (live_pair x) (pairs_ahead s at)
     unfolding pairs_before
     at_slot x =

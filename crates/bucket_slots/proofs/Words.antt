@@ -1,16 +1,16 @@
 -- The words that most proofs use, from one place.
-pub use Rattle.std.proofs.Common.{All, Bool, Bor, Contains, Err, Fits, IfOk, IfSome, IsPermutation, IsTrue, List, MatchOption, MutBor, None}
-pub use Rattle.std.proofs.Common.{Ok, OnErr, Option, Result, Some, [], add-mul, add-one, ap, append-nil, append_assoc, arith, bit_and}
+pub use Rattle.std.proofs.Common.{All, Bool, Bor, Box, Contains, Err, Fits, IfOk, IfSome, IsPermutation, IsTrue, List, MatchOption, MutBor}
+pub use Rattle.std.proofs.Common.{None, Ok, OnErr, Option, Result, Some, [], add-mul, add-one, ap, append-nil, append_assoc, arith, bit_and}
 pub use Rattle.std.proofs.Common.{bit_or, cond, count_by, div-lt_iff_lt-mul, div-mul-le_self, drop, drop-drop, drop-set-lt, eq-eqb, eqb}
 pub use Rattle.std.proofs.Common.{eqb-true, ext_get_or, false, filter_map, flat_map, get_or, get_or-drop, get_or-set_other, get_or-set_same}
 pub use Rattle.std.proofs.Common.{get_or-take, if◌then◌else◌, inl, inr, is_ok, is_some, le-div_iff_mul-le, le-mul_of_pos_right, length}
 pub use Rattle.std.proofs.Common.{length-append, length-drop, length-set, length-take, length-take-le, lit<, lt_of_lt_of_le}
 pub use Rattle.std.proofs.Common.{lt_of_mul-lt-mul_right, map, max, min, mod-lt, mul-le-mul_left, mul-le-mul_right, mul-lt-mul_of_pos_right}
-pub use Rattle.std.proofs.Common.{mul-one, mul_assoc, mul_comm, nat_eq, nat_lt, ne_eqb, not, one-mul, option_map, option_to_list, position}
-pub use Rattle.std.proofs.Common.{pow-add, pow-suc, pow_mono, pow_pos, refl, remove, replicate, reverse, rules, set, set-set, shr-shr}
-pub use Rattle.std.proofs.Common.{slice_set, subst, suc, suc-mul, sum_by, sym, take, take_all, true, true≢false, unwrap_or, vec_capacity}
-pub use Rattle.std.proofs.Common.{vec_len, w32, w64, w8, zero, zero-mul, ℕ, ⊎_elim, ◌%◌, ◌&&◌, ◌*◌, ◌++◌, ◌+◌, ◌-◌, ◌/◌, ◌<◌, ◌==◌, ◌^◌}
-pub use Rattle.std.proofs.Common.{◌↔◌, ◌∙◌, ◌∷◌, ◌≡◌, ◌≢◌, ◌≤◌, ◌⊎◌}
+pub use Rattle.std.proofs.Common.{mul-one, mul_assoc, mul_comm, nat_eq, nat_lt, ne_eqb, not, of_calls, one-mul, option_map, option_to_list}
+pub use Rattle.std.proofs.Common.{position, pow-add, pow-suc, pow_mono, pow_pos, refl, remove, replicate, reverse, rules, set, set-set}
+pub use Rattle.std.proofs.Common.{shr-shr, slice_set, subst, suc, suc-mul, sum_by, sym, take, take-add, take_all, true, true≢false}
+pub use Rattle.std.proofs.Common.{unwrap_or, vec_capacity, vec_len, w32, w64, w8, zero, zero-mul, ℕ, ⊎_elim, ◌%◌, ◌&&◌, ◌*◌, ◌++◌, ◌+◌, ◌-◌}
+pub use Rattle.std.proofs.Common.{◌/◌, ◌<◌, ◌==◌, ◌^◌, ◌↔◌, ◌∙◌, ◌∷◌, ◌≡◌, ◌≢◌, ◌≤◌, ◌⊎◌}
 pub use Rattle.std.proofs.Math.Nat.{div-add-mod, lt-div-mul-add}
 pub use Rattle.std.proofs.Math.Seq.{get_or-append_right, set-append_seam}
 pub use Rattle.std.proofs.lemmas.Bool.{and_parts, cases_Bool, cases_eq, cases_lt, cond-true, eqb-false, false_from_ne_true, false≢true}
@@ -38,8 +38,8 @@ pub use Rattle.std.specs.Option.{option_copied_mut, option_or}
 pub use Rattle.std.specs.Simd.Lanes.{mask_l, zip2}
 pub use Rattle.bucket_slots.specs.BucketLaws.{IsBucketOf}
 pub use Rattle.bucket_slots.specs.BucketView.{BucketView, Place, all_slots, block_at, bucket_with_value, empty_bucket, entries_in}
-pub use Rattle.bucket_slots.specs.BucketView.{first_from, first_place, flattened, listed_pairs, marks_in, pair_at, pairs_in, place_or_null}
-pub use Rattle.bucket_slots.specs.BucketView.{row_at, rows_with, slot_in, with_slot, with_slot_at}
+pub use Rattle.bucket_slots.specs.BucketView.{first_from, first_place, flattened, listed_pairs, marks_in, null_place, pair_at, pairs_in}
+pub use Rattle.bucket_slots.specs.BucketView.{place_or_null, row_at, rows_with, slot_in, with_slot, with_slot_at, without_values}
 pub use Rattle.bucket_slots.specs.Clearing.{is_full_with_marks, looks_at_marks, rows_without_free_end, slot_without_expired}
 pub use Rattle.bucket_slots.specs.Clearing.{slots_after_insertion, slots_without_expired, slots_without_free_end}
 pub use Rattle.bucket_slots.specs.Layout.ArrayParts.{AreParts, part_at, unmade_bucket, with_unmade}
@@ -65,6 +65,9 @@ pub use Rattle.bucket_slots.specs.Searching.{has_byte, is_wanted, matching_len, 
 pub use Rattle.bucket_slots.specs.Sizing.{IsGrownCapacity, IsLeastDoubling, IsLeastPowerOfTwo, IsLengthFor, IsOptimalCapacity}
 pub use Rattle.bucket_slots.specs.Slots.{Slot, all_free, byte_of, free, free_len, is_free, is_live, is_marked, live, live_entries}
 pub use Rattle.bucket_slots.specs.Slots.{live_entry, live_pair, live_pairs, marked, marked_entries, marked_entry, marked_len, pair_of}
-pub use Rattle.bucket_slots.specs.Slots.{places_of, row_with_value, slot_at, slot_with_value}
-pub use Rattle.bucket_slots.specs.Walking.{MovesToNext, next_in, next_place, pairs_ahead, position_after}
+pub use Rattle.bucket_slots.specs.Slots.{places_of, row_with_value, slot_at, slot_with_value, slot_without_value}
+pub use Rattle.bucket_slots.specs.Walking.{CallsEach, ChangesEach, MovesToNext, next_in, next_place, pairs_ahead, position_after}
 pub use Rattle.bucket_slots.specs.declared.bucket.TheConstants.{CACHE, INDEX}
+pub use denote.Param.Always.{always_mut}
+pub use lib.Count.{ones, ones_step}
+pub use mathlib.Core.List.{reverse_aux}

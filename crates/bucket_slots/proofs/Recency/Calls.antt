@@ -69,8 +69,7 @@ removes_behind pairs left tail slot own apart unlinks =
 tail_of-older : (pairs : List (ℕ × ℕ)) (newest : ℕ) (older : List ℕ) (new_tail : ℕ) → Links pairs (newest ∷ older)
     → ((links_of pairs newest).1 ≡ newest → new_tail ≡ 0) → ((links_of pairs newest).1 ≢ newest → new_tail ≡ (links_of pairs newest).1 + 1)
     → new_tail ≡ tail_of older
-tail_of-older pairs newest [] new_tail links alone more =
-    alone links.circle.0
+tail_of-older pairs newest [] new_tail links alone more = alone links.circle.0
 tail_of-older pairs newest (next ∷ older) new_tail links alone more =
     let once = newest_once newest (next ∷ older) links.is_order in
     let apart : next ≢ newest = λ same. eqb-false newest next (or_parts (newest == next) (is_listed older newest) once).0 (sym same) in

@@ -1,15 +1,14 @@
-use Rattle.bucket_slots.proofs.Words.{arith, order_with_oldest, sym, ◌∙◌, ◌≡◌}
+use Rattle.bucket_slots.proofs.Words.{arith, order_with_oldest, sym, ◌∙◌}
 use Rattle.bucket_slots.proofs.BucketRecency.{IsBucket-appended, relisted-chain, relisted-own}
-use Rattle.bucket_slots.proofs.ChangedSlots.{live_inside}
+use Rattle.bucket_slots.proofs.ChangedSlots.{own_live}
 use Rattle.bucket_slots.proofs.bucket.Bucket.append_lru.Goals as goal
 
 pub invariant_of-self : goal.invariant_of-self
 invariant_of-self g c =
-    let own : c.args.at.now.block ≡ 0 = omega arith in
-    let alive = rw (← c.self.view_is, own, ← c.pos.ensures) at c.requires.live_slot in (
+    let live = own_live _ _ c.args.at.now _ c.self.view_is (omega arith) c.pos.ensures c.self.invariant.1 c.requires.live_slot in (
       c.make_oldest-self-inside.ensures.tail,
       IsBucket-appended g.row.TYPE _ c.self.inside.len c.pos.result _ _ c.requires.cache
-          c.self.invariant.1 alive c.make_oldest-self-inside.ensures.order,
+          c.self.invariant.1 live.1 c.make_oldest-self-inside.ensures.order,
     )
 
 pub returns-then-block-eq0 : goal.returns-then-block-eq0
@@ -20,20 +19,3 @@ returns-then-block-eq0 g c =
 pub returns-else-block-eq0 : goal.returns-else-block-eq0
 returns-else-block-eq0 g c =
     relisted-chain order_with_oldest g.L.LruList.KEEPS c.args.self.now c.args.at.now (λ own. c.if-block-eq0.false (c.block.ensures ∙ own))
-
-pub overflow_cast-pos : goal.overflow_cast-pos
-overflow_cast-pos g c =
-    let own : c.args.at.now.block ≡ 0 = omega arith in
-    let alive = rw (← c.self.view_is, own, ← c.pos.ensures) at c.requires.live_slot in
-    omega (arith, c.self.invariant.1.own_long, live_inside c.self.inside.own _ alive)
-
-pub make_oldest-self-inside-requires-clause-own_slot : goal.make_oldest-self-inside-requires-clause-own_slot
-make_oldest-self-inside-requires-clause-own_slot g c =
-    let own : c.args.at.now.block ≡ 0 = omega arith in
-    let alive = rw (← c.self.view_is, own, ← c.pos.ensures) at c.requires.live_slot in
-    omega (arith, c.self.invariant.1.own_long, live_inside c.self.inside.own _ alive)
-
-pub make_oldest-self-inside-requires-clause-not_listed : goal.make_oldest-self-inside-requires-clause-not_listed
-make_oldest-self-inside-requires-clause-not_listed g c =
-    let own : c.args.at.now.block ≡ 0 = omega arith in
-    rw (← c.self.view_is, ← c.pos.ensures) at (c.requires.not_listed own)

@@ -1,5 +1,5 @@
-use Rattle.bucket_slots.proofs.Words.{arith, is_wanted, sym, ◌%◌}
-use Rattle.bucket_slots.proofs.FirstPlaces.{first_chain, found_in_chain, matching_len-parts, none_wanted}
+use Rattle.bucket_slots.proofs.Words.{is_wanted, sym, ◌%◌}
+use Rattle.bucket_slots.proofs.FirstPlaces.{first_chain, found_in_chain, none_wanted}
 use Rattle.bucket_slots.proofs.bucket.Bucket.find_by.Goals as goal
 
 pub returns-then-self-eq0-clause-place : goal.returns-then-self-eq0-clause-place
@@ -16,13 +16,3 @@ returns-clause-place g c =
 pub returns-clause-pair : goal.returns-clause-pair
 returns-clause-pair g c =
     found_in_chain _ _ c.args.self.now c.find_by-2.result c.self.view_is c.find_by-2.ensures.place c.find_by-2.ensures.pair
-
-pub returns-in-Some-clause-few : goal.returns-in-Some-clause-few
-returns-in-Some-clause-few g c =
-    let both = matching_len-parts (c.args.hash % 256) _ _ c.self.view_is in
-    omega (arith, both, c.in-Some.ensures.few)
-
-pub returns-clause-few : goal.returns-clause-few
-returns-clause-few g c =
-    let both = matching_len-parts (c.args.hash % 256) _ _ c.self.view_is in
-    omega (arith, both, c.find_by.ensures.few, c.find_by-2.ensures.few)

@@ -1,6 +1,4 @@
-use Rattle.std.proofs.Common.{ap, arith, length, of_calls, rules}
-use Rattle.bucket_slots.specs.BucketView.{pairs_in, slot_in}
-use Rattle.bucket_slots.specs.Walking.{pairs_ahead}
+use Rattle.bucket_slots.proofs.Words.{ap, arith, length, of_calls, pairs_ahead, pairs_in, rules, slot_in}
 use Rattle.bucket_slots.proofs.CallerLemmas.{live_from_pair}
 use Rattle.bucket_slots.proofs.CallingEach.{done, goes_on, sets_out}
 use Rattle.bucket_slots.proofs.bucket.Bucket.for_each.Goals as goal
@@ -23,9 +21,6 @@ own-preserved g c = (
       c.entry.result.0 c.entry.result.1 c.own.invariant.1 (c.find_next_here.ensures.ahead c.own-test.true) c.entry.ensures.pair c.f.ensures,
 )
 
-pub pairs-init : goal.pairs-init
-pairs-init g c = rw (c.find_next_here.ensures.stays c.own-test.false) c.own.invariant
-
 pub entry-requires-in-pairs : goal.entry-requires-in-pairs
 entry-requires-in-pairs g c =
     let m = c.find_next.ensures.ahead c.pairs-test.true in
@@ -38,7 +33,8 @@ pub pairs-preserved : goal.pairs-preserved
 pairs-preserved g c = (
   λ always. let here = c.pairs.invariant.0 always in search of_calls,
   goes_on _ c.args.f.now c.pairs.f c.f-in-pairs.new.self (pairs_in c.args.self.now) c.args.self.now c.pairs.at c.find_next.new.self
-      c.entry-in-pairs.result.0 c.entry-in-pairs.result.1 c.pairs.invariant.1 (c.find_next.ensures.ahead c.pairs-test.true) c.entry-in-pairs.ensures.pair c.f-in-pairs.ensures,
+      c.entry-in-pairs.result.0 c.entry-in-pairs.result.1 c.pairs.invariant.1 (c.find_next.ensures.ahead c.pairs-test.true)
+      c.entry-in-pairs.ensures.pair c.f-in-pairs.ensures,
 )
 
 pub returns-clause-calls : goal.returns-clause-calls

@@ -1,7 +1,4 @@
-use Rattle.std.proofs.Common.{length}
-use denote.Param.Always.{always_mut}
-use Rattle.bucket_slots.specs.BucketView.{pairs_in}
-use Rattle.bucket_slots.specs.Walking.{pairs_ahead}
+use Rattle.bucket_slots.proofs.Words.{always_mut, length, pairs_ahead, pairs_in}
 use Rattle.bucket_slots.proofs.CallingEach.{IsAmid}
 use Rattle.bucket_slots.proofs.bucket.Bucket.for_each.Given as goal
 

@@ -1,5 +1,4 @@
-use Rattle.std.proofs.Common.{ap, arith, length, of_calls, refl, rules}
-use Rattle.bucket_slots.specs.BucketView.{slot_in}
+use Rattle.bucket_slots.proofs.Words.{ap, arith, length, of_calls, refl, rules, slot_in}
 use Rattle.bucket_slots.proofs.CallerLemmas.{live_from_pair}
 use Rattle.bucket_slots.proofs.ChangingEach.{done, goes_on, sets_out, valued}
 use Rattle.bucket_slots.proofs.bucket.Bucket.for_each_mut.Goals as goal
@@ -26,9 +25,6 @@ own-preserved g c = (
       (c.find_next_here.ensures.ahead c.own-test.true) c.sound.ensures c.entry_mut-value.ensures.pair c.f.ensures refl,
 )
 
-pub values-init : goal.values-init
-values-init g c = rw (c.find_next_here.ensures.stays c.own-test.false) c.own.invariant
-
 pub entry_mut-value-requires-in-values : goal.entry_mut-value-requires-in-values
 entry_mut-value-requires-in-values g c =
     let m = c.find_next.ensures.ahead c.values-test.true in
@@ -46,15 +42,13 @@ values-preserved g c = (
   goes_on _ c.args.f.now c.values.f c.f-in-values.new.self g.row.TYPE c.args.self.now c.values.self _ c.values.at c.find_next.new.self
       c.entry_mut-value-in-values.result.0 c.entry_mut-value-in-values.result.1
       (record c.entry_mut-value-in-values.result.1 { now = c.f-in-values.new.arg3 }) c.values.invariant.1
-      (c.find_next.ensures.ahead c.values-test.true) c.sound-in-values.ensures c.entry_mut-value-in-values.ensures.pair c.f-in-values.ensures refl,
+      (c.find_next.ensures.ahead c.values-test.true) c.sound-in-values.ensures c.entry_mut-value-in-values.ensures.pair
+      c.f-in-values.ensures refl,
 )
 
 pub returns-clause-calls : goal.returns-clause-calls
 returns-clause-calls g c = done _ c.args.f.now c.values.f c.args.self.now c.values.self c.values.at c.values.invariant.1
     (c.find_next.ensures.end c.values-test.false).ahead
-
-pub returns-clause-others : goal.returns-clause-others
-returns-clause-others g c = c.values.invariant.1.others
 
 pub f-requires : goal.f-requires
 f-requires g c = let here = c.own.invariant.0 c.requires.callable in search of_calls

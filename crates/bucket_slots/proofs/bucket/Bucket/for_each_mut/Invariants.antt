@@ -1,6 +1,4 @@
-use Rattle.std.proofs.Common.{length}
-use denote.Param.Always.{always_mut}
-use Rattle.bucket_slots.specs.Walking.{pairs_ahead}
+use Rattle.bucket_slots.proofs.Words.{always_mut, length, pairs_ahead}
 use Rattle.bucket_slots.proofs.ChangingEach.{IsAmid}
 use Rattle.bucket_slots.proofs.bucket.Bucket.for_each_mut.Given as goal
 

@@ -1,4 +1,4 @@
-use Rattle.bucket_slots.proofs.Words.{ap, length, sym, ◌∙◌}
+use Rattle.bucket_slots.proofs.Words.{ap, sym, ◌∙◌}
 use Rattle.bucket_slots.proofs.BucketRecency.{IsBucket-unlisted}
 use Rattle.bucket_slots.proofs.bucket.Bucket.take_lru.Goals as goal
 
@@ -7,9 +7,6 @@ invariant_of-self g c = (
   c.take_order-taken.ensures.tail,
   IsBucket-unlisted g.row.TYPE _ c.self.inside.len _ c.self.invariant.1 c.take_order-taken.ensures.emptied,
 )
-
-pub returns-clause-number : goal.returns-clause-number
-returns-clause-number g c = c.take_order-taken.ensures.number ∙ ap (λ s. length s.listed) c.self.view_is
 
 pub returns-clause-not_kept : goal.returns-clause-not_kept
 returns-clause-not_kept g c = λ off. ap (λ s. s.listed) (sym c.self.view_is) ∙ g.met.L.LruList.empty _ _ off c.self.invariant.0

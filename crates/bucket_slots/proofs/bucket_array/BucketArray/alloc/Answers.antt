@@ -1,4 +1,4 @@
-use Rattle.bucket_slots.proofs.Words.{ap, arith, pow_pos, ℕ, ◌-◌, ◌<◌, ◌^◌, ◌∙◌, ◌≡◌}
+use Rattle.bucket_slots.proofs.Words.{ap, arith, ℕ, ◌-◌, ◌<◌, ◌^◌, ◌∙◌, ◌≡◌}
 use Rattle.bucket_slots.proofs.ArrayParts.{new_array, new_parts}
 use Rattle.bucket_slots.proofs.PowersOfTwo.{exponent_lt, log_is, shifted_one}
 use Rattle.bucket_slots.proofs.Sampled.{large_fits}
@@ -34,8 +34,3 @@ pub returns : goal.returns
 returns g c =
     let cut = c.parts_for-count.ensures in
     new_array _ _ _ _ _ (shifted_one _ cut.bits) cut.whole c.in_ok-parts.ensures c.args.capacity c.len_for-len.ensures.value
-
-pub overflow_sub-result-2 : goal.overflow_sub-result-2
-overflow_sub-result-2 g c =
-    let bits : ℕ = c.parts_for-count.result.1 in
-    omega (arith, shifted_one bits c.parts_for-count.ensures.bits, pow_pos bits)

@@ -7,6 +7,3 @@ release_in-requires g c =
     let at = c.place_of-part.ensures in
     let place = place_is _ _ _ _ c.self.invariant.1 _ _ _ _ c.self.view_is c.requires at.part at.offset in
     (search rules, (c.room.ensures.fits, omega (arith, c.self.inside.parts.ok.0, place.within)))
-
-pub invariant_of-self : goal.invariant_of-self
-invariant_of-self g c = (c.self.invariant.0, rw c.release_in.ensures c.self.invariant.1, c.self.invariant.2)

@@ -1,5 +1,6 @@
 use Rattle.bucket_slots.proofs.Words.{arith, empty_bucket, get_or_read, length, sym, true, unmade_bucket, ◌-◌, ◌<◌, ◌∙◌}
-use Rattle.bucket_slots.proofs.ArrayParts.{all_one, from_one_less}
+use Rattle.bucket_slots.proofs.ArrayParts.{from_one_less}
+use Rattle.bucket_slots.proofs.EmptyPlaces.{all_one}
 use Rattle.bucket_slots.proofs.bucket_array.part.are_spent.Goals as goal
 
 pub loop-left-preserved : goal.loop-left-preserved

@@ -6,9 +6,3 @@ returns g c =
     let here = get_or_read c.args.parts.now.items c.args.part c.index_mut-lent.result.now
     (omega (arith, c.args.parts.now.ok.0, c.requires.within)) c.index_mut-lent.ensures.value [] in
     ((refl, λ w. rw here refl), record { writes_back = tt; bucket = rw (← here) c.bucket_mut.ensures.bucket })
-
-pub bucket_mut-requires : goal.bucket_mut-requires
-bucket_mut-requires g c =
-    let here = get_or_read c.args.parts.now.items c.args.part c.index_mut-lent.result.now
-    (omega (arith, c.args.parts.now.ok.0, c.requires.within)) c.index_mut-lent.ensures.value [] in
-    (omega arith, (c.requires.fits, (c.requires.fits, rw here c.requires.offset)))

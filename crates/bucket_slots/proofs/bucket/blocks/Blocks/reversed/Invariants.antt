@@ -1,5 +1,4 @@
-use Rattle.bucket_slots.proofs.Words.{length, reverse, ◌≡◌}
-use mathlib.Core.List.{reverse_aux}
+use Rattle.bucket_slots.proofs.Words.{length, reverse, reverse_aux, ◌≡◌}
 use Rattle.bucket_slots.proofs.bucket.blocks.Blocks.reversed.Given as goal
 
 -- what is turned already stands behind the rest, turned

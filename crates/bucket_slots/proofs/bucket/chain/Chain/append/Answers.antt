@@ -1,4 +1,4 @@
-use Rattle.bucket_slots.proofs.Words.{ap, arith, length, refl, ◌++◌, ◌+◌, ◌^◌, ◌∙◌, ◌≡◌, ◌≤◌}
+use Rattle.bucket_slots.proofs.Words.{ap, arith, length, ◌++◌, ◌+◌, ◌^◌, ◌∙◌, ◌≡◌, ◌≤◌}
 use Rattle.bucket_slots.proofs.ChainRows.{IsCounted-append}
 use Rattle.bucket_slots.proofs.bucket.chain.Chain.append.Goals as goal
 
@@ -6,14 +6,10 @@ pub invariant_of-self : goal.invariant_of-self
 invariant_of-self g c =
     let rows = c.self.inside.blocks in
     let more = c.more.inside.blocks in
+    let most = c.free_blocks-more.ensures.most in
     let few : length rows + length more ≤ 2 ^ 28 =
-    omega (arith, c.get-len.ensures, c.self.invariant.counted, c.self.invariant.chain.few, c.min.ensures, c.free_blocks-more.ensures.most, ap length c.more.view_is) in
+    omega (arith, c.get-len.ensures, c.self.invariant.counted, c.self.invariant.chain.few, c.min.ensures, most, ap length c.more.view_is) in
     let joined : c.append.new.self ≡ rows ++ more = c.append.ensures ∙ ap (λ l. rows ++ l) c.replace.ensures.value in
     let count : c.set.new.self ≡ c.self.inside.len + length more =
     omega (arith, c.set.ensures, c.get-len.ensures, c.get-made.ensures, c.more.invariant.counted) in
     rw (joined, count) (IsCounted-append rows more c.self.inside.len c.self.invariant c.more.invariant.chain few)
-
-pub invariant_of-more : goal.invariant_of-more
-invariant_of-more g c =
-    rw (c.replace.ensures.after, c.new.ensures, c.set-then-made-gt0.ensures)
-    (record { chain = record { long = λ i below. absurd (omega arith); few = omega arith }; counted = refl })

@@ -48,20 +48,13 @@ loop-at-preserved g c =
     let up : c.loop-at.number - 1 + 1 ≡ c.loop-at.number + 1 - 1 = omega (arith, c.loop-at.invariant.one) in
     let here : position (is_wanted (g.P.KeyProbe.wants c.args.probe.now) c.args.byte) row ≡ None =
     ap (λ t. position (is_wanted t c.args.byte) row) (sym c.loop-at.invariant.fixed) ∙ sym c.in_default-find_by.ensures.place in
+    let bytes = ap (λ rows. count_by (has_byte c.args.byte) (flattened rows)) next in
     record {
       one = omega arith;
       here = next ∙ drop_behind c.args.self.now behind row (c.loop-at.number - 1) (sym c.loop-at.invariant.here ∙ some)
           ∙ ap (λ n. drop n c.args.self.now) up;
       within = omega (arith, ap length next, ap length some, c.loop-at.invariant.within);
       place = grind (arith, common_steps);
-      few = omega (arith, parts, step, ap (λ rows. count_by (has_byte c.args.byte) (flattened rows)) next, c.find_by.ensures.few, c.loop-at.invariant.few);
+      few = omega (arith, parts, step, bytes, c.find_by.ensures.few, c.loop-at.invariant.few);
       fixed = c.find_by.ensures.fixed ∙ c.loop-at.invariant.fixed;
     }
-
-pub overflow_add-number : goal.overflow_add-number
-overflow_add-number g c = omega (arith, c.loop-at.invariant.within, c.self.invariant.chain.few, ap length c.self.view_is)
-
-pub loop-at-smaller : goal.loop-at-smaller
-loop-at-smaller g c =
-    let some = length-some c.loop-at.at.now c.at.inside.first c.in-Some.block c.at.view_is c.in-Some.is in
-    omega (arith, ap length some, ap (λ block. length block.next) c.deref-in-Some.ensures)

@@ -23,11 +23,3 @@ loop-at-preserved g c =
             | else-not-is_empty w ↦ rw (seen ∙ w.if-not-is_empty.false) w.kept-is
           ]);
     }
-
-pub overflow_add-passed : goal.overflow_add-passed
-overflow_add-passed g c = omega (arith, c.loop-at.invariant.within, c.self.invariant.chain.few, ap length c.self.view_is)
-
-pub loop-at-smaller : goal.loop-at-smaller
-loop-at-smaller g c =
-    let some = length-some c.loop-at.at.now c.at.inside.first c.in-Some.block c.at.view_is c.in-Some.is in
-    omega (arith, ap length some, ap (λ block. length block.next) c.deref-in-Some.ensures)

@@ -1,12 +1,6 @@
-use Rattle.bucket_slots.proofs.Words.{ap, arith, length, row_at, rows_of, sym, ◌∙◌}
-use Rattle.bucket_slots.proofs.ChainRows.{IsCounted-freed, IsCounted-unlinked, first_behind, place_before_next, place_behind_previous}
-use Rattle.bucket_slots.proofs.ChainRows.{place_stays, taken}
+use Rattle.bucket_slots.proofs.Words.{arith, rows_of, ◌∙◌}
+use Rattle.bucket_slots.proofs.ChainRows.{IsCounted-freed, IsCounted-unlinked, place_before_next, place_behind_previous, place_stays, taken}
 use Rattle.bucket_slots.proofs.bucket.chain.Chain.take.Goals as goal
-
-pub take_first-pair-requires : goal.take_first-pair-requires
-take_first-pair-requires g c =
-    let there = ap (λ l. row_at l c.args.block) (sym c.self.view_is) ∙ sym (first_behind c.self.inside.blocks c.args.block) in
-    (c.room.ensures, (c.requires.pos, rw (c.walk-link.ensures.rest, ← there) c.requires.live_slot))
 
 pub invariant_of-self : goal.invariant_of-self
 invariant_of-self g c =
@@ -59,6 +53,3 @@ returns g c =
       place = c.at-2.ensures ∙ place_behind_previous _ _ _ _ c.self.invariant.counted (left.gone_is ∙ c.if-not-gone.false)
           (omega (arith, c.if-block-len.false, c.get-len.ensures));
     })
-
-pub overflow_add-block : goal.overflow_add-block
-overflow_add-block g c = omega (arith, ap length c.self.view_is, c.requires.within, c.self.invariant.chain.few)

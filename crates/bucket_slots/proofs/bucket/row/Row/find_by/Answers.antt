@@ -1,8 +1,7 @@
-use Rattle.bucket_slots.proofs.Words.{IsLeft, arith, false, free, has_byte, is_wanted, refl, rules, sym, ◌∙◌, ◌≡◌}
+use Rattle.bucket_slots.proofs.Words.{IsLeft, arith, false, free, has_byte, is_wanted, refl, sym, ◌∙◌, ◌≡◌}
 use Rattle.bucket_slots.proofs.Bitmaps.{ones-cleared, ones-some}
-use Rattle.bucket_slots.proofs.FirstPlaces.{live_occupied}
 use Rattle.bucket_slots.proofs.Masks.{IsLeft-first, IsLeft-next, ones-mask, position-left, position-none_left}
-use Rattle.bucket_slots.proofs.RowMasks.{candidate_live, candidate_wanted, unwanted}
+use Rattle.bucket_slots.proofs.RowMasks.{candidate_wanted, unwanted}
 use Rattle.bucket_slots.proofs.bucket.row.Row.find_by.Goals as goal
 
 pub loop-left-init : goal.loop-left-init
@@ -15,10 +14,6 @@ loop-left-init g c =
       fixed = refl;
     }
 
-pub pair-requires : goal.pair-requires
-pair-requires g c =
-    (search rules, (live_occupied _ (candidate_live c.args.byte _ (c.loop-left.invariant.left.waiting _ c.lowest_bit-pos.ensures.set))).0)
-
 pub returns-then-same-clause-place : goal.returns-then-same-clause-place
 returns-then-same-clause-place g c =
     let want = is_wanted (g.P.KeyProbe.wants c.args.probe.now) c.args.byte in
@@ -26,10 +21,6 @@ returns-then-same-clause-place g c =
     let here = left.waiting _ c.lowest_bit-pos.ensures.set in
     let said = candidate_wanted _ _ c.args.byte _ _ _ _ here c.pair.ensures c.loop-left.invariant.fixed c.same.ensures.answer in
     sym (position-left (has_byte c.args.byte) want free c.args.self.now _ _ refl left c.lowest_bit-pos.ensures (said ∙ c.if-same.true))
-
-pub returns-then-same-clause-pair : goal.returns-then-same-clause-pair
-returns-then-same-clause-pair g c =
-    (live_occupied _ (candidate_live c.args.byte _ (c.loop-left.invariant.left.waiting _ c.lowest_bit-pos.ensures.set))).1 ∙ c.pair.ensures
 
 pub returns-then-same-clause-few : goal.returns-then-same-clause-few
 returns-then-same-clause-few g c =
@@ -55,6 +46,3 @@ returns-clause-place g c =
     let left : IsLeft (has_byte c.args.byte) (λ slot. want slot ≡ false) free c.args.self.now c.loop-left.left =
     c.loop-left.invariant.left in
     sym (position-none_left (has_byte c.args.byte) want free c.args.self.now (rw c.loop-left-test.false at left))
-
-pub loop-left-smaller : goal.loop-left-smaller
-loop-left-smaller g c = c.without_bit-left.ensures.less c.lowest_bit-pos.ensures.set

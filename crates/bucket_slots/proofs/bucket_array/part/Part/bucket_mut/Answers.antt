@@ -1,5 +1,4 @@
-use Rattle.bucket_slots.proofs.Words.{ap, arith, common_steps, empty_bucket, get_or, get_or_read, length, refl, set, sym, vec_capacity, ◌<◌}
-use Rattle.bucket_slots.proofs.Words.{◌∙◌}
+use Rattle.bucket_slots.proofs.Words.{ap, arith, empty_bucket, get_or, get_or_read, length, refl, set, sym, vec_capacity, ◌<◌, ◌∙◌}
 use Rattle.bucket_slots.proofs.ArrayParts.{get_or-made, set-part}
 use Rattle.bucket_slots.proofs.bucket_array.part.Part.bucket_mut.Goals as goal
 
@@ -13,14 +12,7 @@ returns g c =
       record {
         writes_back = tt;
         bucket = get_or_read made.items at c.index_mut.result.now there c.index_mut.ensures.value empty_bucket
-            ∙ sym (get_or-made made.items (vec_capacity made) at c.self.inside.released there) ∙ ap (λ buckets. get_or buckets at empty_bucket) same;
+            ∙ sym (get_or-made made.items (vec_capacity made) at c.self.inside.released there)
+            ∙ ap (λ buckets. get_or buckets at empty_bucket) same;
       },
     )
-
-pub make_to-requires : goal.make_to-requires
-make_to-requires g c =
-    (c.requires.fits, (c.requires.fits, grind (arith, common_steps, ap length c.self.view_is, c.requires.within, c.self.inside.made.ok)))
-
-pub overflow_add-offset : goal.overflow_add-offset
-overflow_add-offset g c =
-    record { fits = grind (arith, common_steps, ap length c.self.view_is, c.requires.within, c.self.inside.made.ok) }

@@ -6,7 +6,8 @@ use Rattle.bucket_slots.proofs.bucket_array.part.Part.release.Goals.{in-Ok, in_d
 pub returns-after-with_capacity : goal.returns-after-with_capacity
 returns-after-with_capacity g c =
     let made = c.self.inside.made in
-    let full : length made.items ≡ vec_capacity made = omega (arith, made.ok.0, c.len.ensures, c.capacity.ensures, c.if-len-capacity.true) in
+    let full : length made.items ≡ vec_capacity made =
+    omega (arith, made.ok.0, c.len.ensures, c.capacity.ensures, c.if-len-capacity.true) in
     let spent = c.are_spent.ensures c.if-are_spent.true in
     let cleared = c.clear.ensures in
     elim c.match-with_capacity.branch [
