@@ -1,6 +1,7 @@
 -- Counts of pairs, bucket by bucket, and what a table without pairs drops.
 use Rattle.bucket_table.proofs.Words.{All, ArraysView, Bool, BucketView, Err, IsPermutation, Keeps, List, Ok, Result, TableView, [], ap}
-use Rattle.bucket_table.proofs.Words.{arith, bucket_at, counted, counted_to, entries_among, entries_in, entries_of, flattened, get_or, is_live, length, live_pairs}
+use Rattle.bucket_table.proofs.Words.{arith, bucket_at, counted, counted_to, entries_among, entries_in, entries_of, flattened, get_or}
+use Rattle.bucket_table.proofs.Words.{is_live, length, live_pairs}
 use Rattle.bucket_table.proofs.Words.{length-entries_in, length-map, length_permutation, live_counts, map, min, pairs_in, pairs_of, refl}
 use Rattle.bucket_table.proofs.Words.{suc, sum_by-cons, sym, take, zero, ℕ, ◌*◌, ◌+◌, ◌-◌, ◌/◌, ◌<◌, ◌^◌, ◌∙◌, ◌∷◌, ◌≡◌, ◌++◌}
 use Rattle.std.proofs.Common.{length-append, sum, zero-mul, false, inl, inr, true}
@@ -11,8 +12,7 @@ use Rattle.bucket_table.specs.Map.Counting.{IsHeldBy, chained_among}
 use Rattle.bucket_table.specs.Resize.Sampling.{estimate}
 use Rattle.bucket_table.specs.Resize.Resizing.{IsPlanOf, TriesResize}
 use Rattle.bucket_table.specs.declared.arrays.plan.Plan.TheVariants.{Resize}
-use Rattle.bucket_table.proofs.Resize.GivingUp.{plan_alone, plan_stands}
-use Rattle.bucket_table.proofs.Resize.GivingUp.{plan_code}
+use Rattle.bucket_table.proofs.Resize.GivingUp.{plan_alone, plan_stands, plan_code}
 
 -- counts of 0 sum up to 0
 zeros_taken : (n : ℕ) (xs : List ℕ) → All (λ count. count ≡ 0) xs → sum (take n xs) ≡ 0

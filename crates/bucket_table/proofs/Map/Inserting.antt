@@ -1,7 +1,7 @@
 -- A pair put into a locked bucket where its key is nowhere, and what that makes of the table in which the bucket was found.
-use Rattle.bucket_table.proofs.Words.{ArraysView, Bool, BucketView, Err, IsHome, IsLocked, IsOneMap, IsPermutation-refl, KeepsPairs, MapState, Ok}
-use Rattle.bucket_table.proofs.Words.{OnErr, OnOk, Result, bucket_at, buckets_on, length, pairs_of, refl, slots_after_insertion, true, ℕ}
-use Rattle.bucket_table.proofs.Words.{IsEquivalence, TableView, inr, subst, sym, ◌%◌, ◌≡◌}
+use Rattle.bucket_table.proofs.Words.{ArraysView, Bool, BucketView, Err, IsHome, IsLocked, IsOneMap, IsPermutation-refl, KeepsPairs}
+use Rattle.bucket_table.proofs.Words.{MapState, Ok, OnErr, OnOk, Result, bucket_at, buckets_on, length, pairs_of, refl}
+use Rattle.bucket_table.proofs.Words.{slots_after_insertion, true, ℕ, IsEquivalence, TableView, inr, subst, sym, ◌%◌, ◌≡◌}
 use Rattle.bucket_table.specs.Map.ByKey.{AnswersInsertion, FindsThen, HandsBack, Inserts}
 use Rattle.bucket_table.specs.Map.Finding.{FindsBucket}
 use Rattle.bucket_table.specs.Map.MapState.{state_of}
@@ -43,6 +43,11 @@ module _ {K V H : Type 0} where
       → KeepsPairs old between → HandsBack eq key value between.pairs why → HandsBack eq key value old.pairs why
   handed_back eq key value old between (Present k v) keeps x = (x.0, x.1, (x.2.0, there_before eq key old between x.2.0 keeps x.2.1))
   handed_back eq key value old between (Memory k v) keeps x = (x.0, x.1, absent_before eq key old between keeps x.2)
+
+  -- and nothing else changes where no bucket is found for it
+  pub unfound : (eq : K → K → Bool) (key : K) (value : V) (old new : MapState K V H) (why : NotInserted K V) → KeepsPairs old new
+      → HandsBack eq key value new.pairs why → HandsBack eq key value old.pairs why × KeepsPairs old new
+  unfound eq key value old new why keeps x = (handed_back eq key value old new why keeps x, keeps)
 
 module _ {K V H A : Type 0} where
   -- an insertion where the map was the same before

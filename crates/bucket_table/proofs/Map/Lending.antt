@@ -29,7 +29,8 @@ module _ {K V H : Type 0} (eq : K → K → Bool) (key : K) (kind : ℕ) (old be
   lent_there = there_before eq key (state_of kind old) (state_of kind between) (own, before) prepared.map there
 
   -- and another value is written there
-  pub lent_writes : (value : V) → ChangesValue (state_of kind between) (own, before) value (state_of kind (with_value between side i at value))
+  pub lent_writes : (value : V) → ChangesValue (state_of kind between) (own, before) value
+      (state_of kind (with_value between side i at value))
       → WritesUnder eq key kind old before value (with_value between side i at value)
   lent_writes value wrote = record {
     map = (

@@ -1,8 +1,8 @@
 -- A pair put into a locked bucket of a cache, after what goes for it, and what that makes of the table in which the bucket was found.
 use Rattle.bucket_table.proofs.Words.{All-permutation, All-tail, ArraysView, Bool, BucketView, CACHE, Err, IsAbsent, IsEquivalence, false}
 use Rattle.bucket_table.proofs.Words.{IsHome, IsLocked, IsOneMap, IsPermutation-refl, IsPermutation-trans, KeepsPairs, MapState, None, Ok}
-use Rattle.bucket_table.proofs.Words.{Option, Result, Some, TableView, ap, arrays_with, bucket_at, buckets_on, length, length-set}
-use Rattle.bucket_table.proofs.Words.{inl, inr, pairs_of, refl, slots_after_insertion, slots_touched, subst, sym, true, ℕ, ◌%◌, ◌<◌, ◌∙◌, ◌∷◌, ◌≡◌}
+use Rattle.bucket_table.proofs.Words.{Option, Result, Some, TableView, ap, arrays_with, bucket_at, buckets_on, length, length-set, inl, inr}
+use Rattle.bucket_table.proofs.Words.{pairs_of, refl, slots_after_insertion, slots_touched, subst, sym, true, ℕ, ◌%◌, ◌<◌, ◌∙◌, ◌∷◌, ◌≡◌}
 use Rattle.bucket_slots.specs.Evicting.{slots_evicted}
 use Rattle.bucket_slots.specs.Placing.{place_for_next, slots_with}
 use Rattle.bucket_table.specs.Map.ByKey.{Evicts}

@@ -1,8 +1,7 @@
 -- What a table is once the pair in a live slot was touched, marked or taken out.
 use Rattle.bucket_table.proofs.Words.{ArePlaced, ArraysView, Bool, BucketView, IsEquivalence, IsOneMap, Keeps, KeepsOpenTickets, KeepsPairs}
 use Rattle.bucket_table.proofs.Words.{MapState, Place, Some, arrays_with, bucket_on, bucket_with_value, buckets_on, length, live_pair}
-use Rattle.bucket_table.proofs.Words.{slot_in, slots_marked}
-use Rattle.bucket_table.proofs.Words.{slots_touched, slots_without, ℕ, ◌<◌, ◌≡◌}
+use Rattle.bucket_table.proofs.Words.{slot_in, slots_marked, slots_touched, slots_without, ℕ, ◌<◌, ◌≡◌}
 use Rattle.bucket_table.specs.Map.MapState.{ChangesValue, TakesPair, state_of}
 use Rattle.bucket_table.proofs.Map.LockedSteps.{bag_through, taken_through}
 use Rattle.bucket_table.proofs.Map.MapKept.{one_map_kept}

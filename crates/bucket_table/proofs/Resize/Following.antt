@@ -1,9 +1,8 @@
 -- What arrays keep that are given up, pushed or made: their pairs, the bag of tickets and the law.
-use Rattle.bucket_table.proofs.Words.{All, All-nil, AreHome, ArePlaced, AreTwoArrays, ArraysView, BucketView, IsEntryHome}
-use Rattle.bucket_table.proofs.Words.{IsNewArray, IsPermutation-refl, IsVacant, Keeps, List, LosesNoUnit, [], ap, append-nil, arith}
-use Rattle.bucket_table.proofs.Words.{bucket_at, empty_bucket, entries_among, false, false≢true, first_tickets, get_or, inl}
-use Rattle.bucket_table.proofs.Words.{length, marks_among, nil_from_length, pairs_in, refl, replicate, suc, sym}
-use Rattle.bucket_table.proofs.Words.{true, zero, ℕ, ◌<◌, ◌∙◌, ◌∷◌, ◌≡◌}
+use Rattle.bucket_table.proofs.Words.{All, All-nil, AreHome, ArePlaced, AreTwoArrays, ArraysView, BucketView, IsEntryHome, IsNewArray}
+use Rattle.bucket_table.proofs.Words.{IsPermutation-refl, IsVacant, Keeps, List, LosesNoUnit, [], ap, append-nil, arith, bucket_at}
+use Rattle.bucket_table.proofs.Words.{empty_bucket, entries_among, false, false≢true, first_tickets, get_or, inl, length, marks_among}
+use Rattle.bucket_table.proofs.Words.{nil_from_length, pairs_in, refl, replicate, suc, sym, true, zero, ℕ, ◌<◌, ◌∙◌, ◌∷◌, ◌≡◌}
 use Rattle.std.proofs.lemmas.List.{get_or-replicate}
 use Rattle.bucket_slots.proofs.MarkCallerLemmas.{no_new-front, no_new-rest}
 use Rattle.bucket_table.specs.Resize.Resizing.{IsGivenUp, IsMade, IsPushed}

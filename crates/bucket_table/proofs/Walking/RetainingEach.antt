@@ -78,7 +78,8 @@ module _ {S K V : Type 0} (step : S → Bor K → MutBor V → Bool → MutBor V
       omega (arith, ap length left_is, if_length answer (own.now, after.now) kept, asked_fewer mid last xs kept rest)
 
   module _ (kind : ℕ) (first last : S) (s : BucketView K V) (at : Place) (pair : K × V) (own : Bor K) (before after : MutBor V)
-      (sound : IsBucketOf kind s) (here : live_pair (slot_in s at) ≡ Some pair) (read : live_pair (slot_in s at) ≡ Some (own.now, before.now))
+      (sound : IsBucketOf kind s) (here : live_pair (slot_in s at) ≡ Some pair)
+      (read : live_pair (slot_in s at) ≡ Some (own.now, before.now))
     where
       abbrev changed : BucketView K V
       changed = bucket_with_value s at after.now
@@ -99,9 +100,11 @@ module _ {S K V : Type 0} (step : S → Bor K → MutBor V → Bool → MutBor V
 
       -- or it is taken
       pub taken_at : (new : BucketView K V) (to : Place) → step first own before false after last → new.killed ≡ changed.killed
-          → ((p : K × V) → live_pair (slot_in changed at) ≡ Some p → (byte : ℕ) × IsPermutation (entries_in changed) ((p, byte) ∷ entries_in new))
+          → ((p : K × V) → live_pair (slot_in changed at) ≡ Some p
+          → (byte : ℕ) × IsPermutation (entries_in changed) ((p, byte) ∷ entries_in new))
           → pairs_ahead new to ≡ pairs_ahead changed at
-          → ((p : K × V) (front : List (K × V)) → live_pair (slot_in changed at) ≡ Some p → pairs_in changed ≡ front ++ p ∷ pairs_ahead changed at
+          → ((p : K × V) (front : List (K × V)) → live_pair (slot_in changed at) ≡ Some p
+          → pairs_in changed ≡ front ++ p ∷ pairs_ahead changed at
           → pairs_in new ≡ front ++ pairs_ahead changed at)
           → RetainsSlot step first pair s at new to last
       taken_at new to call alive taken ahead order =
@@ -111,7 +114,8 @@ module _ {S K V : Type 0} (step : S → Bor K → MutBor V → Bool → MutBor V
           record {
             left = [];
             asked = (own, before, after, false, last, [], same, call, refl, (refl, refl));
-            pairs = λ front is. order p front v.here (v.pairs front is ∙ ap (λ l. front ++ p ∷ l) (sym v.ahead)) ∙ ap (λ l. front ++ l) v.ahead;
+            pairs = λ front is. order p front v.here (v.pairs front is ∙ ap (λ l. front ++ p ∷ l) (sym v.ahead))
+                ∙ ap (λ l. front ++ l) v.ahead;
             ahead = ahead ∙ v.ahead;
             keys = keys_both s changed new (keys_valued s at pair after.now here) (keys_less changed new p alive (taken p v.here));
           }

@@ -1,10 +1,10 @@
 -- A closure is asked for each pair of one side of a table, bucket after bucket.
-use Rattle.bucket_table.proofs.Words.{ArraysView, Bool, BucketView, IsDistinct-IsPermutation, IsEquivalence, IsOneMap}
-use Rattle.bucket_table.proofs.Words.{IsPermutation, IsPermutation-append_left, IsPermutation-append_right, IsPermutation-map}
-use Rattle.bucket_table.proofs.Words.{IsPermutation-trans, List, MarksBy, [], ap, append-nil, append_assoc, arith, arrays_with, bucket_at}
-use Rattle.bucket_table.proofs.Words.{bucket_on, buckets_on, by-no_new, empty_bucket, entries_among, entries_in, false, killed_flags, length}
-use Rattle.bucket_table.proofs.Words.{length-append, length-set, map, map-entries_in, marks_in, marks_of, min, no_new-refl, pairs_in, pairs_of}
-use Rattle.bucket_table.proofs.Words.{refl, set, subst, sym, take, true, ℕ, ◌++◌, ◌+◌, ◌-◌, ◌<◌, ◌^◌, ◌∙◌, ◌∷◌, ◌≡◌, ◌≤◌}
+use Rattle.bucket_table.proofs.Words.{ArraysView, Bool, BucketView, IsDistinct-IsPermutation, IsEquivalence, IsOneMap, IsPermutation}
+use Rattle.bucket_table.proofs.Words.{IsPermutation-append_left, IsPermutation-append_right, IsPermutation-map, IsPermutation-trans, List}
+use Rattle.bucket_table.proofs.Words.{MarksBy, [], ap, append-nil, append_assoc, arith, arrays_with, bucket_at, bucket_on, buckets_on}
+use Rattle.bucket_table.proofs.Words.{by-no_new, empty_bucket, entries_among, entries_in, false, killed_flags, length, length-append}
+use Rattle.bucket_table.proofs.Words.{length-set, map, map-entries_in, marks_in, marks_of, min, no_new-refl, pairs_in, pairs_of, refl, set}
+use Rattle.bucket_table.proofs.Words.{subst, sym, take, true, ℕ, ◌++◌, ◌+◌, ◌-◌, ◌<◌, ◌^◌, ◌∙◌, ◌∷◌, ◌≡◌, ◌≤◌}
 use Rattle.std.specs.Borrow.{Bor, MutBor}
 use Rattle.std.proofs.Common.{drop, drop-drop, drop-set-lt, get_or-drop}
 use Rattle.std.proofs.lemmas.List.{take_all, take_more, take_more_set}
@@ -15,7 +15,8 @@ use Rattle.bucket_table.specs.Views.Sides.{with_buckets}
 use Rattle.bucket_table.specs.Walking.Retains.{LosesKeys, RetainsAmong, RetainsBucket, RetainsEach, RetainsIn, gone_len, pairs_among}
 use Rattle.bucket_table.specs.Walking.Walks.{keys_in}
 use Rattle.bucket_table.proofs.Map.MapSteps.{splits}
-use Rattle.bucket_table.proofs.Views.SideChanges.{arrays_with-same, buckets_on-arrays_with, changeable_filled, flags_same, homes_on, placed_after}
+use Rattle.bucket_table.proofs.Views.SideChanges.{arrays_with-same, buckets_on-arrays_with, changeable_filled, flags_same, homes_on}
+use Rattle.bucket_table.proofs.Views.SideChanges.{placed_after}
 use Rattle.bucket_table.proofs.Walking.Each.{map_append}
 use Rattle.bucket_table.proofs.Walking.RetainingEach.{asked_both, asked_fewer, keys_same}
 use Rattle.bucket_table.proofs.Walking.TableCursor.{distinct_behind}
@@ -50,7 +51,8 @@ module _ {K V : Type 0} where
       subst (IsPermutation (map key (pairs_of a))) (append_assoc (map own lost.gone) (map own (keys_in left)) (map key rest))
       (IsPermutation-trans _ _ _ before (IsPermutation-append_left (map key rest) _ _ keys)) in
       let after : IsPermutation (map own (keys_in left) ++ map key rest) (map key (pairs_of (arrays_with a side i left))) =
-      subst (λ ks. IsPermutation ks (map key (pairs_of (arrays_with a side i left)))) (keys_of left rest) (IsPermutation-map key _ _ s.after) in
+      subst (λ ks. IsPermutation ks (map key (pairs_of (arrays_with a side i left)))) (keys_of left rest)
+      (IsPermutation-map key _ _ s.after) in
       let all = IsPermutation-trans _ _ _ parted (IsPermutation-append_right (map own lost.gone) _ _ after) in
       record {
         distinct = distinct_behind eq (map own lost.gone) (map key (pairs_of (arrays_with a side i left)))
@@ -79,7 +81,8 @@ module _ {K V : Type 0} where
   with_buckets-set a true bs i b = refl
   with_buckets-set a false bs i b = refl
 
-  pub buckets_on-with_buckets : (a : ArraysView K V) (side : Bool) (bs : List (BucketView K V)) → buckets_on (with_buckets a side bs) side ≡ bs
+  pub buckets_on-with_buckets : (a : ArraysView K V) (side : Bool) (bs : List (BucketView K V))
+      → buckets_on (with_buckets a side bs) side ≡ bs
   buckets_on-with_buckets a true bs = refl
   buckets_on-with_buckets a false bs = refl
 
@@ -181,7 +184,8 @@ module _ {S K V : Type 0} (step : S → Bor K → MutBor V → Bool → MutBor V
   sets_along first old side = record { among = first_among first (buckets_on old side); others = with_buckets-same old side }
 
   pub goes_along : (first state last : S) (old now new : ArraysView K V) (side : Bool) (index count gone sum : ℕ)
-      → index < length (buckets_on now side) → RetainsIn step epoch state now side index gone new last → sum ≡ min (count + gone) (2 ^ 64 - 1)
+      → index < length (buckets_on now side) → RetainsIn step epoch state now side index gone new last
+      → sum ≡ min (count + gone) (2 ^ 64 - 1)
       → IsAlong first old side state now index count → IsAlong first old side last new (index + 1) sum
   goes_along first state last old now new side index count gone sum within r sum_is along =
       let bs = set (buckets_on now side) index r.left in
@@ -189,13 +193,15 @@ module _ {S K V : Type 0} (step : S → Bor K → MutBor V → Bool → MutBor V
       r.new_is ∙ ap (λ a. arrays_with a side index r.left) along.others ∙ with_buckets-set old side (buckets_on now side) index r.left in
       let there : buckets_on new side ≡ bs = ap (λ a. buckets_on a side) is ∙ buckets_on-with_buckets old side bs in
       record {
-        among = rw there (next_among first state last (buckets_on old side) (buckets_on now side) index count gone sum r.left within r.retains
+        among = rw there (next_among first state last (buckets_on old side)
+            (buckets_on now side) index count gone sum r.left within r.retains
             sum_is along.among);
         others = is ∙ ap (with_buckets old side) (sym there);
       }
 
   -- a side keeps its length
-  pub as_long : (first last : S) (old new : ArraysView K V) (side : Bool) (index count : ℕ) → RetainsIn step epoch first old side index count new last
+  pub as_long : (first last : S) (old new : ArraysView K V) (side : Bool) (index count : ℕ)
+      → RetainsIn step epoch first old side index count new last
       → length (buckets_on new side) ≡ length (buckets_on old side)
   as_long first last old new side index count r =
       ap (λ a. length (buckets_on a side)) r.new_is ∙ ap length (buckets_on-arrays_with old side index r.left)

@@ -1,5 +1,5 @@
-use Rattle.bucket_table.proofs.Words.{ap, by-no_new, inl, inr, live_not_free, marks_in, no_new-refl, read_apart, refl, rules, same_Some, slot_in, sym}
-use Rattle.bucket_table.proofs.Words.{◌∙◌}
+use Rattle.bucket_table.proofs.Words.{ap, by-no_new, inl, inr, live_not_free, marks_in, no_new-refl, read_apart, refl, rules, same_Some}
+use Rattle.bucket_table.proofs.Words.{slot_in, sym, ◌∙◌}
 use Rattle.bucket_table.proofs.retain.retain_at.Goals as goal
 
 pub key-requires : goal.key-requires

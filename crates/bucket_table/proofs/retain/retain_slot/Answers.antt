@@ -26,7 +26,8 @@ returns-clause-retained g c = λ pair here.
     let value = c.entry_mut-value.result.1 in
     taken_at _ g.row.TYPE c.args.keep.now c.keep.new.self c.args.bucket.now c.args.at.now pair c.entry_mut-value.result.0 value
     (record value { now = c.keep.new.arg3 }) c.sound.ensures here c.entry_mut-value.ensures.pair c.take_at.new.bucket c.take_at.new.at
-    (rw c.if-keep.false at c.keep.ensures) c.take_at.ensures.alive c.take_at.ensures.taken c.take_at.ensures.pairs_ahead c.take_at.ensures.order
+    (rw c.if-keep.false at c.keep.ensures) c.take_at.ensures.alive c.take_at.ensures.taken c.take_at.ensures.pairs_ahead
+    c.take_at.ensures.order
 
 pub returns-clause-marks : goal.returns-clause-marks
 returns-clause-marks g c =

@@ -1,5 +1,4 @@
-use Rattle.bucket_table.proofs.Words.{HasNoneFrom, IsLength, arith, bound_of, length, pairs_of, subst, sym, ℕ, ◌+◌}
-use Rattle.bucket_table.proofs.Words.{◌<◌, ◌^◌, ◌∙◌, ◌≡◌, ◌≤◌}
+use Rattle.bucket_table.proofs.Words.{HasNoneFrom, IsLength, arith, bound_of, length, pairs_of, subst, sym, ℕ, ◌+◌, ◌<◌, ◌^◌, ◌∙◌, ◌≡◌, ◌≤◌}
 use Rattle.bucket_table.proofs.Walking.Bounds.{all_hashes}
 use Rattle.bucket_table.proofs.Walking.CursorSteps.{goes_later, no_map, none_past, reaches_on}
 use Rattle.bucket_table.proofs.Walking.PassingUnits.{passes_nowhere, passes_past}

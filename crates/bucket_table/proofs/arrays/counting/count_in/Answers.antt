@@ -26,4 +26,5 @@ returns-clause-count g c =
     c.loop-index.invariant.0 ∙ ap (λ l. counted_to (entries_among l)) full
 
 pub returns-clause-within : goal.returns-clause-within
-returns-clause-within g c = held_by c.args.array.now (λ i within. c.loop-index.invariant.1 i (omega (arith, within, c.loop-index-test.false, c.len-len.ensures.value)))
+returns-clause-within g c = held_by c.args.array.now
+    (λ i within. c.loop-index.invariant.1 i (omega (arith, within, c.loop-index-test.false, c.len-len.ensures.value)))

@@ -3,11 +3,9 @@ use Rattle.bucket_table.proofs.Words.{ap, arith, empty_bucket, length, pairs_in,
 use Rattle.bucket_table.specs.Layout.Landings.{CarriesRecency}
 use Rattle.bucket_table.proofs.Moves.Carried.{carries_nothing, carries_since}
 use Rattle.bucket_table.proofs.Moves.Relocating.{AreTargets, IsPrepared, all_moved, can_move, in_targets, killed_already, refused}
-use Rattle.bucket_table.proofs.Moves.Relocating.{targets_of}
-use Rattle.bucket_table.proofs.Moves.Relocating.{unreserved}
+use Rattle.bucket_table.proofs.Moves.Relocating.{targets_of, unreserved}
 use Rattle.bucket_table.proofs.arrays.moving.relocate.Goals.{After-from_index_to_range-start, else-to-from+else-len-gt-BUCKET_LEN}
-use Rattle.bucket_table.proofs.arrays.moving.relocate.Goals.{then-to-from+in_default}
-use Rattle.bucket_table.proofs.arrays.moving.relocate.Goals.{then-to-from-via-else-to-from+then-len-gt-BUCKET_LEN}
+use Rattle.bucket_table.proofs.arrays.moving.relocate.Goals.{then-to-from+in_default, then-to-from-via-else-to-from+then-len-gt-BUCKET_LEN}
 use Rattle.bucket_table.proofs.arrays.moving.relocate.Goals.{then-to-from-via-then-to-from}
 use Rattle.bucket_table.proofs.arrays.moving.relocate.Given as given
 use Rattle.bucket_table.proofs.arrays.moving.relocate.Goals as goal

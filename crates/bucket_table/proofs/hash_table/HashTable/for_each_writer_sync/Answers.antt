@@ -1,8 +1,7 @@
 use Rattle.bucket_table.proofs.Words.{IsOneMap, refl, rules, subst, ◌∙◌}
 use Rattle.bucket_table.proofs.Views.SettingsKept.{settings_same}
 use Rattle.bucket_table.proofs.Walking.Visiting.{WalkStands, begins_seen, locked_seen, over_seen, settings_walked, shrunk_at_end}
-use Rattle.bucket_table.proofs.Walking.Visiting.{stands_first}
-use Rattle.bucket_table.proofs.Walking.Visiting.{stands_next, unshrunk, walk_ended, walk_refused, walks_alone}
+use Rattle.bucket_table.proofs.Walking.Visiting.{stands_first, stands_next, unshrunk, walk_ended, walk_refused, walks_alone}
 use Rattle.bucket_table.proofs.hash_table.HashTable.for_each_writer_sync.Goals.{else-loop-more-test, then-loop-more-test+else-index-len}
 use Rattle.bucket_table.proofs.hash_table.HashTable.for_each_writer_sync.Goals as goal
 

@@ -1,6 +1,6 @@
 use Rattle.bucket_table.proofs.Words.{ap, rules, sym, ◌∙◌}
 use Rattle.bucket_table.specs.Map.MapState.{state_of}
-use Rattle.bucket_table.proofs.Map.Inserting.{found_then, handed_back, then_inserted}
+use Rattle.bucket_table.proofs.Map.Inserting.{found_then, then_inserted, unfound}
 use Rattle.bucket_table.proofs.Map.MapKept.{hasher_kept}
 use Rattle.bucket_table.proofs.Views.Keeping.{bag_both}
 use Rattle.bucket_table.proofs.hash_table.HashTable.insert_pair.Goals as goal
@@ -12,11 +12,8 @@ insert_at-requires g c =
 
 pub returns-in_default-clause-map : goal.returns-in_default-clause-map
 returns-in_default-clause-map g c =
-    let keeps = c.in_default.ensures.refused.prepared.map in (
-      handed_back g.K.PartialEq.eq c.args.key c.args.value (state_of g.row.TYPE c.args.self.now) (state_of g.row.TYPE c.find.new.self)
-          c.not_inserted.result keeps c.not_inserted.ensures,
-      keeps,
-    )
+    unfound g.K.PartialEq.eq c.args.key c.args.value (state_of g.row.TYPE c.args.self.now) (state_of g.row.TYPE c.find.new.self)
+    c.not_inserted.result c.in_default.ensures.refused.prepared.map c.not_inserted.ensures
 
 pub returns-clause-map : goal.returns-clause-map
 returns-clause-map g c =

@@ -54,7 +54,8 @@ returns-in-Some-clause-marks g c =
     let epoch = g.G.Generation.epoch_of c.args.generation.now in
     let stands = rw (← c.self.view_is) at c.in-Some.ensures.found in
     let none = rw (← c.self.view_is) at c.fetch_spot.ensures.prepared.kept.keeps.marks in
-    by-trans epoch (marks_of c.args.self.now.arrays) (marks_of c.self.inside.arrays) (marks_of c.mark_at.new.self) (by-no_new epoch _ _ none)
+    by-trans epoch (marks_of c.args.self.now.arrays) (marks_of c.self.inside.arrays) (marks_of c.mark_at.new.self)
+    (by-no_new epoch _ _ none)
     (marks_through epoch _ o.is_old o.index _ c.mark_at.new.self (by-one epoch stands.pair
     (marks_in (bucket_on c.self.inside.arrays o.is_old o.index)) _ (marks_in-slots_marked _ o.at epoch stands.pair stands.slot))
     c.mark_at.ensures.kept.marks)

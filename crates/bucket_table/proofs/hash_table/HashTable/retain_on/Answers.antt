@@ -3,13 +3,18 @@ use Rattle.bucket_table.proofs.Walking.RetainingTable.{all_among, as_long, goes_
 use Rattle.bucket_table.proofs.hash_table.HashTable.retain_on.Goals as goal
 
 pub loop-index-init : goal.loop-index-init
-loop-index-init g c =
-    (λ always. always, refl, sets_along _ (g.G.Generation.epoch_of c.args.generation.now) c.args.keep.now c.args.self.now.arrays c.args.is_old)
+loop-index-init g c = (
+  λ always. always,
+  refl,
+  sets_along _ (g.G.Generation.epoch_of c.args.generation.now) c.args.keep.now c.args.self.now.arrays
+      c.args.is_old,
+)
 
 pub loop-index-preserved : goal.loop-index-preserved
 loop-index-preserved g c =
     let len = c.len_on.ensures.value ∙ ap (λ t. length (buckets_on t.arrays c.args.is_old)) c.self.view_is in
-    let within : c.loop-index.index < length (buckets_on c.loop-index.self.arrays c.args.is_old) = omega (arith, len, c.loop-index-test.true) in (
+    let within : c.loop-index.index < length (buckets_on c.loop-index.self.arrays c.args.is_old) =
+    omega (arith, len, c.loop-index-test.true) in (
       λ always. c.retain_at_index-gone.ensures.again,
       c.retain_at_index-gone.ensures.hasher ∙ c.loop-index.invariant.1,
       goes_along _ (g.G.Generation.epoch_of c.args.generation.now) c.args.keep.now c.loop-index.keep c.retain_at_index-gone.new.keep
@@ -21,7 +26,8 @@ loop-index-preserved g c =
 pub loop-index-smaller : goal.loop-index-smaller
 loop-index-smaller g c =
     let len = c.len_on.ensures.value ∙ ap (λ t. length (buckets_on t.arrays c.args.is_old)) c.self.view_is in
-    let within : c.loop-index.index < length (buckets_on c.loop-index.self.arrays c.args.is_old) = omega (arith, len, c.loop-index-test.true) in
+    let within : c.loop-index.index < length (buckets_on c.loop-index.self.arrays c.args.is_old) =
+    omega (arith, len, c.loop-index-test.true) in
     omega (
       arith,
       within,
@@ -32,7 +38,8 @@ loop-index-smaller g c =
 pub returns-clause-retained : goal.returns-clause-retained
 returns-clause-retained g c =
     let len = c.len_on.ensures.value ∙ ap (λ t. length (buckets_on t.arrays c.args.is_old)) c.self.view_is in
-    let past : length (buckets_on c.loop-index.self.arrays c.args.is_old) ≤ c.loop-index.index = omega (arith, len, c.loop-index-test.false) in
+    let past : length (buckets_on c.loop-index.self.arrays c.args.is_old) ≤ c.loop-index.index =
+    omega (arith, len, c.loop-index-test.false) in
     all_among _ (g.G.Generation.epoch_of c.args.generation.now) c.args.keep.now c.loop-index.keep
     (buckets_on c.args.self.now.arrays c.args.is_old) (buckets_on c.loop-index.self.arrays c.args.is_old) c.loop-index.index
     c.loop-index.count c.loop-index.invariant.2.among past

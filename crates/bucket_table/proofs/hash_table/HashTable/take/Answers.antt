@@ -16,7 +16,8 @@ invariant_of-self g c =
     let o = c.in-Some.spot in
     let stands = rw (← c.self.view_is) at c.in-Some.ensures.found in
     let e = c.take_at.ensures in
-    (takes g.met.K.Eq.laws g.H.KeyHash.hash_of g.row.TYPE o.is_old o.index c.self.invariant stands.within o.at c.take_at.result e.pair _ e.kept
+    (takes g.met.K.Eq.laws g.H.KeyHash.hash_of g.row.TYPE o.is_old o.index c.self.invariant stands.within o.at c.take_at.result e.pair _
+    e.kept
     e.placed).one_map
 
 pub returns-in-Some-clause-map : goal.returns-in-Some-clause-map
