@@ -4,10 +4,12 @@ use Rattle.bucket_table.proofs.Words.{subst, sym, ℕ, ◌*◌, ◌+◌, ◌-◌
 use Rattle.std.proofs.lemmas.Nat.{pow-add}
 use Rattle.std.specs.Int.{IsPowerOfTwo}
 use Rattle.bucket_slots.specs.Sampling.{full_sample}
+use Rattle.std.specs.List.{All}
 use Rattle.bucket_slots.specs.Sizing.{IsPowerIn}
-use Rattle.bucket_table.specs.Resize.ResizePlan.{IsPlanTo, middle_estimate}
+use Rattle.bucket_table.specs.Resize.ResizePlan.{IsPlan, IsPlanTo, last_estimate, middle_estimate}
 use Rattle.bucket_table.specs.Resize.Sampling.{estimate}
-use Rattle.bucket_table.specs.declared.arrays.plan.Plan.TheVariants.{Keep, Resize}
+use Rattle.bucket_table.specs.declared.arrays.plan.Plan.{Plan}
+use Rattle.bucket_table.specs.declared.arrays.plan.Plan.TheVariants.{GiveUp, Keep, Resize}
 use Rattle.bucket_table.proofs.Resize.Samples.{length-live_counts}
 
 -- an array's slots are a power of two
@@ -37,18 +39,36 @@ optimal_at slots s entries e minimum maximum capacity slots_is entries_is is =
     subst (λ (n : ℕ). IsOptimalCapacity n e minimum maximum capacity) slots_is
     (subst (λ (n : ℕ). IsOptimalCapacity slots n minimum maximum capacity) entries_is is)
 
+-- the capacity stays, or grows
+pub same_capacity : (slots capacity : ℕ) (P : ℕ → Type 0) → capacity ≡ slots → IsPlanTo slots capacity P Keep
+same_capacity slots capacity P is = record { unchanged = λ e. refl; greater = λ h. absurd (omega arith); less = λ h. absurd (omega arith) }
+
+pub grown : (slots capacity : ℕ) (P : ℕ → Type 0) → slots < capacity → IsPlanTo slots capacity P (Resize capacity)
+grown slots capacity P more = record { unchanged = λ e. absurd (omega arith); greater = λ h. refl; less = λ h. absurd (omega arith) }
+
 -- a shrinking is given up, or done
 pub given_up : (slots capacity asked : ℕ) (P : ℕ → Type 0) → capacity < asked → capacity < slots → P asked → IsPlanTo slots capacity P Keep
-given_up slots capacity asked P below less is = record {
-  unchanged = λ e. refl;
-  greater = λ more. absurd (omega arith);
-  less = λ h. (asked, is, λ b. refl, λ le. absurd (omega arith));
-}
+given_up slots capacity asked P below less is =
+    record { unchanged = λ e. refl; greater = λ more. absurd (omega arith); less = λ h. (asked, is, λ b. refl, λ le. absurd (omega arith)) }
 
 pub shrunk : (slots capacity asked : ℕ) (P : ℕ → Type 0) → asked ≤ capacity → capacity < slots
     → P asked → IsPlanTo slots capacity P (Resize capacity)
-shrunk slots capacity asked P le less is = record {
-  unchanged = λ e. absurd (omega arith);
-  greater = λ more. refl;
-  less = λ h. (asked, is, λ below. absurd (omega arith), λ b. refl);
-}
+shrunk slots capacity asked P le less is =
+    record { unchanged = λ e. absurd (omega arith); greater = λ more. refl; less = λ h. (asked, is, λ b. absurd (omega arith), λ b. refl) }
+
+-- the plan at a last estimate of 0, where a table may be without an array
+module _ {K V : Type 0} (buckets : List (BucketView K V)) (len large last minimum maximum : ℕ) (len_is : len ≡ length buckets)
+    (sampled : IsLargeSample (length buckets) large) (last_is : last ≡ estimate (live_counts buckets) (len - large) large) where
+  last_at : last ≡ last_estimate (live_counts buckets) large
+  last_at = last_is ∙ ap (λ (n : ℕ). estimate (live_counts buckets) (n - large) large) (len_is ∙ sym (length-live_counts buckets))
+
+  pub plan_at_zero : (plan : Plan) → last ≡ 0 → minimum ≡ 0 → (All (λ count. count ≡ 0) (live_counts buckets) → plan ≡ GiveUp)
+      → ((All (λ count. count ≡ 0) (live_counts buckets) → ⊥) → plan ≡ Keep) → IsPlan (live_counts buckets) minimum maximum plan
+  plan_at_zero plan none zero emptied kept = record {
+    large = large;
+    large_is = large_is buckets large sampled;
+    emptied = λ n z. emptied;
+    not_emptied = λ n z. kept;
+    settled = λ more full empty. absurd (more (sym last_at ∙ none) zero);
+    unsettled = λ more far. absurd (more (sym last_at ∙ none) zero);
+  }

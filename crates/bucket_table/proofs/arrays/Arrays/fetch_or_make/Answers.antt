@@ -1,3 +1,4 @@
+use Rattle.bucket_table.proofs.Words.{arith}
 use Rattle.bucket_table.proofs.Resize.Growing.{kept_made, placed_made}
 use Rattle.bucket_table.proofs.arrays.Arrays.fetch_or_make.Goals as goal
 
@@ -9,3 +10,9 @@ returns-clause-placed g c = placed_made _ _ _ c.in-Ok.ensures.made c.requires.pl
 
 pub returns-in_default-clause-placed : goal.returns-in_default-clause-placed
 returns-in_default-clause-placed g c = rw c.in_default.ensures.unchanged.1 c.requires.placed
+
+pub returns-then-has_old-clause-made : goal.returns-then-has_old-clause-made
+returns-then-has_old-clause-made g c = λ none. absurd (omega (arith, c.has_old.ensures.0 c.if-has_old.true))
+
+pub returns-then-has_old-clause-refused : goal.returns-then-has_old-clause-refused
+returns-then-has_old-clause-refused g c = λ none. absurd (omega (arith, c.has_old.ensures.0 c.if-has_old.true))

@@ -1,4 +1,5 @@
-use Rattle.bucket_table.proofs.Words.{arith}
+use Rattle.bucket_table.proofs.Words.{arith, false≢true, refl, sym, ◌∙◌}
+use Rattle.bucket_table.proofs.Resize.PlanBounds.{plan_at_zero}
 use Rattle.bucket_slots.proofs.ArrayCallerLemmas.{large_within}
 use Rattle.bucket_table.proofs.arrays.plan.plan_of.Goals as goal
 
@@ -11,3 +12,13 @@ pub sample-last-requires : goal.sample-last-requires
 sample-last-requires g c =
     let large = large_within _ _ c.large_sample_size-large.ensures in
     (omega arith, (large.0, omega (arith, large.1, c.len.ensures.value)))
+
+pub returns-then-is_empty-clause-plan : goal.returns-then-is_empty-clause-plan
+returns-then-is_empty-clause-plan g c =
+    plan_at_zero c.args.array.now c.len.result _ _ _ _ c.len.ensures.value c.large_sample_size-large.ensures c.sample-last.ensures _
+    c.if-last-eq0.true c.if-minimum-eq0.true (λ all. refl) (λ no. absurd (no (c.is_empty.ensures.0 c.if-is_empty.true)))
+
+pub returns-then-minimum-eq0-clause-plan : goal.returns-then-minimum-eq0-clause-plan
+returns-then-minimum-eq0-clause-plan g c =
+    plan_at_zero c.args.array.now c.len.result _ _ _ _ c.len.ensures.value c.large_sample_size-large.ensures c.sample-last.ensures _
+    c.if-last-eq0.true c.if-minimum-eq0.true (λ all. absurd (false≢true (sym c.if-is_empty.false ∙ c.is_empty.ensures.1 all))) (λ no. refl)
