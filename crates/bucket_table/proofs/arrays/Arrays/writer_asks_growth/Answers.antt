@@ -45,5 +45,5 @@ pub returns-then-num_slots-self : goal.returns-then-num_slots-self
 returns-then-num_slots-self g c =
     let current = ap (λ o. list_of o) (sym c.in-Some.is) ∙ ap (λ a. a.current) c.self.view_is in
     let most = ap (λ b. 32 * length b) (sym current) ∙ sym c.num_slots.ensures ∙ c.if-num_slots-self.true
-        ∙ ap (λ a. a.maximum) c.self.view_is in
+    ∙ ap (λ a. a.maximum) c.self.view_is in
     (λ h. absurd (false≢true h), λ asks. absurd (asks.may_grow c.if-this-eq-CACHE.true most))
