@@ -70,8 +70,13 @@ module _ {K V : Type 0} where
   pub held_by_both : (bs cs : List (BucketView K V)) → IsHeldBy (entries_among bs) bs → IsHeldBy (entries_among cs) cs
       → IsHeldBy (entries_among bs ++ entries_among cs) (bs ++ cs)
   held_by_both bs cs first second =
-      rw (length-append (entries_among bs) (entries_among cs), length-append bs cs, flat_map-append (λ (b : BucketView K V). live_pairs
-      (flattened b.chain)) bs cs, length-append (chained_among bs) (chained_among cs)) (omega (arith, first, second))
+      rw (
+        length-append (entries_among bs) (entries_among cs),
+        length-append bs cs,
+        flat_map-append (λ (b : BucketView K V). live_pairs
+            (flattened b.chain)) bs cs,
+        length-append (chained_among bs) (chained_among cs),
+      ) (omega (arith, first, second))
 
   zero_counts : (bs : List (BucketView K V)) → length (entries_among bs) ≡ 0 → All (λ count. count ≡ 0) (live_counts bs)
   zero_counts bs none i d below = each bs none i d below
