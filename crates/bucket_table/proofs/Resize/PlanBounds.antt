@@ -1,11 +1,11 @@
 -- What the code of a plan computes, in the words of the plan.
 use Rattle.bucket_table.proofs.Words.{BucketView, IsLargeSample, IsOptimalCapacity, List, ap, arith, length, live_counts, refl, slots_of}
-use Rattle.bucket_table.proofs.Words.{subst, sym, ℕ, ◌*◌, ◌+◌, ◌-◌, ◌/◌, ◌<◌, ◌∙◌, ◌≡◌, ◌≤◌}
+use Rattle.bucket_table.proofs.Words.{subst, sym, ℕ, ⊎_elim, ◌*◌, ◌+◌, ◌-◌, ◌/◌, ◌<◌, ◌∙◌, ◌≡◌, ◌≤◌}
 use Rattle.std.proofs.lemmas.Nat.{pow-add}
 use Rattle.std.specs.Int.{IsPowerOfTwo}
 use Rattle.bucket_slots.specs.Sampling.{full_sample}
 use Rattle.std.specs.List.{All}
-use Rattle.bucket_slots.specs.Sizing.{IsPowerIn}
+use Rattle.bucket_slots.specs.Sizing.{IsPowerIn, IsTooEmpty, IsTooFull}
 use Rattle.bucket_table.specs.Resize.ResizePlan.{IsPlan, IsPlanTo, last_estimate, middle_estimate}
 use Rattle.bucket_table.specs.Resize.Sampling.{estimate}
 use Rattle.bucket_table.specs.declared.arrays.plan.Plan.{Plan}
@@ -56,7 +56,7 @@ pub shrunk : (slots capacity asked : ℕ) (P : ℕ → Type 0) → asked ≤ cap
 shrunk slots capacity asked P le less is =
     record { unchanged = λ e. absurd (omega arith); greater = λ more. refl; less = λ h. (asked, is, λ b. absurd (omega arith), λ b. refl) }
 
--- the plan at a last estimate of 0, where a table may be without an array
+-- the plan by the last estimate: at an estimate of 0 a table that may be without an array, and one neither too full nor too empty
 module _ {K V : Type 0} (buckets : List (BucketView K V)) (len large last minimum maximum : ℕ) (len_is : len ≡ length buckets)
     (sampled : IsLargeSample (length buckets) large) (last_is : last ≡ estimate (live_counts buckets) (len - large) large) where
   last_at : last ≡ last_estimate (live_counts buckets) large
@@ -71,4 +71,16 @@ module _ {K V : Type 0} (buckets : List (BucketView K V)) (len large last minimu
     not_emptied = λ n z. kept;
     settled = λ more full empty. absurd (more (sym last_at ∙ none) zero);
     unsettled = λ more far. absurd (more (sym last_at ∙ none) zero);
+  }
+
+  pub plan_settled : (slots : ℕ) → slots ≡ 32 * length buckets → (last ≡ 0 → minimum ≡ 0 → ⊥) → (IsTooFull slots last → ⊥)
+      → (IsTooEmpty slots last → ⊥) → IsPlan (live_counts buckets) minimum maximum Keep
+  plan_settled slots slots_is more full empty = record {
+    large = large;
+    large_is = large_is buckets large sampled;
+    emptied = λ n z. absurd (more (last_at ∙ n) z);
+    not_emptied = λ n z. absurd (more (last_at ∙ n) z);
+    settled = λ m f e. refl;
+    unsettled = λ m far. absurd (⊎_elim (λ f. full (rw (slots_are buckets slots slots_is, last_at) f))
+        (λ e. empty (rw (slots_are buckets slots slots_is, last_at) e)) far);
   }

@@ -1,4 +1,4 @@
-use Rattle.bucket_table.proofs.Words.{ap, arith, entries_of}
+use Rattle.bucket_table.proofs.Words.{ap, arith}
 use Rattle.std.proofs.Common.{Ok, true}
 use Rattle.bucket_table.proofs.Rehash.Ending.{ended_entries, ended_gone}
 use Rattle.bucket_table.proofs.arrays.Arrays.end_incremental_rehash.Goals as goal
@@ -21,9 +21,3 @@ invariant_of-self g c = record {
   beside = λ some. absurd (omega arith);
   tickets_len = ap (λ t. t.len) c.none.ensures;
 }
-
-pub returns-in-Ok-false-clause-same_pairs : goal.returns-in-Ok-false-clause-same_pairs
-returns-in-Ok-false-clause-same_pairs g c = ap (λ a. entries_of a) c.self.view_is
-
-pub returns-in-Err-clause-same_pairs : goal.returns-in-Err-clause-same_pairs
-returns-in-Err-clause-same_pairs g c = ap (λ a. entries_of a) c.self.view_is

@@ -1,4 +1,4 @@
-use Rattle.bucket_table.proofs.Words.{CACHE, ap, arith, false≢true, length, sym, ◌*◌, ◌∙◌, ◌≡◌}
+use Rattle.bucket_table.proofs.Words.{CACHE, ap, false≢true, length, sym, ◌*◌, ◌∙◌, ◌≡◌}
 use Rattle.bucket_table.specs.Views.ArraysView.{list_of}
 use Rattle.bucket_table.proofs.Resize.Growing.{asks_by, not_full, not_sampled}
 use Rattle.bucket_table.proofs.arrays.Arrays.writer_asks_growth.Goals.{else-this-eq-CACHE-via-else-this-eq-CACHE}
@@ -37,13 +37,3 @@ returns g c =
     asks_by g.row.TYPE c.args.hash c.args.self.now c.args.index c.in-Some.array current c.bucket.result.now c.len.result
     c.initiate_sampling.result c.asks_growth.result c.bucket.ensures c.len.ensures c.if-len.false
     c.initiate_sampling.ensures c.if-not-initiate_sampling.false c.asks_growth.ensures may
-
-pub returns-in_default : goal.returns-in_default
-returns-in_default g c = absurd (omega (arith, rw (← c.self.view_is, c.in_default.is) at c.requires.within))
-
-pub returns-then-num_slots-self : goal.returns-then-num_slots-self
-returns-then-num_slots-self g c =
-    let current = ap (λ o. list_of o) (sym c.in-Some.is) ∙ ap (λ a. a.current) c.self.view_is in
-    let most = ap (λ b. 32 * length b) (sym current) ∙ sym c.num_slots.ensures ∙ c.if-num_slots-self.true
-        ∙ ap (λ a. a.maximum) c.self.view_is in
-    (λ h. absurd (false≢true h), λ asks. absurd (asks.may_grow c.if-this-eq-CACHE.true most))

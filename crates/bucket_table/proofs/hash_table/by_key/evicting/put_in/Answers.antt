@@ -1,4 +1,4 @@
-use Rattle.bucket_table.proofs.Words.{refl, rules, true, ◌%◌}
+use Rattle.bucket_table.proofs.Words.{rules, true, ◌%◌}
 use Rattle.bucket_slots.proofs.RoomCallerLemmas.{refused_full}
 use Rattle.bucket_table.proofs.Map.LookUps.{null_is}
 use Rattle.bucket_table.proofs.Map.PutSlots.{goes, never_full, put_is}
@@ -23,7 +23,3 @@ returns g c =
           c.requires.cache is g.L.LruList.KEEPS (c.args.key, c.args.value) (c.args.hash % 256) c.in-Ok.at c.insert.new.self _
           c.in-Ok.ensures.place c.in-Ok.ensures.slots (search rules),
     )
-
-pub returns-then-is_valid : goal.returns-then-is_valid
-returns-then-is_valid g c =
-    (refl, refl, (c.get_entry_ptr.result, c.get_entry_ptr.ensures.found (c.is_valid.ensures.0 c.if-is_valid.true)), refl)
