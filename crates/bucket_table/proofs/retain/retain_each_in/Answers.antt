@@ -4,7 +4,11 @@ use Rattle.bucket_table.proofs.Walking.RetainingEach.{all_asked, asks, begins, f
 use Rattle.bucket_table.proofs.retain.retain_each_in.Goals as goal
 
 pub own-init : goal.own-init
-own-init g c = (λ always. always, begins _ (g.G.Generation.epoch_of c.args.generation.now) c.args.keep.now c.args.bucket.now c.null-at.result c.null-at.ensures)
+own-init g c = (
+  λ always. always,
+  begins _ (g.G.Generation.epoch_of c.args.generation.now) c.args.keep.now c.args.bucket.now
+      c.null-at.result c.null-at.ensures,
+)
 
 pub retain_slot-requires : goal.retain_slot-requires
 retain_slot-requires g c =

@@ -1,4 +1,4 @@
-use Rattle.bucket_table.proofs.Words.{ap, arith, bucket_at, cases_eq, counted_to, entries_among, inl, inr, length, ℕ, ◌<◌, ◌≡◌, ◌∙◌}
+use Rattle.bucket_table.proofs.Words.{ap, arith, bucket_at, cases_eq, counted_to, entries_among, inl, inr, length, ℕ, ◌<◌, ◌∙◌}
 use Rattle.std.proofs.lemmas.List.{take_all}
 use Rattle.bucket_table.proofs.Map.CountSteps.{entries_among_more, held_by}
 use Rattle.bucket_table.proofs.arrays.counting.count_in.Goals as goal

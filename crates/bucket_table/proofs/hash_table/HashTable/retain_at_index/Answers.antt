@@ -7,7 +7,8 @@ pub invariant_of-self : goal.invariant_of-self
 invariant_of-self g c =
     let within = rw (← c.self.view_is) at c.requires.within in
     let live = c.len.ensures ∙ ap (λ b. length (pairs_in b)) c.bucket_of.ensures in
-    one_map_losing g.K.PartialEq.eq g.met.K.Eq.laws (g.H.KeyHash.hash_of c.self.inside.hasher) c.self.inside.arrays c.args.is_old c.args.index
+    one_map_losing g.K.PartialEq.eq g.met.K.Eq.laws (g.H.KeyHash.hash_of c.self.inside.hasher) c.self.inside.arrays c.args.is_old
+    c.args.index
     c.retain_each_in.new.bucket c.self.invariant within (λ none. c.if-len-eq0.false (live ∙ ap length none))
     (rw c.bucket_of_mut.ensures.bucket at c.retain_each_in.ensures.retained.keys)
 
