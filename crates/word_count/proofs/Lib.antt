@@ -1,1 +1,3 @@
 pub mod LineSteps
+pub mod Reporting
+pub mod RowsTaken

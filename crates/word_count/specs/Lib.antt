@@ -1,2 +1,4 @@
 -- What the program answers.
 pub mod Lines
+pub mod Reports
+pub mod Rows

@@ -1,7 +1,11 @@
 //! The lines with their counts, in the order in which they are printed.
+ghost use Rattle.std.specs.Prelude.{[], ◌∷◌, IfOk, map};
+ghost use Rattle.word_count.specs.Reports.{IsReport};
+ghost use Rattle.word_count.specs.Rows.{bytes_of, HasTaken, row_of, row_of_pair};
+
 use crate::failure::Failure;
 use crate::line::Line;
-use bucket_table::key_hash::StdHash;
+use bucket_table::key_hash::{KeyHash, StdHash};
 use callers::count_keys;
 use collections::hash_map::HashMap;
 use std::alloc::{AllocError, Global};
@@ -24,22 +28,52 @@ pub(crate) struct Counted<'a> {
 pub(crate) fn report_of<'a>(
     alloc: Global,
     lines: &[Line<'a>],
-) -> Result<Vec<Counted<'a>>, AllocError> {
+) -> Result<Vec<Counted<'a>>, AllocError>
+    ensures { IfOk result (λ report. IsReport (map bytes_of lines.now) (map row_of report.items)) }
+{
     // Its seed is fixed: lines that are made to collide are counted rightly, and slowly.
     let hasher = StdHash::new(BuildHasherDefault::<FoldHasher>::new());
     let mut counts = HashMap::with_hasher(alloc, hasher);
     count_keys(&mut counts, lines)?;
-    let mut report = Vec::with_capacity(alloc, counts.len())?;
-    let mut is_refused = false;
-    counts.for_each(&mut |line: &Line, count: &u64| {
-        let count = Reverse(*count);
-        is_refused |= report.push(Counted { count, line: *line }).is_err();
-    });
-    if is_refused {
+    let mut rows = Rows {
+        taken: Vec::with_capacity(alloc, counts.len())?,
+        is_refused: false,
+    };
+    rows.take_all(&counts);
+    if rows.is_refused {
         return Err(AllocError);
     }
+    let mut report = rows.taken;
     report.sort_unstable();
     Ok(report)
+}
+
+/// The rows so far, and whether memory was refused for one.
+#[derive(Drop)]
+struct Rows<'a> {
+    taken: Vec<Counted<'a>>,
+    is_refused: bool,
+}
+
+impl<'a> Rows<'a> {
+    fn take_all<H: KeyHash<Line<'a>>>(&mut self, counts: &HashMap<Line<'a>, u64, H>)
+        ensures { HasTaken self.old (map row_of_pair counts.now.entries) self.new }
+    {
+        counts.for_each(
+            &mut |line, count|
+                ensures { HasTaken self.entry.now (row_of_pair (line.now, count.now) ∷ []) self.exit.now }
+            {
+                self.take(*line, *count);
+            },
+        );
+    }
+
+    fn take(&mut self, line: Line<'a>, count: u64)
+        ensures { HasTaken self.old (row_of_pair (line.entry, count) ∷ []) self.new }
+    {
+        let count = Reverse(count);
+        self.is_refused |= self.taken.push(Counted { count, line }).is_err();
+    }
 }
 
 /// Prints a report.
