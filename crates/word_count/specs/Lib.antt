@@ -2,3 +2,4 @@
 pub mod Lines
 pub mod Reports
 pub mod Rows
+pub mod Waiting
