@@ -15,13 +15,15 @@ append_known-nil (Some bytes) = ap Some (append-nil bytes)
 text_of-more : {X : Type 0} (row : X → Row) (items : List X) (place : ℕ) (d : X) → place < length items
     → text_of (map row (take (place + 1) items)) ≡ text_of (map row (take place items)) ++ text_of_row (row (get_or items place d))
 text_of-more row items place d below =
-    ap (λ l. text_of (map row l)) (take_more items place d below) ∙ ap text_of (map-append row (take place items) (get_or items place d ∷ []))
+    ap (λ l. text_of (map row l)) (take_more items place d below)
+    ∙ ap text_of (map-append row (take place items) (get_or items place d ∷ []))
     ∙ flat_map-append text_of_row (map row (take place items)) (row (get_or items place d) ∷ [])
     ∙ ap (λ text. text_of (map row (take place items)) ++ text) (append-nil (text_of_row (row (get_or items place d))))
 
 pub rows_put : {X : Type 0} (row : X → Row) (items : List X) (place : ℕ) (d : X) (start old new : Option (List ℕ)) (waited waits : List ℕ)
     → place < length items → HasPut start [] old waited (text_of (map row (take place items)))
-    → HasPut old waited new waits (text_of_row (row (get_or items place d))) → HasPut start [] new waits (text_of (map row (take (place + 1) items)))
+    → HasPut old waited new waits (text_of_row (row (get_or items place d)))
+    → HasPut start [] new waits (text_of (map row (take (place + 1) items)))
 rows_put row items place d start old new waited waits below so_far put =
     subst (λ text. HasPut start [] new waits text) (sym (text_of-more row items place d below))
     (Appends-trans (append_known start []) (append_known old waited) (append_known new waits) (text_of (map row (take place items)))

@@ -48,7 +48,8 @@ in_front row other sorted apart = row_cmp_total.antisymm row other ∙ from (row
 
 -- sorted rows of lines that are apart stand strictly in order
 strictly_sorted : (rows : List Row) → IsSorted row_cmp rows → IsDistinct same_line rows → IsStrictlySortedBy row_cmp rows
-strictly_sorted [] sorted apart = sorted_from_all_adjacent row_cmp_total [] (record { count = 0; line = [] }) (λ k below. absurd (omega arith))
+strictly_sorted [] sorted apart =
+    sorted_from_all_adjacent row_cmp_total [] (record { count = 0; line = [] }) (λ k below. absurd (omega arith))
 strictly_sorted (row ∷ rows) sorted apart =
     sorted_from_all_adjacent row_cmp_total (row ∷ rows) row
     (λ k below. in_front (get_or (row ∷ rows) k row) (get_or (row ∷ rows) (k + 1) row) (sorted k row (omega arith) below)
