@@ -1,1 +1,4 @@
 pub mod LineSteps
+pub mod Printing
+pub mod Reporting
+pub mod RowsTaken

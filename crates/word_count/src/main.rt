@@ -4,9 +4,14 @@
 //! SPDX-License-Identifier: Apache-2.0
 #![tactic(auto)]
 
+ghost use Rattle.std.specs.Prelude.{◌≡◌, ℕ, List, IfSome, OnOk};
+ghost use Rattle.word_count.specs.Lines.{lines_of};
+ghost use Rattle.word_count.specs.Reports.{HasReport};
+
 mod failure;
 mod line;
 mod report;
+mod waiting;
 
 use crate::failure::Failure;
 use crate::line::lines_of;
@@ -21,13 +26,16 @@ use std::process::ExitCode;
 ///
 /// # Errors
 ///
-/// `InputFailed` and `NoMemory`: nothing is printed. `OutputFailed`: the output may have a beginning
-/// of the lines.
+/// `InputFailed` and `NoMemory`: nothing is printed. `OutputFailed`: the output may have a
+/// beginning of the report.
 pub fn print_counts<R: Read + Drop, W: Write>(
     alloc: Global,
     mut input: R,
     output: &mut W,
-) -> Result<(), Failure> {
+) -> Result<(), Failure>
+    ensures { OnOk result ((bytes : List ℕ) × IfSome (R.remaining input) (λ all. all ≡ bytes)
+        × HasReport (lines_of bytes) (W.contents output.old) (W.contents output.new)) }
+{
     let mut text = Vec::new(alloc);
     input.read_to_end(&mut text).map_err(Failure::of_reading)?;
     let lines = lines_of(alloc, text.as_slice())?;
