@@ -1,5 +1,6 @@
 -- What the first line of a text is, and what stands behind it.
-use Rattle.std.proofs.Common.{ℕ, suc, ◌≡◌, ◌+◌, ◌<◌, ◌==◌, inl, inr, Bool, false, List, [], ◌∷◌, ◌++◌, length, take, drop, map, append_assoc, refl, sym, ap, ◌∙◌, nat_lt, not, unwrap_or, arith}
+use Rattle.std.proofs.Common.{ℕ, suc, ◌≡◌, ◌+◌, ◌<◌, ◌==◌, inl, inr, Bool, false, List, [], ◌∷◌, ◌++◌, length, take, drop, map}
+use Rattle.std.proofs.Common.{append_assoc, refl, sym, ap, ◌∙◌, nat_lt, not, unwrap_or, arith}
 use Rattle.std.specs.List.{onto_first, position, position_or_len}
 use Rattle.std.proofs.lemmas.Bool.{cases_Bool, eqb-false, ltb-false}
 use Rattle.std.proofs.lemmas.List.{map-append}

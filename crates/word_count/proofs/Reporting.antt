@@ -1,5 +1,6 @@
 -- Rows that are sorted, and are those of the lines that a map counts, are the report of the lines.
-use Rattle.std.proofs.Common.{ℕ, ◌≡◌, ◌+◌, ◌<◌, ◌∙◌, Bool, true, false, cond, List, [], ◌∷◌, length, map, get_or, Some, option_map, arith, refl, sym, ap, subst, nat_eq}
+use Rattle.std.proofs.Common.{ℕ, ◌≡◌, ◌+◌, ◌<◌, ◌∙◌, Bool, true, false, cond, List, [], ◌∷◌, length, map, get_or, Some, option_map, arith}
+use Rattle.std.proofs.Common.{refl, sym, ap, subst, nat_eq}
 use Rattle.std.specs.Cmp.{IsEquivalence, IsTotalOrder, unsigned_ties}
 use Rattle.std.specs.Cmp.Lexicographic.{bytes_decides, lists_ties, pointwise, slice_cmp}
 use Rattle.std.specs.List.{AllByRecursion, Contains, IsDistinct, count_by, slice_get}
