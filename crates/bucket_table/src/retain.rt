@@ -12,6 +12,7 @@ use bucket_slots::bucket::{Bucket, EntryPtr, Generation, INDEX};
 use bucket_slots::lru::LruList;
 
 /// Takes out each pair that the test refuses, or marks it in an index. Returns how many.
+#[tactic(auto, using(crate::proofs::Walking::Retaining::next_live))]
 pub(crate) fn retain_in<
     K: Drop,
     V: Drop,
@@ -59,6 +60,7 @@ fn retain_at<K: Drop, V: Drop, L: LruList, F: Fn(&K, &V) -> bool, G: Generation,
 
 /// Lends `keep` the value of each live pair, in slot order, and takes out each pair that it refuses,
 /// or marks it in an index. Returns how many.
+#[tactic(auto, using(crate::proofs::Walking::Retaining::next_live))]
 pub(crate) fn retain_each_in<
     K: Drop,
     V: Drop,

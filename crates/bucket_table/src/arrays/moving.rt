@@ -192,6 +192,7 @@ fn carry_pairs<K: Eq + Drop, V: Drop, H: KeyHash<K>, L: LruList, const TYPE: u8>
 /// Moves each pair of a bucket to its home in an array that has room for it, one of the buckets
 /// from `start` up to below `end`. Says in `landings` of as many own slots of the bucket as there
 /// is room for where their pairs landed, and nothing of a pair that landed in a chain.
+#[tactic(auto, using(crate::proofs::Walking::Retaining::next_live))]
 fn move_pairs<K: Eq + Drop, V: Drop, H: KeyHash<K>, L: LruList, const TYPE: u8>(
     hasher: &H,
     current: &mut BucketArray<K, V, L, TYPE>,

@@ -1,7 +1,7 @@
 //! Pairs touched, marked and taken out where they stand, in a bucket of either side: what calls by
 //! key and locked buckets do.
 ghost use Rattle.std.specs.Prelude.{◌≡◌, ◌≢◌, ◌<◌, ℕ, Some, IsTrue, length};
-ghost use Rattle.bucket_slots.specs.BucketView.{pairs_in, slot_in};
+ghost use Rattle.bucket_slots.specs.BucketView.{bucket_with_value, pairs_in, slot_in};
 ghost use Rattle.bucket_slots.specs.Evicting.{slots_touched};
 ghost use Rattle.bucket_slots.specs.Marking.{slots_marked};
 ghost use Rattle.bucket_slots.specs.Removing.{place_after, slots_without};
@@ -15,8 +15,20 @@ ghost use Rattle.bucket_table.specs.Views.Keeping.{Keeps};
 use super::Arrays;
 use bucket_slots::bucket::{CACHE, EntryPtr, Generation, INDEX};
 use bucket_slots::lru::LruList;
+use std::mem;
 
 impl<K, V, L: LruList, const TYPE: u8> Arrays<K, V, L, TYPE> {
+    /// Returns the pair in a live slot.
+    pub(crate) fn entry_of(&self, is_old: bool, index: usize, at: &EntryPtr<K, V, TYPE>) -> (&K, &V)
+        requires within { index < length (buckets_on self.now is_old) }
+        requires live_slot { IsTrue (is_live (slot_in (bucket_on self.now is_old index) at.now)) }
+        ensures { live_pair (slot_in (bucket_on self.now is_old index) at.now)
+            ≡ Some (result.0.now, result.1.now) }
+    {
+        self.room_of(is_old);
+        self.bucket_of(is_old, index).entry(at)
+    }
+
     /// Makes the pair in a live slot the one of its bucket touched last.
     pub(crate) fn touch_slot(&mut self, is_old: bool, index: usize, at: &EntryPtr<K, V, TYPE>)
         requires cache { TYPE ≡ CACHE }
@@ -27,6 +39,26 @@ impl<K, V, L: LruList, const TYPE: u8> Arrays<K, V, L, TYPE> {
     {
         self.room_of(is_old);
         self.bucket_of_mut(is_old, index).update_lru_tail(at);
+    }
+
+    /// Writes a value into a live slot, and returns the earlier one.
+    pub(crate) fn swap_slot(
+        &mut self,
+        is_old: bool,
+        index: usize,
+        at: &EntryPtr<K, V, TYPE>,
+        value: V,
+    ) -> V
+        requires within { index < length (buckets_on self.old is_old) }
+        requires live_slot { IsTrue (is_live (slot_in (bucket_on self.old is_old index) at.now)) }
+        ensures pair { (found : K)
+            × (live_pair (slot_in (bucket_on self.old is_old index) at.now) ≡ Some (found, result)) }
+        ensures arrays { self.new ≡ arrays_with self.old is_old index
+            (bucket_with_value (bucket_on self.old is_old index) at.now value) }
+    {
+        self.room_of(is_old);
+        let bucket = self.bucket_of_mut(is_old, index);
+        mem::replace(bucket.entry_mut(at).1, value)
     }
 
     /// Marks the pair in a live slot. Returns how many live pairs are left in the bucket.

@@ -31,7 +31,6 @@ use crate::key_hash::KeyHash;
 use bucket_slots::bucket::{Bucket, CACHE, Generation, INDEX};
 use bucket_slots::lru::LruList;
 pub use evicting::puts_keep_chains;
-use std::mem;
 
 impl<K: Eq + Drop, V: Drop, H: KeyHash<K>, L: LruList + Drop, const TYPE: u8> HashTable<
     K,
@@ -231,11 +230,8 @@ impl<K: Eq + Drop, V: Drop, H: KeyHash<K>, L: LruList + Drop, const TYPE: u8> Ha
             (bucket_with_value (bucket_of self.old spot.now.is_old spot.now.index) spot.now.at
             value) }
     {
-        let is_old = spot.is_old;
-        let index = spot.index;
-        self.arrays.room_of(is_old);
-        let bucket = self.arrays.bucket_of_mut(is_old, index);
-        mem::replace(bucket.entry_mut(&spot.at).1, value)
+        self.arrays
+            .swap_slot(spot.is_old, spot.index, &spot.at, value)
     }
 }
 
@@ -275,10 +271,7 @@ impl<K: Eq, V, H: KeyHash<K>, L: LruList, const TYPE: u8> HashTable<K, V, H, L, 
             × (live_pair (slot_in (bucket_of self.now spot.now.is_old spot.now.index) spot.now.at)
             ≡ Some (own.now, value.now)) × F.post reader own value result }
     {
-        self.arrays.room_of(spot.is_old);
-        let bucket = self.arrays.bucket_of(spot.is_old, spot.index);
-        let key = spot.at.key(bucket);
-        let value = spot.at.val(bucket);
+        let (key, value) = self.arrays.entry_of(spot.is_old, spot.index, &spot.at);
         reader(key, value)
     }
 }

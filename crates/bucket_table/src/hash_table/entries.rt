@@ -26,8 +26,7 @@ impl<K: Eq, V, H: KeyHash<K>, L: LruList, const TYPE: u8> HashTable<K, V, H, L, 
         ensures { live_pair (slot_in (bucket_of self.now is_old index) at.now)
             ≡ Some (result.0.now, result.1.now) }
     {
-        self.arrays.room_of(is_old);
-        self.arrays.bucket_of(is_old, index).entry(at)
+        self.arrays.entry_of(is_old, index, at)
     }
 
     /// Lends that pair, its value for writing: what is written stands in the table.

@@ -108,9 +108,7 @@ impl<'a, K: Eq, V, H: KeyHash<K>, L: LruList, const TYPE: u8> LockedBucket<'a, K
             ≡ Some (result.0.now, result.1.now) }
     {
         let table = &*self.table;
-        table.arrays.room_of(self.is_old);
-        let bucket = table.arrays.bucket_of(self.is_old, self.index);
-        (at.key(bucket), at.val(bucket))
+        table.arrays.entry_of(self.is_old, self.index, at)
     }
 
     /// Lends the pair in a live slot, its value for writing: what is written stands in the table.

@@ -1,5 +1,8 @@
 //! The calls of a script that go through all buckets.
+ghost use Rattle.bucket_slots.specs.BucketView.{BucketView};
 ghost use Rattle.bucket_table.specs.Scripts.Calls.{Step};
+ghost use Rattle.bucket_table.specs.Scripts.Tallying.{Empties};
+ghost use Rattle.bucket_table.specs.Walking.Walks.{KeepsBuckets};
 ghost use Rattle.bucket_table.specs.Map.MapState.{state_of};
 ghost use Rattle.bucket_table.specs.Scripts.TicketCalls.{TicketStep, rehash_of};
 
@@ -84,6 +87,13 @@ pub(super) fn walk<K: Eq + Copy, V: Copy, H: KeyHash<K>, L: LruList + Drop, cons
     }
 }
 
+/// No work: a proof learns that an emptier keeps to what a walk asks of its visitor.
+fn empties_keep<K, V, G: Generation>()
+    ensures { KeepsBuckets (λ (emptier : Emptier G) (lent : BucketView K V) flag more left last after.
+        Empties (G.epoch_of emptier.generation.now) emptier.count lent flag more left last
+        after.count) }
+{}
+
 /// Takes all pairs out, or marks them in an index.
 pub(super) fn clear<
     K: Eq + Copy,
@@ -103,6 +113,7 @@ pub(super) fn clear<
         return Reply::Cleared(0);
     }
     table.room();
+    empties_keep::<K, V, G>();
     let mut emptier = Emptier {
         generation,
         count: 0,

@@ -1,12 +1,6 @@
-use Rattle.bucket_table.proofs.Words.{ap, by-no_new, inl, inr, live_not_free, marks_in, no_new-refl, read_apart, refl, rules, same_Some}
+use Rattle.bucket_table.proofs.Words.{ap, by-no_new, inl, inr, marks_in, no_new-refl, read_apart, refl, same_Some}
 use Rattle.bucket_table.proofs.Words.{slot_in, sym, ◌∙◌}
 use Rattle.bucket_table.proofs.retain.retain_at.Goals as goal
-
-pub key-requires : goal.key-requires
-key-requires g c = (search rules, (search rules, live_not_free (slot_in c.args.bucket.now c.args.at.now) c.requires.live_slot))
-
-pub val-requires : goal.val-requires
-val-requires g c = (search rules, (search rules, live_not_free (slot_in c.args.bucket.now c.args.at.now) c.requires.live_slot))
 
 pub returns-then-keep-clause-retained : goal.returns-then-keep-clause-retained
 returns-then-keep-clause-retained g c = λ pair here.

@@ -1,5 +1,4 @@
-use Rattle.bucket_table.proofs.Words.{ap, arith, length, rules}
-use Rattle.bucket_table.proofs.Walking.Retaining.{next_live}
+use Rattle.bucket_table.proofs.Words.{ap, arith, length}
 use Rattle.bucket_table.proofs.Walking.RetainingEach.{all_asked, asks, begins, fewer}
 use Rattle.bucket_table.proofs.retain.retain_each_in.Goals as goal
 
@@ -9,11 +8,6 @@ own-init g c = (
   begins _ (g.G.Generation.epoch_of c.args.generation.now) c.args.keep.now c.args.bucket.now
       c.null-at.result c.null-at.ensures,
 )
-
-pub retain_slot-requires : goal.retain_slot-requires
-retain_slot-requires g c =
-    let m = c.find_next_here.ensures.ahead c.own-test.true in
-    (search rules, (search rules, (c.own.invariant.0 c.requires.callable, next_live c.own.bucket c.own.at c.find_next_here.new.self m)))
 
 pub own-smaller : goal.own-smaller
 own-smaller g c =
@@ -31,11 +25,6 @@ own-preserved g c =
 
 pub pairs-init : goal.pairs-init
 pairs-init g c = rw (c.find_next_here.ensures.stays c.own-test.false) c.own.invariant
-
-pub retain_slot-requires-in-pairs : goal.retain_slot-requires-in-pairs
-retain_slot-requires-in-pairs g c =
-    let m = c.find_next.ensures.ahead c.pairs-test.true in
-    (search rules, (search rules, (c.pairs.invariant.0 c.requires.callable, next_live c.pairs.bucket c.pairs.at c.find_next.new.self m)))
 
 pub pairs-smaller : goal.pairs-smaller
 pairs-smaller g c =

@@ -1,5 +1,5 @@
-use Rattle.bucket_table.proofs.Words.{arith, by-no_new, by-trans, marks_in, no_new-refl, refl, rules}
-use Rattle.bucket_table.proofs.Walking.Retaining.{fewer, next_live, retained, sets_out, steps}
+use Rattle.bucket_table.proofs.Words.{arith, by-no_new, by-trans, marks_in, no_new-refl, refl}
+use Rattle.bucket_table.proofs.Walking.Retaining.{fewer, retained, sets_out, steps}
 use Rattle.bucket_table.proofs.retain.retain_in.Goals as goal
 
 pub own-init : goal.own-init
@@ -8,11 +8,6 @@ own-init g c = (
   by-no_new (g.G.Generation.epoch_of c.args.generation.now) (marks_in c.args.bucket.now) (marks_in c.args.bucket.now)
       (no_new-refl (marks_in c.args.bucket.now)),
 )
-
-pub retain_at-requires : goal.retain_at-requires
-retain_at-requires g c =
-    let m = c.find_next_here.ensures.ahead c.own-test.true in
-    (search rules, (search rules, (c.requires.callable, next_live c.own.bucket c.own.at c.find_next_here.new.self m)))
 
 pub own-smaller : goal.own-smaller
 own-smaller g c =
@@ -31,11 +26,6 @@ own-preserved g c =
 
 pub pairs-init : goal.pairs-init
 pairs-init g c = rw (c.find_next_here.ensures.stays c.own-test.false) c.own.invariant
-
-pub retain_at-requires-in-pairs : goal.retain_at-requires-in-pairs
-retain_at-requires-in-pairs g c =
-    let m = c.find_next.ensures.ahead c.pairs-test.true in
-    (search rules, (search rules, (c.requires.callable, next_live c.pairs.bucket c.pairs.at c.find_next.new.self m)))
 
 pub pairs-smaller : goal.pairs-smaller
 pairs-smaller g c =

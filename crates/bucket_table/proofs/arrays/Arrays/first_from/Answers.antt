@@ -1,5 +1,5 @@
 use Rattle.bucket_table.proofs.Words.{IsLength, arith, rules, subst, ◌<◌, ◌∙◌}
-use Rattle.bucket_table.proofs.Walking.CursorSteps.{ends, passes_at, sets_out, still_within, stops_at}
+use Rattle.bucket_table.proofs.Walking.CursorSteps.{ends, passes_at, sets_out, stops_at}
 use Rattle.bucket_table.proofs.Views.Keeping.{kept_both}
 use Rattle.bucket_table.proofs.Walking.PassingUnits.{begins_wide, passes_all, passes_found, passes_refused, worked_more, worked_none}
 use Rattle.bucket_table.proofs.arrays.Arrays.first_from.Goals as goal
@@ -7,12 +7,6 @@ use Rattle.bucket_table.proofs.arrays.Arrays.first_from.Goals as goal
 pub returns-in_default-clause-kept : goal.returns-in_default-clause-kept
 returns-in_default-clause-kept g c = kept_both c.args.self.now c.loop-index.self c.prepare_at.new.self c.loop-index.invariant.0.kept
     c.prepare_at.ensures.kept
-
-pub bucket_of-requires : goal.bucket_of-requires
-bucket_of-requires g c =
-    let within = still_within (g.H.KeyHash.hash_of c.args.hasher.now) c.loop-index.self c.prepare_at.new.self c.len.result
-    c.loop-index.index c.prepare_at.ensures.kept c.len.ensures.value (search rules) in
-    (search rules, (search rules, within))
 
 pub returns-then-find_next-clause-kept : goal.returns-then-find_next-clause-kept
 returns-then-find_next-clause-kept g c = kept_both c.args.self.now c.loop-index.self c.prepare_at.new.self c.loop-index.invariant.0.kept

@@ -1,16 +1,5 @@
-use Rattle.bucket_table.proofs.Words.{arith, length-set}
 use Rattle.bucket_table.proofs.Map.LockedSteps.{shrinks_after}
-use Rattle.bucket_table.proofs.Views.SideChanges.{buckets_on-arrays_with}
 use Rattle.bucket_table.proofs.arrays.Arrays.mark_at.Goals as goal
-
-pub shrink_left-requires : goal.shrink_left-requires
-shrink_left-requires g c = (
-  omega arith,
-  (
-    rw (c.mark_slot-left.ensures.arrays, buckets_on-arrays_with, length-set) c.requires.within,
-    c.mark_slot-left.ensures.left,
-  ),
-)
 
 pub returns-clause-asked : goal.returns-clause-asked
 returns-clause-asked g c =

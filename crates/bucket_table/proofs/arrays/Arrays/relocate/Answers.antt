@@ -1,4 +1,3 @@
-use Rattle.bucket_table.proofs.Words.{arith}
 use Rattle.bucket_table.proofs.Rehash.MovesInArrays.{arrays_after, done_at, placed_moved, refused_at}
 use Rattle.bucket_table.proofs.arrays.Arrays.relocate.Goals as goal
 
@@ -7,15 +6,6 @@ invariant_of-self g c =
     let e = c.relocate.ensures in
     arrays_after _ _ c.args.index _ _ _ _ _ c.relocate.result e.moved e.kept e.linked_kept
     (rw (c.in-Some.is, c.in-Some-linked.is) at c.self.invariant)
-
-pub relocate-requires : goal.relocate-requires
-relocate-requires g c = (
-  omega arith,
-  (
-    (rw (← c.self.view_is, c.in-Some-linked.is) at c.requires.within),
-    (rw (← c.self.view_is, c.in-Some.is, c.in-Some-linked.is) at c.requires.placed).homes,
-  ),
-)
 
 pub returns-clause-placed : goal.returns-clause-placed
 returns-clause-placed g c =

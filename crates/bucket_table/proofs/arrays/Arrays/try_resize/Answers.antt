@@ -1,21 +1,7 @@
-use Rattle.std.proofs.Common.{arith, inl, inr}
-use Rattle.bucket_table.specs.declared.arrays.plan.Plan.TheVariants.{GiveUp}
-use Rattle.bucket_table.proofs.Resize.GivingUp.{gives_up, plan_alone, plan_stands}
+use Rattle.std.proofs.Common.{inl, inr}
+use Rattle.bucket_table.proofs.Resize.GivingUp.{gives_up}
 use Rattle.bucket_table.proofs.Resize.Following.{given_up_keeps, given_up_placed, pushed_keeps, pushed_placed}
 use Rattle.bucket_table.proofs.arrays.Arrays.try_resize.Goals as goal
-
-pub give_array_up-requires : goal.give_array_up-requires
-give_array_up-requires g c = (omega arith, plan_alone c.args.self.now GiveUp c.in-GiveUp.ensures.plan (omega arith))
-
-pub push_array-requires : goal.push_array-requires
-push_array-requires g c =
-    let plan = c.in-Resize.ensures.plan in (
-      omega arith,
-      (
-        plan_stands c.args.self.now _ plan (omega arith),
-        (plan_alone c.args.self.now _ plan (omega arith), c.in-Resize.ensures.capacity),
-      ),
-    )
 
 pub returns-in-GiveUp-clause-resized : goal.returns-in-GiveUp-clause-resized
 returns-in-GiveUp-clause-resized g c =

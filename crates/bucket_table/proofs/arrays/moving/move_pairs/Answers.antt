@@ -1,16 +1,9 @@
-use Rattle.bucket_table.proofs.Words.{live_from_pair, rules, slot_in}
 use Rattle.bucket_table.proofs.Moves.Landings.{landed_all}
 use Rattle.bucket_table.proofs.Moves.MovingPairs.{moving_again, moving_done, moving_first, moving_step}
 use Rattle.bucket_table.proofs.arrays.moving.move_pairs.Goals as goal
 
 pub own-init : goal.own-init
 own-init g c = rw c.null-at.ensures (moving_first (g.H.KeyHash.hash_of c.args.hasher.now) c.requires.ready c.requires.unsaid)
-
-pub move_pair-requires : goal.move_pair-requires
-move_pair-requires g c =
-    let next = c.find_next_here.ensures.ahead c.own-test.true in
-    let alive = live_from_pair (slot_in c.own.source c.find_next_here.new.self) next.pair next.here in
-    (search rules, (search rules, (search rules, (c.own.invariant.ready, alive))))
 
 pub own-smaller : goal.own-smaller
 own-smaller g c =
@@ -24,12 +17,6 @@ own-preserved g c =
 
 pub pairs-init : goal.pairs-init
 pairs-init g c = rw (c.find_next_here.ensures.stays c.own-test.false) c.own.invariant
-
-pub move_pair-requires-in-pairs : goal.move_pair-requires-in-pairs
-move_pair-requires-in-pairs g c =
-    let next = c.find_next.ensures.ahead c.pairs-test.true in
-    let alive = live_from_pair (slot_in c.pairs.source c.find_next.new.self) next.pair next.here in
-    (search rules, (search rules, (search rules, (c.pairs.invariant.ready, alive))))
 
 pub pairs-smaller : goal.pairs-smaller
 pairs-smaller g c =

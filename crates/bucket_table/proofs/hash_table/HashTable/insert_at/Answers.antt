@@ -1,11 +1,8 @@
-use Rattle.bucket_table.proofs.Words.{arith, slots_after_insertion, sym, ◌%◌, ◌∙◌}
+use Rattle.bucket_table.proofs.Words.{slots_after_insertion, sym, ◌%◌, ◌∙◌}
 use Rattle.bucket_table.proofs.Map.Inserting.{inserted_where_absent}
 use Rattle.bucket_table.proofs.Map.LockedSteps.{on_err, put_if_ok, with_own}
 use Rattle.bucket_table.proofs.Rehash.TicketSteps.{bag_with}
 use Rattle.bucket_table.proofs.hash_table.HashTable.insert_at.Goals as goal
-
-pub bucket_of_mut-bucket-requires : goal.bucket_of_mut-bucket-requires
-bucket_of_mut-bucket-requires g c = (omega arith, (c.room_of.ensures, rw (← c.self.view_is) at c.requires.locked.within))
 
 pub invariant_of-self : goal.invariant_of-self
 invariant_of-self g c =

@@ -1,14 +1,7 @@
-use Rattle.bucket_table.proofs.Words.{ap, rules, sym, ◌∙◌}
 use Rattle.bucket_table.specs.Map.MapState.{state_of}
 use Rattle.bucket_table.proofs.Map.Inserting.{found_then, then_inserted, unfound}
-use Rattle.bucket_table.proofs.Map.MapKept.{hasher_kept}
 use Rattle.bucket_table.proofs.Views.Keeping.{bag_both}
 use Rattle.bucket_table.proofs.hash_table.HashTable.insert_pair.Goals as goal
-
-pub insert_at-requires : goal.insert_at-requires
-insert_at-requires g c =
-    let own = c.hash-hash.ensures ∙ ap (λ h. g.H.KeyHash.hash_of h c.args.key) (sym (hasher_kept _ _ c.in-Ok.ensures.found.map)) in
-    search (rules, own)
 
 pub returns-in_default-clause-map : goal.returns-in_default-clause-map
 returns-in_default-clause-map g c =

@@ -1,16 +1,11 @@
-use Rattle.bucket_table.proofs.Words.{arith, bucket_on, by-no_new, by-trans, marks_in, marks_of, refl}
+use Rattle.bucket_table.proofs.Words.{bucket_on, by-no_new, by-trans, marks_in, marks_of, refl}
 use Rattle.bucket_slots.proofs.MarkCallerLemmas.{by-one, marks_in-slots_marked}
-use Rattle.bucket_table.proofs.Map.KeySteps.{marks_through, stands_live}
+use Rattle.bucket_table.proofs.Map.KeySteps.{marks_through}
 use Rattle.bucket_table.proofs.Map.LockedSteps.{bag_through}
 use Rattle.bucket_table.proofs.Map.SlotSteps.{marks}
 use Rattle.bucket_table.proofs.Map.TakeSteps.{same_taken, then_taken}
 use Rattle.bucket_table.proofs.Views.Keeping.{bag_both}
 use Rattle.bucket_table.proofs.hash_table.HashTable.mark.Goals as goal
-
-pub mark_at-requires : goal.mark_at-requires
-mark_at-requires g c =
-    let stands = rw (← c.self.view_is) at c.in-Some.ensures.found in
-    (omega arith, (omega arith, (c.requires.index, (stands.within, stands_live _ _ _ _ _ _ stands))))
 
 pub invariant_of-self : goal.invariant_of-self
 invariant_of-self g c =

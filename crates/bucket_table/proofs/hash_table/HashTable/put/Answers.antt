@@ -1,15 +1,8 @@
-use Rattle.bucket_table.proofs.Words.{ap, rules, sym, ◌∙◌}
 use Rattle.bucket_table.specs.Map.MapState.{state_of}
 use Rattle.bucket_table.proofs.Map.Inserting.{unfound}
-use Rattle.bucket_table.proofs.Map.MapKept.{hasher_kept}
 use Rattle.bucket_table.proofs.Map.Putting.{found_put, refused_put, then_put}
 use Rattle.bucket_table.proofs.Views.Keeping.{bag_both}
 use Rattle.bucket_table.proofs.hash_table.HashTable.put.Goals as goal
-
-pub put_at-requires : goal.put_at-requires
-put_at-requires g c =
-    let own = c.hash-hash.ensures ∙ ap (λ h. g.H.KeyHash.hash_of h c.args.key) (sym (hasher_kept _ _ c.in-Ok.ensures.found.map)) in
-    search (rules, own)
 
 pub returns-in_default-clause-map : goal.returns-in_default-clause-map
 returns-in_default-clause-map g c =

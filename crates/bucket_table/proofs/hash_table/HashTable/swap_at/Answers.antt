@@ -1,37 +1,30 @@
-use Rattle.bucket_table.proofs.Words.{arith, refl}
+use Rattle.bucket_table.proofs.Words.{refl}
 use Rattle.bucket_table.proofs.Map.SlotSteps.{writes}
 use Rattle.bucket_table.proofs.Rehash.TicketSteps.{bag_with}
 use Rattle.bucket_table.proofs.hash_table.HashTable.swap_at.Goals as goal
-
-pub bucket_of_mut-bucket-requires : goal.bucket_of_mut-bucket-requires
-bucket_of_mut-bucket-requires g c = (omega arith, (c.room_of.ensures, rw (← c.self.view_is) at c.requires.within))
-
-pub entry_mut-requires : goal.entry_mut-requires
-entry_mut-requires g c =
-    (c.room_of.ensures, (omega arith, rw c.bucket_of_mut-bucket.ensures.bucket (rw (← c.self.view_is) at c.requires.live_slot)))
 
 pub invariant_of-self : goal.invariant_of-self
 invariant_of-self g c =
     let o = c.args.spot.now in
     let within = rw (← c.self.view_is) at c.requires.within in
-    let here = rw c.bucket_of_mut-bucket.ensures.bucket at c.entry_mut.ensures.pair in
-    rw c.bucket_of_mut-bucket.ensures.bucket (writes g.met.K.Eq.laws g.H.KeyHash.hash_of g.row.TYPE o.is_old o.index c.self.invariant
-    within o.at _ here c.replace.new.dest).one_map
+    rw c.swap_slot.ensures.arrays (writes g.met.K.Eq.laws g.H.KeyHash.hash_of g.row.TYPE o.is_old o.index c.self.invariant
+    within o.at _ c.swap_slot.ensures.pair.1 c.args.value).one_map
 
 pub returns-clause-map : goal.returns-clause-map
 returns-clause-map g c =
     let o = c.args.spot.now in
     let within = rw (← c.self.view_is) at c.requires.within in
-    let here = rw c.bucket_of_mut-bucket.ensures.bucket at c.entry_mut.ensures.pair in
-    rw (← c.self.view_is, c.bucket_of_mut-bucket.ensures.bucket, ← c.replace.ensures.after, c.replace.ensures.value) (
-      c.entry_mut.result.0.now,
+    let here = c.swap_slot.ensures.pair.1 in
+    rw (← c.self.view_is, c.swap_slot.ensures.arrays) (
+      c.swap_slot.ensures.pair.0,
       here,
       (writes g.met.K.Eq.laws g.H.KeyHash.hash_of g.row.TYPE o.is_old o.index c.self.invariant within o.at _ here
-          c.replace.new.dest).map,
+          c.args.value).map,
     )
 
 pub returns-clause-bag : goal.returns-clause-bag
-returns-clause-bag g c = rw (← c.self.view_is) (bag_with _ c.args.spot.now.is_old c.args.spot.now.index _)
+returns-clause-bag g c =
+    rw (← c.self.view_is, c.swap_slot.ensures.arrays) (bag_with _ c.args.spot.now.is_old c.args.spot.now.index _)
 
 pub returns-clause-table : goal.returns-clause-table
-returns-clause-table g c = rw (← c.self.view_is, c.bucket_of_mut-bucket.ensures.bucket, ← c.replace.ensures.after) refl
+returns-clause-table g c = rw (← c.self.view_is, c.swap_slot.ensures.arrays) refl

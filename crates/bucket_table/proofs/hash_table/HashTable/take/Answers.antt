@@ -1,15 +1,9 @@
-use Rattle.bucket_table.proofs.Words.{arith, refl}
-use Rattle.bucket_table.proofs.Map.KeySteps.{stands_live}
+use Rattle.bucket_table.proofs.Words.{refl}
 use Rattle.bucket_table.proofs.Map.LockedSteps.{bag_through}
 use Rattle.bucket_table.proofs.Map.SlotSteps.{takes}
 use Rattle.bucket_table.proofs.Map.TakeSteps.{same_taken, then_taken}
 use Rattle.bucket_table.proofs.Views.Keeping.{bag_both}
 use Rattle.bucket_table.proofs.hash_table.HashTable.take.Goals as goal
-
-pub take_at-requires : goal.take_at-requires
-take_at-requires g c =
-    let stands = rw (← c.self.view_is) at c.in-Some.ensures.found in
-    (omega arith, (omega arith, (c.requires.not_index, (stands.within, stands_live _ _ _ _ _ _ stands))))
 
 pub invariant_of-self : goal.invariant_of-self
 invariant_of-self g c =

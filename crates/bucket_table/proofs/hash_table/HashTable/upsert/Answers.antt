@@ -1,22 +1,10 @@
-use Rattle.bucket_table.proofs.Words.{ap, inl, refl, rules, sym, ◌∙◌}
+use Rattle.bucket_table.proofs.Words.{inl, refl}
 use Rattle.bucket_table.specs.Map.MapState.{state_of}
-use Rattle.bucket_table.proofs.Map.MapKept.{hasher_kept}
 use Rattle.bucket_table.proofs.Map.TakeSteps.{absent_before, same_taken}
 use Rattle.bucket_table.proofs.Map.Upserting.{found_upserted, then_upserted}
 use Rattle.bucket_table.proofs.Scripts.CallSteps.{then_changed}
 use Rattle.bucket_table.proofs.Views.Keeping.{bag_both}
 use Rattle.bucket_table.proofs.hash_table.HashTable.upsert.Goals as goal
-
-pub upsert_at-requires : goal.upsert_at-requires
-upsert_at-requires g c =
-    let own = c.hash-hash.ensures ∙ ap (λ h. g.H.KeyHash.hash_of h c.args.key) (sym (hasher_kept _ _ c.in-Ok.ensures.found.map)) in
-    search (rules, own)
-
-pub spot_of-requires : goal.spot_of-requires
-spot_of-requires g c =
-    let kept = hasher_kept _ _ c.in-Err.ensures.refused.prepared.map in
-    let own = c.hash-hash.ensures ∙ ap (λ h. g.H.KeyHash.hash_of h c.args.key) (sym kept) in
-    search (rules, own)
 
 pub returns-in-Ok-clause-map : goal.returns-in-Ok-clause-map
 returns-in-Ok-clause-map g c =

@@ -1,21 +1,6 @@
 use Rattle.bucket_table.proofs.Words.{arith, pairs_of, refl}
-use Rattle.bucket_table.proofs.Walking.WalkCounts.{clears_all, clears_below, emptied, emptied_below, keeps_emptied, none_counted}
+use Rattle.bucket_table.proofs.Walking.WalkCounts.{clears_all, clears_below, emptied, emptied_below, none_counted}
 use Rattle.bucket_table.proofs.script.walks.clear.Goals as goal
-
-pub for_each_writer_sync-requires : goal.for_each_writer_sync-requires
-for_each_writer_sync-requires g c = (
-  omega arith,
-  (
-    (λ some. absurd (some refl)),
-    (tt, keeps_emptied (λ e. g.G.Generation.epoch_of e.generation.now) (λ e. e.count)),
-  ),
-)
-
-pub for_each_writer_sync-requires-room-F-Visit : goal.for_each_writer_sync-requires-room-F-Visit
-for_each_writer_sync-requires-room-F-Visit g c κs within = c.room.ensures
-
-pub room-requires : goal.room-requires
-room-requires g c = omega (arith, c.num_slots.ensures, c.if-num_slots-eq0.false)
 
 pub returns-then-num_slots-eq0-clause-step : goal.returns-then-num_slots-eq0-clause-step
 returns-then-num_slots-eq0-clause-step g c =

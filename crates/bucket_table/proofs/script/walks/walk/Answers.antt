@@ -4,12 +4,6 @@ use Rattle.bucket_table.proofs.Scripts.CallSteps.{kept}
 use Rattle.bucket_table.proofs.Walking.WalkCounts.{none_counted, tallied}
 use Rattle.bucket_table.proofs.script.walks.walk.Goals as goal
 
-pub for_each_reader_sync-requires-room-F-Read : goal.for_each_reader_sync-requires-room-F-Read
-for_each_reader_sync-requires-room-F-Read g c κs within = c.room.ensures
-
-pub room-requires : goal.room-requires
-room-requires g c = omega (arith, c.num_slots.ensures, c.if-num_slots-eq0.false)
-
 pub returns-then-num_slots-eq0-clause-step : goal.returns-then-num_slots-eq0-clause-step
 returns-then-num_slots-eq0-clause-step g c =
     let none = c.sound.ensures.empty (omega (arith, c.num_slots.ensures, c.if-num_slots-eq0.true)) in

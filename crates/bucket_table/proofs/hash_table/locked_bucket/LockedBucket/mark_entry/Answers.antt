@@ -1,16 +1,10 @@
-use Rattle.bucket_table.proofs.Words.{arith, bucket_on, refl}
+use Rattle.bucket_table.proofs.Words.{bucket_on, refl}
 use Rattle.bucket_slots.proofs.RoomCallerLemmas.{killed-slots_marked}
 use Rattle.bucket_table.specs.Views.LockedLaws.{locked_change}
 use Rattle.bucket_table.proofs.Map.LockedSteps.{pair_there}
 use Rattle.bucket_table.proofs.Map.SlotSteps.{marks_only}
 use Rattle.bucket_table.proofs.Rehash.TicketSteps.{bag_with}
 use Rattle.bucket_table.proofs.hash_table.locked_bucket.LockedBucket.mark_entry.Goals as goal
-
-pub mark_slot-left-requires : goal.mark_slot-left-requires
-mark_slot-left-requires g c =
-    let within = rw (← c.table.view_is) at c.args.self.now.locked.within in
-    let here = rw (← c.table.view_is) at c.requires.live_slot in
-    (omega arith, (omega arith, (c.requires.index, (within, here))))
 
 pub invariant_of-table : goal.invariant_of-table
 invariant_of-table g c =

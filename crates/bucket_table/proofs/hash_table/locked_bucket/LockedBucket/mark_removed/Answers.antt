@@ -1,13 +1,7 @@
-use Rattle.bucket_table.proofs.Words.{arith, bucket_on}
+use Rattle.bucket_table.proofs.Words.{bucket_on}
 use Rattle.bucket_table.proofs.Map.LockedSteps.{bag_through, pair_there}
 use Rattle.bucket_table.proofs.Map.SlotSteps.{marks}
 use Rattle.bucket_table.proofs.hash_table.locked_bucket.LockedBucket.mark_removed.Goals as goal
-
-pub mark_at-requires : goal.mark_at-requires
-mark_at-requires g c =
-    let within = rw (← c.table.view_is) at c.args.self.locked.within in
-    let here = rw (← c.table.view_is) at c.requires.live_slot in
-    (omega arith, (omega arith, (c.requires.index, (within, here))))
 
 pub invariant_of-table : goal.invariant_of-table
 invariant_of-table g c =

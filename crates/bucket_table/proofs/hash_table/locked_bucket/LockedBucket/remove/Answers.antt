@@ -1,13 +1,6 @@
-use Rattle.bucket_table.proofs.Words.{arith}
 use Rattle.bucket_table.proofs.Map.LockedSteps.{bag_through}
 use Rattle.bucket_table.proofs.Map.SlotSteps.{takes}
 use Rattle.bucket_table.proofs.hash_table.locked_bucket.LockedBucket.remove.Goals as goal
-
-pub take_at-pair-requires : goal.take_at-pair-requires
-take_at-pair-requires g c =
-    let within = rw (← c.table.view_is) at c.args.self.locked.within in
-    let here = rw (← c.table.view_is) at c.requires.live_slot in
-    (omega arith, (omega arith, (c.requires.not_index, (within, here))))
 
 pub invariant_of-table : goal.invariant_of-table
 invariant_of-table g c =

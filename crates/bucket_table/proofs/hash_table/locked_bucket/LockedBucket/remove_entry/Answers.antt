@@ -1,15 +1,9 @@
-use Rattle.bucket_table.proofs.Words.{arith, refl}
+use Rattle.bucket_table.proofs.Words.{refl}
 use Rattle.bucket_slots.proofs.RoomCallerLemmas.{killed-slots_without}
 use Rattle.bucket_table.specs.Views.LockedLaws.{locked_change}
 use Rattle.bucket_table.proofs.Map.SlotSteps.{takes_only}
 use Rattle.bucket_table.proofs.Rehash.TicketSteps.{bag_with}
 use Rattle.bucket_table.proofs.hash_table.locked_bucket.LockedBucket.remove_entry.Goals as goal
-
-pub take_slot-requires : goal.take_slot-requires
-take_slot-requires g c =
-    let within = rw (← c.table.view_is) at c.args.self.now.locked.within in
-    let here = rw (← c.table.view_is) at c.requires.live_slot in
-    (omega arith, (omega arith, (c.requires.not_index, (within, here))))
 
 pub invariant_of-table : goal.invariant_of-table
 invariant_of-table g c =

@@ -1,15 +1,9 @@
-use Rattle.bucket_table.proofs.Words.{arith, refl}
+use Rattle.bucket_table.proofs.Words.{refl}
 use Rattle.bucket_table.specs.Views.LockedLaws.{locked_change}
 use Rattle.bucket_table.proofs.Map.MapSteps.{touched}
 use Rattle.bucket_table.proofs.Views.SideChanges.{changeable_locked}
 use Rattle.bucket_table.proofs.Rehash.TicketSteps.{bag_with}
 use Rattle.bucket_table.proofs.hash_table.locked_bucket.LockedBucket.update_lru_tail.Goals as goal
-
-pub touch_slot-requires : goal.touch_slot-requires
-touch_slot-requires g c =
-    let within = rw (← c.table.view_is) at c.args.self.now.locked.within in
-    let here = rw (← c.table.view_is) at c.requires.live_slot in
-    (omega arith, (omega arith, (c.requires.cache, (within, here))))
 
 pub invariant_of-table : goal.invariant_of-table
 invariant_of-table g c =
