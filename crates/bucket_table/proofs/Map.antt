@@ -6,6 +6,8 @@ pub mod KeySteps
 pub mod TakeSteps
 pub mod Lending
 pub mod LockedSteps
+pub mod LockedChanged
+pub mod OpenTickets
 pub mod Inserting
 pub mod Upserting
 pub mod Evicting

@@ -4,10 +4,12 @@ pub mod Vacating
 pub mod MovingPairs
 pub mod RoomMade
 pub mod Relocating
+pub mod Staying
 pub mod Landings
 pub mod Arriving
 pub mod Carried
 pub mod CarriedPairs
+pub mod CarriedOrder
 pub mod CountingTargets
 pub mod HomesByDivision
 pub mod Ways

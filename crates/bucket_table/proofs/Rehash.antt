@@ -6,6 +6,7 @@ pub mod UnitSteps
 pub mod UnitWork
 pub mod UnitRuns
 pub mod Spending
+pub mod Wanting
 pub mod FinishingUnits
 pub mod StayingKilled
 pub mod TicketSteps

@@ -6,6 +6,7 @@ pub mod Bounds
 pub mod HomeSplit
 pub mod CursorSteps
 pub mod PassingUnits
+pub mod Leaving
 pub mod Retaining
 pub mod RetainingEach
 pub mod TableCursor

@@ -10,3 +10,4 @@ pub mod ArrayAccess
 pub mod TableRow
 pub mod LockedLaws
 pub mod LockedLoans
+pub mod LockedChanges

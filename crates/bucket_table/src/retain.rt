@@ -5,8 +5,8 @@ ghost use Rattle.bucket_slots.specs.BucketView.{entries_in, marks_in, pairs_in, 
 ghost use Rattle.bucket_slots.specs.Marking.{MarksBy};
 ghost use Rattle.bucket_slots.specs.Slots.{is_live, live_pair};
 ghost use Rattle.bucket_slots.specs.Walking.{pairs_ahead};
-ghost use Rattle.bucket_table.specs.Walking.Retains.{AnswersBy, Retains, RetainsPair};
-ghost use Rattle.bucket_table.specs.Walking.Retains.{RetainsBucket, RetainsSlot};
+ghost use Rattle.bucket_table.specs.Walking.Retains.{AnswersBy, IsLeftOf, Retains, RetainsPair};
+ghost use Rattle.bucket_table.specs.Walking.Retains.{RetainsBucket, RetainsSlot, slots_taken};
 
 use bucket_slots::bucket::{Bucket, EntryPtr, Generation, INDEX};
 use bucket_slots::lru::LruList;
@@ -24,6 +24,7 @@ pub(crate) fn retain_in<
     requires callable { F.IsAlwaysCallable keep.now }
     ensures retained { Retains (AnswersBy (λ key value answer. F.post keep.now key value answer))
         bucket.old bucket.new result }
+    ensures left { IsLeftOf TYPE (G.epoch_of generation.now) bucket.old bucket.new }
     ensures marks { MarksBy (G.epoch_of generation.now) (marks_in bucket.old) (marks_in bucket.new) }
 {
     let before = bucket.len();
@@ -50,6 +51,7 @@ fn retain_at<K: Drop, V: Drop, L: LruList, F: Fn(&K, &V) -> bool, G: Generation,
     ensures retained { (pair : K × V) → live_pair (slot_in bucket.old at.old) ≡ Some pair
         → RetainsPair (AnswersBy (λ key value answer. F.post keep.now key value answer)) pair
         bucket.old at.old bucket.new at.new }
+    ensures left { IsLeftOf TYPE (G.epoch_of generation.now) bucket.old bucket.new }
     ensures marks { MarksBy (G.epoch_of generation.now) (marks_in bucket.old) (marks_in bucket.new) }
 {
     if keep(at.key(bucket), at.val(bucket)) {
@@ -74,6 +76,7 @@ pub(crate) fn retain_each_in<
     ensures retained { RetainsBucket
         (λ state own before answer after last. F.step state own before answer after last)
         (G.epoch_of generation.now) keep.old bucket.old bucket.new result keep.new }
+    ensures left { IsLeftOf TYPE (G.epoch_of generation.now) bucket.old bucket.new }
 {
     let before = bucket.len();
     let mut at = EntryPtr::null();
@@ -104,6 +107,7 @@ fn retain_slot<
         → RetainsSlot
         (λ state own before answer after last. F.step state own before answer after last)
         keep.old pair bucket.old at.old bucket.new at.new keep.new }
+    ensures left { IsLeftOf TYPE (G.epoch_of generation.now) bucket.old bucket.new }
     ensures marks { MarksBy (G.epoch_of generation.now) (marks_in bucket.old) (marks_in bucket.new) }
 {
     bucket.sound();
@@ -121,6 +125,7 @@ pub(crate) fn take_at<K: Drop, V: Drop, L: LruList, G: Generation, const TYPE: u
     generation: &G,
 )
     requires live_slot { IsTrue (is_live (slot_in bucket.old at.old)) }
+    ensures slots { bucket.new ≡ slots_taken TYPE (G.epoch_of generation.now) bucket.old at.old }
     ensures alive { bucket.new.killed ≡ bucket.old.killed }
     ensures taken { (pair : K × V) → (live_pair (slot_in bucket.old at.old) ≡ Some pair)
         → (byte : ℕ) × IsPermutation (entries_in bucket.old) ((pair, byte) ∷ entries_in bucket.new) }

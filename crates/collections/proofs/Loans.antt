@@ -26,11 +26,11 @@ module _ {K V H : Type 0} (eq : K → K → Bool) (laws : IsEquivalence eq) (kin
       (p ∷ changed.rest) changed.before distinct))
 
   -- what is written through the loan
-  pub lent_replaces : (loan : Option (MutBor V)) (s : TableView K V H) (v : V)
-      → IfSome loan (λ lent. WritesUnder eq key kind t lent.now v s)
+  pub lent_replaces : (hash : ℕ) (loan : Option (MutBor V)) (s : TableView K V H) (v : V)
+      → IfSome loan (λ lent. WritesUnder eq key kind hash t lent.now v s)
       → IfSome loan (λ lent. (own : K) × Replaces eq (map_of t) key (own, lent.now) v (map_of s))
-  lent_replaces None s v wrote = tt
-  lent_replaces (Some lent) s v wrote =
+  lent_replaces hash None s v wrote = tt
+  lent_replaces hash (Some lent) s v wrote =
       let own = wrote.map.0 in
       let changed = wrote.map.2 in
       (own, replaces eq laws kind t s distinct (distinct_changed s (own, lent.now) v changed) key (own, lent.now) v wrote.map.1 changed)
@@ -42,12 +42,12 @@ module _ {K V H : Type 0} (eq : K → K → Bool) (laws : IsEquivalence eq) (kin
   lent_value (Some lent) found absent = sym (get_there eq laws key (pairs_of t.arrays) (found.0, lent.now) distinct found.1)
 
   -- where nothing is lent
-  pub lent_none : (loan : Option (MutBor V)) (s : TableView K V H) → IfNone loan (IsPrepared kind t s)
+  pub lent_none : (hash : ℕ) (loan : Option (MutBor V)) (s : TableView K V H) → IfNone loan (IsPrepared kind hash t s)
       → IfNone loan (IsAbsent eq key (pairs_of t.arrays))
       → IfNone loan ((get eq (map_of t) key ≡ None) × Stays eq (map_of t) (map_of s))
-  lent_none None s prepared absent = (
+  lent_none hash None s prepared absent = (
     get_absent eq laws key (pairs_of t.arrays) absent,
     stays eq laws kind t s distinct
         (distinct_permuted eq laws (pairs_of t.arrays) (pairs_of s.arrays) prepared.map.pairs distinct) prepared.map,
   )
-  lent_none (Some lent) s prepared absent = tt
+  lent_none hash (Some lent) s prepared absent = tt

@@ -1,6 +1,6 @@
 -- That no mark is new where a table inserts, and where it resizes.
 use Rattle.std.proofs.Common.{ℕ, ◌≡◌, inl, inr, Bool, true, false, if◌then◌else◌, Result, Ok, Err, List, [], ◌+◌}
-use Rattle.std.proofs.Common.{◌-◌, length, map, take, ap, sym, subst, arith}
+use Rattle.std.proofs.Common.{◌%◌, ◌-◌, length, map, take, ap, sym, subst, arith}
 use Rattle.std.proofs.lemmas.Bool.{cases_lt}
 use Rattle.std.proofs.lemmas.List.Elements.{filter_map-append}
 use Rattle.bucket_slots.specs.BucketView.{BucketView, flattened, marks_in}
@@ -16,13 +16,12 @@ use Rattle.bucket_slots.proofs.NoNewMarks.{mark_of}
 use Rattle.bucket_table.specs.Views.ArraysView.{ArraysView, TableView, marks_of}
 use Rattle.bucket_table.specs.Views.Sides.{arrays_with, bucket_of, bucket_on}
 use Rattle.bucket_table.specs.Rehash.Relocation.{marks_among}
-use Rattle.bucket_table.specs.Map.ByKey.{FindsOrIsRefused, FindsThen}
-use Rattle.bucket_table.specs.Map.Finding.{MakesReady, ReadiesThenGrows}
-use Rattle.bucket_table.specs.Resize.Growing.{Grows}
+use Rattle.bucket_table.specs.Map.ByKey.{InsertsAt}
+use Rattle.bucket_table.specs.Map.Finding.{Finds, FindsThen}
 use Rattle.bucket_table.specs.Resize.Resizing.{Releases, Reserves, TriesResize, with_minimum}
 use Rattle.bucket_table.specs.declared.hash_table.NotInserted.{NotInserted}
+use Rattle.bucket_table.specs.declared.hash_table.NotInserted.TheVariants.{Memory, Present}
 use Rattle.bucket_table.proofs.Resize.Following.{given_up_keeps, pushed_keeps}
-use Rattle.bucket_table.proofs.Resize.Growing.{kept_made}
 use Rattle.bucket_table.proofs.Views.MarksKept.{marks_among-set}
 
 module _ {K V : Type 0} where
@@ -127,37 +126,29 @@ module _ {K V : Type 0} where
         no_new-tried (with_minimum old (old.minimum - released)) new done.0 done.1
   ]
 
-  readied : (old new : ArraysView K V) (index : ℕ) → MakesReady old index new → HasNoNewMark (marks_of old) (marks_of new)
-  readied old new index ready = elim (cases_lt 0 (length old.linked)) [
-    | inl some ↦ (ready.beside some).keeps.marks
-    | inr none ↦ (kept_made old new (ready.first (omega (arith, none)))).marks
-  ]
-
-  grown : (old new : ArraysView K V) (done : Bool) → Grows done old new → HasNoNewMark (marks_of old) (marks_of new)
-  grown old new true grows = (pushed_keeps grows.0 old new grows.1).marks
-  grown old new false same = no_new-arrays old new same
-
-  found : (kind hash : ℕ) (old new : ArraysView K V) (side : Bool) (index : ℕ) → ReadiesThenGrows kind hash old side index new
-      → HasNoNewMark (marks_of old) (marks_of new)
-  unfolding ReadiesThenGrows
-  found kind hash old new side index done =
-      no_new-trans (marks_of old) (marks_of done.0) (marks_of new) (readied old done.0 index done.1) (grown done.0 new side done.3)
-
 module _ {K V H : Type 0} (kind hash : ℕ) (old new : TableView K V H) where
-  no_new-found_or_refused : FindsOrIsRefused kind hash old new → HasNoNewMark (marks_of old.arrays) (marks_of new.arrays)
-  no_new-found_or_refused (inl refused) = refused.prepared.kept.keeps.marks
-  no_new-found_or_refused (inr finds) = found kind hash old.arrays new.arrays finds.0 finds.1 finds.2.found
+  found : {E : Type 0} (answer : Result (Bool × ℕ) E) → Finds kind hash old answer new → HasNoNewMark (marks_of old.arrays) (marks_of new.arrays)
+  found (Ok at) finds = finds.kept.marks
+  found (Err e) refused = refused.prepared.kept.keeps.marks
+
+module _ {K V H A : Type 0} (kind : ℕ) (keeps : ℕ → Bool) (pair : K × V) (byte : ℕ) where
+  inserted_at : (old : TableView K V H) (r : Result A (NotInserted K V)) (answer : Result (Bool × ℕ) (Unit {0})) (new : TableView K V H)
+      → InsertsAt kind keeps pair byte old r answer new
+      → HasNoNewMark (marks_of old.arrays) (marks_of new.arrays)
+  inserted_at old (Ok done) (Ok at) new is =
+      let left = slots_after_insertion kind keeps (bucket_of old at.0 at.1) pair byte in
+      let put = marks_of-arrays_with old.arrays at.0 at.1 left
+      (marks_in-slots_after_insertion kind keeps (bucket_of old at.0 at.1) pair byte) in
+      subst (λ (table : TableView K V H). HasNoNewMark (marks_of old.arrays) (marks_of table.arrays)) (sym is) put
+  inserted_at old (Ok done) (Err e) new none = absurd none
+  inserted_at old (Err (Present k v)) answer new same = rw same (no_new-refl (marks_of old.arrays))
+  inserted_at old (Err (Memory k v)) (Ok at) new (full, same) = rw same (no_new-refl (marks_of old.arrays))
+  inserted_at old (Err (Memory k v)) (Err e) new same = rw same (no_new-refl (marks_of old.arrays))
 
   -- an insertion into a table brings no mark
-  pub no_new-inserted : {A : Type 0} (keeps : ℕ → Bool) (pair : K × V) (byte : ℕ) (r : Result A (NotInserted K V))
-      → FindsThen kind hash (λ bucket. slots_after_insertion kind keeps bucket pair byte) old r new
+  pub no_new-inserted : (hash : ℕ) (old : TableView K V H) (r : Result A (NotInserted K V)) (new : TableView K V H)
+      → FindsThen kind hash old (λ answer between. InsertsAt kind keeps pair byte between r answer new)
       → HasNoNewMark (marks_of old.arrays) (marks_of new.arrays)
-  no_new-inserted keeps pair byte (Ok done) finds =
-      let between = finds.0 in
-      let left = slots_after_insertion kind keeps (bucket_of between finds.1 finds.2) pair byte in
-      let put = marks_of-arrays_with between.arrays finds.1 finds.2 left
-      (marks_in-slots_after_insertion kind keeps (bucket_of between finds.1 finds.2) pair byte) in
-      no_new-trans (marks_of old.arrays) (marks_of between.arrays) (marks_of new.arrays)
-      (found kind hash old.arrays between.arrays finds.1 finds.2 finds.3.found)
-      (subst (λ (table : TableView K V H). HasNoNewMark (marks_of between.arrays) (marks_of table.arrays)) (sym finds.4) put)
-  no_new-inserted keeps pair byte (Err why) finds = no_new-found_or_refused finds
+  no_new-inserted hash old r new f =
+      no_new-trans (marks_of old.arrays) (marks_of f.between.arrays) (marks_of new.arrays)
+      (found kind hash old f.between f.answer f.found) (inserted_at f.between r f.answer new f.done)

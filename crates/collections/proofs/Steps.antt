@@ -1,5 +1,5 @@
 -- What the calls of a table by key do to the map that it is.
-use Rattle.std.proofs.Common.{ℕ, ◌≡◌, ◌-◌, ◌*◌, if◌then◌else◌, Bool, true, cond, Option, Some, None, Result, Ok, Err, List, ◌∷◌, length}
+use Rattle.std.proofs.Common.{ℕ, ◌≡◌, ◌-◌, if◌then◌else◌, Bool, true, cond, Option, Some, None, Result, Ok, Err, List, ◌∷◌}
 use Rattle.std.proofs.Common.{refl, subst, sym, ap, ◌∙◌, arith}
 use Rattle.std.specs.Borrow.{Bor, MutBor}
 use Rattle.std.specs.Cmp.{IsEquivalence}
@@ -7,10 +7,8 @@ use Rattle.std.specs.List.{Contains, IsDistinct}
 use Rattle.std.specs.List.Sorted.{IsPermutation}
 use Rattle.std.specs.Map.{keys_of}
 use Rattle.std.proofs.lemmas.Bool.{le-leb}
-use Rattle.std.proofs.lemmas.List.{length-map}
 use Rattle.std.proofs.lemmas.List.Sorted.{Contains-permutation, IsPermutation-sym, length_permutation}
-use Rattle.bucket_slots.specs.BucketView.{BucketView}
-use Rattle.bucket_table.specs.Views.ArraysView.{TableView, killed_flags, pairs_of}
+use Rattle.bucket_table.specs.Views.ArraysView.{TableView, pairs_of}
 use Rattle.bucket_table.specs.Map.LookingUp.{IsAbsent}
 use Rattle.bucket_table.specs.Map.MapState.{AddsPair, Becomes, ChangesValue, KeepsPairs, LowersMinimum, TakesPair, state_of}
 use Rattle.bucket_table.specs.Map.ByKey as by_key
@@ -168,8 +166,3 @@ module _ {K V H : Type 0} (eq : K → K → Bool) (laws : IsEquivalence eq) wher
       let none : t.arrays.minimum - answer ≡ 0 = omega (arith, all, is) in
       stays_by kind t s distinct after 0
       (subst (λ (n : ℕ). KeepsPairs (record (state_of kind t) { minimum = n }) (state_of kind s)) none lowers.kept)
-
--- an array whose flags stay has as many slots as before
-pub same_slots : {K V : Type 0} (old new : List (BucketView K V)) → killed_flags new ≡ killed_flags old → 32 * length new ≡ 32 * length old
-same_slots old new same =
-    ap (λ n. 32 * n) (sym (length-map new (λ bucket. bucket.killed)) ∙ ap length same ∙ length-map old (λ bucket. bucket.killed))

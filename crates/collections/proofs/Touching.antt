@@ -1,5 +1,5 @@
 -- What a look-up of a cache that touches says of the map and of the pair.
-use Rattle.std.proofs.Common.{◌≡◌, Bool, true, false, None, Some, refl, sym, subst, ◌∙◌}
+use Rattle.std.proofs.Common.{ℕ, ◌≡◌, Bool, true, false, None, Some, refl, sym, subst, ◌∙◌}
 use Rattle.std.specs.Cmp.{IsEquivalence}
 use Rattle.std.specs.List.{IsDistinct}
 use Rattle.std.specs.Map.{keys_of}
@@ -37,25 +37,25 @@ module _ {K V H : Type 0} (eq : K → K → Bool) (laws : IsEquivalence eq) (t s
       ∙ sym (same true done) ∙ get_absent eq laws k (pairs_of s.arrays) none in
       absurd cc
 
-  touched : (r is_there : Bool) → r ≡ is_there → Touches eq k (state_of 67 t) r (state_of 67 s)
-      → PreparesThen 67 t (λ between. ChangesAt (slots_touched true) r between s) → IsTouched eq is_there t s
-  touched r is_there is done moved = record {
+  touched : (hash : ℕ) (r is_there : Bool) → r ≡ is_there → Touches eq k (state_of 67 t) r (state_of 67 s)
+      → PreparesThen 67 hash t (λ between. ChangesAt eq k (slots_touched true) r between s) → IsTouched eq k hash is_there t s
+  touched hash r is_there is done moved = record {
     map = stays eq laws 67 t s distinct after (keeps r done);
-    arrays = subst (λ b. PreparesThen 67 t (λ between. ChangesAt (slots_touched true) b between s)) is moved;
+    arrays = subst (λ b. PreparesThen 67 hash t (λ between. ChangesAt eq k (slots_touched true) b between s)) is moved;
   }
 
   -- a value was found, the one that the key had before
-  pub found_touched : (r : Bool) (p : K × V) → Touches eq k (state_of 67 t) r (state_of 67 s)
-      → PreparesThen 67 t (λ between. ChangesAt (slots_touched true) r between s) → IsThere eq k (pairs_of s.arrays) p
-      → IsTouched eq true t s × (Some p.1 ≡ get eq (map_of t) k)
-  found_touched r p done moved there = (
-    touched r true (there_is r p done there) done moved,
+  pub found_touched : (hash : ℕ) (r : Bool) (p : K × V) → Touches eq k (state_of 67 t) r (state_of 67 s)
+      → PreparesThen 67 hash t (λ between. ChangesAt eq k (slots_touched true) r between s) → IsThere eq k (pairs_of s.arrays) p
+      → IsTouched eq k hash true t s × (Some p.1 ≡ get eq (map_of t) k)
+  found_touched hash r p done moved there = (
+    touched hash r true (there_is r p done there) done moved,
     sym (get_there eq laws k (pairs_of s.arrays) p after there) ∙ same r done,
   )
 
   -- none was, and the key was absent before
-  pub missed_touched : (r : Bool) → Touches eq k (state_of 67 t) r (state_of 67 s)
-      → PreparesThen 67 t (λ between. ChangesAt (slots_touched true) r between s) → IsAbsent eq k (pairs_of s.arrays)
-      → IsTouched eq false t s × (None ≡ get eq (map_of t) k)
-  missed_touched r done moved none =
-      (touched r false (absent_is r done none) done moved, sym (get_absent eq laws k (pairs_of s.arrays) none) ∙ same r done)
+  pub missed_touched : (hash : ℕ) (r : Bool) → Touches eq k (state_of 67 t) r (state_of 67 s)
+      → PreparesThen 67 hash t (λ between. ChangesAt eq k (slots_touched true) r between s) → IsAbsent eq k (pairs_of s.arrays)
+      → IsTouched eq k hash false t s × (None ≡ get eq (map_of t) k)
+  missed_touched hash r done moved none =
+      (touched hash r false (absent_is r done none) done moved, sym (get_absent eq laws k (pairs_of s.arrays) none) ∙ same r done)

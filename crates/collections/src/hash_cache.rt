@@ -4,7 +4,7 @@
 //! it, and answers as std's `HashMap` does.
 //!
 //! Ports scc's `src/hash_cache.rs` to an owned cache: a borrow stands where scc locks.
-ghost use Rattle.std.specs.Prelude.{◌≡◌, ◌↔◌, ◌^◌, ◌*◌, ◌-◌, ◌++◌, [], IsTrue, is_some, length, max, min};
+ghost use Rattle.std.specs.Prelude.{◌≡◌, ◌↔◌, ◌^◌, ◌*◌, ◌-◌, ◌%◌, ◌++◌, [], IsTrue, is_some, length, max, min};
 ghost use Rattle.std.specs.Prelude.{true};
 ghost use Rattle.std.specs.Borrow.{sem};
 ghost use Rattle.std.specs.Option.{option_copied};
@@ -13,7 +13,8 @@ ghost use Rattle.bucket_slots.specs.Sizing.{IsLeastPowerOfTwo};
 ghost use Rattle.bucket_slots.specs.Walking.{CallsEach};
 ghost use Rattle.bucket_table.specs.Map.ByKey.{PreparesThen, ShrinksAt};
 ghost use Rattle.bucket_table.specs.Map.Counting.{IsHeldBy};
-ghost use Rattle.bucket_table.specs.Map.Putting.{PutsThen};
+ghost use Rattle.bucket_table.specs.Map.Finding.{FindsThen};
+ghost use Rattle.bucket_table.specs.Map.Putting.{PutsAt};
 ghost use Rattle.bucket_table.specs.Rehash.State.{first_tickets};
 ghost use Rattle.bucket_table.specs.Views.ArraysView.{pairs_of};
 ghost use Rattle.collections.specs.Changes.{Puts, Removes};
@@ -190,7 +191,8 @@ impl<K: Eq + Drop, V: Drop, H: KeyHash<K>> HashCache<K, V, H> {
     pub fn get(&mut self, key: &K) -> Option<&V>
         ensures value { option_copied result ≡ get K.eq (map_of self.old) key.now }
         ensures* ends { sem 𝓛 (EndsSo K.row V.row H.row K.PartialEq H.KeyHash self.entry
-            (IsTouched K.eq (is_some result) self.old)) }
+            (IsTouched K.eq key.now (H.hash_of self.old.hasher key.now) (is_some result)
+            self.old)) }
     {
         self.room.learn();
         self.table.sound();
@@ -215,8 +217,9 @@ impl<K: Eq + Drop, V: Drop, H: KeyHash<K>> HashCache<K, V, H> {
     /// O(1) expected, beside a resize. scc: `HashCache::put_sync`.
     pub fn put(&mut self, key: K, value: V) -> Result<Option<(K, V)>, NotInserted<K, V>>
         ensures map { Puts K.eq key value (map_of self.old) result (map_of self.new) }
-        ensures arrays { PutsThen CACHE (H.hash_of self.old.hasher key) true (key, value) self.old
-            result self.new }
+        ensures arrays { FindsThen CACHE (H.hash_of self.old.hasher key) self.old (λ answer between.
+            PutsAt true (key, value) (H.hash_of self.old.hasher key % 256) between result answer
+            self.new) }
     {
         self.room.learn();
         self.table.sound();
@@ -232,8 +235,8 @@ impl<K: Eq + Drop, V: Drop, H: KeyHash<K>> HashCache<K, V, H> {
     #[inline(always)]
     pub fn remove(&mut self, key: &K) -> Option<(K, V)>
         ensures map { Removes K.eq key.now (map_of self.old) result (map_of self.new) }
-        ensures arrays { PreparesThen CACHE self.old (λ between.
-            ShrinksAt slots_without (is_some result) between self.new) }
+        ensures arrays { PreparesThen CACHE (H.hash_of self.old.hasher key.now) self.old (λ between.
+            ShrinksAt K.eq key.now slots_without (is_some result) between self.new) }
     {
         self.room.learn();
         self.table.sound();

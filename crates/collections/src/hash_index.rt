@@ -11,10 +11,10 @@
 ghost use Rattle.std.specs.Prelude.{◌≡◌, ◌↔◌, ◌-◌, ◌*◌, ◌%◌, ◌^◌, [], IsTrue, is_some, length, min};
 ghost use Rattle.std.specs.Option.{option_copied};
 ghost use Rattle.std.specs.Borrow.{Bor};
-ghost use Rattle.bucket_slots.specs.Clearing.{slots_after_insertion};
 ghost use Rattle.bucket_slots.specs.Marking.{HasNoNewMark, MarksBy, slots_marked};
 ghost use Rattle.bucket_slots.specs.Walking.{CallsEach};
-ghost use Rattle.bucket_table.specs.Map.ByKey.{FindsThen, PreparesThen, ShrinksAt};
+ghost use Rattle.bucket_table.specs.Map.ByKey.{InsertsAt, PreparesThen, ShrinksAt};
+ghost use Rattle.bucket_table.specs.Map.Finding.{FindsThen};
 ghost use Rattle.bucket_table.specs.Rehash.State.{first_tickets};
 ghost use Rattle.bucket_table.specs.Views.ArraysView.{marks_of, pairs_of};
 ghost use Rattle.collections.specs.Maps.{contains, get, IsEmpty, map_len, map_of};
@@ -179,9 +179,9 @@ impl<K: Eq + Drop, V: Drop, H: KeyHash<K>> HashIndex<K, V, H> {
     ) -> Result<(), NotInserted<K, V>>
         ensures map { Inserts K.eq key value (map_of self.old) result (map_of self.new) }
         ensures marks { HasNoNewMark (marks_of self.old.arrays) (marks_of self.new.arrays) }
-        ensures arrays { FindsThen INDEX (H.hash_of self.old.hasher key)
-            (λ bucket. slots_after_insertion INDEX (G.keeps generation.now) bucket (key, value)
-            (H.hash_of self.old.hasher key % 256)) self.old result self.new }
+        ensures arrays { FindsThen INDEX (H.hash_of self.old.hasher key) self.old (λ answer between.
+            InsertsAt INDEX (G.keeps generation.now) (key, value)
+            (H.hash_of self.old.hasher key % 256) between result answer self.new) }
     {
         self.room.learn();
         self.table.sound();
@@ -199,9 +199,10 @@ impl<K: Eq + Drop, V: Drop, H: KeyHash<K>> HashIndex<K, V, H> {
         ensures map { TakesOut K.eq key.now (map_of self.old) result (map_of self.new) }
         ensures marks { MarksBy (G.epoch_of generation.now) (marks_of self.old.arrays)
             (marks_of self.new.arrays) }
-        ensures arrays { PreparesThen INDEX self.old (λ between.
-            ShrinksAt (λ bucket at. slots_marked bucket at (G.epoch_of generation.now)) result
-            between self.new) }
+        ensures arrays { PreparesThen INDEX (H.hash_of self.old.hasher key.now) self.old (λ between.
+            ShrinksAt K.eq key.now
+            (λ bucket at. slots_marked bucket at (G.epoch_of generation.now)) result between
+            self.new) }
     {
         let removed = self.remove_with(key, generation, |_own: &K, _value: &V| ());
         removed.is_some()
@@ -223,9 +224,10 @@ impl<K: Eq + Drop, V: Drop, H: KeyHash<K>> HashIndex<K, V, H> {
             (map_of self.old) result (map_of self.new) }
         ensures marks { MarksBy (G.epoch_of generation.now) (marks_of self.old.arrays)
             (marks_of self.new.arrays) }
-        ensures arrays { PreparesThen INDEX self.old (λ between.
-            ShrinksAt (λ bucket at. slots_marked bucket at (G.epoch_of generation.now))
-            (is_some result) between self.new) }
+        ensures arrays { PreparesThen INDEX (H.hash_of self.old.hasher key.now) self.old (λ between.
+            ShrinksAt K.eq key.now
+            (λ bucket at. slots_marked bucket at (G.epoch_of generation.now)) (is_some result)
+            between self.new) }
     {
         self.room.learn();
         self.table.sound();

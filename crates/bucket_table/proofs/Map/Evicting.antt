@@ -1,40 +1,54 @@
 -- A pair evicted from a hash's home, and what that makes of the table in which the home was prepared.
-use Rattle.bucket_table.proofs.Words.{IfNone, IfSome, IsHome, KeepsPairs, None, Ok, Option, Some, TableView, false, free, inl, inr, length}
-use Rattle.bucket_table.proofs.Words.{live_pair, refl, slot_at, subst, sym, ℕ, ◌↔◌, ◌∙◌, ◌≡◌}
-use Rattle.std.proofs.Common.{IsNone, OnSome}
-use Rattle.std.specs.List.{Contains}
-use Rattle.bucket_slots.specs.Evicting.{slot_to_evict, slots_evicted}
+use Rattle.bucket_table.proofs.Words.{Bool, Err, IfSome, IsHome, KeepsPairs, None, Ok, Option, Some, TableView, buckets_on, false, inl, inr}
+use Rattle.bucket_table.proofs.Words.{length, refl, subst, sym, true, ℕ, ◌∙◌, ◌≡◌}
 use Rattle.bucket_table.specs.Map.ByKey.{Evicts, EvictsAt, PreparesThen}
 use Rattle.bucket_table.specs.Map.MapState.{TakesPair, state_of}
-use Rattle.bucket_table.specs.Map.Preparing.{IsPrepared}
+use Rattle.bucket_table.specs.Map.Preparing.{HomeWantsMemory, IsPrepared, IsReady}
+use Rattle.bucket_table.specs.Map.Putting.{Goes, slots_left}
 use Rattle.bucket_table.specs.Views.Sides.{bucket_of, with_bucket}
+use Rattle.bucket_table.proofs.Map.LockedSteps.{with_own}
+use Rattle.bucket_table.proofs.Map.Preparing.{wanting_unready}
 use Rattle.bucket_table.proofs.Map.TakeSteps.{then_taken}
 
 module _ {K V H : Type 0} (kind : ℕ) (old between new : TableView K V H) where
   -- a pair is out, or all stays, after the pairs moved
-  pub then_evicted : (r : Option (K × V)) → KeepsPairs (state_of kind old) (state_of kind between)
-      → IfSome r (λ pair. TakesPair (state_of kind between) pair (state_of kind new)) → IfNone r (new ≡ between)
+  pub then_evicted : (side : Bool) (index : ℕ) (r : Option (K × V)) → KeepsPairs (state_of kind old) (state_of kind between)
+      → IfSome r (λ pair. TakesPair (state_of kind between) pair (state_of kind new))
+      → new ≡ with_bucket between side index (slots_left (bucket_of between side index) r)
       → Evicts {E = ℕ} (state_of kind old) (Ok r) (state_of kind new)
-  then_evicted (Some pair) keeps takes same =
+  then_evicted side index (Some pair) keeps takes is =
       then_taken (state_of kind old) (state_of kind between) (state_of kind new) pair keeps takes
-  then_evicted None keeps takes same =
+  then_evicted side index None keeps takes is =
+      let same = is ∙ with_own between.hasher between.arrays side index (bucket_of between side index) refl in
       subst (λ (t : TableView K V H). KeepsPairs (state_of kind old) (state_of kind t)) (sym same) keeps
 
   -- and which pair it is
-  pub evicted_at : (hash index : ℕ) (r : Option (K × V)) → IsPrepared kind old between → IsHome (length between.arrays.current) hash index
-      → IfSome r (λ pair. live_pair (slot_at (bucket_of between false index).own (slot_to_evict (bucket_of between false index)))
-      ≡ Some pair)
-      → OnSome r (new ≡ with_bucket between false index (slots_evicted (bucket_of between false index)))
-      → IsNone r ↔ Contains (bucket_of between false index).own free → IfNone r (new ≡ between)
-      → PreparesThen kind old (λ moved. EvictsAt {E = ℕ} hash moved (Ok r) new)
-  evicted_at hash index (Some pair) prepared home there is none same =
-      record { between = between; prepared = prepared; done = (index, home, there, is) }
-  evicted_at hash index None prepared home there is none same =
-      record { between = between; prepared = prepared; done = (inr (index, home, none.0 refl), same) }
+  at_current : (hash index : ℕ) (r : Option (K × V)) → IsPrepared kind hash old between → IsReady between.arrays hash
+      → IsHome (length between.arrays.current) hash index → Goes (bucket_of between false index) r
+      → new ≡ with_bucket between false index (slots_left (bucket_of between false index) r)
+      → PreparesThen kind hash old (λ moved. EvictsAt {E = ℕ} hash moved (Ok r) new)
+  at_current hash index (Some pair) prepared ready home went is =
+      record { between = between; prepared = prepared; done = (ready, index, home, went.1, is) }
+  at_current hash index None prepared ready home went is =
+      let same = is ∙ with_own between.hasher between.arrays false index (bucket_of between false index) refl in
+      record { between = between; prepared = prepared; done = (inr (ready, index, home, went), same) }
+
+  pub evicted_at : (hash : ℕ) (side : Bool) (index : ℕ) (r : Option (K × V)) → IsPrepared kind hash old between → side ≡ false
+      → IsReady between.arrays hash → IsHome (length (buckets_on between.arrays side)) hash index → Goes (bucket_of between side index) r
+      → new ≡ with_bucket between side index (slots_left (bucket_of between side index) r)
+      → PreparesThen kind hash old (λ moved. EvictsAt {E = ℕ} hash moved (Ok r) new)
+  evicted_at hash true index r prepared current ready home went is = absurd cc
+  evicted_at hash false index r prepared current ready home went is = at_current hash index r prepared ready home went is
 
 module _ {K V H : Type 0} (kind : ℕ) (old new : TableView K V H) where
   -- without an array there is nothing to evict
-  pub nothing_evicted : (hash : ℕ) → IsPrepared kind old new → length old.arrays.current ≡ 0
-      → PreparesThen kind old (λ moved. EvictsAt {E = ℕ} hash moved (Ok None) new)
+  pub nothing_evicted : (hash : ℕ) → IsPrepared kind hash old new → length old.arrays.current ≡ 0
+      → PreparesThen kind hash old (λ moved. EvictsAt {E = ℕ} hash moved (Ok None) new)
   nothing_evicted hash prepared none =
       record { between = new; prepared = prepared; done = (inl (prepared.kept.current_len ∙ none), refl) }
+
+  -- nor is anything evicted where memory was wanted
+  pub evict_refused : (hash : ℕ) → IsPrepared kind hash old new → HomeWantsMemory hash old.arrays new.arrays
+      → PreparesThen kind hash old (λ moved. EvictsAt {E = ℕ} hash moved (Err 0) new)
+  evict_refused hash prepared wants =
+      record { between = new; prepared = prepared; done = (wanting_unready hash old.arrays new.arrays wants, refl) }

@@ -1,55 +1,62 @@
 -- What finding a bucket for a writer, and preparing a home, leave of a table.
-use Rattle.bucket_table.proofs.Words.{ArraysView, Bool, Err, IfOk, IsHome, Keeps, KeepsArrays, Ok, OnErr, Result, TableView, WorksUnits, ap}
-use Rattle.bucket_table.proofs.Words.{arith, buckets_on, cases_lt, inl, inr, length, ℕ, ◌<◌, ◌∙◌, ◌≡◌}
-use Rattle.bucket_table.specs.Map.Finding.{FindsBucket, FindsNone, ReadiesThenGrows}
-use Rattle.bucket_table.specs.Map.Preparing.{IsPrepared}
-use Rattle.bucket_table.specs.Map.Refusing.{IsRefused}
+use Rattle.bucket_table.proofs.Words.{ArraysView, Bool, Err, IfOk, IsHome, IsLocked, Keeps, KeepsArrays, Ok, OnErr, OnOk, Result}
+use Rattle.bucket_table.proofs.Words.{TableView, WorksUnits, ap, arith, buckets_on, cases_lt, inl, inr, length, refl, ℕ, ◌<◌, ◌∙◌, ◌≡◌, ◌⊎◌}
+use Rattle.std.proofs.Common.{IfErr}
+use Rattle.bucket_table.specs.Map.Finding.{Finds, FindsNone, ReadiesThenGrows}
+use Rattle.bucket_table.specs.Map.Preparing.{HomeWantsMemory, IsMissing, IsPrepared, IsReady}
+use Rattle.bucket_table.specs.declared.arrays.Missing.{Missing}
+use Rattle.bucket_table.specs.declared.arrays.Missing.TheVariants.{Nothing, Memory}
 use Rattle.bucket_table.proofs.Views.Keeping.{kept_none}
 use Rattle.bucket_table.proofs.Map.MapKept.{state_found}
 
 module _ {K V : Type 0} where
   -- it was refused beside an old array, or for the first one
-  pub none_found : (old new : ArraysView K V) → (0 < length old.linked → KeepsArrays old new) → WorksUnits 1 old new
-      → (length old.linked ≡ 0 → (length old.current ≡ 0) × (new ≡ old)) → FindsNone old new
-  none_found old new beside units alone = record {
+  pub none_found : (hash : ℕ) (old new : ArraysView K V) → (0 < length old.linked → KeepsArrays old new) → WorksUnits 1 old new
+      → (length old.linked ≡ 0 → (length old.current ≡ 0) × (new ≡ old)) → (0 < length new.current → HomeWantsMemory hash old new)
+      → FindsNone hash old new
+  none_found hash old new beside units alone home = record {
     kept = elim (cases_lt 0 (length old.linked)) [
       | inl some ↦ beside some
       | inr none ↦ rw (alone (omega (arith, none))).1 (kept_none old)
     ];
     units = units;
     alone = alone;
+    home = home;
   }
 
+  -- a home is ready after its preparation, or memory was wanted
+  pub home_answered : {A : Type 0} (hash : ℕ) (old new : ArraysView K V) (result : Result A Missing) → OnOk result (IsReady new hash)
+      → IfErr result (λ missing. IsMissing missing old) → (result ≡ Err Memory → HomeWantsMemory hash old new)
+      → length new.current ≡ length old.current → 0 < length new.current → IsReady new hash ⊎ HomeWantsMemory hash old new
+  home_answered hash old new (Ok done) ready missing wants same stands = inl ready
+  home_answered hash old new (Err Nothing) ready missing wants same stands = absurd (omega (arith, missing, same, stands))
+  home_answered hash old new (Err Memory) ready missing wants same stands = inr (wants refl)
+
 -- what becomes of the arrays becomes of the table
-module _ {K V H : Type 0} (kind : ℕ) (hasher : H) (a new : ArraysView K V) where
+module _ {K V H : Type 0} (kind hash : ℕ) (hasher : H) (a new : ArraysView K V) where
   abbrev over : ArraysView K V → TableView K V H
   over b = record { hasher = hasher; arrays = b }
 
-  pub prepared : KeepsArrays a new → WorksUnits 1 a new → (length a.linked ≡ 0 → new ≡ a) → IsPrepared kind (over a) (over new)
-  prepared kept units alone = record {
+  pub prepared : KeepsArrays a new → WorksUnits 1 a new → (length a.linked ≡ 0 → new ≡ a)
+      → (0 < length new.current → IsReady new hash ⊎ HomeWantsMemory hash a new) → IsPrepared kind hash (over a) (over new)
+  prepared kept units alone home = record {
     map = state_found kind hasher a new kept.keeps;
     kept = kept;
     units = units;
     alone = λ none. ap (λ (b : ArraysView K V). over b) (alone none);
+    home = home;
   }
 
-  pub refused : {A E : Type 0} (result : Result A E) → OnErr result (FindsNone a new) → OnErr result (IsRefused kind (over a) (over new))
-  refused (Ok x) none = tt
-  refused (Err e) none = record {
-    prepared = prepared none.kept none.units (λ gone. (none.alone gone).1);
+  -- what the arrays answer is what the table answers
+  pub finds : {E : Type 0} (result : Result (Bool × ℕ) E) → Keeps a new → IfOk result (λ found. IsLocked new found.0 found.1)
+      → IfOk result (λ found. IsHome (length (buckets_on new found.0)) hash found.1)
+      → IfOk result (λ found. ReadiesThenGrows kind hash a found.0 found.1 new) → OnErr result (FindsNone hash a new)
+      → Finds kind hash (over a) result (over new)
+  finds (Ok at) kept locked home ready none =
+      record { map = state_found kind hasher a new kept; kept = kept; home = home; locked = locked; found = ready }
+  finds (Err e) kept locked home ready none = record {
+    prepared = prepared none.kept none.units (λ gone. (none.alone gone).1) (λ stands. inr (none.home stands));
     alone = λ gone. (none.alone gone).0;
     no_array = λ gone. none.kept.current_len ∙ gone;
+    home = none.home;
   }
-
-  pub found : {E : Type 0} (hash : ℕ) (result : Result (Bool × ℕ) E) → Keeps a new
-      → IfOk result (λ found. IsHome (length (buckets_on new found.0)) hash found.1)
-      → IfOk result (λ found. ReadiesThenGrows kind hash a found.0 found.1 new)
-      → IfOk result (λ found. FindsBucket kind hash (over a) found.0 found.1 (over new))
-  found hash (Ok at) kept home ready = record {
-    map = state_found kind hasher a new kept;
-    bag = kept.open_tickets;
-    home = home;
-    found =
-        ready;
-  }
-  found hash (Err e) kept home ready = tt

@@ -1,10 +1,11 @@
 -- A pair put into a locked bucket where its key is nowhere, and what that makes of the table in which the bucket was found.
 use Rattle.bucket_table.proofs.Words.{ArraysView, Bool, BucketView, Err, IsHome, IsLocked, IsOneMap, IsPermutation-refl, KeepsPairs}
 use Rattle.bucket_table.proofs.Words.{MapState, Ok, OnErr, OnOk, Result, bucket_at, buckets_on, length, pairs_of, refl}
-use Rattle.bucket_table.proofs.Words.{slots_after_insertion, true, ℕ, IsEquivalence, TableView, inr, subst, sym, ◌%◌, ◌≡◌}
-use Rattle.bucket_table.specs.Map.ByKey.{AnswersInsertion, FindsThen, HandsBack, Inserts}
-use Rattle.bucket_table.specs.Map.Finding.{FindsBucket}
+use Rattle.bucket_table.proofs.Words.{slots_after_insertion, true, ℕ, IsEquivalence, TableView, ◌%◌, ◌≡◌}
+use Rattle.bucket_table.specs.Map.ByKey.{AnswersInsertion, HandsBack, Inserts, InsertsAt}
+use Rattle.bucket_table.specs.Map.Finding.{FindsBucket, FindsThen}
 use Rattle.bucket_table.specs.Map.MapState.{state_of}
+use Rattle.bucket_table.specs.Map.Refusing.{IsRefused}
 use Rattle.bucket_table.specs.Views.Sides.{bucket_of, with_bucket}
 use Rattle.bucket_table.specs.declared.hash_table.NotInserted.{NotInserted}
 use Rattle.bucket_table.specs.declared.hash_table.NotInserted.TheVariants.{Memory, Present}
@@ -18,7 +19,7 @@ module _ {K V H : Type 0} {eq : K → K → Bool} (laws : IsEquivalence eq) (has
     (side : Bool) (i : ℕ) (one : IsOneMap eq (hash hasher) a) (locked : IsLocked a side i) where
   pub inserted_where_absent : {A : Type 0} (r : Result A (NotInserted K V)) (b : BucketView K V) (keeps : ℕ → Bool) (key : K) (value : V)
       (h : ℕ) → ((own : K) → eq own key ≡ true → hash hasher own ≡ h) → h ≡ hash hasher key → IsHome (length (buckets_on a side)) h i
-      → AnswersInsertion eq key value (h % 256) (bucket_at (buckets_on a side) i) r
+      → AnswersInsertion eq key value (h % 256) kind keeps (bucket_at (buckets_on a side) i) r
       → OnOk r (b ≡ slots_after_insertion kind keeps (bucket_at (buckets_on a side) i) (key, value) (h % 256))
       → OnErr r (b ≡ bucket_at (buckets_on a side) i)
       → Leaves laws hash kind side i one (changeable_locked a side i locked)
@@ -59,11 +60,25 @@ module _ {K V H A : Type 0} where
       (handed_back eq key value old between why keeps x.0, then_kept old between new keeps x.1)
 
   -- a bucket found for the hash of a key, and changed where a pair was put
-  pub found_then : (kind h n : ℕ) (keeps : ℕ → Bool) (pair : K × V) (old between new : TableView K V H) (side : Bool) (i : ℕ)
-      (r : Result A (NotInserted K V)) → h ≡ n → FindsBucket kind h old side i between
-      → OnOk r (new ≡ with_bucket between side i (slots_after_insertion kind keeps (bucket_of between side i) pair (h % 256)))
-      → OnErr r (new ≡ between) → FindsThen kind n (λ bucket. slots_after_insertion kind keeps bucket pair (n % 256)) old r new
-  found_then kind h n keeps pair old between new side i (Ok done) own found put same =
-      rw (← own) (between, side, i, found, put)
-  found_then kind h n keeps pair old between new side i (Err why) own found put same =
-      rw (← own) (inr (side, i, subst (λ (t : TableView K V H). FindsBucket kind h old side i t) (sym same) found))
+  pub found_then : (eq : K → K → Bool) (kind h n : ℕ) (keeps : ℕ → Bool) (key : K) (value : V) (old between new : TableView K V H)
+      (side : Bool) (i : ℕ) (r : Result A (NotInserted K V)) → h ≡ n → FindsBucket kind h old side i between
+      → AnswersInsertion eq key value (h % 256) kind keeps (bucket_of between side i) r
+      → OnOk r (new ≡ with_bucket between side i (slots_after_insertion kind keeps (bucket_of between side i) (key, value) (h % 256)))
+      → OnErr r (new ≡ between)
+      → FindsThen kind n old (λ answer table. InsertsAt kind keeps (key, value) (n % 256) table r answer new)
+  found_then eq kind h n keeps key value old between new side i (Ok done) own found answer put same =
+      rw (← own) (record { answer = Ok (side, i); between = between; found = found; done = put })
+  found_then eq kind h n keeps key value old between new side i (Err (Present k v)) own found answer put same =
+      rw (← own) (record { answer = Ok (side, i); between = between; found = found; done = same })
+  found_then eq kind h n keeps key value old between new side i (Err (Memory k v)) own found answer put same =
+      rw (← own) (record { answer = Ok (side, i); between = between; found = found; done = (answer.3, same) })
+
+module _ {K V H : Type 0} where
+  -- and where none is found
+  pub refused_then : (kind n : ℕ) (keeps : ℕ → Bool) (pair : K × V) (old new : TableView K V H) (why : NotInserted K V)
+      → IsRefused kind n old new
+      → FindsThen kind n old (λ answer table. InsertsAt {A = ℕ} kind keeps pair (n % 256) table (Err why) answer new)
+  refused_then kind n keeps pair old new (Present k v) refused =
+      record { answer = Err tt; between = new; found = refused; done = refl }
+  refused_then kind n keeps pair old new (Memory k v) refused =
+      record { answer = Err tt; between = new; found = refused; done = refl }

@@ -1,7 +1,7 @@
 -- What a call by key finds in a table, and which marks it brings.
 use Rattle.bucket_table.proofs.Words.{ArraysView, Bool, BucketView, HasNoNewMark, IfNone, IsAbsent, IsHome, IsOneMap, List, MarksBy, None}
-use Rattle.bucket_table.proofs.Words.{Option, Place, Slot, Some, ap, arrays_with, bucket_at, bucket_on, buckets_on, by-no_new, by-trans}
-use Rattle.bucket_table.proofs.Words.{free, is_live, length, live, live_pair, marked, marks_in, marks_of, pairs_of, refl, slot_in, subst}
+use Rattle.bucket_table.proofs.Words.{Option, Place, Some, ap, arrays_with, bucket_at, bucket_on, buckets_on, by-no_new, by-trans}
+use Rattle.bucket_table.proofs.Words.{length, marks_in, marks_of, pairs_of, subst}
 use Rattle.bucket_table.proofs.Words.{true, ℕ, ◌%◌, ◌<◌, ◌∙◌, ◌≡◌}
 use Rattle.bucket_slots.specs.BucketView.{pair_at}
 use Rattle.bucket_slots.specs.Searching.{pair_wanted, place_wanted}
@@ -10,19 +10,7 @@ use Rattle.bucket_table.specs.Map.LookingUp.{home_bucket}
 use Rattle.bucket_table.proofs.Map.LookUps.{home_bucket-is, searched_found, unwanted_from_homes}
 use Rattle.bucket_table.proofs.Views.MarksKept.{by-bucket}
 
--- a slot that has a pair is live
-live_of : {K V : Type 0} (x : Slot K V) (p : K × V) → live_pair x ≡ Some p → is_live x ≡ true
-live_of free p h = absurd cc
-live_of (live q byte) p h = refl
-live_of (marked q byte) p h = absurd cc
-
 module _ {K V : Type 0} where
-  -- the slot that a search found is live
-  pub stands_live : (eq : K → K → Bool) (key : K) (arrays : ArraysView K V) (is_old : Bool) (index : ℕ) (at : Place)
-      → StandsAt eq key arrays is_old index at
-      → is_live (slot_in (bucket_on arrays is_old index) at) ≡ true
-  stands_live eq key arrays is_old index at stands = live_of (slot_in (bucket_on arrays is_old index) at) stands.pair stands.slot
-
   -- what a search of one side's home finds
   pub stands_found : (eq : K → K → Bool) (key : K) (arrays : ArraysView K V) (is_old : Bool) (array : List (BucketView K V))
       (b : BucketView K V) (byte index : ℕ) (at : Place)

@@ -1,5 +1,5 @@
 -- A value under a key was lent, after its slot was found.
-use Rattle.bucket_table.proofs.Words.{Bool, List, Place, Slot, Some, TableView, bucket_with_value, live_pair, pairs_of, refl, same_Some}
+use Rattle.bucket_table.proofs.Words.{Bool, List, Place, Slot, Some, TableView, live_pair, pairs_of, refl, same_Some}
 use Rattle.bucket_table.proofs.Words.{slot_in, subst, sym, ℕ, ◌∙◌, ◌≡◌}
 use Rattle.bucket_table.specs.Map.ByKey.{StandsAt}
 use Rattle.bucket_table.specs.Map.Lending.{WritesUnder, with_value}
@@ -7,9 +7,7 @@ use Rattle.bucket_table.specs.Map.LookingUp.{IsThere}
 use Rattle.bucket_table.specs.Map.MapState.{ChangesValue, state_of}
 use Rattle.bucket_table.specs.Map.Preparing.{IsPrepared}
 use Rattle.bucket_table.specs.Views.Sides.{bucket_of}
-use Rattle.bucket_table.proofs.Rehash.TicketSteps.{bag_with}
 use Rattle.bucket_table.proofs.Scripts.CallSteps.{then_changed, there_before}
-use Rattle.bucket_table.proofs.Views.Keeping.{bag_both}
 
 -- the pair in the slot is the one that the search found
 same_there : {K V : Type 0} (eq : K → K → Bool) (key : K) (pairs : List (K × V)) (slot : Slot K V) (p q : K × V)
@@ -17,7 +15,8 @@ same_there : {K V : Type 0} (eq : K → K → Bool) (key : K) (pairs : List (K �
 same_there {K} {V} eq key pairs slot p q found there lent =
     subst (λ (r : K × V). IsThere eq key pairs r) (same_Some p q (sym found ∙ lent)) there
 
-module _ {K V H : Type 0} (eq : K → K → Bool) (key : K) (kind : ℕ) (old between : TableView K V H) (prepared : IsPrepared kind old between)
+module _ {K V H : Type 0} (eq : K → K → Bool) (key : K) (kind hash : ℕ) (old between : TableView K V H)
+    (prepared : IsPrepared kind hash old between)
     (side : Bool) (i : ℕ) (at : Place) (stands : StandsAt eq key between.arrays side i at) (own : K) (before : V)
     (lent : live_pair (slot_in (bucket_of between side i) at) ≡ Some (own, before)) where
   there : IsThere eq key (pairs_of between.arrays) (own, before)
@@ -31,7 +30,7 @@ module _ {K V H : Type 0} (eq : K → K → Bool) (key : K) (kind : ℕ) (old be
   -- and another value is written there
   pub lent_writes : (value : V) → ChangesValue (state_of kind between) (own, before) value
       (state_of kind (with_value between side i at value))
-      → WritesUnder eq key kind old before value (with_value between side i at value)
+      → WritesUnder eq key kind hash old before value (with_value between side i at value)
   lent_writes value wrote = record {
     map = (
       own,
@@ -39,7 +38,5 @@ module _ {K V H : Type 0} (eq : K → K → Bool) (key : K) (kind : ℕ) (old be
       then_changed (state_of kind old) (state_of kind between) (state_of kind (with_value between side i at value)) (own, before) value
           prepared.map wrote,
     );
-    bag = bag_both old.arrays.tickets between.arrays.tickets (with_value between side i at value).arrays.tickets
-        prepared.kept.keeps.open_tickets (bag_with between.arrays side i (bucket_with_value (bucket_of between side i) at value));
-    arrays = record { between = between; prepared = prepared; done = (side, i, at, refl) };
+    arrays = record { between = between; prepared = prepared; done = (side, i, at, stands, refl) };
   }

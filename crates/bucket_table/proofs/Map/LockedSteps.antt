@@ -1,16 +1,14 @@
 -- What is left of a table's arrays once one bucket is another one.
 use Rattle.bucket_table.proofs.Words.{ArraysView, AsksShrinking, Bool, BucketView, Err, IfNone, IsPermutation-cons, IsPermutation-trans}
-use Rattle.bucket_table.proofs.Words.{Keeps, KeepsOpenTickets, KeepsPairs, MapState, None, Ok, OnErr, OnOk, Option, Place, Result, Slot}
+use Rattle.bucket_table.proofs.Words.{Keeps, KeepsPairs, MapState, None, Ok, OnErr, OnOk, Option, Place, Result, Slot}
 use Rattle.bucket_table.proofs.Words.{Some, TableView, [], ap, arrays_with, bucket_at, buckets_on, empty_bucket, free, get_or-set_same}
 use Rattle.bucket_table.proofs.Words.{is_live, length, live, live_pair, pairs_in, refl, slot_in, subst, true, ℕ, ◌<◌, ◌∙◌, ◌∷◌, ◌≡◌}
-use Rattle.std.proofs.Common.{OnSome}
 use Rattle.bucket_slots.specs.Slots.{marked as marked_slot}
 use Rattle.bucket_table.specs.Resize.Asking.{RemovesAndShrinks, ResizesIf}
 use Rattle.bucket_table.specs.Map.MapState.{TakesPair, state_of}
 use Rattle.bucket_table.specs.Views.Sides.{bucket_of, with_bucket}
 use Rattle.bucket_table.proofs.Map.MapKept.{state_found}
 use Rattle.bucket_table.proofs.Views.SideChanges.{arrays_with-same, buckets_on-arrays_with}
-use Rattle.bucket_table.proofs.Rehash.TicketSteps.{bag_with}
 
 -- a live slot has a pair
 live_has : {K V : Type 0} (x : Slot K V) → is_live x ≡ true → (p : K × V) × (live_pair x ≡ Some p)
@@ -23,10 +21,6 @@ pub pair_there : {K V : Type 0} (b : BucketView K V) (place : Place)
 pair_there b place h = live_has (slot_in b place) h
 
 -- what follows for one answer
-pub on_some : {A P Q : Type 0} (r : Option A) → (P → Q) → OnSome r P → OnSome r Q
-on_some None f h = tt
-on_some (Some x) f h = f h
-
 pub if_none : {A P Q : Type 0} (r : Option A) → (P → Q) → IfNone r P → IfNone r Q
 if_none None f h = f h
 if_none (Some x) f h = tt
@@ -39,10 +33,6 @@ pub ok_not_err : {A E : Type 0} {x : A} {e : E} → ◌≡◌ {A = Result A E} (
 ok_not_err same = cc
 
 module _ {K V : Type 0} where
-  pub bag_through : (a : ArraysView K V) (side : Bool) (i : ℕ) (b : BucketView K V) (new : ArraysView K V)
-      → KeepsOpenTickets (arrays_with a side i b).tickets new.tickets → KeepsOpenTickets a.tickets new.tickets
-  bag_through a side i b new kept = λ unit. kept unit ∙ bag_with a side i b unit
-
   -- the bucket stands where it was put
   pub put_there : (a : ArraysView K V) (side : Bool) (i : ℕ) (b : BucketView K V)
       → i < length (buckets_on a side) → bucket_at (buckets_on (arrays_with a side i b) side) i ≡ b

@@ -1,6 +1,7 @@
 -- What moving the sources of a bucket leaves.
-use Rattle.bucket_table.proofs.Words.{AreSourcesKilled, ArraysView, Bool, IsHome, IsInRange, Meets, arith, length, true, ℕ, ◌↔◌, ◌≡◌}
-use Rattle.bucket_table.specs.Map.Preparing.{IsReady}
+use Rattle.bucket_table.proofs.Words.{AreSourcesKilled, ArraysView, Bool, IsHome, IsInRange, Meets, arith, false≢true}
+use Rattle.bucket_table.proofs.Words.{length, sym, true, ℕ, ◌↔◌, ◌∙◌, ◌≡◌}
+use Rattle.bucket_table.specs.Map.Preparing.{HomeWantsMemory, IsReady}
 use Rattle.bucket_table.specs.Rehash.Units.{WorksRange}
 
 module _ {K V : Type 0} where
@@ -21,3 +22,8 @@ module _ {K V : Type 0} where
     stands = let within = home.within in omega (arith, within);
     killed = λ j other. rw (home.the_one j other.own) dead;
   }
+
+  -- a home for which memory is wanted isn't ready
+  pub wanting_unready : (hash : ℕ) (old new : ArraysView K V) → HomeWantsMemory hash old new → IsReady new hash → ⊥
+  wanting_unready hash old new (index, home, wants) ready =
+      false≢true (sym wants.alive ∙ ready.killed index home wants.index wants.within wants.one)

@@ -1,15 +1,15 @@
 -- A pair put into a locked bucket of a cache, after what goes for it, and what that makes of the table in which the bucket was found.
 use Rattle.bucket_table.proofs.Words.{All-permutation, All-tail, ArraysView, Bool, BucketView, CACHE, Err, IsAbsent, IsEquivalence, false}
 use Rattle.bucket_table.proofs.Words.{IsHome, IsLocked, IsOneMap, IsPermutation-refl, IsPermutation-trans, KeepsPairs, MapState, None, Ok}
-use Rattle.bucket_table.proofs.Words.{Option, Result, Some, TableView, ap, arrays_with, bucket_at, buckets_on, length, length-set, inl, inr}
-use Rattle.bucket_table.proofs.Words.{pairs_of, refl, slots_after_insertion, slots_touched, subst, sym, true, ℕ, ◌%◌, ◌<◌, ◌∙◌, ◌∷◌, ◌≡◌}
+use Rattle.bucket_table.proofs.Words.{Option, Result, Some, TableView, ap, arrays_with, bucket_at, buckets_on, length, length-set}
+use Rattle.bucket_table.proofs.Words.{pairs_of, refl, slots_after_insertion, slots_touched, subst, true, ℕ, ◌%◌, ◌<◌, ◌∙◌, ◌∷◌, ◌≡◌}
 use Rattle.bucket_slots.specs.Evicting.{slots_evicted}
 use Rattle.bucket_slots.specs.Placing.{place_for_next, slots_with}
 use Rattle.bucket_table.specs.Map.ByKey.{Evicts}
-use Rattle.bucket_table.specs.Map.Finding.{FindsBucket}
+use Rattle.bucket_table.specs.Map.Finding.{FindsBucket, FindsThen}
 use Rattle.bucket_table.specs.Map.MapState.{AddsPair, state_of}
 use Rattle.bucket_table.specs.Map.Refusing.{IsRefused}
-use Rattle.bucket_table.specs.Map.Putting.{Goes, Puts, PutsIn, PutsThen, slots_left, slots_put}
+use Rattle.bucket_table.specs.Map.Putting.{Goes, Puts, PutsAt, PutsIn, slots_left, slots_put}
 use Rattle.bucket_table.specs.Views.Sides.{bucket_of, with_bucket}
 use Rattle.bucket_table.specs.declared.hash_table.NotInserted.{NotInserted}
 use Rattle.bucket_table.specs.declared.hash_table.NotInserted.TheVariants.{Memory, Present}
@@ -162,16 +162,19 @@ module _ {K V H : Type 0} where
   pub found_put : (eq : K → K → Bool) (kind h n : ℕ) (keeps : Bool) (key : K) (value : V) (old between new : TableView K V H)
       (side : Bool) (i : ℕ) (r : Result (Option (K × V)) (NotInserted K V)) (left : BucketView K V) → h ≡ n
       → FindsBucket kind h old side i between → PutsIn eq keeps key value (h % 256) (bucket_of between side i) r left
-      → new ≡ with_bucket between side i left → PutsThen kind n keeps (key, value) old r new
+      → new ≡ with_bucket between side i left
+      → FindsThen kind n old (λ answer table. PutsAt keeps (key, value) (n % 256) table r answer new)
   found_put eq kind h n keeps key value old between new side i (Ok out) left own found x is =
-      rw (← own) (between, side, i, found, x.1, is ∙ ap (λ (b : BucketView K V). with_bucket between side i b) x.2)
+      let put = is ∙ ap (λ (b : BucketView K V). with_bucket between side i b) x.2 in
+      rw (← own) (record { answer = Ok (side, i); between = between; found = found; done = (x.1, put) })
   found_put eq kind h n keeps key value old between new side i (Err (Present k v)) left own found x is =
       let same : new ≡ between = is ∙ with_own between.hasher between.arrays side i left x.3 in
-      rw (← own) (inr (side, i, subst (λ (t : TableView K V H). FindsBucket kind h old side i t) (sym same) found))
+      rw (← own) (record { answer = Ok (side, i); between = between; found = found; done = same })
   found_put eq kind h n keeps key value old between new side i (Err (Memory k v)) left own found x is = absurd x
 
   -- no bucket found, and so no pair put
-  pub refused_put : (kind n : ℕ) (keeps : Bool) (pair : K × V) (old new : TableView K V H) (why : NotInserted K V) → IsRefused kind old new
-      → PutsThen kind n keeps pair old (Err why) new
-  refused_put kind n keeps pair old new (Present k v) refused = inl refused
-  refused_put kind n keeps pair old new (Memory k v) refused = refused
+  pub refused_put : (kind n : ℕ) (keeps : Bool) (pair : K × V) (old new : TableView K V H) (why : NotInserted K V)
+      → IsRefused kind n old new → FindsThen kind n old (λ answer table. PutsAt keeps pair (n % 256) table (Err why) answer new)
+  refused_put kind n keeps pair old new (Present k v) refused =
+      record { answer = Err tt; between = new; found = refused; done = refl }
+  refused_put kind n keeps pair old new (Memory k v) refused = record { answer = Err tt; between = new; found = refused; done = refl }

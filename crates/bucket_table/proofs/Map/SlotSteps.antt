@@ -1,9 +1,9 @@
 -- What a table is once the pair in a live slot was touched, marked or taken out.
-use Rattle.bucket_table.proofs.Words.{ArePlaced, ArraysView, Bool, BucketView, IsEquivalence, IsOneMap, Keeps, KeepsOpenTickets, KeepsPairs}
+use Rattle.bucket_table.proofs.Words.{ArePlaced, ArraysView, Bool, BucketView, IsEquivalence, IsOneMap, Keeps, KeepsPairs}
 use Rattle.bucket_table.proofs.Words.{MapState, Place, Some, arrays_with, bucket_on, bucket_with_value, buckets_on, length, live_pair}
 use Rattle.bucket_table.proofs.Words.{slot_in, slots_marked, slots_touched, slots_without, ℕ, ◌<◌, ◌≡◌}
 use Rattle.bucket_table.specs.Map.MapState.{ChangesValue, TakesPair, state_of}
-use Rattle.bucket_table.proofs.Map.LockedSteps.{bag_through, taken_through}
+use Rattle.bucket_table.proofs.Map.LockedSteps.{taken_through}
 use Rattle.bucket_table.proofs.Map.MapKept.{one_map_kept}
 use Rattle.bucket_table.proofs.Map.MapSteps.{Leaves, marked, removed, touched, wrote}
 use Rattle.bucket_table.proofs.Views.Keeping.{keeps_same}
@@ -22,14 +22,12 @@ module _ {K V H : Type 0} {eq : K → K → Bool} (laws : IsEquivalence eq) (has
   pub record Lacks (new : ArraysView K V) : Type 0 where
     pub one_map : IsOneMap eq (hash hasher) new
     pub map : TakesPair (state a) p (state new)
-    pub bag : KeepsOpenTickets a.tickets new.tickets
 
   lacks : (b : BucketView K V) (new : ArraysView K V) → Leaves laws hash kind side i one held (TakesPair (state a) p) b
       → Keeps (arrays_with a side i b) new → ((h : K → ℕ) → ArePlaced h (arrays_with a side i b) → ArePlaced h new) → Lacks new
   lacks b new x kept placed = record {
     one_map = one_map_kept eq laws (hash hasher) (arrays_with a side i b) new x.one_map kept (placed (hash hasher) x.one_map.placed);
     map = taken_through kind (state a) hasher (arrays_with a side i b) new p x.map kept;
-    bag = bag_through a side i b new kept.open_tickets;
   }
 
   pub takes : (new : ArraysView K V) → Keeps (arrays_with a side i (slots_without (bucket_on a side i) at)) new

@@ -1,12 +1,13 @@
 -- A pair put into a locked bucket, or its value written there, and what that makes of the table in which the bucket was found.
 use Rattle.bucket_table.proofs.Words.{ArraysView, Bool, BucketView, Err, IsEquivalence, IsHome, IsLocked, IsOneMap, IsPermutation-refl}
-use Rattle.bucket_table.proofs.Words.{KeepsPairs, MapState, None, Ok, Option, Result, Some, TableView, ap, bucket_at, buckets_on, inr}
-use Rattle.bucket_table.proofs.Words.{length, pairs_of, refl, slots_after_insertion, subst, sym, true, ℕ, ◌%◌, ◌∙◌, ◌≡◌}
-use Rattle.bucket_table.specs.Map.ByKey.{Upserts, UpsertsIn, UpsertsThen}
-use Rattle.bucket_table.specs.Map.Finding.{FindsBucket}
+use Rattle.bucket_table.proofs.Words.{KeepsPairs, MapState, None, Ok, Option, Result, Some, TableView, ap, bucket_at, buckets_on}
+use Rattle.bucket_table.proofs.Words.{length, pairs_of, refl, true, ℕ, ◌%◌, ◌∙◌, ◌≡◌}
+use Rattle.bucket_table.specs.Map.ByKey.{Upserts, UpsertsAt, UpsertsIn}
+use Rattle.bucket_table.specs.Map.Finding.{FindsBucket, FindsThen}
 use Rattle.bucket_table.specs.Map.MapState.{state_of}
 use Rattle.bucket_table.specs.Views.Sides.{bucket_of, with_bucket}
 use Rattle.bucket_table.proofs.Map.Inserting.{inserted_where_absent}
+use Rattle.bucket_table.proofs.Map.KeySteps.{stands_found}
 use Rattle.bucket_table.proofs.Map.LockedSteps.{with_own}
 use Rattle.bucket_table.proofs.Map.LookUps.{searched_absent, searched_found}
 use Rattle.bucket_table.proofs.Map.MapSteps.{Leaves, unchanged, wrote}
@@ -18,8 +19,7 @@ module _ {K V H : Type 0} {eq : K → K → Bool} (laws : IsEquivalence eq) (has
     (side : Bool) (i : ℕ) (one : IsOneMap eq (hash hasher) a) (locked : IsLocked a side i) where
   pub upserted : (r : Result (Option V) (K × V)) (b : BucketView K V) (keeps : ℕ → Bool) (key : K) (value : V) (h : ℕ)
       → ((own : K) → eq own key ≡ true → hash hasher own ≡ h) → h ≡ hash hasher key → IsHome (length (buckets_on a side)) h i
-      → UpsertsIn eq key value (h % 256) (λ bucket. slots_after_insertion kind keeps bucket (key, value) (h % 256))
-      (bucket_at (buckets_on a side) i) r b
+      → UpsertsIn eq key value (h % 256) kind keeps (bucket_at (buckets_on a side) i) r b
       → Leaves laws hash kind side i one (changeable_locked a side i locked)
       (λ new. Upserts eq key value (state_of kind (record { hasher = hasher; arrays = a })) r new) b
   upserted (Ok None) b keeps key value h alike own home x =
@@ -49,14 +49,15 @@ module _ {K V H : Type 0} where
   -- a bucket found for the hash of a key, and the pair put there or its value written
   pub found_upserted : (eq : K → K → Bool) (kind h n : ℕ) (keeps : ℕ → Bool) (key : K) (value : V) (old between new : TableView K V H)
       (side : Bool) (i : ℕ) (r : Result (Option V) (K × V)) (left : BucketView K V) → h ≡ n → FindsBucket kind h old side i between
-      → UpsertsIn eq key value (h % 256) (λ bucket. slots_after_insertion kind keeps bucket (key, value) (h % 256))
-      (bucket_of between side i) r left
-      → new ≡ with_bucket between side i left
-      → UpsertsThen kind n (λ bucket. slots_after_insertion kind keeps bucket (key, value) (n % 256)) value old r new
+      → UpsertsIn eq key value (h % 256) kind keeps (bucket_of between side i) r left → new ≡ with_bucket between side i left
+      → FindsThen kind n old (λ answer table. UpsertsAt eq kind keeps key value (n % 256) table r answer new)
   found_upserted eq kind h n keeps key value old between new side i (Ok None) left own found x is =
-      rw (← own) (between, side, i, found, is ∙ ap (λ (b : BucketView K V). with_bucket between side i b) x.1)
+      let put = is ∙ ap (λ (b : BucketView K V). with_bucket between side i b) x.1 in
+      rw (← own) (record { answer = Ok (side, i); between = between; found = found; done = put })
   found_upserted eq kind h n keeps key value old between new side i (Ok (Some earlier)) left own found x is =
-      rw (← own) (between, inr (side, i, found), (side, i, x.0, is ∙ ap (λ (b : BucketView K V). with_bucket between side i b) x.4))
+      let stands = stands_found eq key between.arrays side _ (bucket_of between side i) (h % 256) i x.0 refl refl found.home.within x.2 in
+      let wrote = is ∙ ap (λ (b : BucketView K V). with_bucket between side i b) x.4 in
+      rw (← own) (record { answer = Ok (side, i); between = between; found = found; done = (side, i, x.0, stands, wrote) })
   found_upserted eq kind h n keeps key value old between new side i (Err back) left own found x is =
       let same : new ≡ between = is ∙ with_own between.hasher between.arrays side i left x.2 in
-      rw (← own) (inr (side, i, subst (λ (t : TableView K V H). FindsBucket kind h old side i t) (sym same) found))
+      rw (← own) (record { answer = Ok (side, i); between = between; found = found; done = (x.3, same) })

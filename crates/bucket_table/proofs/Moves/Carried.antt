@@ -1,11 +1,11 @@
 -- Recency that was carried: what the targets list once the pairs of a bucket have landed and their slots were listed.
-use Rattle.bucket_table.proofs.Words.{AreHome, Bool, BucketView, CACHE, Contains-append_right, HasNoNewMark, IsBucketOf, KeepsEntries, List}
+use Rattle.bucket_table.proofs.Words.{AreHome, Bool, BucketView, CACHE, HasNoNewMark, IsBucketOf, KeepsEntries, List}
 use Rattle.bucket_table.proofs.Words.{MovesInto, None, Option, Slot, Some, [], ap, append-nil, arith, bucket_at, cases_Bool, cases_eq}
 use Rattle.bucket_table.proofs.Words.{entries_among, entries_in, false, false≢true, free, homed_len, if◌then◌else◌, inl, inr, is_listed}
 use Rattle.bucket_table.proofs.Words.{landing_of, length, listed_pairs, live, live_pair, live_pairs, map, map-append, marked, marks_among}
-use Rattle.bucket_table.proofs.Words.{marks_in, nil_from_length, pairs_in, refl, replicate, slot_at, subst, suc, sym, take, true, zero, ℕ}
+use Rattle.bucket_table.proofs.Words.{marks_in, nil_from_length, pairs_in, refl, replicate, slot_at, slot_in, subst, sym, take, true, ℕ}
 use Rattle.bucket_table.proofs.Words.{◌++◌, ◌-◌, ◌<◌, ◌==◌, ◌∙◌, ◌∷◌, ◌≡◌}
-use Rattle.std.proofs.Common.{Contains, IsPermutation}
+use Rattle.std.proofs.Common.{IsPermutation}
 use Rattle.std.proofs.Math.Seq.{take-append_seam}
 use Rattle.std.proofs.lemmas.Bool.{eqb-true}
 use Rattle.std.proofs.lemmas.List.Elements.{filter_map-append}
@@ -16,9 +16,11 @@ use Rattle.bucket_slots.specs.Recency.{order_and_zeros}
 use Rattle.bucket_table.specs.Layout.Landings.{CarriesRecency, HasLanded, HaveLanded, ListsArrivals, arrivals, carried_to, is_own_of}
 use Rattle.bucket_table.specs.Layout.Landings.{slot_there}
 use Rattle.bucket_table.specs.Layout.Moving.{CanMoveInto}
+use Rattle.bucket_table.specs.Rehash.Relocation.{KeepsPlaces}
 use Rattle.bucket_table.specs.declared.arrays.moving.Landing.{Landing}
 use Rattle.bucket_table.proofs.Moves.Arriving.{with_more}
 use Rattle.bucket_table.proofs.Moves.Landings.{none_left}
+use Rattle.bucket_table.proofs.Moves.Staying.{contains_live, place_listed, stay_both, stay_same}
 use Rattle.bucket_table.proofs.Views.MarksKept.{marks_alike}
 use Rattle.bucket_table.proofs.Moves.Relocating.{entries_alike}
 
@@ -64,16 +66,6 @@ module _ {K V : Type 0} where
   live_pairs-alike (marked p b) (live q c) xs ys same rest = cc
   live_pairs-alike (marked p b) (marked q c) xs ys same rest = rest
 
-  contains_live : (xs : List (Slot K V)) (slot : ℕ) (p : K × V) → live_pair (slot_at xs slot) ≡ Some p → Contains (live_pairs xs) p
-  contains_live [] slot p here = cc
-  contains_live (free ∷ xs) zero p here = cc
-  contains_live (live q b ∷ xs) zero p here =
-      let same : q ≡ p = cc in subst (λ (r : K × V). Contains (r ∷ live_pairs xs) p) (sym same) (0, omega arith, refl)
-  contains_live (marked q b ∷ xs) zero p here = cc
-  contains_live (free ∷ xs) (suc i) p here = contains_live xs i p here
-  contains_live (live q b ∷ xs) (suc i) p here = Contains-append_right (q ∷ []) (live_pairs xs) p (contains_live xs i p here)
-  contains_live (marked q b ∷ xs) (suc i) p here = contains_live xs i p here
-
   -- one slot more has arrived, or landed elsewhere
   carried_next : (own source_own : List (Slot K V)) (j slot : ℕ) (found : Option Landing) (xs ys : List ℕ)
       → ((at : Landing) → found ≡ Some at → at.home ≡ j → live_pair (slot_at own at.slot) ≡ live_pair (slot_at source_own slot))
@@ -101,10 +93,12 @@ module _ {K V : Type 0} where
   -- nothing is carried where no listed slot has a pair
   carries_none : (s : BucketView K V) (c d : List (BucketView K V))
       → ((j : ℕ) → listed_pairs (bucket_at d j) ≡ listed_pairs (bucket_at c j))
-      → ((slot : ℕ) (pair : K × V) → is_listed s.listed slot ≡ true → live_pair (slot_at s.own slot) ≡ Some pair → ⊥) → CarriesRecency s c d
-  carries_none s c d same_lists none = record {
+      → ((slot : ℕ) (pair : K × V) → is_listed s.listed slot ≡ true → live_pair (slot_at s.own slot) ≡ Some pair → ⊥) → KeepsPlaces c d
+      → CarriesRecency s c d
+  carries_none s c d same_lists none stay = record {
     landing = λ slot. None;
     landed = λ slot pair listed here. absurd (none slot pair listed here);
+    stay = stay;
     order = λ j.
         let nothing : carried_to s (λ slot. None) j ≡ [] =
         ap (λ (order : List ℕ). live_pairs (map (slot_at s.own) order)) (filter_nothing s.listed) in
@@ -114,15 +108,15 @@ module _ {K V : Type 0} where
 
   -- a bucket with no pair
   pub carries_nothing : (s : BucketView K V) (c : List (BucketView K V)) → pairs_in s ≡ [] → CarriesRecency s c c
-  carries_nothing s c none = carries_none s c c (λ j. refl) (λ slot pair listed here. none_left s slot pair none here)
+  carries_nothing s c none = carries_none s c c (λ j. refl) (λ slot pair listed here. none_left s slot pair none here) (stay_same c)
 
   -- a bucket that lists nothing
   pub carries_unlisted : (s : BucketView K V) (c d : List (BucketView K V)) → length s.listed ≡ 0
-      → ((j : ℕ) → listed_pairs (bucket_at d j) ≡ listed_pairs (bucket_at c j)) → CarriesRecency s c d
-  carries_unlisted s c d none same_lists =
+      → ((j : ℕ) → listed_pairs (bucket_at d j) ≡ listed_pairs (bucket_at c j)) → KeepsPlaces c d → CarriesRecency s c d
+  carries_unlisted s c d none same_lists stay =
       let is_empty : s.listed ≡ [] = nil_from_length s.listed none in
       carries_none s c d same_lists
-      (λ slot pair listed here. false≢true (subst (λ (order : List ℕ). is_listed order slot ≡ true) is_empty listed))
+      (λ slot pair listed here. false≢true (subst (λ (order : List ℕ). is_listed order slot ≡ true) is_empty listed)) stay
 
   -- room was made before
   pub carries_since : (s : BucketView K V) (c0 c d : List (BucketView K V)) → KeepsEntries c0 c → CarriesRecency s c d
@@ -130,6 +124,7 @@ module _ {K V : Type 0} where
   carries_since s c0 c d kept carried = record {
     landing = carried.landing;
     landed = carried.landed;
+    stay = stay_both c0 c d kept.stay carried.stay;
     order = λ j.
         let before : listed_pairs (bucket_at c j) ≡ listed_pairs (bucket_at c0 j) = rw (kept.own j, kept.listed j) refl in
         carried.order j ∙ ap (λ (those : List (K × V)). those ++ carried_to s carried.landing j) before;
@@ -187,6 +182,9 @@ module _ {K V : Type 0} where
     carries_recency = record {
       landing = λ slot. home_of_landing (landing_of landings slot);
       landed = λ slot pair is here. has_landed slot pair (landing_of landings slot) (listed_below kind s slot laws is) refl here;
+      stay = stay_both c d e landed.stay (λ j at occupied.
+          ap (λ (b : BucketView K V). slot_in b at) (listed.each j) ∙ place_listed (bucket_at d j)
+          ((bucket_at d j).listed ++ arrivals landings j s.listed) at.block at.pos);
       order = λ j. ap listed_pairs (listed.each j) ∙ more_listed j
           ∙ ap (λ (those : List (K × V)). those ++ carried_to s (λ slot. home_of_landing (landing_of landings slot)) j)
           (landed.same_lists j);

@@ -16,18 +16,14 @@ use Rattle.std.specs.List.{filter}
 use Rattle.bucket_table.specs.Rehash.Carrying.{CarriesPairs, has_own_key}
 use Rattle.bucket_table.specs.Layout.Landings.{CarriesRecency, HasLanded, StandsInChain, is_own_of}
 use Rattle.bucket_table.proofs.Moves.Exchanges.{exchanged}
+use Rattle.bucket_table.proofs.Moves.Staying.{get_or-front}
 
 -- an element of the second of two lists stands behind those of the first
 get_or-behind : {X : Type 0} (xs ys : List X) (k : ℕ) (d : X) → get_or (xs ++ ys) (length xs + k) d ≡ get_or ys k d
 get_or-behind xs ys k d = get_or-append-add xs ys k d
 
-get_or-front : {X : Type 0} (xs ys : List X) (k : ℕ) (d : X) → k < length xs → get_or (xs ++ ys) k d ≡ get_or xs k d
-get_or-front [] ys k d below = absurd (omega arith)
-get_or-front (x ∷ xs) ys zero d below = refl
-get_or-front (x ∷ xs) ys (suc k) d below = get_or-front xs ys k d (omega arith)
-
 module _ {K V : Type 0} where
-  abbrev keys : List (K × V) → List K
+  abbrev pub keys : List (K × V) → List K
   keys pairs = map (λ (p : K × V). p.0) pairs
 
   -- pairs of two parts of a list without equal keys
@@ -47,7 +43,7 @@ module _ {K V : Type 0} where
       (get_or-behind xs ys there.0 p ∙ there.2) in
       ap (λ (k : K). eq k p.0) (sym first) ∙ ap (λ (k : K). eq (get_or (keys all) here.0 q.0) k) (sym second) ∙ apart
 
-  abbrev pairs_among : List (BucketView K V) → List (K × V)
+  abbrev pub pairs_among : List (BucketView K V) → List (K × V)
   pairs_among c = map (λ (e : (K × V) × ℕ). e.0) (entries_among c)
 
   pairs_among-cons : (b : BucketView K V) (c : List (BucketView K V)) → pairs_among (b ∷ c) ≡ pairs_in b ++ pairs_among c
@@ -64,11 +60,11 @@ module _ {K V : Type 0} where
       subst (λ (l : List (K × V)). Contains l p) (sym (pairs_among-cons b c)) (Contains-append_right (pairs_in b) (pairs_among c) p
       (among c i p has))
 
-  in_own : (b : BucketView K V) (p : K × V) → Contains (live_pairs b.own) p → Contains (pairs_in b) p
+  pub in_own : (b : BucketView K V) (p : K × V) → Contains (live_pairs b.own) p → Contains (pairs_in b) p
   in_own b p has = subst (λ (l : List (K × V)). Contains l p) (sym (filter_map-append live_pair b.own (flattened b.chain)))
       (Contains-append_left (live_pairs b.own) (live_pairs (flattened b.chain)) p has)
 
-  in_chain : (b : BucketView K V) (p : K × V) → StandsInChain b p → Contains (pairs_in b) p
+  pub in_chain : (b : BucketView K V) (p : K × V) → StandsInChain b p → Contains (pairs_in b) p
   in_chain b p has = subst (λ (l : List (K × V)). Contains l p) (sym (filter_map-append live_pair b.own (flattened b.chain)))
       (Contains-append_right (live_pairs b.own) (live_pairs (flattened b.chain)) p has)
 
@@ -122,7 +118,7 @@ module _ {K V : Type 0} where
         (Contains-append_left (pairs_among (set c j empty_bucket)) more p (among (set c j empty_bucket) i p still))
 
     -- where a pair landed tells in which bucket's own slots its key is
-    landing_tells : (j : ℕ) (p : K × V) (landing : Option ℕ) → HasLanded c p landing → is_own_of j landing ≡ has_own_key eq (bucket_at c j)
+    pub landing_tells : (j : ℕ) (p : K × V) (landing : Option ℕ) → HasLanded c p landing → is_own_of j landing ≡ has_own_key eq (bucket_at c j)
         p.0
     landing_tells j p (Some i) has = elim (cases_Bool (i == j)) [
       | inl here ↦ rw here (sym (rw (eqb-true i j here) at (is_own i p has)))
@@ -157,8 +153,8 @@ module _ {K V : Type 0} where
       passed own slot (own slot) (passes slot) test (filter passes order) (map own order) refl (λ p is. first p here is) rest
 
   -- what is carried, by keys
-  carries_pairs : (eq : K → K → Bool) → IsEquivalence eq → (s : BucketView K V) (c d : List (BucketView K V)) (more : List (K × V))
-      → IsDistinct eq (keys (pairs_among d ++ more)) → CarriesRecency s c d → CarriesPairs eq s c d
+  pub carries_pairs : (eq : K → K → Bool) → IsEquivalence eq → (s : BucketView K V) (c d : List (BucketView K V)) (more : List (K × V))
+      → IsDistinct eq (keys (pairs_among d ++ more)) → CarriesRecency s c d → CarriesPairs eq (listed_pairs s) c d
   carries_pairs eq laws s c d more once carried j =
       let test : K × V → Bool = λ p. has_own_key eq (bucket_at d j) p.0 in
       let tells = λ (slot : ℕ) (p : K × V) (listed : is_listed s.listed slot ≡ true) (here : live_pair (slot_at s.own slot) ≡ Some p).
@@ -169,7 +165,7 @@ module _ {K V : Type 0} where
   -- done or refused, in the words of the call
   pub carried_still : {A E : Type 0} (r : Result A E) (eq : K → K → Bool) → IsEquivalence eq → (hash : K → ℕ) (s : BucketView K V)
       (c : List (BucketView K V)) (arrays : ArraysView K V)
-      → IsOneMap eq hash arrays → OnOk r (CarriesRecency s c arrays.current) → OnOk r (CarriesPairs eq s c arrays.current)
+      → IsOneMap eq hash arrays → OnOk r (CarriesRecency s c arrays.current) → OnOk r (CarriesPairs eq (listed_pairs s) c arrays.current)
   carried_still (Ok x) eq laws hash s c arrays one carried =
       let d = arrays.current in
       let m = arrays.linked in

@@ -1,6 +1,6 @@
 -- Where the pairs of a bucket's own slots land while they move one after another to their homes.
 use Rattle.bucket_table.proofs.Words.{BucketView, IsBucketOf, List, None, Option, Place, Some, [], ap, arith, bucket_at, cases_eq, cases_lt}
-use Rattle.bucket_table.proofs.Words.{eq-eqb, false≢true, get_or-set_same, homed_len, inl, inr, is_live, landing_of, length, length-set}
+use Rattle.bucket_table.proofs.Words.{eq-eqb, false≢true, get_or-set_same, homed_len, inl, inr, is_free, is_live, landing_of, length, length-set}
 use Rattle.bucket_table.proofs.Words.{length_permutation, listed_pairs, live_from_pair, live_not_free, live_pair, pairs_in}
 use Rattle.bucket_table.proofs.Words.{pairs_in-slots_vacated, refl, replicate, set, slot_at, slot_in, slots_vacated, subst, suc, sym, true}
 use Rattle.bucket_table.proofs.Words.{zero, ℕ, ◌%◌, ◌<◌, ◌∙◌, ◌≡◌, ◌⊎◌}
@@ -8,11 +8,14 @@ use Rattle.std.proofs.lemmas.Bool.{ne_eqb}
 use Rattle.std.proofs.lemmas.List.{get_or-set_other, set_past}
 use Rattle.bucket_slots.proofs.RecencyCallerLemmas.{chain_kept, chain_put, free_unlisted, listed-slots_with, listed_pairs-slots_with}
 use Rattle.bucket_slots.proofs.RecencyCallerLemmas.{own-slots_vacated, own_kept, own_put, own_vacated, was_free}
+use Rattle.bucket_slots.specs.BucketView.{first_place}
 use Rattle.bucket_slots.specs.Placing.{place_for_next, slots_with}
 use Rattle.bucket_table.specs.Layout.Landings.{AreListable, HaveLanded, IsListable, StandsInChain, landings_with}
 use Rattle.bucket_table.specs.Layout.Moving.{MovesHome}
+use Rattle.bucket_table.specs.Rehash.Relocation.{KeepsPlaces}
 use Rattle.bucket_table.specs.declared.arrays.moving.Landing.{Landing}
 use Rattle.bucket_table.proofs.Moves.Exchanges.{ChangesAt, changes_at}
+use Rattle.bucket_table.proofs.Moves.Staying.{place_kept, stay_both, stay_same}
 
 -- what is said of a pair that moved: the own slot in which it landed, or nothing
 abbrev IsSaid : (landings : List (Option Landing)) (from : Place) (home : ℕ) (to : Place) (said : List (Option Landing)) → Type 0
@@ -57,6 +60,7 @@ module _ {K V : Type 0} where
         → live_pair (slot_at (bucket_at c at.home).own at.slot) ≡ live_pair (slot_at s0.own slot)
     pub homed : (slot : ℕ) (at : Landing) → landing_of landings slot ≡ Some at → homed_len hash (length c0) at.home (pairs_in s0) ≡ 0 → ⊥
     pub each : (slot : ℕ) → (slot_at s.own slot ≡ slot_at s0.own slot) ⊎ HasGone s0 s c landings slot
+    pub stay : KeepsPlaces c0 c
     pub same_lists : (j : ℕ) → listed_pairs (bucket_at c j) ≡ listed_pairs (bucket_at c0 j)
 
   pub landing_first : (hash : K → ℕ) (s : BucketView K V) (c : List (BucketView K V)) (landings : List (Option Landing))
@@ -71,6 +75,7 @@ module _ {K V : Type 0} where
         same_pair = λ slot at said. absurd (never slot at said);
         homed = λ slot at said. absurd (never slot at said);
         each = λ slot. inl refl;
+        stay = stay_same c;
         same_lists = λ j. refl;
       }
 
@@ -99,6 +104,12 @@ module _ {K V : Type 0} where
     pairs_kept i = elim (cases_eq i j) [
       | inl same ↦ rw (same, put.here) (listed_pairs-slots_with (bucket_at c j) p b kind laws)
       | inr apart ↦ ap listed_pairs (put.other i apart)
+    ]
+
+    all_stay : (first_place is_free (bucket_at c j) ≡ None → ⊥) → KeepsPlaces c d
+    all_stay room i at occupied = elim (cases_eq i j) [
+      | inl same ↦ rw (same, put.here) (place_kept (bucket_at c j) p b at room (rw same at occupied))
+      | inr apart ↦ ap (λ (x : BucketView K V). slot_in x at) (put.other i apart)
     ]
 
     in_chain_kept : (q : K × V) → (i : ℕ) × StandsInChain (bucket_at c i) q → (i : ℕ) × StandsInChain (bucket_at d i) q
@@ -134,7 +145,8 @@ module _ {K V : Type 0} where
 
     -- p comes from slot `from` of s
     module _ (hash : K → ℕ) (s0 s : BucketView K V) (c0 : List (BucketView K V)) (from : Place) (landings : List (Option Landing))
-        (landing : AreLanding hash s0 c0 s c landings) (here : live_pair (slot_in s from) ≡ Some p) where
+        (landing : AreLanding hash s0 c0 s c landings) (here : live_pair (slot_in s from) ≡ Some p)
+        (room : first_place is_free (bucket_at c j) ≡ None → ⊥) where
       -- a slot whose pair stays or has gone before
       each_other : (said : List (Option Landing)) (slot : ℕ) → length said ≡ length landings → (from.block ≡ 0 → slot ≡ from.pos → ⊥)
           → landing_of said slot ≡ landing_of landings slot
@@ -197,6 +209,7 @@ module _ {K V : Type 0} where
             })
           ]
         ];
+        stay = stay_both c0 c d landing.stay (all_stay room);
         same_lists = lists_still;
       }
 
@@ -266,6 +279,7 @@ module _ {K V : Type 0} where
               in_chain = λ q within is none. absurd (let first : landing_of said slot ≡ Some at_now = rw same said_here in cc);
             })
           ];
+          stay = stay_both c0 c d landing.stay (all_stay room);
           same_lists = lists_still;
         }
 
@@ -273,18 +287,18 @@ module _ {K V : Type 0} where
   pub landing_step : (hash : K → ℕ) {kind : ℕ} {s0 s t : BucketView K V} {c0 c d : List (BucketView K V)}
       {landings said : List (Option Landing)} {at : Place} → AreLanding hash s0 c0 s c landings
       → (one : MovesHome kind hash at s c landings t d said) → (homed_len hash (length c0) one.home (pairs_in s0) ≡ 0 → ⊥)
-      → AreLanding hash s0 c0 t d said
-  landing_step hash {kind} {s0} {s} {c0} {c} {landings} {at} landing one homed =
+      → (first_place is_free (bucket_at c one.home) ≡ None → ⊥) → AreLanding hash s0 c0 t d said
+  landing_step hash {kind} {s0} {s} {c0} {c} {landings} {at} landing one homed room =
       let j = one.home in
       let b = one.number % 256 in
       let done = set c j (slots_with (bucket_at c j) one.pair b) in
       let put = changes_at j (slots_with (bucket_at c j) one.pair b) c one.way.home.within in
       rw (one.vacated, one.placed) (elim (is_said landings at j (place_for_next (bucket_at c j))) [
         | inl both ↦ rw (one.landed ∙ both.3)
-            (landed_own kind j c done one.pair b one.home_laws put hash s0 s c0 at landings landing one.here
+            (landed_own kind j c done one.pair b one.home_laws put hash s0 s c0 at landings landing one.here room
             both.0 both.1 both.2 one.way.home.within homed)
         | inr neither ↦ rw (one.landed ∙ neither.1)
-            (landed_elsewhere kind j c done one.pair b one.home_laws put hash s0 s c0 at landings landing one.here neither.0)
+            (landed_elsewhere kind j c done one.pair b one.home_laws put hash s0 s c0 at landings landing one.here room neither.0)
       ])
 
   -- the pairs of a bucket that is empty have all moved
@@ -303,5 +317,6 @@ module _ {K V : Type 0} where
       | inl ahead ↦ absurd (none_left s slot pair none (ap live_pair ahead ∙ here))
       | inr gone ↦ gone.in_chain pair within here unsaid
     ];
+    stay = landing.stay;
     same_lists = landing.same_lists;
   }

@@ -257,7 +257,8 @@ module _ {K V : Type 0} (hash : K → ℕ) where
       (killed-slots_vacated s new) (marks_in-slots_vacated s new) there in
       let still = ready_still start end s (slots_vacated s new) c (set c j b) p h out.0 j moving.ready out.1 one.way put placed in
       let landing : AreLanding hash s0 c0 (slots_vacated s new) (set c j b) said =
-      rw (one.vacated, one.placed) at (landing_step hash moving.landing one (homed_there moving one)) in
+      rw (one.vacated, one.placed) at (landing_step hash moving.landing one (homed_there moving one)
+      (home_has_room new one.pair moving.ready one.here one.way)) in
       rw (one.vacated, one.placed) (
         record {
           moves = MovesInto-trans s0 s (slots_vacated s new) c0 c (set c j b) moving.moves moved;

@@ -2,7 +2,7 @@
 use Rattle.bucket_table.proofs.Words.{All, All-head, All-tail, BucketView, Err, IsInRange, IsVacant, KeepsEntries, List, Ok, OnOk, Result}
 use Rattle.bucket_table.proofs.Words.{Slot, [], all_slots, ap, arith, bucket_at, cases_eq, cases_lt, counted, flattened, free, get_or}
 use Rattle.bucket_table.proofs.Words.{home_of, homed_len, inl, inr, is_free, length, length-append, live, marked, refl, replicate, set}
-use Rattle.bucket_table.proofs.Words.{subst, suc, sym, take, true, zero, ℕ, ◌&&◌, ◌*◌, ◌++◌, ◌+◌, ◌-◌, ◌<◌, ◌==◌, ◌∙◌, ◌∷◌, ◌≡◌, ◌≤◌}
+use Rattle.bucket_table.proofs.Words.{slot_in, subst, suc, sym, take, true, zero, ℕ, ◌&&◌, ◌*◌, ◌++◌, ◌+◌, ◌-◌, ◌<◌, ◌==◌, ◌∙◌, ◌∷◌, ◌≡◌, ◌≤◌}
 use Rattle.std.proofs.Common.{append_assoc}
 use Rattle.std.proofs.lemmas.List.{get_or-replicate, get_or-take, length-replicate, length-take}
 use Rattle.std.proofs.lemmas.List.Folds.{list_all-append}
@@ -16,6 +16,7 @@ use Rattle.bucket_slots.specs.Slots.{all_free, free_len}
 use Rattle.bucket_table.specs.Rehash.Relocation.{HasRoomFor, KeepsOthers}
 use Rattle.bucket_table.proofs.Moves.Exchanges.{ChangesAt, changes_at}
 use Rattle.bucket_table.proofs.Moves.MovingPairs.{homed_elsewhere}
+use Rattle.bucket_table.proofs.Moves.Staying.{place_with_blocks, stay_same}
 
 blocks_free : (K V : Type 0) (n : ℕ) → all_free (flattened (replicate {A = List (Slot K V)} n free_block)) ≡ true
 blocks_free K V zero = refl
@@ -78,6 +79,7 @@ module _ {K V : Type 0} where
     marks = λ i. refl;
     alive = λ i. refl;
     vacant = λ i v. v;
+    stay = stay_same c;
     own = λ i. refl;
     listed = λ i. refl;
   }
@@ -102,6 +104,13 @@ module _ {K V : Type 0} where
     vacant = λ i. elim (cases_eq i j) [
       | inl same ↦ rw (same, put.here) (λ v. vacant-blocks (bucket_at d j) n (kept.vacant j v))
       | inr apart ↦ rw (put.other i apart) (kept.vacant i)
+    ];
+    stay = λ i at occupied. elim (cases_eq i j) [
+      | inl same ↦
+          let here = kept.stay j at (rw same at occupied) in
+          rw (same, put.here)
+          (place_with_blocks (bucket_at d j) n at (ap is_free here ∙ (rw same at occupied)) ∙ here)
+      | inr apart ↦ ap (λ (b : BucketView K V). slot_in b at) (put.other i apart) ∙ kept.stay i at occupied
     ];
     own = λ i. elim (cases_eq i j) [
       | inl same ↦ rw (same, put.here) (kept.own j)

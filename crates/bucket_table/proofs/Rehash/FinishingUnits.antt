@@ -1,19 +1,25 @@
 -- A unit of a rehash that no one else works at.
-use Rattle.bucket_table.proofs.Words.{ArraysView, Bool, EndsRehash, Err, HandsOut, List, LosesNoUnit, None, Ok, Result, Some, Starts}
-use Rattle.bucket_table.proofs.Words.{TicketState, [], ap, arith, cases_lt, false, inl, inr, length, length_permutation, nil_from_length}
-use Rattle.bucket_table.proofs.Words.{refl, true, ℕ, ◌+◌, ◌/◌, ◌∙◌, ◌≡◌}
+use Rattle.bucket_table.proofs.Words.{ArraysView, Bool, EndsRehash, Err, HandsOut, IsInRange, List, LosesNoUnit, None, Ok, Result, Some}
+use Rattle.bucket_table.proofs.Words.{Starts, TicketState, [], ap, arith, cases_lt, false, inl, inr, killed_flags, length}
+use Rattle.bucket_table.proofs.Words.{length_permutation, nil_from_length, refl, sym, true, true≢false, ℕ, ◌*◌, ◌+◌, ◌/◌, ◌∙◌, ◌≡◌}
+use Rattle.bucket_table.specs.Rehash.Covered.{IsCovered}
 use Rattle.bucket_table.specs.Rehash.Finishing.{Finishes, units_left}
-use Rattle.bucket_table.specs.Rehash.Units.{WorksUnit}
+use Rattle.bucket_table.specs.Rehash.Units.{WantsMemory, WorksUnit}
 use Rattle.bucket_table.specs.declared.tickets.TicketError.{TicketError}
 use Rattle.bucket_table.proofs.Rehash.Covering.{position_after}
+use Rattle.bucket_table.proofs.Rehash.Wanting.{unit_wants}
 use Rattle.bucket_table.proofs.Rehash.UnitWork.{closed, ends_now, none_changed, not_refused}
 
 module _ {K V : Type 0} (old worked last : ArraysView K V) (started : TicketState) (ticket : ℕ) (success : Bool)
     (h : HandsOut old.tickets ticket started)
-    (w : WorksUnit (ticket / 2048) success (record old { tickets = started }) worked) (long : old.tickets.len ≡ length old.linked) where
+    (w : WorksUnit (ticket / 2048) success (record old { tickets = started }) worked) (long : old.tickets.len ≡ length old.linked)
+    (covered : IsCovered (killed_flags old.linked) old.tickets)
+    (wants : success ≡ false
+    → WantsMemory (IsInRange (64 * (ticket / 2048)) (64 * (ticket / 2048) + 64)) (record old { tickets = started }) worked) where
   -- what a unit's end leaves
   finished : (answer : Result Bool TicketError) → old.tickets.open_units ≡ [] → EndsRehash worked ticket success answer last
       → (last.tickets.open_units ≡ []) × (success ≡ true → units_left last + 1 ≡ units_left old)
+      × (success ≡ false → WantsMemory (λ i. Unit {0}) old last)
   finished (Err error) none ends =
       absurd (not_refused old.tickets started ticket h success _ error last.tickets w.1 (ends_now old worked last started ticket success h w
       (Err error) last.tickets ends.0))
@@ -27,7 +33,7 @@ module _ {K V : Type 0} (old worked last : ArraysView K V) (started : TicketStat
       let left = h.is_left in
       let len1 = closes.same_len in
       let len2 = h.same_len in
-      rw ends.2 (refl, λ ok. omega (arith, over, at, next, left, len1, len2, long))
+      rw ends.2 (refl, λ ok. omega (arith, over, at, next, left, len1, len2, long), λ failed. absurd (true≢false (sym e ∙ failed)))
   finished (Ok false) none ends =
       let (closes, goes) = closed old.tickets started ticket h success _ false last.tickets
       (ends_now old worked last started ticket success h w (Ok false) last.tickets ends.0) in
@@ -41,6 +47,10 @@ module _ {K V : Type 0} (old worked last : ArraysView K V) (started : TicketStat
         λ ok.
             let at = closes.position_is ∙ ap (λ (s : Bool). position_after s started.position old.tickets.position) ok in
             omega (arith, at, next, left, last_len, long),
+        λ failed.
+            let handed = h.ticket_is in
+            unit_wants old worked last started (ticket / 2048) (omega (arith, handed)) none covered w.0
+            (ap (λ (a : ArraysView K V). a.linked) ends.1) (wants failed),
       )
 
   pub finishes : (answer : Result Bool TicketError) → EndsRehash worked ticket success answer last → old.tickets.open_units ≡ []
@@ -48,7 +58,7 @@ module _ {K V : Type 0} (old worked last : ArraysView K V) (started : TicketStat
   finishes answer ends none =
       let done = finished answer none ends in
       let left = h.is_left in
-      record { none_open = done.0; none = tt; one = (omega (arith, left, long), done.1) }
+      record { none_open = done.0; none = tt; one = (omega (arith, left, long), done.1, done.2) }
 
 -- an old array of which no ticket is open has a unit left
 pub finishes_none : {K V : Type 0} (old new : ArraysView K V) → Starts old.tickets None new.tickets

@@ -5,7 +5,10 @@ use Rattle.bucket_table.proofs.Words.{LosesNoUnit, Ok, OnErr, OnOk, RelocatesAt,
 use Rattle.bucket_table.proofs.Words.{empty_bucket, entries_among, get_or-set_other, inl, inr, killed_flags, length, length-set, map-set}
 use Rattle.bucket_table.proofs.Words.{marks_among, no_new-refl, pairs_in, refl, set, suc, sym, true, ℕ, ◌++◌, ◌<◌, ◌∙◌, ◌∷◌, ◌≡◌}
 use Rattle.std.proofs.Common.{get_or-set_same}
+use Rattle.bucket_table.specs.Layout.Landings.{CarriesRecency}
+use Rattle.bucket_table.specs.Rehash.Carrying.{CarriesOrder}
 use Rattle.bucket_table.specs.Rehash.Relocation.{IsRelocated}
+use Rattle.bucket_table.proofs.Moves.CarriedOrder.{carries_unmoved, order_one}
 use Rattle.bucket_table.proofs.Rehash.Covering.{covered_work}
 use Rattle.bucket_table.proofs.Views.Killed.{length-killed_flags}
 use Rattle.bucket_table.proofs.Views.MarksKept.{marks_among-kept}
@@ -89,27 +92,27 @@ module _ {K V : Type 0} (minimum maximum index : ℕ) (c l d m : List (BucketVie
   placed_moved hash (Err e) within moved same law was = record { homes = law; rehashed = rw same was.rehashed }
 
   kept_by : length d ≡ length c → IsPermutation (entries_among c ++ entries_among l) (entries_among d ++ entries_among m)
-      → HasNoNewMark (marks_among c ++ marks_among l) (marks_among d ++ marks_among m) → KeepsArrays before after
-  kept_by len moved marks =
-      record {
-        keeps = record { pairs = moved; marks = marks; minimum = refl; maximum = refl; open_tickets = λ unit. refl };
-        current_len =
-            len;
-      }
+      → HasNoNewMark (marks_among c ++ marks_among l) (marks_among d ++ marks_among m) → CarriesOrder before after
+      → KeepsArrays before after
+  kept_by len moved marks order = record {
+    keeps = record { pairs = moved; marks = marks; minimum = refl; maximum = refl; open_tickets = λ unit. refl };
+    current_len = len;
+    order = order;
+  }
 
   -- the move, where it is done
   pub done_at : {A E : Type 0} (r : Result A E) → index < length l → OnOk r (IsRelocated index c l d m)
-      → OnOk r (RelocatesAt index before after)
-  done_at (Ok x) within moved = record {
+      → OnOk r (CarriesRecency (bucket_at l index) c d) → OnOk r (RelocatesAt index before after)
+  done_at (Ok x) within moved recency = record {
     bucket = bucket_at m index;
     is_killed = moved.killed;
     empty = moved.empty;
     linked_is = set_is l m index within moved.linked_len moved.other_linked;
     tickets_are = refl;
     others = moved.other_current;
-    kept = kept_by moved.current_len moved.entries moved.marks;
+    kept = kept_by moved.current_len moved.entries moved.marks (order_one index before after moved.entries moved.empty moved.other_linked recency);
   }
-  done_at (Err e) within moved = tt
+  done_at (Err e) within moved recency = tt
 
   -- and where it is refused
   pub refused_at : {A E : Type 0} (r : Result A E) → OnErr r (KeepsEntries c d) → OnErr r (m ≡ l) → OnErr r (IsUnmoved before after)
@@ -119,5 +122,6 @@ module _ {K V : Type 0} (minimum maximum index : ℕ) (c l d m : List (BucketVie
     tickets_are = refl;
     current_is = kept;
     kept = kept_by kept.len (rw (same, entries_among-kept c d kept) (IsPermutation-refl (entries_among c ++ entries_among l)))
-        (rw (same, marks_among-kept c d kept) (no_new-refl (marks_among c ++ marks_among l)));
+        (rw (same, marks_among-kept c d kept) (no_new-refl (marks_among c ++ marks_among l)))
+        (carries_unmoved before after (λ i. rw same refl) kept.stay (λ j. rw (kept.own j, kept.listed j) refl));
   }

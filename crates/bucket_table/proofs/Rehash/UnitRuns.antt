@@ -1,9 +1,10 @@
 -- Steps that each may work a unit, one after another.
 use Rattle.bucket_table.proofs.Words.{ArraysView, SpendsSome, TicketState, WorksUnits, ap, arith, bucket_at, cases_lt, inl, inr, length}
-use Rattle.bucket_table.proofs.Words.{true, ℕ, ◌*◌, ◌+◌, ◌-◌, ◌<◌, ◌∙◌, ◌≡◌}
+use Rattle.bucket_table.proofs.Words.{refl, true, ℕ, ◌*◌, ◌+◌, ◌-◌, ◌<◌, ◌∙◌, ◌≡◌}
 use Rattle.bucket_table.specs.Views.Keeping.{StayKilled}
 use Rattle.bucket_table.specs.Rehash.Units.{HasWorkedUnits, RelocatesSome}
-use Rattle.bucket_table.proofs.Rehash.Spending.{spends_both, spends_few, spends_killed}
+use Rattle.bucket_table.proofs.Rehash.Spending.{spends_both, spends_few, spends_killed, spends_same}
+use Rattle.bucket_table.proofs.Views.Keeping.{kept_none, stay_killed_same}
 
 module _ {K V : Type 0} where
   -- no step: old buckets may move on, and no ticket changes
@@ -21,6 +22,10 @@ module _ {K V : Type 0} where
           killed = λ i low high within. absurd (omega (arith, low, high, few));
         };
       }
+
+  pub stands_still : (old : ArraysView K V) → WorksUnits 0 old old
+  stands_still old = no_units old old (record { tickets_are = refl; killed = stay_killed_same old.linked; kept = kept_none old })
+      (spends_same old.linked)
 
   -- one run after another
   runs_both : (first second : ℕ) (old mid last : ArraysView K V) → length mid.current ≡ length old.current

@@ -1,7 +1,7 @@
 -- A unit whose ticket is handed out, worked and ended.
-use Rattle.bucket_table.proofs.Words.{ArraysView, Bool, Contains-permutation, Ends, EndsRehash, Err, HandsOut, IsPermutation, IsTrue}
+use Rattle.bucket_table.proofs.Words.{ArraysView, Bool, Contains-permutation, Ends, EndsRehash, Err, HandsOut, IsPermutation, IsPermutation-refl, IsTrue}
 use Rattle.bucket_table.proofs.Words.{KeepsArrays, KeepsOpenTickets, List, LosesNoUnit, None, Ok, Option, Result, Some, SpendsSome, Starts}
-use Rattle.bucket_table.proofs.Words.{TicketState, WorksUnits, [], ap, arith, bucket_at, cases_Bool, cases_eq, cond, false, inl, inr}
+use Rattle.bucket_table.proofs.Words.{TicketState, WorksUnits, [], ap, arith, bucket_at, cases_Bool, cases_eq, cond, entries_of, false, inl, inr}
 use Rattle.bucket_table.proofs.Words.{killed_flags, length, length_permutation, no_new-trans, refl, sum_by-cons, sym, true, ℕ, ◌*◌, ◌+◌}
 use Rattle.bucket_table.proofs.Words.{◌/◌, ◌<◌, ◌==◌, ◌↔◌, ◌∙◌, ◌∷◌, ◌≡◌, ◌≤◌}
 use Rattle.std.proofs.lemmas.List.Elements.{Contains-get_or}
@@ -13,7 +13,8 @@ use Rattle.bucket_table.specs.Rehash.Units.{HasWorkedUnits, NeedsNoMemory, Units
 use Rattle.bucket_table.specs.declared.tickets.TicketError.{TicketError}
 use Rattle.bucket_table.specs.declared.tickets.TicketError.TheVariants.{NotDone, NotOpen}
 use Rattle.bucket_table.proofs.Rehash.Covering.{position_after}
-use Rattle.bucket_table.proofs.Rehash.Ending.{EndsBy, ended_entries, marks_ended, others_ended}
+use Rattle.bucket_table.proofs.Moves.CarriedOrder.{order_both}
+use Rattle.bucket_table.proofs.Rehash.Ending.{EndsBy, ended_entries, ended_order, marks_ended, others_ended}
 use Rattle.bucket_table.proofs.Views.Killed.{get_or-killed_flags, length-killed_flags}
 
 -- one unit joins a bag and one leaves it
@@ -79,15 +80,24 @@ module _ {K V : Type 0} (old worked last : ArraysView K V) (started : TicketStat
   unit_kept answer loses ends =
       let (minimum, maximum, current) = others_ended worked last ticket success answer ends in
       let kept = w.0.kept in
+      let same = ended_entries worked last ticket success answer loses ends in
+      let ended = ended_order worked last ticket success answer loses ends in
       record {
         keeps = record {
-          pairs = rw (ended_entries worked last ticket success answer loses ends) kept.keeps.pairs;
+          pairs = rw same kept.keeps.pairs;
           marks = no_new-trans _ _ _ kept.keeps.marks (marks_ended worked last ticket success answer ends);
           minimum = minimum ∙ kept.keeps.minimum;
           maximum = maximum ∙ kept.keeps.maximum;
           open_tickets = bag_ended answer ends;
         };
         current_len = rw current kept.current_len;
+        order = order_both old worked last kept.keeps.pairs (rw same (IsPermutation-refl (entries_of worked))) (record {
+          moved = kept.order.moved;
+          left = kept.order.left;
+          stay = kept.order.stay;
+          arrived = kept.order.arrived;
+          carried = kept.order.carried;
+        }) ended;
       }
 
   -- a unit that is easy is worked, and the next ticket is that of the next unit; one that isn't is handed out again

@@ -1,12 +1,15 @@
 -- What a call of a script does to the map, after the calls of the table that it makes.
-use Rattle.bucket_table.proofs.Words.{AreArrays, ArraysView, Bool, Contains-permutation, IsPermutation-cons, IsPermutation-refl}
-use Rattle.bucket_table.proofs.Words.{IsPermutation-sym, IsPermutation-trans, IsTrue, KeepsPairs, List, MapState, Ok, Result, [], ap, arith}
-use Rattle.bucket_table.proofs.Words.{counted, counted_to, false, length, length_permutation, min, pairs_of, refl, subst, sym, ℕ, ◌-◌, ◌<◌}
+use Rattle.bucket_table.proofs.Words.{AreArrays, ArraysView, Bool, Contains-permutation, Err, IsPermutation-cons, IsPermutation-refl}
+use Rattle.bucket_table.proofs.Words.{IsPermutation-sym, IsPermutation-trans, IsTrue, KeepsPairs, List, MapState, Result, [], ap, arith}
+use Rattle.bucket_table.proofs.Words.{counted, counted_to, length, length_permutation, min, pairs_of, refl, subst, sym, ℕ, ◌-◌, ◌<◌}
 use Rattle.bucket_table.proofs.Words.{◌^◌, ◌↔◌, ◌∙◌, ◌∷◌, ◌≡◌}
 use Rattle.bucket_table.specs.Map.LookingUp.{IsThere}
 use Rattle.bucket_table.specs.Map.MapState.{AddsPair, ChangesValue}
-use Rattle.bucket_table.specs.Map.Preparing.{Prepares}
+use Rattle.bucket_table.specs.Map.Preparing.{IsMissing}
+use Rattle.bucket_table.specs.declared.arrays.Missing.{Missing}
+use Rattle.bucket_table.specs.declared.arrays.Missing.TheVariants.{Nothing}
 use Rattle.bucket_table.proofs.Walking.CursorSteps.{no_map}
+use Rattle.std.proofs.Common.{IfErr}
 
 module _ {K V H : Type 0} where
   -- nothing was done
@@ -68,6 +71,7 @@ module _ {K V H : Type 0} where
 
 module _ {K V : Type 0} where
   -- without a current array there is no old one, and no pair
-  pub empty_without : {E : Type 0} (new : ArraysView K V) (hash : ℕ) (r : Result Bool E) → Prepares new hash r → AreArrays new
-      → r ≡ Ok false → pairs_of new ≡ []
-  empty_without {E} new hash r ready law is = no_map new law (subst (λ (x : Result Bool E). Prepares new hash x) is ready)
+  pub empty_without : {A : Type 0} (old new : ArraysView K V) (r : Result A Missing) → IfErr r (λ missing. IsMissing missing old)
+      → length new.current ≡ length old.current → AreArrays new → r ≡ Err Nothing → pairs_of new ≡ []
+  empty_without {A} old new r answer same law is =
+      no_map new law (same ∙ subst (λ (x : Result A Missing). IfErr x (λ missing. IsMissing missing old)) is answer)

@@ -2,6 +2,7 @@
 use Rattle.bucket_table.proofs.Words.{ArraysView, BucketView, IsPermutation-refl, IsPermutation-trans, Keeps, KeepsArrays, KeepsOpenTickets}
 use Rattle.bucket_table.proofs.Words.{List, TicketState, entries_of, marks_of, no_new-refl, no_new-trans, refl, ◌∙◌}
 use Rattle.bucket_table.specs.Views.Keeping.{StayKilled}
+use Rattle.bucket_table.proofs.Moves.CarriedOrder.{order_both, order_same}
 
 module _ {K V : Type 0} where
   pub keeps_same : (old : ArraysView K V) → Keeps old old
@@ -23,11 +24,15 @@ module _ {K V : Type 0} where
   }
 
   pub kept_none : (old : ArraysView K V) → KeepsArrays old old
-  kept_none old = record { keeps = keeps_same old; current_len = refl }
+  kept_none old = record { keeps = keeps_same old; current_len = refl; order = order_same old }
 
   pub kept_both : (old between new : ArraysView K V) → KeepsArrays old between → KeepsArrays between new → KeepsArrays old new
   kept_both old between new first second =
-      record { keeps = keeps_both old between new first.keeps second.keeps; current_len = second.current_len ∙ first.current_len }
+      record {
+        keeps = keeps_both old between new first.keeps second.keeps;
+        current_len = second.current_len ∙ first.current_len;
+        order = order_both old between new first.keeps.pairs second.keeps.pairs first.order second.order;
+      }
 
   pub stay_killed_same : (a : List (BucketView K V)) → StayKilled a a
   stay_killed_same a = record { len = refl; still = λ i dead. dead }

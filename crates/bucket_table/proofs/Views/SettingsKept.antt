@@ -31,8 +31,8 @@ module _ {K V H : Type 0} where
   }
 
   -- a bucket that was swept
-  pub settings_swept : {epoch : ℕ} (IsTest : (K × V → Bool) → Type 0) (now visited : TableView K V H) (index taken : ℕ)
-      → visited.hasher ≡ now.hasher → RetainsAt IsTest epoch now.arrays index taken visited.arrays → KeepsSettings now visited
+  pub settings_swept : {kind epoch : ℕ} (IsTest : (K × V → Bool) → Type 0) (now visited : TableView K V H) (index taken : ℕ)
+      → visited.hasher ≡ now.hasher → RetainsAt IsTest kind epoch now.arrays index taken visited.arrays → KeepsSettings now visited
   settings_swept IsTest now visited index taken same r = record {
     hasher = same;
     minimum = ap (λ (a : ArraysView K V). a.minimum) r.new_is;

@@ -1,15 +1,18 @@
 -- The units that a cursor works as it passes buckets.
 use Rattle.bucket_table.proofs.Words.{AreSourcesKilled, ArraysView, Bool, Err, IsInInterval, IsLength, KeepsArrays, Ok, Result, WorksUnits}
-use Rattle.bucket_table.proofs.Words.{arith, bound_of, buckets_on, cases_lt, inl, inr, interval_width, length, refl, subst, sym, ℕ, ◌+◌}
+use Rattle.bucket_table.proofs.Words.{ap, arith, bound_of, buckets_on, cases_lt, inl, inr, interval_width, length, refl, subst, sym, ℕ, ◌+◌}
 use Rattle.bucket_table.proofs.Words.{◌-◌, ◌<◌, ◌^◌, ◌∙◌, ◌≡◌, ◌≤◌}
+use Rattle.bucket_table.specs.Rehash.Units.{WantsMemory}
+use Rattle.bucket_table.specs.Views.ArraysView.{IsSource}
 use Rattle.bucket_table.specs.Walking.Cursors.{AreKilledFor, Passes, ShrinksThenPasses}
 use Rattle.bucket_table.specs.declared.arrays.Missing.{Missing}
 use Rattle.bucket_table.specs.declared.arrays.Missing.TheVariants.{Memory, Nothing}
 use Rattle.bucket_table.proofs.Walking.Bounds.{all_hashes, wide}
-use Rattle.bucket_table.proofs.Views.Keeping.{kept_none, stay_killed_same}
-use Rattle.bucket_table.proofs.Rehash.Spending.{spends_same}
+use Rattle.bucket_table.proofs.Views.Keeping.{kept_both, kept_none}
 use Rattle.bucket_table.proofs.Rehash.StayingKilled.{sources_still}
-use Rattle.bucket_table.proofs.Rehash.UnitRuns.{no_units, units_alone, units_both}
+use Rattle.bucket_table.proofs.Rehash.UnitRuns.{stands_still, units_alone, units_both}
+use Rattle.bucket_table.proofs.Rehash.Wanting.{wanted_before}
+use Rattle.std.specs.Prelude.{IsErrAnd}
 use Rattle.std.specs.Result.{result_map_both}
 
 module _ {K V : Type 0} where
@@ -17,14 +20,10 @@ module _ {K V : Type 0} where
   pub record HasWorked (old : ArraysView K V) (start index : ℕ) (now : ArraysView K V) : Type 0 where
     pub order : start ≤ index
     pub within : start < index → index ≤ length old.current
-    pub len : length now.current ≡ length old.current
+    pub kept : KeepsArrays old now
     pub units : WorksUnits (index - start) old now
     pub sources : AreKilledFor now start index
     pub alone : length old.linked ≡ 0 → now ≡ old
-
-  pub stands_still : (old : ArraysView K V) → WorksUnits 0 old old
-  stands_still old = no_units old old (record { tickets_are = refl; killed = stay_killed_same old.linked; kept = kept_none old })
-      (spends_same old.linked)
 
   pub worked_none : (old : ArraysView K V) (start : ℕ) → HasWorked old start start old
   worked_none old start =
@@ -32,7 +31,7 @@ module _ {K V : Type 0} where
       record {
         order = omega arith;
         within = λ some. absurd (omega (arith, some));
-        len = refl;
+        kept = kept_none old;
         units = subst (λ (n : ℕ). WorksUnits n old old) (sym none) (stands_still old);
         sources = λ i low high. absurd (omega (arith, low, high));
         alone = λ none. refl;
@@ -42,7 +41,7 @@ module _ {K V : Type 0} where
   module _ (old before now : ArraysView K V) (start index : ℕ) (w : HasWorked old start index before)
       (kept : KeepsArrays before now) (unit : WorksUnits 1 before now) (waits : length before.linked ≡ 0 → now ≡ before) where
     units_now : WorksUnits (index - start + 1) old now
-    units_now = units_both (index - start) 1 old before now w.len w.units unit
+    units_now = units_both (index - start) 1 old before now w.kept.current_len w.units unit
 
     sources_now : AreKilledFor now start index
     sources_now i low high = sources_still 1 before now i unit kept.current_len (w.sources i low high)
@@ -56,13 +55,13 @@ module _ {K V : Type 0} where
     pub worked_more : (len : ℕ) → len ≡ length before.current → index < len → AreSourcesKilled now index
         → HasWorked old start (index + 1) now
     worked_more len is below ready =
-        let long = w.len in
+        let long = w.kept.current_len in
         let order = w.order in
         let steps : index + 1 - start ≡ index - start + 1 = omega (arith, order) in
         record {
           order = omega (arith, order);
           within = λ some. omega (arith, long, is, below);
-          len = kept.current_len ∙ w.len;
+          kept = kept_both old before now w.kept kept;
           units = subst (λ (n : ℕ). WorksUnits n old now) (sym steps) units_now;
           sources = λ i low high. elim (cases_lt i index) [
             | inl less ↦ sources_now i low less
@@ -74,10 +73,10 @@ module _ {K V : Type 0} where
         }
 
     pub passes_refused : (len bound : ℕ) → len ≡ length before.current → index < len
-        → (length before.linked ≡ 0 → ⊥) → (0 < length old.current → IsInInterval (length old.current) start bound)
+        → WantsMemory (IsSource now index) before now → (0 < length old.current → IsInInterval (length old.current) start bound)
         → Passes (λ (i : ℕ). i) bound old (Err Memory) now
-    passes_refused len bound is below never begins =
-        let long = w.len in
+    passes_refused len bound is below wants begins =
+        let long = w.kept.current_len in
         let order = w.order in
         let at : start + (index - start) ≡ index = omega (arith, order) in
         record {
@@ -85,10 +84,12 @@ module _ {K V : Type 0} where
           passed = index - start;
           begins = begins;
           count = omega (arith, order, below, is, long);
+          kept = kept_both old before now w.kept kept;
           units = units_now;
           sources = subst (λ (n : ℕ). AreKilledFor now start n) (sym at) sources_now;
           alone = still_alone;
-          succeeds = λ none _. alone_now never none;
+          wanted = λ _. subst (λ (n : ℕ). WantsMemory (IsSource now n) old now) (sym at)
+              (wanted_before (IsSource now index) (index - start) 1 old before now w.kept.current_len w.units unit wants);
         }
 
   -- an array that stands has hashes for each bucket
@@ -108,17 +109,18 @@ module _ {K V : Type 0} where
         passed = index + 1 - start;
         begins = begins;
         count = at;
+        kept = w.kept;
         units = w.units;
         sources = subst (λ (n : ℕ). AreKilledFor now start n) (sym at) w.sources;
         alone = w.alone;
-        succeeds = λ none lacks. lacks;
+        wanted = λ lacks. absurd lacks;
       }
 
   pub passes_all : (old now : ArraysView K V) (start index bound : ℕ) → HasWorked old start index now → length now.current ≤ index
       → (0 < length old.current → IsInInterval (length old.current) start bound) → Passes (λ (i : ℕ). i) bound old (Err Nothing) now
   passes_all old now start index bound w past begins =
       let order = w.order in
-      let long = w.len in
+      let long = w.kept.current_len in
       let at : start + (index - start) ≡ index = omega (arith, order) in
       record {
         from = start;
@@ -128,10 +130,11 @@ module _ {K V : Type 0} where
           | inl some ↦ let fits = w.within some in omega (arith, fits, past, long)
           | inr none ↦ omega (arith, none, past, long, order)
         ];
+        kept = w.kept;
         units = w.units;
         sources = subst (λ (n : ℕ). AreKilledFor now start n) (sym at) w.sources;
         alone = w.alone;
-        succeeds = λ none lacks. cc;
+        wanted = λ lacks. absurd cc;
       }
 
   -- where there is no array, or the hash is past all, none is passed
@@ -147,6 +150,14 @@ module _ {K V : Type 0} where
       passes_all arrays arrays n n bound (worked_none arrays n) (omega arith)
       (λ some. (omega (arith, all_hashes n (long some), is), omega (arith, all_hashes n (long some), is, wide n (long some))))
 
+-- without an old array it isn't refused
+pub passes_alone : {K V A : Type 0} (index_of : A → ℕ) (r : Result A Missing) (bound : ℕ) (old new : ArraysView K V)
+    → Passes index_of bound old r new → length old.linked ≡ 0 → IsErrAnd r (λ missing. missing ≡ Memory) → ⊥
+passes_alone {K} {V} index_of r bound old new p none lacks =
+    let within = (p.wanted lacks).within in
+    let same = ap (λ (a : ArraysView K V). length a.linked) (p.alone none) in
+    absurd (omega (arith, within, same, none))
+
 -- the same answer, with a view of what was found
 module _ {K V A B : Type 0} (f : A → B) (g : B → ℕ) where
   passes_viewed : (r : Result A Missing) (bound : ℕ) (old new : ArraysView K V)
@@ -156,20 +167,22 @@ module _ {K V A B : Type 0} (f : A → B) (g : B → ℕ) where
     passed = p.passed;
     begins = p.begins;
     count = p.count;
+    kept = p.kept;
     units = p.units;
     sources = p.sources;
     alone = p.alone;
-    succeeds = p.succeeds;
+    wanted = p.wanted;
   }
   passes_viewed (Err missing) bound old new p = record {
     from = p.from;
     passed = p.passed;
     begins = p.begins;
     count = p.count;
+    kept = p.kept;
     units = p.units;
     sources = p.sources;
     alone = p.alone;
-    succeeds = p.succeeds;
+    wanted = p.wanted;
   }
 
   pub departs_viewed : (r : Result A Missing) (side : Bool) (index : ℕ) (old new : ArraysView K V)
@@ -179,5 +192,4 @@ module _ {K V A B : Type 0} (f : A → B) (g : B → ℕ) where
     between = d.between;
     asked = d.asked;
     passes = passes_viewed r (bound_of (length (buckets_on old side)) (index + 1)) d.between new d.passes;
-    kept = d.kept;
   }

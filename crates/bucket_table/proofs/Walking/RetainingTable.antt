@@ -2,7 +2,7 @@
 use Rattle.bucket_table.proofs.Words.{ArraysView, Bool, BucketView, IsDistinct-IsPermutation, IsEquivalence, IsOneMap, IsPermutation}
 use Rattle.bucket_table.proofs.Words.{IsPermutation-append_left, IsPermutation-append_right, IsPermutation-map, IsPermutation-trans, List}
 use Rattle.bucket_table.proofs.Words.{MarksBy, [], ap, append-nil, append_assoc, arith, arrays_with, bucket_at, bucket_on, buckets_on}
-use Rattle.bucket_table.proofs.Words.{by-no_new, empty_bucket, entries_among, entries_in, false, killed_flags, length, length-append}
+use Rattle.bucket_table.proofs.Words.{by-no_new, empty_bucket, entries_among, entries_in, false, length, length-append}
 use Rattle.bucket_table.proofs.Words.{length-set, map, map-entries_in, marks_in, marks_of, min, no_new-refl, pairs_in, pairs_of, refl, set}
 use Rattle.bucket_table.proofs.Words.{subst, sym, take, true, ℕ, ◌++◌, ◌+◌, ◌-◌, ◌<◌, ◌^◌, ◌∙◌, ◌∷◌, ◌≡◌, ◌≤◌}
 use Rattle.std.specs.Borrow.{Bor, MutBor}
@@ -12,10 +12,10 @@ use Rattle.std.proofs.lemmas.List.Concat.{flat_map-append}
 use Rattle.bucket_slots.proofs.MarkCallerLemmas.{by-append}
 use Rattle.bucket_table.specs.Rehash.Relocation.{marks_among}
 use Rattle.bucket_table.specs.Views.Sides.{with_buckets}
-use Rattle.bucket_table.specs.Walking.Retains.{LosesKeys, RetainsAmong, RetainsBucket, RetainsEach, RetainsIn, gone_len, pairs_among}
+use Rattle.bucket_table.specs.Walking.Retains.{AreLeftOf, LosesKeys, RetainsAmong, RetainsBucket, RetainsEach, RetainsIn, gone_len, pairs_among}
 use Rattle.bucket_table.specs.Walking.Walks.{keys_in}
 use Rattle.bucket_table.proofs.Map.MapSteps.{splits}
-use Rattle.bucket_table.proofs.Views.SideChanges.{arrays_with-same, buckets_on-arrays_with, changeable_filled, flags_same, homes_on}
+use Rattle.bucket_table.proofs.Views.SideChanges.{arrays_with-same, buckets_on-arrays_with, changeable_filled, homes_on}
 use Rattle.bucket_table.proofs.Views.SideChanges.{placed_after}
 use Rattle.bucket_table.proofs.Walking.Each.{map_append}
 use Rattle.bucket_table.proofs.Walking.RetainingEach.{asked_both, asked_fewer, keys_same}
@@ -114,7 +114,6 @@ module _ {S K V : Type 0} (step : S → Bor K → MutBor V → Bool → MutBor V
     pub len : length now ≡ length old
     pub counted : count ≡ gone_len (pairs_among (take index old)) (pairs_among (take index now))
     pub marks : MarksBy epoch (marks_among (take index old)) (marks_among (take index now))
-    pub flags : killed_flags now ≡ killed_flags old
 
   pub first_among : (first : S) (old : List (BucketView K V)) → IsAmong first old first old 0 0
   first_among first old = record {
@@ -123,7 +122,6 @@ module _ {S K V : Type 0} (step : S → Bor K → MutBor V → Bool → MutBor V
     len = refl;
     counted = omega arith;
     marks = by-no_new epoch [] [] (no_new-refl []);
-    flags = refl;
   }
 
   pub next_among : (first state last : S) (old now : List (BucketView K V)) (index count gone sum : ℕ) (left : BucketView K V)
@@ -157,7 +155,6 @@ module _ {S K V : Type 0} (step : S → Bor K → MutBor V → Bool → MutBor V
         marks = rw (marks_were, marks_are)
             (by-append epoch (marks_among (take index old)) (marks_in (bucket_at now index)) (marks_among (take index now)) (marks_in left)
             amid.marks r.marks);
-        flags = flags_same now index left within r.keys.alive ∙ amid.flags;
       }
 
   pub all_among : (first state : S) (old now : List (BucketView K V)) (index count : ℕ) → IsAmong first old state now index count
@@ -172,7 +169,6 @@ module _ {S K V : Type 0} (step : S → Bor K → MutBor V → Bool → MutBor V
             ∙ ap (λ bs. gone_len (pairs_among old) (pairs_among bs)) are;
         marks = subst (λ bs. MarksBy epoch (marks_among bs) (marks_among now)) were
             (subst (λ bs. MarksBy epoch (marks_among (take index old)) (marks_among bs)) are amid.marks);
-        flags = amid.flags;
       }
 
   -- where a side is gone through, between two buckets
@@ -208,21 +204,22 @@ module _ {S K V : Type 0} (step : S → Bor K → MutBor V → Bool → MutBor V
       ∙ length-set (buckets_on old side) index r.left
 
   -- both sides, one after the other
-  pub record IsRetained (first : S) (old new : ArraysView K V) (count : ℕ) (last : S) : Type 0 where
+  pub record IsRetained (kind : ℕ) (first : S) (old new : ArraysView K V) (count : ℕ) (last : S) : Type 0 where
     pub asked : RetainsEach step first (pairs_of old) (pairs_of new) last
     pub counted : count ≡ gone_len (pairs_of old) (pairs_of new)
     pub marks : MarksBy epoch (marks_of old) (marks_of new)
     pub minimum : new.minimum ≡ old.minimum
     pub maximum : new.maximum ≡ old.maximum
     pub tickets : new.tickets ≡ old.tickets
-    pub current : killed_flags new.current ≡ killed_flags old.current
-    pub linked : killed_flags new.linked ≡ killed_flags old.linked
+    pub current : AreLeftOf kind epoch old.current new.current
+    pub linked : AreLeftOf kind epoch old.linked new.linked
 
   pub both_sides : (first between last : S) (old mid new : ArraysView K V) (one two count : ℕ)
       → RetainsAmong step epoch first old.current mid.current one between → mid ≡ with_buckets old false mid.current
       → RetainsAmong step epoch between mid.linked new.linked two last → new ≡ with_buckets mid true new.linked
-      → count ≡ min (one + two) (2 ^ 64 - 1) → IsRetained first old new count last
-  both_sides first between last old mid new one two count front mid_is back new_is sum =
+      → count ≡ min (one + two) (2 ^ 64 - 1) → (kind : ℕ) → AreLeftOf kind epoch old.current mid.current
+      → AreLeftOf kind epoch mid.linked new.linked → IsRetained kind first old new count last
+  both_sides first between last old mid new one two count front mid_is back new_is sum kind left_ahead left_behind =
       let linked : mid.linked ≡ old.linked = ap (λ (a : ArraysView K V). a.linked) mid_is in
       let current : new.current ≡ mid.current = ap (λ (a : ArraysView K V). a.current) new_is in
       let behind : RetainsAmong step epoch between old.linked new.linked two last =
@@ -245,6 +242,6 @@ module _ {S K V : Type 0} (step : S → Bor K → MutBor V → Bool → MutBor V
         minimum = ap (λ (a : ArraysView K V). a.minimum) new_is ∙ ap (λ (a : ArraysView K V). a.minimum) mid_is;
         maximum = ap (λ (a : ArraysView K V). a.maximum) new_is ∙ ap (λ (a : ArraysView K V). a.maximum) mid_is;
         tickets = ap (λ (a : ArraysView K V). a.tickets) new_is ∙ ap (λ (a : ArraysView K V). a.tickets) mid_is;
-        current = ahead.flags;
-        linked = behind.flags;
+        current = subst (λ bs. AreLeftOf kind epoch old.current bs) (sym current) left_ahead;
+        linked = subst (λ bs. AreLeftOf kind epoch bs new.linked) linked left_behind;
       }

@@ -72,9 +72,9 @@ module _ {K V : Type 0} (IsTest : (K × V → Bool) → Type 0) (hash : K → �
       (0, λ test means. sweep_stops IsTest hash (pairs_of old) (pairs_of old) (pairs_of next) 0 0 (sweep_none old) kept test means)
 
   -- it has swept the bucket
-  sweep_through : {epoch : ℕ} (old now visited : ArraysView K V) (count taken more index : ℕ)
+  sweep_through : {kind epoch : ℕ} (old now visited : ArraysView K V) (count taken more index : ℕ)
       (place : Result ℕ Missing) → ArePlaced hash now → place ≡ Ok index → SweepsOn old now count place
-      → RetainsAt IsTest epoch now index taken visited → more ≡ min (count + taken) (2 ^ 64 - 1)
+      → RetainsAt IsTest kind epoch now index taken visited → more ≡ min (count + taken) (2 ^ 64 - 1)
       → IsSweeping IsTest hash (pairs_of old) (pairs_of visited) (bound_of (length now.current) (index + 1))
       (bound_of (length now.current) (index + 1)) more
   sweep_through old now visited count taken more index place law is s r counted =
@@ -86,8 +86,8 @@ module _ {K V : Type 0} (IsTest : (K × V → Bool) → Type 0) (hash : K → �
 
 module _ {K V : Type 0} where
   -- a bucket that was swept leaves as many current buckets
-  same_len : {epoch : ℕ} (IsTest : (K × V → Bool) → Type 0) (now visited : ArraysView K V) (index taken : ℕ)
-      → RetainsAt IsTest epoch now index taken visited → length visited.current ≡ length now.current
+  same_len : {kind epoch : ℕ} (IsTest : (K × V → Bool) → Type 0) (now visited : ArraysView K V) (index taken : ℕ)
+      → RetainsAt IsTest kind epoch now index taken visited → length visited.current ≡ length now.current
   same_len IsTest now visited index taken r = ap (λ (a : ArraysView K V). length a.current) r.new_is ∙ length-set now.current index r.left
 
 module _ {K V H : Type 0} where
@@ -109,14 +109,14 @@ module _ {K V H : Type 0} where
 
 module _ {K V : Type 0} (IsTest : (K × V → Bool) → Type 0) where
   -- a sweep's course so far, and one bucket more
-  course_more : {epoch : ℕ} (old now visited next : ArraysView K V) (index count : ℕ) (here place : Result ℕ Missing)
-      → here ≡ Ok index → Sweeps IsTest epoch old (record { place = here; arrays = now })
-      → RetainsAt IsTest epoch now index count visited → ShrinksThenPasses (λ to. to) false index visited place next
-      → Sweeps IsTest epoch old (record { place = place; arrays = next })
-  course_more {epoch = epoch} old now visited next index count here place is s retained departs =
+  course_more : {kind epoch : ℕ} (old now visited next : ArraysView K V) (index count : ℕ) (here place : Result ℕ Missing)
+      → here ≡ Ok index → Sweeps IsTest kind epoch old (record { place = here; arrays = now })
+      → RetainsAt IsTest kind epoch now index count visited → ShrinksThenPasses (λ to. to) false index visited place next
+      → Sweeps IsTest kind epoch old (record { place = place; arrays = next })
+  course_more {kind = kind} {epoch = epoch} old now visited next index count here place is s retained departs =
       let before : SweepState K V = record { place = here; arrays = now } in
       let after : SweepState K V = record { place = place; arrays = next } in
-      let step : SweepsAt IsTest epoch before index place after = record {
+      let step : SweepsAt IsTest kind epoch before index place after = record {
         here = is;
         next = refl;
         visited = visited;
@@ -129,12 +129,12 @@ module _ {K V : Type 0} (IsTest : (K × V → Bool) → Type 0) where
         sets_out = s.sets_out;
         indices = s.indices ++ index ∷ [];
         places = s.places ++ place ∷ [];
-        run = run_more (SweepsAt IsTest epoch) s.first before after s.indices s.places index place s.run step;
+        run = run_more (SweepsAt IsTest kind epoch) s.first before after s.indices s.places index place s.run step;
       }
 
   -- without an old array nothing changes as long as no pair is refused
-  course_alone : {epoch : ℕ} (now visited next : ArraysView K V) (index taken : ℕ) (place : Result ℕ Missing)
-      → pairs_in (bucket_on now false index) ≢ [] → RetainsAt IsTest epoch now index taken visited
+  course_alone : {kind epoch : ℕ} (now visited next : ArraysView K V) (index taken : ℕ) (place : Result ℕ Missing)
+      → pairs_in (bucket_on now false index) ≢ [] → RetainsAt IsTest kind epoch now index taken visited
       → ShrinksThenPasses (λ to. to) false index visited place next
       → length now.linked ≡ 0 → taken ≡ 0 → next ≡ now
   course_alone now visited next index taken place some r d alone none =
@@ -151,7 +151,7 @@ module _ {K V H : Type 0} (IsTest : (K × V → Bool) → Type 0) (hash : H → 
   pub record SweepStands (now : TableView K V H) (count : ℕ) (place : Result ℕ Missing) : Type 0 where
     pub settings : KeepsSettings old now
     pub on : SweepsOn IsTest (hash old.hasher) old.arrays now.arrays count place
-    pub course : Sweeps IsTest epoch old.arrays (record { place = place; arrays = now.arrays })
+    pub course : Sweeps IsTest kind epoch old.arrays (record { place = place; arrays = now.arrays })
     pub alone : length old.arrays.linked ≡ 0 → count ≡ 0 → now.arrays ≡ old.arrays
     pub marks : MarksBy epoch (marks_of old.arrays) (marks_of now.arrays)
 
@@ -174,7 +174,7 @@ module _ {K V H : Type 0} (IsTest : (K × V → Bool) → Type 0) (hash : H → 
   -- a bucket was swept, and the cursor has left it
   pub stands_next : (now visited next : TableView K V H) (count taken more index : ℕ) (here place : Result ℕ Missing) (at : Place)
       → SweepStands now count here → here ≡ Ok index → ArePlaced (hash now.hasher) now.arrays
-      → visited.hasher ≡ now.hasher → RetainsAt IsTest epoch now.arrays index taken visited.arrays → more ≡ min (count + taken) (2 ^ 64 - 1)
+      → visited.hasher ≡ now.hasher → RetainsAt IsTest kind epoch now.arrays index taken visited.arrays → more ≡ min (count + taken) (2 ^ 64 - 1)
       → KeepsPairs (state_of kind visited) (state_of kind next) → KeepsOpenTickets visited.arrays.tickets next.arrays.tickets
       → Leaves (hash visited.hasher) (bound_of (length visited.arrays.current) (index + 1)) place next.arrays at
       → HasNoNewMark (marks_of visited.arrays) (marks_of next.arrays)
@@ -204,7 +204,7 @@ module _ {K V H : Type 0} (IsTest : (K × V → Bool) → Type 0) (hash : H → 
   -- fewer hashes are left then
   pub fewer_hashes : (now : TableView K V H) (visited next : ArraysView K V) (count taken index : ℕ) (here place : Result ℕ Missing)
       → SweepStands now count here → here ≡ Ok index → (0 < length now.arrays.current → IsLength (length now.arrays.current))
-      → RetainsAt IsTest epoch now.arrays index taken visited → ReachesPast (bound_of (length visited.current) (index + 1)) place next
+      → RetainsAt IsTest kind epoch now.arrays index taken visited → ReachesPast (bound_of (length visited.current) (index + 1)) place next
       → hashes_left (length next.current) place < hashes_left (length now.arrays.current) here
   fewer_hashes now visited next count taken index here place s is long retained past =
       let len : ℕ = length now.arrays.current in

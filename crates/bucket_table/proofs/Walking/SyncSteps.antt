@@ -6,6 +6,7 @@ use Rattle.bucket_table.specs.Walking.Cursors.{Advances, LeavesTo, ShrinksThenPa
 use Rattle.bucket_table.specs.declared.arrays.Missing.{Missing}
 use Rattle.bucket_table.specs.declared.arrays.Missing.TheVariants.{Memory, Nothing}
 use Rattle.bucket_table.proofs.Walking.Each.{all_permuted}
+use Rattle.bucket_table.proofs.Walking.PassingUnits.{passes_alone}
 use Rattle.bucket_table.proofs.Map.MapKept.{state_found}
 use Rattle.bucket_slots.specs.Walking.{MovesToNext}
 
@@ -74,7 +75,7 @@ module _ {K V H : Type 0} (kind : ℕ) (hash : H → K → ℕ) (side : Bool) (i
     refused_beside alone quiet memory = elim (some_or_none (pairs_ahead (bucket_on old.arrays side index) from)) [
       | inl none ↦
           let d = a.departs none in
-          d.passes.succeeds (ap (λ (p : ArraysView K V). length p.linked) (d.asked.not_asked (λ asked. quiet asked.0 asked.1)) ∙ alone)
-          memory
+          passes_alone (λ (to : Bool × ℕ). to.1) (Err missing) _ d.between new.arrays d.passes
+          (ap (λ (p : ArraysView K V). length p.linked) (d.asked.not_asked (λ asked. quiet asked.0 asked.1)) ∙ alone) memory
       | inr some ↦ absurd (not_held some)
     ]

@@ -75,9 +75,9 @@ module _ {K V H : Type 0} where
 
 module _ {K V : Type 0} where
   -- a bucket of the table was gone through
-  pub left_of : {epoch : ℕ} (eq : K → K → Bool) → IsEquivalence eq → (hash : K → ℕ) (a : ArraysView K V)
+  pub left_of : {kind epoch : ℕ} (eq : K → K → Bool) → IsEquivalence eq → (hash : K → ℕ) (a : ArraysView K V)
       (index count : ℕ) (IsTest : (K × V → Bool) → Type 0) (new : ArraysView K V)
-      → IsOneMap eq hash a → IsLocked a false index → RetainsAt IsTest epoch a index count new → IsOneMap eq hash new
+      → IsOneMap eq hash a → IsLocked a false index → RetainsAt IsTest kind epoch a index count new → IsOneMap eq hash new
   left_of eq laws hash a index count IsTest new one locked r =
       rw r.new_is (one_map_left eq laws hash a index r.left r.retains.gone one locked r.retains.parts r.retains.alive)
 

@@ -7,6 +7,8 @@ use Rattle.bucket_table.proofs.Words.{TableView, WorksUnits, [], ap, append_asso
 use Rattle.bucket_table.proofs.Words.{cases_lt, entries_in, entries_of, false, has_home_in, inl, inr, length, length-set, map}
 use Rattle.bucket_table.proofs.Words.{map-entries_in, recursion_from_All, refl, subst, sym, true, ℕ, ◌%◌, ◌++◌, ◌+◌, ◌<◌, ◌∙◌, ◌∷◌}
 use Rattle.bucket_table.proofs.Words.{◌≡◌, ◌≤◌}
+use Rattle.bucket_table.specs.Rehash.Units.{WantsMemory}
+use Rattle.bucket_table.specs.Views.ArraysView.{IsSource}
 use Rattle.bucket_table.specs.Resize.Asking.{ResizesIf}
 use Rattle.bucket_table.specs.Walking.Cursors.{AreKilledFor}
 use Rattle.bucket_table.specs.Views.Settings.{KeepsSettings}
@@ -19,9 +21,10 @@ use Rattle.bucket_table.proofs.Map.MapKept.{keeps_pairs}
 use Rattle.bucket_table.proofs.Views.SettingsKept.{settings_both}
 use Rattle.bucket_table.proofs.Views.SideChanges.{locked_current, placed_change}
 use Rattle.bucket_table.proofs.Rehash.StayingKilled.{sources_still}
+use Rattle.bucket_table.proofs.Rehash.Wanting.{wanted_before}
 use Rattle.bucket_table.proofs.Walking.TableCursor.{distinct_behind}
 use Rattle.bucket_table.proofs.Rehash.UnitRuns.{units_alone}
-use Rattle.bucket_table.proofs.Walking.WalkSteps.{WalksOn, begins, goes_on, walk_alone, walk_units, walk_waits}
+use Rattle.bucket_table.proofs.Walking.WalkSteps.{WalksOn, begins, goes_on, walk_units, walk_visited, walk_waits}
 
 module _ {K V : Type 0} where
   abbrev pub key_of : (K × V) × ℕ → K × ℕ
@@ -150,8 +153,7 @@ module _ {S K V : Type 0} (step : S → BucketView K V → Bool → Bool → Buc
       let len = visit.len in
       let before = killed_wait table ready from index w.killed kept unit in
       let after : WalkStands first next old from (index + 1) last more done = record {
-        walks = goes_on step hash first now next old table ready from index flag last more left w.walks (keeps_pairs table ready kept.keeps)
-            kept.current_len unit waits call visit;
+        walks = goes_on step hash first now next old table ready from index flag last more left w.walks kept unit waits call visit;
         killed = λ j low high. elim (cases_lt j index) [
           | inl less ↦ subst (λ (n : ℕ). (i : ℕ) → i < length ready.linked → Meets (length ready.linked) i n j
               → (bucket_at ready.linked i).killed ≡ true) (sym len) (before j low less)
@@ -192,9 +194,9 @@ module _ {S K V : Type 0} (step : S → BucketView K V → Bool → Bool → Buc
   pub walk_refused : {A E : Type 0} (e : E) (expected start : ℕ) (first now : S)
       (old table ready : ArraysView K V) (from index : ℕ) (flag more : Bool) → BeginsAt (length old.current) expected start from
       → WalkStands first now old from index flag more table → KeepsArrays table ready
-      → WorksUnits 1 table ready → (length table.linked ≡ 0 → ready ≡ table) → WalksBy {A = A} step hash expected start first old
-      (Err e) now ready
-  walk_refused e expected start first now old table ready from index flag more at w kept unit waits =
+      → WorksUnits 1 table ready → (length table.linked ≡ 0 → ready ≡ table) → WantsMemory (IsSource ready index) table ready
+      → WalksBy {A = A} step hash expected start first old (Err e) now ready
+  walk_refused e expected start first now old table ready from index flag more at w kept unit waits wants =
       let part = walk_waits hash old table ready from w.walks.visits w.walks.part (keeps_pairs table ready kept.keeps) kept.current_len in
       record {
         from = from;
@@ -207,9 +209,11 @@ module _ {S K V : Type 0} (step : S → BucketView K V → Bool → Bool → Buc
         len = part.len;
         sources = subst (λ (n : ℕ). AreKilledFor ready from n) w.walks.reached (killed_wait table ready from index w.killed kept unit);
         units = walk_units step hash first now old table ready from index flag more w.walks unit;
-        alone = walk_alone step hash first now old table ready from index flag more w.walks waits;
+        visited = walk_visited step hash first now old table ready from index flag more w.walks kept waits;
         within = λ some. let reached = w.walks.reached in let fits = w.within
             (omega (arith, reached, some)) in omega (arith, reached, fits);
+        wanted = subst (λ (n : ℕ). WantsMemory (IsSource ready n) old ready) w.walks.reached
+            (wanted_before (IsSource ready index) (length w.walks.visits) 1 old table ready w.walks.part.len w.walks.units unit wants);
         whole = tt;
         ends = refl;
       }
@@ -230,8 +234,9 @@ module _ {S K V : Type 0} (step : S → BucketView K V → Bool → Bool → Buc
     len = w.walks.part.len;
     sources = subst (λ (n : ℕ). AreKilledFor table from n) w.walks.reached w.killed;
     units = w.walks.units;
-    alone = w.walks.alone;
+    visited = w.walks.visited;
     within = λ some. let reached = w.walks.reached in let fits = w.within (omega (arith, reached, some)) in omega (arith, reached, fits);
+    wanted = tt;
     whole = elim (cases_Bool more) [
       | inl going ↦ let reached = w.walks.reached in let len = w.walks.part.len in inl (omega (arith, reached, len, over going))
       | inr stopped ↦ inr (w.walks.stopped stopped)

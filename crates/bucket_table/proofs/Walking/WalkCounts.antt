@@ -7,7 +7,7 @@ use Rattle.bucket_table.proofs.Words.{◌+◌, ◌-◌, ◌<◌, ◌^◌, ◌∙
 use Rattle.std.proofs.Common.{◌||◌}
 use Rattle.std.proofs.lemmas.List.{append-nil}
 use Rattle.bucket_table.specs.Map.MapState.{Becomes, state_of}
-use Rattle.bucket_table.specs.Walking.Retains.{Retains}
+use Rattle.bucket_table.specs.Walking.Retains.{IsLeftOf, Retains}
 use Rattle.bucket_table.specs.Scripts.Tallying.{Empties, Tallies, sum_to}
 use Rattle.bucket_table.specs.Walking.Visits.{AreCalls, HasStopped, Visited}
 use Rattle.bucket_table.specs.Walking.Walks.{EndsWalk, IsWalk, KeepsBuckets, WalksBy, keys_in, pairs_left}
@@ -141,17 +141,18 @@ module _ {K V : Type 0} where
     pairs_are = omega (arith, is, second);
   }
 
-  pub empties_bucket : (IsTest : (K × V → Bool) → Type 0) (lent left : BucketView K V) (epoch count taken count_then : ℕ) (flag last : Bool)
-      → IsTest (λ pair. false) → MarksBy epoch (marks_in lent) (marks_in left)
+  pub empties_bucket : (IsTest : (K × V → Bool) → Type 0) (lent left : BucketView K V) (kind epoch count taken count_then : ℕ)
+      (flag last : Bool) → IsTest (λ pair. false) → IsLeftOf kind epoch lent left → MarksBy epoch (marks_in lent) (marks_in left)
       → Retains IsTest lent left taken → count_then ≡ min (count + taken) (2 ^ 64 - 1) → last ≡ (flag || nat_lt 0 taken)
-      → Empties epoch count lent flag true left last count_then
-  empties_bucket IsTest lent left epoch count taken count_then flag last means marks r is set =
+      → Empties kind epoch count lent flag true left last count_then
+  empties_bucket IsTest lent left kind epoch count taken count_then flag last means slots marks r is set =
       let none = retains_none IsTest lent left taken means r in
       let taken_is = none.1 in
       record {
         goes_on = refl;
         none_left = none.0;
         alive = r.alive;
+        slots = slots;
         marks = marks;
         count_is = omega (arith, is, taken_is);
         flag_is = set ∙ ap (λ (b : Bool). flag || b) (same_some taken (length (pairs_in lent)) taken_is);
@@ -171,9 +172,9 @@ module _ {S K V : Type 0} (buckets pairs : S → ℕ) where
       (λ s t lent left flag more last call. call.0.pairs_are)
       hash old empty long fits a first now new fresh w
 
-module _ {S K V : Type 0} (epoch count : S → ℕ) where
+module _ {S K V : Type 0} (kind : ℕ) (epoch count : S → ℕ) where
   abbrev pub emptying : S → BucketView K V → Bool → Bool → BucketView K V → Bool → S → Type 0
-  emptying s lent flag more left last t = Empties (epoch s) (count s) lent flag more left last (count t)
+  emptying s lent flag more left last t = Empties kind (epoch s) (count s) lent flag more left last (count t)
 
   -- an emptier keeps to what a walk asks of its visitor
   pub keeps_emptied : KeepsBuckets emptying

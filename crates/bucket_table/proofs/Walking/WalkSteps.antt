@@ -1,6 +1,6 @@
 -- A walk goes on by one bucket.
 use Rattle.bucket_table.proofs.Words.{AllByRecursion, ArraysView, Bool, BucketView, IsPermutation, IsPermutation-append_right}
-use Rattle.bucket_table.proofs.Words.{IsPermutation-refl, IsPermutation-trans, List, WorksUnits, [], and_from, ap, append_assoc, arith}
+use Rattle.bucket_table.proofs.Words.{IsPermutation-refl, IsPermutation-trans, KeepsArrays, List, WorksUnits, [], and_from, ap, append_assoc, arith}
 use Rattle.bucket_table.proofs.Words.{arrays_with, bucket_on, cases_Bool, cases_lt, false, false_from_ne_true, filter, filter-append}
 use Rattle.bucket_table.proofs.Words.{filter_agree, has_home_in, inl, inr, interval_width, le-leb, leb-true, length, lt-ltb, ltb-true}
 use Rattle.bucket_table.proofs.Words.{mul-le-mul_right, nat_le, nat_lt, not, not_from_false, not_from_true, pairs_in, pairs_of, refl, subst}
@@ -8,12 +8,13 @@ use Rattle.bucket_table.proofs.Words.{sym, true, true≢false, ℕ, ◌&&◌, �
 use Rattle.std.proofs.lemmas.Bool.{and_left, and_parts, and_right}
 use Rattle.std.proofs.lemmas.List.{append-nil, length_push}
 use Rattle.bucket_table.specs.Walking.Visits.{AreCalls, HasStopped, Visited}
-use Rattle.bucket_table.specs.Walking.Walks.{AreLent, IsVisitOf, IsWalk, VisitsAlone, pairs_left}
+use Rattle.bucket_table.specs.Walking.Walks.{AreLent, IsVisitOf, IsWalk, MovesOn, VisitsEach, pairs_left}
 use Rattle.bucket_table.proofs.Walking.Bounds.{next_multiple}
 use Rattle.bucket_table.proofs.Walking.Each.{each, each_append, each_implies, to_front}
 use Rattle.bucket_table.proofs.Walking.Filters.{IsPermutation-filter, filter_all, filter_filter, filter_none}
-use Rattle.bucket_table.proofs.Walking.PassingUnits.{stands_still}
-use Rattle.bucket_table.proofs.Rehash.UnitRuns.{units_alone, units_as, units_both}
+use Rattle.bucket_table.proofs.Map.MapKept.{keeps_pairs}
+use Rattle.bucket_table.proofs.Views.Keeping.{kept_both, kept_none}
+use Rattle.bucket_table.proofs.Rehash.UnitRuns.{stands_still, units_as, units_both}
 
 -- tests on hashes
 module _ (low high h : ℕ) where
@@ -241,19 +242,40 @@ module _ {K V : Type 0} (hash : K → ℕ) where
       }
 
 module _ {K V : Type 0} where
-  -- one visit more, where no old array stands
-  alone_more : (old now : ArraysView K V) (start index : ℕ) (vs : List (Visited (BucketView K V))) (v : Visited (BucketView K V))
-      → index ≡ start + length vs → VisitsAlone old start vs now → v.lent ≡ bucket_on now false index
-      → VisitsAlone old start (vs ++ v ∷ []) (arrays_with now false index v.left)
-  alone_more old now start index [] v at so_far lent =
+  moves_none : (a : ArraysView K V) → MovesOn a a
+  moves_none a = (kept_none a, λ none. refl)
+
+  moves_both : (a b c : ArraysView K V) → MovesOn a b → MovesOn b c → MovesOn a c
+  moves_both a b c first second = (
+    kept_both a b c first.0 second.0,
+    λ none. second.1 (rw (first.1 none) none) ∙ first.1 none,
+  )
+
+  -- old buckets move on once more
+  each_waits : (old now ready : ArraysView K V) (start : ℕ) (vs : List (Visited (BucketView K V))) → VisitsEach old start vs now
+      → MovesOn now ready → VisitsEach old start vs ready
+  each_waits old now ready start [] so_far moves = moves_both old now ready so_far moves
+  each_waits old now ready start (w ∷ vs) (first, moved, lent, rest) moves =
+      (first, moved, lent, each_waits (arrays_with first false start w.left) now ready (start + 1) vs rest moves)
+
+  -- one visit more
+  each_more : (old now ready : ArraysView K V) (start index : ℕ) (vs : List (Visited (BucketView K V))) (v : Visited (BucketView K V))
+      → index ≡ start + length vs → VisitsEach old start vs now → MovesOn now ready → v.lent ≡ bucket_on ready false index
+      → VisitsEach old start (vs ++ v ∷ []) (arrays_with ready false index v.left)
+  each_more old now ready start index [] v at so_far moves lent =
       let here : index ≡ start = omega (arith, at) in
-      rw (so_far, here) (
-        subst (λ (j : ℕ). v.lent ≡ bucket_on old false j) here
-            (subst (λ (a : ArraysView K V). v.lent ≡ bucket_on a false index) so_far lent),
-        refl,
+      rw here (
+        ready,
+        moves_both old now ready so_far moves,
+        subst (λ (j : ℕ). v.lent ≡ bucket_on ready false j) here lent,
+        moves_none (arrays_with ready false start v.left),
       )
-  alone_more old now start index (w ∷ vs) v at so_far lent =
-      (so_far.0, alone_more (arrays_with old false start w.left) now (start + 1) index vs v (omega (arith, at)) so_far.1 lent)
+  each_more old now ready start index (w ∷ vs) v at (first, moved, lent_first, rest) moves lent = (
+    first,
+    moved,
+    lent_first,
+    each_more (arrays_with first false start w.left) now ready (start + 1) index vs v (omega (arith, at)) rest moves lent,
+  )
 
 module _ {S K V : Type 0} (step : S → BucketView K V → Bool → Bool → BucketView K V → Bool → S
     → Type 0) (hash : K → ℕ) where
@@ -263,7 +285,7 @@ module _ {S K V : Type 0} (step : S → BucketView K V → Bool → Bool → Buc
     pub calls : AreCalls step first false visits now flag
     pub part : IsPartOfWalk hash old start visits table
     pub units : WorksUnits (length visits) old table
-    pub alone : length old.linked ≡ 0 → VisitsAlone old start visits table
+    pub visited : VisitsEach old start visits table
     pub reached : index ≡ start + length visits
     pub going : more ≡ true → HasStopped visits → ⊥
     pub stopped : more ≡ false → HasStopped visits
@@ -274,18 +296,18 @@ module _ {S K V : Type 0} (step : S → BucketView K V → Bool → Bool → Buc
     calls = (refl, refl);
     part = walk_begins hash old start;
     units = stands_still old;
-    alone = λ none. refl;
+    visited = moves_none old;
     reached = omega arith;
     going = λ e h. h;
     stopped = λ e. absurd (true≢false e);
   }
 
   -- a bucket is made ready
-  pub walk_alone : (first now : S) (old table ready : ArraysView K V) (start index : ℕ) (flag more : Bool)
-      → (w : WalksOn first now old start index flag more table) → (length table.linked ≡ 0 → ready ≡ table)
-      → length old.linked ≡ 0 → VisitsAlone old start w.visits ready
-  walk_alone first now old table ready start index flag more w waits none =
-      rw (waits (units_alone (length w.visits) old table w.units none)) (w.alone none)
+  pub walk_visited : (first now : S) (old table ready : ArraysView K V) (start index : ℕ) (flag more : Bool)
+      → (w : WalksOn first now old start index flag more table) → KeepsArrays table ready → (length table.linked ≡ 0 → ready ≡ table)
+      → VisitsEach old start w.visits ready
+  walk_visited first now old table ready start index flag more w kept waits =
+      each_waits old table ready start w.visits w.visited (kept, waits)
 
   pub walk_units : (first now : S) (old table ready : ArraysView K V) (start index : ℕ) (flag more : Bool)
       → (w : WalksOn first now old start index flag more table) → WorksUnits 1 table ready → WorksUnits (length w.visits + 1) old ready
@@ -293,23 +315,21 @@ module _ {S K V : Type 0} (step : S → BucketView K V → Bool → Bool → Buc
 
   -- and visited
   pub goes_on : (first now next : S) (old table ready : ArraysView K V) (start index : ℕ) (flag last more : Bool) (left : BucketView K V)
-      → WalksOn first now old start index flag true table → IsPermutation (pairs_of table) (pairs_of ready) → length ready.current ≡ length
-      table.current → WorksUnits 1 table ready → (length table.linked ≡ 0 → ready ≡ table)
+      → WalksOn first now old start index flag true table → KeepsArrays table ready → WorksUnits 1 table ready → (length table.linked ≡ 0 → ready ≡ table)
       → step now (bucket_on ready false index) flag more left last next → IsVisitOf hash ready index (bucket_on ready false index) left
       (arrays_with ready false index left)
       → WalksOn first next old start (index + 1) last more (arrays_with ready false index left)
-  goes_on first now next old table ready start index flag last more left w moved len unit waits call visit =
+  goes_on first now next old table ready start index flag last more left w kept unit waits call visit =
       let v : Visited (BucketView K V) = record { lent = bucket_on ready false index; left = left; more = more } in
       record {
         visits = w.visits ++ v ∷ [];
         calls = calls_more step first now next false flag last w.visits v w.calls (w.going refl) call;
         part = walk_more hash old ready (arrays_with ready false index left) start index w.visits v w.reached
-            (walk_waits hash old table ready start w.visits w.part moved len) visit;
+            (walk_waits hash old table ready start w.visits w.part (keeps_pairs table ready kept.keeps) kept.current_len) visit;
         units = rw (length_push w.visits v)
             (units_as _ old ready (arrays_with ready false index left) (walk_units first now old table ready start index flag true w unit)
             refl refl);
-        alone = λ none. alone_more old ready start index w.visits v w.reached (walk_alone first now old table ready start index flag true w
-            waits none) refl;
+        visited = each_more old table ready start index w.visits v w.reached w.visited (kept, waits) refl;
         reached = omega (arith, w.reached, length_push w.visits v);
         going = λ e. going_more w.visits v (w.going refl) e;
         stopped = λ e. stopped_more w.visits v e;

@@ -7,7 +7,7 @@ use Rattle.bucket_slots.specs.BucketView.{BucketView, Place, flattened, listed_p
 use Rattle.bucket_slots.specs.Recency.{is_listed}
 use Rattle.bucket_slots.specs.Slots.{is_live, live_pair, live_pairs, slot_at}
 use Rattle.bucket_table.specs.declared.arrays.moving.Landing.{Landing}
-use Rattle.bucket_table.specs.Rehash.Relocation.{homed_len}
+use Rattle.bucket_table.specs.Rehash.Relocation.{KeepsPlaces, homed_len}
 
 -- the pair stands in a bucket's chain
 abbrev pub StandsInChain : {K V : Type 0} → BucketView K V → K × V → Type 0
@@ -28,11 +28,12 @@ abbrev pub carried_to : {K V : Type 0} → BucketView K V → (ℕ → Option �
 carried_to source landing j =
     live_pairs (map (slot_at source.own) (filter (λ slot. is_own_of j (landing slot)) source.listed))
 
--- recency is carried from a bucket into an array: each of its listed pairs has landed somewhere, and every bucket lists its own pairs, followed by those of the source that landed in own slots there, in the source's order
+-- recency is carried from a bucket into an array: each of its listed pairs has landed somewhere, no other pair moves, and every bucket lists its own pairs, followed by those of the source that landed in own slots there, in the source's order
 pub record CarriesRecency {K V : Type 0} (source : BucketView K V) (current new_current : List (BucketView K V)) : Type 0 where
   pub landing : ℕ → Option ℕ
   pub landed : (slot : ℕ) (pair : K × V) → is_listed source.listed slot ≡ true → live_pair (slot_at source.own slot) ≡ Some pair
       → HasLanded new_current pair (landing slot)
+  pub stay : KeepsPlaces current new_current
   pub order : (j : ℕ) → listed_pairs (bucket_at new_current j) ≡ listed_pairs (bucket_at current j) ++ carried_to source landing j
 
 -- as a table says it: the bucket and the own slot there in which the pair of an own slot landed, or nothing
@@ -55,7 +56,7 @@ pub record AreListable {K V : Type 0} (landings : List (Option Landing)) (bucket
   pub each : (slot : ℕ) (at : Landing) → landing_of landings slot ≡ Some at → IsListable buckets at
   pub once : (one two : ℕ) (at : Landing) → landing_of landings one ≡ Some at → landing_of landings two ≡ Some at → one ≡ two
 
--- the pairs of a bucket's own slots have landed as a table says, and those of which it says nothing in a chain, as far as the table goes; no list has changed
+-- the pairs of a bucket's own slots have landed as a table says, and those of which it says nothing in a chain, as far as the table goes; no other pair has moved, and no list has changed
 pub record HaveLanded {K V : Type 0} (hash : K → ℕ) (source : BucketView K V) (current new_current : List (BucketView K V)) (landings : List (Option Landing)) : Type 0 where
   pub table : AreListable landings new_current
   pub same_pair : (slot : ℕ) (at : Landing) → landing_of landings slot ≡ Some at
@@ -63,6 +64,7 @@ pub record HaveLanded {K V : Type 0} (hash : K → ℕ) (source : BucketView K V
   pub homed : (slot : ℕ) (at : Landing) → landing_of landings slot ≡ Some at → homed_len hash (length current) at.home (pairs_in source) ≡ 0 → ⊥
   pub in_chain : (slot : ℕ) (pair : K × V) → slot < length landings → live_pair (slot_at source.own slot) ≡ Some pair
       → landing_of landings slot ≡ None → (j : ℕ) × StandsInChain (bucket_at new_current j) pair
+  pub stay : KeepsPlaces current new_current
   pub same_lists : (j : ℕ) → listed_pairs (bucket_at new_current j) ≡ listed_pairs (bucket_at current j)
 
 -- the own slots of bucket j in which pairs of an order's slots landed, in the order

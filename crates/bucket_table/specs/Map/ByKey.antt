@@ -2,18 +2,17 @@
 use Rattle.std.specs.Prelude.{ℕ, ◌≡◌, ◌<◌, Bool, true, false, List, Option, Some, None, Result, Ok, Err, length, ◌⊎◌}
 use Rattle.std.specs.Borrow.{Bor, MutBor}
 use Rattle.std.specs.List.{Contains}
-use Rattle.bucket_slots.specs.BucketView.{BucketView, Place, bucket_with_value, slot_in}
+use Rattle.bucket_slots.specs.BucketView.{BucketView, Place, bucket_with_value, first_place, slot_in}
+use Rattle.bucket_slots.specs.Clearing.{slots_after_insertion, slots_for_insertion}
 use Rattle.bucket_slots.specs.Evicting.{slot_to_evict, slots_evicted}
 use Rattle.bucket_slots.specs.Homes.{IsHome}
 use Rattle.bucket_slots.specs.Searching.{place_wanted}
-use Rattle.bucket_slots.specs.Slots.{free, live_pair, slot_at}
+use Rattle.bucket_slots.specs.Slots.{free, is_free, live_pair, slot_at}
 use Rattle.bucket_table.specs.Views.ArraysView.{ArraysView, TableView, pairs_of}
 use Rattle.bucket_table.specs.Resize.Asking.{RemovesAndShrinks}
-use Rattle.bucket_table.specs.Map.Finding.{FindsBucket}
 use Rattle.bucket_table.specs.Map.LookingUp.{IsAbsent, IsThere}
 use Rattle.bucket_table.specs.Map.MapState.{MapState, KeepsPairs, AddsPair, TakesPair, ChangesValue}
-use Rattle.bucket_table.specs.Map.Preparing.{IsPrepared}
-use Rattle.bucket_table.specs.Map.Refusing.{IsRefused}
+use Rattle.bucket_table.specs.Map.Preparing.{IsPrepared, IsReady}
 use Rattle.bucket_table.specs.Views.Sides.{bucket_of, bucket_on, buckets_on, with_bucket}
 use Rattle.bucket_table.specs.declared.hash_table.NotInserted.{NotInserted}
 use Rattle.bucket_table.specs.declared.hash_table.NotInserted.TheVariants.{Present, Memory}
@@ -77,79 +76,87 @@ Evicts old (Ok (Some pair)) new = TakesPair old pair new
 Evicts old (Ok None) new = KeepsPairs old new
 Evicts old (Err refused) new = KeepsPairs old new
 
--- an insertion into a bucket: no live slot has an equal key where a pair was put, or memory is wanted; one has where the answer says so;
--- what isn't put comes back
-abbrev pub AnswersInsertion : {K V A : Type 0} → (K → K → Bool) → K → V → ℕ → BucketView K V → Result A (NotInserted K V) → Type 0
-AnswersInsertion eq key value byte bucket (Ok done) = place_wanted (λ own. eq own key) byte bucket ≡ None
-AnswersInsertion eq key value byte bucket (Err (Present k v)) =
-    (k ≡ key) × (v ≡ value) × ((at : Place) × (place_wanted (λ own. eq own key) byte bucket ≡ Some at))
-AnswersInsertion eq key value byte bucket (Err (Memory k v)) =
-    (k ≡ key) × (v ≡ value) × (place_wanted (λ own. eq own key) byte bucket ≡ None)
+-- a pair that comes finds no free slot in a bucket
+abbrev pub HasNoSlot : {K V : Type 0} → ℕ → (ℕ → Bool) → BucketView K V → Type 0
+HasNoSlot kind keeps bucket = first_place is_free (slots_for_insertion kind keeps bucket) ≡ None
 
--- a pair put into a bucket so where no live slot has an equal key, or its value written where one has; what isn't put comes back
-abbrev pub UpsertsIn : {K V : Type 0} → (K → K → Bool) → K → V → ℕ → (BucketView K V → BucketView K V) → BucketView K V
-    → Result (Option V) (K × V) → BucketView K V → Type 0
-UpsertsIn eq key value byte change old (Ok None) new = (place_wanted (λ own. eq own key) byte old ≡ None) × (new ≡ change old)
-UpsertsIn {K} eq key value byte change old (Ok (Some earlier)) new =
+-- an insertion into a bucket: no live slot has an equal key where a pair was put, or memory is wanted, and then no slot is free; one has
+-- where the answer says so; what isn't put comes back
+abbrev pub AnswersInsertion : {K V A : Type 0} → (K → K → Bool) → K → V → ℕ → ℕ → (ℕ → Bool) → BucketView K V → Result A (NotInserted K V)
+    → Type 0
+AnswersInsertion eq key value byte kind keeps bucket (Ok done) = place_wanted (λ own. eq own key) byte bucket ≡ None
+AnswersInsertion eq key value byte kind keeps bucket (Err (Present k v)) =
+    (k ≡ key) × (v ≡ value) × ((at : Place) × (place_wanted (λ own. eq own key) byte bucket ≡ Some at))
+AnswersInsertion eq key value byte kind keeps bucket (Err (Memory k v)) =
+    (k ≡ key) × (v ≡ value) × (place_wanted (λ own. eq own key) byte bucket ≡ None) × HasNoSlot kind keeps bucket
+
+-- a pair put into a bucket where no live slot has an equal key, or its value written where one has; what isn't put comes back, and then no
+-- slot is free
+abbrev pub UpsertsIn : {K V : Type 0} → (K → K → Bool) → K → V → ℕ → ℕ → (ℕ → Bool) → BucketView K V → Result (Option V) (K × V)
+    → BucketView K V → Type 0
+UpsertsIn eq key value byte kind keeps old (Ok None) new =
+    (place_wanted (λ own. eq own key) byte old ≡ None) × (new ≡ slots_after_insertion kind keeps old (key, value) byte)
+UpsertsIn {K} eq key value byte kind keeps old (Ok (Some earlier)) new =
     (at : Place) × (found : K) × (place_wanted (λ own. eq own key) byte old ≡ Some at)
     × (live_pair (slot_in old at) ≡ Some (found, earlier)) × (new ≡ bucket_with_value old at value)
-UpsertsIn eq key value byte change old (Err back) new =
-    (back ≡ (key, value)) × (place_wanted (λ own. eq own key) byte old ≡ None) × (new ≡ old)
+UpsertsIn eq key value byte kind keeps old (Err back) new =
+    (back ≡ (key, value)) × (place_wanted (λ own. eq own key) byte old ≡ None) × (new ≡ old) × HasNoSlot kind keeps old
 
--- a unit is worked first, as for a look-up, and then this is done
-pub record PreparesThen {K V H : Type 0} (kind : ℕ) (old : TableView K V H) (Then : TableView K V H → Type 0) : Type 0 where
+-- a unit is worked first and the sources of a hash's home move, as for a look-up, and then this is done
+pub record PreparesThen {K V H : Type 0} (kind hash : ℕ) (old : TableView K V H) (Then : TableView K V H → Type 0) : Type 0 where
   pub between : TableView K V H
-  pub prepared : IsPrepared kind old between
+  pub prepared : IsPrepared kind hash old between
   pub done : Then between
 
-module _ {K V H : Type 0} (change : BucketView K V → Place → BucketView K V) where
-  -- where the key was found one bucket is changed, and nothing else is; else all stays
+module _ {K V H : Type 0} (eq : K → K → Bool) (key : K) (change : BucketView K V → Place → BucketView K V) where
+  -- where the key was found its pair's place is changed, and nothing else is; else all stays
   abbrev pub ChangesAt : Bool → TableView K V H → TableView K V H → Type 0
-  ChangesAt true old new = (side : Bool) × (index : ℕ) × (at : Place) × (new ≡ with_bucket old side index (change (bucket_of old side index) at))
+  ChangesAt true old new = (side : Bool) × (index : ℕ) × (at : Place) × StandsAt eq key old.arrays side index at
+      × (new ≡ with_bucket old side index (change (bucket_of old side index) at))
   ChangesAt false old new = new ≡ old
 
-  -- where the key was found one bucket is changed, and where it has no live pair then the arrays may shrink by the plan; else all stays
+  -- where the key was found its pair's place is changed, and where the bucket has no live pair then the arrays may shrink by the plan;
+  -- else all stays
   abbrev pub ShrinksAt : Bool → TableView K V H → TableView K V H → Type 0
-  ShrinksAt true old new =
-      (side : Bool) × (index : ℕ) × (at : Place) × RemovesAndShrinks old.arrays side index (change (bucket_of old side index) at) new.arrays
+  ShrinksAt true old new = (side : Bool) × (index : ℕ) × (at : Place) × StandsAt eq key old.arrays side index at
+      × RemovesAndShrinks old.arrays side index (change (bucket_of old side index) at) new.arrays
   ShrinksAt false old new = new ≡ old
 
 -- where the key was found its value is another one, and nothing else is; else all stays
-abbrev pub WritesAt : {K V H : Type 0} → Bool → TableView K V H → TableView K V H → Type 0
-WritesAt {K} {V} true old new = (value : V) × ChangesAt (λ bucket at. bucket_with_value bucket at value) true old new
-WritesAt false old new = new ≡ old
+abbrev pub WritesAt : {K V H : Type 0} → (K → K → Bool) → K → Bool → TableView K V H → TableView K V H → Type 0
+WritesAt {K} {V} eq key true old new = (value : V) × ChangesAt eq key (λ bucket at. bucket_with_value bucket at value) true old new
+WritesAt eq key false old new = new ≡ old
 
 -- the pair of a hash's home that was touched longest ago is out, or where none is listed the one in slot 0; there is none where
--- an own slot of that home is free or no array stands, and then all stays, as where it is refused
+-- an own slot of that home is free or no array stands, and then all stays, as where it is refused, since that home isn't ready
 abbrev pub EvictsAt : {K V H E : Type 0} → ℕ → TableView K V H → Result (Option (K × V)) E → TableView K V H → Type 0
-EvictsAt hash old (Ok (Some pair)) new =
-    (index : ℕ) × IsHome (length old.arrays.current) hash index
+EvictsAt hash old (Ok (Some pair)) new = IsReady old.arrays hash
+    × (index : ℕ) × IsHome (length old.arrays.current) hash index
     × (live_pair (slot_at (bucket_of old false index).own (slot_to_evict (bucket_of old false index))) ≡ Some pair)
     × (new ≡ with_bucket old false index (slots_evicted (bucket_of old false index)))
 EvictsAt hash old (Ok None) new =
-    ((length old.arrays.current ≡ 0)
-    ⊎ ((index : ℕ) × IsHome (length old.arrays.current) hash index × Contains (bucket_of old false index).own free)) × (new ≡ old)
-EvictsAt hash old (Err refused) new = new ≡ old
+    ((length old.arrays.current ≡ 0) ⊎ (IsReady old.arrays hash
+    × (index : ℕ) × IsHome (length old.arrays.current) hash index × Contains (bucket_of old false index).own free)) × (new ≡ old)
+EvictsAt hash old (Err refused) new = (IsReady old.arrays hash → ⊥) × (new ≡ old)
 
--- a writer's bucket is found for a hash, or none is and it is refused
-abbrev pub FindsOrIsRefused : {K V H : Type 0} → ℕ → ℕ → TableView K V H → TableView K V H → Type 0
-FindsOrIsRefused kind hash old new = IsRefused kind old new ⊎ ((side : Bool) × (index : ℕ) × FindsBucket kind hash old side index new)
+-- the pair is put into the bucket that was found, and none was put where none was found; else all stays, and memory is wanted only where
+-- none was found, or one without a free slot
+abbrev pub InsertsAt : {K V H A : Type 0} → ℕ → (ℕ → Bool) → K × V → ℕ → TableView K V H → Result A (NotInserted K V)
+    → Result (Bool × ℕ) (Unit {0}) → TableView K V H → Type 0
+InsertsAt kind keeps pair byte old (Ok done) (Ok found) new =
+    new ≡ with_bucket old found.0 found.1 (slots_after_insertion kind keeps (bucket_of old found.0 found.1) pair byte)
+InsertsAt kind keeps pair byte old (Ok done) (Err refused) new = ⊥
+InsertsAt kind keeps pair byte old (Err (Present k v)) answer new = new ≡ old
+InsertsAt kind keeps pair byte old (Err (Memory k v)) (Ok found) new = HasNoSlot kind keeps (bucket_of old found.0 found.1) × (new ≡ old)
+InsertsAt kind keeps pair byte old (Err (Memory k v)) (Err refused) new = new ≡ old
 
--- a writer's bucket is found for a hash, and then it is changed so where a pair was put; nothing else changes, and no pair is put
--- where no bucket is found
-abbrev pub FindsThen : {K V H A : Type 0} → ℕ → ℕ → (BucketView K V → BucketView K V) → TableView K V H → Result A (NotInserted K V) → TableView K V H → Type 0
-FindsThen {K} {V} {H} kind hash change old (Ok done) new =
-    (between : TableView K V H) × (side : Bool) × (index : ℕ) × FindsBucket kind hash old side index between
-    × (new ≡ with_bucket between side index (change (bucket_of between side index)))
-FindsThen kind hash change old (Err why) new = FindsOrIsRefused kind hash old new
-
--- the same, and where the key was found its value is another one in one bucket, also where no bucket is found for a writer
-abbrev pub UpsertsThen : {K V H : Type 0} → ℕ → ℕ → (BucketView K V → BucketView K V) → V → TableView K V H
-    → Result (Option V) (K × V) → TableView K V H → Type 0
-UpsertsThen {K} {V} {H} kind hash change value old (Ok None) new =
-    (between : TableView K V H) × (side : Bool) × (index : ℕ) × FindsBucket kind hash old side index between
-    × (new ≡ with_bucket between side index (change (bucket_of between side index)))
-UpsertsThen {K} {V} {H} kind hash change value old (Ok (Some earlier)) new =
-    (between : TableView K V H) × FindsOrIsRefused kind hash old between
-    × ChangesAt (λ bucket at. bucket_with_value bucket at value) true between new
-UpsertsThen kind hash change value old (Err back) new = FindsOrIsRefused kind hash old new
+-- the same, and where the key was found its pair's value is another one, also where no bucket was found for a writer
+abbrev pub UpsertsAt : {K V H : Type 0} → (K → K → Bool) → ℕ → (ℕ → Bool) → K → V → ℕ → TableView K V H → Result (Option V) (K × V)
+    → Result (Bool × ℕ) (Unit {0}) → TableView K V H → Type 0
+UpsertsAt eq kind keeps key value byte old (Ok None) (Ok found) new =
+    new ≡ with_bucket old found.0 found.1 (slots_after_insertion kind keeps (bucket_of old found.0 found.1) (key, value) byte)
+UpsertsAt eq kind keeps key value byte old (Ok None) (Err refused) new = ⊥
+UpsertsAt eq kind keeps key value byte old (Ok (Some earlier)) answer new =
+    ChangesAt eq key (λ bucket at. bucket_with_value bucket at value) true old new
+UpsertsAt eq kind keeps key value byte old (Err back) (Ok found) new = HasNoSlot kind keeps (bucket_of old found.0 found.1) × (new ≡ old)
+UpsertsAt eq kind keeps key value byte old (Err back) (Err refused) new = new ≡ old

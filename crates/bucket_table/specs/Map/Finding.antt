@@ -1,11 +1,14 @@
 -- What finding a bucket for a writer does to a table.
-use Rattle.std.specs.Prelude.{ℕ, ◌≡◌, ◌<◌, Bool, length}
+use Rattle.std.specs.Prelude.{ℕ, ◌≡◌, ◌<◌, Bool, Result, Ok, Err, length}
 use Rattle.bucket_slots.specs.Homes.{IsHome}
 use Rattle.bucket_table.specs.Views.ArraysView.{AreSourcesKilled, ArraysView, TableView}
 use Rattle.bucket_table.specs.Resize.Asking.{ResizesIf}
 use Rattle.bucket_table.specs.Resize.Growing.{Grows, WriterAsksGrowth}
 use Rattle.bucket_table.specs.Map.MapState.{KeepsPairs, state_of}
-use Rattle.bucket_table.specs.Views.Keeping.{KeepsArrays, KeepsOpenTickets}
+use Rattle.bucket_table.specs.Map.Preparing.{HomeWantsMemory}
+use Rattle.bucket_table.specs.Views.Keeping.{Keeps, KeepsArrays}
+use Rattle.bucket_table.specs.Views.Locking.{IsLocked}
+use Rattle.bucket_table.specs.Map.Refusing.{IsRefused}
 use Rattle.bucket_table.specs.Resize.Resizing.{MakesArray}
 use Rattle.bucket_table.specs.Views.Sides.{buckets_on}
 use Rattle.bucket_table.specs.Rehash.Units.{WorksUnits}
@@ -24,15 +27,30 @@ unfoldable pub ReadiesThenGrows : {K V : Type 0} → ℕ → ℕ → ArraysView 
 ReadiesThenGrows {K} {V} kind hash old is_old index new = (between : ArraysView K V) × MakesReady old index between
     × ResizesIf (WriterAsksGrowth kind hash between index) between new × Grows is_old between new
 
--- no bucket is found: a unit was worked; without an old array there was no current one either, and all stays
-pub record FindsNone {K V : Type 0} (old new : ArraysView K V) : Type 0 where
+-- no bucket is found for a hash: a unit was worked, and memory was wanted for a source of its home; without an old array there
+-- was no current one either, and all stays
+pub record FindsNone {K V : Type 0} (hash : ℕ) (old new : ArraysView K V) : Type 0 where
   pub kept : KeepsArrays old new
   pub units : WorksUnits 1 old new
   pub alone : length old.linked ≡ 0 → (length old.current ≡ 0) × (new ≡ old)
+  pub home : 0 < length new.current → HomeWantsMemory hash old new
 
--- a hash's home in the array of its side is found for a writer; the map and the bag of tickets stay
+-- a hash's home in the array of its side is found for a writer, and may be locked; the map, the marks and the open tickets stay
 pub record FindsBucket {K V H : Type 0} (kind hash : ℕ) (old : TableView K V H) (is_old : Bool) (index : ℕ) (new : TableView K V H) : Type 0 where
   pub map : KeepsPairs (state_of kind old) (state_of kind new)
-  pub bag : KeepsOpenTickets old.arrays.tickets new.arrays.tickets
+  pub kept : Keeps old.arrays new.arrays
   pub home : IsHome (length (buckets_on new.arrays is_old)) hash index
+  pub locked : IsLocked new.arrays is_old index
   pub found : ReadiesThenGrows kind hash old.arrays is_old index new.arrays
+
+-- what looking for a writer's bucket answers, its side and its index, and what it leaves; refused, the table is prepared
+abbrev pub Finds : {K V H E : Type 0} → ℕ → ℕ → TableView K V H → Result (Bool × ℕ) E → TableView K V H → Type 0
+Finds kind hash old (Ok found) new = FindsBucket kind hash old found.0 found.1 new
+Finds kind hash old (Err refused) new = IsRefused kind hash old new
+
+-- a writer's bucket is looked for, and then this is done
+pub record FindsThen {K V H : Type 0} (kind hash : ℕ) (old : TableView K V H) (Then : Result (Bool × ℕ) (Unit {0}) → TableView K V H → Type 0) : Type 0 where
+  pub answer : Result (Bool × ℕ) (Unit {0})
+  pub between : TableView K V H
+  pub found : Finds kind hash old answer between
+  pub done : Then answer between

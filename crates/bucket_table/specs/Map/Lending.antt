@@ -10,7 +10,6 @@ use Rattle.bucket_table.specs.Map.ByKey.{ChangesAt, PreparesThen, Swaps}
 use Rattle.bucket_table.specs.Map.MapState.{state_of}
 use Rattle.bucket_table.specs.Map.Preparing.{IsPrepared}
 use Rattle.bucket_table.specs.Views.ArraysView.{TableView}
-use Rattle.bucket_table.specs.Views.Keeping.{KeepsOpenTickets}
 use Rattle.bucket_table.specs.Views.Sides.{bucket_of, with_bucket}
 use Rattle.bucket_table.specs.Views.TableRow.{table_row}
 use Rattle.bucket_table.specs.declared.key_hash.KeyHash as key_hash
@@ -19,12 +18,12 @@ use Rattle.bucket_table.specs.declared.key_hash.KeyHash as key_hash
 abbrev pub with_value : {K V H : Type 0} → TableView K V H → Bool → ℕ → Place → V → TableView K V H
 with_value table is_old index at value = with_bucket table is_old index (bucket_with_value (bucket_of table is_old index) at value)
 
--- the value under the key was this one and is that one; for it a unit was worked, and then one slot was written
-pub record WritesUnder {K V H : Type 0} (eq : K → K → Bool) (key : K) (kind : ℕ) (old : TableView K V H) (before value : V)
+-- the value under the key was this one and is that one; for it a unit was worked and the sources of a hash's home moved, and then one
+-- slot was written
+pub record WritesUnder {K V H : Type 0} (eq : K → K → Bool) (key : K) (kind hash : ℕ) (old : TableView K V H) (before value : V)
     (new : TableView K V H) : Type 0 where
   pub map : Swaps eq key value (state_of kind old) (Ok before) (state_of kind new)
-  pub bag : KeepsOpenTickets old.arrays.tickets new.arrays.tickets
-  pub arrays : PreparesThen kind old (λ between. ChangesAt (λ bucket at. bucket_with_value bucket at value) true between new)
+  pub arrays : PreparesThen kind hash old (λ between. ChangesAt eq key (λ bucket at. bucket_with_value bucket at value) true between new)
 
 module _ (K V H L : RattleType) (TYPE : ℕ) (equal : equals.Ghosts K.Denot) (hashing : key_hash.Ghosts H.Denot K.Denot)
     (listing : list.Ghosts L.Denot) (fresh : default.Ghosts L.Denot) (table : MutBor (TableView K.Denot V.Denot H.Denot)) where
@@ -37,5 +36,5 @@ module _ (K V H L : RattleType) (TYPE : ℕ) (equal : equals.Ghosts K.Denot) (ha
   abbrev pub LendsUnder : K.Denot → Option (MutBor V.Denot) → Fml
   LendsUnder key loan =
       LendsSo (table_row K V H L (number TYPE) equal hashing listing fresh) V table loan
-      (λ new value. IfSome loan (λ lent. WritesUnder equal.eq key TYPE table.now lent.now value new))
-      (λ new. IfNone loan (IsPrepared TYPE table.now new))
+      (λ new value. IfSome loan (λ lent. WritesUnder equal.eq key TYPE (hashing.hash_of table.now.hasher key) table.now lent.now value new))
+      (λ new. IfNone loan (IsPrepared TYPE (hashing.hash_of table.now.hasher key) table.now new))

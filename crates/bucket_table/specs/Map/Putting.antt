@@ -1,5 +1,5 @@
 -- What a put does to a cache: a pair goes in where its key is absent, and where its home has no free own slot another goes out.
-use Rattle.std.specs.Prelude.{ℕ, ◌≡◌, ◌%◌, Bool, Option, Some, None, Result, Ok, Err, List, ◌∷◌, if◌then◌else◌, is_some}
+use Rattle.std.specs.Prelude.{ℕ, ◌≡◌, Bool, Option, Some, None, Result, Ok, Err, List, ◌∷◌, if◌then◌else◌, is_some}
 use Rattle.std.specs.List.{Contains}
 use Rattle.std.specs.List.Sorted.{IsPermutation}
 use Rattle.bucket_slots.specs.BucketView.{BucketView, Place}
@@ -8,11 +8,9 @@ use Rattle.bucket_slots.specs.Placing.{place_for_next, slots_with}
 use Rattle.bucket_slots.specs.Searching.{place_wanted}
 use Rattle.bucket_slots.specs.Slots.{free, live_pair, slot_at}
 use Rattle.bucket_table.specs.Views.ArraysView.{TableView}
-use Rattle.bucket_table.specs.Map.ByKey.{FindsOrIsRefused, HandsBack}
-use Rattle.bucket_table.specs.Map.Finding.{FindsBucket}
+use Rattle.bucket_table.specs.Map.ByKey.{HandsBack}
 use Rattle.bucket_table.specs.Map.LookingUp.{IsAbsent}
 use Rattle.bucket_table.specs.Map.MapState.{MapState, AddsPair, Becomes, KeepsPairs}
-use Rattle.bucket_table.specs.Map.Refusing.{IsRefused}
 use Rattle.bucket_table.specs.Views.Sides.{bucket_of, with_bucket}
 use Rattle.bucket_table.specs.declared.hash_table.NotInserted.{NotInserted}
 use Rattle.bucket_table.specs.declared.hash_table.NotInserted.TheVariants.{Present, Memory}
@@ -53,13 +51,13 @@ module _ {K V : Type 0} where
       (k ≡ key) × (v ≡ value) × ((at : Place) × (place_wanted (λ own. eq own key) byte old ≡ Some at)) × (new ≡ old)
   PutsIn eq keeps key value byte old (Err (Memory k v)) new = ⊥
 
--- a writer's bucket is found for a hash, and the pair is in it, after what goes for it; nothing else changes, no pair is put where
--- no bucket is found, and memory is wanted only there
-abbrev pub PutsThen : {K V H : Type 0} → ℕ → ℕ → Bool → K × V → TableView K V H → Result (Option (K × V)) (NotInserted K V)
-    → TableView K V H → Type 0
-PutsThen {K} {V} {H} kind hash keeps pair old (Ok gone) new =
-    (between : TableView K V H) × (side : Bool) × (index : ℕ) × FindsBucket kind hash old side index between
-    × Goes (bucket_of between side index) gone
-    × (new ≡ with_bucket between side index (slots_put keeps (slots_left (bucket_of between side index) gone) pair (hash % 256)))
-PutsThen kind hash keeps pair old (Err (Present k v)) new = FindsOrIsRefused kind hash old new
-PutsThen kind hash keeps pair old (Err (Memory k v)) new = IsRefused kind old new
+-- the pair is put into the bucket that was found, after what goes for it; else all stays, and memory is wanted only where none was found
+abbrev pub PutsAt : {K V H : Type 0} → Bool → K × V → ℕ → TableView K V H → Result (Option (K × V)) (NotInserted K V)
+    → Result (Bool × ℕ) (Unit {0}) → TableView K V H → Type 0
+PutsAt keeps pair byte old (Ok gone) (Ok found) new =
+    Goes (bucket_of old found.0 found.1) gone
+    × (new ≡ with_bucket old found.0 found.1 (slots_put keeps (slots_left (bucket_of old found.0 found.1) gone) pair byte))
+PutsAt keeps pair byte old (Ok gone) (Err refused) new = ⊥
+PutsAt keeps pair byte old (Err (Present k v)) answer new = new ≡ old
+PutsAt keeps pair byte old (Err (Memory k v)) (Err refused) new = new ≡ old
+PutsAt keeps pair byte old (Err (Memory k v)) (Ok found) new = ⊥

@@ -1,15 +1,33 @@
--- Recency that a relocation carries: what the current buckets list once the pairs of an old one have moved on.
-use Rattle.std.specs.Prelude.{ℕ, ◌≡◌, ◌++◌, Bool, List}
-use Rattle.std.specs.List.{filter, list_any}
+-- Recency that goes along: what the current buckets list once the pairs of old ones have moved on.
+use Rattle.std.specs.Prelude.{ℕ, ◌≡◌, ◌++◌, ◌⊎◌, Bool, List, [], flat_map, map}
+use Rattle.std.specs.Cmp.{IsEquivalence}
+use Rattle.std.specs.List.{All, Contains, IsDistinct, filter, list_any}
 use Rattle.bucket_slots.specs.ArrayView.{bucket_at}
-use Rattle.bucket_slots.specs.BucketView.{BucketView, listed_pairs}
+use Rattle.bucket_slots.specs.BucketView.{BucketView, listed_pairs, pairs_in}
 use Rattle.bucket_slots.specs.Slots.{live_pairs}
+use Rattle.bucket_table.specs.Rehash.Relocation.{KeepsPlaces}
+use Rattle.bucket_table.specs.Views.ArraysView.{ArraysView, pairs_of}
 
 -- whether a pair with an equal key stands in an own slot of a bucket
 abbrev pub has_own_key : {K V : Type 0} → (K → K → Bool) → BucketView K V → K → Bool
 has_own_key eq bucket key = list_any (λ pair. eq key pair.0) (live_pairs bucket.own)
 
--- each bucket lists its own pairs, followed by the source's listed pairs that stand in its own slots now, in the source's order
-abbrev pub CarriesPairs : {K V : Type 0} → (K → K → Bool) → BucketView K V → List (BucketView K V) → List (BucketView K V) → Type 0
-CarriesPairs eq source current new_current = (j : ℕ) → listed_pairs (bucket_at new_current j)
-    ≡ listed_pairs (bucket_at current j) ++ filter (λ pair. has_own_key eq (bucket_at new_current j) pair.0) (listed_pairs source)
+-- the listed pairs of the buckets with these indices, one bucket after another
+abbrev pub listed_among : {K V : Type 0} → List (BucketView K V) → List ℕ → List (K × V)
+listed_among buckets indices = flat_map (λ i. listed_pairs (bucket_at buckets i)) indices
+
+-- each bucket lists its own pairs, followed by those of some listed pairs that stand in its own slots now, in their order
+abbrev pub CarriesPairs : {K V : Type 0} → (K → K → Bool) → List (K × V) → List (BucketView K V) → List (BucketView K V) → Type 0
+CarriesPairs eq listed current new_current = (j : ℕ) → listed_pairs (bucket_at new_current j)
+    ≡ listed_pairs (bucket_at current j) ++ filter (λ pair. has_own_key eq (bucket_at new_current j) pair.0) listed
+
+-- old buckets have moved on, one after another, and carried their recency order: each of the others lists what it listed, no pair of the
+-- current array leaves its place, and each listed pair of those that moved stands there now, listed where it has an own slot
+pub record CarriesOrder {K V : Type 0} (old new : ArraysView K V) : Type 0 where
+  pub moved : List ℕ
+  pub left : (i : ℕ) → (Contains moved i × (listed_pairs (bucket_at new.linked i) ≡ []))
+      ⊎ (listed_pairs (bucket_at new.linked i) ≡ listed_pairs (bucket_at old.linked i))
+  pub stay : KeepsPlaces old.current new.current
+  pub arrived : All (λ pair. (j : ℕ) × Contains (pairs_in (bucket_at new.current j)) pair) (listed_among old.linked moved)
+  pub carried : (eq : K → K → Bool) → IsEquivalence eq → IsDistinct eq (map (λ pair. pair.0) (pairs_of old))
+      → CarriesPairs eq (listed_among old.linked moved) old.current new.current

@@ -1,5 +1,6 @@
 -- Finishing a rehash, unit by unit.
-use Rattle.std.specs.Prelude.{ℕ, ◌+◌, ◌-◌, ◌/◌, ◌<◌, ◌≡◌, Bool, true, [], Option, IfNone, IfSome, length}
+use Rattle.std.specs.Prelude.{ℕ, ◌+◌, ◌-◌, ◌/◌, ◌<◌, ◌≡◌, Bool, true, false, [], Option, IfNone, IfSome, length}
+use Rattle.bucket_table.specs.Rehash.Units.{WantsMemory}
 use Rattle.bucket_table.specs.Views.ArraysView.{ArraysView}
 
 -- how many units of the old array are left to hand out: those from the position on
@@ -10,8 +11,9 @@ units_left arrays = (length arrays.linked + 63) / 64 - arrays.tickets.position
 abbrev pub IsUnopened : {K V : Type 0} → ArraysView K V → Type 0
 IsUnopened arrays = 0 < length arrays.linked → arrays.tickets.open_units ≡ []
 
--- where no ticket was open one unit is worked, and finished unless memory is refused; there is one exactly while an old array stands
+-- where no ticket was open one unit is worked, and finished unless memory is wanted; there is one exactly while an old array stands
 pub record Finishes {K V : Type 0} (old : ArraysView K V) (answer : Option Bool) (new : ArraysView K V) : Type 0 where
   pub none_open : new.tickets.open_units ≡ []
   pub none : IfNone answer ((length old.linked ≡ 0) × (new ≡ old))
-  pub one : IfSome answer (λ success. (0 < length old.linked) × (success ≡ true → units_left new + 1 ≡ units_left old))
+  pub one : IfSome answer (λ success. (0 < length old.linked) × (success ≡ true → units_left new + 1 ≡ units_left old)
+      × (success ≡ false → WantsMemory (λ i. Unit {0}) old new))

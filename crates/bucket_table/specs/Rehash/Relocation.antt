@@ -3,11 +3,11 @@ use Rattle.std.specs.Prelude.{ℕ, ◌≡◌, ◌==◌, ◌<◌, ◌≤◌, ◌%
 use Rattle.std.specs.List.{All, count_by}
 use Rattle.std.specs.List.Sorted.{IsPermutation}
 use Rattle.bucket_slots.specs.ArrayView.{bucket_at}
-use Rattle.bucket_slots.specs.BucketView.{BucketView, all_slots, entries_in, marks_in, pairs_in}
+use Rattle.bucket_slots.specs.BucketView.{BucketView, Place, all_slots, entries_in, marks_in, pairs_in, slot_in}
 use Rattle.bucket_slots.specs.Homes.{IsHome, IsInRange, Meets, interval_width}
 use Rattle.bucket_slots.specs.Marking.{HasNoNewMark}
 use Rattle.bucket_slots.specs.Reserving.{free_len_in}
-use Rattle.bucket_slots.specs.Slots.{all_free}
+use Rattle.bucket_slots.specs.Slots.{all_free, is_free}
 
 -- the live pairs of some buckets with their bytes, bucket after bucket
 abbrev pub entries_among : {K V : Type 0} → List (BucketView K V) → List ((K × V) × ℕ)
@@ -80,13 +80,20 @@ pub record IsRelocated {K V : Type 0} (index : ℕ) (current linked new_current 
   pub other_linked : (i : ℕ) → (i ≡ index → ⊥) → bucket_at new_linked i ≡ bucket_at linked i
   pub other_current : (j : ℕ) → (Meets (length linked) index (length current) j → ⊥) → bucket_at new_current j ≡ bucket_at current j
 
--- the live pairs of every bucket are the same, its marks, its own slots, its recency list and whether it is killed; only free slots may be more
+-- every occupied slot of every bucket is as it was, so no pair leaves its place
+abbrev pub KeepsPlaces : {K V : Type 0} → List (BucketView K V) → List (BucketView K V) → Type 0
+KeepsPlaces buckets after = (i : ℕ) (at : Place) → is_free (slot_in (bucket_at buckets i) at) ≡ false
+    → slot_in (bucket_at after i) at ≡ slot_in (bucket_at buckets i) at
+
+-- the live pairs of every bucket are the same, its marks, its own slots, its recency list and whether it is killed, and none leaves its
+-- place; only free slots may be more
 pub record KeepsEntries {K V : Type 0} (buckets after : List (BucketView K V)) : Type 0 where
   pub len : length after ≡ length buckets
   pub entries : (i : ℕ) → entries_in (bucket_at after i) ≡ entries_in (bucket_at buckets i)
   pub marks : (i : ℕ) → marks_in (bucket_at after i) ≡ marks_in (bucket_at buckets i)
   pub alive : (i : ℕ) → (bucket_at after i).killed ≡ (bucket_at buckets i).killed
   pub vacant : (i : ℕ) → IsVacant (bucket_at buckets i) → IsVacant (bucket_at after i)
+  pub stay : KeepsPlaces buckets after
   pub own : (i : ℕ) → (bucket_at after i).own ≡ (bucket_at buckets i).own
   pub listed : (i : ℕ) → (bucket_at after i).listed ≡ (bucket_at buckets i).listed
 

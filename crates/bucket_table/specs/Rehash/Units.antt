@@ -1,5 +1,5 @@
 -- What working units of the old array does, one after another, as a look-up, a cursor and a walk do.
-use Rattle.std.specs.Prelude.{ℕ, ◌+◌, ◌*◌, ◌<◌, ◌≤◌, ◌≡◌, ◌⊎◌, Bool, true, List, [], Result, Ok, Err, length}
+use Rattle.std.specs.Prelude.{ℕ, ◌+◌, ◌*◌, ◌<◌, ◌≤◌, ◌≡◌, ◌⊎◌, Bool, true, false, List, [], Result, Ok, Err, length}
 use Rattle.bucket_slots.specs.ArrayView.{bucket_at}
 use Rattle.bucket_slots.specs.BucketView.{BucketView, pairs_in}
 use Rattle.bucket_table.specs.Views.ArraysView.{ArraysView, killed_flags}
@@ -34,6 +34,16 @@ WorksUnit unit success old new = RelocatesSome old new × (success ≡ true → 
 pub record NeedsNoMemory {K V : Type 0} (start end : ℕ) (arrays : ArraysView K V) : Type 0 where
   pub no_shorter : length arrays.linked ≤ length arrays.current
   pub few : (i : ℕ) → start ≤ i → i < end → length (pairs_in (bucket_at arrays.linked i)) ≤ 32
+
+-- memory was wanted for one of some old buckets: it isn't killed, and those of them before it are. As of entry it needed memory: the
+-- current array was shorter, or the bucket had more than 32 live pairs
+pub record WantsMemory {K V : Type 0} (IsOne : ℕ → Type 0) (old new : ArraysView K V) : Type 0 where
+  pub index : ℕ
+  pub one : IsOne index
+  pub within : index < length new.linked
+  pub before : (i : ℕ) → IsOne i → i < index → (bucket_at new.linked i).killed ≡ true
+  pub alive : (bucket_at new.linked index).killed ≡ false
+  pub needed : NeedsNoMemory index (index + 1) old → ⊥
 
 -- each bucket is as it was, or its pairs have moved on: it is killed and has none
 abbrev pub SpendsSome : {K V : Type 0} → List (BucketView K V) → List (BucketView K V) → Type 0

@@ -68,7 +68,10 @@ pub record TableView (K V H : Type 0) : Type 0 where
   pub hasher : H
   pub arrays : ArraysView K V
 
+-- an old bucket is a source of the current bucket with an index
+abbrev pub IsSource : {K V : Type 0} → ArraysView K V → ℕ → ℕ → Type 0
+IsSource arrays index i = Meets (length arrays.linked) i (length arrays.current) index
+
 -- each source of the current bucket with an index is killed
 abbrev pub AreSourcesKilled : {K V : Type 0} → ArraysView K V → ℕ → Type 0
-AreSourcesKilled arrays index =
-    (i : ℕ) → i < length arrays.linked → Meets (length arrays.linked) i (length arrays.current) index → (bucket_at arrays.linked i).killed ≡ true
+AreSourcesKilled arrays index = (i : ℕ) → i < length arrays.linked → IsSource arrays index i → (bucket_at arrays.linked i).killed ≡ true

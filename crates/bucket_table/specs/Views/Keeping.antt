@@ -6,6 +6,7 @@ use Rattle.bucket_slots.specs.ArrayView.{bucket_at}
 use Rattle.bucket_slots.specs.BucketView.{BucketView}
 use Rattle.bucket_slots.specs.Marking.{HasNoNewMark}
 use Rattle.bucket_table.specs.Views.ArraysView.{ArraysView, entries_of, marks_of}
+use Rattle.bucket_table.specs.Rehash.Carrying.{CarriesOrder}
 use Rattle.bucket_table.specs.Rehash.State.{TicketState}
 
 -- the bag of open units is as it was: each unit is open as often
@@ -20,10 +21,11 @@ pub record Keeps {K V : Type 0} (old new : ArraysView K V) : Type 0 where
   pub maximum : new.maximum ≡ old.maximum
   pub open_tickets : KeepsOpenTickets old.tickets new.tickets
 
--- and so does the length of the current array
+-- and so does the length of the current array, and recency goes along
 pub record KeepsArrays {K V : Type 0} (old new : ArraysView K V) : Type 0 where
   pub keeps : Keeps old new
   pub current_len : length new.current ≡ length old.current
+  pub order : CarriesOrder old new
 
 -- there are as many buckets, and those that were killed are
 pub record StayKilled {K V : Type 0} (old new : List (BucketView K V)) : Type 0 where

@@ -7,13 +7,13 @@ use Rattle.bucket_slots.specs.Homes.{IsInInterval, Meets, interval_width}
 use Rattle.bucket_slots.specs.Marking.{HasNoNewMark}
 use Rattle.bucket_slots.specs.Slots.{live_pair}
 use Rattle.bucket_slots.specs.Walking.{MovesToNext, pairs_ahead}
-use Rattle.bucket_table.specs.Views.ArraysView.{AreSourcesKilled, ArraysView, TableView, marks_of, pairs_of}
+use Rattle.bucket_table.specs.Views.ArraysView.{AreSourcesKilled, ArraysView, IsSource, TableView, marks_of, pairs_of}
 use Rattle.bucket_table.specs.Resize.Asking.{AsksShrinking, ResizesIf}
 use Rattle.bucket_table.specs.Views.Locking.{IsLocked}
 use Rattle.bucket_table.specs.Map.MapState.{KeepsPairs, state_of}
 use Rattle.bucket_table.specs.Views.Keeping.{KeepsArrays, KeepsOpenTickets}
 use Rattle.bucket_table.specs.Views.Sides.{bucket_on, buckets_on}
-use Rattle.bucket_table.specs.Rehash.Units.{WorksUnits}
+use Rattle.bucket_table.specs.Rehash.Units.{WantsMemory, WorksUnits}
 use Rattle.bucket_table.specs.declared.arrays.Missing.{Missing}
 use Rattle.bucket_table.specs.declared.arrays.Missing.TheVariants.{Nothing, Memory}
 
@@ -78,24 +78,25 @@ units_passed (Err Memory) passed = passed + 1
 units_passed result passed = passed
 
 -- a cursor passes current buckets, from the one whose interval has a hash on, or none where the hash is past all: before each a unit is worked,
--- and its sources are killed then. Without an old array nothing changes, and it isn't refused
+-- and its sources are killed then. The pairs and the length of the current array stay; without an old array all does, and it is refused only
+-- where memory is wanted for a source of the next bucket
 pub record Passes {K V A : Type 0} (index_of : A → ℕ) (bound : ℕ) (old : ArraysView K V) (result : Result A Missing) (new : ArraysView K V) : Type 0 where
   pub from : ℕ
   pub passed : ℕ
   pub begins : 0 < length old.current → IsInInterval (length old.current) from bound
   pub count : IsPassed index_of (length old.current) from result passed
+  pub kept : KeepsArrays old new
   pub units : WorksUnits (units_passed result passed) old new
   pub sources : AreKilledFor new from (from + passed)
   pub alone : length old.linked ≡ 0 → new ≡ old
-  pub succeeds : length old.linked ≡ 0 → IsErrAnd result (λ missing. missing ≡ Memory) → ⊥
+  pub wanted : IsErrAnd result (λ missing. missing ≡ Memory) → WantsMemory (IsSource new (from + passed)) old new
 
 -- a bucket is left: where it has no live pair, and a shrinking is asked for near it, the arrays follow the plan or stay for want of memory; else they stay.
--- Then the buckets past it are passed, which keeps the pairs and the length of the current array
+-- Then the buckets past it are passed
 pub record ShrinksThenPasses {K V A : Type 0} (index_of : A → ℕ) (is_old : Bool) (index : ℕ) (old : ArraysView K V) (result : Result A Missing) (new : ArraysView K V) : Type 0 where
   pub between : ArraysView K V
   pub asked : ResizesIf ((pairs_in (bucket_on old is_old index) ≡ []) × AsksShrinking old index) old between
   pub passes : Passes index_of (bound_of (length (buckets_on old is_old)) (index + 1)) between result new
-  pub kept : KeepsArrays between new
 
 -- a cursor sets out in a table: the map and the open tickets stay, no mark is new, and it goes on from the least hash
 pub record SetsOut {K V H : Type 0} (kind : ℕ) (hash : H → K → ℕ) (old : TableView K V H) (result : Result ℕ Missing) (at : Place) (new : TableView K V H) : Type 0 where

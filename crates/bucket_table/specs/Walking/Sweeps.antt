@@ -4,15 +4,17 @@ use Rattle.bucket_slots.specs.BucketView.{BucketView, marks_in}
 use Rattle.bucket_slots.specs.Marking.{MarksBy}
 use Rattle.bucket_table.specs.Views.ArraysView.{ArraysView}
 use Rattle.bucket_table.specs.Walking.Cursors.{ShrinksThenPasses, Passes}
-use Rattle.bucket_table.specs.Walking.Retains.{Retains}
+use Rattle.bucket_table.specs.Walking.Retains.{IsLeftOf, Retains}
 use Rattle.bucket_table.specs.Scripts.Runs.{Run}
 use Rattle.bucket_table.specs.Views.Sides.{arrays_with, bucket_on}
 use Rattle.bucket_table.specs.declared.arrays.Missing.{Missing}
 
--- a current bucket is left with what is kept, its marks with their epochs, and others with this one; nothing else changes
-pub record RetainsAt {K V : Type 0} (IsTest : (K × V → Bool) → Type 0) (epoch : ℕ) (old : ArraysView K V) (index : ℕ) (count : ℕ) (new : ArraysView K V) : Type 0 where
+-- a current bucket is left with what is kept, each pair at its place, its marks with their epochs, and others with this one; nothing else
+-- changes
+pub record RetainsAt {K V : Type 0} (IsTest : (K × V → Bool) → Type 0) (kind epoch : ℕ) (old : ArraysView K V) (index : ℕ) (count : ℕ) (new : ArraysView K V) : Type 0 where
   pub left : BucketView K V
   pub retains : Retains IsTest (bucket_on old false index) left count
+  pub slots : IsLeftOf kind epoch (bucket_on old false index) left
   pub marks : MarksBy epoch (marks_in (bucket_on old false index)) (marks_in left)
   pub new_is : new ≡ arrays_with old false index left
 
@@ -22,18 +24,18 @@ pub record SweepState (K V : Type 0) : Type 0 where
   pub arrays : ArraysView K V
 
 -- the bucket that was found is left with what is kept, and then the cursor departs from it
-pub record SweepsAt {K V : Type 0} (IsTest : (K × V → Bool) → Type 0) (epoch : ℕ) (old : SweepState K V) (index : ℕ) (place : Result ℕ Missing) (new : SweepState K V) : Type 0 where
+pub record SweepsAt {K V : Type 0} (IsTest : (K × V → Bool) → Type 0) (kind epoch : ℕ) (old : SweepState K V) (index : ℕ) (place : Result ℕ Missing) (new : SweepState K V) : Type 0 where
   pub here : old.place ≡ Ok index
   pub next : new.place ≡ place
   pub visited : ArraysView K V
   pub count : ℕ
-  pub retained : RetainsAt IsTest epoch old.arrays index count visited
+  pub retained : RetainsAt IsTest kind epoch old.arrays index count visited
   pub departs : ShrinksThenPasses (λ to. to) false index visited place new.arrays
 
 -- a cursor sets out, and goes from one bucket that is swept to the next
-pub record Sweeps {K V : Type 0} (IsTest : (K × V → Bool) → Type 0) (epoch : ℕ) (old : ArraysView K V) (last : SweepState K V) : Type 0 where
+pub record Sweeps {K V : Type 0} (IsTest : (K × V → Bool) → Type 0) (kind epoch : ℕ) (old : ArraysView K V) (last : SweepState K V) : Type 0 where
   pub first : SweepState K V
   pub sets_out : Passes (λ index. index) 0 old first.place first.arrays
   pub indices : List ℕ
   pub places : List (Result ℕ Missing)
-  pub run : Run (SweepsAt IsTest epoch) first indices places last
+  pub run : Run (SweepsAt IsTest kind epoch) first indices places last

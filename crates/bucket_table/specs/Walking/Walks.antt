@@ -1,15 +1,15 @@
 -- What a walk does to the map.
 use Rattle.std.specs.Prelude.{ℕ, ◌+◌, ◌<◌, ◌≡◌, ◌≢◌, ◌≤◌, ◌⊎◌, ◌&&◌, nat_le, nat_lt, not, Bool, true, false, List, [], ◌∷◌, ◌++◌, filter}
-use Rattle.std.specs.Prelude.{is_ok, length, map, Result, OnOk}
+use Rattle.std.specs.Prelude.{is_ok, length, map, Result, OnErr, OnOk}
 use Rattle.std.specs.List.{AllByRecursion, flat_map}
 use Rattle.std.specs.List.Sorted.{IsPermutation}
 use Rattle.bucket_slots.specs.BucketView.{BucketView, entries_in, pairs_in}
-use Rattle.bucket_table.specs.Views.ArraysView.{ArraysView, pairs_of}
+use Rattle.bucket_table.specs.Views.ArraysView.{ArraysView, IsSource, pairs_of}
 use Rattle.bucket_table.specs.Resize.Asking.{AsksShrinking, ResizesIf}
 use Rattle.bucket_table.specs.Walking.Cursors.{AreKilledFor, bound_of}
-use Rattle.bucket_table.specs.Views.Keeping.{Keeps}
+use Rattle.bucket_table.specs.Views.Keeping.{Keeps, KeepsArrays}
 use Rattle.bucket_table.specs.Views.Sides.{arrays_with, bucket_on}
-use Rattle.bucket_table.specs.Rehash.Units.{WorksUnits, steps_of}
+use Rattle.bucket_table.specs.Rehash.Units.{WantsMemory, WorksUnits, steps_of}
 use Rattle.bucket_table.specs.Walking.Visits.{AreCalls, HasStopped, Visited}
 
 -- the live keys in slot order, each with its byte
@@ -69,14 +69,18 @@ abbrev pub EndsWalk : {K V : Type 0} → Bool → ArraysView K V → ArraysView 
 EndsWalk true ended new = ResizesIf (AsksShrinking ended 0) ended new × Keeps ended new
 EndsWalk false ended new = new ≡ ended
 
--- where no old array stands, each bucket is lent as it stood at entry, and nothing changes but what the visits left
-abbrev pub VisitsAlone : {K V : Type 0} → ArraysView K V → ℕ → List (Visited (BucketView K V)) → ArraysView K V → Type 0
-VisitsAlone old index [] new = new ≡ old
-VisitsAlone old index (visit ∷ visits) new =
-    (visit.lent ≡ bucket_on old false index) × VisitsAlone (arrays_with old false index visit.left) (index + 1) visits new
+-- old buckets may have moved on, and nothing else changes
+abbrev pub MovesOn : {K V : Type 0} → ArraysView K V → ArraysView K V → Type 0
+MovesOn old new = KeepsArrays old new × (length old.linked ≡ 0 → new ≡ old)
 
--- a walk by a visitor: it comes to the array's end, is stopped or is refused. Before its end the current array keeps its length, also
--- beside an old array that goes
+-- each bucket is lent as it stands once old buckets have moved on, and nothing else changes but what the visits left
+abbrev pub VisitsEach : {K V : Type 0} → ArraysView K V → ℕ → List (Visited (BucketView K V)) → ArraysView K V → Type 0
+VisitsEach old index [] new = MovesOn old new
+VisitsEach {K} {V} old index (visit ∷ visits) new = (ready : ArraysView K V) × MovesOn old ready × (visit.lent ≡ bucket_on ready false index)
+    × VisitsEach (arrays_with ready false index visit.left) (index + 1) visits new
+
+-- a walk by a visitor: it comes to the array's end, is stopped, or is refused where memory is wanted for a source of the next bucket.
+-- Before its end the current array keeps its length, also beside an old array that goes
 pub record WalksBy {S A E K V : Type 0} (step : S → BucketView K V → Bool → Bool → BucketView K V → Bool → S → Type 0) (hash : K → ℕ) (expected start : ℕ)
     (first : S) (old : ArraysView K V) (result : Result A E) (now : S) (new : ArraysView K V) : Type 0 where
   pub from : ℕ
@@ -90,6 +94,7 @@ pub record WalksBy {S A E K V : Type 0} (step : S → BucketView K V → Bool �
   pub units : WorksUnits (steps_of result (length visits)) old ended
   pub sources : AreKilledFor ended from (from + length visits)
   pub within : 0 < length visits → from + length visits ≤ length old.current
+  pub wanted : OnErr result (WantsMemory (IsSource ended (from + length visits)) old ended)
   pub whole : OnOk result ((length old.current ≤ from + length visits) ⊎ HasStopped visits)
   pub ends : EndsWalk (is_ok result && flag) ended new
-  pub alone : length old.linked ≡ 0 → VisitsAlone old from visits ended
+  pub visited : VisitsEach old from visits ended

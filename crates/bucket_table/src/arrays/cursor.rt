@@ -187,7 +187,7 @@ impl<K: Eq + Drop, V: Drop, L: LruList + Drop, const TYPE: u8> Arrays<K, V, L, T
         requires within { index < length self.old.current }
         requires callable { F.IsAlwaysCallable keep.now }
         ensures retained { RetainsAt
-            (AnswersBy (λ key value answer. F.post keep.now key value answer))
+            (AnswersBy (λ key value answer. F.post keep.now key value answer)) TYPE
             (G.epoch_of generation.now) self.old index result self.new }
     {
         self.room_of(false);

@@ -7,7 +7,7 @@ ghost use Rattle.bucket_table.specs.Map.Finding.{FindsNone, ReadiesThenGrows};
 ghost use Rattle.bucket_table.specs.Map.Free.{MayNotLockAtOnce, MayLockAtOnce};
 ghost use Rattle.bucket_table.specs.Resize.Growing.{Grows, WriterAsksGrowth};
 ghost use Rattle.bucket_table.specs.Views.Locking.{IsLocked};
-ghost use Rattle.bucket_table.specs.Map.Preparing.{IsReady};
+ghost use Rattle.bucket_table.specs.Map.Preparing.{HomeWantsMemory, IsReady};
 ghost use Rattle.bucket_table.specs.Views.Keeping.{Keeps, KeepsArrays};
 ghost use Rattle.bucket_table.specs.Resize.Resizing.{MakesArray};
 ghost use Rattle.bucket_table.specs.Views.Sides.{buckets_on};
@@ -37,7 +37,7 @@ impl<K: Eq + Drop, V: Drop, L: LruList + Drop, const TYPE: u8> Arrays<K, V, L, T
         ensures locked { IfOk result (λ found. IsLocked self.new found.0 found.1) }
         ensures home { IfOk result (λ found. IsHome (length (buckets_on self.new found.0)) hash found.1) }
         ensures finds { IfOk result (λ found. ReadiesThenGrows TYPE hash self.old found.0 found.1 self.new) }
-        ensures refused { OnErr result (FindsNone self.old self.new) }
+        ensures refused { OnErr result (FindsNone hash self.old self.new) }
     {
         let Ok(()) = self.fetch_or_make(hasher, hash) else {
             return Err(AllocError);
@@ -59,6 +59,8 @@ impl<K: Eq + Drop, V: Drop, L: LruList + Drop, const TYPE: u8> Arrays<K, V, L, T
         ensures beside { 0 < length self.old.linked → KeepsArrays self.old self.new }
         ensures made { length self.old.linked ≡ 0 → OnOk result (MakesArray self.old self.new) }
         ensures refused { length self.old.linked ≡ 0 → OnErr result ((length self.old.current ≡ 0) × (self.new ≡ self.old)) }
+        ensures wanted { OnErr result
+            (0 < length self.new.current → HomeWantsMemory hash self.old self.new) }
     {
         self.sound();
         if self.has_old() {

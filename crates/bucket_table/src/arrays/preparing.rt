@@ -1,48 +1,43 @@
 //! A current bucket whose old pairs have come.
-ghost use Rattle.std.specs.Prelude.{◌≡◌, ◌<◌, IsOk, OnOk, length};
-ghost use Rattle.bucket_table.specs.Views.ArraysView.{ArePlaced, AreSourcesKilled};
+ghost use Rattle.std.specs.Prelude.{◌≡◌, ◌<◌, Err, IfErr, IsOk, OnErr, OnOk, length};
+ghost use Rattle.bucket_table.specs.Views.ArraysView.{ArePlaced, AreSourcesKilled, IsSource};
 ghost use Rattle.bucket_table.specs.Views.Keeping.{KeepsArrays};
-ghost use Rattle.bucket_table.specs.Map.Preparing.{AnswersFor, Prepares};
-ghost use Rattle.bucket_table.specs.Rehash.Units.{WorksUnits};
+ghost use Rattle.bucket_table.specs.Map.Preparing.{HomeWantsMemory, IsMissing, IsReady};
+ghost use Rattle.bucket_table.specs.Rehash.Units.{WantsMemory, WorksUnits};
 
-use super::Arrays;
+use super::{Arrays, Missing};
 use crate::capacity::from_index_to_range;
 use crate::key_hash::KeyHash;
 use bucket_slots::bucket::AllocError;
 use bucket_slots::lru::LruList;
 
 impl<K: Eq + Drop, V: Drop, L: LruList + Drop, const TYPE: u8> Arrays<K, V, L, TYPE> {
-    /// Works a unit, and moves the sources of the home of a hash. Returns whether there is a
-    /// current array.
+    /// Works a unit, and moves the sources of the home of a hash.
     ///
     /// # Errors
     ///
-    /// Want of memory: a source isn't killed.
+    /// There is no current array; or want of memory: a source isn't killed.
     #[inline(always)]
-    pub(crate) fn fetch_home<H: KeyHash<K>>(
-        &mut self,
-        hasher: &H,
-        hash: u64,
-    ) -> Result<bool, AllocError>
+    pub(crate) fn fetch_home<H: KeyHash<K>>(&mut self, hasher: &H, hash: u64) -> Result<(), Missing>
         requires placed { ArePlaced (H.hash_of hasher.now) self.old }
         ensures placed { ArePlaced (H.hash_of hasher.now) self.new }
         ensures kept { KeepsArrays self.old self.new }
-        ensures ready { Prepares self.new hash result }
+        ensures ready { OnOk result (IsReady self.new hash) }
+        ensures wanted { result ≡ Err Missing.Memory → HomeWantsMemory hash self.old self.new }
         ensures units { WorksUnits 1 self.old self.new }
         ensures alone { length self.old.linked ≡ 0 → self.new ≡ self.old }
-        ensures answer { AnswersFor result self.old }
-        ensures succeeds { length self.old.linked ≡ 0 → IsOk result }
+        ensures missing { IfErr result (λ missing. IsMissing missing self.old) }
     {
         if !self.has_current() {
-            return Ok(false);
+            return Err(Missing::Nothing);
         }
         if !self.has_old() {
-            return Ok(true);
+            return Ok(());
         }
         let index = self.home(hash);
         match self.prepare_at(hasher, index) {
-            Ok(()) => Ok(true),
-            Err(refused) => Err(refused),
+            Ok(()) => Ok(()),
+            Err(_) => Err(Missing::Memory),
         }
     }
 
@@ -62,6 +57,7 @@ impl<K: Eq + Drop, V: Drop, L: LruList + Drop, const TYPE: u8> Arrays<K, V, L, T
         ensures placed { ArePlaced (H.hash_of hasher.now) self.new }
         ensures kept { KeepsArrays self.old self.new }
         ensures ready { OnOk result (AreSourcesKilled self.new index) }
+        ensures wanted { OnErr result (WantsMemory (IsSource self.new index) self.old self.new) }
         ensures units { WorksUnits 1 self.old self.new }
         ensures alone { length self.old.linked ≡ 0 → self.new ≡ self.old }
         ensures succeeds { length self.old.linked ≡ 0 → IsOk result }

@@ -1,9 +1,10 @@
 //! A unit of a rehash inside a call.
-ghost use Rattle.std.specs.Prelude.{◌≡◌, ◌+◌, ◌*◌, ◌<◌, [], true, IfNone, None, length};
+ghost use Rattle.std.specs.Prelude.{◌≡◌, ◌+◌, ◌*◌, ◌<◌, [], false, IfNone, None, length};
+ghost use Rattle.bucket_slots.specs.Homes.{IsInRange};
 ghost use Rattle.bucket_table.specs.Views.ArraysView.{ArePlaced};
 ghost use Rattle.bucket_table.specs.Views.Keeping.{KeepsArrays};
 ghost use Rattle.bucket_table.specs.Rehash.Finishing.{Finishes};
-ghost use Rattle.bucket_table.specs.Rehash.Units.{NeedsNoMemory, SpendsSome, WorksUnit, WorksUnits};
+ghost use Rattle.bucket_table.specs.Rehash.Units.{SpendsSome, WantsMemory, WorksUnit, WorksUnits};
 
 use super::Arrays;
 use crate::key_hash::KeyHash;
@@ -38,7 +39,8 @@ impl<K: Eq + Drop, V: Drop, L: LruList + Drop, const TYPE: u8> Arrays<K, V, L, T
         ensures placed { ArePlaced (H.hash_of hasher.now) self.new }
         ensures worked { WorksUnit unit result self.old self.new }
         ensures spends { SpendsSome self.old.linked self.new.linked }
-        ensures succeeds { NeedsNoMemory (64 * unit) (64 * unit + 64) self.old → result ≡ true }
+        ensures wanted { result ≡ false
+            → WantsMemory (IsInRange (64 * unit) (64 * unit + 64)) self.old self.new }
     {
         let len = self.old_len();
         let start = unit * REHASHING_UNIT_LEN;

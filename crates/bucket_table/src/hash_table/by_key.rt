@@ -12,13 +12,13 @@ ghost use Rattle.bucket_slots.specs.Marking.{MarksBy, slots_marked};
 ghost use Rattle.bucket_slots.specs.Removing.{slots_without};
 ghost use Rattle.bucket_slots.specs.Slots.{is_live, live_pair};
 ghost use Rattle.bucket_table.specs.Views.ArraysView.{marks_of, pairs_of};
-ghost use Rattle.bucket_table.specs.Map.ByKey.{AnswersInsertion, ChangesAt, FindsThen, HandsBack, PreparesThen};
+ghost use Rattle.bucket_table.specs.Map.ByKey.{AnswersInsertion, ChangesAt, HandsBack, InsertsAt, PreparesThen};
+ghost use Rattle.bucket_table.specs.Map.Finding.{FindsThen};
 ghost use Rattle.bucket_table.specs.Map.ByKey.{Inserts, Marks, ShrinksAt, StandsAt, Swaps, Takes, Touches};
 ghost use Rattle.bucket_table.specs.Map.LookingUp.{IsAbsent};
 ghost use Rattle.bucket_table.specs.Map.Preparing.{IsPrepared};
 ghost use Rattle.bucket_table.specs.Map.MapState.{ChangesValue, state_of};
 ghost use Rattle.bucket_table.specs.Views.Sides.{bucket_of, buckets_on, with_bucket};
-ghost use Rattle.bucket_table.specs.Views.Keeping.{KeepsOpenTickets};
 ghost use Rattle.bucket_table.specs.Views.Locking.{IsLocked};
 
 mod evicting;
@@ -51,9 +51,8 @@ impl<K: Eq + Drop, V: Drop, H: KeyHash<K>, L: LruList + Drop, const TYPE: u8> Ha
     pub fn take(&mut self, key: &K) -> Option<(K, V)>
         requires not_index { TYPE ≢ INDEX }
         ensures map { Takes K.eq key.now (state_of TYPE self.old) result (state_of TYPE self.new) }
-        ensures bag { KeepsOpenTickets self.old.arrays.tickets self.new.arrays.tickets }
-        ensures arrays { PreparesThen TYPE self.old (λ between.
-            ShrinksAt slots_without (is_some result) between self.new) }
+        ensures arrays { PreparesThen TYPE (H.hash_of self.old.hasher key.now) self.old (λ between.
+            ShrinksAt K.eq key.now slots_without (is_some result) between self.new) }
     {
         match self.fetch_spot(key) {
             Some(mut spot) => Some(self.arrays.take_at(spot.is_old, spot.index, &mut spot.at)),
@@ -79,10 +78,10 @@ impl<K: Eq + Drop, V: Drop, H: KeyHash<K>, L: LruList + Drop, const TYPE: u8> Ha
         requires callable { (own : Bor K) (value : Bor V) → F.pre reader own value }
         ensures map { Marks K.eq key.now (λ own value answer. F.post reader own value answer)
             (state_of TYPE self.old) result (state_of TYPE self.new) }
-        ensures bag { KeepsOpenTickets self.old.arrays.tickets self.new.arrays.tickets }
-        ensures arrays { PreparesThen TYPE self.old (λ between.
-            ShrinksAt (λ bucket at. slots_marked bucket at (G.epoch_of generation.now))
-            (is_some result) between self.new) }
+        ensures arrays { PreparesThen TYPE (H.hash_of self.old.hasher key.now) self.old (λ between.
+            ShrinksAt K.eq key.now
+            (λ bucket at. slots_marked bucket at (G.epoch_of generation.now)) (is_some result)
+            between self.new) }
         ensures marks { MarksBy (G.epoch_of generation.now) (marks_of self.old.arrays)
             (marks_of self.new.arrays) }
     {
@@ -109,9 +108,8 @@ impl<K: Eq + Drop, V: Drop, H: KeyHash<K>, L: LruList + Drop, const TYPE: u8> Ha
         requires cache { TYPE ≡ CACHE }
         ensures map { Touches K.eq key.now (state_of TYPE self.old) result
             (state_of TYPE self.new) }
-        ensures bag { KeepsOpenTickets self.old.arrays.tickets self.new.arrays.tickets }
-        ensures arrays { PreparesThen TYPE self.old (λ between.
-            ChangesAt (slots_touched L.KEEPS) result between self.new) }
+        ensures arrays { PreparesThen TYPE (H.hash_of self.old.hasher key.now) self.old (λ between.
+            ChangesAt K.eq key.now (slots_touched L.KEEPS) result between self.new) }
     {
         match self.fetch_spot(key) {
             Some(spot) => {
@@ -136,10 +134,9 @@ impl<K: Eq + Drop, V: Drop, H: KeyHash<K>, L: LruList + Drop, const TYPE: u8> Ha
     pub fn swap(&mut self, key: &K, value: V) -> Result<V, V>
         ensures map { Swaps K.eq key.now value (state_of TYPE self.old) result
             (state_of TYPE self.new) }
-        ensures bag { KeepsOpenTickets self.old.arrays.tickets self.new.arrays.tickets }
-        ensures arrays { PreparesThen TYPE self.old (λ between.
-            ChangesAt (λ bucket at. bucket_with_value bucket at value) (is_ok result) between
-            self.new) }
+        ensures arrays { PreparesThen TYPE (H.hash_of self.old.hasher key.now) self.old (λ between.
+            ChangesAt K.eq key.now (λ bucket at. bucket_with_value bucket at value)
+            (is_ok result) between self.new) }
     {
         match self.fetch_spot(key) {
             Some(spot) => Ok(self.swap_at(&spot, value)),
@@ -151,7 +148,8 @@ impl<K: Eq + Drop, V: Drop, H: KeyHash<K>, L: LruList + Drop, const TYPE: u8> Ha
     ///
     /// # Errors
     ///
-    /// An equal key is there; or want of memory, and then none is: the pair comes back.
+    /// An equal key is there; or want of memory, and then none is: the pair comes back. A free slot
+    /// in the bucket that is found rules want of memory out.
     ///
     /// O(slots of a unit, of the sources and of their targets; buckets that a resize makes). Own.
     #[inline(always)]
@@ -163,10 +161,9 @@ impl<K: Eq + Drop, V: Drop, H: KeyHash<K>, L: LruList + Drop, const TYPE: u8> Ha
     ) -> Result<(), NotInserted<K, V>>
         ensures map { Inserts K.eq key value (state_of TYPE self.old) result
             (state_of TYPE self.new) }
-        ensures bag { KeepsOpenTickets self.old.arrays.tickets self.new.arrays.tickets }
-        ensures arrays { FindsThen TYPE (H.hash_of self.old.hasher key)
-            (λ bucket. slots_after_insertion TYPE (G.keeps generation.now) bucket (key, value)
-            (H.hash_of self.old.hasher key % 256)) self.old result self.new }
+        ensures arrays { FindsThen TYPE (H.hash_of self.old.hasher key) self.old (λ answer between.
+            InsertsAt TYPE (G.keeps generation.now) (key, value)
+            (H.hash_of self.old.hasher key % 256) between result answer self.new) }
     {
         let hash = self.hash(&key);
         let Ok((is_old, index)) = self.find(hash) else {
@@ -179,7 +176,7 @@ impl<K: Eq + Drop, V: Drop, H: KeyHash<K>, L: LruList + Drop, const TYPE: u8> Ha
     /// key, on either side; `None` where the map has none.
     #[inline(always)]
     fn fetch_spot(&mut self, key: &K) -> Option<Spot<K, V, TYPE>>
-        ensures prepared { IsPrepared TYPE self.old self.new }
+        ensures prepared { IsPrepared TYPE (H.hash_of self.old.hasher key.now) self.old self.new }
         ensures found { IfSome result (λ spot.
             StandsAt K.eq key.now self.new.arrays spot.is_old spot.index spot.at) }
         ensures absent { IfNone result (IsAbsent K.eq key.now (pairs_of self.old.arrays)) }
@@ -205,11 +202,12 @@ impl<K: Eq + Drop, V: Drop, H: KeyHash<K>, L: LruList + Drop, const TYPE: u8> Ha
         requires home { IsHome (length (buckets_on self.old.arrays is_old)) hash index }
         ensures map { Inserts K.eq key value (state_of TYPE self.old) result
             (state_of TYPE self.new) }
-        ensures bag { KeepsOpenTickets self.old.arrays.tickets self.new.arrays.tickets }
         ensures put { OnOk result (self.new ≡ with_bucket self.old is_old index
             (slots_after_insertion TYPE (G.keeps generation.now)
             (bucket_of self.old is_old index) (key, value) (hash % 256))) }
         ensures unchanged { OnErr result (self.new ≡ self.old) }
+        ensures answer { AnswersInsertion K.eq key value (hash % 256) TYPE (G.keeps generation.now)
+            (bucket_of self.old is_old index) result }
     {
         self.arrays.room_of(is_old);
         let bucket = self.arrays.bucket_of_mut(is_old, index);
@@ -225,7 +223,6 @@ impl<K: Eq + Drop, V: Drop, H: KeyHash<K>, L: LruList + Drop, const TYPE: u8> Ha
             × (live_pair (slot_in (bucket_of self.old spot.now.is_old spot.now.index) spot.now.at)
             ≡ Some (found, result))
             × ChangesValue (state_of TYPE self.old) (found, result) value (state_of TYPE self.new) }
-        ensures bag { KeepsOpenTickets self.old.arrays.tickets self.new.arrays.tickets }
         ensures table { self.new ≡ with_bucket self.old spot.now.is_old spot.now.index
             (bucket_with_value (bucket_of self.old spot.now.is_old spot.now.index) spot.now.at
             value) }
@@ -285,7 +282,8 @@ fn insert_absent<K: Eq + Drop, V: Drop, L: LruList, G: Generation, const TYPE: u
     value: V,
     generation: &G,
 ) -> Result<(), NotInserted<K, V>>
-    ensures answer { AnswersInsertion K.eq key value (hash % 256) bucket.old result }
+    ensures answer { AnswersInsertion K.eq key value (hash % 256) TYPE (G.keeps generation.now)
+        bucket.old result }
     ensures put { OnOk result (bucket.new ≡ slots_after_insertion TYPE (G.keeps generation.now)
         bucket.old (key, value) (hash % 256)) }
     ensures unchanged { OnErr result (bucket.new ≡ bucket.old) }

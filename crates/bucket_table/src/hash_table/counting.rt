@@ -7,7 +7,6 @@
 ghost use Rattle.std.specs.Prelude.{◌≡◌, ◌↔◌, ◌<◌, ◌++◌, [], IsTrue, length};
 ghost use Rattle.bucket_table.specs.Views.ArraysView.{pairs_of};
 ghost use Rattle.bucket_table.specs.Map.Counting.{CountsAndResizes, IsHeldBy, counted_to};
-ghost use Rattle.bucket_table.specs.Views.Keeping.{KeepsOpenTickets};
 ghost use Rattle.bucket_table.specs.Map.MapState.{KeepsPairs, state_of};
 ghost use Rattle.bucket_table.specs.Rehash.Units.{WorksUnits};
 
@@ -32,7 +31,6 @@ impl<K: Eq + Drop, V: Drop, H: KeyHash<K>, L: LruList + Drop, const TYPE: u8> Ha
     pub fn num_entries(&mut self) -> usize
         ensures count { result ≡ counted_to (pairs_of self.new.arrays) }
         ensures map { KeepsPairs (state_of TYPE self.old) (state_of TYPE self.new) }
-        ensures bag { KeepsOpenTickets self.old.arrays.tickets self.new.arrays.tickets }
         ensures units { WorksUnits 1 self.old.arrays self.new.arrays }
         ensures arrays { CountsAndResizes self.old.arrays self.new.arrays }
         ensures alone { length self.old.arrays.linked ≡ 0 → (pairs_of self.old.arrays ≡ [] → ⊥)
@@ -49,7 +47,6 @@ impl<K: Eq + Drop, V: Drop, H: KeyHash<K>, L: LruList + Drop, const TYPE: u8> Ha
     pub fn has_entry(&mut self) -> bool
         ensures has { IsTrue result ↔ (0 < length (pairs_of self.new.arrays)) }
         ensures map { KeepsPairs (state_of TYPE self.old) (state_of TYPE self.new) }
-        ensures bag { KeepsOpenTickets self.old.arrays.tickets self.new.arrays.tickets }
         ensures units { WorksUnits 1 self.old.arrays self.new.arrays }
         ensures arrays { CountsAndResizes self.old.arrays self.new.arrays }
         ensures alone { length self.old.arrays.linked ≡ 0 → (pairs_of self.old.arrays ≡ [] → ⊥)

@@ -16,7 +16,6 @@ ghost use Rattle.bucket_table.specs.Views.Settings.{KeepsSettings};
 ghost use Rattle.bucket_table.specs.Views.Sides.{bucket_on, buckets_on};
 ghost use Rattle.bucket_table.specs.Walking.Sweeps.{RetainsAt, Sweeps};
 ghost use Rattle.bucket_table.specs.Views.TableRow.{table_row};
-ghost use Rattle.bucket_table.specs.Views.Keeping.{KeepsOpenTickets};
 
 use crate::hash_table::{HashTable, LockedBucket, Missing};
 use crate::key_hash::KeyHash;
@@ -50,7 +49,7 @@ impl<K: Eq + Drop, V: Drop, H: KeyHash<K>, L: LruList + Drop, const TYPE: u8> Ha
             → AnswersBy (λ key value answer. F.post keep.now key value answer) test
             → IsSwept test (pairs_of self.old.arrays) (pairs_of self.new.arrays) count) }
         ensures arrays { Sweeps (AnswersBy (λ key value answer. F.post keep.now key value answer))
-            (G.epoch_of generation.now) self.old.arrays
+            TYPE (G.epoch_of generation.now) self.old.arrays
             (record { place = Err (if is_ok result then Missing.Nothing else Missing.Memory); arrays = self.new.arrays }) }
         ensures marks { MarksBy (G.epoch_of generation.now) (marks_of self.old.arrays)
             (marks_of self.new.arrays) }
@@ -92,7 +91,6 @@ impl<K: Eq + Drop, V: Drop, H: KeyHash<K>, L: LruList + Drop, const TYPE: u8> Ha
     ) -> Result<usize, Missing>
         requires within { index < length self.old.arrays.current }
         ensures map { KeepsPairs (state_of TYPE self.old) (state_of TYPE self.new) }
-        ensures bag { KeepsOpenTickets self.old.arrays.tickets self.new.arrays.tickets }
         ensures leaves { Leaves (H.hash_of self.old.hasher)
             (bound_of (length self.old.arrays.current) (index + 1)) result
             self.new.arrays at.new }
@@ -114,7 +112,7 @@ impl<K: Eq + Drop, V: Drop, H: KeyHash<K>, L: LruList + Drop, const TYPE: u8> Ha
         requires callable { F.IsAlwaysCallable keep.now }
         ensures hasher { self.new.hasher ≡ self.old.hasher }
         ensures retained { RetainsAt
-            (AnswersBy (λ key value answer. F.post keep.now key value answer))
+            (AnswersBy (λ key value answer. F.post keep.now key value answer)) TYPE
             (G.epoch_of generation.now) self.old.arrays index result self.new.arrays }
     {
         self.arrays.retain_at(index, keep, generation)

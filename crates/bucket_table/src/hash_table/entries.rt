@@ -1,4 +1,4 @@
-//! The pair in a live slot of a bucket of one side, lent for reading and for writing.
+//! The pair in a live slot of a bucket of one side, lent for writing.
 //!
 //! Own.
 ghost use Rattle.std.specs.Prelude.{◌≡◌, ◌<◌, IsTrue, Some, length};
@@ -6,7 +6,6 @@ ghost use Rattle.std.specs.Borrow.{sem};
 ghost use Rattle.bucket_slots.specs.BucketView.{slot_in};
 ghost use Rattle.bucket_slots.specs.Slots.{is_live, live_pair};
 ghost use Rattle.bucket_table.specs.Map.MapState.{ChangesValue, state_of};
-ghost use Rattle.bucket_table.specs.Views.Keeping.{KeepsOpenTickets};
 ghost use Rattle.bucket_table.specs.Views.Sides.{bucket_of, buckets_on};
 
 use crate::hash_table::HashTable;
@@ -17,19 +16,8 @@ use bucket_slots::lru::LruList;
 impl<K: Eq, V, H: KeyHash<K>, L: LruList, const TYPE: u8> HashTable<K, V, H, L, TYPE> {
     ghost use Rattle.bucket_table.specs.Map.Lending.{LendsSlot, with_value};
 
-    /// Returns the pair in a live slot of a bucket of the old or of the current array.
-    ///
-    /// O(blocks of the chain). Own.
-    pub fn entry_at(&self, is_old: bool, index: usize, at: &EntryPtr<K, V, TYPE>) -> (&K, &V)
-        requires within { index < length (buckets_on self.now.arrays is_old) }
-        requires live_slot { IsTrue (is_live (slot_in (bucket_of self.now is_old index) at.now)) }
-        ensures { live_pair (slot_in (bucket_of self.now is_old index) at.now)
-            ≡ Some (result.0.now, result.1.now) }
-    {
-        self.arrays.entry_of(is_old, index, at)
-    }
-
-    /// Lends that pair, its value for writing: what is written stands in the table.
+    /// Lends the pair in a live slot of a bucket of the old or of the current array, its value for
+    /// writing: what is written stands in the table.
     ///
     /// O(blocks of the chain). Own.
     pub fn entry_mut_at(
@@ -49,8 +37,6 @@ impl<K: Eq, V, H: KeyHash<K>, L: LruList, const TYPE: u8> HashTable<K, V, H, L, 
         ensures map { (value : V) → ChangesValue (state_of TYPE self.old)
             (result.0.now, result.1.now) value
             (state_of TYPE (with_value self.old is_old index at.now value)) }
-        ensures bag { (value : V) → KeepsOpenTickets self.old.arrays.tickets
-            (with_value self.old is_old index at.now value).arrays.tickets }
     {
         self.arrays.room_of(is_old);
         let bucket = self.arrays.bucket_of_mut(is_old, index);

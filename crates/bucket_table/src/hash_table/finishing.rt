@@ -1,6 +1,7 @@
 //! Finishing a rehash of a table.
-ghost use Rattle.std.specs.Prelude.{◌≡◌, Ok, IfOk, length};
+ghost use Rattle.std.specs.Prelude.{◌≡◌, Ok, IfOk, OnErr, length};
 ghost use Rattle.bucket_table.specs.Rehash.Finishing.{IsUnopened, units_left};
+ghost use Rattle.bucket_table.specs.Rehash.Units.{WantsMemory};
 ghost use Rattle.bucket_table.specs.Map.MapState.{KeepsPairs, state_of};
 ghost use Rattle.bucket_table.specs.Views.Keeping.{KeepsArrays};
 
@@ -22,7 +23,8 @@ impl<K: Eq + Drop, V: Drop, H: KeyHash<K>, L: LruList + Drop, const TYPE: u8> Ha
     /// # Errors
     ///
     /// Want of memory beside an old array: it stands, its pairs are in both arrays, and no ticket is
-    /// open.
+    /// open. The first old bucket that isn't killed had more than 32 live pairs, or the current
+    /// array is shorter than the old one.
     ///
     /// O(old buckets from the position on, and their pairs). Own.
     pub fn finish_rehash(&mut self) -> Result<usize, AllocError>
@@ -31,6 +33,8 @@ impl<K: Eq + Drop, V: Drop, H: KeyHash<K>, L: LruList + Drop, const TYPE: u8> Ha
         ensures counted { IfOk result (λ count. count ≡ units_left self.old.arrays) }
         ensures alone { length self.old.arrays.linked ≡ 0
             → (result ≡ Ok 0) × (self.new ≡ self.old) }
+        ensures wanted { OnErr result
+            (WantsMemory (λ i. Unit {0}) self.old.arrays self.new.arrays) }
 
         // Done or refused, the map is the same, and no ticket is open.
         ensures map { KeepsPairs (state_of TYPE self.old) (state_of TYPE self.new) }

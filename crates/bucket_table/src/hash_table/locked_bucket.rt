@@ -1,28 +1,26 @@
 //! A bucket of a table, and the table, which it borrows for writing.
 //!
-//! Model: `LockedBucket`, the table, a side (`is_old`) and an index; `bucket_of` is its bucket.
+//! Model: `LockedBucket`, the table, a side (`is_old`) and an index; `bucket_in` is its bucket.
 //! Invariant (`IsLocked`, the ghost field): a current bucket has all its sources killed; an old one
 //! isn't killed, and then every current bucket is free throughout.
 //!
 //! Ports `LockedBucket` of scc's `src/hash_table.rs`.
-ghost use Rattle.std.specs.Prelude.{◌≡◌, ◌≢◌, ◌%◌, ◌↔◌, Some, None, Contains, IsNone, IsTrue, OnOk, OnErr, IfErr, IfOk, IfSome, IfNone};
-ghost use Rattle.std.specs.Prelude.{OnSome, length};
-ghost use Rattle.std.specs.Borrow.{sem};
-ghost use Rattle.bucket_slots.specs.BucketView.{first_place, null_place, slot_in};
-ghost use Rattle.bucket_slots.specs.Clearing.{slots_after_insertion, slots_for_insertion};
-ghost use Rattle.bucket_slots.specs.Evicting.{slot_to_evict, slots_evicted, slots_touched};
+ghost use Rattle.bucket_slots.specs.BucketView.{null_place, slot_in};
+ghost use Rattle.bucket_slots.specs.Clearing.{slots_after_insertion};
+ghost use Rattle.bucket_slots.specs.Evicting.{slots_touched};
 ghost use Rattle.bucket_slots.specs.Homes.{IsHome};
 ghost use Rattle.bucket_slots.specs.Marking.{slots_marked};
-ghost use Rattle.bucket_slots.specs.Placing.{place_for_next};
 ghost use Rattle.bucket_slots.specs.Removing.{slots_without};
-ghost use Rattle.bucket_slots.specs.Slots.{free, is_free, is_live, live, live_pair, slot_at};
+ghost use Rattle.bucket_slots.specs.Slots.{is_live, live_pair};
 ghost use Rattle.bucket_slots.specs.Walking.{pairs_ahead};
-ghost use Rattle.bucket_table.specs.Views.ArraysView.{pairs_of};
-ghost use Rattle.bucket_table.specs.Views.Keeping.{KeepsOpenTickets};
-ghost use Rattle.bucket_table.specs.Views.Locking.{IsLocked};
 ghost use Rattle.bucket_table.specs.Map.LookingUp.{IsAbsent, IsThere};
 ghost use Rattle.bucket_table.specs.Map.MapState.{AddsPair, ChangesValue, KeepsPairs, TakesPair, state_of};
-ghost use Rattle.bucket_table.specs.Views.Sides.{bucket_of, buckets_on, with_bucket};
+ghost use Rattle.bucket_table.specs.Map.Putting.{Goes, slots_left};
+ghost use Rattle.bucket_table.specs.Views.ArraysView.{pairs_of};
+ghost use Rattle.bucket_table.specs.Views.Locking.{IsLocked};
+ghost use Rattle.bucket_table.specs.Views.Sides.{buckets_on};
+ghost use Rattle.std.specs.Borrow.{sem};
+ghost use Rattle.std.specs.Prelude.{◌%◌, ◌≡◌, ◌≢◌, IfSome, IsTrue, OnOk, Some, if◌then◌else◌, is_ok, length};
 
 use crate::hash_table::HashTable;
 use crate::key_hash::KeyHash;
@@ -40,6 +38,7 @@ pub struct LockedBucket<'a, K: Eq, V, H: KeyHash<K>, L: LruList, const TYPE: u8>
 }
 
 impl<'a, K: Eq, V, H: KeyHash<K>, L: LruList, const TYPE: u8> LockedBucket<'a, K, V, H, L, TYPE> {
+    ghost use Rattle.bucket_table.specs.Views.LockedChanges.{Changes, bucket_in};
     ghost use Rattle.bucket_table.specs.Views.LockedLoans.{LendsLocked, table_with_value};
 
     /// Returns the index of the bucket in its array.
@@ -65,7 +64,7 @@ impl<'a, K: Eq, V, H: KeyHash<K>, L: LruList, const TYPE: u8> LockedBucket<'a, K
     ///
     /// O(1). scc: `LockedBucket::writer`.
     pub fn bucket(&self) -> &Bucket<K, V, L, TYPE>
-        ensures { result.now ≡ bucket_of self.now.table.now self.now.is_old self.now.index }
+        ensures { result.now ≡ bucket_in self.now }
     {
         let table = &*self.table;
         table.arrays.bucket_of(self.is_old, self.index)
@@ -82,7 +81,7 @@ impl<'a, K: Eq, V, H: KeyHash<K>, L: LruList, const TYPE: u8> LockedBucket<'a, K
             (length (buckets_on self.now.table.now.arrays self.now.is_old)) hash self.now.index }
         ensures found { result.pos ≢ 32 → (pair : K × V)
             × (live_pair
-            (slot_in (bucket_of self.now.table.now self.now.is_old self.now.index) result)
+            (slot_in (bucket_in self.now) result)
             ≡ Some pair)
             × IsThere K.eq key.now (pairs_of self.now.table.now.arrays) pair }
         ensures absent { result.pos ≡ 32 → IsAbsent K.eq key.now
@@ -102,9 +101,9 @@ impl<'a, K: Eq, V, H: KeyHash<K>, L: LruList, const TYPE: u8> LockedBucket<'a, K
     /// O(blocks of the chain). scc: `LockedBucket::entry`.
     pub fn entry(&self, at: &EntryPtr<K, V, TYPE>) -> (&K, &V)
         requires live_slot { IsTrue (is_live
-            (slot_in (bucket_of self.now.table.now self.now.is_old self.now.index) at.now)) }
+            (slot_in (bucket_in self.now) at.now)) }
         ensures { live_pair
-            (slot_in (bucket_of self.now.table.now self.now.is_old self.now.index) at.now)
+            (slot_in (bucket_in self.now) at.now)
             ≡ Some (result.0.now, result.1.now) }
     {
         let table = &*self.table;
@@ -116,19 +115,17 @@ impl<'a, K: Eq, V, H: KeyHash<K>, L: LruList, const TYPE: u8> LockedBucket<'a, K
     /// O(blocks of the chain). scc: `LockedBucket::entry_mut`.
     pub fn entry_mut(&mut self, at: &EntryPtr<K, V, TYPE>) -> (&K, &mut V)
         requires live_slot { IsTrue (is_live
-            (slot_in (bucket_of self.old.table.now self.old.is_old self.old.index) at.now)) }
+            (slot_in (bucket_in self.old) at.now)) }
         ensures* writes_back { sem 𝓛
             (LendsLocked K.row V.row H.row L.row TYPE K.PartialEq H.KeyHash
             (record { KEEPS = L.KEEPS; listed = L.listed; IsTail = L.IsTail }) L.Default
             self.entry at.now result) }
         ensures pair { live_pair
-            (slot_in (bucket_of self.old.table.now self.old.is_old self.old.index) at.now)
+            (slot_in (bucket_in self.old) at.now)
             ≡ Some (result.0.now, result.1.now) }
         ensures map { (value : V) → ChangesValue (state_of TYPE self.old.table.now)
             (result.0.now, result.1.now) value (state_of TYPE
             (table_with_value self.old at.now value)) }
-        ensures bag { (value : V) → KeepsOpenTickets self.old.table.now.arrays.tickets
-            (table_with_value self.old at.now value).arrays.tickets }
     {
         let is_old = self.is_old;
         let index = self.index;
@@ -138,42 +135,16 @@ impl<'a, K: Eq, V, H: KeyHash<K>, L: LruList, const TYPE: u8> LockedBucket<'a, K
         bucket.entry_mut(at)
     }
 
-    /// Ends the lock, and gives the table back, with the bucket's side and index: by these
-    /// `HashTable::entry_at` and `HashTable::entry_mut_at` lend a pair past the lock.
-    ///
-    /// O(1). Own.
-    pub fn into_table(self) -> (&'a mut HashTable<K, V, H, L, TYPE>, bool, usize)
-        ensures same_table { result.0.ghost_name ≡ self.entry.table.ghost_name }
-        ensures unchanged { result.0.now ≡ self.entry.table.now }
-        ensures side { result.1 ≡ self.entry.is_old }
-        ensures index { result.2 ≡ self.entry.index }
-        ensures locked { IsLocked result.0.now.arrays result.1 result.2 }
-    {
-        let LockedBucket {
-            table,
-            is_old,
-            index,
-        } = self;
-        (table, is_old, index)
-    }
-
     /// Makes a live own slot the one touched last; a slot of the chain isn't listed.
     ///
     /// Takes no memory. O(1). scc: `Bucket::update_lru_tail`.
     pub fn update_lru_tail(&mut self, at: &EntryPtr<K, V, TYPE>)
         requires cache { TYPE ≡ CACHE }
         requires live_slot { IsTrue (is_live
-            (slot_in (bucket_of self.old.table.now self.old.is_old self.old.index) at.now)) }
-        ensures same_table { self.new.table.ghost_name ≡ self.old.table.ghost_name }
-        ensures same_side { self.new.is_old ≡ self.old.is_old }
-        ensures same_index { self.new.index ≡ self.old.index }
+            (slot_in (bucket_in self.old) at.now)) }
+        ensures changed { Changes self.old self.new (λ bucket. slots_touched L.KEEPS bucket at.now) }
         ensures map { KeepsPairs (state_of TYPE self.old.table.now)
             (state_of TYPE self.new.table.now) }
-        ensures bag { KeepsOpenTickets self.old.table.now.arrays.tickets self.new.table.now.arrays.tickets }
-        ensures table { self.new.table.now
-            ≡ with_bucket self.old.table.now self.old.is_old self.old.index
-            (slots_touched L.KEEPS
-            (bucket_of self.old.table.now self.old.is_old self.old.index) at.now) }
     {
         let is_old = self.is_old;
         let index = self.index;
@@ -187,23 +158,11 @@ impl<'a, K: Eq, V, H: KeyHash<K>, L: LruList, const TYPE: u8> LockedBucket<'a, K
     /// Takes no memory. O(1). scc: `Bucket::evict_lru_head`.
     pub fn evict_lru_head(&mut self) -> Option<(K, V)>
         requires cache { TYPE ≡ CACHE }
-        ensures same_table { self.new.table.ghost_name ≡ self.old.table.ghost_name }
-        ensures same_side { self.new.is_old ≡ self.old.is_old }
-        ensures same_index { self.new.index ≡ self.old.index }
-        ensures pair { IfSome result (λ pair. live_pair
-            (slot_at (bucket_of self.old.table.now self.old.is_old self.old.index).own
-            (slot_to_evict (bucket_of self.old.table.now self.old.is_old self.old.index)))
-            ≡ Some pair) }
+        ensures changed { Changes self.old self.new (λ bucket. slots_left bucket result) }
         ensures map { IfSome result
             (λ pair. TakesPair (state_of TYPE self.old.table.now) pair
             (state_of TYPE self.new.table.now)) }
-        ensures bag { KeepsOpenTickets self.old.table.now.arrays.tickets self.new.table.now.arrays.tickets }
-        ensures table { OnSome result (self.new.table.now
-            ≡ with_bucket self.old.table.now self.old.is_old self.old.index
-            (slots_evicted (bucket_of self.old.table.now self.old.is_old self.old.index))) }
-        ensures none { IsNone result ↔ Contains
-            (bucket_of self.old.table.now self.old.is_old self.old.index).own free }
-        ensures unchanged { IfNone result (self.new.table.now ≡ self.old.table.now) }
+        ensures answer { Goes (bucket_in self.old) result }
     {
         let is_old = self.is_old;
         let index = self.index;
@@ -218,23 +177,13 @@ impl<'a, K: Eq, V, H: KeyHash<K>, L: LruList, const TYPE: u8> LockedBucket<'a, K
     pub fn mark_entry<G: Generation>(&mut self, at: &mut EntryPtr<K, V, TYPE>, generation: &G)
         requires index { TYPE ≡ INDEX }
         requires live_slot { IsTrue (is_live
-            (slot_in (bucket_of self.old.table.now self.old.is_old self.old.index) at.old)) }
-        ensures same_table { self.new.table.ghost_name ≡ self.old.table.ghost_name }
-        ensures same_side { self.new.is_old ≡ self.old.is_old }
-        ensures same_index { self.new.index ≡ self.old.index }
-        ensures map { (pair : K × V)
-            × (live_pair
-            (slot_in (bucket_of self.old.table.now self.old.is_old self.old.index) at.old)
-            ≡ Some pair)
+            (slot_in (bucket_in self.old) at.old)) }
+        ensures changed { Changes self.old self.new
+            (λ bucket. slots_marked bucket at.old (G.epoch_of generation.now)) }
+        ensures map { (pair : K × V) × (live_pair (slot_in (bucket_in self.old) at.old) ≡ Some pair)
             × TakesPair (state_of TYPE self.old.table.now) pair (state_of TYPE self.new.table.now) }
-        ensures bag { KeepsOpenTickets self.old.table.now.arrays.tickets self.new.table.now.arrays.tickets }
-        ensures table { self.new.table.now
-            ≡ with_bucket self.old.table.now self.old.is_old self.old.index
-            (slots_marked (bucket_of self.old.table.now self.old.is_old self.old.index) at.old
-            (G.epoch_of generation.now)) }
-        ensures pairs_ahead { pairs_ahead
-            (bucket_of self.new.table.now self.new.is_old self.new.index) at.new
-            ≡ pairs_ahead (bucket_of self.old.table.now self.old.is_old self.old.index) at.old }
+        ensures pairs_ahead { pairs_ahead (bucket_in self.new) at.new
+            ≡ pairs_ahead (bucket_in self.old) at.old }
     {
         let is_old = self.is_old;
         let index = self.index;
@@ -251,6 +200,8 @@ impl<'a, K: Eq + Drop, V: Drop, H: KeyHash<K>, L: LruList, const TYPE: u8> Locke
     L,
     TYPE,
 > {
+    ghost use Rattle.bucket_table.specs.Views.LockedChanges.{AnswersPlacing, Changes, bucket_in};
+
     /// Inserts a pair whose key the table hasn't, and returns where it stands.
     ///
     /// # Errors
@@ -269,27 +220,13 @@ impl<'a, K: Eq + Drop, V: Drop, H: KeyHash<K>, L: LruList, const TYPE: u8> Locke
         requires home { IsHome
             (length (buckets_on self.old.table.now.arrays self.old.is_old)) hash self.old.index }
         requires key_absent { IsAbsent K.eq pair.0 (pairs_of self.old.table.now.arrays) }
-        ensures same_table { self.new.table.ghost_name ≡ self.old.table.ghost_name }
-        ensures same_side { self.new.is_old ≡ self.old.is_old }
-        ensures same_index { self.new.index ≡ self.old.index }
+        ensures changed { Changes self.old self.new (λ bucket. if is_ok result
+            then slots_after_insertion TYPE (G.keeps generation.now) bucket pair (hash % 256)
+            else bucket) }
         ensures map { OnOk result (AddsPair (state_of TYPE self.old.table.now) pair
             (state_of TYPE self.new.table.now)) }
-        ensures bag { KeepsOpenTickets self.old.table.now.arrays.tickets self.new.table.now.arrays.tickets }
-        ensures table { OnOk result (self.new.table.now
-            ≡ with_bucket self.old.table.now self.old.is_old self.old.index
-            (slots_after_insertion TYPE (G.keeps generation.now)
-            (bucket_of self.old.table.now self.old.is_old self.old.index) pair (hash % 256))) }
-        ensures pair_returned { IfErr result (λ back. back ≡ pair) }
-        ensures unchanged { OnErr result (self.new.table.now ≡ self.old.table.now) }
-        ensures place { IfOk result (λ at. at ≡ place_for_next
-            (slots_for_insertion TYPE (G.keeps generation.now)
-            (bucket_of self.old.table.now self.old.is_old self.old.index))) }
-        ensures names { IfOk result (λ at. slot_in
-            (bucket_of self.new.table.now self.new.is_old self.new.index) at
-            ≡ live pair (hash % 256)) }
-        ensures no_free_slot { OnErr result (first_place is_free
-            (slots_for_insertion TYPE (G.keeps generation.now)
-            (bucket_of self.old.table.now self.old.is_old self.old.index)) ≡ None) }
+        ensures answer { AnswersPlacing TYPE (G.keeps generation.now) pair (hash % 256)
+            (bucket_in self.old) result (bucket_in self.new) }
     {
         let is_old = self.is_old;
         let index = self.index;
@@ -307,22 +244,13 @@ impl<'a, K: Eq + Drop, V: Drop, H: KeyHash<K>, L: LruList, const TYPE: u8> Locke
     pub fn remove_entry(&mut self, at: &mut EntryPtr<K, V, TYPE>) -> (K, V)
         requires not_index { TYPE ≢ INDEX }
         requires live_slot { IsTrue (is_live
-            (slot_in (bucket_of self.old.table.now self.old.is_old self.old.index) at.old)) }
-        ensures same_table { self.new.table.ghost_name ≡ self.old.table.ghost_name }
-        ensures same_side { self.new.is_old ≡ self.old.is_old }
-        ensures same_index { self.new.index ≡ self.old.index }
-        ensures pair { live_pair
-            (slot_in (bucket_of self.old.table.now self.old.is_old self.old.index) at.old)
-            ≡ Some result }
+            (slot_in (bucket_in self.old) at.old)) }
+        ensures changed { Changes self.old self.new (λ bucket. slots_without bucket at.old) }
         ensures map { TakesPair (state_of TYPE self.old.table.now) result
             (state_of TYPE self.new.table.now) }
-        ensures bag { KeepsOpenTickets self.old.table.now.arrays.tickets self.new.table.now.arrays.tickets }
-        ensures table { self.new.table.now
-            ≡ with_bucket self.old.table.now self.old.is_old self.old.index
-            (slots_without (bucket_of self.old.table.now self.old.is_old self.old.index) at.old) }
-        ensures pairs_ahead { pairs_ahead
-            (bucket_of self.new.table.now self.new.is_old self.new.index) at.new
-            ≡ pairs_ahead (bucket_of self.old.table.now self.old.is_old self.old.index) at.old }
+        ensures pair { live_pair (slot_in (bucket_in self.old) at.old) ≡ Some result }
+        ensures pairs_ahead { pairs_ahead (bucket_in self.new) at.new
+            ≡ pairs_ahead (bucket_in self.old) at.old }
     {
         let is_old = self.is_old;
         let index = self.index;

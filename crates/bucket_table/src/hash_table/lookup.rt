@@ -68,7 +68,7 @@ impl<K: Eq + Drop, V: Drop, H: KeyHash<K>, L: LruList + Drop, const TYPE: u8> Ha
             × IsThere K.eq key.now (pairs_of self.new.arrays) (own.now, value.now)
             × F.post reader own value answer) }
         ensures absent { IfNone result (IsAbsent K.eq key.now (pairs_of self.new.arrays)) }
-        ensures prepared { IsPrepared TYPE self.old self.new }
+        ensures prepared { IsPrepared TYPE (H.hash_of self.old.hasher key.now) self.old self.new }
     {
         let hash = self.hasher.hash_one(key);
         let _ = self.fetch_home(hash);

@@ -8,7 +8,6 @@
 ghost use Rattle.std.specs.Borrow.{sem};
 ghost use Rattle.bucket_table.specs.Map.MapState.{KeepsPairs, LowersMinimum, RaisesMinimum, state_of};
 ghost use Rattle.bucket_table.specs.Resize.Resizing.{Releases, Reserves, TriesResize};
-ghost use Rattle.bucket_table.specs.Views.Keeping.{KeepsOpenTickets};
 
 use crate::hash_table::HashTable;
 use crate::key_hash::KeyHash;
@@ -63,7 +62,6 @@ impl<K: Eq + Drop, V: Drop, H: KeyHash<K>, L: LruList + Drop, const TYPE: u8> Ha
     pub fn try_resize(&mut self) -> Result<bool, AllocError>
         ensures plan { TriesResize self.old.arrays result self.new.arrays }
         ensures map { KeepsPairs (state_of TYPE self.old) (state_of TYPE self.new) }
-        ensures bag { KeepsOpenTickets self.old.arrays.tickets self.new.arrays.tickets }
     {
         self.arrays.try_resize()
     }
@@ -79,7 +77,6 @@ impl<K: Eq + Drop, V: Drop, H: KeyHash<K>, L: LruList + Drop, const TYPE: u8> Ha
     pub fn reserve_capacity(&mut self, additional: usize) -> usize
         ensures arrays { Reserves additional self.old.arrays result self.new.arrays }
         ensures map { RaisesMinimum additional (state_of TYPE self.old) result (state_of TYPE self.new) }
-        ensures bag { KeepsOpenTickets self.old.arrays.tickets self.new.arrays.tickets }
     {
         self.arrays.reserve_capacity(additional)
     }
@@ -94,7 +91,6 @@ impl<K: Eq + Drop, V: Drop, H: KeyHash<K>, L: LruList + Drop, const TYPE: u8> Ha
     pub fn release_capacity(&mut self, released: usize) -> usize
         ensures arrays { Releases released self.old.arrays result self.new.arrays }
         ensures map { LowersMinimum released (state_of TYPE self.old) result (state_of TYPE self.new) }
-        ensures bag { KeepsOpenTickets self.old.arrays.tickets self.new.arrays.tickets }
     {
         self.arrays.release_capacity(released)
     }

@@ -1,10 +1,10 @@
 //! Taking out of a table what a closure refuses, and changing the values of what it keeps.
 ghost use Rattle.std.specs.Prelude.{◌≡◌, ◌<◌, length};
 ghost use Rattle.bucket_slots.specs.Marking.{MarksBy};
-ghost use Rattle.bucket_table.specs.Views.ArraysView.{killed_flags, marks_of, pairs_of};
+ghost use Rattle.bucket_table.specs.Views.ArraysView.{marks_of, pairs_of};
 ghost use Rattle.bucket_table.specs.Views.Settings.{KeepsSettings};
 ghost use Rattle.bucket_table.specs.Views.Sides.{buckets_on, with_buckets};
-ghost use Rattle.bucket_table.specs.Walking.Retains.{RetainsAmong, RetainsEach, RetainsIn, gone_len};
+ghost use Rattle.bucket_table.specs.Walking.Retains.{AreLeftOf, RetainsAmong, RetainsEach, RetainsIn, gone_len};
 
 use crate::hash_table::HashTable;
 use crate::key_hash::KeyHash;
@@ -40,12 +40,13 @@ impl<K: Eq + Drop, V: Drop, H: KeyHash<K>, L: LruList + Drop, const TYPE: u8> Ha
         ensures marks { MarksBy (G.epoch_of generation.now) (marks_of self.old.arrays)
             (marks_of self.new.arrays) }
 
-        // Both arrays stand as they stood, and the rehash goes on from where it was.
+        // Both arrays stand as they stood but for pairs, and the rehash goes on from where it was.
         ensures settings { KeepsSettings self.old self.new }
         ensures tickets { self.new.arrays.tickets ≡ self.old.arrays.tickets }
-        ensures current { killed_flags self.new.arrays.current
-            ≡ killed_flags self.old.arrays.current }
-        ensures linked { killed_flags self.new.arrays.linked ≡ killed_flags self.old.arrays.linked }
+        ensures current { AreLeftOf TYPE (G.epoch_of generation.now) self.old.arrays.current
+            self.new.arrays.current }
+        ensures linked { AreLeftOf TYPE (G.epoch_of generation.now) self.old.arrays.linked
+            self.new.arrays.linked }
     {
         let current = self.retain_on(false, keep, generation);
         let linked = self.retain_on(true, keep, generation);
@@ -65,6 +66,8 @@ impl<K: Eq + Drop, V: Drop, H: KeyHash<K>, L: LruList + Drop, const TYPE: u8> Ha
             (λ state own before answer after last. F.step state own before answer after last)
             (G.epoch_of generation.now) keep.old (buckets_on self.old.arrays is_old)
             (buckets_on self.new.arrays is_old) result keep.new }
+        ensures left { AreLeftOf TYPE (G.epoch_of generation.now)
+            (buckets_on self.old.arrays is_old) (buckets_on self.new.arrays is_old) }
         ensures hasher { self.new.hasher ≡ self.old.hasher }
         ensures others { self.new.arrays
             ≡ with_buckets self.old.arrays is_old (buckets_on self.new.arrays is_old) }
@@ -94,6 +97,8 @@ impl<K: Eq + Drop, V: Drop, H: KeyHash<K>, L: LruList + Drop, const TYPE: u8> Ha
             (λ state own before answer after last. F.step state own before answer after last)
             (G.epoch_of generation.now) keep.old self.old.arrays is_old index result self.new.arrays
             keep.new }
+        ensures left { AreLeftOf TYPE (G.epoch_of generation.now)
+            (buckets_on self.old.arrays is_old) (buckets_on self.new.arrays is_old) }
         ensures hasher { self.new.hasher ≡ self.old.hasher }
     {
         self.arrays.room_of(is_old);

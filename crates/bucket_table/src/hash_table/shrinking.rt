@@ -9,10 +9,8 @@ ghost use Rattle.bucket_slots.specs.BucketView.{slot_in};
 ghost use Rattle.bucket_slots.specs.Marking.{slots_marked};
 ghost use Rattle.bucket_slots.specs.Removing.{place_after, slots_without};
 ghost use Rattle.bucket_slots.specs.Slots.{is_live, live_pair};
-ghost use Rattle.bucket_table.specs.Resize.Asking.{AsksShrinking, RemovesAndShrinks, ResizesIf};
-ghost use Rattle.bucket_table.specs.Views.Keeping.{KeepsOpenTickets};
+ghost use Rattle.bucket_table.specs.Resize.Asking.{AsksShrinking, ResizesIf};
 ghost use Rattle.bucket_table.specs.Map.MapState.{KeepsPairs, TakesPair, state_of};
-ghost use Rattle.bucket_table.specs.Views.Sides.{bucket_of};
 
 use crate::hash_table::{HashTable, LockedBucket};
 use crate::key_hash::KeyHash;
@@ -27,6 +25,8 @@ impl<'a, K: Eq + Drop, V: Drop, H: KeyHash<K>, L: LruList + Drop, const TYPE: u8
     L,
     TYPE,
 > {
+    ghost use Rattle.bucket_table.specs.Views.LockedChanges.{ChangesThenShrinks, bucket_in};
+
     /// Shrinks the table where few slots near the bucket are live, and gives the table back: a
     /// resize ends what makes the bucket the table's.
     ///
@@ -35,7 +35,6 @@ impl<'a, K: Eq + Drop, V: Drop, H: KeyHash<K>, L: LruList + Drop, const TYPE: u8
     pub fn try_shrink(self) -> &'a mut HashTable<K, V, H, L, TYPE>
         ensures same_table { result.ghost_name ≡ self.entry.table.ghost_name }
         ensures map { KeepsPairs (state_of TYPE self.entry.table.now) (state_of TYPE result.now) }
-        ensures bag { KeepsOpenTickets self.entry.table.now.arrays.tickets result.now.arrays.tickets }
         ensures asked { ResizesIf (AsksShrinking self.entry.table.now.arrays self.entry.index)
             self.entry.table.now.arrays result.now.arrays }
     {
@@ -59,21 +58,13 @@ impl<'a, K: Eq + Drop, V: Drop, H: KeyHash<K>, L: LruList + Drop, const TYPE: u8
     ) -> ((K, V), &'a mut HashTable<K, V, H, L, TYPE>)
         requires not_index { TYPE ≢ INDEX }
         requires live_slot { IsTrue
-            (is_live (slot_in (bucket_of self.table.now self.is_old self.index) at.old)) }
-        ensures same_table { result.1.ghost_name ≡ self.entry.table.ghost_name }
-        ensures pair { live_pair
-            (slot_in (bucket_of self.entry.table.now self.entry.is_old self.entry.index) at.old)
-            ≡ Some result.0 }
+            (is_live (slot_in (bucket_in self) at.old)) }
+        ensures changed { ChangesThenShrinks self.entry result.1
+            (λ bucket. slots_without bucket at.old) }
         ensures map { TakesPair (state_of TYPE self.entry.table.now) result.0
             (state_of TYPE result.1.now) }
-        ensures bag { KeepsOpenTickets self.entry.table.now.arrays.tickets result.1.now.arrays.tickets }
-        ensures arrays { RemovesAndShrinks self.entry.table.now.arrays
-            self.entry.is_old self.entry.index
-            (slots_without
-            (bucket_of self.entry.table.now self.entry.is_old self.entry.index) at.old)
-            result.1.now.arrays }
-        ensures place { at.new ≡ place_after
-            (bucket_of self.entry.table.now self.entry.is_old self.entry.index) at.old }
+        ensures pair { live_pair (slot_in (bucket_in self.entry) at.old) ≡ Some result.0 }
+        ensures place { at.new ≡ place_after (bucket_in self.entry) at.old }
     {
         let LockedBucket {
             table,
@@ -95,20 +86,12 @@ impl<'a, K: Eq + Drop, V: Drop, H: KeyHash<K>, L: LruList + Drop, const TYPE: u8
     ) -> &'a mut HashTable<K, V, H, L, TYPE>
         requires index { TYPE ≡ INDEX }
         requires live_slot { IsTrue
-            (is_live (slot_in (bucket_of self.table.now self.is_old self.index) at.old)) }
-        ensures same_table { result.ghost_name ≡ self.entry.table.ghost_name }
+            (is_live (slot_in (bucket_in self) at.old)) }
+        ensures changed { ChangesThenShrinks self.entry result
+            (λ bucket. slots_marked bucket at.old (G.epoch_of generation.now)) }
         ensures map { (pair : K × V)
-            × (live_pair
-            (slot_in (bucket_of self.entry.table.now self.entry.is_old self.entry.index) at.old)
-            ≡ Some pair)
+            × (live_pair (slot_in (bucket_in self.entry) at.old) ≡ Some pair)
             × TakesPair (state_of TYPE self.entry.table.now) pair (state_of TYPE result.now) }
-        ensures bag { KeepsOpenTickets self.entry.table.now.arrays.tickets result.now.arrays.tickets }
-        ensures arrays { RemovesAndShrinks self.entry.table.now.arrays
-            self.entry.is_old self.entry.index
-            (slots_marked
-            (bucket_of self.entry.table.now self.entry.is_old self.entry.index) at.old
-            (G.epoch_of generation.now))
-            result.now.arrays }
         ensures pointer { at.new ≡ at.old }
     {
         let LockedBucket {

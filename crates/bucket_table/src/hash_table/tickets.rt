@@ -8,6 +8,7 @@
 //! `src/hash_table.rs`.
 ghost use Rattle.std.specs.Prelude.{◌↔◌, ◌≡◌, ◌+◌, ◌<◌, false, Err, None, IsTrue, OnOk, OnErr, IsOk, length};
 ghost use Rattle.bucket_slots.specs.ArrayView.{bucket_at};
+ghost use Rattle.bucket_slots.specs.BucketView.{listed_pairs};
 ghost use Rattle.bucket_table.specs.Rehash.Carrying.{CarriesPairs};
 ghost use Rattle.bucket_table.specs.Views.ArraysView.{marks_of};
 ghost use Rattle.bucket_table.specs.Rehash.Rehashing.{EndsRehash, IsUnmoved, RelocatesAt};
@@ -79,7 +80,7 @@ impl<K: Eq + Drop, V: Drop, H: KeyHash<K>, L: LruList + Drop, const TYPE: u8> Ha
         ensures map { KeepsPairs (state_of TYPE self.old) (state_of TYPE self.new) }
         ensures done { OnOk result (RelocatesAt index self.old.arrays self.new.arrays) }
         ensures recency { OnOk result
-            (CarriesPairs K.eq (bucket_at self.old.arrays.linked index)
+            (CarriesPairs K.eq (listed_pairs (bucket_at self.old.arrays.linked index))
             self.old.arrays.current self.new.arrays.current) }
         ensures refused { OnErr result (IsUnmoved self.old.arrays self.new.arrays) }
         ensures succeeds { NeedsNoMemory index (index + 1) self.old.arrays → IsOk result }

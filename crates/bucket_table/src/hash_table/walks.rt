@@ -1,17 +1,17 @@
 //! Walks over a table's current buckets.
-ghost use Rattle.std.specs.Prelude.{◌≡◌, ◌≢◌, ◌<◌, ◌+◌, false, length, IsOk, OnOk};
+ghost use Rattle.std.specs.Prelude.{◌≡◌, ◌≢◌, ◌<◌, ◌+◌, false, length, IsOk, OnErr, OnOk};
 ghost use Rattle.std.specs.Int.{IsPowerOfTwo};
 ghost use Rattle.bucket_slots.specs.ArrayRoom.{BucketFits};
 ghost use Rattle.bucket_slots.specs.BucketView.{BucketView};
 ghost use Rattle.bucket_slots.specs.Sizing.{IsLength};
-ghost use Rattle.bucket_table.specs.Views.ArraysView.{AreSourcesKilled};
+ghost use Rattle.bucket_table.specs.Views.ArraysView.{AreSourcesKilled, IsSource};
 ghost use Rattle.bucket_table.specs.Resize.Asking.{AsksShrinking, ResizesIf};
-ghost use Rattle.bucket_table.specs.Views.Keeping.{Keeps, KeepsArrays, KeepsOpenTickets};
+ghost use Rattle.bucket_table.specs.Views.Keeping.{Keeps, KeepsArrays};
 ghost use Rattle.bucket_table.specs.Views.Locking.{IsLocked};
 ghost use Rattle.bucket_table.specs.Map.MapState.{KeepsPairs, state_of};
 ghost use Rattle.bucket_table.specs.Views.Settings.{KeepsSettings};
 ghost use Rattle.bucket_table.specs.Views.Sides.{arrays_with, bucket_on};
-ghost use Rattle.bucket_table.specs.Rehash.Units.{WorksUnits};
+ghost use Rattle.bucket_table.specs.Rehash.Units.{WantsMemory, WorksUnits};
 ghost use Rattle.bucket_table.specs.Walking.Visits.{reading};
 ghost use Rattle.bucket_table.specs.Walking.Walks.{BeginsAt, KeepsBuckets, WalksBy};
 
@@ -39,8 +39,8 @@ impl<K: Eq + Drop, V: Drop, H: KeyHash<K>, L: LruList + Drop, const TYPE: u8> Ha
     ///
     /// # Errors
     ///
-    /// Want of memory beside an old array: the walk ends there, the earlier visits stand, and
-    /// nothing is resized.
+    /// Want of memory beside an old array, and then a source of the next bucket isn't killed: the
+    /// walk ends there, the earlier visits stand, and nothing is resized.
     ///
     /// O(buckets from `start` on, and pairs that move), and the visitor's calls. scc:
     /// `HashTable::for_each_writer_sync`.
@@ -84,7 +84,8 @@ impl<K: Eq + Drop, V: Drop, H: KeyHash<K>, L: LruList + Drop, const TYPE: u8> Ha
     ///
     /// # Errors
     ///
-    /// Want of memory beside an old array: the walk ends there, and the earlier visits stand.
+    /// Want of memory beside an old array, and then a source of the next bucket isn't killed: the
+    /// walk ends there, and the earlier visits stand.
     ///
     /// O(buckets, and pairs that move), and the reader's calls. scc:
     /// `HashTable::for_each_reader_sync`.
@@ -99,7 +100,6 @@ impl<K: Eq + Drop, V: Drop, H: KeyHash<K>, L: LruList + Drop, const TYPE: u8> Ha
         ensures map { KeepsPairs (state_of TYPE self.old) (state_of TYPE self.new) }
         ensures hasher { self.new.hasher ≡ self.old.hasher }
         ensures kept { KeepsArrays self.old.arrays self.new.arrays }
-        ensures bag { KeepsOpenTickets self.old.arrays.tickets self.new.arrays.tickets }
         ensures alone { length self.old.arrays.linked ≡ 0 → self.new ≡ self.old }
         ensures succeeds { length self.old.arrays.linked ≡ 0 → IsOk result }
     {
@@ -139,6 +139,8 @@ impl<K: Eq + Drop, V: Drop, H: KeyHash<K>, L: LruList + Drop, const TYPE: u8> Ha
         ensures hasher { self.new.hasher ≡ self.old.hasher }
         ensures kept { KeepsArrays self.old.arrays self.new.arrays }
         ensures ready { OnOk result (AreSourcesKilled self.new.arrays index) }
+        ensures wanted { OnErr result
+            (WantsMemory (IsSource self.new.arrays index) self.old.arrays self.new.arrays) }
         ensures units { WorksUnits 1 self.old.arrays self.new.arrays }
         ensures alone { length self.old.arrays.linked ≡ 0 → self.new.arrays ≡ self.old.arrays }
         ensures succeeds { length self.old.arrays.linked ≡ 0 → IsOk result }
@@ -170,7 +172,6 @@ impl<K: Eq + Drop, V: Drop, H: KeyHash<K>, L: LruList + Drop, const TYPE: u8> Ha
     fn shrink(&mut self)
         ensures hasher { self.new.hasher ≡ self.old.hasher }
         ensures kept { Keeps self.old.arrays self.new.arrays }
-        ensures bag { KeepsOpenTickets self.old.arrays.tickets self.new.arrays.tickets }
         ensures resized { ResizesIf (AsksShrinking self.old.arrays 0) self.old.arrays
             self.new.arrays }
     {

@@ -6,16 +6,16 @@
 //!
 //! Ports `writer_sync`, `try_reserve_bucket`, `optional_writer_sync` and `try_optional_writer` of
 //! scc's `src/hash_table.rs`.
-ghost use Rattle.std.specs.Prelude.{◌≡◌, ◌<◌, [], false, Ok, Err, IfOk, IfSome, IfNone, IsOk, OnErr, length};
+ghost use Rattle.std.specs.Prelude.{◌≡◌, ◌<◌, [], false, Err, IfErr, IfOk, IfSome, IfNone, IsOk, OnOk, length};
 ghost use Rattle.std.specs.Borrow.{RestsIfErr, RestsIfNone, sem};
 ghost use Rattle.bucket_slots.specs.Homes.{IsHome};
 ghost use Rattle.bucket_table.specs.Views.ArraysView.{pairs_of};
-ghost use Rattle.bucket_table.specs.Map.Finding.{FindsBucket};
+ghost use Rattle.bucket_table.specs.Map.Finding.{Finds, FindsBucket};
 ghost use Rattle.bucket_table.specs.Map.Free.{MayNotLockAtOnce, MayLockAtOnce};
-ghost use Rattle.bucket_table.specs.Map.Refusing.{IsGivenFor, IsRefused};
+ghost use Rattle.bucket_table.specs.Map.Refusing.{IsRefused};
 ghost use Rattle.bucket_table.specs.Views.TableRow.{table_row};
 ghost use Rattle.bucket_table.specs.Views.Locking.{IsLocked};
-ghost use Rattle.bucket_table.specs.Map.Preparing.{AnswersFor, IsPrepared, IsReady, Prepares};
+ghost use Rattle.bucket_table.specs.Map.Preparing.{HomeWantsMemory, IsMissing, IsPrepared, IsReady};
 ghost use Rattle.bucket_table.specs.Views.Sides.{buckets_on};
 
 use crate::hash_table::{HashTable, LockedBucket, Missing};
@@ -30,22 +30,23 @@ impl<K: Eq + Drop, V: Drop, H: KeyHash<K>, L: LruList + Drop, const TYPE: u8> Ha
     L,
     TYPE,
 > {
-    /// Works one unit of the old array, and moves the sources of the home of a hash. Returns
-    /// whether there is a current array.
+    /// Works one unit of the old array, and moves the sources of the home of a hash.
     ///
     /// # Errors
     ///
-    /// Want of memory beside an old array: a source of the home isn't killed.
+    /// There is no array, and so no pair; or want of memory beside an old array: a source of the
+    /// home isn't killed.
     ///
     /// O(slots of a unit, of the sources and of their targets). scc:
     /// `HashTable::dedup_bucket_sync`, `incremental_rehash_sync`.
     #[inline(always)]
-    pub fn fetch_home(&mut self, hash: u64) -> Result<bool, AllocError>
-        ensures prepared { IsPrepared TYPE self.old self.new }
-        ensures ready { Prepares self.new.arrays hash result }
-        ensures succeeds { length self.old.arrays.linked ≡ 0 → IsOk result }
-        ensures answer { AnswersFor result self.old.arrays }
-        ensures empty { result ≡ Ok false → pairs_of self.new.arrays ≡ [] }
+    pub fn fetch_home(&mut self, hash: u64) -> Result<(), Missing>
+        ensures prepared { IsPrepared TYPE hash self.old self.new }
+        ensures ready { OnOk result (IsReady self.new.arrays hash) }
+        ensures missing { IfErr result (λ missing. IsMissing missing self.old.arrays) }
+        ensures wanted { result ≡ Err Missing.Memory
+            → HomeWantsMemory hash self.old.arrays self.new.arrays }
+        ensures empty { result ≡ Err Missing.Nothing → pairs_of self.new.arrays ≡ [] }
     {
         let is_ready = self.arrays.fetch_home(&self.hasher, hash);
         self.arrays.sound();
@@ -67,10 +68,7 @@ impl<K: Eq + Drop, V: Drop, H: KeyHash<K>, L: LruList + Drop, const TYPE: u8> Ha
     /// O(slots of a unit, of the sources and of their targets; buckets that a resize makes). Own.
     #[inline(always)]
     pub fn find(&mut self, hash: u64) -> Result<(bool, usize), AllocError>
-        ensures found { IfOk result (λ found.
-            FindsBucket TYPE hash self.old found.0 found.1 self.new) }
-        ensures locked { IfOk result (λ found. IsLocked self.new.arrays found.0 found.1) }
-        ensures refused { OnErr result (IsRefused TYPE self.old self.new) }
+        ensures { Finds TYPE hash self.old result self.new }
     {
         self.arrays.find(&self.hasher, hash)
     }
@@ -129,7 +127,7 @@ impl<K: Eq + Drop, V: Drop, H: KeyHash<K>, L: LruList + Drop, const TYPE: u8> Ha
         ensures* rests { sem 𝓛 (RestsIfErr
             (table_row K.row V.row H.row L.row TYPE.row K.PartialEq H.KeyHash
             (record { KEEPS = L.KEEPS; listed = L.listed; IsTail = L.IsTail }) L.Default)
-            self.entry (λ locked. locked.table.ghost_name) result (IsRefused TYPE self.old)) }
+            self.entry (λ locked. locked.table.ghost_name) result (IsRefused TYPE hash self.old)) }
         ensures same_table { IfOk result (λ locked. locked.table.ghost_name
             ≡ self.entry.ghost_name) }
         ensures found { IfOk result (λ locked.
@@ -158,7 +156,7 @@ impl<K: Eq + Drop, V: Drop, H: KeyHash<K>, L: LruList + Drop, const TYPE: u8> Ha
         ensures* rests { sem 𝓛 (RestsIfErr
             (table_row K.row V.row H.row L.row TYPE.row K.PartialEq H.KeyHash
             (record { KEEPS = L.KEEPS; listed = L.listed; IsTail = L.IsTail }) L.Default)
-            self.entry (λ locked. locked.table.ghost_name) result (IsRefused TYPE self.old)) }
+            self.entry (λ locked. locked.table.ghost_name) result (IsRefused TYPE hash self.old)) }
         ensures same_table { IfOk result (λ locked. locked.table.ghost_name
             ≡ self.entry.ghost_name) }
         ensures found { IfOk result (λ locked.
@@ -185,20 +183,21 @@ impl<K: Eq + Drop, V: Drop, H: KeyHash<K>, L: LruList + Drop, const TYPE: u8> Ha
         ensures* rests { sem 𝓛 (RestsIfErr
             (table_row K.row V.row H.row L.row TYPE.row K.PartialEq H.KeyHash
             (record { KEEPS = L.KEEPS; listed = L.listed; IsTail = L.IsTail }) L.Default)
-            self.entry (λ locked. locked.table.ghost_name) result (IsPrepared TYPE self.old)) }
+            self.entry (λ locked. locked.table.ghost_name) result
+            (λ after. IsPrepared TYPE hash self.old after
+            × (result ≡ Err Missing.Memory → HomeWantsMemory hash self.old.arrays after.arrays))) }
         ensures same_table { IfOk result (λ locked. locked.table.ghost_name
             ≡ self.entry.ghost_name) }
-        ensures prepared { IfOk result (λ locked. IsPrepared TYPE self.old locked.table.now) }
+        ensures prepared { IfOk result (λ locked. IsPrepared TYPE hash self.old locked.table.now) }
         ensures side { IfOk result (λ locked. locked.is_old ≡ false) }
-        ensures answer { IsGivenFor result self.old.arrays }
+        ensures missing { IfErr result (λ missing. IsMissing missing self.old.arrays) }
         ensures home { IfOk result (λ locked.
             IsHome (length (buckets_on locked.table.now.arrays locked.is_old)) hash locked.index) }
         ensures empty { result ≡ Err Missing.Nothing → pairs_of self.old.arrays ≡ [] }
     {
         match self.fetch_home(hash) {
-            Ok(true) => Ok(self.lock_home(hash)),
-            Ok(false) => Err(Missing::Nothing),
-            Err(_) => Err(Missing::Memory),
+            Ok(()) => Ok(self.lock_home(hash)),
+            Err(missing) => Err(missing),
         }
     }
 

@@ -51,7 +51,7 @@ impl<'a, K: Drop, V: Drop, L: LruList, G: Generation, const TYPE: u8> Visit<Buck
     ghost may_visit = { λ _. Unit {0} };
 
     ghost visits = { λ emptier lent flag more left last after.
-        Empties (G.epoch_of emptier.generation.now) emptier.count lent flag more left last
+        Empties TYPE (G.epoch_of emptier.generation.now) emptier.count lent flag more left last
         after.count };
 
     fn visit(&mut self, bucket: &mut Bucket<K, V, L, TYPE>, flag: &mut bool) -> bool {
@@ -88,9 +88,9 @@ pub(super) fn walk<K: Eq + Copy, V: Copy, H: KeyHash<K>, L: LruList + Drop, cons
 }
 
 /// No work: a proof learns that an emptier keeps to what a walk asks of its visitor.
-fn empties_keep<K, V, G: Generation>()
+fn empties_keep<K, V, G: Generation, const TYPE: u8>()
     ensures { KeepsBuckets (λ (emptier : Emptier G) (lent : BucketView K V) flag more left last after.
-        Empties (G.epoch_of emptier.generation.now) emptier.count lent flag more left last
+        Empties TYPE (G.epoch_of emptier.generation.now) emptier.count lent flag more left last
         after.count) }
 {}
 
@@ -113,7 +113,7 @@ pub(super) fn clear<
         return Reply::Cleared(0);
     }
     table.room();
-    empties_keep::<K, V, G>();
+    empties_keep::<K, V, G, TYPE>();
     let mut emptier = Emptier {
         generation,
         count: 0,

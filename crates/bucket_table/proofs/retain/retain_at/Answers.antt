@@ -1,5 +1,6 @@
 use Rattle.bucket_table.proofs.Words.{ap, by-no_new, inl, inr, marks_in, no_new-refl, read_apart, refl, same_Some}
 use Rattle.bucket_table.proofs.Words.{slot_in, sym, ◌∙◌}
+use Rattle.bucket_table.proofs.Walking.Leaving.{left_same, left_taken}
 use Rattle.bucket_table.proofs.retain.retain_at.Goals as goal
 
 pub returns-then-keep-clause-retained : goal.returns-then-keep-clause-retained
@@ -20,3 +21,10 @@ returns-clause-retained g c = λ pair here.
       c.take_at.ensures.taken pair here,
       c.take_at.ensures.pairs_ahead,
     )
+
+pub returns-then-keep-clause-left : goal.returns-then-keep-clause-left
+returns-then-keep-clause-left g c = left_same g.row.TYPE (g.G.Generation.epoch_of c.args.generation.now) c.args.bucket.now
+
+pub returns-clause-left : goal.returns-clause-left
+returns-clause-left g c = left_taken g.row.TYPE (g.G.Generation.epoch_of c.args.generation.now) c.args.bucket.now c.take_at.new.bucket
+    c.args.at.now c.requires.live_slot c.take_at.ensures.slots

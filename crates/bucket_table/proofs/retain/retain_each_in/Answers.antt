@@ -1,4 +1,5 @@
 use Rattle.bucket_table.proofs.Words.{ap, arith, length}
+use Rattle.bucket_table.proofs.Walking.Leaving.{left_both, left_same}
 use Rattle.bucket_table.proofs.Walking.RetainingEach.{all_asked, asks, begins, fewer}
 use Rattle.bucket_table.proofs.retain.retain_each_in.Goals as goal
 
@@ -7,6 +8,7 @@ own-init g c = (
   λ always. always,
   begins _ (g.G.Generation.epoch_of c.args.generation.now) c.args.keep.now c.args.bucket.now
       c.null-at.result c.null-at.ensures,
+  left_same g.row.TYPE (g.G.Generation.epoch_of c.args.generation.now) c.args.bucket.now,
 )
 
 pub own-smaller : goal.own-smaller
@@ -21,6 +23,8 @@ own-preserved g c =
       asks _ (g.G.Generation.epoch_of c.args.generation.now) c.args.keep.now c.own.keep c.retain_slot.new.keep c.args.bucket.now
           c.own.bucket c.retain_slot.new.bucket c.own.at c.find_next_here.new.self c.retain_slot.new.at m
           (c.retain_slot.ensures.retained m.pair m.here) c.retain_slot.ensures.marks c.own.invariant.1,
+      left_both g.row.TYPE (g.G.Generation.epoch_of c.args.generation.now) c.args.bucket.now c.own.bucket c.retain_slot.new.bucket
+          c.own.invariant.2 c.retain_slot.ensures.left,
     )
 
 pub pairs-init : goal.pairs-init
@@ -38,6 +42,8 @@ pairs-preserved g c =
       asks _ (g.G.Generation.epoch_of c.args.generation.now) c.args.keep.now c.pairs.keep c.retain_slot-in-pairs.new.keep c.args.bucket.now
           c.pairs.bucket c.retain_slot-in-pairs.new.bucket c.pairs.at c.find_next.new.self c.retain_slot-in-pairs.new.at m
           (c.retain_slot-in-pairs.ensures.retained m.pair m.here) c.retain_slot-in-pairs.ensures.marks c.pairs.invariant.1,
+      left_both g.row.TYPE (g.G.Generation.epoch_of c.args.generation.now) c.args.bucket.now c.pairs.bucket
+          c.retain_slot-in-pairs.new.bucket c.pairs.invariant.2 c.retain_slot-in-pairs.ensures.left,
     )
 
 pub overflow_sub-result : goal.overflow_sub-result

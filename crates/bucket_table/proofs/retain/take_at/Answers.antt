@@ -1,10 +1,18 @@
 use Rattle.bucket_table.proofs.Words.{IsPermutation, ap, by-no_new, entries_in, marks_in, subst, sym, ◌∙◌, ◌∷◌}
+use Rattle.std.proofs.lemmas.Bool.{ne_eqb}
 use Rattle.bucket_slots.proofs.CallerLemmas.{entries_in-slots_without}
 use Rattle.bucket_slots.proofs.MarkCallerLemmas.{by-one, entries_in-slots_marked, marks_in-slots_marked, marks_in-slots_without}
 use Rattle.bucket_slots.proofs.SlotFronts.{pairs_in-slots_marked, pairs_in-slots_without}
 use Rattle.bucket_slots.proofs.RoomCallerLemmas.{killed-slots_marked, killed-slots_without}
+use Rattle.bucket_slots.specs.declared.bucket.TheConstants.{INDEX}
 use Rattle.bucket_table.proofs.Map.LockedSteps.{pair_there}
 use Rattle.bucket_table.proofs.retain.take_at.Goals as goal
+
+pub returns-then-this-eq-INDEX-clause-slots : goal.returns-then-this-eq-INDEX-clause-slots
+returns-then-this-eq-INDEX-clause-slots g c = rw c.if-this-eq-INDEX.true c.mark_removed.ensures.slots
+
+pub returns-clause-slots : goal.returns-clause-slots
+returns-clause-slots g c = rw (ne_eqb g.row.TYPE INDEX c.if-this-eq-INDEX.false) c.remove.ensures.slots
 
 pub returns-then-this-eq-INDEX-clause-alive : goal.returns-then-this-eq-INDEX-clause-alive
 returns-then-this-eq-INDEX-clause-alive g c = ap (λ b. b.killed) c.mark_removed.ensures.slots ∙

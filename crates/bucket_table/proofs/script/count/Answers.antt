@@ -1,5 +1,6 @@
 use Rattle.bucket_table.specs.Map.MapState.{state_of}
 use Rattle.bucket_table.proofs.Scripts.CallSteps.{counted_before}
+use Rattle.bucket_table.proofs.Map.OpenTickets.{bag_counted}
 use Rattle.bucket_table.proofs.script.count.Goals as goal
 
 pub returns-clause-step : goal.returns-clause-step
@@ -10,4 +11,4 @@ returns-clause-step g c = (
 )
 
 pub returns-clause-tickets : goal.returns-clause-tickets
-returns-clause-tickets g c = c.num_entries.ensures.bag
+returns-clause-tickets g c = bag_counted _ _ c.num_entries.ensures.arrays

@@ -5,10 +5,10 @@ ghost use Rattle.std.specs.Prelude.{◌≡◌, ◌%◌, ℕ, Bool, IsOk, Option,
 ghost use Rattle.bucket_slots.specs.BucketView.{BucketView};
 ghost use Rattle.bucket_slots.specs.Homes.{IsHome};
 ghost use Rattle.bucket_table.specs.Map.ByKey.{Evicts, EvictsAt, PreparesThen};
+ghost use Rattle.bucket_table.specs.Map.Finding.{FindsThen};
 ghost use Rattle.bucket_table.specs.Map.MapState.{state_of};
-ghost use Rattle.bucket_table.specs.Map.Putting.{Goes, Puts, PutsIn, PutsThen};
+ghost use Rattle.bucket_table.specs.Map.Putting.{Goes, Puts, PutsAt, PutsIn};
 ghost use Rattle.bucket_table.specs.Map.Putting.{slots_left, slots_put};
-ghost use Rattle.bucket_table.specs.Views.Keeping.{KeepsOpenTickets};
 ghost use Rattle.bucket_table.specs.Views.Locking.{IsLocked};
 ghost use Rattle.bucket_table.specs.Views.Sides.{bucket_of, buckets_on, with_bucket};
 
@@ -33,14 +33,14 @@ impl<K: Eq + Drop, V: Drop, H: KeyHash<K>, L: LruList + Drop, const TYPE: u8> Ha
     ///
     /// # Errors
     ///
-    /// Want of memory beside an old array: nothing is evicted.
+    /// Want of memory beside an old array, and then a source of the home isn't killed: nothing is
+    /// evicted.
     ///
     /// O(slots of a unit, of the sources and of their targets). Own.
     pub fn evict(&mut self, key: &K) -> Result<Option<(K, V)>, AllocError>
         requires cache { TYPE ≡ CACHE }
         ensures map { Evicts (state_of TYPE self.old) result (state_of TYPE self.new) }
-        ensures bag { KeepsOpenTickets self.old.arrays.tickets self.new.arrays.tickets }
-        ensures arrays { PreparesThen TYPE self.old (λ between.
+        ensures arrays { PreparesThen TYPE (H.hash_of self.old.hasher key.now) self.old (λ between.
             EvictsAt (H.hash_of self.old.hasher key.now) between result self.new) }
         ensures succeeds { length self.old.arrays.linked ≡ 0 → IsOk result }
     {
@@ -67,9 +67,9 @@ impl<K: Eq + Drop, V: Drop, H: KeyHash<K>, L: LruList + Drop, const TYPE: u8> Ha
     pub fn put(&mut self, key: K, value: V) -> Result<Option<(K, V)>, NotInserted<K, V>>
         requires cache { TYPE ≡ CACHE }
         ensures map { Puts K.eq key value (state_of TYPE self.old) result (state_of TYPE self.new) }
-        ensures bag { KeepsOpenTickets self.old.arrays.tickets self.new.arrays.tickets }
-        ensures arrays { PutsThen TYPE (H.hash_of self.old.hasher key) L.KEEPS (key, value) self.old
-            result self.new }
+        ensures arrays { FindsThen TYPE (H.hash_of self.old.hasher key) self.old (λ answer between.
+            PutsAt L.KEEPS (key, value) (H.hash_of self.old.hasher key % 256) between result answer
+            self.new) }
     {
         let hash = self.hash(&key);
         let Ok((is_old, index)) = self.find(hash) else {
@@ -92,7 +92,6 @@ impl<K: Eq + Drop, V: Drop, H: KeyHash<K>, L: LruList + Drop, const TYPE: u8> Ha
         requires own_hash { hash ≡ H.hash_of self.old.hasher key }
         requires home { IsHome (length (buckets_on self.old.arrays is_old)) hash index }
         ensures map { Puts K.eq key value (state_of TYPE self.old) result (state_of TYPE self.new) }
-        ensures bag { KeepsOpenTickets self.old.arrays.tickets self.new.arrays.tickets }
         ensures bucket { (left : BucketView K V)
             × PutsIn K.eq L.KEEPS key value (hash % 256) (bucket_of self.old is_old index) result
             left

@@ -4,13 +4,12 @@
 ghost use Rattle.std.specs.Prelude.{◌≡◌, ◌%◌, ◌<◌, IsTrue, Some, is_some, length};
 ghost use Rattle.std.specs.Borrow.{Bor, MutBor};
 ghost use Rattle.bucket_slots.specs.BucketView.{BucketView, bucket_with_value, slot_in};
-ghost use Rattle.bucket_slots.specs.Clearing.{slots_after_insertion};
 ghost use Rattle.bucket_slots.specs.Homes.{IsHome};
 ghost use Rattle.bucket_slots.specs.Slots.{is_live, live_pair};
 ghost use Rattle.bucket_table.specs.Map.ByKey.{PreparesThen, Rewrites, WritesAt};
-ghost use Rattle.bucket_table.specs.Map.ByKey.{Upserts, UpsertsIn, UpsertsThen};
+ghost use Rattle.bucket_table.specs.Map.ByKey.{Upserts, UpsertsAt, UpsertsIn};
+ghost use Rattle.bucket_table.specs.Map.Finding.{FindsThen};
 ghost use Rattle.bucket_table.specs.Map.MapState.{ChangesValue, state_of};
-ghost use Rattle.bucket_table.specs.Views.Keeping.{KeepsOpenTickets};
 ghost use Rattle.bucket_table.specs.Views.Locking.{IsLocked};
 ghost use Rattle.bucket_table.specs.Views.Sides.{bucket_of, buckets_on, with_bucket};
 
@@ -41,9 +40,8 @@ impl<K: Eq + Drop, V: Drop, H: KeyHash<K>, L: LruList + Drop, const TYPE: u8> Ha
         ensures map { Rewrites K.eq key.now
             (λ own before answer after. F.post change own before answer after)
             (state_of TYPE self.old) result (state_of TYPE self.new) }
-        ensures bag { KeepsOpenTickets self.old.arrays.tickets self.new.arrays.tickets }
-        ensures arrays { PreparesThen TYPE self.old (λ between.
-            WritesAt (is_some result) between self.new) }
+        ensures arrays { PreparesThen TYPE (H.hash_of self.old.hasher key.now) self.old (λ between.
+            WritesAt K.eq key.now (is_some result) between self.new) }
     {
         match self.fetch_spot(key) {
             Some(spot) => Some(self.update_at(&spot, change)),
@@ -59,7 +57,8 @@ impl<K: Eq + Drop, V: Drop, H: KeyHash<K>, L: LruList + Drop, const TYPE: u8> Ha
     ///
     /// # Errors
     ///
-    /// Want of memory, and the map has no such key: the pair comes back.
+    /// Want of memory, and the map has no such key: the pair comes back. A free slot in the bucket
+    /// that is found rules it out.
     ///
     /// O(slots of a unit, of the sources and of their targets; buckets that a resize makes). Own.
     #[inline(always)]
@@ -71,10 +70,9 @@ impl<K: Eq + Drop, V: Drop, H: KeyHash<K>, L: LruList + Drop, const TYPE: u8> Ha
     ) -> Result<Option<V>, (K, V)>
         ensures map { Upserts K.eq key value (state_of TYPE self.old) result
             (state_of TYPE self.new) }
-        ensures bag { KeepsOpenTickets self.old.arrays.tickets self.new.arrays.tickets }
-        ensures arrays { UpsertsThen TYPE (H.hash_of self.old.hasher key)
-            (λ bucket. slots_after_insertion TYPE (G.keeps generation.now) bucket (key, value)
-            (H.hash_of self.old.hasher key % 256)) value self.old result self.new }
+        ensures arrays { FindsThen TYPE (H.hash_of self.old.hasher key) self.old (λ answer between.
+            UpsertsAt K.eq TYPE (G.keeps generation.now) key value
+            (H.hash_of self.old.hasher key % 256) between result answer self.new) }
     {
         let hash = self.hash(&key);
         match self.find(hash) {
@@ -102,11 +100,9 @@ impl<K: Eq + Drop, V: Drop, H: KeyHash<K>, L: LruList + Drop, const TYPE: u8> Ha
         requires home { IsHome (length (buckets_on self.old.arrays is_old)) hash index }
         ensures map { Upserts K.eq key value (state_of TYPE self.old) result
             (state_of TYPE self.new) }
-        ensures bag { KeepsOpenTickets self.old.arrays.tickets self.new.arrays.tickets }
         ensures bucket { (left : BucketView K V)
-            × UpsertsIn K.eq key value (hash % 256)
-            (λ bucket. slots_after_insertion TYPE (G.keeps generation.now) bucket (key, value)
-            (hash % 256)) (bucket_of self.old is_old index) result left
+            × UpsertsIn K.eq key value (hash % 256) TYPE (G.keeps generation.now)
+            (bucket_of self.old is_old index) result left
             × (self.new ≡ with_bucket self.old is_old index left) }
     {
         self.arrays.room_of(is_old);
@@ -127,7 +123,6 @@ impl<K: Eq + Drop, V: Drop, H: KeyHash<K>, L: LruList + Drop, const TYPE: u8> Ha
             ≡ Some (own.now, before.now))
             × ChangesValue (state_of TYPE self.old) (own.now, before.now) after.now
             (state_of TYPE self.new) }
-        ensures bag { KeepsOpenTickets self.old.arrays.tickets self.new.arrays.tickets }
         ensures table { (value : V) × (self.new ≡ with_bucket self.old spot.now.is_old
             spot.now.index (bucket_with_value (bucket_of self.old spot.now.is_old spot.now.index)
             spot.now.at value)) }
@@ -150,9 +145,8 @@ fn upsert_in<K: Eq + Drop, V: Drop, L: LruList, G: Generation, const TYPE: u8>(
     value: V,
     generation: &G,
 ) -> Result<Option<V>, (K, V)>
-    ensures { UpsertsIn K.eq key value (hash % 256)
-        (λ bucket. slots_after_insertion TYPE (G.keeps generation.now) bucket (key, value)
-        (hash % 256)) bucket.old result bucket.new }
+    ensures { UpsertsIn K.eq key value (hash % 256) TYPE (G.keeps generation.now) bucket.old result
+        bucket.new }
 {
     let at = bucket.get_entry_ptr(&key, hash);
     if at.is_valid() {

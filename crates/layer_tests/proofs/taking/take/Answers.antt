@@ -23,5 +23,5 @@ returns g c =
     let found = c.search-at.ensures.found (c.is_valid.ensures.0 c.if-not-is_valid.false) in
     let takes = then_taken _ _ _ c.remove-pair.result.0 c.in-Ok.ensures.found.map c.remove-pair.ensures.map in (
       same_taken g.K.PartialEq.eq c.args.key.now _ _ found.0 c.remove-pair.result.0 found.1 found.2 c.remove-pair.ensures.pair,
-      rw (c.table-2-1.given.1 (sym (c.remove-pair.ensures.same_table ∙ c.in-Ok.ensures.same_table))) takes,
+      rw (c.table-2-1.given.1 (sym (c.remove-pair.ensures.changed.same_table ∙ c.in-Ok.ensures.same_table))) takes,
     )

@@ -1,4 +1,5 @@
 use Rattle.bucket_table.specs.Map.Finding.{ReadiesThenGrows}
+use Rattle.bucket_table.proofs.Map.Finding.{none_found}
 use Rattle.bucket_table.proofs.Resize.Growing.{home_grown, locked_grown, locked_ready}
 use Rattle.bucket_table.proofs.Views.Keeping.{keeps_both}
 use Rattle.bucket_table.proofs.arrays.Arrays.find.Goals as goal
@@ -32,3 +33,9 @@ returns-clause-finds g c =
       c.grow_at-is_old.ensures.asked,
       c.grow_at-is_old.ensures.grown,
     )
+
+pub returns-in_default-clause-refused : goal.returns-in_default-clause-refused
+returns-in_default-clause-refused g c =
+    let e = c.fetch_or_make.ensures in
+    none_found c.args.hash c.args.self.now c.fetch_or_make.new.self e.beside e.units (λ alone. rw c.in_default.is at (e.refused alone))
+    (rw c.in_default.is at e.wanted)

@@ -46,8 +46,8 @@ pub returns-in_default-clause-passes : goal.returns-in_default-clause-passes
 returns-in_default-clause-passes g c = λ bound begins.
     passes_refused c.args.self.now c.loop-index.self c.prepare_at.new.self c.args.start c.loop-index.index c.loop-index.invariant.1
     c.prepare_at.ensures.kept c.prepare_at.ensures.units c.prepare_at.ensures.alone c.len.result bound c.len.ensures.value
-    (search rules) (λ none. search rules) (begins_wide c.args.self.now c.len.result c.args.start bound
-    (c.len.ensures.value ∙ c.loop-index.invariant.1.len) c.len.ensures.power begins)
+    (search rules) c.in_default.ensures.wanted (begins_wide c.args.self.now c.len.result c.args.start bound
+    (c.len.ensures.value ∙ c.loop-index.invariant.1.kept.current_len) c.len.ensures.power begins)
 
 pub returns-then-find_next-clause-passes : goal.returns-then-find_next-clause-passes
 returns-then-find_next-clause-passes g c = λ bound begins.
@@ -56,13 +56,13 @@ returns-then-find_next-clause-passes g c = λ bound begins.
     c.prepare_at.ensures.kept c.prepare_at.ensures.units c.prepare_at.ensures.alone c.len.result c.len.ensures.value (search rules)
     c.in-Ok.ensures.ready)
     c.loop-index.invariant.0.order (begins_wide c.args.self.now c.len.result c.args.start bound
-    (c.len.ensures.value ∙ c.loop-index.invariant.1.len) c.len.ensures.power begins)
+    (c.len.ensures.value ∙ c.loop-index.invariant.1.kept.current_len) c.len.ensures.power begins)
 
 pub returns-clause-passes : goal.returns-clause-passes
 returns-clause-passes g c = λ bound begins.
     passes_all c.args.self.now c.loop-index.self c.args.start c.loop-index.index bound c.loop-index.invariant.1
     (omega (arith, c.loop-index-test.false, c.len.ensures.value)) (begins_wide c.args.self.now c.len.result c.args.start bound
-    (c.len.ensures.value ∙ c.loop-index.invariant.1.len) c.len.ensures.power begins)
+    (c.len.ensures.value ∙ c.loop-index.invariant.1.kept.current_len) c.len.ensures.power begins)
 
 pub returns-clause-found : goal.returns-clause-found
 returns-clause-found g c = record {
@@ -72,3 +72,6 @@ returns-clause-found g c = record {
       (arith, c.loop-index-test.false, c.len.ensures.value));
   null = c.loop-index.invariant.0.null;
 }
+
+pub returns-in_default-clause-found : goal.returns-in_default-clause-found
+returns-in_default-clause-found g c = record { none = λ nothing. absurd cc; null = c.loop-index.invariant.0.null }

@@ -2,7 +2,14 @@ use Rattle.bucket_table.proofs.Words.{HasNoneFrom, IsLength, arith, bound_of, le
 use Rattle.bucket_table.proofs.Walking.Bounds.{all_hashes}
 use Rattle.bucket_table.proofs.Walking.CursorSteps.{goes_later, no_map, none_past, reaches_on}
 use Rattle.bucket_table.proofs.Walking.PassingUnits.{passes_nowhere, passes_past}
+use Rattle.bucket_table.proofs.Views.Keeping.{kept_none}
 use Rattle.bucket_table.proofs.arrays.Arrays.first_past.Goals as goal
+
+pub returns-then-now-eq0-clause-kept : goal.returns-then-now-eq0-clause-kept
+returns-then-now-eq0-clause-kept g c = kept_none c.args.self.now
+
+pub returns-then-index-len-clause-kept : goal.returns-then-index-len-clause-kept
+returns-then-index-len-clause-kept g c = kept_none c.args.self.now
 
 pub returns-then-now-eq0-clause-found : goal.returns-then-now-eq0-clause-found
 returns-then-now-eq0-clause-found g c = record {

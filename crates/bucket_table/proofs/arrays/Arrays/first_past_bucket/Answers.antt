@@ -32,5 +32,4 @@ returns-clause-departs g c = record {
   passes = subst
       (λ (n : ℕ). Passes (λ (i : ℕ). i) (bound_of n (c.args.index + 1)) c.shrink_emptied.new.self c.first_past.result c.first_past.new.self)
       c.len_on-len.ensures.value c.first_past.ensures.passes;
-  kept = c.first_past.ensures.kept;
 }

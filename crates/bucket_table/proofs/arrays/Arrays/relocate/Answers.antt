@@ -17,7 +17,7 @@ returns-clause-placed g c =
 pub returns-clause-done : goal.returns-clause-done
 returns-clause-done g c = rw (← c.self.view_is, c.in-Some.is, c.in-Some-linked.is)
     (done_at _ _ c.args.index _ _ _ _ _ c.relocate.result (rw (← c.self.view_is, c.in-Some-linked.is) at c.requires.within)
-    c.relocate.ensures.moved)
+    c.relocate.ensures.moved c.relocate.ensures.recency)
 
 pub returns-clause-refused : goal.returns-clause-refused
 returns-clause-refused g c =

@@ -1,6 +1,7 @@
-use Rattle.bucket_table.proofs.Words.{arith}
+use Rattle.bucket_table.proofs.Words.{arith, false≢true}
 use Rattle.bucket_table.proofs.Rehash.Spending.{spends_both, spends_none, spends_one, spends_same}
 use Rattle.bucket_table.proofs.Rehash.UnitSteps.{range_more, range_none, some_refused, some_worked}
+use Rattle.bucket_table.proofs.Rehash.Wanting.{range_wants}
 use Rattle.bucket_table.proofs.arrays.Arrays.relocate_range.Goals as goal
 
 pub buckets-init : goal.buckets-init
@@ -24,3 +25,9 @@ buckets-preserved g c =
 
 pub returns-clause-worked : goal.returns-clause-worked
 returns-clause-worked g c = some_worked _ c.buckets.index c.args.end _ _ c.buckets.invariant.0 (omega (arith, c.buckets-test.false))
+
+pub returns-in_default-clause-wanted : goal.returns-in_default-clause-wanted
+returns-in_default-clause-wanted g c = λ refused.
+    range_wants c.args.start c.buckets.index c.args.end _ _ _ c.buckets.invariant.0 c.buckets.invariant.2 c.in_default.ensures.refused
+    (omega arith) (omega (arith, c.buckets-test.true)) c.requires.within c.in_default.ensures.alive
+    (λ needs. false≢true (c.in_default.ensures.succeeds needs))

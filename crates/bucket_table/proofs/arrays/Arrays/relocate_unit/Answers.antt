@@ -1,6 +1,7 @@
 use Rattle.bucket_table.proofs.Words.{arith, ◌*◌}
 use Rattle.std.proofs.Common.{mul_comm}
 use Rattle.bucket_table.proofs.Rehash.UnitSteps.{unit_worked}
+use Rattle.bucket_table.proofs.Rehash.Wanting.{range_longer}
 use Rattle.bucket_table.proofs.arrays.Arrays.relocate_unit.Goals as goal
 
 pub returns-clause-worked : goal.returns-clause-worked
@@ -10,3 +11,8 @@ returns-clause-worked g c = rw c.release_old.ensures
 
 pub returns-clause-placed : goal.returns-clause-placed
 returns-clause-placed g c = rw c.release_old.ensures c.relocate_range-success.ensures.placed
+
+pub returns-clause-wanted : goal.returns-clause-wanted
+returns-clause-wanted g c = λ refused. rw c.release_old.ensures
+    (range_longer (c.args.unit * 64) c.min-end.result _ _ _ _ (mul_comm c.args.unit 64) (omega (arith, c.min-end.ensures))
+    (c.relocate_range-success.ensures.wanted refused))

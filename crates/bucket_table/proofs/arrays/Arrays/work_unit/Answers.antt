@@ -1,7 +1,9 @@
 use Rattle.bucket_table.proofs.Words.{Some, ap, arith, length, rules}
 use Rattle.bucket_table.proofs.Rehash.Ending.{placed_end, placed_start}
 use Rattle.bucket_table.proofs.Rehash.FinishingUnits.{finishes, finishes_none}
+use Rattle.bucket_table.proofs.Rehash.Wanting.{range_spared}
 use Rattle.bucket_table.proofs.Rehash.UnitWork.{easy_handed, none_changed, none_handed, unit_kept, unit_runs}
+use Rattle.bucket_table.proofs.Views.Keeping.{kept_none}
 use Rattle.bucket_table.proofs.arrays.Arrays.work_unit.Goals as goal
 
 pub relocate_unit-success-requires : goal.relocate_unit-success-requires
@@ -38,7 +40,7 @@ returns-clause-units g c =
     let spends = rw c.in-Some.ensures.others at c.relocate_unit-success.ensures.spends in
     unit_runs c.args.self.now _ _ _ c.in-Some.ticket c.relocate_unit-success.result h w c.end_incremental_rehash.result
     c.sound.ensures.arrays.tickets_len spends
-    (λ needs. c.relocate_unit-success.ensures.succeeds
+    (λ needs. range_spared _ _ _ _ _ c.relocate_unit-success.ensures.wanted
     (rw c.in-Some.ensures.others (easy_handed c.args.self.now _ c.in-Some.ticket h needs)))
     c.end_incremental_rehash.ensures.rehash
 
@@ -51,11 +53,16 @@ returns-clause-finishes g c =
     let h = c.in-Some.ensures.tickets in
     let w = rw c.in-Some.ensures.others at c.relocate_unit-success.ensures.worked in
     finishes c.args.self.now _ _ _ c.in-Some.ticket c.relocate_unit-success.result h w c.sound.ensures.arrays.tickets_len
+    c.requires.placed.rehashed.covered (λ failed. rw c.in-Some.ensures.others at c.relocate_unit-success.ensures.wanted failed)
     c.end_incremental_rehash.result c.end_incremental_rehash.ensures.rehash
 
 pub returns-in_default-clause-finishes : goal.returns-in_default-clause-finishes
 returns-in_default-clause-finishes g c =
     finishes_none c.args.self.now _ c.in_default.ensures.tickets c.in_default.ensures.others c.requires.placed.rehashed
+
+pub returns-in_default-clause-kept : goal.returns-in_default-clause-kept
+returns-in_default-clause-kept g c =
+    rw (none_changed c.args.self.now _ c.in_default.ensures.tickets c.in_default.ensures.others) (kept_none c.args.self.now)
 
 pub returns-in_default-clause-placed : goal.returns-in_default-clause-placed
 returns-in_default-clause-placed g c =

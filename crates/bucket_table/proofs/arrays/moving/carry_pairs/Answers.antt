@@ -18,7 +18,7 @@ returns-then-len-eq0-clause-moved g c =
 
 pub returns-then-len-eq0-clause-recency : goal.returns-then-len-eq0-clause-recency
 returns-then-len-eq0-clause-recency g c = carries_unlisted c.args.source.now c.args.current.now c.move_pairs.new.current
-    (sym c.take_lru-len.ensures.number ∙ c.if-len-eq0.true) c.move_pairs.ensures.landed.same_lists
+    (sym c.take_lru-len.ensures.number ∙ c.if-len-eq0.true) c.move_pairs.ensures.landed.same_lists c.move_pairs.ensures.landed.stay
 
 pub move_pairs-requires-2 : goal.move_pairs-requires-2
 move_pairs-requires-2 g c =

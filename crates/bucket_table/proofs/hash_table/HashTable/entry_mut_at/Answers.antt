@@ -1,6 +1,5 @@
 use Rattle.bucket_table.proofs.Words.{arith, refl}
 use Rattle.bucket_table.proofs.Map.SlotSteps.{writes}
-use Rattle.bucket_table.proofs.Rehash.TicketSteps.{bag_with}
 use Rattle.bucket_table.proofs.hash_table.HashTable.entry_mut_at.Goals as goal
 
 pub bucket_of_mut-bucket-requires : goal.bucket_of_mut-bucket-requires
@@ -27,6 +26,5 @@ returns g c =
         pair = rw (← c.self.view_is) here;
         map = λ value. rw (← c.self.view_is) (writes g.met.K.Eq.laws g.H.KeyHash.hash_of g.row.TYPE c.args.is_old c.args.index
             c.self.invariant within c.args.at.now _ here value).map;
-        bag = λ value. bag_with _ c.args.is_old c.args.index _;
       },
     )

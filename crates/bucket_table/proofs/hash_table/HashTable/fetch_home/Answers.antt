@@ -1,5 +1,5 @@
 use Rattle.bucket_table.proofs.Scripts.CallSteps.{empty_without}
-use Rattle.bucket_table.proofs.Map.Finding.{prepared}
+use Rattle.bucket_table.proofs.Map.Finding.{home_answered, prepared}
 use Rattle.bucket_table.proofs.Map.MapKept.{one_map_kept}
 use Rattle.bucket_table.proofs.hash_table.HashTable.fetch_home.Goals as goal
 
@@ -12,8 +12,11 @@ invariant_of-self g c =
 pub returns-clause-prepared : goal.returns-clause-prepared
 returns-clause-prepared g c =
     let e = c.fetch_home-is_ready.ensures in
-    rw (← c.self.view_is) (prepared g.row.TYPE _ _ c.fetch_home-is_ready.new.self e.kept e.units e.alone)
+    rw (← c.self.view_is) (prepared g.row.TYPE c.args.hash _ _ c.fetch_home-is_ready.new.self e.kept e.units e.alone
+    (home_answered c.args.hash _ _ c.fetch_home-is_ready.result e.ready e.missing e.wanted e.kept.current_len))
 
 pub returns-clause-empty : goal.returns-clause-empty
-returns-clause-empty g c = empty_without c.fetch_home-is_ready.new.self c.args.hash c.fetch_home-is_ready.result
-    c.fetch_home-is_ready.ensures.ready c.sound.ensures.arrays
+returns-clause-empty g c =
+    let e = c.fetch_home-is_ready.ensures in
+    empty_without c.self.inside.arrays c.fetch_home-is_ready.new.self c.fetch_home-is_ready.result e.missing e.kept.current_len
+    c.sound.ensures.arrays

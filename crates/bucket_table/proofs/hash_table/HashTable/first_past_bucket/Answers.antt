@@ -8,6 +8,3 @@ invariant_of-self g c =
 
 pub returns-clause-map : goal.returns-clause-map
 returns-clause-map g c = rw (← c.self.view_is) (state_found g.row.TYPE _ _ c.first_past_bucket.new.self c.first_past_bucket.ensures.kept)
-
-pub returns-clause-bag : goal.returns-clause-bag
-returns-clause-bag g c = rw (← c.self.view_is) c.first_past_bucket.ensures.kept.open_tickets

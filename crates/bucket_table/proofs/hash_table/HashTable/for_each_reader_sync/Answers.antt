@@ -1,5 +1,5 @@
 use Rattle.bucket_table.proofs.Words.{IsOneMap, false, reading, refl, rules, subst, ◌∙◌}
-use Rattle.bucket_table.proofs.Views.Keeping.{bag_both, kept_both, kept_none}
+use Rattle.bucket_table.proofs.Views.Keeping.{kept_both, kept_none}
 use Rattle.bucket_table.proofs.Map.MapKept.{state_kept}
 use Rattle.bucket_table.proofs.Walking.ReadSteps.{bucket_seen, keeps_read, read_at, within_seen}
 use Rattle.bucket_table.proofs.Walking.Visiting.{WalkStands, locked_seen, over_seen, same_parts, stands_first, stands_next, walk_ended}
@@ -22,7 +22,7 @@ returns-in_default-clause-walked g c =
     walk_refused (reading g.F.Read.reads) (g.H.KeyHash.hash_of c.args.self.now.hasher) _ 0 0 c.args.reader.now c.loop-more.reader
     c.args.self.now.arrays c.loop-more.self.arrays c.prepare_at.new.self.arrays 0 c.loop-more.index false c.loop-more.more
     (begins_as_given _ 0 0 refl)
-    c.loop-more.invariant.2 c.prepare_at.ensures.kept c.prepare_at.ensures.units c.prepare_at.ensures.alone
+    c.loop-more.invariant.2 c.prepare_at.ensures.kept c.prepare_at.ensures.units c.prepare_at.ensures.alone c.in_default.ensures.wanted
 
 pub returns-in_default-clause-succeeds : goal.returns-in_default-clause-succeeds
 returns-in_default-clause-succeeds g c =
@@ -110,8 +110,3 @@ returns-else-index-len-clause-alone g c = λ none. same_parts c.args.self.now c.
 pub returns-after-loop-more-clause-alone : goal.returns-after-loop-more-clause-alone
 returns-after-loop-more-clause-alone g c = λ none. same_parts c.args.self.now c.loop-more.self c.loop-more.invariant.1
     (c.loop-more.invariant.4 none)
-
-pub returns-in_default-clause-bag : goal.returns-in_default-clause-bag
-returns-in_default-clause-bag g c =
-    bag_both c.args.self.now.arrays.tickets c.loop-more.self.arrays.tickets c.prepare_at.new.self.arrays.tickets
-    c.loop-more.invariant.3.keeps.open_tickets c.prepare_at.ensures.kept.keeps.open_tickets

@@ -20,7 +20,7 @@ returns-in_default-clause-walked g c =
     walk_refused g.F.Visit.visits (g.H.KeyHash.hash_of c.args.self.now.hasher) _ c.args.expected_len c.args.start c.args.visitor.now
     c.loop-more.visitor c.args.self.now.arrays c.loop-more.self.arrays c.prepare_at.new.self.arrays c.first_index-index.result
     c.loop-more.index c.loop-more.flag c.loop-more.more at
-    c.loop-more.invariant.2 c.prepare_at.ensures.kept c.prepare_at.ensures.units c.prepare_at.ensures.alone
+    c.loop-more.invariant.2 c.prepare_at.ensures.kept c.prepare_at.ensures.units c.prepare_at.ensures.alone c.in_default.ensures.wanted
 
 pub returns-in_default-clause-settings : goal.returns-in_default-clause-settings
 returns-in_default-clause-settings g c =
@@ -102,5 +102,5 @@ returns-clause-settings g c =
       hasher = c.shrink.ensures.hasher;
       minimum = c.shrink.ensures.kept.minimum;
       maximum = c.shrink.ensures.kept.maximum;
-      bag = c.shrink.ensures.bag;
+      bag = c.shrink.ensures.kept.open_tickets;
     })

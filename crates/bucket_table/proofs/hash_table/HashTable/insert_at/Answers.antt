@@ -1,7 +1,6 @@
 use Rattle.bucket_table.proofs.Words.{slots_after_insertion, sym, ◌%◌, ◌∙◌}
 use Rattle.bucket_table.proofs.Map.Inserting.{inserted_where_absent}
 use Rattle.bucket_table.proofs.Map.LockedSteps.{on_err, put_if_ok, with_own}
-use Rattle.bucket_table.proofs.Rehash.TicketSteps.{bag_with}
 use Rattle.bucket_table.proofs.hash_table.HashTable.insert_at.Goals as goal
 
 pub invariant_of-self : goal.invariant_of-self
@@ -24,9 +23,6 @@ returns-clause-map g c =
     (rw (← c.self.view_is) at c.requires.own_hash) (rw (← c.self.view_is) at c.requires.home) e.answer e.put e.unchanged in
     rw (← c.self.view_is) x.map
 
-pub returns-clause-bag : goal.returns-clause-bag
-returns-clause-bag g c = rw (← c.self.view_is) (bag_with _ c.args.is_old c.args.index _)
-
 pub returns-clause-put : goal.returns-clause-put
 returns-clause-put g c =
     let e = rw c.bucket_of_mut-bucket.ensures.bucket at c.insert_absent.ensures in
@@ -39,3 +35,6 @@ returns-clause-unchanged g c =
     let e = rw c.bucket_of_mut-bucket.ensures.bucket at c.insert_absent.ensures in
     rw (← c.self.view_is) (on_err c.insert_absent.result (with_own c.self.inside.hasher c.self.inside.arrays _ _ c.insert_absent.new.bucket)
     e.unchanged)
+
+pub returns-clause-answer : goal.returns-clause-answer
+returns-clause-answer g c = rw (← c.self.view_is) (rw c.bucket_of_mut-bucket.ensures.bucket at c.insert_absent.ensures.answer)

@@ -1,10 +1,8 @@
 use Rattle.bucket_table.proofs.Words.{bucket_on, by-no_new, by-trans, marks_in, marks_of, refl}
 use Rattle.bucket_slots.proofs.MarkCallerLemmas.{by-one, marks_in-slots_marked}
 use Rattle.bucket_table.proofs.Map.KeySteps.{marks_through}
-use Rattle.bucket_table.proofs.Map.LockedSteps.{bag_through}
 use Rattle.bucket_table.proofs.Map.SlotSteps.{marks}
 use Rattle.bucket_table.proofs.Map.TakeSteps.{same_taken, then_taken}
-use Rattle.bucket_table.proofs.Views.Keeping.{bag_both}
 use Rattle.bucket_table.proofs.hash_table.HashTable.mark.Goals as goal
 
 pub invariant_of-self : goal.invariant_of-self
@@ -30,17 +28,11 @@ returns-in-Some-clause-map g c =
           stands.within o.at (own.now, value.now) there _ _ e.kept e.placed).map,
     )
 
-pub returns-in-Some-clause-bag : goal.returns-in-Some-clause-bag
-returns-in-Some-clause-bag g c =
-    let kept = rw (← c.self.view_is) at c.fetch_spot.ensures.prepared.kept.keeps.open_tickets in
-    bag_both c.args.self.now.arrays.tickets c.self.inside.arrays.tickets c.mark_at.new.self.tickets kept
-    (bag_through _ c.in-Some.spot.is_old c.in-Some.spot.index _ c.mark_at.new.self c.mark_at.ensures.kept.open_tickets)
-
 pub returns-in-Some-clause-arrays : goal.returns-in-Some-clause-arrays
 returns-in-Some-clause-arrays g c = record {
   between = c.fetch_spot.new.self;
   prepared = c.fetch_spot.ensures.prepared;
-  done = (c.in-Some.spot.is_old, c.in-Some.spot.index, c.in-Some.spot.at, rw (← c.self.view_is) c.mark_at.ensures.asked);
+  done = (c.in-Some.spot.is_old, c.in-Some.spot.index, c.in-Some.spot.at, c.in-Some.ensures.found, rw (← c.self.view_is) c.mark_at.ensures.asked);
 }
 
 pub returns-in-Some-clause-marks : goal.returns-in-Some-clause-marks

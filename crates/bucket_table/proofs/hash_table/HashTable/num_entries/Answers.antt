@@ -17,6 +17,3 @@ returns-clause-count g c = counted_pairs c.self.inside.arrays c.num_entries.new.
 
 pub returns-clause-alone : goal.returns-clause-alone
 returns-clause-alone g c = rw (← c.self.view_is) (kept_alone _ _ c.num_entries.new.self c.num_entries.ensures.alone)
-
-pub returns-clause-bag : goal.returns-clause-bag
-returns-clause-bag g c = rw (← c.self.view_is) c.num_entries.ensures.kept.open_tickets

@@ -1,6 +1,5 @@
 use Rattle.bucket_table.proofs.Words.{arith, refl, sym, ◌∙◌}
 use Rattle.bucket_table.proofs.Map.Putting.{put_leaves}
-use Rattle.bucket_table.proofs.Rehash.TicketSteps.{bag_with}
 use Rattle.bucket_table.proofs.hash_table.HashTable.put_at.Goals as goal
 
 pub bucket_of_mut-bucket-requires : goal.bucket_of_mut-bucket-requires
@@ -21,9 +20,6 @@ returns-clause-map g c =
     (rw (← c.self.view_is) at c.requires.locked) c.put_in.result c.put_in.new.bucket g.L.LruList.KEEPS c.args.key c.args.value c.args.hash
     (λ found equal. g.met.H.KeyHash.alike c.self.inside.hasher found c.args.key equal ∙ sym own) own
     (rw (← c.self.view_is) at c.requires.home) c.requires.cache (rw c.bucket_of_mut-bucket.ensures.bucket at c.put_in.ensures)).map
-
-pub returns-clause-bag : goal.returns-clause-bag
-returns-clause-bag g c = rw (← c.self.view_is) (bag_with _ c.args.is_old c.args.index _)
 
 pub returns-clause-bucket : goal.returns-clause-bucket
 returns-clause-bucket g c =

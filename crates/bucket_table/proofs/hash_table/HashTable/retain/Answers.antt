@@ -8,7 +8,8 @@ returns g c =
     let r = both_sides _ (g.G.Generation.epoch_of c.args.generation.now) c.args.keep.now c.retain_on-current.new.keep
     c.retain_on-linked.new.keep c.args.self.now.arrays c.retain_on-current.new.self.arrays c.retain_on-linked.new.self.arrays
     c.retain_on-current.result c.retain_on-linked.result c.saturating_add.result c.retain_on-current.ensures.retained
-    c.retain_on-current.ensures.others c.retain_on-linked.ensures.retained c.retain_on-linked.ensures.others c.saturating_add.ensures in
+    c.retain_on-current.ensures.others c.retain_on-linked.ensures.retained c.retain_on-linked.ensures.others c.saturating_add.ensures
+    g.row.TYPE c.retain_on-current.ensures.left c.retain_on-linked.ensures.left in
     record {
       again = c.retain_on-linked.ensures.again;
       retained = r.asked;

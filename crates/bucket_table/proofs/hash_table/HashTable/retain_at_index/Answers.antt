@@ -1,5 +1,7 @@
-use Rattle.bucket_table.proofs.Words.{ap, bucket_on, length, pairs_in, refl, sym, ◌∙◌}
+use Rattle.bucket_table.proofs.Words.{ap, bucket_on, buckets_on, length, pairs_in, refl, sym, ◌∙◌}
+use Rattle.bucket_table.proofs.Views.SideChanges.{buckets_on-arrays_with}
 use Rattle.bucket_table.proofs.Walking.Each.{nothing}
+use Rattle.bucket_table.proofs.Walking.Leaving.{all_left_at, all_left_same}
 use Rattle.bucket_table.proofs.Walking.RetainingTable.{one_map_losing, retains_none}
 use Rattle.bucket_table.proofs.hash_table.HashTable.retain_at_index.Goals as goal
 
@@ -25,3 +27,16 @@ returns-clause-retained g c = rw (← c.self.view_is) (record {
   retains = rw c.bucket_of_mut.ensures.bucket at c.retain_each_in.ensures.retained;
   new_is = refl;
 })
+
+pub returns-then-len-eq0-clause-left : goal.returns-then-len-eq0-clause-left
+returns-then-len-eq0-clause-left g c =
+    all_left_same g.row.TYPE (g.G.Generation.epoch_of c.args.generation.now) (buckets_on c.args.self.now.arrays c.args.is_old)
+
+pub returns-clause-left : goal.returns-clause-left
+returns-clause-left g c =
+    let old = c.self.inside.arrays in
+    let left = c.retain_each_in.new.bucket in
+    let one = rw c.bucket_of_mut.ensures.bucket at c.retain_each_in.ensures.left in
+    let within = rw (← c.self.view_is) at c.requires.within in
+    rw (← c.self.view_is, buckets_on-arrays_with old c.args.is_old c.args.index left)
+    (all_left_at g.row.TYPE (g.G.Generation.epoch_of c.args.generation.now) (buckets_on old c.args.is_old) c.args.index left within one)

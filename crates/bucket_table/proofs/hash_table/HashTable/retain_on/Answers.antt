@@ -1,4 +1,5 @@
 use Rattle.bucket_table.proofs.Words.{ap, arith, buckets_on, length, refl, ◌<◌, ◌∙◌, ◌≤◌}
+use Rattle.bucket_table.proofs.Walking.Leaving.{all_left_both, all_left_same}
 use Rattle.bucket_table.proofs.Walking.RetainingTable.{all_among, as_long, goes_along, sets_along}
 use Rattle.bucket_table.proofs.hash_table.HashTable.retain_on.Goals as goal
 
@@ -8,6 +9,7 @@ loop-index-init g c = (
   refl,
   sets_along _ (g.G.Generation.epoch_of c.args.generation.now) c.args.keep.now c.args.self.now.arrays
       c.args.is_old,
+  all_left_same g.row.TYPE (g.G.Generation.epoch_of c.args.generation.now) (buckets_on c.args.self.now.arrays c.args.is_old),
 )
 
 pub loop-index-preserved : goal.loop-index-preserved
@@ -21,6 +23,9 @@ loop-index-preserved g c =
           c.args.self.now.arrays c.loop-index.self.arrays c.retain_at_index-gone.new.self.arrays c.args.is_old c.loop-index.index
           c.loop-index.count c.retain_at_index-gone.result c.saturating_add-count.result within c.retain_at_index-gone.ensures.retained
           c.saturating_add-count.ensures c.loop-index.invariant.2,
+      all_left_both g.row.TYPE (g.G.Generation.epoch_of c.args.generation.now) (buckets_on c.args.self.now.arrays c.args.is_old)
+          (buckets_on c.loop-index.self.arrays c.args.is_old) (buckets_on c.retain_at_index-gone.new.self.arrays c.args.is_old)
+          c.loop-index.invariant.3 c.retain_at_index-gone.ensures.left,
     )
 
 pub loop-index-smaller : goal.loop-index-smaller

@@ -1,5 +1,6 @@
 use Rattle.bucket_table.proofs.Words.{buckets_on, length, ◌-◌, ◌≡◌}
 use denote.Param.Always.{always_mut}
+use Rattle.bucket_table.specs.Walking.Retains.{AreLeftOf}
 use Rattle.bucket_table.proofs.Walking.RetainingTable.{IsAlong}
 use Rattle.bucket_table.proofs.hash_table.HashTable.retain_on.Given as goal
 
@@ -10,6 +11,7 @@ invariant-loop-index g l =
     × (l.self.hasher ≡ l.fn.self.hasher)
     × IsAlong (λ state own before answer after last. goal.F-step g state own before answer after last)
     (g.G.Generation.epoch_of l.generation) l.fn.keep l.fn.self.arrays l.is_old l.keep l.self.arrays l.index l.count
+    × AreLeftOf g.row.TYPE (g.G.Generation.epoch_of l.generation) (buckets_on l.fn.self.arrays l.is_old) (buckets_on l.self.arrays l.is_old)
 
 abbrev pub decreases-loop-index : goal.decreases-loop-index
 decreases-loop-index g l = length (buckets_on l.self.arrays l.is_old) - l.index

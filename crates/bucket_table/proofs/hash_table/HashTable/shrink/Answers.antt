@@ -9,6 +9,3 @@ invariant_of-self g c =
 
 pub returns-clause-resized : goal.returns-clause-resized
 returns-clause-resized g c = rw (← c.self.view_is) c.try_shrink.ensures.asked
-
-pub returns-clause-bag : goal.returns-clause-bag
-returns-clause-bag g c = rw (← c.self.view_is) c.try_shrink.ensures.kept.open_tickets

@@ -1,6 +1,5 @@
 use Rattle.bucket_table.proofs.Words.{refl}
 use Rattle.bucket_table.proofs.Map.SlotSteps.{writes}
-use Rattle.bucket_table.proofs.Rehash.TicketSteps.{bag_with}
 use Rattle.bucket_table.proofs.hash_table.HashTable.swap_at.Goals as goal
 
 pub invariant_of-self : goal.invariant_of-self
@@ -21,10 +20,6 @@ returns-clause-map g c =
       (writes g.met.K.Eq.laws g.H.KeyHash.hash_of g.row.TYPE o.is_old o.index c.self.invariant within o.at _ here
           c.args.value).map,
     )
-
-pub returns-clause-bag : goal.returns-clause-bag
-returns-clause-bag g c =
-    rw (← c.self.view_is, c.swap_slot.ensures.arrays) (bag_with _ c.args.spot.now.is_old c.args.spot.now.index _)
 
 pub returns-clause-table : goal.returns-clause-table
 returns-clause-table g c = rw (← c.self.view_is, c.swap_slot.ensures.arrays) refl

@@ -1,5 +1,6 @@
 use Rattle.bucket_table.proofs.Words.{rules}
 use Rattle.bucket_table.proofs.Walking.SweepSteps.{fewer_hashes, stands_first, stands_next}
+use Rattle.bucket_table.proofs.Map.OpenTickets.{bag_left}
 use Rattle.bucket_table.proofs.hash_table.HashTable.sweep.Goals as goal
 
 pub loop-place-init : goal.loop-place-init
@@ -12,7 +13,8 @@ loop-place-preserved g c =
     c.first_past_bucket-place.new.self c.loop-place.count c.retain_at-taken.result c.saturating_add-count.result c.in-Ok.index
     c.loop-place.place c.first_past_bucket-place.result c.first_past_bucket-place.new.at
     c.loop-place.invariant c.in-Ok.is c.sound.ensures.one_map.placed c.retain_at-taken.ensures.hasher c.retain_at-taken.ensures.retained
-    (search rules) c.first_past_bucket-place.ensures.map c.first_past_bucket-place.ensures.bag c.first_past_bucket-place.ensures.leaves
+    (search rules) c.first_past_bucket-place.ensures.map (bag_left _ _ _ _ _ _ c.first_past_bucket-place.ensures.departs)
+    c.first_past_bucket-place.ensures.leaves
     c.first_past_bucket-place.ensures.marks c.first_past_bucket-place.ensures.departs
 
 pub loop-place-smaller : goal.loop-place-smaller

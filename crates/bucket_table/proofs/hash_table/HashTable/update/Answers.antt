@@ -2,7 +2,6 @@ use Rattle.bucket_table.proofs.Words.{refl}
 use Rattle.bucket_table.specs.Map.MapState.{state_of}
 use Rattle.bucket_table.proofs.Scripts.CallSteps.{then_changed}
 use Rattle.bucket_table.proofs.Map.TakeSteps.{same_taken}
-use Rattle.bucket_table.proofs.Views.Keeping.{bag_both}
 use Rattle.bucket_table.proofs.hash_table.HashTable.update.Goals as goal
 
 pub returns-in-Some-clause-map : goal.returns-in-Some-clause-map
@@ -27,13 +26,8 @@ returns-in-Some-clause-arrays g c =
     let (value, is) = c.update_at.ensures.table in record {
       between = c.fetch_spot.new.self;
       prepared = c.fetch_spot.ensures.prepared;
-      done = (value, (c.in-Some.spot.is_old, c.in-Some.spot.index, c.in-Some.spot.at, is));
+      done = (value, (c.in-Some.spot.is_old, c.in-Some.spot.index, c.in-Some.spot.at, c.in-Some.ensures.found, is));
     }
 
 pub returns-in-None-clause-arrays : goal.returns-in-None-clause-arrays
 returns-in-None-clause-arrays g c = record { between = c.fetch_spot.new.self; prepared = c.fetch_spot.ensures.prepared; done = refl }
-
-pub returns-in-Some-clause-bag : goal.returns-in-Some-clause-bag
-returns-in-Some-clause-bag g c =
-    bag_both c.args.self.now.arrays.tickets c.fetch_spot.new.self.arrays.tickets c.update_at.new.self.arrays.tickets
-    c.fetch_spot.ensures.prepared.kept.keeps.open_tickets c.update_at.ensures.bag

@@ -1,6 +1,5 @@
 use Rattle.bucket_table.proofs.Words.{arith, refl, sym, ◌∙◌}
 use Rattle.bucket_table.proofs.Map.Upserting.{upserted}
-use Rattle.bucket_table.proofs.Rehash.TicketSteps.{bag_with}
 use Rattle.bucket_table.proofs.hash_table.HashTable.upsert_at.Goals as goal
 
 pub bucket_of_mut-bucket-requires : goal.bucket_of_mut-bucket-requires
@@ -23,9 +22,6 @@ returns-clause-map g c =
     (g.G.Generation.keeps c.args.generation.now) c.args.key c.args.value c.args.hash
     (λ found equal. g.met.H.KeyHash.alike c.self.inside.hasher found c.args.key equal ∙ sym own) own
     (rw (← c.self.view_is) at c.requires.home) (rw c.bucket_of_mut-bucket.ensures.bucket at c.upsert_in.ensures)).map
-
-pub returns-clause-bag : goal.returns-clause-bag
-returns-clause-bag g c = rw (← c.self.view_is) (bag_with _ c.args.is_old c.args.index _)
 
 pub returns-clause-bucket : goal.returns-clause-bucket
 returns-clause-bucket g c =

@@ -11,4 +11,5 @@ returns-clause-answer g c =
       ap (λ pair. pair.0) back,
       ap (λ pair. pair.1) back,
       c.get_entry_ptr-at.ensures.absent (null_is _ _ c.is_valid.ensures.1 c.if-is_valid.false),
+      c.in-Err.ensures.refused.no_free_slot,
     )

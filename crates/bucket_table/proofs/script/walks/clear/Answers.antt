@@ -14,7 +14,7 @@ pub returns-in-Ok-clause-step : goal.returns-in-Ok-clause-step
 returns-in-Ok-clause-step g c =
     let w = c.for_each_writer_sync in
     clears_all g.row.TYPE c.args.table.now w.new.self w.ensures.settings.hasher _ w.ensures.settings.minimum w.ensures.settings.maximum
-    (emptied (λ e. g.G.Generation.epoch_of e.generation.now) (λ e. e.count) (g.H.KeyHash.hash_of c.args.table.now.hasher)
+    (emptied g.row.TYPE (λ e. g.G.Generation.epoch_of e.generation.now) (λ e. e.count) (g.H.KeyHash.hash_of c.args.table.now.hasher)
     c.args.table.now.arrays c.sound.ensures.empty c.sound.ensures.long (g.met.H.KeyHash.fits c.args.table.now.hasher)
     _ _ w.new.visitor w.new.self.arrays refl c.in-Ok.ensures.walked)
 
@@ -26,7 +26,7 @@ returns-in-Err-clause-step g c =
     let w = c.for_each_writer_sync in
     clears_below g.row.TYPE c.args.table.now w.new.self w.ensures.settings.hasher g.H.KeyHash.hash_of w.ensures.settings.minimum
     w.ensures.settings.maximum
-    (emptied_below (λ e. g.G.Generation.epoch_of e.generation.now) (λ e. e.count) (g.H.KeyHash.hash_of c.args.table.now.hasher)
+    (emptied_below g.row.TYPE (λ e. g.G.Generation.epoch_of e.generation.now) (λ e. e.count) (g.H.KeyHash.hash_of c.args.table.now.hasher)
     c.args.table.now.arrays _ _ w.new.visitor w.new.self.arrays c.in-Err.ensures.walked)
 
 pub returns-in-Err-clause-tickets : goal.returns-in-Err-clause-tickets

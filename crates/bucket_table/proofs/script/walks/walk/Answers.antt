@@ -21,10 +21,10 @@ returns-in-Ok-clause-step g c = (
 )
 
 pub returns-in-Ok-clause-tickets : goal.returns-in-Ok-clause-tickets
-returns-in-Ok-clause-tickets g c = c.for_each_reader_sync.ensures.bag
+returns-in-Ok-clause-tickets g c = c.for_each_reader_sync.ensures.kept.keeps.open_tickets
 
 pub returns-in-Err-clause-step : goal.returns-in-Err-clause-step
 returns-in-Err-clause-step g c = c.for_each_reader_sync.ensures.map
 
 pub returns-in-Err-clause-tickets : goal.returns-in-Err-clause-tickets
-returns-in-Err-clause-tickets g c = c.for_each_reader_sync.ensures.bag
+returns-in-Err-clause-tickets g c = c.for_each_reader_sync.ensures.kept.keeps.open_tickets

@@ -1,3 +1,4 @@
+use Rattle.std.proofs.Common.{◌%◌}
 use Rattle.collections.proofs.Marks.{no_new-inserted}
 use Rattle.collections.proofs.Steps.{inserts}
 use Rattle.collections.proofs.hash_index.HashIndex.insert.Goals as goal
@@ -9,8 +10,10 @@ returns-clause-map g c = rw (← c.self.view_is) (inserts g.K.PartialEq.eq g.met
     c.insert_pair-outcome.ensures.map)
 
 pub returns-clause-marks : goal.returns-clause-marks
-returns-clause-marks g c = rw (← c.self.view_is) (no_new-inserted 79 _ c.self.inside.table c.insert_pair-outcome.new.self _ _ _
-    c.insert_pair-outcome.result c.insert_pair-outcome.ensures.arrays)
+returns-clause-marks g c =
+    let hash = g.H.KeyHash.hash_of c.self.inside.table.hasher c.args.key in
+    rw (← c.self.view_is) (no_new-inserted 79 (g.G.Generation.keeps c.args.generation.now) (c.args.key, c.args.value) (hash % 256) hash
+    c.self.inside.table c.insert_pair-outcome.result c.insert_pair-outcome.new.self c.insert_pair-outcome.ensures.arrays)
 
 pub returns-clause-arrays : goal.returns-clause-arrays
 returns-clause-arrays g c = rw (← c.self.view_is) c.insert_pair-outcome.ensures.arrays

@@ -1,4 +1,5 @@
 use Rattle.std.proofs.Common.{arith, ap, refl, sym, ◌∙◌}
+use Rattle.bucket_table.proofs.Map.LockedChanged.{table_same}
 use Rattle.bucket_table.specs.Map.Lending.{with_value}
 use Rattle.bucket_table.specs.Views.ArraysView.{pairs_of}
 use Rattle.collections.proofs.Adding.{absent_permuted, added_lent, kept_stays, pair_named}
@@ -7,7 +8,7 @@ use Rattle.collections.proofs.hash_map.HashMap.add.Goals as goal
 pub insert-requires : goal.insert-requires
 insert-requires g c =
     let t = c.self.inside.table in
-    let found = c.in-Ok.ensures.found in
+    let found = c.in-Ok.ensures in
     let own = c.hash-hash.ensures ∙ ap (λ h. g.H.KeyHash.hash_of h c.args.key) (sym (ap (λ z. z.hasher) found.map.others)) in
     let none = absent_permuted g.K.PartialEq.eq g.met.K.Eq.laws c.args.key (pairs_of t.arrays) (pairs_of c.find.new.self.arrays)
     (rw (← c.self.view_is) at c.requires.absent) found.map.pairs in
@@ -16,15 +17,16 @@ insert-requires g c =
 pub returns-in_default : goal.returns-in_default
 returns-in_default g c =
     let kept = kept_stays g.K.PartialEq.eq g.met.K.Eq.laws 83 c.self.inside.table c.sound.ensures.one_map.distinct c.find.new.self
-    c.in_default.ensures.refused.prepared.map in
+    c.in_default.ensures.prepared.map in
     rw (← c.self.view_is) ((refl, λ value is. absurd cc, kept), record { writes_back = tt; value = tt; pair_returned = refl })
 
 pub returns-in-Err : goal.returns-in-Err
 returns-in-Err g c =
     let kept = kept_stays g.K.PartialEq.eq g.met.K.Eq.laws 83 c.self.inside.table c.sound.ensures.one_map.distinct c.find.new.self
-    c.in-Ok.ensures.found.map in
-    rw (← c.self.view_is, c.in-Err.ensures.unchanged, c.lock.ensures.unchanged)
-    ((refl, λ value is. absurd cc, kept), record { writes_back = tt; value = tt; pair_returned = c.in-Err.ensures.pair_returned })
+    c.in-Ok.ensures.map in
+    let same = table_same c.lock.result c.insert.new.self _ c.in-Err.ensures.changed refl in
+    rw (← c.self.view_is, same, c.lock.ensures.unchanged)
+    ((refl, λ value is. absurd cc, kept), record { writes_back = tt; value = tt; pair_returned = c.in-Err.ensures.answer.0 })
 
 pub returns : goal.returns
 returns g c =
@@ -32,7 +34,7 @@ returns g c =
     let added = c.insert.new.self.table.now in
     let e = c.entry_mut_at.ensures in
     let put = c.in-Ok-insert.ensures in
-    let names = rw (put.same_side, put.same_index, c.lock.ensures.side, c.lock.ensures.index) at put.names in
+    let names = rw (put.changed.same_side, put.changed.same_index, c.lock.ensures.side, c.lock.ensures.index) at put.answer.1 in
     let pair = pair_named _ (c.args.key, c.args.value) _ _ names e.pair in
     let puts = rw c.lock.ensures.unchanged at put.map in
     rw (← c.self.view_is) (
@@ -40,7 +42,7 @@ returns g c =
         refl,
         λ value is. added_lent g.K.PartialEq.eq g.met.K.Eq.laws 83 t c.sound.ensures.one_map.distinct c.find.new.self added
             (with_value added c.in-Ok.is_old c.in-Ok.index c.in-Ok-insert.at value) c.args.key c.args.value value
-            (rw (← c.self.view_is) at c.requires.absent) c.in-Ok.ensures.found.map puts c.sound-2.ensures.one_map.distinct
+            (rw (← c.self.view_is) at c.requires.absent) c.in-Ok.ensures.map puts c.sound-2.ensures.one_map.distinct
             (rw pair at (e.map value)),
         tt,
       ),

@@ -14,8 +14,8 @@ returns g c =
     rw (← c.self.view_is) (
       (
         refl,
-        λ value. lent_replaces eq laws 83 t distinct key loan (lent.lender value) value (lent.holds value),
-        lent_none eq laws 83 t distinct key loan lent.lender-at-none lent.holds-at-none c.get_mut.ensures.absent,
+        λ value. lent_replaces eq laws 83 t distinct key _ loan (lent.lender value) value (lent.holds value),
+        lent_none eq laws 83 t distinct key _ loan lent.lender-at-none lent.holds-at-none c.get_mut.ensures.absent,
       ),
       record { writes_back = tt; value = lent_value eq laws 83 t distinct key loan c.get_mut.ensures.found c.get_mut.ensures.absent },
     )

@@ -1,4 +1,4 @@
-use Rattle.collections.proofs.Steps.{same_slots}
+use Rattle.std.proofs.Common.{ap, ◌*◌}
 use Rattle.collections.proofs.hash_map.HashMap.retain.Goals as goal
 
 pub returns-clause-retained : goal.returns-clause-retained
@@ -10,5 +10,5 @@ returns-clause-retained g c = rw (← c.self.view_is) (record {
     minimum = c.retain.ensures.settings.minimum;
     maximum = c.retain.ensures.settings.maximum;
   };
-  slots = same_slots c.self.inside.table.arrays.current c.retain.new.self.arrays.current c.retain.ensures.current;
+  slots = ap (λ n. 32 * n) c.retain.ensures.current.len;
 })

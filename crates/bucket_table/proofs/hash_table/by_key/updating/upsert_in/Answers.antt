@@ -24,4 +24,4 @@ returns-in-Ok g c =
 pub returns : goal.returns
 returns g c =
     let absent = c.get_entry_ptr-at.ensures.absent (null_is _ _ c.is_valid.ensures.1 c.if-is_valid.false) in
-    (search rules, absent, search rules)
+    (search rules, absent, search rules, search rules)

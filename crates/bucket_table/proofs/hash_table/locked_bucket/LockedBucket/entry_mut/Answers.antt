@@ -2,7 +2,6 @@ use Rattle.bucket_table.proofs.Words.{arith, refl, ◌≡◌}
 use Rattle.bucket_table.proofs.Views.LockedValues.{locked_over-same}
 use Rattle.bucket_table.proofs.Map.MapSteps.{wrote}
 use Rattle.bucket_table.proofs.Views.SideChanges.{changeable_locked}
-use Rattle.bucket_table.proofs.Rehash.TicketSteps.{bag_with}
 use Rattle.bucket_table.proofs.hash_table.locked_bucket.LockedBucket.entry_mut.Goals as goal
 
 pub bucket_of_mut-bucket-requires : goal.bucket_of_mut-bucket-requires
@@ -42,6 +41,5 @@ returns g c =
         map = λ w. rw (← c.table.view_is) (wrote g.met.K.Eq.laws g.H.KeyHash.hash_of g.row.TYPE o.is_old o.index c.table.invariant
             (changeable_locked _ _ _ locked) (c.entry_mut.result.0.now, c.entry_mut.result.1.now) w c.args.at.now
             (rw c.bucket_of_mut-bucket.ensures.bucket at c.entry_mut.ensures.pair)).map;
-        bag = λ w. bag_with _ o.is_old o.index _;
       },
     )

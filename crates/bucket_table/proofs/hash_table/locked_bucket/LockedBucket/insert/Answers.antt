@@ -1,9 +1,9 @@
-use Rattle.bucket_table.proofs.Words.{BucketView, IfOk, arith, live, slot_in, slots_after_insertion, subst, sym, ◌%◌, ◌≡◌}
-use Rattle.bucket_slots.proofs.RoomCallerLemmas.{refused_full, refused_unchanged}
-use Rattle.bucket_table.proofs.Map.LockedSteps.{on_err, put_if_ok, put_there, with_own}
+use Rattle.bucket_table.proofs.Words.{arith, refl, slots_after_insertion, ◌%◌}
+use Rattle.bucket_slots.proofs.RoomCallerLemmas.{refused_unchanged}
+use Rattle.bucket_table.proofs.Map.LockedChanged.{answers_placing, put_or_same}
+use Rattle.bucket_table.proofs.Map.LockedSteps.{put_there}
 use Rattle.bucket_table.proofs.Map.MapSteps.{inserted_or}
 use Rattle.bucket_table.proofs.Views.SideChanges.{changeable_locked}
-use Rattle.bucket_table.proofs.Rehash.TicketSteps.{bag_with}
 use Rattle.bucket_table.proofs.hash_table.locked_bucket.LockedBucket.insert.Goals as goal
 
 pub invariant_of-table : goal.invariant_of-table
@@ -39,36 +39,26 @@ returns-clause-map g c =
     (rw (← c.table.view_is) at c.requires.key_absent) e.slots (refused_unchanged c.insert.result _ _ _ e.refused) in
     rw (← c.table.view_is) x.map
 
-pub returns-clause-table : goal.returns-clause-table
-returns-clause-table g c =
-    let e = rw c.bucket_of_mut.ensures.bucket at c.insert.ensures in
-    put_if_ok c.insert.result _ c.args.self.now.table.now _ _ c.insert.new.self
-    (λ b. slots_after_insertion g.row.TYPE (g.G.Generation.keeps c.args.generation.now) b c.args.pair (c.args.hash % 256))
-    c.table.view_is e.slots
-
-pub returns-clause-unchanged : goal.returns-clause-unchanged
-returns-clause-unchanged g c =
-    let e = rw c.bucket_of_mut.ensures.bucket at c.insert.ensures in
-    rw (← c.table.view_is) (on_err c.insert.result (with_own c.table.inside.hasher c.table.inside.arrays _ _ c.insert.new.self)
-    (refused_unchanged c.insert.result _ _ _ e.refused))
-
-pub returns-clause-no_free_slot : goal.returns-clause-no_free_slot
-returns-clause-no_free_slot g c =
-    let e = rw c.bucket_of_mut.ensures.bucket at c.insert.ensures in
-    rw (← c.table.view_is) (refused_full c.insert.result _ _ _ e.refused)
-
-pub returns-clause-bag : goal.returns-clause-bag
-returns-clause-bag g c = rw (← c.table.view_is) (bag_with _ c.args.self.now.is_old c.args.self.now.index _)
-
-pub returns-clause-place : goal.returns-clause-place
-returns-clause-place g c = rw (← c.table.view_is) (rw c.bucket_of_mut.ensures.bucket at c.insert.ensures.place)
-
-pub returns-clause-names : goal.returns-clause-names
-returns-clause-names g c =
-    let o = c.args.self.now in
-    let within = rw (← c.table.view_is) at o.locked.within in
-    subst (λ (b : BucketView g.row.K.Denot g.row.V.Denot). IfOk c.insert.result (λ at. slot_in b at ≡ live c.args.pair (c.args.hash % 256)))
-    (sym (put_there c.table.inside.arrays o.is_old o.index c.insert.new.self within)) c.insert.ensures.names
-
 pub bucket_of_mut-requires : goal.bucket_of_mut-requires
 bucket_of_mut-requires g c = (omega arith, (c.room_of.ensures, rw (← c.table.view_is) at c.args.self.now.locked.within))
+
+pub returns-clause-changed : goal.returns-clause-changed
+returns-clause-changed g c =
+    let e = rw c.bucket_of_mut.ensures.bucket at c.insert.ensures in
+    record {
+      same_table = refl;
+      same_side = refl;
+      same_index = refl;
+      table = put_or_same c.insert.result _ c.args.self.now.table.now _ _ c.insert.new.self
+          (λ b. slots_after_insertion g.row.TYPE (g.G.Generation.keeps c.args.generation.now) b c.args.pair (c.args.hash % 256))
+          c.table.view_is e.slots (refused_unchanged c.insert.result _ _ _ e.refused);
+    }
+
+pub returns-clause-answer : goal.returns-clause-answer
+returns-clause-answer g c =
+    let o = c.args.self.now in
+    let e = rw c.bucket_of_mut.ensures.bucket at c.insert.ensures in
+    rw (← c.table.view_is) (answers_placing g.row.TYPE (g.G.Generation.keeps c.args.generation.now) _ c.insert.new.self _ c.args.pair
+    (c.args.hash % 256) c.insert.result
+    (put_there c.table.inside.arrays o.is_old o.index c.insert.new.self (rw (← c.table.view_is) at o.locked.within))
+    e.place e.names e.pair_returned e.refused)

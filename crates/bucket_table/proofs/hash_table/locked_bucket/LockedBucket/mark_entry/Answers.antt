@@ -3,7 +3,6 @@ use Rattle.bucket_slots.proofs.RoomCallerLemmas.{killed-slots_marked}
 use Rattle.bucket_table.specs.Views.LockedLaws.{locked_change}
 use Rattle.bucket_table.proofs.Map.LockedSteps.{pair_there}
 use Rattle.bucket_table.proofs.Map.SlotSteps.{marks_only}
-use Rattle.bucket_table.proofs.Rehash.TicketSteps.{bag_with}
 use Rattle.bucket_table.proofs.hash_table.locked_bucket.LockedBucket.mark_entry.Goals as goal
 
 pub invariant_of-table : goal.invariant_of-table
@@ -31,11 +30,13 @@ returns-clause-map g c =
           c.table.invariant (rw (← c.table.view_is) at o.locked.within) c.args.at.now there.0 there.1 _).map,
     )
 
-pub returns-clause-table : goal.returns-clause-table
-returns-clause-table g c = rw (← c.table.view_is, c.mark_slot-left.ensures.arrays) refl
-
 pub returns-clause-pairs_ahead : goal.returns-clause-pairs_ahead
 returns-clause-pairs_ahead g c = rw (← c.table.view_is) c.mark_slot-left.ensures.pairs_ahead
 
-pub returns-clause-bag : goal.returns-clause-bag
-returns-clause-bag g c = rw (← c.table.view_is, c.mark_slot-left.ensures.arrays) (bag_with _ c.args.self.now.is_old c.args.self.now.index _)
+pub returns-clause-changed : goal.returns-clause-changed
+returns-clause-changed g c = record {
+  same_table = refl;
+  same_side = refl;
+  same_index = refl;
+  table = rw (← c.table.view_is, c.mark_slot-left.ensures.arrays) refl;
+}

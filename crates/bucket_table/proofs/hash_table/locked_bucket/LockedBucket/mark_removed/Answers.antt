@@ -1,5 +1,5 @@
-use Rattle.bucket_table.proofs.Words.{bucket_on}
-use Rattle.bucket_table.proofs.Map.LockedSteps.{bag_through, pair_there}
+use Rattle.bucket_table.proofs.Words.{bucket_on, refl}
+use Rattle.bucket_table.proofs.Map.LockedSteps.{pair_there}
 use Rattle.bucket_table.proofs.Map.SlotSteps.{marks}
 use Rattle.bucket_table.proofs.hash_table.locked_bucket.LockedBucket.mark_removed.Goals as goal
 
@@ -24,9 +24,5 @@ returns-clause-map g c =
           (rw (← c.table.view_is) at o.locked.within) c.args.at.now there.0 there.1 _ _ e.kept e.placed).map,
     )
 
-pub returns-clause-bag : goal.returns-clause-bag
-returns-clause-bag g c =
-    rw (← c.table.view_is) (bag_through _ c.args.self.is_old c.args.self.index _ c.mark_at.new.self c.mark_at.ensures.kept.open_tickets)
-
-pub returns-clause-arrays : goal.returns-clause-arrays
-returns-clause-arrays g c = rw (← c.table.view_is) c.mark_at.ensures.asked
+pub returns-clause-changed : goal.returns-clause-changed
+returns-clause-changed g c = record { same_table = refl; arrays = rw (← c.table.view_is) c.mark_at.ensures.asked }

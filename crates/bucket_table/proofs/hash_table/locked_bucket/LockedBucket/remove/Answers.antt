@@ -1,4 +1,4 @@
-use Rattle.bucket_table.proofs.Map.LockedSteps.{bag_through}
+use Rattle.bucket_table.proofs.Words.{refl}
 use Rattle.bucket_table.proofs.Map.SlotSteps.{takes}
 use Rattle.bucket_table.proofs.hash_table.locked_bucket.LockedBucket.remove.Goals as goal
 
@@ -16,16 +16,11 @@ returns-clause-map g c =
     rw (← c.table.view_is) (takes g.met.K.Eq.laws g.H.KeyHash.hash_of g.row.TYPE o.is_old o.index c.table.invariant
     (rw (← c.table.view_is) at o.locked.within) c.args.at.now c.take_at-pair.result e.pair _ e.kept e.placed).map
 
-pub returns-clause-bag : goal.returns-clause-bag
-returns-clause-bag g c =
-    rw (← c.table.view_is) (bag_through _ c.args.self.is_old c.args.self.index _ c.take_at-pair.new.self
-    c.take_at-pair.ensures.kept.open_tickets)
-
 pub returns-clause-pair : goal.returns-clause-pair
 returns-clause-pair g c = rw (← c.table.view_is) c.take_at-pair.ensures.pair
 
-pub returns-clause-arrays : goal.returns-clause-arrays
-returns-clause-arrays g c = rw (← c.table.view_is) c.take_at-pair.ensures.asked
+pub returns-clause-changed : goal.returns-clause-changed
+returns-clause-changed g c = record { same_table = refl; arrays = rw (← c.table.view_is) c.take_at-pair.ensures.asked }
 
 pub returns-clause-place : goal.returns-clause-place
 returns-clause-place g c = rw (← c.table.view_is) c.take_at-pair.ensures.place

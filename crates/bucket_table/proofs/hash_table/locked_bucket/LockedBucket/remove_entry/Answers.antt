@@ -2,7 +2,6 @@ use Rattle.bucket_table.proofs.Words.{refl}
 use Rattle.bucket_slots.proofs.RoomCallerLemmas.{killed-slots_without}
 use Rattle.bucket_table.specs.Views.LockedLaws.{locked_change}
 use Rattle.bucket_table.proofs.Map.SlotSteps.{takes_only}
-use Rattle.bucket_table.proofs.Rehash.TicketSteps.{bag_with}
 use Rattle.bucket_table.proofs.hash_table.locked_bucket.LockedBucket.remove_entry.Goals as goal
 
 pub invariant_of-table : goal.invariant_of-table
@@ -25,14 +24,16 @@ returns-clause-map g c =
     rw (← c.table.view_is, e.arrays) (takes_only g.met.K.Eq.laws g.H.KeyHash.hash_of g.row.TYPE o.is_old o.index c.table.invariant
     (rw (← c.table.view_is) at o.locked.within) c.args.at.now c.take_slot.result.0 e.pair).map
 
-pub returns-clause-table : goal.returns-clause-table
-returns-clause-table g c = rw (← c.table.view_is, c.take_slot.ensures.arrays) refl
-
 pub returns-clause-pair : goal.returns-clause-pair
 returns-clause-pair g c = rw (← c.table.view_is) c.take_slot.ensures.pair
 
 pub returns-clause-pairs_ahead : goal.returns-clause-pairs_ahead
 returns-clause-pairs_ahead g c = rw (← c.table.view_is) c.take_slot.ensures.pairs_ahead
 
-pub returns-clause-bag : goal.returns-clause-bag
-returns-clause-bag g c = rw (← c.table.view_is, c.take_slot.ensures.arrays) (bag_with _ c.args.self.now.is_old c.args.self.now.index _)
+pub returns-clause-changed : goal.returns-clause-changed
+returns-clause-changed g c = record {
+  same_table = refl;
+  same_side = refl;
+  same_index = refl;
+  table = rw (← c.table.view_is, c.take_slot.ensures.arrays) refl;
+}

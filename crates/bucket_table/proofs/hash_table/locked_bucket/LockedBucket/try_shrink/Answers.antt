@@ -13,6 +13,3 @@ returns-clause-map g c = rw (← c.table.view_is) (state_found g.row.TYPE _ _ c.
 
 pub returns-clause-asked : goal.returns-clause-asked
 returns-clause-asked g c = rw (← c.table.view_is) c.try_shrink.ensures.asked
-
-pub returns-clause-bag : goal.returns-clause-bag
-returns-clause-bag g c = rw (← c.table.view_is) c.try_shrink.ensures.kept.open_tickets

@@ -2,7 +2,6 @@ use Rattle.bucket_table.proofs.Words.{refl}
 use Rattle.bucket_table.specs.Views.LockedLaws.{locked_change}
 use Rattle.bucket_table.proofs.Map.MapSteps.{touched}
 use Rattle.bucket_table.proofs.Views.SideChanges.{changeable_locked}
-use Rattle.bucket_table.proofs.Rehash.TicketSteps.{bag_with}
 use Rattle.bucket_table.proofs.hash_table.locked_bucket.LockedBucket.update_lru_tail.Goals as goal
 
 pub invariant_of-table : goal.invariant_of-table
@@ -22,8 +21,10 @@ returns-clause-map g c =
     rw (← c.table.view_is, c.touch_slot.ensures) (touched g.met.K.Eq.laws g.H.KeyHash.hash_of g.row.TYPE o.is_old o.index c.table.invariant
     (changeable_locked _ _ _ (rw (← c.table.view_is) at o.locked)) g.L.LruList.KEEPS c.args.at.now).map
 
-pub returns-clause-table : goal.returns-clause-table
-returns-clause-table g c = rw (← c.table.view_is, c.touch_slot.ensures) refl
-
-pub returns-clause-bag : goal.returns-clause-bag
-returns-clause-bag g c = rw (← c.table.view_is, c.touch_slot.ensures) (bag_with _ c.args.self.now.is_old c.args.self.now.index _)
+pub returns-clause-changed : goal.returns-clause-changed
+returns-clause-changed g c = record {
+  same_table = refl;
+  same_side = refl;
+  same_index = refl;
+  table = rw (← c.table.view_is, c.touch_slot.ensures) refl;
+}

@@ -1,0 +1,135 @@
+-- The open tickets stay: what becomes of the arrays says so, call by call.
+use Rattle.bucket_table.proofs.Words.{ArraysView, Bool, BucketView, Err, KeepsOpenTickets, None, Ok, Option, Place, Result, Some, TableView}
+use Rattle.bucket_table.proofs.Words.{arrays_with, cases_eq, cases_lt, false, inl, inr, refl, true, ℕ, ◌+◌, ◌-◌}
+use Rattle.bucket_table.specs.Map.ByKey.{ChangesAt, EvictsAt, InsertsAt, PreparesThen, ShrinksAt}
+use Rattle.bucket_table.specs.Map.Counting.{CountsAndResizes}
+use Rattle.bucket_table.specs.Map.Finding.{Finds, FindsThen}
+use Rattle.bucket_table.specs.Resize.Asking.{RemovesAndShrinks, ResizesIf}
+use Rattle.bucket_table.specs.Resize.Resizing.{Releases, Reserves, Resizes, TriesResize, with_minimum}
+use Rattle.bucket_table.specs.Walking.Cursors.{ShrinksThenPasses}
+use Rattle.bucket_table.specs.declared.arrays.Missing.{Missing}
+use Rattle.bucket_table.specs.declared.hash_table.NotInserted.{NotInserted}
+use Rattle.bucket_table.specs.declared.hash_table.NotInserted.TheVariants.{Present, Memory}
+use Rattle.bucket_table.proofs.Rehash.TicketSteps.{bag_set, bag_with}
+use Rattle.bucket_table.proofs.Views.Keeping.{bag_both, bag_same}
+
+module _ {K V : Type 0} where
+  -- a resize pushes an array only where no ticket is open
+  pub bag_tried : {E : Type 0} (old : ArraysView K V) (r : Result Bool E) (new : ArraysView K V) → TriesResize old r new
+      → KeepsOpenTickets old.tickets new.tickets
+  bag_tried old (Ok false) new (keep, same) = rw same (bag_same old.tickets)
+  bag_tried old (Ok true) new (inl (plan, given)) = rw given.new_is (bag_same old.tickets)
+  bag_tried old (Ok true) new (inr (capacity, plan, pushed)) = rw (pushed.new_is, pushed.none_open) (λ unit. refl)
+  bag_tried old (Err e) new (capacity, plan, same) = rw same (bag_same old.tickets)
+
+  pub bag_resized : (old new : ArraysView K V) → Resizes old new → KeepsOpenTickets old.tickets new.tickets
+  bag_resized old new r = bag_tried old r.0 new r.1
+
+  -- that each number of open tickets stays can be decided, and so whether a resize was asked for needn't be
+  pub bag_resized_if : {Asked : Type 0} (old new : ArraysView K V) → ResizesIf Asked old new → KeepsOpenTickets old.tickets new.tickets
+  bag_resized_if old new r = λ unit. elim (cases_eq _ _) [
+    | inl same ↦ same
+    | inr apart ↦
+        let stays : KeepsOpenTickets old.tickets new.tickets =
+        rw (r.not_asked (λ asked. apart (bag_resized old new (r.asked asked) unit))) (bag_same old.tickets) in
+        absurd (apart (stays unit))
+  ]
+
+  pub bag_shrunk : (old : ArraysView K V) (side : Bool) (i : ℕ) (b : BucketView K V) (new : ArraysView K V)
+      → RemovesAndShrinks old side i b new → KeepsOpenTickets old.tickets new.tickets
+  bag_shrunk old side i b new r =
+      bag_both old.tickets (arrays_with old side i b).tickets new.tickets (bag_with old side i b) (bag_resized_if _ new r)
+
+  pub bag_reserved : (additional : ℕ) (old : ArraysView K V) (answer : ℕ) (new : ArraysView K V) → Reserves additional old answer new
+      → KeepsOpenTickets old.tickets new.tickets
+  bag_reserved additional old answer new r = elim (cases_lt (old.maximum - old.minimum) additional) [
+    | inl less ↦ rw (r.too_much less).1 (bag_same old.tickets)
+    | inr enough ↦ bag_resized (with_minimum old (old.minimum + additional)) new (r.raised enough).1
+  ]
+
+  pub bag_released : (released : ℕ) (old : ArraysView K V) (answer : ℕ) (new : ArraysView K V) → Releases released old answer new
+      → KeepsOpenTickets old.tickets new.tickets
+  bag_released released old answer new r = elim (cases_lt old.minimum released) [
+    | inl less ↦ rw (r.too_much less).1 (bag_same old.tickets)
+    | inr enough ↦ bag_resized (with_minimum old (old.minimum - released)) new (r.lowered enough).1
+  ]
+
+  pub bag_counted : (old new : ArraysView K V) → CountsAndResizes old new → KeepsOpenTickets old.tickets new.tickets
+  bag_counted old new c = bag_both old.tickets c.between.tickets new.tickets c.kept.keeps.open_tickets (bag_resized_if c.between new c.resized)
+
+  pub bag_left : {A : Type 0} (index_of : A → ℕ) (side : Bool) (i : ℕ) (old : ArraysView K V) (r : Result A Missing) (new : ArraysView K V)
+      → ShrinksThenPasses index_of side i old r new → KeepsOpenTickets old.tickets new.tickets
+  bag_left index_of side i old r new d =
+      bag_both old.tickets d.between.tickets new.tickets (bag_resized_if old d.between d.asked) d.passes.kept.keeps.open_tickets
+
+-- the calls by key
+module _ {K V H : Type 0} where
+  bag_then : (kind hash : ℕ) (old new : TableView K V H) (Then : TableView K V H → Type 0) → PreparesThen kind hash old Then
+      → ((between : TableView K V H) → Then between → KeepsOpenTickets between.arrays.tickets new.arrays.tickets)
+      → KeepsOpenTickets old.arrays.tickets new.arrays.tickets
+  bag_then kind hash old new Then p after =
+      bag_both old.arrays.tickets p.between.arrays.tickets new.arrays.tickets p.prepared.kept.keeps.open_tickets (after p.between p.done)
+
+  module _ (eq : K → K → Bool) (key : K) where
+    changed_at : (change : BucketView K V → Place → BucketView K V) (found : Bool) (old new : TableView K V H)
+        → ChangesAt eq key change found old new → KeepsOpenTickets old.arrays.tickets new.arrays.tickets
+    changed_at change true old new (side, i, at, stands, is) = bag_set old new side i _ is
+    changed_at change false old new same = rw same (bag_same old.arrays.tickets)
+
+    shrunk_at : (change : BucketView K V → Place → BucketView K V) (found : Bool) (old new : TableView K V H)
+        → ShrinksAt eq key change found old new → KeepsOpenTickets old.arrays.tickets new.arrays.tickets
+    shrunk_at change true old new (side, i, at, stands, is) = bag_shrunk old.arrays side i _ new.arrays is
+    shrunk_at change false old new same = rw same (bag_same old.arrays.tickets)
+
+  evicted_from : {E : Type 0} (hash : ℕ) (old : TableView K V H) (r : Result (Option (K × V)) E) (new : TableView K V H)
+      → EvictsAt hash old r new → KeepsOpenTickets old.arrays.tickets new.arrays.tickets
+  evicted_from hash old (Ok (Some pair)) new (ready, i, home, there, is) = bag_set old new false i _ is
+  evicted_from hash old (Ok None) new (none, same) = rw same (bag_same old.arrays.tickets)
+  evicted_from hash old (Err e) new (unready, same) = rw same (bag_same old.arrays.tickets)
+
+  module _ (kind hash : ℕ) (old new : TableView K V H) where
+    pub bag_changed : (eq : K → K → Bool) (key : K) (change : BucketView K V → Place → BucketView K V) (found : Bool)
+        → PreparesThen kind hash old (λ between. ChangesAt eq key change found between new)
+        → KeepsOpenTickets old.arrays.tickets new.arrays.tickets
+    bag_changed eq key change found p =
+        bag_then kind hash old new _ p (λ between is. changed_at eq key change found between new is)
+
+    -- also where the arrays may shrink then
+    pub bag_taken : (eq : K → K → Bool) (key : K) (change : BucketView K V → Place → BucketView K V) (found : Bool)
+        → PreparesThen kind hash old (λ between. ShrinksAt eq key change found between new)
+        → KeepsOpenTickets old.arrays.tickets new.arrays.tickets
+    bag_taken eq key change found p = bag_then kind hash old new _ p (λ between is. shrunk_at eq key change found between new is)
+
+    pub bag_evicted : {E : Type 0} (r : Result (Option (K × V)) E) → PreparesThen kind hash old (λ between. EvictsAt hash between r new)
+        → KeepsOpenTickets old.arrays.tickets new.arrays.tickets
+    bag_evicted r p = bag_then kind hash old new _ p (λ between is. evicted_from hash between r new is)
+
+  bag_finds : {E : Type 0} (kind hash : ℕ) (old : TableView K V H) (r : Result (Bool × ℕ) E) (new : TableView K V H)
+      → Finds kind hash old r new → KeepsOpenTickets old.arrays.tickets new.arrays.tickets
+  bag_finds kind hash old (Ok found) new finds = finds.kept.open_tickets
+  bag_finds kind hash old (Err e) new refused = refused.prepared.kept.keeps.open_tickets
+
+  bag_found : (kind hash : ℕ) (old new : TableView K V H) (Then : Result (Bool × ℕ) (Unit {0}) → TableView K V H → Type 0)
+      → FindsThen kind hash old Then
+      → ((answer : Result (Bool × ℕ) (Unit {0})) (between : TableView K V H) → Then answer between
+      → KeepsOpenTickets between.arrays.tickets new.arrays.tickets)
+      → KeepsOpenTickets old.arrays.tickets new.arrays.tickets
+  bag_found kind hash old new Then f after =
+      bag_both old.arrays.tickets f.between.arrays.tickets new.arrays.tickets (bag_finds kind hash old f.answer f.between f.found)
+      (after f.answer f.between f.done)
+
+  inserted_at : {A : Type 0} (kind : ℕ) (keeps : ℕ → Bool) (pair : K × V) (byte : ℕ) (old : TableView K V H)
+      (r : Result A (NotInserted K V)) (answer : Result (Bool × ℕ) (Unit {0})) (new : TableView K V H)
+      → InsertsAt kind keeps pair byte old r answer new → KeepsOpenTickets old.arrays.tickets new.arrays.tickets
+  inserted_at kind keeps pair byte old (Ok done) (Ok found) new is = bag_set old new found.0 found.1 _ is
+  inserted_at kind keeps pair byte old (Ok done) (Err e) new none = absurd none
+  inserted_at kind keeps pair byte old (Err (Present k v)) answer new same = rw same (bag_same old.arrays.tickets)
+  inserted_at kind keeps pair byte old (Err (Memory k v)) (Ok found) new (full, same) = rw same (bag_same old.arrays.tickets)
+  inserted_at kind keeps pair byte old (Err (Memory k v)) (Err e) new same = rw same (bag_same old.arrays.tickets)
+
+  module _ (kind hash : ℕ) (old new : TableView K V H) where
+    pub bag_inserted : {A : Type 0} (keeps : ℕ → Bool) (pair : K × V) (byte : ℕ) (r : Result A (NotInserted K V))
+        → FindsThen kind hash old (λ answer between. InsertsAt kind keeps pair byte between r answer new)
+        → KeepsOpenTickets old.arrays.tickets new.arrays.tickets
+    bag_inserted keeps pair byte r f =
+        bag_found kind hash old new _ f (λ answer between is. inserted_at kind keeps pair byte between r answer new is)

@@ -1,0 +1,157 @@
+-- Occupied slots that stay as they are, and the pairs in them.
+use Rattle.bucket_table.proofs.Words.{All, All-cons, All-nil, Bool, BucketView, Contains, Contains-append_left, Contains-append_right, List}
+use Rattle.bucket_table.proofs.Words.{None, Option, Place, Slot, Some, [], ap, arith, cases_eq, cases_lt, eq-eqb, false, flattened, free}
+use Rattle.bucket_table.proofs.Words.{get_or, get_or-set_other, get_or-set_same, if◌then◌else◌, inl, inr, is_free, is_listed, length, live}
+use Rattle.bucket_table.proofs.Words.{live_pair, live_pairs, map, marked, pairs_in, refl, replicate, set, slot_at, slot_in, subst, suc, sym}
+use Rattle.bucket_table.proofs.Words.{true, true≢false, zero, ℕ, ◌++◌, ◌<◌, ◌==◌, ◌∙◌, ◌∷◌, ◌≡◌, ◌⊎◌}
+use Rattle.std.proofs.lemmas.Bool.{or_left, or_right}
+use Rattle.std.proofs.lemmas.List.{get_or_past}
+use Rattle.std.proofs.lemmas.List.Elements.{Contains-append_cases, filter_map-append}
+use Rattle.std.specs.Prelude.{is_some}
+use Rattle.bucket_slots.proofs.BucketPlacing.{place_made}
+use Rattle.bucket_slots.specs.BucketView.{block_at, first_place, row_at, rows_with, with_slot, with_slot_at}
+use Rattle.bucket_slots.specs.Placing.{free_block, place_for_next, slots_with, with_place_made}
+use Rattle.bucket_slots.specs.Reserving.{with_free_blocks}
+use Rattle.bucket_table.specs.Layout.Landings.{StandsInChain}
+use Rattle.bucket_table.specs.Rehash.Relocation.{KeepsPlaces}
+
+some_of : {A : Type 0} (o : Option A) → (o ≡ None → ⊥) → is_some o ≡ true
+some_of None never = absurd (never refl)
+some_of (Some x) never = refl
+
+pub get_or-front : {X : Type 0} (xs ys : List X) (k : ℕ) (d : X) → k < length xs → get_or (xs ++ ys) k d ≡ get_or xs k d
+get_or-front [] ys k d below = absurd (omega arith)
+get_or-front (x ∷ xs) ys zero d below = refl
+get_or-front (x ∷ xs) ys (suc k) d below = get_or-front xs ys k d (omega arith)
+
+module _ {K V : Type 0} where
+  pub stay_same : (c : List (BucketView K V)) → KeepsPlaces c c
+  stay_same c = λ i at occupied. refl
+
+  pub stay_both : (c d e : List (BucketView K V)) → KeepsPlaces c d → KeepsPlaces d e → KeepsPlaces c e
+  stay_both c d e first second = λ i at occupied.
+      second i at (ap is_free (first i at occupied) ∙ occupied) ∙ first i at occupied
+
+  -- another slot stands in the place of a free one
+  row_other : (row : List (Slot K V)) (pos at : ℕ) (x : Slot K V) → slot_at row pos ≡ free → is_free (slot_at row at) ≡ false
+      → slot_at (set row pos x) at ≡ slot_at row at
+  row_other row pos at x vacant occupied =
+      get_or-set_other row pos at x free (λ same. true≢false (ap is_free (sym vacant) ∙ rw (← same) occupied))
+
+  no_row : (rows : List (List (Slot K V))) (k at : ℕ) → is_free (slot_at (row_at rows k) at) ≡ false → (k < length rows → ⊥) → ⊥
+  no_row rows k at occupied never =
+      let none : row_at rows k ≡ [] = get_or_past rows k [] (elim (cases_lt k (length rows)) [
+        | inl within ↦ absurd (never within)
+        | inr past ↦ past
+      ]) in
+      true≢false (sym (ap (λ (row : List (Slot K V)). is_free (slot_at row at)) none) ∙ occupied)
+
+  rows_other : (rows : List (List (Slot K V))) (i pos k at : ℕ) (x : Slot K V) → slot_at (row_at rows i) pos ≡ free
+      → is_free (slot_at (row_at rows k) at) ≡ false → slot_at (row_at (rows_with rows i pos x) k) at ≡ slot_at (row_at rows k) at
+  rows_other rows i pos k at x vacant occupied = elim (cases_eq k i) [
+    | inr apart ↦ ap (λ (row : List (Slot K V)). slot_at row at) (get_or-set_other rows i k (set (row_at rows i) pos x) [] apart)
+    | inl same ↦
+        let here : is_free (slot_at (row_at rows i) at) ≡ false = rw same at occupied in
+        elim (cases_lt i (length rows)) [
+          | inl within ↦ rw (same, get_or-set_same rows i (set (row_at rows i) pos x) [] within)
+              (row_other (row_at rows i) pos at x vacant here)
+          | inr past ↦ absurd (no_row rows i at here (λ within. omega (arith, within, past)))
+        ]
+  ]
+
+  slot_other : (s : BucketView K V) (block pos b p : ℕ) (x : Slot K V) → slot_at (block_at s block) pos ≡ free
+      → is_free (slot_at (block_at s b) p) ≡ false → slot_at (block_at (with_slot_at s block pos x) b) p ≡ slot_at (block_at s b) p
+  slot_other s zero pos zero p x vacant occupied = row_other s.own pos p x vacant occupied
+  slot_other s zero pos (suc k) p x vacant occupied = refl
+  slot_other s (suc i) pos zero p x vacant occupied = refl
+  slot_other s (suc i) pos (suc k) p x vacant occupied = rows_other s.chain i pos k p x vacant occupied
+
+  -- a pair is placed where a slot is free
+  pub place_kept : (s : BucketView K V) (pair : K × V) (byte : ℕ) (at : Place) → (first_place is_free s ≡ None → ⊥)
+      → is_free (slot_in s at) ≡ false → slot_in (slots_with s pair byte) at ≡ slot_in s at
+  place_kept s pair byte at room occupied =
+      let next = place_for_next s in
+      let made : with_place_made s ≡ s = ap (λ (found : Bool). if found then s else record s { chain = free_block ∷ s.chain })
+      (some_of (first_place is_free s) room) in
+      let vacant = subst (λ (b : BucketView K V). slot_at (block_at b next.block) next.pos ≡ free) made (place_made s).slot in
+      subst (λ (b : BucketView K V). slot_in (with_slot b next (live pair byte)) at ≡ slot_in s at) (sym made)
+      (slot_other s next.block next.pos at.block at.pos (live pair byte) vacant occupied)
+
+  blocks_other : (s : BucketView K V) (n b p : ℕ) → is_free (slot_at (block_at s b) p) ≡ false
+      → slot_at (block_at (with_free_blocks s n) b) p ≡ slot_at (block_at s b) p
+  blocks_other s n zero p occupied = refl
+  blocks_other s n (suc k) p occupied = elim (cases_lt k (length s.chain)) [
+    | inl within ↦ ap (λ (row : List (Slot K V)). slot_at row p) (get_or-front s.chain (replicate n free_block) k [] within)
+    | inr past ↦ absurd (no_row s.chain k p occupied (λ within. omega (arith, within, past)))
+  ]
+
+  -- blocks are added at the chain's end
+  pub place_with_blocks : (s : BucketView K V) (n : ℕ) (at : Place) → is_free (slot_in s at) ≡ false
+      → slot_in (with_free_blocks s n) at ≡ slot_in s at
+  place_with_blocks s n at occupied = blocks_other s n at.block at.pos occupied
+
+  -- or another list is there
+  pub place_listed : (s : BucketView K V) (order : List ℕ) (block pos : ℕ)
+      → slot_at (block_at (record s { listed = order }) block) pos ≡ slot_at (block_at s block) pos
+  place_listed s order zero pos = refl
+  place_listed s order (suc i) pos = refl
+
+  -- a pair of a row of slots stands in one of them
+  pub slot_of : (xs : List (Slot K V)) (p : K × V) → Contains (live_pairs xs) p → (slot : ℕ) × (live_pair (slot_at xs slot) ≡ Some p)
+  slot_of [] p has = absurd (omega (arith, has.1))
+  slot_of (free ∷ xs) p has = let (slot, here) = slot_of xs p has in (suc slot, here)
+  slot_of (marked q b ∷ xs) p has = let (slot, here) = slot_of xs p has in (suc slot, here)
+  slot_of (live q b ∷ xs) p (zero, below, here) = (0, ap Some here)
+  slot_of (live q b ∷ xs) p (suc k, below, here) = let (slot, there) = slot_of xs p (k, omega arith, here) in (suc slot, there)
+
+  pub contains_live : (xs : List (Slot K V)) (slot : ℕ) (p : K × V) → live_pair (slot_at xs slot) ≡ Some p → Contains (live_pairs xs) p
+  contains_live [] slot p here = cc
+  contains_live (free ∷ xs) zero p here = cc
+  contains_live (live q b ∷ xs) zero p here =
+      let same : q ≡ p = cc in subst (λ (r : K × V). Contains (r ∷ live_pairs xs) p) (sym same) (0, omega arith, refl)
+  contains_live (marked q b ∷ xs) zero p here = cc
+  contains_live (free ∷ xs) (suc i) p here = contains_live xs i p here
+  contains_live (live q b ∷ xs) (suc i) p here = Contains-append_right (q ∷ []) (live_pairs xs) p (contains_live xs i p here)
+  contains_live (marked q b ∷ xs) (suc i) p here = contains_live xs i p here
+
+  -- and so does one of a chain
+  pub in_row : (rows : List (List (Slot K V))) (p : K × V) → Contains (live_pairs (flattened rows)) p
+      → (i pos : ℕ) × (live_pair (slot_at (row_at rows i) pos) ≡ Some p)
+  in_row [] p has = absurd (omega (arith, has.1))
+  in_row (row ∷ rows) p has =
+      let parts = subst (λ (ps : List (K × V)). Contains ps p) (filter_map-append live_pair row (flattened rows)) has in
+      elim (Contains-append_cases (live_pairs row) (live_pairs (flattened rows)) p parts) [
+        | inl here ↦ let (pos, is) = slot_of row p here in (0, pos, is)
+        | inr there ↦ let (i, pos, is) = in_row rows p there in (suc i, pos, is)
+      ]
+
+  pub from_row : (rows : List (List (Slot K V))) (i pos : ℕ) (p : K × V) → live_pair (slot_at (row_at rows i) pos) ≡ Some p
+      → Contains (live_pairs (flattened rows)) p
+  from_row [] i pos p here = cc
+  from_row (row ∷ rows) zero pos p here =
+      subst (λ (ps : List (K × V)). Contains ps p) (sym (filter_map-append live_pair row (flattened rows)))
+      (Contains-append_left (live_pairs row) (live_pairs (flattened rows)) p (contains_live row pos p here))
+  from_row (row ∷ rows) (suc i) pos p here =
+      subst (λ (ps : List (K × V)). Contains ps p) (sym (filter_map-append live_pair row (flattened rows)))
+      (Contains-append_right (live_pairs row) (live_pairs (flattened rows)) p (from_row rows i pos p here))
+
+  -- a pair of a bucket stands in an own slot or in the chain
+  pub own_or_chain : (b : BucketView K V) (p : K × V) → Contains (pairs_in b) p → Contains (live_pairs b.own) p ⊎ StandsInChain b p
+  own_or_chain b p has = Contains-append_cases (live_pairs b.own) (live_pairs (flattened b.chain)) p
+      (subst (λ (ps : List (K × V)). Contains ps p) (filter_map-append live_pair b.own (flattened b.chain)) has)
+
+  with_pair : (P : K × V → Type 0) (x : Slot K V) (rest : List (Slot K V)) → ((p : K × V) → live_pair x ≡ Some p → P p)
+      → All P (live_pairs rest) → All P (live_pairs (x ∷ rest))
+  with_pair P free rest here all = all
+  with_pair P (marked p b) rest here all = all
+  with_pair P (live p b) rest here all = All-cons P p (live_pairs rest) (here p refl) all
+
+  -- what holds of the pair of each listed slot holds of the listed pairs
+  pub each_listed : (P : K × V → Type 0) (own : ℕ → Slot K V) (order : List ℕ)
+      → ((slot : ℕ) (p : K × V) → is_listed order slot ≡ true → live_pair (own slot) ≡ Some p → P p)
+      → All P (live_pairs (map own order))
+  each_listed P own [] each = All-nil P
+  each_listed P own (slot ∷ order) each =
+      let first = or_left (slot == slot) (is_listed order slot) (eq-eqb slot slot refl) in
+      with_pair P (own slot) (map own order) (λ p here. each slot p first here)
+      (each_listed P own order (λ at p listed here. each at p (or_right (at == slot) (is_listed order at) listed) here))

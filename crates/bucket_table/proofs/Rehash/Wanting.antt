@@ -1,0 +1,130 @@
+-- Old buckets that didn't move, since memory was wanted.
+use Rattle.bucket_table.proofs.Words.{ArraysView, Bool, IsInRange, IsUnmoved, SpendsSome, WorksUnits, [], arith, bucket_at, cases_lt, false}
+use Rattle.bucket_table.proofs.Words.{Meets, inl, inr, killed_flags, length, refl, sym, true, ℕ, ◌*◌, ◌+◌, ◌/◌, ◌<◌, ◌↔◌, ◌∙◌, ◌≡◌, ◌≤◌}
+use Rattle.bucket_table.specs.Rehash.Covered.{IsCovered}
+use Rattle.bucket_table.specs.Rehash.State.{TicketState}
+use Rattle.bucket_table.specs.Rehash.Units.{NeedsNoMemory, RelocatesRange, RelocatesSome, WantsMemory}
+use Rattle.bucket_table.specs.Views.ArraysView.{IsSource}
+use Rattle.bucket_table.proofs.Rehash.Spending.{spends_few}
+use Rattle.bucket_table.proofs.Views.Killed.{get_or-killed_flags, length-killed_flags}
+
+module _ {K V : Type 0} where
+  -- what needs no memory needs none once others have moved on
+  spared : (i : ℕ) (old mid : ArraysView K V) → length mid.current ≡ length old.current → length mid.linked ≡ length old.linked
+      → SpendsSome old.linked mid.linked → NeedsNoMemory i (i + 1) old → NeedsNoMemory i (i + 1) mid
+  spared i old mid current linked spent needs =
+      let shorter = needs.no_shorter in record {
+        no_shorter = omega (arith, shorter, current, linked);
+        few = λ j low high. spends_few old.linked mid.linked j 32 spent (needs.few j low high);
+      }
+
+  -- memory that is wanted after some steps was needed before them
+  pub wanted_before : (IsOne : ℕ → Type 0) (first second : ℕ) (old mid new : ArraysView K V) → length mid.current ≡ length old.current
+      → WorksUnits first old mid → WorksUnits second mid new → WantsMemory IsOne mid new → WantsMemory IsOne old new
+  wanted_before IsOne first second old mid new current a b wants =
+      let within = wants.within in
+      let len = (b (omega (arith, within))).len in
+      let run = a (omega (arith, within, len)) in
+      record {
+        index = wants.index;
+        one = wants.one;
+        within = within;
+        before = wants.before;
+        alive = wants.alive;
+        needed = λ needs. wants.needed (spared wants.index old mid current run.len run.spent needs);
+      }
+
+  -- a range stops at a bucket that is refused
+  pub range_wants : (start index end : ℕ) (old mid new : ArraysView K V) → RelocatesRange start index old mid
+      → SpendsSome old.linked mid.linked → IsUnmoved mid new → start ≤ index → index < end → end ≤ length old.linked
+      → (bucket_at mid.linked index).killed ≡ false → (NeedsNoMemory index (index + 1) mid → ⊥) → WantsMemory (IsInRange start end) old new
+  range_wants start index end old mid new done spent same low high within alive needed =
+      let len = done.some.killed.len in
+      record {
+        index = index;
+        one = (low, high);
+        within = rw same.linked_is (omega (arith, high, within, len));
+        before = λ i one less. rw same.linked_is (done.killed i one.0 less);
+        alive = rw same.linked_is alive;
+        needed = λ needs. needed (spared index old mid done.some.kept.current_len len spent needs);
+      }
+
+  -- where no bucket of those needed memory at entry, none is wanted
+  pub none_wanted : (IsOne : ℕ → Type 0) (start end : ℕ) (old new : ArraysView K V)
+      → ((i : ℕ) → IsOne i → i < length new.linked → IsInRange start end i) → NeedsNoMemory start end old → WantsMemory IsOne old new → ⊥
+  none_wanted IsOne start end old new inside needs wants =
+      let one = inside wants.index wants.one wants.within in
+      wants.needed (record {
+        no_shorter = needs.no_shorter;
+        few = λ i low high. needs.few i (omega (arith, low, one.0)) (omega (arith, high, one.1));
+      })
+
+  -- a range that needs no memory isn't refused
+  pub range_spared : (start end : ℕ) (success : Bool) (old new : ArraysView K V)
+      → (success ≡ false → WantsMemory (IsInRange start end) old new) → NeedsNoMemory start end old → success ≡ true
+  range_spared start end true old new wants needs = refl
+  range_spared start end false old new wants needs =
+      absurd (none_wanted (IsInRange start end) start end old new (λ i inside within. inside) needs (wants refl))
+
+  -- a longer range
+  pub range_longer : (start end low high : ℕ) (old new : ArraysView K V) → start ≡ low → end ≤ high
+      → WantsMemory (IsInRange start end) old new → WantsMemory (IsInRange low high) old new
+  range_longer start end low high old new same less wants =
+      let one = wants.one in
+      record {
+        index = wants.index;
+        one = (omega (arith, one.0, same), omega (arith, one.1, less));
+        within = wants.within;
+        before = λ i inside below. wants.before i (omega (arith, inside.0, same), omega (arith, below, one.1)) below;
+        alive = wants.alive;
+        needed = wants.needed;
+      }
+
+  -- the sources of a current bucket are a range
+  pub sources_want : (start end to from index : ℕ) (mid new : ArraysView K V) → RelocatesSome mid new → to ≡ length mid.current
+      → from ≡ length mid.linked → ((i : ℕ) → IsInRange start end i ↔ Meets to index from i)
+      → WantsMemory (IsInRange start end) mid new → WantsMemory (IsSource new index) mid new
+  sources_want start end to from index mid new some to_is from_is range wants =
+      let meets = (range wants.index).0 wants.one in
+      record {
+        index = wants.index;
+        one = rw (some.killed.len, some.kept.current_len, ← to_is, ← from_is) (meets.0, meets.2, meets.1);
+        within = wants.within;
+        before = λ i source below.
+            let same = rw (some.killed.len, some.kept.current_len, ← to_is, ← from_is) at source in
+            wants.before i ((range i).1 (same.0, same.2, same.1)) below;
+        alive = wants.alive;
+        needed = wants.needed;
+      }
+
+  -- where no ticket is open each unit below the position is killed
+  passed : (old : ArraysView K V) → IsCovered (killed_flags old.linked) old.tickets → old.tickets.open_units ≡ [] → (i : ℕ)
+      → i < 64 * old.tickets.position → i < length old.linked → (bucket_at old.linked i).killed ≡ true
+  passed old covered none i below within =
+      let long = length-killed_flags old.linked in
+      elim (covered.done_or_open (i / 64) (omega (arith, below))) [
+        | inl done ↦ sym (get_or-killed_flags old.linked i within) ∙ done i (omega arith) (omega arith) (omega (arith, within, long))
+        | inr there ↦ let less = (rw none at there).1 in absurd (omega (arith, less))
+      ]
+
+  -- so of all old buckets the first that isn't killed is one of the unit that is worked
+  pub unit_wants : (old worked last : ArraysView K V) (started : TicketState) (unit : ℕ) → unit ≡ old.tickets.position
+      → old.tickets.open_units ≡ [] → IsCovered (killed_flags old.linked) old.tickets
+      → RelocatesSome (record old { tickets = started }) worked → last.linked ≡ worked.linked
+      → WantsMemory (IsInRange (64 * unit) (64 * unit + 64)) (record old { tickets = started }) worked
+      → WantsMemory (λ i. Unit {0}) old last
+  unit_wants old worked last started unit at none covered some same wants =
+      let within = wants.within in
+      let one = wants.one in
+      let len = some.killed.len in
+      record {
+        index = wants.index;
+        one = tt;
+        within = rw same within;
+        before = λ i any below. rw same (elim (cases_lt i (64 * unit)) [
+          | inl early ↦ some.killed.still i (passed old covered none i (omega (arith, early, at)) (omega (arith, below, within, len)))
+          | inr late ↦ wants.before i (late, omega (arith, below, one.1)) below
+        ]);
+        alive = rw same wants.alive;
+        needed = λ needs. wants.needed (record { no_shorter = needs.no_shorter; few = needs.few });
+      }

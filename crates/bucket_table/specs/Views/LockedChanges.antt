@@ -1,0 +1,38 @@
+-- What a call does to a locked bucket, and what it answers.
+use Rattle.std.specs.Prelude.{ℕ, ◌≡◌, Bool, Result, Ok, Err}
+use Rattle.std.specs.Borrow.{MutBor}
+use Rattle.std.specs.declared.cmp.PartialEq as equals
+use Rattle.std.specs.declared.default.Default as default
+use Rattle.bucket_slots.specs.declared.lru.LruList as list
+use Rattle.bucket_slots.specs.BucketView.{BucketView, Place, slot_in}
+use Rattle.bucket_slots.specs.Clearing.{slots_for_insertion}
+use Rattle.bucket_slots.specs.Placing.{place_for_next}
+use Rattle.bucket_slots.specs.Slots.{live}
+use Rattle.bucket_table.specs.Map.ByKey.{HasNoSlot}
+use Rattle.bucket_table.specs.Resize.Asking.{RemovesAndShrinks}
+use Rattle.bucket_table.specs.Views.ArraysView.{TableView}
+use Rattle.bucket_table.specs.Views.Sides.{bucket_of, with_bucket}
+use Rattle.bucket_table.specs.declared.key_hash.KeyHash as key_hash
+use Rattle.bucket_table.specs.declared.hash_table.locked_bucket.LockedBucket.{LockedBucket}
+
+module _ {K V H L : Type 0} {TYPE : ℕ} {equal : equals.Ghosts K} {hashing : key_hash.Ghosts H K} {listing : list.Ghosts L} {fresh : default.Ghosts L} where
+  -- the bucket itself
+  abbrev pub bucket_in : LockedBucket K V H L TYPE equal hashing listing fresh → BucketView K V
+  bucket_in locked = bucket_of locked.table.now locked.is_old locked.index
+
+  -- the bucket is changed so, and it is the same bucket of the same table, which changes nowhere else
+  pub record Changes (old new : LockedBucket K V H L TYPE equal hashing listing fresh) (change : BucketView K V → BucketView K V) : Type 0 where
+    pub same_table : new.table.ghost_name ≡ old.table.ghost_name
+    pub same_side : new.is_old ≡ old.is_old
+    pub same_index : new.index ≡ old.index
+    pub table : new.table.now ≡ with_bucket old.table.now old.is_old old.index (change (bucket_in old))
+
+  -- the bucket is changed so, and where that leaves it no live pair the table may shrink by the plan; it is the table that comes back
+  pub record ChangesThenShrinks (old : LockedBucket K V H L TYPE equal hashing listing fresh) (back : MutBor (TableView K V H)) (change : BucketView K V → BucketView K V) : Type 0 where
+    pub same_table : back.ghost_name ≡ old.table.ghost_name
+    pub arrays : RemovesAndShrinks old.table.now.arrays old.is_old old.index (change (bucket_in old)) back.now.arrays
+
+-- where an inserted pair stands, in the first slot that is free then or made; refused, the pair, and no slot was free
+abbrev pub AnswersPlacing : {K V : Type 0} → ℕ → (ℕ → Bool) → K × V → ℕ → BucketView K V → Result Place (K × V) → BucketView K V → Type 0
+AnswersPlacing kind keeps pair byte old (Ok at) new = (at ≡ place_for_next (slots_for_insertion kind keeps old)) × (slot_in new at ≡ live pair byte)
+AnswersPlacing kind keeps pair byte old (Err back) new = (back ≡ pair) × HasNoSlot kind keeps old
