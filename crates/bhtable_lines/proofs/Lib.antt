@@ -1,0 +1,16 @@
+mod Answering
+mod Closing
+mod Ending
+mod Outputs
+mod Plain
+mod PowersOfTwo
+mod PushingAll
+mod Reading
+mod Replying
+mod Serving
+mod Taking
+mod Telling
+mod Turning
+mod TwoRuns
+mod Unreadable
+mod Verbs

@@ -1,0 +1,22 @@
+-- How a line is read: its verb tells of which form it is, and then come the parts behind the verb.
+use Rattle.std.specs.Prelude.{ℕ, ◌≡◌, List, ◌++◌, codes}
+use Rattle.bhtable_lines.specs.Requests.{Asks, IsInRange, call_line, question_word, request_line}
+use Rattle.line_io.specs.Words.{Part}
+use Rattle.bhtable_lines.specs.declared.request.Form.{Form}
+use Rattle.bhtable_lines.specs.declared.request.Form.TheVariants.{Table, Epoch, Question as Questions, Call as Calls}
+use Rattle.bhtable_lines.specs.declared.request.Request.{Request}
+
+-- the verb of a form
+abbrev pub form_word : Form → List ℕ
+form_word Table = codes "new"
+form_word Epoch = codes "epoch"
+form_word (Questions question) = question_word question
+form_word (Calls model) = (call_line model).0
+
+-- the parts begin with what stands behind the verb of a request, and `rest` comes then
+abbrev pub Begins : List Part → Request → List Part → Type 0
+Begins parts request rest = (parts ≡ (request_line request).1 ++ rest) × IsInRange request
+
+-- no request asks for these parts
+abbrev pub AsksNothing : List Part → Type 0
+AsksNothing parts = (request : Request) → Asks parts request → ⊥
