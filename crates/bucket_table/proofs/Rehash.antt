@@ -6,6 +6,7 @@ pub mod UnitSteps
 pub mod UnitWork
 pub mod UnitRuns
 pub mod Spending
+pub mod Killing
 pub mod Wanting
 pub mod FinishingUnits
 pub mod StayingKilled

@@ -61,6 +61,6 @@ pub use Rattle.bucket_table.specs.Resize.Sampling.{counted, live_counts}
 pub use Rattle.bucket_table.specs.Views.Sides.{arrays_with, bucket_on, buckets_on}
 pub use Rattle.bucket_table.specs.Rehash.State.{TicketState, first_tickets}
 pub use Rattle.bucket_table.specs.Rehash.Steps.{Ends, HandsOut, Starts}
-pub use Rattle.bucket_table.specs.Rehash.Units.{SpendsSome, WorksUnits}
+pub use Rattle.bucket_table.specs.Rehash.Units.{KillsOnly, SpendsSome, WorksUnits}
 pub use Rattle.bucket_table.specs.Walking.Visits.{reading}
 pub use Rattle.bucket_table.specs.Walking.Walks.{has_home_in}

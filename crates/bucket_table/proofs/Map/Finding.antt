@@ -1,17 +1,20 @@
 -- What finding a bucket for a writer, and preparing a home, leave of a table.
-use Rattle.bucket_table.proofs.Words.{ArraysView, Bool, Err, IfOk, IsHome, IsLocked, Keeps, KeepsArrays, Ok, OnErr, OnOk, Result}
-use Rattle.bucket_table.proofs.Words.{TableView, WorksUnits, ap, arith, buckets_on, cases_lt, inl, inr, length, refl, ℕ, ◌<◌, ◌∙◌, ◌≡◌, ◌⊎◌}
+use Rattle.bucket_table.proofs.Words.{ArraysView, Bool, Err, IfOk, IsHome, IsLocked, Keeps, KeepsArrays, Ok, OnErr, OnOk, Result, TableView}
+use Rattle.bucket_table.proofs.Words.{WorksUnits, ap, arith, buckets_on, cases_lt, inl, inr, length, refl, subst, sym, ℕ, ◌<◌, ◌∙◌, ◌≡◌}
+use Rattle.bucket_table.proofs.Words.{◌⊎◌}
 use Rattle.std.proofs.Common.{IfErr}
 use Rattle.bucket_table.specs.Map.Finding.{Finds, FindsNone, ReadiesThenGrows}
 use Rattle.bucket_table.specs.Map.Preparing.{HomeWantsMemory, IsMissing, IsPrepared, IsReady}
 use Rattle.bucket_table.specs.declared.arrays.Missing.{Missing}
 use Rattle.bucket_table.specs.declared.arrays.Missing.TheVariants.{Nothing, Memory}
+use Rattle.bucket_table.proofs.Rehash.UnitRuns.{units_wider}
 use Rattle.bucket_table.proofs.Views.Keeping.{kept_none}
 use Rattle.bucket_table.proofs.Map.MapKept.{state_found}
 
 module _ {K V : Type 0} where
   -- it was refused beside an old array, or for the first one
-  pub none_found : (hash : ℕ) (old new : ArraysView K V) → (0 < length old.linked → KeepsArrays old new) → WorksUnits 1 old new
+  pub none_found : (hash : ℕ) (old new : ArraysView K V) → (0 < length old.linked → KeepsArrays old new)
+      → WorksUnits 1 (IsHome (length new.current) hash) old new
       → (length old.linked ≡ 0 → (length old.current ≡ 0) × (new ≡ old)) → (0 < length new.current → HomeWantsMemory hash old new)
       → FindsNone hash old new
   none_found hash old new beside units alone home = record {
@@ -23,6 +26,19 @@ module _ {K V : Type 0} where
     alone = alone;
     home = home;
   }
+
+  -- the bucket that gets ready is a hash's home
+  pub home_worked : (hash index : ℕ) (old new : ArraysView K V) → IsHome (length old.current) hash index
+      → length new.current ≡ length old.current → WorksUnits 1 (λ home. home ≡ index) old new
+      → WorksUnits 1 (IsHome (length new.current) hash) old new
+  home_worked hash index old new home same units =
+      units_wider (IsHome (length new.current) hash) 1 old new
+      (λ i here. subst (IsHome (length new.current) hash) (sym here) (rw same home)) units
+
+  -- and there is but one
+  pub one_home : (hash index : ℕ) (old new : ArraysView K V) → IsHome (length new.current) hash index
+      → WorksUnits 1 (IsHome (length new.current) hash) old new → WorksUnits 1 (λ home. home ≡ index) old new
+  one_home hash index old new home units = units_wider (λ other. other ≡ index) 1 old new (λ i other. home.the_one i other.own) units
 
   -- a home is ready after its preparation, or memory was wanted
   pub home_answered : {A : Type 0} (hash : ℕ) (old new : ArraysView K V) (result : Result A Missing) → OnOk result (IsReady new hash)
@@ -37,7 +53,7 @@ module _ {K V H : Type 0} (kind hash : ℕ) (hasher : H) (a new : ArraysView K V
   abbrev over : ArraysView K V → TableView K V H
   over b = record { hasher = hasher; arrays = b }
 
-  pub prepared : KeepsArrays a new → WorksUnits 1 a new → (length a.linked ≡ 0 → new ≡ a)
+  pub prepared : KeepsArrays a new → WorksUnits 1 (IsHome (length new.current) hash) a new → (length a.linked ≡ 0 → new ≡ a)
       → (0 < length new.current → IsReady new hash ⊎ HomeWantsMemory hash a new) → IsPrepared kind hash (over a) (over new)
   prepared kept units alone home = record {
     map = state_found kind hasher a new kept.keeps;

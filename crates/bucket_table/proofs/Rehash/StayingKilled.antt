@@ -3,7 +3,7 @@ use Rattle.bucket_table.proofs.Words.{AreSourcesKilled, ArraysView, WorksUnits, 
 use Rattle.bucket_table.proofs.Rehash.UnitRuns.{units_still}
 
 module _ {K V : Type 0} where
-  pub sources_still : (steps : ℕ) (old new : ArraysView K V) (index : ℕ) → WorksUnits steps old new
+  pub sources_still : {A : ℕ → Type 0} (steps : ℕ) (old new : ArraysView K V) (index : ℕ) → WorksUnits steps A old new
       → length new.current ≡ length old.current
       → AreSourcesKilled old index → AreSourcesKilled new index
   sources_still steps old new index units len dead = λ i below meets.

@@ -1,15 +1,16 @@
 -- A unit whose ticket is handed out, worked and ended.
-use Rattle.bucket_table.proofs.Words.{ArraysView, Bool, Contains-permutation, Ends, EndsRehash, Err, HandsOut, IsPermutation, IsPermutation-refl, IsTrue}
-use Rattle.bucket_table.proofs.Words.{KeepsArrays, KeepsOpenTickets, List, LosesNoUnit, None, Ok, Option, Result, Some, SpendsSome, Starts}
-use Rattle.bucket_table.proofs.Words.{TicketState, WorksUnits, [], ap, arith, bucket_at, cases_Bool, cases_eq, cond, entries_of, false, inl, inr}
-use Rattle.bucket_table.proofs.Words.{killed_flags, length, length_permutation, no_new-trans, refl, sum_by-cons, sym, true, ℕ, ◌*◌, ◌+◌}
-use Rattle.bucket_table.proofs.Words.{◌/◌, ◌<◌, ◌==◌, ◌↔◌, ◌∙◌, ◌∷◌, ◌≡◌, ◌≤◌}
+use Rattle.bucket_table.proofs.Words.{ArraysView, Bool, Contains-permutation, Ends, EndsRehash, Err, HandsOut, IsInRange, IsPermutation}
+use Rattle.bucket_table.proofs.Words.{IsPermutation-refl, IsTrue, KeepsArrays, KeepsOpenTickets, KillsOnly, List, LosesNoUnit, None, Ok}
+use Rattle.bucket_table.proofs.Words.{Option, Result, Some, SpendsSome, Starts, TicketState, WorksUnits, [], ap, arith, bucket_at}
+use Rattle.bucket_table.proofs.Words.{cases_Bool, cases_eq, cond, entries_of, false, inl, inr, killed_flags, length, length_permutation}
+use Rattle.bucket_table.proofs.Words.{no_new-trans, refl, sum_by-cons, sym, true, true≢false, ℕ, ◌*◌, ◌+◌, ◌/◌, ◌<◌, ◌==◌, ◌↔◌, ◌∙◌, ◌∷◌}
+use Rattle.bucket_table.proofs.Words.{◌≡◌, ◌≤◌}
 use Rattle.std.proofs.lemmas.List.Elements.{Contains-get_or}
 use Rattle.std.proofs.lemmas.List.Sorted.{sum_by-IsPermutation}
 use Rattle.std.specs.List.{count_by, sum_by}
 use Rattle.bucket_table.specs.Rehash.Covered.{IsUnitKilled}
 use Rattle.bucket_table.specs.Rehash.Steps.{Closes, IsOver}
-use Rattle.bucket_table.specs.Rehash.Units.{HasWorkedUnits, NeedsNoMemory, UnitsNeedNoMemory, WorksUnit}
+use Rattle.bucket_table.specs.Rehash.Units.{HasWorkedUnits, IsAlive, NeedsNoMemory, UnitsNeedNoMemory, WorksUnit}
 use Rattle.bucket_table.specs.declared.tickets.TicketError.{TicketError}
 use Rattle.bucket_table.specs.declared.tickets.TicketError.TheVariants.{NotDone, NotOpen}
 use Rattle.bucket_table.proofs.Rehash.Covering.{position_after}
@@ -161,16 +162,41 @@ module _ {K V : Type 0} (old worked last : ArraysView K V) (started : TicketStat
       ];
     }
 
-  pub unit_runs : (answer : Result Bool TicketError) → old.tickets.len ≡ length old.linked → SpendsSome old.linked worked.linked
-      → (UnitsNeedNoMemory 1 old → success ≡ true) → EndsRehash worked ticket success answer last → WorksUnits 1 old last
-  unit_runs (Err error) long spends easy ends =
+  unit_stands : (answer : Result Bool TicketError) → old.tickets.len ≡ length old.linked → SpendsSome old.linked worked.linked
+      → (UnitsNeedNoMemory 1 old → success ≡ true) → EndsRehash worked ticket success answer last → 0 < length last.linked
+      → HasWorkedUnits 1 old last
+  unit_stands (Err error) long spends easy ends =
       absurd (not_refused old.tickets started ticket h success Killed error last.tickets w.1 (ends_now (Err error) last.tickets ends.0))
-  unit_runs (Ok true) long spends easy ends = λ some. let none = ap (λ (a : ArraysView K V). length a.linked) ends.2 in absurd
+  unit_stands (Ok true) long spends easy ends = λ some. let none = ap (λ (a : ArraysView K V). length a.linked) ends.2 in absurd
       (omega (arith, some, none))
-  unit_runs (Ok false) long spends easy ends = λ some.
+  unit_stands (Ok false) long spends easy ends = λ some.
       let (closes, goes) = closed old.tickets started ticket h success Killed false last.tickets
       (ends_now (Ok false) last.tickets ends.0) in
       units_done long spends easy closes ends.1
+
+  -- what isn't killed isn't as the ticket ends, and then the array doesn't go
+  alive_ended : (answer : Result Bool TicketError) (i : ℕ) → EndsRehash worked ticket success answer last
+      → IsAlive worked.linked i → IsAlive last.linked i
+  alive_ended (Err error) i ends alive = rw ends.1 alive
+  alive_ended (Ok false) i ends alive = rw ends.1 alive
+  alive_ended (Ok true) i ends alive =
+      let all = ends.1 i (omega (arith, alive.0, length-killed_flags worked.linked)) in
+      absurd (true≢false (sym all ∙ get_or-killed_flags worked.linked i alive.0 ∙ alive.1))
+
+  pub unit_runs : (answer : Result Bool TicketError) → old.tickets.len ≡ length old.linked → SpendsSome old.linked worked.linked
+      → (UnitsNeedNoMemory 1 old → success ≡ true)
+      → KillsOnly (IsInRange (64 * (ticket / 2048)) (64 * (ticket / 2048) + 64)) old.linked worked.linked
+      → EndsRehash worked ticket success answer last → WorksUnits 1 (λ index. ⊥) old last
+  unit_runs answer long spends easy only ends =
+      let handed = h.ticket_is in
+      let unit : ticket / 2048 ≡ old.tickets.position = omega (arith, handed) in
+      record {
+        stands = unit_stands answer long spends easy ends;
+        only = λ i alive. elim (only i alive) [
+          | inl one ↦ inl (inl (omega (arith, unit, one.0), omega (arith, unit, one.1)))
+          | inr still ↦ inr (alive_ended answer i ends still)
+        ];
+      }
 
 module _ {K V : Type 0} where
   -- an easy unit by its ticket

@@ -19,12 +19,13 @@ module _ {K V : Type 0} where
       }
 
   -- memory that is wanted after some steps was needed before them
-  pub wanted_before : (IsOne : ℕ → Type 0) (first second : ℕ) (old mid new : ArraysView K V) → length mid.current ≡ length old.current
-      → WorksUnits first old mid → WorksUnits second mid new → WantsMemory IsOne mid new → WantsMemory IsOne old new
-  wanted_before IsOne first second old mid new current a b wants =
+  pub wanted_before : {A : ℕ → Type 0} (IsOne : ℕ → Type 0) (steps : ℕ) (old mid new : ArraysView K V)
+      → length mid.current ≡ length old.current → WorksUnits steps A old mid
+      → (0 < length new.linked → length new.linked ≡ length mid.linked) → WantsMemory IsOne mid new → WantsMemory IsOne old new
+  wanted_before IsOne steps old mid new current units stays wants =
       let within = wants.within in
-      let len = (b (omega (arith, within))).len in
-      let run = a (omega (arith, within, len)) in
+      let len = stays (omega (arith, within)) in
+      let run = units.stands (omega (arith, within, len)) in
       record {
         index = wants.index;
         one = wants.one;

@@ -1,7 +1,7 @@
 -- The units that a cursor works as it passes buckets.
-use Rattle.bucket_table.proofs.Words.{AreSourcesKilled, ArraysView, Bool, Err, IsInInterval, IsLength, KeepsArrays, Ok, Result, WorksUnits}
-use Rattle.bucket_table.proofs.Words.{ap, arith, bound_of, buckets_on, cases_lt, inl, inr, interval_width, length, refl, subst, sym, ℕ, ◌+◌}
-use Rattle.bucket_table.proofs.Words.{◌-◌, ◌<◌, ◌^◌, ◌∙◌, ◌≡◌, ◌≤◌}
+use Rattle.bucket_table.proofs.Words.{AreSourcesKilled, ArraysView, Bool, Err, IsInInterval, IsInRange, IsLength, KeepsArrays, Ok, Result}
+use Rattle.bucket_table.proofs.Words.{WorksUnits, ap, arith, bound_of, buckets_on, cases_lt, inl, inr, interval_width, length, refl, subst}
+use Rattle.bucket_table.proofs.Words.{sym, ℕ, ◌+◌, ◌-◌, ◌<◌, ◌^◌, ◌∙◌, ◌≡◌, ◌≤◌}
 use Rattle.bucket_table.specs.Rehash.Units.{WantsMemory}
 use Rattle.bucket_table.specs.Views.ArraysView.{IsSource}
 use Rattle.bucket_table.specs.Walking.Cursors.{AreKilledFor, Passes, ShrinksThenPasses}
@@ -21,7 +21,7 @@ module _ {K V : Type 0} where
     pub order : start ≤ index
     pub within : start < index → index ≤ length old.current
     pub kept : KeepsArrays old now
-    pub units : WorksUnits (index - start) old now
+    pub units : WorksUnits (index - start) (IsInRange start index) old now
     pub sources : AreKilledFor now start index
     pub alone : length old.linked ≡ 0 → now ≡ old
 
@@ -32,16 +32,20 @@ module _ {K V : Type 0} where
         order = omega arith;
         within = λ some. absurd (omega (arith, some));
         kept = kept_none old;
-        units = subst (λ (n : ℕ). WorksUnits n old old) (sym none) (stands_still old);
+        units = subst (λ (n : ℕ). WorksUnits n (IsInRange start start) old old) (sym none) (stands_still (IsInRange start start) old);
         sources = λ i low high. absurd (omega (arith, low, high));
         alone = λ none. refl;
       }
 
   -- a bucket is made ready, or refused
   module _ (old before now : ArraysView K V) (start index : ℕ) (w : HasWorked old start index before)
-      (kept : KeepsArrays before now) (unit : WorksUnits 1 before now) (waits : length before.linked ≡ 0 → now ≡ before) where
-    units_now : WorksUnits (index - start + 1) old now
-    units_now = units_both (index - start) 1 old before now w.kept.current_len w.units unit
+      (kept : KeepsArrays before now) (unit : WorksUnits 1 (λ home. home ≡ index) before now)
+      (waits : length before.linked ≡ 0 → now ≡ before) where
+    units_now : WorksUnits (index - start + 1) (IsInRange start (index + 1)) old now
+    units_now =
+        let order = w.order in
+        units_both (IsInRange start (index + 1)) (index - start) 1 old before now (λ i one. (one.0, omega (arith, one.1)))
+        (λ i here. (omega (arith, here, order), omega (arith, here))) w.kept.current_len w.units unit
 
     sources_now : AreKilledFor now start index
     sources_now i low high = sources_still 1 before now i unit kept.current_len (w.sources i low high)
@@ -62,7 +66,7 @@ module _ {K V : Type 0} where
           order = omega (arith, order);
           within = λ some. omega (arith, long, is, below);
           kept = kept_both old before now w.kept kept;
-          units = subst (λ (n : ℕ). WorksUnits n old now) (sym steps) units_now;
+          units = subst (λ (n : ℕ). WorksUnits n (IsInRange start (index + 1)) old now) (sym steps) units_now;
           sources = λ i low high. elim (cases_lt i index) [
             | inl less ↦ sources_now i low less
             | inr more ↦
@@ -79,17 +83,19 @@ module _ {K V : Type 0} where
         let long = w.kept.current_len in
         let order = w.order in
         let at : start + (index - start) ≡ index = omega (arith, order) in
+        let past : start + (index - start + 1) ≡ index + 1 = omega (arith, order) in
         record {
           from = start;
           passed = index - start;
           begins = begins;
           count = omega (arith, order, below, is, long);
           kept = kept_both old before now w.kept kept;
-          units = units_now;
+          units = subst (λ (n : ℕ). WorksUnits (index - start + 1) (IsInRange start n) old now) (sym past) units_now;
           sources = subst (λ (n : ℕ). AreKilledFor now start n) (sym at) sources_now;
           alone = still_alone;
           wanted = λ _. subst (λ (n : ℕ). WantsMemory (IsSource now n) old now) (sym at)
-              (wanted_before (IsSource now index) (index - start) 1 old before now w.kept.current_len w.units unit wants);
+              (wanted_before (IsSource now index) (index - start) old before now w.kept.current_len w.units
+              (λ on. (unit.stands on).len) wants);
         }
 
   -- an array that stands has hashes for each bucket
@@ -110,7 +116,7 @@ module _ {K V : Type 0} where
         begins = begins;
         count = at;
         kept = w.kept;
-        units = w.units;
+        units = subst (λ (n : ℕ). WorksUnits (index + 1 - start) (IsInRange start n) old now) (sym at) w.units;
         sources = subst (λ (n : ℕ). AreKilledFor now start n) (sym at) w.sources;
         alone = w.alone;
         wanted = λ lacks. absurd lacks;
@@ -131,7 +137,7 @@ module _ {K V : Type 0} where
           | inr none ↦ omega (arith, none, past, long, order)
         ];
         kept = w.kept;
-        units = w.units;
+        units = subst (λ (n : ℕ). WorksUnits (index - start) (IsInRange start n) old now) (sym at) w.units;
         sources = subst (λ (n : ℕ). AreKilledFor now start n) (sym at) w.sources;
         alone = w.alone;
         wanted = λ lacks. absurd cc;

@@ -136,14 +136,14 @@ module _ {S K V : Type 0} (step : S → BucketView K V → Bool → Bool → Buc
     pub maximum : table.maximum ≡ old.maximum
 
   killed_wait : (table ready : ArraysView K V) (from index : ℕ) → AreKilledFor table from index
-      → KeepsArrays table ready → WorksUnits 1 table ready → AreKilledFor ready from index
+      → KeepsArrays table ready → WorksUnits 1 (λ home. home ≡ index) table ready → AreKilledFor ready from index
   killed_wait table ready from index killed kept unit = λ j low high.
       sources_still 1 table ready j unit kept.current_len (killed j low high)
 
   -- and is visited
   pub stands_next : (eq : K → K → Bool) → IsEquivalence eq → (first now next : S) (old table ready new : ArraysView K V) (from index : ℕ)
       (flag last more : Bool) → WalkStands first now old from index flag true table → KeepsArrays table ready
-      → WorksUnits 1 table ready → (length table.linked ≡ 0 → ready ≡ table)
+      → WorksUnits 1 (λ home. home ≡ index) table ready → (length table.linked ≡ 0 → ready ≡ table)
       → IsOneMap eq hash ready → IsLocked ready false index → KeepsBuckets step → IsLentAt S step ready index now flag more last next new
       → WalkStands first next old from (index + 1) last more new
   stands_next eq laws first now next old table ready new from index flag last more w kept unit waits one locked owes (left, call, new_is) =
@@ -194,7 +194,8 @@ module _ {S K V : Type 0} (step : S → BucketView K V → Bool → Bool → Buc
   pub walk_refused : {A E : Type 0} (e : E) (expected start : ℕ) (first now : S)
       (old table ready : ArraysView K V) (from index : ℕ) (flag more : Bool) → BeginsAt (length old.current) expected start from
       → WalkStands first now old from index flag more table → KeepsArrays table ready
-      → WorksUnits 1 table ready → (length table.linked ≡ 0 → ready ≡ table) → WantsMemory (IsSource ready index) table ready
+      → WorksUnits 1 (λ home. home ≡ index) table ready → (length table.linked ≡ 0 → ready ≡ table)
+      → WantsMemory (IsSource ready index) table ready
       → WalksBy {A = A} step hash expected start first old (Err e) now ready
   walk_refused e expected start first now old table ready from index flag more at w kept unit waits wants =
       let part = walk_waits hash old table ready from w.walks.visits w.walks.part (keeps_pairs table ready kept.keeps) kept.current_len in
@@ -213,7 +214,8 @@ module _ {S K V : Type 0} (step : S → BucketView K V → Bool → Bool → Buc
         within = λ some. let reached = w.walks.reached in let fits = w.within
             (omega (arith, reached, some)) in omega (arith, reached, fits);
         wanted = subst (λ (n : ℕ). WantsMemory (IsSource ready n) old ready) w.walks.reached
-            (wanted_before (IsSource ready index) (length w.walks.visits) 1 old table ready w.walks.part.len w.walks.units unit wants);
+            (wanted_before (IsSource ready index) (length w.walks.visits) old table ready w.walks.part.len w.walks.units
+            (λ on. (unit.stands on).len) wants);
         whole = tt;
         ends = refl;
       }

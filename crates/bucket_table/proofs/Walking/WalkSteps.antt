@@ -1,5 +1,5 @@
 -- A walk goes on by one bucket.
-use Rattle.bucket_table.proofs.Words.{AllByRecursion, ArraysView, Bool, BucketView, IsPermutation, IsPermutation-append_right}
+use Rattle.bucket_table.proofs.Words.{AllByRecursion, ArraysView, Bool, BucketView, IsInRange, IsPermutation, IsPermutation-append_right}
 use Rattle.bucket_table.proofs.Words.{IsPermutation-refl, IsPermutation-trans, KeepsArrays, List, WorksUnits, [], and_from, ap, append_assoc, arith}
 use Rattle.bucket_table.proofs.Words.{arrays_with, bucket_on, cases_Bool, cases_lt, false, false_from_ne_true, filter, filter-append}
 use Rattle.bucket_table.proofs.Words.{filter_agree, has_home_in, inl, inr, interval_width, le-leb, leb-true, length, lt-ltb, ltb-true}
@@ -284,7 +284,7 @@ module _ {S K V : Type 0} (step : S → BucketView K V → Bool → Bool → Buc
     pub visits : List (Visited (BucketView K V))
     pub calls : AreCalls step first false visits now flag
     pub part : IsPartOfWalk hash old start visits table
-    pub units : WorksUnits (length visits) old table
+    pub units : WorksUnits (length visits) (IsInRange start (start + length visits)) old table
     pub visited : VisitsEach old start visits table
     pub reached : index ≡ start + length visits
     pub going : more ≡ true → HasStopped visits → ⊥
@@ -295,7 +295,7 @@ module _ {S K V : Type 0} (step : S → BucketView K V → Bool → Bool → Buc
     visits = [];
     calls = (refl, refl);
     part = walk_begins hash old start;
-    units = stands_still old;
+    units = stands_still (IsInRange start (start + 0)) old;
     visited = moves_none old;
     reached = omega arith;
     going = λ e h. h;
@@ -310,12 +310,18 @@ module _ {S K V : Type 0} (step : S → BucketView K V → Bool → Bool → Buc
       each_waits old table ready start w.visits w.visited (kept, waits)
 
   pub walk_units : (first now : S) (old table ready : ArraysView K V) (start index : ℕ) (flag more : Bool)
-      → (w : WalksOn first now old start index flag more table) → WorksUnits 1 table ready → WorksUnits (length w.visits + 1) old ready
-  walk_units first now old table ready start index flag more w unit = units_both (length w.visits) 1 old table ready w.part.len w.units unit
+      → (w : WalksOn first now old start index flag more table) → WorksUnits 1 (λ home. home ≡ index) table ready
+      → WorksUnits (length w.visits + 1) (IsInRange start (start + (length w.visits + 1))) old ready
+  walk_units first now old table ready start index flag more w unit =
+      let reached = w.reached in
+      units_both (IsInRange start (start + (length w.visits + 1))) (length w.visits) 1 old table ready
+      (λ i one. (one.0, omega (arith, one.1)))
+      (λ i here. (omega (arith, here, reached), omega (arith, here, reached))) w.part.len w.units unit
 
   -- and visited
   pub goes_on : (first now next : S) (old table ready : ArraysView K V) (start index : ℕ) (flag last more : Bool) (left : BucketView K V)
-      → WalksOn first now old start index flag true table → KeepsArrays table ready → WorksUnits 1 table ready → (length table.linked ≡ 0 → ready ≡ table)
+      → WalksOn first now old start index flag true table → KeepsArrays table ready → WorksUnits 1 (λ home. home ≡ index) table ready
+      → (length table.linked ≡ 0 → ready ≡ table)
       → step now (bucket_on ready false index) flag more left last next → IsVisitOf hash ready index (bucket_on ready false index) left
       (arrays_with ready false index left)
       → WalksOn first next old start (index + 1) last more (arrays_with ready false index left)
@@ -327,7 +333,8 @@ module _ {S K V : Type 0} (step : S → BucketView K V → Bool → Bool → Buc
         part = walk_more hash old ready (arrays_with ready false index left) start index w.visits v w.reached
             (walk_waits hash old table ready start w.visits w.part (keeps_pairs table ready kept.keeps) kept.current_len) visit;
         units = rw (length_push w.visits v)
-            (units_as _ old ready (arrays_with ready false index left) (walk_units first now old table ready start index flag true w unit)
+            (units_as (length w.visits + 1) old ready (arrays_with ready false index left)
+            (walk_units first now old table ready start index flag true w unit)
             refl refl);
         visited = each_more old table ready start index w.visits v w.reached w.visited (kept, waits) refl;
         reached = omega (arith, w.reached, length_push w.visits v);

@@ -18,7 +18,7 @@ use Rattle.bucket_table.specs.Rehash.Units.{WorksUnits}
 pub record MakesReady {K V : Type 0} (old : ArraysView K V) (index : ℕ) (new : ArraysView K V) : Type 0 where
   pub first : length old.linked ≡ 0 → MakesArray old new
   pub beside : 0 < length old.linked → KeepsArrays old new
-  pub units : WorksUnits 1 old new
+  pub units : WorksUnits 1 (λ home. home ≡ index) old new
   pub killed : AreSourcesKilled new index
 
 -- and then they may grow: the answer says whether a growth was done, and it is done only where the bucket asks for it;
@@ -31,7 +31,7 @@ ReadiesThenGrows {K} {V} kind hash old is_old index new = (between : ArraysView 
 -- was no current one either, and all stays
 pub record FindsNone {K V : Type 0} (hash : ℕ) (old new : ArraysView K V) : Type 0 where
   pub kept : KeepsArrays old new
-  pub units : WorksUnits 1 old new
+  pub units : WorksUnits 1 (IsHome (length new.current) hash) old new
   pub alone : length old.linked ≡ 0 → (length old.current ≡ 0) × (new ≡ old)
   pub home : 0 < length new.current → HomeWantsMemory hash old new
 

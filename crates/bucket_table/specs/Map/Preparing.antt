@@ -22,7 +22,7 @@ HomeWantsMemory hash old new = (index : ℕ) × IsHome (length new.current) hash
 pub record IsPrepared {K V H : Type 0} (kind hash : ℕ) (old after : TableView K V H) : Type 0 where
   pub map : KeepsPairs (state_of kind old) (state_of kind after)
   pub kept : KeepsArrays old.arrays after.arrays
-  pub units : WorksUnits 1 old.arrays after.arrays
+  pub units : WorksUnits 1 (IsHome (length after.arrays.current) hash) old.arrays after.arrays
   pub alone : length old.arrays.linked ≡ 0 → after ≡ old
   pub home : 0 < length after.arrays.current → IsReady after.arrays hash ⊎ HomeWantsMemory hash old.arrays after.arrays
 

@@ -2,7 +2,8 @@
 use Rattle.std.specs.Prelude.{ℕ, ◌+◌, ◌*◌, ◌<◌, ◌≤◌, ◌≡◌, ◌⊎◌, Bool, true, false, List, [], Result, Ok, Err, length}
 use Rattle.bucket_slots.specs.ArrayView.{bucket_at}
 use Rattle.bucket_slots.specs.BucketView.{BucketView, pairs_in}
-use Rattle.bucket_table.specs.Views.ArraysView.{ArraysView, killed_flags}
+use Rattle.bucket_slots.specs.Homes.{IsInRange}
+use Rattle.bucket_table.specs.Views.ArraysView.{ArraysView, IsSource, killed_flags}
 use Rattle.bucket_table.specs.Rehash.Covered.{IsUnitKilled}
 use Rattle.bucket_table.specs.Views.Keeping.{KeepsArrays, StayKilled}
 
@@ -49,6 +50,19 @@ pub record WantsMemory {K V : Type 0} (IsOne : ℕ → Type 0) (old new : Arrays
 abbrev pub SpendsSome : {K V : Type 0} → List (BucketView K V) → List (BucketView K V) → Type 0
 SpendsSome was is = (i : ℕ) → (bucket_at is i ≡ bucket_at was i) ⊎ (((bucket_at is i).killed ≡ true) × (pairs_in (bucket_at is i) ≡ []))
 
+-- a bucket stands, and isn't killed
+abbrev pub IsAlive : {K V : Type 0} → List (BucketView K V) → ℕ → Type 0
+IsAlive buckets i = (i < length buckets) × ((bucket_at buckets i).killed ≡ false)
+
+-- a bucket that isn't killed stays so, and its array stands on, unless it is one of some
+abbrev pub KillsOnly : {K V : Type 0} → (ℕ → Type 0) → List (BucketView K V) → List (BucketView K V) → Type 0
+KillsOnly IsOne was is = (i : ℕ) → IsAlive was i → IsOne i ⊎ IsAlive is i
+
+-- the old buckets that some steps may move: those of the next units, one a step, and the sources of the current buckets that get ready
+abbrev pub IsDue : {K V : Type 0} → ℕ → (ℕ → Type 0) → ArraysView K V → ℕ → Type 0
+IsDue steps GetsReady arrays i = IsInRange (64 * arrays.tickets.position) (64 * (arrays.tickets.position + steps)) i
+    ⊎ ((index : ℕ) × GetsReady index × IsSource arrays index i)
+
 -- the next units of the old array, as many as `count`, are easy: the bag has room for a ticket, and no memory is needed
 pub record UnitsNeedNoMemory {K V : Type 0} (count : ℕ) (arrays : ArraysView K V) : Type 0 where
   pub has_room : length arrays.tickets.open_units < 2047
@@ -70,9 +84,11 @@ pub record HasWorkedUnits {K V : Type 0} (steps : ℕ) (old new : ArraysView K V
   pub most : new.tickets.position ≤ old.tickets.position + steps
   pub worked : (count : ℕ) → count ≤ steps → UnitsNeedNoMemory count old → AreWorked count old new
 
--- some steps, each of which works a unit: no old array comes, and one that stood is gone or stands on
-abbrev pub WorksUnits : {K V : Type 0} → ℕ → ArraysView K V → ArraysView K V → Type 0
-WorksUnits steps old new = 0 < length new.linked → HasWorkedUnits steps old new
+-- some steps, each of which works a unit, and some current buckets that get ready: no old array comes, one that stood is gone or
+-- stands on, and no old bucket is killed but those of the next units, one a step, and the sources of these buckets
+pub record WorksUnits {K V : Type 0} (steps : ℕ) (GetsReady : ℕ → Type 0) (old new : ArraysView K V) : Type 0 where
+  pub stands : 0 < length new.linked → HasWorkedUnits steps old new
+  pub only : KillsOnly (IsDue steps GetsReady old) old.linked new.linked
 
 -- the steps of a walk that goes through some buckets: one before each, and one more where it is refused
 abbrev pub steps_of : {A E : Type 0} → Result A E → ℕ → ℕ

@@ -3,7 +3,7 @@ use Rattle.std.specs.Prelude.{ℕ, ◌+◌, ◌-◌, ◌*◌, ◌<◌, ◌≤◌
 use Rattle.std.specs.List.{AllByRecursion}
 use Rattle.bucket_slots.specs.ArrayView.{bucket_at}
 use Rattle.bucket_slots.specs.BucketView.{Place, null_place, pairs_in, slot_in}
-use Rattle.bucket_slots.specs.Homes.{IsInInterval, Meets, interval_width}
+use Rattle.bucket_slots.specs.Homes.{IsInInterval, IsInRange, Meets, interval_width}
 use Rattle.bucket_slots.specs.Marking.{HasNoNewMark}
 use Rattle.bucket_slots.specs.Slots.{live_pair}
 use Rattle.bucket_slots.specs.Walking.{MovesToNext, pairs_ahead}
@@ -86,7 +86,7 @@ pub record Passes {K V A : Type 0} (index_of : A → ℕ) (bound : ℕ) (old : A
   pub begins : 0 < length old.current → IsInInterval (length old.current) from bound
   pub count : IsPassed index_of (length old.current) from result passed
   pub kept : KeepsArrays old new
-  pub units : WorksUnits (units_passed result passed) old new
+  pub units : WorksUnits (units_passed result passed) (IsInRange from (from + units_passed result passed)) old new
   pub sources : AreKilledFor new from (from + passed)
   pub alone : length old.linked ≡ 0 → new ≡ old
   pub wanted : IsErrAnd result (λ missing. missing ≡ Memory) → WantsMemory (IsSource new (from + passed)) old new

@@ -4,6 +4,7 @@ use Rattle.std.specs.Prelude.{is_ok, length, map, Result, OnErr, OnOk}
 use Rattle.std.specs.List.{AllByRecursion, flat_map}
 use Rattle.std.specs.List.Sorted.{IsPermutation}
 use Rattle.bucket_slots.specs.BucketView.{BucketView, entries_in, pairs_in}
+use Rattle.bucket_slots.specs.Homes.{IsInRange}
 use Rattle.bucket_table.specs.Views.ArraysView.{ArraysView, IsSource, pairs_of}
 use Rattle.bucket_table.specs.Resize.Asking.{AsksShrinking, ResizesIf}
 use Rattle.bucket_table.specs.Walking.Cursors.{AreKilledFor, bound_of}
@@ -91,7 +92,7 @@ pub record WalksBy {S A E K V : Type 0} (step : S → BucketView K V → Bool �
   pub calls : AreCalls step first false visits now flag
   pub walk : IsWalk hash old from visits ended
   pub len : length ended.current ≡ length old.current
-  pub units : WorksUnits (steps_of result (length visits)) old ended
+  pub units : WorksUnits (steps_of result (length visits)) (IsInRange from (from + steps_of result (length visits))) old ended
   pub sources : AreKilledFor ended from (from + length visits)
   pub within : 0 < length visits → from + length visits ≤ length old.current
   pub wanted : OnErr result (WantsMemory (IsSource ended (from + length visits)) old ended)

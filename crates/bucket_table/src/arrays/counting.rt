@@ -20,7 +20,7 @@ impl<K: Eq + Drop, V: Drop, L: LruList + Drop, const TYPE: u8> Arrays<K, V, L, T
         ensures placed { ArePlaced (H.hash_of hasher.now) self.new }
         ensures kept { Keeps self.old self.new }
         ensures count { result ≡ counted_to (entries_of self.old) }
-        ensures units { WorksUnits 1 self.old self.new }
+        ensures units { WorksUnits 1 (λ index. ⊥) self.old self.new }
         ensures arrays { CountsAndResizes self.old self.new }
         ensures alone { length self.old.linked ≡ 0 → (entries_of self.old ≡ [] → ⊥) → self.new ≡ self.old }
     {

@@ -55,7 +55,7 @@ impl<K: Eq + Drop, V: Drop, L: LruList + Drop, const TYPE: u8> Arrays<K, V, L, T
         ensures placed { ArePlaced (H.hash_of hasher.now) self.new }
         ensures kept { Keeps self.old self.new }
         ensures ready { OnOk result (IsReady self.new hash) }
-        ensures units { WorksUnits 1 self.old self.new }
+        ensures units { WorksUnits 1 (IsHome (length self.new.current) hash) self.old self.new }
         ensures beside { 0 < length self.old.linked → KeepsArrays self.old self.new }
         ensures made { length self.old.linked ≡ 0 → OnOk result (MakesArray self.old self.new) }
         ensures refused { length self.old.linked ≡ 0 → OnErr result ((length self.old.current ≡ 0) × (self.new ≡ self.old)) }

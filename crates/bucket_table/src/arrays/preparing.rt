@@ -1,5 +1,6 @@
 //! A current bucket whose old pairs have come.
 ghost use Rattle.std.specs.Prelude.{◌≡◌, ◌<◌, Err, IfErr, IsOk, OnErr, OnOk, length};
+ghost use Rattle.bucket_slots.specs.Homes.{IsHome};
 ghost use Rattle.bucket_table.specs.Views.ArraysView.{ArePlaced, AreSourcesKilled, IsSource};
 ghost use Rattle.bucket_table.specs.Views.Keeping.{KeepsArrays};
 ghost use Rattle.bucket_table.specs.Map.Preparing.{HomeWantsMemory, IsMissing, IsReady};
@@ -24,7 +25,7 @@ impl<K: Eq + Drop, V: Drop, L: LruList + Drop, const TYPE: u8> Arrays<K, V, L, T
         ensures kept { KeepsArrays self.old self.new }
         ensures ready { OnOk result (IsReady self.new hash) }
         ensures wanted { result ≡ Err Missing.Memory → HomeWantsMemory hash self.old self.new }
-        ensures units { WorksUnits 1 self.old self.new }
+        ensures units { WorksUnits 1 (IsHome (length self.new.current) hash) self.old self.new }
         ensures alone { length self.old.linked ≡ 0 → self.new ≡ self.old }
         ensures missing { IfErr result (λ missing. IsMissing missing self.old) }
     {
@@ -58,7 +59,7 @@ impl<K: Eq + Drop, V: Drop, L: LruList + Drop, const TYPE: u8> Arrays<K, V, L, T
         ensures kept { KeepsArrays self.old self.new }
         ensures ready { OnOk result (AreSourcesKilled self.new index) }
         ensures wanted { OnErr result (WantsMemory (IsSource self.new index) self.old self.new) }
-        ensures units { WorksUnits 1 self.old self.new }
+        ensures units { WorksUnits 1 (λ home. home ≡ index) self.old self.new }
         ensures alone { length self.old.linked ≡ 0 → self.new ≡ self.old }
         ensures succeeds { length self.old.linked ≡ 0 → IsOk result }
     {

@@ -5,7 +5,7 @@ ghost use Rattle.bucket_slots.specs.Homes.{IsInRange};
 ghost use Rattle.bucket_table.specs.Views.ArraysView.{ArePlaced};
 ghost use Rattle.bucket_table.specs.Layout.Landings.{CarriesRecency};
 ghost use Rattle.bucket_table.specs.Rehash.Rehashing.{IsUnmoved, RelocatesAt};
-ghost use Rattle.bucket_table.specs.Rehash.Units.{NeedsNoMemory, SpendsSome, WantsMemory, WorksRange};
+ghost use Rattle.bucket_table.specs.Rehash.Units.{KillsOnly, NeedsNoMemory, SpendsSome, WantsMemory, WorksRange};
 
 use super::Arrays;
 use super::moving::relocate;
@@ -58,6 +58,7 @@ impl<K: Eq + Drop, V: Drop, L: LruList + Drop, const TYPE: u8> Arrays<K, V, L, T
         ensures placed { ArePlaced (H.hash_of hasher.now) self.new }
         ensures worked { WorksRange start end result self.old self.new }
         ensures spends { SpendsSome self.old.linked self.new.linked }
+        ensures only { KillsOnly (IsInRange start end) self.old.linked self.new.linked }
         ensures wanted { result ≡ false → WantsMemory (IsInRange start end) self.old self.new }
     {
         'buckets: for index in start..end {

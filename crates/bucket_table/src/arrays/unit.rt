@@ -4,7 +4,7 @@ ghost use Rattle.bucket_slots.specs.Homes.{IsInRange};
 ghost use Rattle.bucket_table.specs.Views.ArraysView.{ArePlaced};
 ghost use Rattle.bucket_table.specs.Views.Keeping.{KeepsArrays};
 ghost use Rattle.bucket_table.specs.Rehash.Finishing.{Finishes};
-ghost use Rattle.bucket_table.specs.Rehash.Units.{SpendsSome, WantsMemory, WorksUnit, WorksUnits};
+ghost use Rattle.bucket_table.specs.Rehash.Units.{KillsOnly, SpendsSome, WantsMemory, WorksUnit, WorksUnits};
 
 use super::Arrays;
 use crate::key_hash::KeyHash;
@@ -18,7 +18,7 @@ impl<K: Eq + Drop, V: Drop, L: LruList + Drop, const TYPE: u8> Arrays<K, V, L, T
         requires placed { ArePlaced (H.hash_of hasher.now) self.old }
         ensures placed { ArePlaced (H.hash_of hasher.now) self.new }
         ensures kept { KeepsArrays self.old self.new }
-        ensures units { WorksUnits 1 self.old self.new }
+        ensures units { WorksUnits 1 (λ index. ⊥) self.old self.new }
         ensures alone { length self.old.linked ≡ 0 → (result ≡ None) × (self.new ≡ self.old) }
         ensures none { IfNone result (self.new ≡ self.old) }
         ensures finishes { self.old.tickets.open_units ≡ [] → Finishes self.old result self.new }
@@ -39,6 +39,8 @@ impl<K: Eq + Drop, V: Drop, L: LruList + Drop, const TYPE: u8> Arrays<K, V, L, T
         ensures placed { ArePlaced (H.hash_of hasher.now) self.new }
         ensures worked { WorksUnit unit result self.old self.new }
         ensures spends { SpendsSome self.old.linked self.new.linked }
+        ensures only { KillsOnly (IsInRange (64 * unit) (64 * unit + 64)) self.old.linked
+            self.new.linked }
         ensures wanted { result ≡ false
             → WantsMemory (IsInRange (64 * unit) (64 * unit + 64)) self.old self.new }
     {

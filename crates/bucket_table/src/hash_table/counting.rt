@@ -31,7 +31,7 @@ impl<K: Eq + Drop, V: Drop, H: KeyHash<K>, L: LruList + Drop, const TYPE: u8> Ha
     pub fn num_entries(&mut self) -> usize
         ensures count { result ≡ counted_to (pairs_of self.new.arrays) }
         ensures map { KeepsPairs (state_of TYPE self.old) (state_of TYPE self.new) }
-        ensures units { WorksUnits 1 self.old.arrays self.new.arrays }
+        ensures units { WorksUnits 1 (λ index. ⊥) self.old.arrays self.new.arrays }
         ensures arrays { CountsAndResizes self.old.arrays self.new.arrays }
         ensures alone { length self.old.arrays.linked ≡ 0 → (pairs_of self.old.arrays ≡ [] → ⊥)
             → self.new ≡ self.old }
@@ -47,7 +47,7 @@ impl<K: Eq + Drop, V: Drop, H: KeyHash<K>, L: LruList + Drop, const TYPE: u8> Ha
     pub fn has_entry(&mut self) -> bool
         ensures has { IsTrue result ↔ (0 < length (pairs_of self.new.arrays)) }
         ensures map { KeepsPairs (state_of TYPE self.old) (state_of TYPE self.new) }
-        ensures units { WorksUnits 1 self.old.arrays self.new.arrays }
+        ensures units { WorksUnits 1 (λ index. ⊥) self.old.arrays self.new.arrays }
         ensures arrays { CountsAndResizes self.old.arrays self.new.arrays }
         ensures alone { length self.old.arrays.linked ≡ 0 → (pairs_of self.old.arrays ≡ [] → ⊥)
             → self.new ≡ self.old }

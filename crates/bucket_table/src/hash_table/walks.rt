@@ -141,7 +141,7 @@ impl<K: Eq + Drop, V: Drop, H: KeyHash<K>, L: LruList + Drop, const TYPE: u8> Ha
         ensures ready { OnOk result (AreSourcesKilled self.new.arrays index) }
         ensures wanted { OnErr result
             (WantsMemory (IsSource self.new.arrays index) self.old.arrays self.new.arrays) }
-        ensures units { WorksUnits 1 self.old.arrays self.new.arrays }
+        ensures units { WorksUnits 1 (λ home. home ≡ index) self.old.arrays self.new.arrays }
         ensures alone { length self.old.arrays.linked ≡ 0 → self.new.arrays ≡ self.old.arrays }
         ensures succeeds { length self.old.arrays.linked ≡ 0 → IsOk result }
     {

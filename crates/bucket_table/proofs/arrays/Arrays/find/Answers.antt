@@ -1,5 +1,5 @@
 use Rattle.bucket_table.specs.Map.Finding.{ReadiesThenGrows}
-use Rattle.bucket_table.proofs.Map.Finding.{none_found}
+use Rattle.bucket_table.proofs.Map.Finding.{none_found, one_home}
 use Rattle.bucket_table.proofs.Resize.Growing.{home_grown, locked_grown, locked_ready}
 use Rattle.bucket_table.proofs.Views.Keeping.{keeps_both}
 use Rattle.bucket_table.proofs.arrays.Arrays.find.Goals as goal
@@ -27,9 +27,10 @@ pub returns-clause-finds : goal.returns-clause-finds
 unfolding ReadiesThenGrows
 returns-clause-finds g c =
     let e = c.fetch_or_make.ensures in
+    let one = one_home c.args.hash c.home-index.result c.args.self.now c.fetch_or_make.new.self c.home-index.ensures e.units in
     let killed = c.in-Ok.ensures.ready.killed c.home-index.result c.home-index.ensures in (
       c.fetch_or_make.new.self,
-      record { first = c.in-Ok.ensures.made; beside = e.beside; units = e.units; killed = killed },
+      record { first = c.in-Ok.ensures.made; beside = e.beside; units = one; killed = killed },
       c.grow_at-is_old.ensures.asked,
       c.grow_at-is_old.ensures.grown,
     )

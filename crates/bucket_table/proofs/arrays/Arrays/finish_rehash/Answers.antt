@@ -6,7 +6,7 @@ use Rattle.bucket_table.proofs.arrays.Arrays.finish_rehash.Goals as goal
 
 pub loop-success-init : goal.loop-success-init
 loop-success-init g c =
-    (c.requires.placed, kept_none c.args.self.now, c.requires.none_open, omega arith, λ none. refl, stands_still c.args.self.now)
+    (c.requires.placed, kept_none c.args.self.now, c.requires.none_open, omega arith, λ none. refl, stands_still _ c.args.self.now)
 
 pub loop-success-smaller : goal.loop-success-smaller
 loop-success-smaller g c =
@@ -25,7 +25,8 @@ loop-success-preserved g c =
       done.none_open,
       omega (arith, fewer, so_far),
       λ none. let alone = ap (λ a. length a.linked) (c.loop-success.invariant.4 none) in absurd (omega (arith, some, alone, none)),
-      units_both c.loop-success.count 1 c.args.self.now c.loop-success.self c.work_unit.new.self c.loop-success.invariant.1.current_len
+      units_both _ c.loop-success.count 1 c.args.self.now c.loop-success.self c.work_unit.new.self (λ i none. none) (λ i none. none)
+          c.loop-success.invariant.1.current_len
           c.loop-success.invariant.5 c.work_unit.ensures.units,
     )
 
@@ -42,5 +43,6 @@ returns-then-not-success-clause-kept g c =
 pub returns-then-not-success-clause-wanted : goal.returns-then-not-success-clause-wanted
 returns-then-not-success-clause-wanted g c =
     let done = c.in-Some.ensures.finishes c.loop-success.invariant.2 in
-    wanted_before _ c.loop-success.count 1 c.args.self.now c.loop-success.self c.work_unit.new.self
-    c.loop-success.invariant.1.current_len c.loop-success.invariant.5 c.work_unit.ensures.units (done.one.2 c.if-not-success.true)
+    wanted_before _ c.loop-success.count c.args.self.now c.loop-success.self c.work_unit.new.self
+    c.loop-success.invariant.1.current_len c.loop-success.invariant.5 (λ on. (c.work_unit.ensures.units.stands on).len)
+    (done.one.2 c.if-not-success.true)

@@ -1,5 +1,6 @@
 use Rattle.bucket_table.proofs.Words.{arith, ◌*◌}
 use Rattle.std.proofs.Common.{mul_comm}
+use Rattle.bucket_table.proofs.Rehash.Killing.{only_unit}
 use Rattle.bucket_table.proofs.Rehash.UnitSteps.{unit_worked}
 use Rattle.bucket_table.proofs.Rehash.Wanting.{range_longer}
 use Rattle.bucket_table.proofs.arrays.Arrays.relocate_unit.Goals as goal
@@ -11,6 +12,11 @@ returns-clause-worked g c = rw c.release_old.ensures
 
 pub returns-clause-placed : goal.returns-clause-placed
 returns-clause-placed g c = rw c.release_old.ensures c.relocate_range-success.ensures.placed
+
+pub returns-clause-only : goal.returns-clause-only
+returns-clause-only g c = rw c.release_old.ensures
+    (only_unit (c.args.unit * 64) c.min-end.result c.args.unit _ _ c.relocate_range-success.ensures.only (mul_comm c.args.unit 64)
+    (omega (arith, c.min-end.ensures)))
 
 pub returns-clause-wanted : goal.returns-clause-wanted
 returns-clause-wanted g c = λ refused. rw c.release_old.ensures

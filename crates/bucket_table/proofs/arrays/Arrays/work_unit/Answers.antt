@@ -42,7 +42,7 @@ returns-clause-units g c =
     c.sound.ensures.arrays.tickets_len spends
     (λ needs. range_spared _ _ _ _ _ c.relocate_unit-success.ensures.wanted
     (rw c.in-Some.ensures.others (easy_handed c.args.self.now _ c.in-Some.ticket h needs)))
-    c.end_incremental_rehash.ensures.rehash
+    (rw c.in-Some.ensures.others at c.relocate_unit-success.ensures.only) c.end_incremental_rehash.ensures.rehash
 
 pub returns-clause-alone : goal.returns-clause-alone
 returns-clause-alone g c = λ alone. absurd (none_handed c.args.self.now c.in-Some.ticket _ c.sound.ensures.arrays.tickets_len
