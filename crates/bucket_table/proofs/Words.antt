@@ -59,6 +59,8 @@ pub use Rattle.bucket_table.specs.Rehash.Relocation.{homed_len, marks_among}
 pub use Rattle.bucket_table.specs.Resize.ResizePlan.{slots_of}
 pub use Rattle.bucket_table.specs.Resize.Sampling.{counted, live_counts}
 pub use Rattle.bucket_table.specs.Views.Sides.{arrays_with, bucket_on, buckets_on}
+pub use Rattle.bucket_table.specs.declared.arrays.side.Side.{Side}
+pub use Rattle.bucket_table.specs.declared.arrays.side.Side.TheVariants.{Current, Old}
 pub use Rattle.bucket_table.specs.Rehash.State.{TicketState, first_tickets}
 pub use Rattle.bucket_table.specs.Rehash.Steps.{Ends, HandsOut, Starts}
 pub use Rattle.bucket_table.specs.Rehash.Units.{KillsOnly, SpendsSome, WorksUnits}

@@ -23,6 +23,7 @@ mod relocating;
 mod resizing;
 mod sampling;
 mod searching;
+mod side;
 mod slots;
 mod unit;
 
@@ -31,6 +32,7 @@ use bucket_slots::bucket_array::BucketArray;
 use bucket_slots::lru::LruList;
 pub use peeking::peek_arrays;
 pub(crate) use searching::Spot;
+pub use side::Side;
 use std::alloc::Global;
 use std::error::Error;
 use std::fmt;
@@ -164,11 +166,14 @@ impl<K, V, L: LruList, const TYPE: u8> Arrays<K, V, L, TYPE> {
     }
 
     /// Returns the number of buckets of one side, and 0 where there is no such array.
-    pub(crate) fn len_on(&self, is_old: bool) -> usize
-        ensures value { result ≡ length (buckets_on self.now is_old) }
+    pub(crate) fn len_on(&self, side: Side) -> usize
+        ensures value { result ≡ length (buckets_on self.now side) }
         ensures power { 0 < result → IsLength result }
     {
-        if is_old { self.old_len() } else { self.len() }
+        match side {
+            Side::Current => self.len(),
+            Side::Old => self.old_len(),
+        }
     }
 
     /// Returns the current array.
@@ -191,20 +196,19 @@ impl<K, V, L: LruList, const TYPE: u8> Arrays<K, V, L, TYPE> {
 
     /// Returns the array of one side.
     #[inline(always)]
-    pub(crate) fn array_of(&self, is_old: bool) -> &BucketArray<K, V, L, TYPE>
-        requires { 0 < length (buckets_on self.now is_old) }
-        ensures { result.now ≡ buckets_on self.now is_old }
+    pub(crate) fn array_of(&self, side: Side) -> &BucketArray<K, V, L, TYPE>
+        requires { 0 < length (buckets_on self.now side) }
+        ensures { result.now ≡ buckets_on self.now side }
     {
-        if is_old {
-            match &self.linked {
+        match side {
+            Side::Current => match &self.current {
                 Some(array) => array,
                 None => unreachable!(),
-            }
-        } else {
-            match &self.current {
+            },
+            Side::Old => match &self.linked {
                 Some(array) => array,
                 None => unreachable!(),
-            }
+            },
         }
     }
 
@@ -223,10 +227,10 @@ impl<K, V, L: LruList, const TYPE: u8> Arrays<K, V, L, TYPE> {
 
 /// Tests whether an array stands.
 #[inline(always)]
-fn stands<K, V, L: LruList, const TYPE: u8>(side: &Option<BucketArray<K, V, L, TYPE>>) -> bool
-    ensures { IsTrue result ↔ (0 < length (list_of side.now)) }
+fn stands<K, V, L: LruList, const TYPE: u8>(held: &Option<BucketArray<K, V, L, TYPE>>) -> bool
+    ensures { IsTrue result ↔ (0 < length (list_of held.now)) }
 {
-    match side {
+    match held {
         None => false,
         Some(array) => {
             let _len = array.len();
@@ -237,12 +241,12 @@ fn stands<K, V, L: LruList, const TYPE: u8>(side: &Option<BucketArray<K, V, L, T
 
 /// Returns the number of buckets of an array, and 0 where there is none.
 #[inline(always)]
-fn len_of<K, V, L: LruList, const TYPE: u8>(side: &Option<BucketArray<K, V, L, TYPE>>) -> usize
-    ensures value { result ≡ length (list_of side.now) }
+fn len_of<K, V, L: LruList, const TYPE: u8>(held: &Option<BucketArray<K, V, L, TYPE>>) -> usize
+    ensures value { result ≡ length (list_of held.now) }
     ensures few { result ≤ 2 ^ 57 }
     ensures power { 0 < result → IsLength result }
 {
-    match side {
+    match held {
         None => 0,
         Some(array) => array.len(),
     }
@@ -251,12 +255,12 @@ fn len_of<K, V, L: LruList, const TYPE: u8>(side: &Option<BucketArray<K, V, L, T
 /// Returns the array of one side.
 #[inline(always)]
 fn array_in<K, V, L: LruList, const TYPE: u8>(
-    side: &Option<BucketArray<K, V, L, TYPE>>,
+    held: &Option<BucketArray<K, V, L, TYPE>>,
 ) -> Option<&BucketArray<K, V, L, TYPE>>
-    ensures { MatchOption result (length (list_of side.now) ≡ 0) (λ array.
-        (0 < length array.now) × (array.now ≡ list_of side.now)) }
+    ensures { MatchOption result (length (list_of held.now) ≡ 0) (λ array.
+        (0 < length array.now) × (array.now ≡ list_of held.now)) }
 {
-    match side {
+    match held {
         None => None,
         Some(array) => {
             let _len = array.len();

@@ -23,6 +23,8 @@ use Rattle.bucket_table.specs.declared.hash_table.NotInserted.{NotInserted}
 use Rattle.bucket_table.specs.declared.hash_table.NotInserted.TheVariants.{Memory, Present}
 use Rattle.bucket_table.proofs.Resize.Following.{given_up_keeps, pushed_keeps}
 use Rattle.bucket_table.proofs.Views.MarksKept.{marks_among-set}
+use Rattle.bucket_table.specs.declared.arrays.side.Side.{Side}
+use Rattle.bucket_table.specs.declared.arrays.side.Side.TheVariants.{Current, Old}
 
 module _ {K V : Type 0} where
   module _ (keeps : ℕ → Bool) where
@@ -87,13 +89,13 @@ module _ {K V : Type 0} where
   marks_in-slots_after_insertion kind keeps s pair byte = inserted keeps s pair byte (looks_at_marks kind s)
 
   -- nor does another bucket that brings none to its own
-  pub marks_of-arrays_with : (arrays : ArraysView K V) (side : Bool) (index : ℕ) (left : BucketView K V)
+  pub marks_of-arrays_with : (arrays : ArraysView K V) (side : Side) (index : ℕ) (left : BucketView K V)
       → HasNoNewMark (marks_in (bucket_on arrays side index)) (marks_in left)
       → HasNoNewMark (marks_of arrays) (marks_of (arrays_with arrays side index left))
-  marks_of-arrays_with arrays false index left here =
+  marks_of-arrays_with arrays Current index left here =
       no_new-append (marks_among arrays.current) (marks_among arrays.linked) _ (marks_among arrays.linked)
       (marks_among-set arrays.current index left here) (no_new-refl (marks_among arrays.linked))
-  marks_of-arrays_with arrays true index left here =
+  marks_of-arrays_with arrays Old index left here =
       no_new-append (marks_among arrays.current) (marks_among arrays.linked) (marks_among arrays.current) _
       (no_new-refl (marks_among arrays.current)) (marks_among-set arrays.linked index left here)
 
@@ -127,12 +129,12 @@ module _ {K V : Type 0} where
   ]
 
 module _ {K V H : Type 0} (kind hash : ℕ) (old new : TableView K V H) where
-  found : {E : Type 0} (answer : Result (Bool × ℕ) E) → Finds kind hash old answer new → HasNoNewMark (marks_of old.arrays) (marks_of new.arrays)
+  found : {E : Type 0} (answer : Result (Side × ℕ) E) → Finds kind hash old answer new → HasNoNewMark (marks_of old.arrays) (marks_of new.arrays)
   found (Ok at) finds = finds.kept.marks
   found (Err e) refused = refused.prepared.kept.keeps.marks
 
 module _ {K V H A : Type 0} (kind : ℕ) (keeps : ℕ → Bool) (pair : K × V) (byte : ℕ) where
-  inserted_at : (old : TableView K V H) (r : Result A (NotInserted K V)) (answer : Result (Bool × ℕ) (Unit {0})) (new : TableView K V H)
+  inserted_at : (old : TableView K V H) (r : Result A (NotInserted K V)) (answer : Result (Side × ℕ) (Unit {0})) (new : TableView K V H)
       → InsertsAt kind keeps pair byte old r answer new
       → HasNoNewMark (marks_of old.arrays) (marks_of new.arrays)
   inserted_at old (Ok done) (Ok at) new is =

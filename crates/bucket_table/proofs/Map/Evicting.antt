@@ -1,6 +1,6 @@
 -- A pair evicted from a hash's home, and what that makes of the table in which the home was prepared.
-use Rattle.bucket_table.proofs.Words.{Bool, Err, IfSome, IsHome, KeepsPairs, None, Ok, Option, Some, TableView, buckets_on, false, inl, inr}
-use Rattle.bucket_table.proofs.Words.{length, refl, subst, sym, true, ℕ, ◌∙◌, ◌≡◌}
+use Rattle.bucket_table.proofs.Words.{Current, Err, IfSome, IsHome, KeepsPairs, None, Ok, Old, Option, Side, Some, TableView, buckets_on}
+use Rattle.bucket_table.proofs.Words.{inl, inr, length, refl, subst, sym, ℕ, ◌∙◌, ◌≡◌}
 use Rattle.bucket_table.specs.Map.ByKey.{Evicts, EvictsAt, PreparesThen}
 use Rattle.bucket_table.specs.Map.MapState.{TakesPair, state_of}
 use Rattle.bucket_table.specs.Map.Preparing.{HomeWantsMemory, IsPrepared, IsReady}
@@ -12,7 +12,7 @@ use Rattle.bucket_table.proofs.Map.TakeSteps.{then_taken}
 
 module _ {K V H : Type 0} (kind : ℕ) (old between new : TableView K V H) where
   -- a pair is out, or all stays, after the pairs moved
-  pub then_evicted : (side : Bool) (index : ℕ) (r : Option (K × V)) → KeepsPairs (state_of kind old) (state_of kind between)
+  pub then_evicted : (side : Side) (index : ℕ) (r : Option (K × V)) → KeepsPairs (state_of kind old) (state_of kind between)
       → IfSome r (λ pair. TakesPair (state_of kind between) pair (state_of kind new))
       → new ≡ with_bucket between side index (slots_left (bucket_of between side index) r)
       → Evicts {E = ℕ} (state_of kind old) (Ok r) (state_of kind new)
@@ -24,21 +24,21 @@ module _ {K V H : Type 0} (kind : ℕ) (old between new : TableView K V H) where
 
   -- and which pair it is
   at_current : (hash index : ℕ) (r : Option (K × V)) → IsPrepared kind hash old between → IsReady between.arrays hash
-      → IsHome (length between.arrays.current) hash index → Goes (bucket_of between false index) r
-      → new ≡ with_bucket between false index (slots_left (bucket_of between false index) r)
+      → IsHome (length between.arrays.current) hash index → Goes (bucket_of between Current index) r
+      → new ≡ with_bucket between Current index (slots_left (bucket_of between Current index) r)
       → PreparesThen kind hash old (λ moved. EvictsAt {E = ℕ} hash moved (Ok r) new)
   at_current hash index (Some pair) prepared ready home went is =
       record { between = between; prepared = prepared; done = (ready, index, home, went.1, is) }
   at_current hash index None prepared ready home went is =
-      let same = is ∙ with_own between.hasher between.arrays false index (bucket_of between false index) refl in
+      let same = is ∙ with_own between.hasher between.arrays Current index (bucket_of between Current index) refl in
       record { between = between; prepared = prepared; done = (inr (ready, index, home, went), same) }
 
-  pub evicted_at : (hash : ℕ) (side : Bool) (index : ℕ) (r : Option (K × V)) → IsPrepared kind hash old between → side ≡ false
+  pub evicted_at : (hash : ℕ) (side : Side) (index : ℕ) (r : Option (K × V)) → IsPrepared kind hash old between → side ≡ Current
       → IsReady between.arrays hash → IsHome (length (buckets_on between.arrays side)) hash index → Goes (bucket_of between side index) r
       → new ≡ with_bucket between side index (slots_left (bucket_of between side index) r)
       → PreparesThen kind hash old (λ moved. EvictsAt {E = ℕ} hash moved (Ok r) new)
-  evicted_at hash true index r prepared current ready home went is = absurd cc
-  evicted_at hash false index r prepared current ready home went is = at_current hash index r prepared ready home went is
+  evicted_at hash Old index r prepared current ready home went is = absurd cc
+  evicted_at hash Current index r prepared current ready home went is = at_current hash index r prepared ready home went is
 
 module _ {K V H : Type 0} (kind : ℕ) (old new : TableView K V H) where
   -- without an array there is nothing to evict

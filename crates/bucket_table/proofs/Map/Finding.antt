@@ -1,7 +1,7 @@
 -- What finding a bucket for a writer, and preparing a home, leave of a table.
-use Rattle.bucket_table.proofs.Words.{ArraysView, Bool, Err, IfOk, IsHome, IsLocked, Keeps, KeepsArrays, Ok, OnErr, OnOk, Result, TableView}
-use Rattle.bucket_table.proofs.Words.{WorksUnits, ap, arith, buckets_on, cases_lt, inl, inr, length, refl, subst, sym, ℕ, ◌<◌, ◌∙◌, ◌≡◌}
-use Rattle.bucket_table.proofs.Words.{◌⊎◌}
+use Rattle.bucket_table.proofs.Words.{ArraysView, Bool, Err, IfOk, IsHome, IsLocked, Keeps, KeepsArrays, Ok, OnErr, OnOk, Result}
+use Rattle.bucket_table.proofs.Words.{Side, TableView, WorksUnits, ap, arith, buckets_on, cases_lt, inl, inr, length, refl, subst}
+use Rattle.bucket_table.proofs.Words.{sym, ℕ, ◌<◌, ◌∙◌, ◌≡◌, ◌⊎◌}
 use Rattle.std.proofs.Common.{IfErr}
 use Rattle.bucket_table.specs.Map.Finding.{Finds, FindsNone, ReadiesThenGrows}
 use Rattle.bucket_table.specs.Map.Preparing.{HomeWantsMemory, IsMissing, IsPrepared, IsReady}
@@ -64,7 +64,7 @@ module _ {K V H : Type 0} (kind hash : ℕ) (hasher : H) (a new : ArraysView K V
   }
 
   -- what the arrays answer is what the table answers
-  pub finds : {E : Type 0} (result : Result (Bool × ℕ) E) → Keeps a new → IfOk result (λ found. IsLocked new found.0 found.1)
+  pub finds : {E : Type 0} (result : Result (Side × ℕ) E) → Keeps a new → IfOk result (λ found. IsLocked new found.0 found.1)
       → IfOk result (λ found. IsHome (length (buckets_on new found.0)) hash found.1)
       → IfOk result (λ found. ReadiesThenGrows kind hash a found.0 found.1 new) → OnErr result (FindsNone hash a new)
       → Finds kind hash (over a) result (over new)

@@ -1,7 +1,7 @@
 -- A pair put into a locked bucket where its key is nowhere, and what that makes of the table in which the bucket was found.
-use Rattle.bucket_table.proofs.Words.{ArraysView, Bool, BucketView, Err, IsHome, IsLocked, IsOneMap, IsPermutation-refl, KeepsPairs}
-use Rattle.bucket_table.proofs.Words.{MapState, Ok, OnErr, OnOk, Result, bucket_at, buckets_on, length, pairs_of, refl}
-use Rattle.bucket_table.proofs.Words.{slots_after_insertion, true, ℕ, IsEquivalence, TableView, ◌%◌, ◌≡◌}
+use Rattle.bucket_table.proofs.Words.{ArraysView, Bool, BucketView, Err, IsEquivalence, IsHome, IsLocked, IsOneMap, IsPermutation-refl}
+use Rattle.bucket_table.proofs.Words.{KeepsPairs, MapState, Ok, OnErr, OnOk, Result, Side, TableView, bucket_at, buckets_on, length}
+use Rattle.bucket_table.proofs.Words.{pairs_of, refl, slots_after_insertion, true, ℕ, ◌%◌, ◌≡◌}
 use Rattle.bucket_table.specs.Map.ByKey.{AnswersInsertion, HandsBack, Inserts, InsertsAt}
 use Rattle.bucket_table.specs.Map.Finding.{FindsBucket, FindsThen}
 use Rattle.bucket_table.specs.Map.MapState.{state_of}
@@ -16,7 +16,7 @@ use Rattle.bucket_table.proofs.Scripts.CallSteps.{then_added, then_kept, there_b
 use Rattle.bucket_table.proofs.Views.SideChanges.{changeable_locked}
 
 module _ {K V H : Type 0} {eq : K → K → Bool} (laws : IsEquivalence eq) (hash : H → K → ℕ) (kind : ℕ) {hasher : H} {a : ArraysView K V}
-    (side : Bool) (i : ℕ) (one : IsOneMap eq (hash hasher) a) (locked : IsLocked a side i) where
+    (side : Side) (i : ℕ) (one : IsOneMap eq (hash hasher) a) (locked : IsLocked a side i) where
   pub inserted_where_absent : {A : Type 0} (r : Result A (NotInserted K V)) (b : BucketView K V) (keeps : ℕ → Bool) (key : K) (value : V)
       (h : ℕ) → ((own : K) → eq own key ≡ true → hash hasher own ≡ h) → h ≡ hash hasher key → IsHome (length (buckets_on a side)) h i
       → AnswersInsertion eq key value (h % 256) kind keeps (bucket_at (buckets_on a side) i) r
@@ -61,7 +61,7 @@ module _ {K V H A : Type 0} where
 
   -- a bucket found for the hash of a key, and changed where a pair was put
   pub found_then : (eq : K → K → Bool) (kind h n : ℕ) (keeps : ℕ → Bool) (key : K) (value : V) (old between new : TableView K V H)
-      (side : Bool) (i : ℕ) (r : Result A (NotInserted K V)) → h ≡ n → FindsBucket kind h old side i between
+      (side : Side) (i : ℕ) (r : Result A (NotInserted K V)) → h ≡ n → FindsBucket kind h old side i between
       → AnswersInsertion eq key value (h % 256) kind keeps (bucket_of between side i) r
       → OnOk r (new ≡ with_bucket between side i (slots_after_insertion kind keeps (bucket_of between side i) (key, value) (h % 256)))
       → OnErr r (new ≡ between)

@@ -1,8 +1,7 @@
 -- What a call by key finds in a table, and which marks it brings.
 use Rattle.bucket_table.proofs.Words.{ArraysView, Bool, BucketView, HasNoNewMark, IfNone, IsAbsent, IsHome, IsOneMap, List, MarksBy, None}
-use Rattle.bucket_table.proofs.Words.{Option, Place, Some, ap, arrays_with, bucket_at, bucket_on, buckets_on, by-no_new, by-trans}
-use Rattle.bucket_table.proofs.Words.{length, marks_in, marks_of, pairs_of, subst}
-use Rattle.bucket_table.proofs.Words.{true, ℕ, ◌%◌, ◌<◌, ◌∙◌, ◌≡◌}
+use Rattle.bucket_table.proofs.Words.{Option, Place, Side, Some, ap, arrays_with, bucket_at, bucket_on, buckets_on, by-no_new, by-trans}
+use Rattle.bucket_table.proofs.Words.{length, marks_in, marks_of, pairs_of, subst, true, ℕ, ◌%◌, ◌<◌, ◌∙◌, ◌≡◌}
 use Rattle.bucket_slots.specs.BucketView.{pair_at}
 use Rattle.bucket_slots.specs.Searching.{pair_wanted, place_wanted}
 use Rattle.bucket_table.specs.Map.ByKey.{StandsAt}
@@ -12,21 +11,21 @@ use Rattle.bucket_table.proofs.Views.MarksKept.{by-bucket}
 
 module _ {K V : Type 0} where
   -- what a search of one side's home finds
-  pub stands_found : (eq : K → K → Bool) (key : K) (arrays : ArraysView K V) (is_old : Bool) (array : List (BucketView K V))
+  pub stands_found : (eq : K → K → Bool) (key : K) (arrays : ArraysView K V) (side : Side) (array : List (BucketView K V))
       (b : BucketView K V) (byte index : ℕ) (at : Place)
-      → array ≡ buckets_on arrays is_old → b ≡ bucket_at array index → index < length array
-      → place_wanted (λ own. eq own key) byte b ≡ Some at → StandsAt eq key arrays is_old index at
-  stands_found eq key arrays is_old array b byte index at is lent within found =
-      let r = searched_found (λ own. eq own key) arrays is_old b byte index at
+      → array ≡ buckets_on arrays side → b ≡ bucket_at array index → index < length array
+      → place_wanted (λ own. eq own key) byte b ≡ Some at → StandsAt eq key arrays side index at
+  stands_found eq key arrays side array b byte index at is lent within found =
+      let r = searched_found (λ own. eq own key) arrays side b byte index at
       (lent ∙ ap (λ (bs : List (BucketView K V)). bucket_at bs index) is) found in
       record { pair = r.0; within = subst (λ (bs : List (BucketView K V)). index < length bs) is within; slot = r.1; there = r.2 }
 
   -- and where it finds nothing
-  pub none_at_home : (wants : K → Bool) (arrays : ArraysView K V) (is_old : Bool) (array : List (BucketView K V)) (b : BucketView K V)
+  pub none_at_home : (wants : K → Bool) (arrays : ArraysView K V) (side : Side) (array : List (BucketView K V)) (b : BucketView K V)
       (n index : ℕ)
-      → array ≡ buckets_on arrays is_old → b ≡ bucket_at array index → IsHome (length array) n index
-      → place_wanted wants (n % 256) b ≡ None → pair_wanted wants (n % 256) (home_bucket n (buckets_on arrays is_old)) ≡ None
-  none_at_home wants arrays is_old array b n index is lent home none =
+      → array ≡ buckets_on arrays side → b ≡ bucket_at array index → IsHome (length array) n index
+      → place_wanted wants (n % 256) b ≡ None → pair_wanted wants (n % 256) (home_bucket n (buckets_on arrays side)) ≡ None
+  none_at_home wants arrays side array b n index is lent home none =
       let at_home = home_bucket-is array n index home in
       subst (λ (bs : List (BucketView K V)). pair_wanted wants (n % 256) (home_bucket n bs) ≡ None) is
       (rw (← at_home, ← lent) (ap (λ at. pair_at b at) none))
@@ -43,7 +42,7 @@ module _ {K V : Type 0} (eq : K → K → Bool) (hash : K → ℕ) where
 
 module _ {K V : Type 0} (epoch : ℕ) where
   -- a bucket brought only marks of an epoch, and what came after brought none
-  pub marks_through : (a : ArraysView K V) (side : Bool) (i : ℕ) (c : BucketView K V) (new : ArraysView K V)
+  pub marks_through : (a : ArraysView K V) (side : Side) (i : ℕ) (c : BucketView K V) (new : ArraysView K V)
       → MarksBy epoch (marks_in (bucket_on a side i)) (marks_in c)
       → HasNoNewMark (marks_of (arrays_with a side i c)) (marks_of new) → MarksBy epoch (marks_of a) (marks_of new)
   marks_through a side i c new here none = by-trans epoch (marks_of a) (marks_of (arrays_with a side i c)) (marks_of new)

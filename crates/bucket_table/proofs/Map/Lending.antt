@@ -1,6 +1,6 @@
 -- A value under a key was lent, after its slot was found.
-use Rattle.bucket_table.proofs.Words.{Bool, List, Place, Slot, Some, TableView, live_pair, pairs_of, refl, same_Some}
-use Rattle.bucket_table.proofs.Words.{slot_in, subst, sym, ℕ, ◌∙◌, ◌≡◌}
+use Rattle.bucket_table.proofs.Words.{Bool, List, Place, Side, Slot, Some, TableView, live_pair, pairs_of, refl, same_Some, slot_in, subst}
+use Rattle.bucket_table.proofs.Words.{sym, ℕ, ◌∙◌, ◌≡◌}
 use Rattle.bucket_table.specs.Map.ByKey.{StandsAt}
 use Rattle.bucket_table.specs.Map.Lending.{WritesUnder, with_value}
 use Rattle.bucket_table.specs.Map.LookingUp.{IsThere}
@@ -17,7 +17,7 @@ same_there {K} {V} eq key pairs slot p q found there lent =
 
 module _ {K V H : Type 0} (eq : K → K → Bool) (key : K) (kind hash : ℕ) (old between : TableView K V H)
     (prepared : IsPrepared kind hash old between)
-    (side : Bool) (i : ℕ) (at : Place) (stands : StandsAt eq key between.arrays side i at) (own : K) (before : V)
+    (side : Side) (i : ℕ) (at : Place) (stands : StandsAt eq key between.arrays side i at) (own : K) (before : V)
     (lent : live_pair (slot_in (bucket_of between side i) at) ≡ Some (own, before)) where
   there : IsThere eq key (pairs_of between.arrays) (own, before)
   there = same_there eq key (pairs_of between.arrays) (slot_in (bucket_of between side i) at) stands.pair (own, before) stands.slot

@@ -1,8 +1,9 @@
 -- What a call of a locked bucket answers and leaves, by what its bucket's own call does.
-use Rattle.bucket_table.proofs.Words.{Bool, BucketView, Err, IfOk, Ok, OnErr, OnOk, Place}
-use Rattle.bucket_table.proofs.Words.{Result, TableView, if◌then◌else◌, live, refl, slot_in}
-use Rattle.bucket_table.proofs.Words.{subst, ℕ, ◌∙◌, ◌≡◌}
-use Rattle.std.proofs.Common.{IfErr, is_ok}
+use Rattle.bucket_table.proofs.Words.{Bool, BucketView, Err, IfNone, IfOk, IfSome, KeepsOpenTickets, None, Ok, OnErr, OnOk, Option}
+use Rattle.bucket_table.proofs.Words.{Place, Result, Side, Some, TableView, free, if◌then◌else◌, is_free, live, live_pair, refl}
+use Rattle.bucket_table.proofs.Words.{slot_at, slot_in, slots_after_insertion, subst, ℕ, ◌↔◌, ◌∙◌, ◌≡◌}
+use Rattle.std.proofs.Common.{IfErr, IsNone, OnSome, is_ok}
+use Rattle.std.specs.List.{Contains}
 use Rattle.std.specs.declared.cmp.PartialEq as equals
 use Rattle.std.specs.declared.default.Default as default
 use Rattle.bucket_slots.specs.declared.lru.LruList as list
@@ -25,7 +26,7 @@ module _ {K V : Type 0} where
 
 module _ {K V H : Type 0} where
   -- what it leaves: t is the table inside, and s what it is known as
-  pub put_or_same : {A E : Type 0} (r : Result A E) (t s : TableView K V H) (side : Bool) (i : ℕ) (b : BucketView K V)
+  pub put_or_same : {A E : Type 0} (r : Result A E) (t s : TableView K V H) (side : Side) (i : ℕ) (b : BucketView K V)
       (f : BucketView K V → BucketView K V) → t ≡ s → OnOk r (b ≡ f (bucket_of t side i)) → OnErr r (b ≡ bucket_of t side i)
       → with_bucket t side i b ≡ with_bucket s side i (if is_ok r then f (bucket_of s side i) else bucket_of s side i)
   put_or_same (Ok x) t s side i b f is put same = rw (← is, put) refl
@@ -37,5 +38,5 @@ module _ {K V H L : Type 0} {TYPE : ℕ} {equal : equals.Ghosts K} {hashing : ke
   pub table_same : (change : BucketView K V → BucketView K V) → Changes old new change → change (bucket_in old) ≡ bucket_in old
       → new.table.now ≡ old.table.now
   table_same change c same = c.table
-      ∙ rw same (subst (λ a. with_bucket old.table.now old.is_old old.index (bucket_in old) ≡ record old.table.now { arrays = a })
-      (arrays_with-same old.table.now.arrays old.is_old old.index) refl)
+      ∙ rw same (subst (λ a. with_bucket old.table.now old.side old.index (bucket_in old) ≡ record old.table.now { arrays = a })
+      (arrays_with-same old.table.now.arrays old.side old.index) refl)

@@ -1,8 +1,8 @@
 -- What is left of a table's arrays once one bucket is another one.
-use Rattle.bucket_table.proofs.Words.{ArraysView, AsksShrinking, Bool, BucketView, Err, IfNone, IsPermutation-cons, IsPermutation-trans}
-use Rattle.bucket_table.proofs.Words.{Keeps, KeepsPairs, MapState, None, Ok, OnErr, OnOk, Option, Place, Result, Slot}
-use Rattle.bucket_table.proofs.Words.{Some, TableView, [], ap, arrays_with, bucket_at, buckets_on, empty_bucket, free, get_or-set_same}
-use Rattle.bucket_table.proofs.Words.{is_live, length, live, live_pair, pairs_in, refl, slot_in, subst, true, ℕ, ◌<◌, ◌∙◌, ◌∷◌, ◌≡◌}
+use Rattle.bucket_table.proofs.Words.{ArraysView, AsksShrinking, BucketView, Err, IfNone, IsPermutation-cons, IsPermutation-trans, Keeps}
+use Rattle.bucket_table.proofs.Words.{KeepsPairs, MapState, None, Ok, OnErr, OnOk, Option, Place, Result, Side, Slot, Some, TableView, []}
+use Rattle.bucket_table.proofs.Words.{ap, arrays_with, bucket_at, buckets_on, empty_bucket, free, get_or-set_same, is_live, length, live}
+use Rattle.bucket_table.proofs.Words.{live_pair, pairs_in, refl, slot_in, subst, true, ℕ, ◌<◌, ◌∙◌, ◌∷◌, ◌≡◌}
 use Rattle.bucket_slots.specs.Slots.{marked as marked_slot}
 use Rattle.bucket_table.specs.Resize.Asking.{RemovesAndShrinks, ResizesIf}
 use Rattle.bucket_table.specs.Map.MapState.{TakesPair, state_of}
@@ -34,12 +34,12 @@ ok_not_err same = cc
 
 module _ {K V : Type 0} where
   -- the bucket stands where it was put
-  pub put_there : (a : ArraysView K V) (side : Bool) (i : ℕ) (b : BucketView K V)
+  pub put_there : (a : ArraysView K V) (side : Side) (i : ℕ) (b : BucketView K V)
       → i < length (buckets_on a side) → bucket_at (buckets_on (arrays_with a side i b) side) i ≡ b
   put_there a side i b within = rw (buckets_on-arrays_with a side i b) (get_or-set_same (buckets_on a side) i b empty_bucket within)
 
   -- and where that asks for it the arrays are shrunk
-  pub shrinks_after : (a : ArraysView K V) (side : Bool) (i : ℕ) (b : BucketView K V) (new : ArraysView K V)
+  pub shrinks_after : (a : ArraysView K V) (side : Side) (i : ℕ) (b : BucketView K V) (new : ArraysView K V)
       → i < length (buckets_on a side)
       → ResizesIf ((pairs_in (bucket_at (buckets_on (arrays_with a side i b) side) i) ≡ []) × AsksShrinking (arrays_with a side i b) i)
       (arrays_with a side i b) new
@@ -50,18 +50,18 @@ module _ {K V : Type 0} where
 
 module _ {K V H : Type 0} where
   -- a bucket that is another one, and one that is the same
-  pub with_same : (hasher : H) (a : ArraysView K V) (side : Bool) (i : ℕ) (b c : BucketView K V) → b ≡ c
+  pub with_same : (hasher : H) (a : ArraysView K V) (side : Side) (i : ℕ) (b c : BucketView K V) → b ≡ c
       → ◌≡◌ {A = TableView K V H} (record { hasher = hasher; arrays = arrays_with a side i b })
       (record { hasher = hasher; arrays = arrays_with a side i c })
   with_same hasher a side i b c same = ap (λ (d : BucketView K V). record { hasher = hasher; arrays = arrays_with a side i d }) same
 
-  pub with_own : (hasher : H) (a : ArraysView K V) (side : Bool) (i : ℕ) (b : BucketView K V) → b ≡ bucket_at (buckets_on a side) i
+  pub with_own : (hasher : H) (a : ArraysView K V) (side : Side) (i : ℕ) (b : BucketView K V) → b ≡ bucket_at (buckets_on a side) i
       → ◌≡◌ {A = TableView K V H} (record { hasher = hasher; arrays = arrays_with a side i b }) (record { hasher = hasher; arrays = a })
   with_own hasher a side i b same = rw same (ap (λ (d : ArraysView K V). record { hasher = hasher; arrays = d })
       (arrays_with-same a side i))
 
   -- another bucket where a call succeeds: t is the table inside, and s what it is known as
-  pub put_if_ok : {A E : Type 0} (r : Result A E) (t s : TableView K V H) (side : Bool) (i : ℕ) (b : BucketView K V) (f : BucketView K V
+  pub put_if_ok : {A E : Type 0} (r : Result A E) (t s : TableView K V H) (side : Side) (i : ℕ) (b : BucketView K V) (f : BucketView K V
       → BucketView K V)
       → t ≡ s → OnOk r (b ≡ f (bucket_of t side i)) → OnOk r (with_bucket t side i b ≡ with_bucket s side i (f (bucket_of s side i)))
   put_if_ok (Ok x) t s side i b f is put = subst (λ (z : TableView K V H). with_bucket t side i b ≡ with_bucket z side i

@@ -1,10 +1,11 @@
 -- What look-ups in two arrays say of their map.
 use Rattle.bucket_table.proofs.Words.{All, All-map, All-nil, AreHome, ArePlaced, AreTwoArrays, ArraysView, Bool, BucketView, Contains}
-use Rattle.bucket_table.proofs.Words.{Contains-append_left, Contains-append_right, IfNone, IfSome, IsEntryHome, IsHome, IsInInterval}
-use Rattle.bucket_table.proofs.Words.{IsLocked, IsOneMap, IsTrue, IsVacant, List, Meets, None, Option, Place, Some, [], all_slots, ap}
-use Rattle.bucket_table.proofs.Words.{arith, bucket_at, bucket_on, buckets_on, cases_eq, entries_among, entries_in, false, false≢true}
-use Rattle.bucket_table.proofs.Words.{get_or, home_of, inl, inr, length, live_pair, map, map-append, map-entries_in, pairs_in, pairs_of}
-use Rattle.bucket_table.proofs.Words.{refl, slot_in, subst, suc, sym, true, zero, ℕ, ◌%◌, ◌&&◌, ◌++◌, ◌<◌, ◌==◌, ◌∙◌, ◌∷◌, ◌≡◌}
+use Rattle.bucket_table.proofs.Words.{Contains-append_left, Contains-append_right, Current, IfNone, IfSome, IsEntryHome, IsHome}
+use Rattle.bucket_table.proofs.Words.{IsInInterval, IsLocked, IsOneMap, IsTrue, IsVacant, List, Meets, None, Old, Option, Place, Side, Some}
+use Rattle.bucket_table.proofs.Words.{[], all_slots, ap, arith, bucket_at, bucket_on, buckets_on, cases_eq, entries_among, entries_in}
+use Rattle.bucket_table.proofs.Words.{false, false≢true, get_or, home_of, inl, inr, length, live_pair, map, map-append, map-entries_in}
+use Rattle.bucket_table.proofs.Words.{pairs_in, pairs_of, refl, slot_in, subst, suc, sym, true, zero, ℕ, ◌%◌, ◌&&◌, ◌++◌, ◌<◌, ◌==◌, ◌∙◌}
+use Rattle.bucket_table.proofs.Words.{◌∷◌, ◌≡◌}
 use Rattle.std.proofs.lemmas.Bool.Decides.{nat_tests}
 use Rattle.std.proofs.lemmas.List.Elements.{All-append}
 use Rattle.std.specs.Borrow.{Bor}
@@ -67,10 +68,10 @@ IsWantedOf wants pairs pair = Contains pairs pair × (wants pair.0 ≡ true)
 
 module _ {K V : Type 0} (wants : K → Bool) where
   -- a wanted pair of one side is one of the map
-  wanted_on : (arrays : ArraysView K V) (is_old : Bool) (p : K × V) → IsWantedOf wants (pairs_in_all (buckets_on arrays is_old)) p
+  wanted_on : (arrays : ArraysView K V) (side : Side) (p : K × V) → IsWantedOf wants (pairs_in_all (buckets_on arrays side)) p
       → IsWantedOf wants (pairs_of arrays) p
-  wanted_on arrays true p (there, is) = (rw (pairs_are arrays) (Contains-append_right (pairs_in_all arrays.current) _ p there), is)
-  wanted_on arrays false p (there, is) = (rw (pairs_are arrays) (Contains-append_left _ (pairs_in_all arrays.linked) p there), is)
+  wanted_on arrays Old p (there, is) = (rw (pairs_are arrays) (Contains-append_right (pairs_in_all arrays.current) _ p there), is)
+  wanted_on arrays Current p (there, is) = (rw (pairs_are arrays) (Contains-append_left _ (pairs_in_all arrays.linked) p there), is)
 
   -- where neither side has one, the map has none
   unwanted_on_both : (arrays : ArraysView K V) → AreUnwanted wants (pairs_in_all arrays.current)
@@ -85,20 +86,20 @@ module _ {K V : Type 0} (wants : K → Bool) where
   none_unwanted b none = rw none (All-nil (λ (p : K × V). wants p.0 ≡ false))
 
   -- what a search of a bucket of one side finds
-  pub searched_found : (arrays : ArraysView K V) (is_old : Bool) (b : BucketView K V) (byte index : ℕ) (at : Place)
-      → b ≡ bucket_on arrays is_old index → place_wanted wants byte b ≡ Some at
-      → (p : K × V) × (live_pair (slot_in (bucket_on arrays is_old index) at) ≡ Some p) × IsWantedOf wants (pairs_of arrays) p
-  searched_found arrays is_old b byte index at lent found = rw (← lent) (
+  pub searched_found : (arrays : ArraysView K V) (side : Side) (b : BucketView K V) (byte index : ℕ) (at : Place)
+      → b ≡ bucket_on arrays side index → place_wanted wants byte b ≡ Some at
+      → (p : K × V) × (live_pair (slot_in (bucket_on arrays side index) at) ≡ Some p) × IsWantedOf wants (pairs_of arrays) p
+  searched_found arrays side b byte index at lent found = rw (← lent) (
       let (p, is) = found_pair wants byte b at found in
-      let there = Contains-pairs_in_all (buckets_on arrays is_old) index p (rw (← lent) is.contained) in
-      (p, is.slot, wanted_on arrays is_old p (there, is.wanted)))
+      let there = Contains-pairs_in_all (buckets_on arrays side) index p (rw (← lent) is.contained) in
+      (p, is.slot, wanted_on arrays side p (there, is.wanted)))
 
   -- what a search of one side's home finds
-  found_at_home : (n : ℕ) (arrays : ArraysView K V) (is_old : Bool) (p : K × V)
-      → pair_wanted wants (n % 256) (home_bucket n (buckets_on arrays is_old)) ≡ Some p → IsWantedOf wants (pairs_of arrays) p
-  found_at_home n arrays is_old p found =
-      let (there, is) = wanted_is wants (n % 256) (home_bucket n (buckets_on arrays is_old)) p found in
-      wanted_on arrays is_old p (Contains-pairs_in_all (buckets_on arrays is_old) _ p there, is)
+  found_at_home : (n : ℕ) (arrays : ArraysView K V) (side : Side) (p : K × V)
+      → pair_wanted wants (n % 256) (home_bucket n (buckets_on arrays side)) ≡ Some p → IsWantedOf wants (pairs_of arrays) p
+  found_at_home n arrays side p found =
+      let (there, is) = wanted_is wants (n % 256) (home_bucket n (buckets_on arrays side)) p found in
+      wanted_on arrays side p (Contains-pairs_in_all (buckets_on arrays side) _ p there, is)
 
   -- where the old home has no wanted pair, the current home's is the answer
   pub second_home : (n : ℕ) (own : K → Bool) (old : Option (Bor (List (BucketView K V)))) (array : Bor (List (BucketView K V)))
@@ -149,9 +150,9 @@ module _ {K V : Type 0} (wants : K → Bool) (n : ℕ) (hash : K → ℕ) (own :
   looked_up_by arrays None None (Some p) law in_old in_current found = cc
   looked_up_by arrays None (Some p) current law in_old in_current found = cc
   looked_up_by arrays (Some pair) None current law in_old in_current found =
-      (found_at_home wants n arrays false (pair.0.now, pair.1.now) (in_current ∙ sym found), tt)
+      (found_at_home wants n arrays Current (pair.0.now, pair.1.now) (in_current ∙ sym found), tt)
   looked_up_by arrays (Some pair) (Some p) current law in_old in_current found =
-      (found_at_home wants n arrays true (pair.0.now, pair.1.now) (in_old ∙ sym found), tt)
+      (found_at_home wants n arrays Old (pair.0.now, pair.1.now) (in_old ∙ sym found), tt)
 
   foreign : (e : (K × V) × ℕ) (len i c index : ℕ) (wanted : Bool) → wants e.0.0 ≡ wanted → IsEntryHome hash len i e → IsHome c n index
       → (Meets len i c index → ⊥) → wants e.0.0 ≡ false
@@ -173,24 +174,24 @@ module _ {K V : Type 0} (wants : K → Bool) (n : ℕ) (hash : K → ℕ) (own :
       none_in l i (length c) index (bucket_at l i).killed refl below law.linked_home at (law.killed_empty i below) (dead i below))
 
   -- where the home of a locked bucket's side has no wanted pair, the map has none
-  absent_on : (arrays : ArraysView K V) (is_old : Bool) (index : ℕ) → ArePlaced hash arrays → IsLocked arrays is_old index
-      → IsHome (length (buckets_on arrays is_old)) n index → pair_wanted wants (n % 256) (home_bucket n (buckets_on arrays is_old)) ≡ None
+  absent_on : (arrays : ArraysView K V) (side : Side) (index : ℕ) → ArePlaced hash arrays → IsLocked arrays side index
+      → IsHome (length (buckets_on arrays side)) n index → pair_wanted wants (n % 256) (home_bucket n (buckets_on arrays side)) ≡ None
       → AreUnwanted wants (pairs_of arrays)
-  absent_on arrays true index law locked home none = unwanted_on_both wants arrays
+  absent_on arrays Old index law locked home none = unwanted_on_both wants arrays
       (All-pairs_in_all (λ (p : K × V). wants p.0 ≡ false) arrays.current (λ i below.
       let b = bucket_at arrays.current i in none_unwanted wants b (pairs_in-vacant b (locked.vacant refl i below))))
       (unwanted_from_home arrays.linked law.homes.linked_home none)
-  absent_on arrays false index law locked home none =
+  absent_on arrays Current index law locked home none =
       unwanted_on_both wants arrays (unwanted_from_home arrays.current law.homes.current_home none)
       (unwanted_from_sources arrays.current arrays.linked index law.homes home (locked.killed refl))
 
   -- what a search of a locked bucket says where it finds nothing
-  pub searched_absent : (arrays : ArraysView K V) (is_old : Bool) (b : BucketView K V) (index : ℕ) → ArePlaced hash arrays
-      → IsLocked arrays is_old index → IsHome (length (buckets_on arrays is_old)) n index → b ≡ bucket_on arrays is_old index
+  pub searched_absent : (arrays : ArraysView K V) (side : Side) (b : BucketView K V) (index : ℕ) → ArePlaced hash arrays
+      → IsLocked arrays side index → IsHome (length (buckets_on arrays side)) n index → b ≡ bucket_on arrays side index
       → place_wanted wants (n % 256) b ≡ None → AreUnwanted wants (pairs_of arrays)
-  searched_absent arrays is_old b index law locked home lent none =
-      let at_home = home_bucket-is (buckets_on arrays is_old) n index home in
-      absent_on arrays is_old index law locked home (rw (← at_home, ← lent) (ap (λ at. pair_at b at) none))
+  searched_absent arrays side b index law locked home lent none =
+      let at_home = home_bucket-is (buckets_on arrays side) n index home in
+      absent_on arrays side index law locked home (rw (← at_home, ← lent) (ap (λ at. pair_at b at) none))
 
 module _ {K V : Type 0} where
   -- what a look-up in both homes says of the map

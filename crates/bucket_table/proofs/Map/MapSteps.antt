@@ -1,13 +1,13 @@
 -- The law of one map, and the map itself, where one bucket of one side changes.
-use Rattle.bucket_table.proofs.Words.{All, All-cons, All-map, All-nil, All-permutation, ArraysView, Bool, BucketView, Err, IfNone, IfSome}
-use Rattle.bucket_table.proofs.Words.{IsAbsent, IsDistinct, IsDistinct-IsPermutation, IsEntryHome, IsEquivalence, IsHome, IsLocked}
+use Rattle.bucket_table.proofs.Words.{All, All-cons, All-map, All-nil, All-permutation, ArraysView, Bool, BucketView, Current, Err, IfNone}
+use Rattle.bucket_table.proofs.Words.{IfSome, IsAbsent, IsDistinct, IsDistinct-IsPermutation, IsEntryHome, IsEquivalence, IsHome, IsLocked}
 use Rattle.bucket_table.proofs.Words.{IsOneMap, IsPermutation, IsPermutation-append_left, IsPermutation-cons, IsPermutation-map}
-use Rattle.bucket_table.proofs.Words.{IsPermutation-refl, IsPermutation-trans, KeepsPairs, List, MapState, None, Ok, OnErr, OnOk, Option}
-use Rattle.bucket_table.proofs.Words.{Place, Result, Some, [], ap, append-nil, arith, arrays_with, bucket_at, bucket_with_value, buckets_on}
-use Rattle.bucket_table.proofs.Words.{empty_bucket, entries_in, false, get_or, get_or-set_same, length, length-set, live_pair, map}
-use Rattle.bucket_table.proofs.Words.{map-entries_in, pairs_in, pairs_of, recursion_from_All, refl, rotated, set, slot_at, slot_in}
-use Rattle.bucket_table.proofs.Words.{slots_after_insertion, slots_marked, slots_touched, slots_without, subst, sym, true, ℕ, ◌%◌, ◌++◌}
-use Rattle.bucket_table.proofs.Words.{◌<◌, ◌∙◌, ◌∷◌, ◌≡◌}
+use Rattle.bucket_table.proofs.Words.{IsPermutation-refl, IsPermutation-trans, KeepsPairs, List, MapState, None, Ok, Old, OnErr, OnOk}
+use Rattle.bucket_table.proofs.Words.{Option, Place, Result, Side, Some, [], ap, append-nil, arith, arrays_with, bucket_at}
+use Rattle.bucket_table.proofs.Words.{bucket_with_value, buckets_on, empty_bucket, entries_in, false, get_or, get_or-set_same, length}
+use Rattle.bucket_table.proofs.Words.{length-set, live_pair, map, map-entries_in, pairs_in, pairs_of, recursion_from_All, refl, rotated}
+use Rattle.bucket_table.proofs.Words.{set, slot_at, slot_in, slots_after_insertion, slots_marked, slots_touched, slots_without, subst, sym}
+use Rattle.bucket_table.proofs.Words.{ℕ, ◌%◌, ◌++◌, ◌<◌, ◌∙◌, ◌∷◌, ◌≡◌}
 use Rattle.std.proofs.Common.{OnSome}
 use Rattle.std.proofs.lemmas.List.{set-set}
 use Rattle.std.proofs.lemmas.Map.Keys.{IsDistinct-cons, IsDistinct-tail}
@@ -44,7 +44,7 @@ module _ {K V : Type 0} (eq : K → K → Bool) (laws : IsEquivalence eq) where
   distinct_kept m n one moved = IsDistinct-IsPermutation eq laws.symm _ _ (IsPermutation-map (λ (q : K × V). q.0) m n moved) one
 
 -- the changes of one bucket that a locked bucket makes
-module _ {K V : Type 0} (a : ArraysView K V) (side : Bool) (i : ℕ) (within : i < length (buckets_on a side)) where
+module _ {K V : Type 0} (a : ArraysView K V) (side : Side) (i : ℕ) (within : i < length (buckets_on a side)) where
   abbrev bucket : BucketView K V
   bucket = bucket_at (buckets_on a side) i
 
@@ -79,16 +79,16 @@ module _ {K V : Type 0} (a : ArraysView K V) (side : Bool) (i : ℕ) (within : i
 
 module _ {K V : Type 0} where
   -- the same bucket changed twice
-  pub set_again : (a : ArraysView K V) (side : Bool) (i : ℕ) (b c : BucketView K V) → arrays_with (arrays_with a side i b) side i c ≡
+  pub set_again : (a : ArraysView K V) (side : Side) (i : ℕ) (b c : BucketView K V) → arrays_with (arrays_with a side i b) side i c ≡
       arrays_with a side i c
-  set_again a true i b c = ap (λ (bs : List (BucketView K V)). record a { linked = bs }) (set-set a.linked i b c)
-  set_again a false i b c = ap (λ (bs : List (BucketView K V)). record a { current = bs }) (set-set a.current i b c)
+  set_again a Old i b c = ap (λ (bs : List (BucketView K V)). record a { linked = bs }) (set-set a.linked i b c)
+  set_again a Current i b c = ap (λ (bs : List (BucketView K V)). record a { current = bs }) (set-set a.current i b c)
 
   -- the arrays without the pairs of a bucket
-  abbrev without_bucket : ArraysView K V → Bool → ℕ → ArraysView K V
+  abbrev without_bucket : ArraysView K V → Side → ℕ → ArraysView K V
   without_bucket a side i = arrays_with a side i empty_bucket
 
-  pub record Splits (a : ArraysView K V) (side : Bool) (i : ℕ) (b : BucketView K V) : Type 0 where
+  pub record Splits (a : ArraysView K V) (side : Side) (i : ℕ) (b : BucketView K V) : Type 0 where
     pub before : IsPermutation (pairs_of a) (pairs_in (bucket_at (buckets_on a side) i) ++ pairs_of (without_bucket a side i))
     pub after : IsPermutation (pairs_in b ++ pairs_of (without_bucket a side i)) (pairs_of (arrays_with a side i b))
 
@@ -96,7 +96,7 @@ module _ {K V : Type 0} where
   only_pairs b rest = ap (λ (l : List (K × V)). l ++ rest) (map-entries_in b)
 
   -- the pairs of a bucket apart from the others, and those of another in its place
-  pub splits : (a : ArraysView K V) (side : Bool) (i : ℕ) (b : BucketView K V) → i < length (buckets_on a side) → Splits a side i b
+  pub splits : (a : ArraysView K V) (side : Side) (i : ℕ) (b : BucketView K V) → i < length (buckets_on a side) → Splits a side i b
   splits a side i b within =
       let old = bucket_at (buckets_on a side) i in
       let empty = without_bucket a side i in
@@ -122,14 +122,14 @@ module _ {K V : Type 0} where
 
 module _ {K V H : Type 0} where
   -- what isn't the pairs stays
-  state_is : (kind : ℕ) (hasher : H) (a : ArraysView K V) (side : Bool) (i : ℕ) (b : BucketView K V)
+  state_is : (kind : ℕ) (hasher : H) (a : ArraysView K V) (side : Side) (i : ℕ) (b : BucketView K V)
       → state_of kind (record { hasher = hasher; arrays = arrays_with a side i b })
       ≡ record (state_of kind (record { hasher = hasher; arrays = a })) { pairs = pairs_of (arrays_with a side i b) }
-  state_is kind hasher a true i b = refl
-  state_is kind hasher a false i b = refl
+  state_is kind hasher a Old i b = refl
+  state_is kind hasher a Current i b = refl
 
 module _ {K V H : Type 0} {eq : K → K → Bool} (laws : IsEquivalence eq) (hash : H → K → ℕ) (kind : ℕ) {hasher : H}
-    {a : ArraysView K V} (side : Bool) (i : ℕ) (one : IsOneMap eq (hash hasher) a) (held : IsChangeable a side i) where
+    {a : ArraysView K V} (side : Side) (i : ℕ) (one : IsOneMap eq (hash hasher) a) (held : IsChangeable a side i) where
   abbrev was : BucketView K V
   was = bucket_at (buckets_on a side) i
 

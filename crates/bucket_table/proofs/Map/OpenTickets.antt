@@ -1,7 +1,8 @@
 -- The open tickets stay: what becomes of the arrays says so, call by call.
-use Rattle.bucket_table.proofs.Words.{ArraysView, Bool, BucketView, Err, KeepsOpenTickets, None, Ok, Option, Place, Result, Some, TableView}
-use Rattle.bucket_table.proofs.Words.{arrays_with, cases_eq, cases_lt, false, inl, inr, refl, true, ℕ, ◌+◌, ◌-◌}
-use Rattle.bucket_table.specs.Map.ByKey.{ChangesAt, EvictsAt, InsertsAt, PreparesThen, ShrinksAt}
+use Rattle.bucket_table.proofs.Words.{ArraysView, Bool, BucketView, Current, Err, KeepsOpenTickets, None, Ok, Option, Place, Result}
+use Rattle.bucket_table.proofs.Words.{Side, Some, TableView, arrays_with, bucket_with_value, cases_eq, cases_lt, false, inl, inr}
+use Rattle.bucket_table.proofs.Words.{refl, true, ℕ, ◌+◌, ◌-◌}
+use Rattle.bucket_table.specs.Map.ByKey.{ChangesAt, EvictsAt, InsertsAt, PreparesThen, ShrinksAt, UpsertsAt, WritesAt}
 use Rattle.bucket_table.specs.Map.Counting.{CountsAndResizes}
 use Rattle.bucket_table.specs.Map.Finding.{Finds, FindsThen}
 use Rattle.bucket_table.specs.Resize.Asking.{RemovesAndShrinks, ResizesIf}
@@ -35,7 +36,7 @@ module _ {K V : Type 0} where
         absurd (apart (stays unit))
   ]
 
-  pub bag_shrunk : (old : ArraysView K V) (side : Bool) (i : ℕ) (b : BucketView K V) (new : ArraysView K V)
+  pub bag_shrunk : (old : ArraysView K V) (side : Side) (i : ℕ) (b : BucketView K V) (new : ArraysView K V)
       → RemovesAndShrinks old side i b new → KeepsOpenTickets old.tickets new.tickets
   bag_shrunk old side i b new r =
       bag_both old.tickets (arrays_with old side i b).tickets new.tickets (bag_with old side i b) (bag_resized_if _ new r)
@@ -57,7 +58,7 @@ module _ {K V : Type 0} where
   pub bag_counted : (old new : ArraysView K V) → CountsAndResizes old new → KeepsOpenTickets old.tickets new.tickets
   bag_counted old new c = bag_both old.tickets c.between.tickets new.tickets c.kept.keeps.open_tickets (bag_resized_if c.between new c.resized)
 
-  pub bag_left : {A : Type 0} (index_of : A → ℕ) (side : Bool) (i : ℕ) (old : ArraysView K V) (r : Result A Missing) (new : ArraysView K V)
+  pub bag_left : {A : Type 0} (index_of : A → ℕ) (side : Side) (i : ℕ) (old : ArraysView K V) (r : Result A Missing) (new : ArraysView K V)
       → ShrinksThenPasses index_of side i old r new → KeepsOpenTickets old.tickets new.tickets
   bag_left index_of side i old r new d =
       bag_both old.tickets d.between.tickets new.tickets (bag_resized_if old d.between d.asked) d.passes.kept.keeps.open_tickets
@@ -83,7 +84,7 @@ module _ {K V H : Type 0} where
 
   evicted_from : {E : Type 0} (hash : ℕ) (old : TableView K V H) (r : Result (Option (K × V)) E) (new : TableView K V H)
       → EvictsAt hash old r new → KeepsOpenTickets old.arrays.tickets new.arrays.tickets
-  evicted_from hash old (Ok (Some pair)) new (ready, i, home, there, is) = bag_set old new false i _ is
+  evicted_from hash old (Ok (Some pair)) new (ready, i, home, there, is) = bag_set old new Current i _ is
   evicted_from hash old (Ok None) new (none, same) = rw same (bag_same old.arrays.tickets)
   evicted_from hash old (Err e) new (unready, same) = rw same (bag_same old.arrays.tickets)
 
@@ -104,14 +105,14 @@ module _ {K V H : Type 0} where
         → KeepsOpenTickets old.arrays.tickets new.arrays.tickets
     bag_evicted r p = bag_then kind hash old new _ p (λ between is. evicted_from hash between r new is)
 
-  bag_finds : {E : Type 0} (kind hash : ℕ) (old : TableView K V H) (r : Result (Bool × ℕ) E) (new : TableView K V H)
+  bag_finds : {E : Type 0} (kind hash : ℕ) (old : TableView K V H) (r : Result (Side × ℕ) E) (new : TableView K V H)
       → Finds kind hash old r new → KeepsOpenTickets old.arrays.tickets new.arrays.tickets
   bag_finds kind hash old (Ok found) new finds = finds.kept.open_tickets
   bag_finds kind hash old (Err e) new refused = refused.prepared.kept.keeps.open_tickets
 
-  bag_found : (kind hash : ℕ) (old new : TableView K V H) (Then : Result (Bool × ℕ) (Unit {0}) → TableView K V H → Type 0)
+  bag_found : (kind hash : ℕ) (old new : TableView K V H) (Then : Result (Side × ℕ) (Unit {0}) → TableView K V H → Type 0)
       → FindsThen kind hash old Then
-      → ((answer : Result (Bool × ℕ) (Unit {0})) (between : TableView K V H) → Then answer between
+      → ((answer : Result (Side × ℕ) (Unit {0})) (between : TableView K V H) → Then answer between
       → KeepsOpenTickets between.arrays.tickets new.arrays.tickets)
       → KeepsOpenTickets old.arrays.tickets new.arrays.tickets
   bag_found kind hash old new Then f after =
@@ -119,7 +120,7 @@ module _ {K V H : Type 0} where
       (after f.answer f.between f.done)
 
   inserted_at : {A : Type 0} (kind : ℕ) (keeps : ℕ → Bool) (pair : K × V) (byte : ℕ) (old : TableView K V H)
-      (r : Result A (NotInserted K V)) (answer : Result (Bool × ℕ) (Unit {0})) (new : TableView K V H)
+      (r : Result A (NotInserted K V)) (answer : Result (Side × ℕ) (Unit {0})) (new : TableView K V H)
       → InsertsAt kind keeps pair byte old r answer new → KeepsOpenTickets old.arrays.tickets new.arrays.tickets
   inserted_at kind keeps pair byte old (Ok done) (Ok found) new is = bag_set old new found.0 found.1 _ is
   inserted_at kind keeps pair byte old (Ok done) (Err e) new none = absurd none

@@ -1,7 +1,7 @@
 -- A pair put into a locked bucket of a cache, after what goes for it, and what that makes of the table in which the bucket was found.
-use Rattle.bucket_table.proofs.Words.{All-permutation, All-tail, ArraysView, Bool, BucketView, CACHE, Err, IsAbsent, IsEquivalence, false}
-use Rattle.bucket_table.proofs.Words.{IsHome, IsLocked, IsOneMap, IsPermutation-refl, IsPermutation-trans, KeepsPairs, MapState, None, Ok}
-use Rattle.bucket_table.proofs.Words.{Option, Result, Some, TableView, ap, arrays_with, bucket_at, buckets_on, length, length-set}
+use Rattle.bucket_table.proofs.Words.{All-permutation, All-tail, ArraysView, Bool, BucketView, CACHE, Err, IsAbsent, IsEquivalence, IsHome}
+use Rattle.bucket_table.proofs.Words.{IsLocked, IsOneMap, IsPermutation-refl, IsPermutation-trans, KeepsPairs, MapState, None, Ok, Option}
+use Rattle.bucket_table.proofs.Words.{Result, Side, Some, TableView, ap, arrays_with, bucket_at, buckets_on, false, length, length-set}
 use Rattle.bucket_table.proofs.Words.{pairs_of, refl, slots_after_insertion, slots_touched, subst, true, ℕ, ◌%◌, ◌<◌, ◌∙◌, ◌∷◌, ◌≡◌}
 use Rattle.bucket_slots.specs.Evicting.{slots_evicted}
 use Rattle.bucket_slots.specs.Placing.{place_for_next, slots_with}
@@ -67,7 +67,7 @@ module _ {K V H : Type 0} where
   )
 
 module _ {K V H : Type 0} {eq : K → K → Bool} (laws : IsEquivalence eq) (hash : H → K → ℕ) (kind : ℕ) {hasher : H} {a : ArraysView K V}
-    (side : Bool) (i : ℕ) (one : IsOneMap eq (hash hasher) a) (locked : IsLocked a side i) where
+    (side : Side) (i : ℕ) (one : IsOneMap eq (hash hasher) a) (locked : IsLocked a side i) where
   abbrev state : ArraysView K V → MapState K V H
   state b = state_of kind (record { hasher = hasher; arrays = b })
 
@@ -160,7 +160,7 @@ module _ {K V H : Type 0} where
 
   -- a bucket found for the hash of a key, and the pair put there
   pub found_put : (eq : K → K → Bool) (kind h n : ℕ) (keeps : Bool) (key : K) (value : V) (old between new : TableView K V H)
-      (side : Bool) (i : ℕ) (r : Result (Option (K × V)) (NotInserted K V)) (left : BucketView K V) → h ≡ n
+      (side : Side) (i : ℕ) (r : Result (Option (K × V)) (NotInserted K V)) (left : BucketView K V) → h ≡ n
       → FindsBucket kind h old side i between → PutsIn eq keeps key value (h % 256) (bucket_of between side i) r left
       → new ≡ with_bucket between side i left
       → FindsThen kind n old (λ answer table. PutsAt keeps (key, value) (n % 256) table r answer new)

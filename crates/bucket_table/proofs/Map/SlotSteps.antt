@@ -1,7 +1,7 @@
 -- What a table is once the pair in a live slot was touched, marked or taken out.
-use Rattle.bucket_table.proofs.Words.{ArePlaced, ArraysView, Bool, BucketView, IsEquivalence, IsOneMap, Keeps, KeepsPairs}
-use Rattle.bucket_table.proofs.Words.{MapState, Place, Some, arrays_with, bucket_on, bucket_with_value, buckets_on, length, live_pair}
-use Rattle.bucket_table.proofs.Words.{slot_in, slots_marked, slots_touched, slots_without, ℕ, ◌<◌, ◌≡◌}
+use Rattle.bucket_table.proofs.Words.{ArePlaced, ArraysView, Bool, BucketView, IsEquivalence, IsOneMap, Keeps, KeepsPairs, MapState, Place}
+use Rattle.bucket_table.proofs.Words.{Side, Some, arrays_with, bucket_on, bucket_with_value, buckets_on, length, live_pair, slot_in}
+use Rattle.bucket_table.proofs.Words.{slots_marked, slots_touched, slots_without, ℕ, ◌<◌, ◌≡◌}
 use Rattle.bucket_table.specs.Map.MapState.{ChangesValue, TakesPair, state_of}
 use Rattle.bucket_table.proofs.Map.LockedSteps.{taken_through}
 use Rattle.bucket_table.proofs.Map.MapKept.{one_map_kept}
@@ -10,7 +10,7 @@ use Rattle.bucket_table.proofs.Views.Keeping.{keeps_same}
 use Rattle.bucket_table.proofs.Views.SideChanges.{IsChangeable, changeable_holding}
 
 module _ {K V H : Type 0} {eq : K → K → Bool} (laws : IsEquivalence eq) (hash : H → K → ℕ) (kind : ℕ) {hasher : H} {a : ArraysView K V}
-    (side : Bool) (i : ℕ) (one : IsOneMap eq (hash hasher) a) (within : i < length (buckets_on a side)) (at : Place) (p : K × V)
+    (side : Side) (i : ℕ) (one : IsOneMap eq (hash hasher) a) (within : i < length (buckets_on a side)) (at : Place) (p : K × V)
     (here : live_pair (slot_in (bucket_on a side i) at) ≡ Some p) where
   abbrev state : ArraysView K V → MapState K V H
   state b = state_of kind (record { hasher = hasher; arrays = b })

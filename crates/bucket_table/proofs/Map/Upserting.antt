@@ -1,6 +1,6 @@
 -- A pair put into a locked bucket, or its value written there, and what that makes of the table in which the bucket was found.
 use Rattle.bucket_table.proofs.Words.{ArraysView, Bool, BucketView, Err, IsEquivalence, IsHome, IsLocked, IsOneMap, IsPermutation-refl}
-use Rattle.bucket_table.proofs.Words.{KeepsPairs, MapState, None, Ok, Option, Result, Some, TableView, ap, bucket_at, buckets_on}
+use Rattle.bucket_table.proofs.Words.{KeepsPairs, MapState, None, Ok, Option, Result, Side, Some, TableView, ap, bucket_at, buckets_on}
 use Rattle.bucket_table.proofs.Words.{length, pairs_of, refl, true, ℕ, ◌%◌, ◌∙◌, ◌≡◌}
 use Rattle.bucket_table.specs.Map.ByKey.{Upserts, UpsertsAt, UpsertsIn}
 use Rattle.bucket_table.specs.Map.Finding.{FindsBucket, FindsThen}
@@ -16,7 +16,7 @@ use Rattle.bucket_table.proofs.Scripts.CallSteps.{then_added, then_changed, then
 use Rattle.bucket_table.proofs.Views.SideChanges.{changeable_locked}
 
 module _ {K V H : Type 0} {eq : K → K → Bool} (laws : IsEquivalence eq) (hash : H → K → ℕ) (kind : ℕ) {hasher : H} {a : ArraysView K V}
-    (side : Bool) (i : ℕ) (one : IsOneMap eq (hash hasher) a) (locked : IsLocked a side i) where
+    (side : Side) (i : ℕ) (one : IsOneMap eq (hash hasher) a) (locked : IsLocked a side i) where
   pub upserted : (r : Result (Option V) (K × V)) (b : BucketView K V) (keeps : ℕ → Bool) (key : K) (value : V) (h : ℕ)
       → ((own : K) → eq own key ≡ true → hash hasher own ≡ h) → h ≡ hash hasher key → IsHome (length (buckets_on a side)) h i
       → UpsertsIn eq key value (h % 256) kind keeps (bucket_at (buckets_on a side) i) r b
@@ -48,7 +48,7 @@ module _ {K V H : Type 0} where
 
   -- a bucket found for the hash of a key, and the pair put there or its value written
   pub found_upserted : (eq : K → K → Bool) (kind h n : ℕ) (keeps : ℕ → Bool) (key : K) (value : V) (old between new : TableView K V H)
-      (side : Bool) (i : ℕ) (r : Result (Option V) (K × V)) (left : BucketView K V) → h ≡ n → FindsBucket kind h old side i between
+      (side : Side) (i : ℕ) (r : Result (Option V) (K × V)) (left : BucketView K V) → h ≡ n → FindsBucket kind h old side i between
       → UpsertsIn eq key value (h % 256) kind keeps (bucket_of between side i) r left → new ≡ with_bucket between side i left
       → FindsThen kind n old (λ answer table. UpsertsAt eq kind keeps key value (n % 256) table r answer new)
   found_upserted eq kind h n keeps key value old between new side i (Ok None) left own found x is =

@@ -1,8 +1,8 @@
 -- What the calls of a rehash do to the machine of tickets.
-use Rattle.bucket_table.proofs.Words.{ArraysView, Bool, BucketView, EndsRehash, IsPermutation-refl, IsTrue, IsUnmoved, KeepsOpenTickets}
-use Rattle.bucket_table.proofs.Words.{KeepsPairs, RelocatesAt, Result, TableView, arith, arrays_with, bucket_at, cases_lt, entries_of}
-use Rattle.bucket_table.proofs.Words.{false, false≢true, get_or, inl, inr, killed_flags, length, pairs_of, refl, set, sym, true, ℕ, ◌<◌}
-use Rattle.bucket_table.proofs.Words.{◌↔◌, ◌∙◌, ◌≡◌, ◌≤◌}
+use Rattle.bucket_table.proofs.Words.{ArraysView, Bool, BucketView, Current, EndsRehash, IsPermutation-refl, IsTrue, IsUnmoved}
+use Rattle.bucket_table.proofs.Words.{KeepsOpenTickets, KeepsPairs, Old, RelocatesAt, Result, Side, TableView, arith, arrays_with}
+use Rattle.bucket_table.proofs.Words.{bucket_at, cases_lt, entries_of, false, false≢true, get_or, inl, inr, killed_flags, length, pairs_of}
+use Rattle.bucket_table.proofs.Words.{refl, set, sym, true, ℕ, ◌<◌, ◌↔◌, ◌∙◌, ◌≡◌, ◌≤◌}
 use Rattle.bucket_table.specs.Map.MapState.{state_of}
 use Rattle.bucket_table.specs.Views.Sides.{with_bucket}
 use Rattle.bucket_table.specs.Scripts.TicketCalls.{rehash_of}
@@ -14,10 +14,10 @@ use Rattle.bucket_table.proofs.Rehash.MovesInArrays.{flags_set}
 
 module _ {K V : Type 0} where
   -- another bucket, on either side
-  pub bag_with : (a : ArraysView K V) (side : Bool) (i : ℕ) (b : BucketView K V)
+  pub bag_with : (a : ArraysView K V) (side : Side) (i : ℕ) (b : BucketView K V)
       → KeepsOpenTickets a.tickets (arrays_with a side i b).tickets
-  bag_with a true i b = λ unit. refl
-  bag_with a false i b = λ unit. refl
+  bag_with a Old i b = λ unit. refl
+  bag_with a Current i b = λ unit. refl
 
   -- an old bucket is killed
   pub kills_as : (index : ℕ) (old new : ArraysView K V) → index < length old.linked → RelocatesAt index old new
@@ -46,9 +46,9 @@ module _ {K V : Type 0} where
 
 module _ {K V H : Type 0} where
   -- a bucket of the table has changed
-  pub bag_set : (t s : TableView K V H) (is_old : Bool) (index : ℕ) (bucket : BucketView K V)
-      → s ≡ with_bucket t is_old index bucket → KeepsOpenTickets t.arrays.tickets s.arrays.tickets
-  bag_set t s is_old index bucket is = rw is (bag_with t.arrays is_old index bucket)
+  pub bag_set : (t s : TableView K V H) (side : Side) (index : ℕ) (bucket : BucketView K V)
+      → s ≡ with_bucket t side index bucket → KeepsOpenTickets t.arrays.tickets s.arrays.tickets
+  bag_set t s side index bucket is = rw is (bag_with t.arrays side index bucket)
 
   -- an end keeps the map
   pub ended_map : (kind : ℕ) (hasher : H) (old new : ArraysView K V) (ticket : ℕ) (success : Bool) (answer : Result Bool TicketError)

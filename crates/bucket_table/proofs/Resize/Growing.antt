@@ -1,9 +1,8 @@
 -- When a writer looks into a growth, by what the code reads; and what the growth leaves.
-use Rattle.bucket_table.proofs.Words.{ArePlaced, ArraysView, Bool, BucketView, CACHE, Err, IsHome, IsLocked, IsTrue, Keeps, List, Ok}
-use Rattle.bucket_table.proofs.Words.{Result, [], ap, arith, bucket_at, buckets_on, cases_lt, counted, entries_among, entries_in, false}
-use Rattle.bucket_table.proofs.Words.{false≢true, inl, inr, length, length-append, length-entries_in, nil_from_length, pairs_in, suc, sym}
-use Rattle.bucket_table.proofs.Words.{true, zero, ℕ, ◌*◌, ◌<◌, ◌↔◌, ◌∙◌, ◌∷◌, ◌≡◌, ◌≤◌}
-use Rattle.std.proofs.Common.{MatchResult}
+use Rattle.bucket_table.proofs.Words.{ArePlaced, ArraysView, Bool, BucketView, CACHE, Current, Err, IsHome, IsLocked, IsTrue, Keeps, List}
+use Rattle.bucket_table.proofs.Words.{Ok, Old, Result, Side, [], ap, arith, bucket_at, buckets_on, cases_lt, counted, entries_among}
+use Rattle.bucket_table.proofs.Words.{entries_in, false, false≢true, inl, inr, length, length-append, length-entries_in, nil_from_length}
+use Rattle.bucket_table.proofs.Words.{pairs_in, suc, sym, true, zero, ℕ, ◌*◌, ◌<◌, ◌↔◌, ◌∙◌, ◌∷◌, ◌≡◌, ◌≤◌}
 use Rattle.bucket_slots.specs.Sampling.{StartsSampling}
 use Rattle.bucket_table.specs.Resize.Asking.{AsksGrowth}
 use Rattle.bucket_table.specs.Resize.Growing.{Grows, WriterAsksGrowth}
@@ -37,6 +36,12 @@ module _ {K V : Type 0} (kind hash : ℕ) (arrays : ArraysView K V) (index : ℕ
     λ asks. near.1 asks.near,
   )
 
+-- the side of the array that was the current one, once a resize is tried
+abbrev pub side_after : {E : Type 0} → Result Bool E → Side
+side_after (Ok true) = Old
+side_after (Ok false) = Current
+side_after (Err refused) = Current
+
 module _ {K V : Type 0} where
   no_live_here : (old : List (BucketView K V)) (index : ℕ) → entries_among old ≡ [] → index < length old
       → 0 < length (pairs_in (bucket_at old index)) → ⊥
@@ -53,8 +58,7 @@ module _ {K V : Type 0} where
 
   -- where a slot is live, a resize gives no array up, so it is a growth
   pub grown : {E : Type 0} (old new : ArraysView K V) (answer : Result Bool E) (index : ℕ) → TriesResize old answer new
-      → index < length old.current
-      → 0 < length (pairs_in (bucket_at old.current index)) → MatchResult answer (λ moved. Grows moved old new) (λ refused. new ≡ old)
+      → index < length old.current → 0 < length (pairs_in (bucket_at old.current index)) → Grows (side_after answer) old new
   grown old new (Ok false) index tries within some = tries.1
   grown old new (Ok true) index tries within some = elim tries [
     | inl given_up ↦ absurd (no_live_here old.current index given_up.1.empty within some)
@@ -63,28 +67,28 @@ module _ {K V : Type 0} where
   grown old new (Err refused) index (capacity, is, same) within some = same
 
   -- the bucket that was found before a growth may be locked after it
-  pub locked_grown : (moved : Bool) (index : ℕ) (old new : ArraysView K V) (hash : K → ℕ) → Grows moved old new → ArePlaced hash old
-      → IsLocked old false index → IsLocked new moved index
-  locked_grown true index old new hash (capacity, is) law locked = rw is.new_is (record {
+  pub locked_grown : (side : Side) (index : ℕ) (old new : ArraysView K V) (hash : K → ℕ) → Grows side old new → ArePlaced hash old
+      → IsLocked old Current index → IsLocked new side index
+  locked_grown Old index old new hash (capacity, is) law locked = rw is.new_is (record {
     within = locked.within;
-    killed = λ e. absurd (false≢true (sym e));
+    killed = λ e. absurd cc;
     alive = λ e. law.homes.alive index locked.within;
     vacant = λ e j inside. new_vacant capacity is.fresh j is.fresh_is inside;
   })
-  locked_grown false index old new hash same law locked = rw same locked
+  locked_grown Current index old new hash same law locked = rw same locked
 
-  pub home_grown : (moved : Bool) (hash index : ℕ) (old new : ArraysView K V) → Grows moved old new → IsHome (length old.current) hash index
-      → IsHome (length (buckets_on new moved)) hash index
-  home_grown true hash index old new (capacity, is) home = rw is.new_is home
-  home_grown false hash index old new same home = rw same home
+  pub home_grown : (side : Side) (hash index : ℕ) (old new : ArraysView K V) → Grows side old new → IsHome (length old.current) hash index
+      → IsHome (length (buckets_on new side)) hash index
+  home_grown Old hash index old new (capacity, is) home = rw is.new_is home
+  home_grown Current hash index old new same home = rw same home
 
   pub locked_ready : (hash index : ℕ) (arrays : ArraysView K V) → IsReady arrays hash → IsHome (length arrays.current) hash index
-      → IsLocked arrays false index
+      → IsLocked arrays Current index
   locked_ready hash index arrays ready home = record {
     within = home.within;
     killed = λ e. ready.killed index home;
-    alive = λ e. absurd (false≢true e);
-    vacant = λ e. absurd (false≢true e);
+    alive = λ e. absurd cc;
+    vacant = λ e. absurd cc;
   }
 
   -- a first array, where there is none

@@ -1,21 +1,21 @@
 -- One side of a table's arrays with another bucket.
-use Rattle.bucket_table.proofs.Words.{AreArrays, ArraysView, Bool, BucketView, List, None, Option, Some, TicketState, arith, arrays_with}
-use Rattle.bucket_table.proofs.Words.{false, false≢true, first_tickets, length, length-set, refl, set, sym, true, ℕ, ◌∙◌, ◌≡◌}
+use Rattle.bucket_table.proofs.Words.{AreArrays, ArraysView, BucketView, Current, List, None, Old, Option, Side, Some, TicketState, arith}
+use Rattle.bucket_table.proofs.Words.{arrays_with, first_tickets, length, length-set, refl, set, sym, ℕ, ◌∙◌, ◌≡◌}
 use Rattle.bucket_table.specs.Views.ArrayLoan.{array_with}
 use Rattle.bucket_table.specs.Views.ArraysView.{list_of}
 
 module _ {K V : Type 0} where
-  pub list_of-array_with : (side : Option (List (BucketView K V))) (index : ℕ) (bucket : BucketView K V)
-      → list_of (array_with side index bucket) ≡ set (list_of side) index bucket
+  pub list_of-array_with : (held : Option (List (BucketView K V))) (index : ℕ) (bucket : BucketView K V)
+      → list_of (array_with held index bucket) ≡ set (list_of held) index bucket
   list_of-array_with None index bucket = refl
   list_of-array_with (Some buckets) index bucket = refl
 
-  pub length-array_with : (side : Option (List (BucketView K V))) (index : ℕ) (bucket : BucketView K V)
-      → length (list_of (array_with side index bucket)) ≡ length (list_of side)
+  pub length-array_with : (held : Option (List (BucketView K V))) (index : ℕ) (bucket : BucketView K V)
+      → length (list_of (array_with held index bucket)) ≡ length (list_of held)
   length-array_with None index bucket = refl
   length-array_with (Some buckets) index bucket = length-set buckets index bucket
 
-module _ {K V : Type 0} (minimum maximum : ℕ) (other : List (BucketView K V)) (side : Option (List (BucketView K V)))
+module _ {K V : Type 0} (minimum maximum : ℕ) (other : List (BucketView K V)) (held : Option (List (BucketView K V)))
     (tickets : TicketState) where
   -- arrays of which one side is this
   abbrev with_linked : List (BucketView K V) → ArraysView K V
@@ -25,9 +25,9 @@ module _ {K V : Type 0} (minimum maximum : ℕ) (other : List (BucketView K V)) 
   with_current current = record { minimum = minimum; maximum = maximum; current = current; linked = other; tickets = tickets }
 
   module _ (index : ℕ) (bucket : BucketView K V) where
-    pub linked_lent : AreArrays (with_linked (list_of side)) → AreArrays (with_linked (list_of (array_with side index bucket)))
+    pub linked_lent : AreArrays (with_linked (list_of held)) → AreArrays (with_linked (list_of (array_with held index bucket)))
     linked_lent arrays =
-        let same = length-array_with side index bucket in
+        let same = length-array_with held index bucket in
         record {
           maximum_power = arrays.maximum_power;
           bounded = arrays.bounded;
@@ -36,9 +36,9 @@ module _ {K V : Type 0} (minimum maximum : ℕ) (other : List (BucketView K V)) 
           tickets_len = arrays.tickets_len ∙ sym same;
         }
 
-    pub current_lent : AreArrays (with_current (list_of side)) → AreArrays (with_current (list_of (array_with side index bucket)))
+    pub current_lent : AreArrays (with_current (list_of held)) → AreArrays (with_current (list_of (array_with held index bucket)))
     current_lent arrays =
-        let same = length-array_with side index bucket in
+        let same = length-array_with held index bucket in
         record {
           maximum_power = arrays.maximum_power;
           bounded = arrays.bounded;
@@ -48,18 +48,18 @@ module _ {K V : Type 0} (minimum maximum : ℕ) (other : List (BucketView K V)) 
         }
 
   module _ (now : ArraysView K V) where
-    pub linked_seen : (is_old : Bool) (index : ℕ) (bucket : BucketView K V) → is_old ≡ true → with_linked (list_of side) ≡ now
-        → with_linked (list_of (array_with side index bucket)) ≡ arrays_with now is_old index bucket
-    linked_seen true index bucket e is = rw (← is) (rw (list_of-array_with side index bucket) refl)
-    linked_seen false index bucket e is = absurd (false≢true e)
+    pub linked_seen : (side : Side) (index : ℕ) (bucket : BucketView K V) → side ≡ Old → with_linked (list_of held) ≡ now
+        → with_linked (list_of (array_with held index bucket)) ≡ arrays_with now side index bucket
+    linked_seen Old index bucket e is = rw (← is) (rw (list_of-array_with held index bucket) refl)
+    linked_seen Current index bucket e is = absurd cc
 
-    pub current_seen : (is_old : Bool) (index : ℕ) (bucket : BucketView K V) → is_old ≡ false → with_current (list_of side) ≡ now
-        → with_current (list_of (array_with side index bucket)) ≡ arrays_with now is_old index bucket
-    current_seen false index bucket e is = rw (← is) (rw (list_of-array_with side index bucket) refl)
-    current_seen true index bucket e is = absurd (false≢true (sym e))
+    pub current_seen : (side : Side) (index : ℕ) (bucket : BucketView K V) → side ≡ Current → with_current (list_of held) ≡ now
+        → with_current (list_of (array_with held index bucket)) ≡ arrays_with now side index bucket
+    current_seen Current index bucket e is = rw (← is) (rw (list_of-array_with held index bucket) refl)
+    current_seen Old index bucket e is = absurd cc
 
-    pub pushed_seen : (fresh array : List (BucketView K V)) (after : TicketState) (len : ℕ) → Some array ≡ side → after ≡ first_tickets len
-        → len ≡ length now.current → with_current (list_of side) ≡ now
+    pub pushed_seen : (fresh array : List (BucketView K V)) (after : TicketState) (len : ℕ) → Some array ≡ held → after ≡ first_tickets len
+        → len ≡ length now.current → with_current (list_of held) ≡ now
         → ◌≡◌ {A = ArraysView K V} (record { minimum = minimum; maximum = maximum; current = fresh; linked = array; tickets = after })
         (record now { current = fresh; linked = now.current; tickets = first_tickets (length now.current) })
     pushed_seen fresh array after len stood first len_is is = rw (first, len_is) (rw (← is) (rw (← stood) refl))

@@ -1,7 +1,7 @@
 -- Marks of arrays: that none is new where a bucket changes, where a bucket's pairs move on, and where an array comes or goes.
-use Rattle.bucket_table.proofs.Words.{ArraysView, Bool, BucketView, HasNoNewMark, KeepsEntries, List, MarksBy, [], arith, arrays_with}
-use Rattle.bucket_table.proofs.Words.{bucket_at, bucket_on, by-no_new, empty_bucket, false, get_or, length, marks_among, marks_in, marks_of}
-use Rattle.bucket_table.proofs.Words.{no_new-refl, no_new-trans, refl, set, suc, true, ℕ, ◌++◌, ◌∷◌, ◌≡◌}
+use Rattle.bucket_table.proofs.Words.{ArraysView, BucketView, Current, HasNoNewMark, KeepsEntries, List, MarksBy, Old, Side, [], arith}
+use Rattle.bucket_table.proofs.Words.{arrays_with, bucket_at, bucket_on, by-no_new, empty_bucket, get_or, length, marks_among, marks_in}
+use Rattle.bucket_table.proofs.Words.{marks_of, no_new-refl, no_new-trans, refl, set, suc, ℕ, ◌++◌, ◌∷◌, ◌≡◌}
 use Rattle.bucket_slots.proofs.MarkCallerLemmas.{by-append, by-set, no_new-append, no_new-at, no_new-both, no_new-front, no_new-rest}
 use Rattle.bucket_slots.proofs.MarkCallerLemmas.{no_new-set}
 
@@ -56,14 +56,14 @@ module _ {K V : Type 0} (epoch : ℕ) where
   by-set_at buckets index left here = by-set epoch marks_in buckets index left empty_bucket refl here
 
   -- another bucket, whose marks are its own or of an epoch
-  pub by-bucket : (arrays : ArraysView K V) (side : Bool) (index : ℕ) (left : BucketView K V)
+  pub by-bucket : (arrays : ArraysView K V) (side : Side) (index : ℕ) (left : BucketView K V)
       → MarksBy epoch (marks_in (bucket_on arrays side index)) (marks_in left)
       → MarksBy epoch (marks_of arrays) (marks_of (arrays_with arrays side index left))
-  by-bucket arrays false index left here =
+  by-bucket arrays Current index left here =
       let rest = marks_among arrays.linked in
       by-append epoch (marks_among arrays.current) rest _ rest (by-set_at arrays.current index left here)
       (by-no_new epoch rest rest (no_new-refl rest))
-  by-bucket arrays true index left here =
+  by-bucket arrays Old index left here =
       let front = marks_among arrays.current in
       by-append epoch front (marks_among arrays.linked) front _ (by-no_new epoch front front (no_new-refl front))
       (by-set_at arrays.linked index left here)

@@ -1,11 +1,11 @@
 -- The law of two arrays, and all their pairs, where one bucket of one of them changes.
 use Rattle.bucket_table.proofs.Words.{All, All-permutation, All-tail, ArePlaced, AreSourcesKilled, AreTwoArrays, ArraysView, Bool}
-use Rattle.bucket_table.proofs.Words.{BucketView, IsEntryHome, IsLocked, IsPermutation, IsPermutation-append_right, IsPermutation-map}
-use Rattle.bucket_table.proofs.Words.{IsPermutation-trans, List, LosesNoUnit, Meets, Place, Some, TicketState, [], all_slots, ap, arith}
-use Rattle.bucket_table.proofs.Words.{arrays_with, bucket_at, buckets_on, cases_Bool, cases_eq, empty_bucket, entries_among, entries_in}
-use Rattle.bucket_table.proofs.Words.{entries_of, false, false≢true, get_or-set_other, inl, inr, killed_flags, length, length-set}
-use Rattle.bucket_table.proofs.Words.{length_permutation, live_pair, map, map-append, map-set, pairs_in, pairs_of, refl, rotated, set}
-use Rattle.bucket_table.proofs.Words.{slot_in, slots_without, subst, sym, true, ℕ, ◌++◌, ◌<◌, ◌∙◌, ◌∷◌, ◌≡◌, ◌≤◌}
+use Rattle.bucket_table.proofs.Words.{BucketView, Current, IsEntryHome, IsLocked, IsPermutation, IsPermutation-append_right}
+use Rattle.bucket_table.proofs.Words.{IsPermutation-map, IsPermutation-trans, List, LosesNoUnit, Meets, Old, Place, Side, Some, TicketState}
+use Rattle.bucket_table.proofs.Words.{[], all_slots, ap, arith, arrays_with, bucket_at, buckets_on, cases_Bool, cases_eq, empty_bucket}
+use Rattle.bucket_table.proofs.Words.{entries_among, entries_in, entries_of, false, false≢true, get_or-set_other, inl, inr, killed_flags}
+use Rattle.bucket_table.proofs.Words.{length, length-set, length_permutation, live_pair, map, map-append, map-set, pairs_in, pairs_of, refl}
+use Rattle.bucket_table.proofs.Words.{rotated, set, slot_in, slots_without, subst, sym, true, ℕ, ◌++◌, ◌<◌, ◌∙◌, ◌∷◌, ◌≡◌, ◌≤◌}
 use Rattle.std.proofs.Common.{get_or-set_same}
 use Rattle.std.proofs.lemmas.List.{set-get_or}
 use Rattle.std.proofs.lemmas.List.Elements.{All-append, All-set}
@@ -21,47 +21,47 @@ All-behind P [] ys h = h
 All-behind P (x ∷ xs) ys h = All-behind P xs ys (All-tail P x (xs ++ ys) h)
 
 module _ {K V : Type 0} where
-  pub buckets_on-arrays_with : (a : ArraysView K V) (side : Bool) (i : ℕ) (b : BucketView K V)
+  pub buckets_on-arrays_with : (a : ArraysView K V) (side : Side) (i : ℕ) (b : BucketView K V)
       → buckets_on (arrays_with a side i b) side ≡ set (buckets_on a side) i b
-  buckets_on-arrays_with a true i b = refl
-  buckets_on-arrays_with a false i b = refl
+  buckets_on-arrays_with a Old i b = refl
+  buckets_on-arrays_with a Current i b = refl
 
   -- the same bucket once more
-  pub arrays_with-same : (a : ArraysView K V) (side : Bool) (i : ℕ) → arrays_with a side i (bucket_at (buckets_on a side) i) ≡ a
-  arrays_with-same a true i = ap (λ (bs : List (BucketView K V)). record a { linked = bs }) (set-get_or a.linked i empty_bucket)
-  arrays_with-same a false i = ap (λ (bs : List (BucketView K V)). record a { current = bs }) (set-get_or a.current i empty_bucket)
+  pub arrays_with-same : (a : ArraysView K V) (side : Side) (i : ℕ) → arrays_with a side i (bucket_at (buckets_on a side) i) ≡ a
+  arrays_with-same a Old i = ap (λ (bs : List (BucketView K V)). record a { linked = bs }) (set-get_or a.linked i empty_bucket)
+  arrays_with-same a Current i = ap (λ (bs : List (BucketView K V)). record a { current = bs }) (set-get_or a.current i empty_bucket)
 
   -- a current bucket whose sources are killed may be locked
-  pub locked_current : (a : ArraysView K V) (i : ℕ) → i < length a.current → AreSourcesKilled a i → IsLocked a false i
+  pub locked_current : (a : ArraysView K V) (i : ℕ) → i < length a.current → AreSourcesKilled a i → IsLocked a Current i
   locked_current a i within dead = record {
     within = within;
     killed = λ e. dead;
-    alive = λ e. absurd (false≢true e);
-    vacant = λ e. absurd (false≢true e);
+    alive = λ e. absurd cc;
+    vacant = λ e. absurd cc;
   }
 
   -- bucket i of one side is b now: the entries `out` went, and `came` came
-  pub record Exchanges (a : ArraysView K V) (side : Bool) (i : ℕ) (came out : List ((K × V) × ℕ)) (b : BucketView K V) : Type 0 where
+  pub record Exchanges (a : ArraysView K V) (side : Side) (i : ℕ) (came out : List ((K × V) × ℕ)) (b : BucketView K V) : Type 0 where
     pub within : i < length (buckets_on a side)
     pub moved : IsPermutation (came ++ entries_in (bucket_at (buckets_on a side) i)) (out ++ entries_in b)
     pub alive : b.killed ≡ (bucket_at (buckets_on a side) i).killed
 
-  entries_exchanged : (a : ArraysView K V) (side : Bool) (i : ℕ) (came out : List ((K × V) × ℕ))
+  entries_exchanged : (a : ArraysView K V) (side : Side) (i : ℕ) (came out : List ((K × V) × ℕ))
       (b : BucketView K V) → i < length (buckets_on a side)
       → IsPermutation (came ++ entries_in (bucket_at (buckets_on a side) i)) (out ++ entries_in b)
       → IsPermutation (came ++ entries_of a) (out ++ entries_of (arrays_with a side i b))
-  entries_exchanged a true i came out b within moved =
+  entries_exchanged a Old i came out b within moved =
       let c = entries_among a.current in
       let l = a.linked in
       IsPermutation-trans _ _ _ (rotated came c (entries_among l))
       (IsPermutation-trans _ _ _ (IsPermutation-append_right c _ _ (exchanged came out l i b within moved))
       (rotated c out (entries_among (set l i b))))
-  entries_exchanged a false i came out b within moved =
+  entries_exchanged a Current i came out b within moved =
       let c = a.current in
       regrouped came out (entries_among c) (entries_among (set c i b)) (entries_among a.linked) (exchanged came out c i b within moved)
 
   -- another bucket exchanges pairs among all, where it does so among its own
-  pub pairs_exchanged : (a : ArraysView K V) (side : Bool) (i : ℕ) (came out : List ((K × V) × ℕ))
+  pub pairs_exchanged : (a : ArraysView K V) (side : Side) (i : ℕ) (came out : List ((K × V) × ℕ))
       (b : BucketView K V) → i < length (buckets_on a side)
       → IsPermutation (came ++ entries_in (bucket_at (buckets_on a side) i)) (out ++ entries_in b)
       → IsPermutation (map (λ (e : (K × V) × ℕ). e.0) came ++ pairs_of a)
@@ -123,18 +123,18 @@ module _ {K V : Type 0} where
       }
 
   -- each pair of a bucket stands in its home
-  pub homes_on : (hash : K → ℕ) (a : ArraysView K V) (side : Bool) (i : ℕ) → ArePlaced hash a → i < length (buckets_on a side)
+  pub homes_on : (hash : K → ℕ) (a : ArraysView K V) (side : Side) (i : ℕ) → ArePlaced hash a → i < length (buckets_on a side)
       → All (IsEntryHome hash (length (buckets_on a side)) i) (entries_in (bucket_at (buckets_on a side) i))
-  homes_on hash a true i law within = law.homes.linked_home i within
-  homes_on hash a false i law within = law.homes.current_home i within
+  homes_on hash a Old i law within = law.homes.linked_home i within
+  homes_on hash a Current i law within = law.homes.current_home i within
 
   -- a bucket whose pairs may change: an old one isn't killed, and a current one isn't a target that has to be empty
-  pub record IsChangeable (a : ArraysView K V) (side : Bool) (i : ℕ) : Type 0 where
+  pub record IsChangeable (a : ArraysView K V) (side : Side) (i : ℕ) : Type 0 where
     pub within : i < length (buckets_on a side)
-    pub filled : side ≡ false → length a.linked ≤ length a.current → AreSourcesKilled a i
-    pub alive : side ≡ true → (bucket_at a.linked i).killed ≡ false
+    pub filled : side ≡ Current → length a.linked ≤ length a.current → AreSourcesKilled a i
+    pub alive : side ≡ Old → (bucket_at a.linked i).killed ≡ false
 
-  pub changeable_locked : (a : ArraysView K V) (side : Bool) (i : ℕ) → IsLocked a side i → IsChangeable a side i
+  pub changeable_locked : (a : ArraysView K V) (side : Side) (i : ℕ) → IsLocked a side i → IsChangeable a side i
   changeable_locked a side i locked = record { within = locked.within; filled = λ e longer. locked.killed e; alive = locked.alive }
 
   no_pair : (b : BucketView K V) (at : Place) (p : K × V) → live_pair (slot_in b at) ≡ Some p → pairs_in b ≡ [] → ⊥
@@ -144,47 +144,47 @@ module _ {K V : Type 0} where
       absurd (omega (arith, less, zero))
 
   -- a bucket that has a pair is no empty target, and isn't killed
-  pub changeable_filled : (hash : K → ℕ) (a : ArraysView K V) (side : Bool) (i : ℕ) → ArePlaced hash a
+  pub changeable_filled : (hash : K → ℕ) (a : ArraysView K V) (side : Side) (i : ℕ) → ArePlaced hash a
       → i < length (buckets_on a side) → (pairs_in (bucket_at (buckets_on a side) i) ≡ [] → ⊥) → IsChangeable a side i
-  changeable_filled hash a true i law within some = record {
+  changeable_filled hash a Old i law within some = record {
     within = within;
-    filled = λ e. absurd (false≢true (sym e));
+    filled = λ e. absurd cc;
     alive = λ e. elim (cases_Bool (bucket_at a.linked i).killed) [
       | inl dead ↦ absurd (some (law.homes.killed_empty i within dead))
       | inr live ↦ live
     ];
   }
-  changeable_filled hash a false i law within some = record {
+  changeable_filled hash a Current i law within some = record {
     within = within;
     filled = λ e longer k below meets. elim (cases_Bool (bucket_at a.linked k).killed) [
       | inl dead ↦ dead
       | inr live ↦ absurd (some
           (live_pairs-all_free (all_slots (bucket_at a.current i)) (law.homes.empty_targets longer k i below within live meets).free))
     ];
-    alive = λ e. absurd (false≢true e);
+    alive = λ e. absurd cc;
   }
 
-  pub changeable_holding : (hash : K → ℕ) (a : ArraysView K V) (side : Bool) (i : ℕ) (at : Place) (p : K × V) → ArePlaced hash a
+  pub changeable_holding : (hash : K → ℕ) (a : ArraysView K V) (side : Side) (i : ℕ) (at : Place) (p : K × V) → ArePlaced hash a
       → i < length (buckets_on a side) → live_pair (slot_in (bucket_at (buckets_on a side) i) at) ≡ Some p → IsChangeable a side i
   changeable_holding hash a side i at p law within there =
       changeable_filled hash a side i law within (no_pair (bucket_at (buckets_on a side) i) at p there)
 
   -- the law stays
-  pub placed_after : (hash : K → ℕ) (a : ArraysView K V) (side : Bool) (i : ℕ) (b : BucketView K V)
+  pub placed_after : (hash : K → ℕ) (a : ArraysView K V) (side : Side) (i : ℕ) (b : BucketView K V)
       → ArePlaced hash a → IsChangeable a side i → All (IsEntryHome hash (length (buckets_on a side)) i) (entries_in b)
       → b.killed ≡ (bucket_at (buckets_on a side) i).killed → ArePlaced hash (arrays_with a side i b)
-  placed_after hash a true i b law held homes same = record {
+  placed_after hash a Old i b law held homes same = record {
     homes = old_after_change hash a.current a.linked i b law.homes held.within homes same (same ∙ held.alive refl);
     rehashed = rehashed_with a.linked a.tickets i b held.within same (same ∙ held.alive refl) law.rehashed;
   }
-  placed_after hash a false i b law held homes same = record {
+  placed_after hash a Current i b law held homes same = record {
     homes = law_after_change hash a.current a.linked i b law.homes held.within (held.filled refl) homes
         (same ∙ law.homes.alive i held.within);
     rehashed = law.rehashed;
   }
 
   -- and where a locked bucket is another one
-  pub placed_change : (hash : K → ℕ) (a : ArraysView K V) (side : Bool) (i : ℕ) (b : BucketView K V) → ArePlaced hash a → IsLocked a side i
+  pub placed_change : (hash : K → ℕ) (a : ArraysView K V) (side : Side) (i : ℕ) (b : BucketView K V) → ArePlaced hash a → IsLocked a side i
       → All (IsEntryHome hash (length (buckets_on a side)) i) (entries_in b) → b.killed ≡ (bucket_at (buckets_on a side) i).killed
       → ArePlaced hash (arrays_with a side i b)
   placed_change hash a side i b law locked homes same = placed_after hash a side i b law (changeable_locked a side i locked) homes same

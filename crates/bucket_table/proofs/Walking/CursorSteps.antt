@@ -1,10 +1,10 @@
 -- A cursor passes empty buckets.
-use Rattle.bucket_table.proofs.Words.{All, AllByRecursion, AreArrays, ArePlaced, AreSourcesKilled, ArraysView, BucketView, Err, HasNoneFrom}
-use Rattle.bucket_table.proofs.Words.{IfOk, IsEntryHome, IsInInterval, IsLength, KeepsArrays, List, Meets, MovesToNext, Ok, Place, Result}
-use Rattle.bucket_table.proofs.Words.{[], ap, arith, bound_of, bucket_at, bucket_on, cases_Bool, cases_lt, entries_in, false, inl, inr}
-use Rattle.bucket_table.proofs.Words.{interval_width, length, length_permutation, map-entries_in, mul-le-mul_right, nil_from_length}
-use Rattle.bucket_table.proofs.Words.{null_place, pairs_ahead, pairs_in, pairs_of, recursion_from_All, refl, subst, suc, sym, true≢false}
-use Rattle.bucket_table.proofs.Words.{zero, ℕ, ◌*◌, ◌++◌, ◌+◌, ◌<◌, ◌^◌, ◌∙◌, ◌∷◌, ◌≡◌, ◌≤◌, ◌⊎◌}
+use Rattle.bucket_table.proofs.Words.{All, AllByRecursion, AreArrays, ArePlaced, AreSourcesKilled, ArraysView, BucketView, Current, Err}
+use Rattle.bucket_table.proofs.Words.{HasNoneFrom, IfOk, IsEntryHome, IsInInterval, IsLength, KeepsArrays, List, Meets, MovesToNext, Ok}
+use Rattle.bucket_table.proofs.Words.{Place, Result, [], ap, arith, bound_of, bucket_at, bucket_on, cases_Bool, cases_lt, entries_in, false}
+use Rattle.bucket_table.proofs.Words.{inl, inr, interval_width, length, length_permutation, map-entries_in, mul-le-mul_right}
+use Rattle.bucket_table.proofs.Words.{nil_from_length, null_place, pairs_ahead, pairs_in, pairs_of, recursion_from_All, refl, subst, suc}
+use Rattle.bucket_table.proofs.Words.{sym, true≢false, zero, ℕ, ◌*◌, ◌++◌, ◌+◌, ◌<◌, ◌^◌, ◌∙◌, ◌∷◌, ◌≡◌, ◌≤◌, ◌⊎◌}
 use Rattle.bucket_slots.specs.Walking.{IsEnd}
 use Rattle.bucket_table.specs.Walking.Cursors.{IsFirstFrom, IsFoundFrom, ReachesPast}
 use Rattle.bucket_table.specs.Map.LookingUp.{pairs_in_all}
@@ -48,7 +48,7 @@ module _ {K V : Type 0} (hash : K → ℕ) where
     parted = subst (HasNoneBetween hash bound (bound_of (length arrays.current) index)) (pairs_are arrays) passed
 
     -- a cursor at a bucket has passed the current buckets below
-    pub none_below : (j : ℕ) → j < index → HasNoneFrom hash bound (pairs_in (bucket_on arrays false j))
+    pub none_below : (j : ℕ) → j < index → HasNoneFrom hash bound (pairs_in (bucket_on arrays Current j))
     none_below j below =
         let c = arrays.current in
         let n : ℕ = length c in
@@ -125,14 +125,14 @@ module _ {K V : Type 0} (hash : K → ℕ) where
 
   -- the bucket at the index is empty, and nothing of it is in the old buckets
   pub passes : (old now : ArraysView K V) (start index : ℕ) (at next : Place) → HasPassed old start index now at
-      → index < length now.current → AreSourcesKilled now index → IsEnd (bucket_on now false index) at next
+      → index < length now.current → AreSourcesKilled now index → IsEnd (bucket_on now Current index) at next
       → HasPassed old start (index + 1) now next
   passes old now start index at next p within ready end =
       let n : ℕ = length now.current in
       let m : ℕ = length old.current in
       let same : n ≡ m = p.kept.current_len in
-      let empty : pairs_in (bucket_on now false index) ≡ [] = subst
-      (λ (q : Place). pairs_ahead (bucket_on now false index) q ≡ []) p.null end.ahead in
+      let empty : pairs_in (bucket_on now Current index) ≡ [] = subst
+      (λ (q : Place). pairs_ahead (bucket_on now Current index) q ≡ []) p.null end.ahead in
       let home = taken_there hash now index (splits hash now index p.placed within ready) in
       let none = none_pass (λ (pair : K × V). is_inside n index (hash pair.0)) (pairs_of now)
       (nothing _ (omega (arith, length_permutation _ _ home, ap length empty))) in
@@ -154,7 +154,7 @@ module _ {K V : Type 0} (hash : K → ℕ) where
   -- the cursor stops at the first live pair
   pub stops : (old now : ArraysView K V) (start index : ℕ) (at next : Place) → HasPassed old start index now at
       → index < length now.current → IsLength (length now.current)
-      → AreSourcesKilled now index → MovesToNext (bucket_on now false index) at next
+      → AreSourcesKilled now index → MovesToNext (bucket_on now Current index) at next
       → IsFirstFrom hash now (bound_of (length old.current) start) index next
   stops old now start index at next p within long ready moves =
       let same : length now.current ≡ length old.current = p.kept.current_len in
@@ -165,8 +165,8 @@ module _ {K V : Type 0} (hash : K → ℕ) where
         locked = locked_current now index within ready;
         pair = moves.pair;
         slot = moves.here;
-        first = subst (λ (q : Place). pairs_ahead (bucket_on now false index) q ≡ moves.pair ∷
-            pairs_ahead (bucket_on now false index) next) p.null moves.ahead;
+        first = subst (λ (q : Place). pairs_ahead (bucket_on now Current index) q ≡ moves.pair ∷
+            pairs_ahead (bucket_on now Current index) next) p.null moves.ahead;
         current = none_below now bound index p.placed within passed;
         old = none_behind now bound index p.placed within passed ready (wide _ long);
         passed = passed;
@@ -205,7 +205,7 @@ module _ {K V : Type 0} (hash : K → ℕ) where
   pub stops_at : (old before now : ArraysView K V) (start index len : ℕ) (at next : Place)
       (b : BucketView K V) → HasPassed hash old start index before at → ArePlaced hash now → KeepsArrays before now
       → len ≡ length before.current → index < len → (0 < len → IsLength len)
-      → AreSourcesKilled now index → b ≡ bucket_on now false index → MovesToNext b at next
+      → AreSourcesKilled now index → b ≡ bucket_on now Current index → MovesToNext b at next
       → IsFirstFrom hash now (bound_of (length old.current) start) index next
   stops_at old before now start index len at next b p law kept is within long ready here moves =
       let same : length now.current ≡ length before.current = kept.current_len in
@@ -217,7 +217,7 @@ module _ {K V : Type 0} (hash : K → ℕ) where
   -- or it has none
   pub passes_at : (old before now : ArraysView K V) (start index len : ℕ) (at next : Place)
       (b : BucketView K V) → HasPassed hash old start index before at → ArePlaced hash now → KeepsArrays before now
-      → len ≡ length before.current → index < len → AreSourcesKilled now index → b ≡ bucket_on now false index → IsEnd b at next
+      → len ≡ length before.current → index < len → AreSourcesKilled now index → b ≡ bucket_on now Current index → IsEnd b at next
       → HasPassed hash old start (index + 1) now next
   passes_at old before now start index len at next b p law kept is within ready here end =
       passes hash old now start index at next (waits hash old before now start index at p law kept)

@@ -1,6 +1,6 @@
 -- All pairs of two arrays, split into those of one current bucket and those elsewhere.
-use Rattle.bucket_table.proofs.Words.{AllByRecursion, ArePlaced, AreSourcesKilled, ArraysView, Bool, BucketView, IsEntryHome, IsInInterval}
-use Rattle.bucket_table.proofs.Words.{IsPermutation, IsPermutation-append_left, IsPermutation-append_right, IsPermutation-map}
+use Rattle.bucket_table.proofs.Words.{AllByRecursion, ArePlaced, AreSourcesKilled, ArraysView, Bool, BucketView, Current, IsEntryHome}
+use Rattle.bucket_table.proofs.Words.{IsInInterval, IsPermutation, IsPermutation-append_left, IsPermutation-append_right, IsPermutation-map}
 use Rattle.bucket_table.proofs.Words.{IsPermutation-refl, IsPermutation-sym, IsPermutation-trans, List, [], ap, append_assoc, arith}
 use Rattle.bucket_table.proofs.Words.{arrays_with, bucket_at, bucket_on, cases_Bool, empty_bucket, entries_among, entries_in, entries_of}
 use Rattle.bucket_table.proofs.Words.{false, filter, filter-append, get_or-set_same, inl, inr, length, map, map-entries_in, not}
@@ -59,10 +59,10 @@ module _ {K V : Type 0} (hash : K → ℕ) where
   -- the bucket's entries are all with their home there, and the others stand elsewhere; another bucket changes those alone
   pub record SplitsAt (arrays : ArraysView K V) (i : ℕ) : Type 0 where
     pub rest : List ((K × V) × ℕ)
-    pub before : IsPermutation (entries_of arrays) (entries_in (bucket_on arrays false i) ++ rest)
-    pub at_home : AllByRecursion (λ e. IsInInterval (length arrays.current) i (hash e.0.0)) (entries_in (bucket_on arrays false i))
+    pub before : IsPermutation (entries_of arrays) (entries_in (bucket_on arrays Current i) ++ rest)
+    pub at_home : AllByRecursion (λ e. IsInInterval (length arrays.current) i (hash e.0.0)) (entries_in (bucket_on arrays Current i))
     pub elsewhere : AllByRecursion (λ e. IsInInterval (length arrays.current) i (hash e.0.0) → ⊥) rest
-    pub after : (b : BucketView K V) → IsPermutation (entries_of (arrays_with arrays false i b)) (entries_in b ++ rest)
+    pub after : (b : BucketView K V) → IsPermutation (entries_of (arrays_with arrays Current i b)) (entries_in b ++ rest)
 
   pub splits : (arrays : ArraysView K V) (i : ℕ) → ArePlaced hash arrays
       → i < length arrays.current → AreSourcesKilled arrays i → SplitsAt arrays i
@@ -109,8 +109,8 @@ module _ {K V : Type 0} (hash : K → ℕ) where
         (subst (IsPermutation (map first_of_entry new)) (map_append first_of_entry (entries_in b) s.rest)
         (IsPermutation-map first_of_entry _ _ moved))
 
-    pairs_at_home : AllByRecursion (λ pair. inside pair ≡ true) (pairs_in (bucket_on arrays false i))
-    pairs_at_home = subst (AllByRecursion (λ pair. inside pair ≡ true)) (map-entries_in (bucket_on arrays false i))
+    pairs_at_home : AllByRecursion (λ pair. inside pair ≡ true) (pairs_in (bucket_on arrays Current i))
+    pairs_at_home = subst (AllByRecursion (λ pair. inside pair ≡ true)) (map-entries_in (bucket_on arrays Current i))
         (each_map (λ pair. inside pair ≡ true) first_of_entry _
         (each_implies _ (λ e. inside e.0 ≡ true) (λ e h. is_in _ i (hash e.0.0) h.0 h.1) _
         s.at_home))
@@ -120,18 +120,18 @@ module _ {K V : Type 0} (hash : K → ℕ) where
         (each_implies _ (λ e. inside e.0 ≡ false) (λ e h. is_out _ i (hash e.0.0) h) _ s.elsewhere)
 
     -- the bucket has the pairs whose home it is
-    pub taken_there : IsPermutation (filter inside (pairs_of arrays)) (pairs_in (bucket_on arrays false i))
+    pub taken_there : IsPermutation (filter inside (pairs_of arrays)) (pairs_in (bucket_on arrays Current i))
     taken_there =
-        let lent = pairs_in (bucket_on arrays false i) in
+        let lent = pairs_in (bucket_on arrays Current i) in
         let e : filter inside (lent ++ rest_pairs) ≡ lent = filter-append inside lent rest_pairs ∙
         ap (λ us. us ++ filter inside rest_pairs) (filter_all inside lent pairs_at_home) ∙ ap
         (λ us. lent ++ us) (filter_none inside rest_pairs rest_elsewhere) ∙ append-nil lent in
         subst (IsPermutation (filter inside (pairs_of arrays))) e
-        (IsPermutation-filter inside _ _ (pairs_split (bucket_on arrays false i) (entries_of arrays) s.before))
+        (IsPermutation-filter inside _ _ (pairs_split (bucket_on arrays Current i) (entries_of arrays) s.before))
 
     stayed : IsPermutation (filter outside (pairs_of arrays)) rest_pairs
     stayed =
-        let lent = pairs_in (bucket_on arrays false i) in
+        let lent = pairs_in (bucket_on arrays Current i) in
         let none = filter_none outside lent (each_implies _ (λ p. outside p ≡ false)
         (λ p e. not_from_true (inside p) e) lent pairs_at_home) in
         let all = filter_all outside rest_pairs (each_implies _ (λ p. outside p ≡ true)
@@ -139,11 +139,11 @@ module _ {K V : Type 0} (hash : K → ℕ) where
         let e : filter outside (lent ++ rest_pairs) ≡ rest_pairs = filter-append outside lent
         rest_pairs ∙ ap (λ us. us ++ filter outside rest_pairs) none ∙ all in
         subst (IsPermutation (filter outside (pairs_of arrays))) e
-        (IsPermutation-filter outside _ _ (pairs_split (bucket_on arrays false i) (entries_of arrays) s.before))
+        (IsPermutation-filter outside _ _ (pairs_split (bucket_on arrays Current i) (entries_of arrays) s.before))
 
     -- another bucket there has its pairs in their place
     pub changed_there : (b : BucketView K V) → IsPermutation
-        (pairs_in b ++ filter outside (pairs_of arrays)) (pairs_of (arrays_with arrays false i b))
+        (pairs_in b ++ filter outside (pairs_of arrays)) (pairs_of (arrays_with arrays Current i b))
     changed_there b =
         IsPermutation-trans _ _ _ (IsPermutation-append_right (pairs_in b) _ _ stayed)
-        (IsPermutation-sym _ _ (pairs_split b (entries_of (arrays_with arrays false i b)) (s.after b)))
+        (IsPermutation-sym _ _ (pairs_split b (entries_of (arrays_with arrays Current i b)) (s.after b)))

@@ -1,7 +1,7 @@
 -- The units that a cursor works as it passes buckets.
-use Rattle.bucket_table.proofs.Words.{AreSourcesKilled, ArraysView, Bool, Err, IsInInterval, IsInRange, IsLength, KeepsArrays, Ok, Result}
-use Rattle.bucket_table.proofs.Words.{WorksUnits, ap, arith, bound_of, buckets_on, cases_lt, inl, inr, interval_width, length, refl, subst}
-use Rattle.bucket_table.proofs.Words.{sym, ℕ, ◌+◌, ◌-◌, ◌<◌, ◌^◌, ◌∙◌, ◌≡◌, ◌≤◌}
+use Rattle.bucket_table.proofs.Words.{AreSourcesKilled, ArraysView, Bool, Err, IsInInterval, IsInRange, IsLength, KeepsArrays, Ok}
+use Rattle.bucket_table.proofs.Words.{Result, Side, WorksUnits, ap, arith, bound_of, buckets_on, cases_lt, inl, inr, interval_width}
+use Rattle.bucket_table.proofs.Words.{length, refl, subst, sym, ℕ, ◌+◌, ◌-◌, ◌<◌, ◌^◌, ◌∙◌, ◌≡◌, ◌≤◌}
 use Rattle.bucket_table.specs.Rehash.Units.{WantsMemory}
 use Rattle.bucket_table.specs.Views.ArraysView.{IsSource}
 use Rattle.bucket_table.specs.Walking.Cursors.{AreKilledFor, Passes, ShrinksThenPasses}
@@ -191,7 +191,7 @@ module _ {K V A B : Type 0} (f : A → B) (g : B → ℕ) where
     wanted = p.wanted;
   }
 
-  pub departs_viewed : (r : Result A Missing) (side : Bool) (index : ℕ) (old new : ArraysView K V)
+  pub departs_viewed : (r : Result A Missing) (side : Side) (index : ℕ) (old new : ArraysView K V)
       → ShrinksThenPasses (λ (a : A). g (f a)) side index old r new
       → ShrinksThenPasses g side index old (result_map_both f (λ missing. missing) r) new
   departs_viewed r side index old new d = record {

@@ -1,5 +1,5 @@
 -- A bucket that is read is as if it came back the same.
-use Rattle.bucket_table.proofs.Words.{ArraysView, Bool, BucketView, IsLocked, IsPermutation-refl, TableView, [], bucket_on, false, length}
+use Rattle.bucket_table.proofs.Words.{ArraysView, Bool, BucketView, Current, IsLocked, IsPermutation-refl, TableView, [], bucket_on, length}
 use Rattle.bucket_table.proofs.Words.{reading, refl, subst, sym, ℕ, ◌<◌, ◌≡◌}
 use Rattle.bucket_table.specs.Walking.Walks.{IsKeptBy, KeepsBuckets, keys_in}
 use Rattle.bucket_table.proofs.Views.SideChanges.{arrays_with-same}
@@ -13,23 +13,23 @@ module _ {S K V : Type 0} (reads : S → BucketView K V → Bool → S → Type 
 
   -- it is lent a bucket, and the arrays stay
   pub read_at : (arrays : ArraysView K V) (index : ℕ) (now next : S) (flag more : Bool)
-      (seen : BucketView K V) → seen ≡ bucket_on arrays false index → reads now seen more next
+      (seen : BucketView K V) → seen ≡ bucket_on arrays Current index → reads now seen more next
       → IsLentAt S (reading reads) arrays index now flag more flag next arrays
   read_at arrays index now next flag more seen is call = (
-    bucket_on arrays false index,
+    bucket_on arrays Current index,
     (
       subst (λ (b : BucketView K V). reads now b more next) is call,
       refl,
       refl,
     ),
-    sym (arrays_with-same arrays false index),
+    sym (arrays_with-same arrays Current index),
   )
 
 module _ {K V H : Type 0} where
   -- the table, seen as its parts
-  pub within_seen : (t s : TableView K V H) (index : ℕ) → t ≡ s → IsLocked s.arrays false index → index < length t.arrays.current
+  pub within_seen : (t s : TableView K V H) (index : ℕ) → t ≡ s → IsLocked s.arrays Current index → index < length t.arrays.current
   within_seen t s index is locked = subst (λ (z : TableView K V H). index < length z.arrays.current) (sym is) locked.within
 
   pub bucket_seen : (t s : TableView K V H) (index : ℕ) (b : BucketView K V) → t ≡ s
-      → b ≡ bucket_on t.arrays false index → b ≡ bucket_on s.arrays false index
-  bucket_seen t s index b is same = subst (λ (z : TableView K V H). b ≡ bucket_on z.arrays false index) is same
+      → b ≡ bucket_on t.arrays Current index → b ≡ bucket_on s.arrays Current index
+  bucket_seen t s index b is same = subst (λ (z : TableView K V H). b ≡ bucket_on z.arrays Current index) is same

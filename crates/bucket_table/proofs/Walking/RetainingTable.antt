@@ -1,10 +1,10 @@
 -- A closure is asked for each pair of one side of a table, bucket after bucket.
-use Rattle.bucket_table.proofs.Words.{ArraysView, Bool, BucketView, IsDistinct-IsPermutation, IsEquivalence, IsOneMap, IsPermutation}
-use Rattle.bucket_table.proofs.Words.{IsPermutation-append_left, IsPermutation-append_right, IsPermutation-map, IsPermutation-trans, List}
-use Rattle.bucket_table.proofs.Words.{MarksBy, [], ap, append-nil, append_assoc, arith, arrays_with, bucket_at, bucket_on, buckets_on}
-use Rattle.bucket_table.proofs.Words.{by-no_new, empty_bucket, entries_among, entries_in, false, length, length-append}
-use Rattle.bucket_table.proofs.Words.{length-set, map, map-entries_in, marks_in, marks_of, min, no_new-refl, pairs_in, pairs_of, refl, set}
-use Rattle.bucket_table.proofs.Words.{subst, sym, take, true, ℕ, ◌++◌, ◌+◌, ◌-◌, ◌<◌, ◌^◌, ◌∙◌, ◌∷◌, ◌≡◌, ◌≤◌}
+use Rattle.bucket_table.proofs.Words.{ArraysView, Bool, BucketView, Current, IsDistinct-IsPermutation, IsEquivalence, IsOneMap}
+use Rattle.bucket_table.proofs.Words.{IsPermutation, IsPermutation-append_left, IsPermutation-append_right, IsPermutation-map}
+use Rattle.bucket_table.proofs.Words.{IsPermutation-trans, List, MarksBy, Old, Side, [], ap, append-nil, append_assoc, arith, arrays_with}
+use Rattle.bucket_table.proofs.Words.{bucket_at, bucket_on, buckets_on, by-no_new, empty_bucket, entries_among, entries_in, length}
+use Rattle.bucket_table.proofs.Words.{length-append, length-set, map, map-entries_in, marks_in, marks_of, min, no_new-refl, pairs_in}
+use Rattle.bucket_table.proofs.Words.{pairs_of, refl, set, subst, sym, take, ℕ, ◌++◌, ◌+◌, ◌-◌, ◌<◌, ◌^◌, ◌∙◌, ◌∷◌, ◌≡◌, ◌≤◌}
 use Rattle.std.specs.Borrow.{Bor, MutBor}
 use Rattle.std.proofs.Common.{drop, drop-drop, drop-set-lt, get_or-drop}
 use Rattle.std.proofs.lemmas.List.{take_all, take_more, take_more_set}
@@ -36,7 +36,7 @@ module _ {K V : Type 0} where
       ∙ ap (λ ks. ks ++ map key rest) (ap (map key) (sym (map-entries_in b)) ∙ keys_are (entries_in b))
 
   -- a bucket with a pair may lose keys
-  pub one_map_losing : (eq : K → K → Bool) → IsEquivalence eq → (hash : K → ℕ) (a : ArraysView K V) (side : Bool) (i : ℕ)
+  pub one_map_losing : (eq : K → K → Bool) → IsEquivalence eq → (hash : K → ℕ) (a : ArraysView K V) (side : Side) (i : ℕ)
       (left : BucketView K V) → IsOneMap eq hash a → i < length (buckets_on a side) → (pairs_in (bucket_on a side i) ≡ [] → ⊥)
       → LosesKeys (bucket_on a side i) left → IsOneMap eq hash (arrays_with a side i left)
   one_map_losing eq laws hash a side i left one within some lost =
@@ -76,23 +76,23 @@ module _ {K V : Type 0} where
   marks_among-more xs b =
       flat_map-append (λ (c : BucketView K V). marks_in c) xs (b ∷ []) ∙ ap (λ l. marks_among xs ++ l) (append-nil (marks_in b))
 
-  pub with_buckets-set : (a : ArraysView K V) (side : Bool) (bs : List (BucketView K V)) (i : ℕ) (b : BucketView K V)
+  pub with_buckets-set : (a : ArraysView K V) (side : Side) (bs : List (BucketView K V)) (i : ℕ) (b : BucketView K V)
       → arrays_with (with_buckets a side bs) side i b ≡ with_buckets a side (set bs i b)
-  with_buckets-set a true bs i b = refl
-  with_buckets-set a false bs i b = refl
+  with_buckets-set a Old bs i b = refl
+  with_buckets-set a Current bs i b = refl
 
-  pub buckets_on-with_buckets : (a : ArraysView K V) (side : Bool) (bs : List (BucketView K V))
+  pub buckets_on-with_buckets : (a : ArraysView K V) (side : Side) (bs : List (BucketView K V))
       → buckets_on (with_buckets a side bs) side ≡ bs
-  buckets_on-with_buckets a true bs = refl
-  buckets_on-with_buckets a false bs = refl
+  buckets_on-with_buckets a Old bs = refl
+  buckets_on-with_buckets a Current bs = refl
 
-  pub with_buckets-same : (a : ArraysView K V) (side : Bool) → a ≡ with_buckets a side (buckets_on a side)
-  with_buckets-same a true = refl
-  with_buckets-same a false = refl
+  pub with_buckets-same : (a : ArraysView K V) (side : Side) → a ≡ with_buckets a side (buckets_on a side)
+  with_buckets-same a Old = refl
+  with_buckets-same a Current = refl
 
 module _ {S K V : Type 0} (step : S → Bor K → MutBor V → Bool → MutBor V → S → Type 0) (epoch : ℕ) where
   -- a bucket without a pair stays
-  pub retains_none : (first : S) (a : ArraysView K V) (side : Bool) (i count : ℕ) → pairs_in (bucket_on a side i) ≡ [] → count ≡ 0
+  pub retains_none : (first : S) (a : ArraysView K V) (side : Side) (i count : ℕ) → pairs_in (bucket_on a side i) ≡ [] → count ≡ 0
       → RetainsIn step epoch first a side i count a first
   retains_none first a side i count none is =
       let b = bucket_on a side i in
@@ -172,14 +172,14 @@ module _ {S K V : Type 0} (step : S → Bor K → MutBor V → Bool → MutBor V
       }
 
   -- where a side is gone through, between two buckets
-  pub record IsAlong (first : S) (old : ArraysView K V) (side : Bool) (state : S) (now : ArraysView K V) (index count : ℕ) : Type 0 where
+  pub record IsAlong (first : S) (old : ArraysView K V) (side : Side) (state : S) (now : ArraysView K V) (index count : ℕ) : Type 0 where
     pub among : IsAmong first (buckets_on old side) state (buckets_on now side) index count
     pub others : now ≡ with_buckets old side (buckets_on now side)
 
-  pub sets_along : (first : S) (old : ArraysView K V) (side : Bool) → IsAlong first old side first old 0 0
+  pub sets_along : (first : S) (old : ArraysView K V) (side : Side) → IsAlong first old side first old 0 0
   sets_along first old side = record { among = first_among first (buckets_on old side); others = with_buckets-same old side }
 
-  pub goes_along : (first state last : S) (old now new : ArraysView K V) (side : Bool) (index count gone sum : ℕ)
+  pub goes_along : (first state last : S) (old now new : ArraysView K V) (side : Side) (index count gone sum : ℕ)
       → index < length (buckets_on now side) → RetainsIn step epoch state now side index gone new last
       → sum ≡ min (count + gone) (2 ^ 64 - 1)
       → IsAlong first old side state now index count → IsAlong first old side last new (index + 1) sum
@@ -196,7 +196,7 @@ module _ {S K V : Type 0} (step : S → Bor K → MutBor V → Bool → MutBor V
       }
 
   -- a side keeps its length
-  pub as_long : (first last : S) (old new : ArraysView K V) (side : Bool) (index count : ℕ)
+  pub as_long : (first last : S) (old new : ArraysView K V) (side : Side) (index count : ℕ)
       → RetainsIn step epoch first old side index count new last
       → length (buckets_on new side) ≡ length (buckets_on old side)
   as_long first last old new side index count r =
@@ -215,8 +215,8 @@ module _ {S K V : Type 0} (step : S → Bor K → MutBor V → Bool → MutBor V
     pub linked : AreLeftOf kind epoch old.linked new.linked
 
   pub both_sides : (first between last : S) (old mid new : ArraysView K V) (one two count : ℕ)
-      → RetainsAmong step epoch first old.current mid.current one between → mid ≡ with_buckets old false mid.current
-      → RetainsAmong step epoch between mid.linked new.linked two last → new ≡ with_buckets mid true new.linked
+      → RetainsAmong step epoch first old.current mid.current one between → mid ≡ with_buckets old Current mid.current
+      → RetainsAmong step epoch between mid.linked new.linked two last → new ≡ with_buckets mid Old new.linked
       → count ≡ min (one + two) (2 ^ 64 - 1) → (kind : ℕ) → AreLeftOf kind epoch old.current mid.current
       → AreLeftOf kind epoch mid.linked new.linked → IsRetained kind first old new count last
   both_sides first between last old mid new one two count front mid_is back new_is sum kind left_ahead left_behind =

@@ -1,7 +1,7 @@
 -- A cursor sweeps a table.
-use Rattle.bucket_table.proofs.Words.{ArePlaced, ArraysView, Bool, BucketView, Err, HasNoNewMark, IsLength, IsLocked, IsPermutation}
-use Rattle.bucket_table.proofs.Words.{KeepsOpenTickets, KeepsPairs, MarksBy, Ok, Place, Result, TableView, [], ap, arith, arrays_with}
-use Rattle.bucket_table.proofs.Words.{bound_of, bucket_on, by-no_new, by-trans, counted, false, length, marks_of, min, pairs_ahead}
+use Rattle.bucket_table.proofs.Words.{ArePlaced, ArraysView, Bool, BucketView, Current, Err, HasNoNewMark, IsLength, IsLocked}
+use Rattle.bucket_table.proofs.Words.{IsPermutation, KeepsOpenTickets, KeepsPairs, MarksBy, Ok, Place, Result, TableView, [], ap, arith}
+use Rattle.bucket_table.proofs.Words.{arrays_with, bound_of, bucket_on, by-no_new, by-trans, counted, length, marks_of, min, pairs_ahead}
 use Rattle.bucket_table.proofs.Words.{pairs_in, pairs_of, refl, subst, sym, ℕ, ◌++◌, ◌+◌, ◌-◌, ◌<◌, ◌^◌, ◌∙◌, ◌∷◌, ◌≡◌, ◌≢◌, ◌≤◌}
 use Rattle.std.proofs.lemmas.List.{length-set}
 use Rattle.bucket_table.specs.Walking.Cursors.{IsFoundFrom, Leaves, ReachesPast, SetsOut, ShrinksThenPasses}
@@ -33,8 +33,9 @@ module _ {K V : Type 0} (IsTest : (K × V → Bool) → Type 0) (hash : K → �
 
   -- where a sweep stands between two buckets
   abbrev pub SweepsOn : ArraysView K V → ArraysView K V → ℕ → Result ℕ Missing → Type 0
-  SweepsOn old now count (Ok index) = IsLocked now false index × IsSweeping IsTest hash (pairs_of old) (pairs_of now)
-      (bound_of (length now.current) index) (bound_of (length now.current) (index + 1)) count × (pairs_in (bucket_on now false index) ≢ [])
+  SweepsOn old now count (Ok index) = IsLocked now Current index × IsSweeping IsTest hash (pairs_of old) (pairs_of now)
+      (bound_of (length now.current) index) (bound_of (length now.current) (index + 1)) count
+      × (pairs_in (bucket_on now Current index) ≢ [])
   SweepsOn old now count (Err missing) = IsOver old now count missing
 
   -- a sweep that has come to a bound goes on where a cursor does
@@ -46,7 +47,7 @@ module _ {K V : Type 0} (IsTest : (K × V → Bool) → Type 0) (hash : K → �
     goes.locked,
     sweep_moves IsTest hash (pairs_of old) (pairs_of now) (pairs_of next) (bound_of (length next.current) index) high
         (bound_of (length next.current) (index + 1)) count kept (omega (arith, past)) goes.passed s,
-    λ none. let there : [] ≡ goes.pair ∷ pairs_ahead (bucket_on next false index) at = sym none ∙ goes.first in cc,
+    λ none. let there : [] ≡ goes.pair ∷ pairs_ahead (bucket_on next Current index) at = sym none ∙ goes.first in cc,
   )
   sweep_goes old now next count high (Err Nothing) at s kept goes past = sweep_ends IsTest hash (pairs_of old) (pairs_of now)
       (pairs_of next) high count s kept (goes.none refl)
@@ -64,7 +65,7 @@ module _ {K V : Type 0} (IsTest : (K × V → Bool) → Type 0) (hash : K → �
     goes.locked,
     sweep_moves IsTest hash (pairs_of old) (pairs_of old) (pairs_of next) (bound_of (length next.current) index) 0
         (bound_of (length next.current) (index + 1)) 0 kept (omega arith) goes.passed (sweep_none old),
-    λ none. let there : [] ≡ goes.pair ∷ pairs_ahead (bucket_on next false index) at = sym none ∙ goes.first in cc,
+    λ none. let there : [] ≡ goes.pair ∷ pairs_ahead (bucket_on next Current index) at = sym none ∙ goes.first in cc,
   )
   sweep_sets_out old next (Err Nothing) at kept goes = sweep_ends IsTest hash (pairs_of old) (pairs_of old) (pairs_of next) 0 0
       (sweep_none old) kept (goes.none refl)
@@ -81,7 +82,7 @@ module _ {K V : Type 0} (IsTest : (K × V → Bool) → Type 0) (hash : K → �
       let here = subst (λ (p : Result ℕ Missing). SweepsOn old now count p) is s in
       let split = splits hash now index law here.0.within (here.0.killed refl) in
       rw r.new_is (sweep_visits IsTest hash (length now.current) index (pairs_of old) (pairs_of now)
-      (pairs_of (arrays_with now false index r.left)) (bucket_on now false index) r.left count taken more here.1
+      (pairs_of (arrays_with now Current index r.left)) (bucket_on now Current index) r.left count taken more here.1
       (taken_there hash now index split) (changed_there hash now index split r.left) r.retains counted)
 
 module _ {K V : Type 0} where
@@ -111,7 +112,7 @@ module _ {K V : Type 0} (IsTest : (K × V → Bool) → Type 0) where
   -- a sweep's course so far, and one bucket more
   course_more : {kind epoch : ℕ} (old now visited next : ArraysView K V) (index count : ℕ) (here place : Result ℕ Missing)
       → here ≡ Ok index → Sweeps IsTest kind epoch old (record { place = here; arrays = now })
-      → RetainsAt IsTest kind epoch now index count visited → ShrinksThenPasses (λ to. to) false index visited place next
+      → RetainsAt IsTest kind epoch now index count visited → ShrinksThenPasses (λ to. to) Current index visited place next
       → Sweeps IsTest kind epoch old (record { place = place; arrays = next })
   course_more {kind = kind} {epoch = epoch} old now visited next index count here place is s retained departs =
       let before : SweepState K V = record { place = here; arrays = now } in
@@ -134,14 +135,14 @@ module _ {K V : Type 0} (IsTest : (K × V → Bool) → Type 0) where
 
   -- without an old array nothing changes as long as no pair is refused
   course_alone : {kind epoch : ℕ} (now visited next : ArraysView K V) (index taken : ℕ) (place : Result ℕ Missing)
-      → pairs_in (bucket_on now false index) ≢ [] → RetainsAt IsTest kind epoch now index taken visited
-      → ShrinksThenPasses (λ to. to) false index visited place next
+      → pairs_in (bucket_on now Current index) ≢ [] → RetainsAt IsTest kind epoch now index taken visited
+      → ShrinksThenPasses (λ to. to) Current index visited place next
       → length now.linked ≡ 0 → taken ≡ 0 → next ≡ now
   course_alone now visited next index taken place some r d alone none =
-      let same : visited ≡ now = r.new_is ∙ ap (λ (b : BucketView K V). arrays_with now false index b) (r.retains.unchanged none) ∙
-      arrays_with-same now false index in
-      let quiet : pairs_in (bucket_on visited false index) ≢ [] = subst (λ (a : ArraysView K V). pairs_in (bucket_on a false index) ≢ [])
-      (sym same) some in
+      let same : visited ≡ now = r.new_is ∙ ap (λ (b : BucketView K V). arrays_with now Current index b) (r.retains.unchanged none) ∙
+      arrays_with-same now Current index in
+      let quiet : pairs_in (bucket_on visited Current index) ≢ [] = subst
+      (λ (a : ArraysView K V). pairs_in (bucket_on a Current index) ≢ []) (sym same) some in
       let between : d.between ≡ visited = d.asked.not_asked (λ asked. quiet asked.0) in
       let beside : length d.between.linked ≡ 0 = ap (λ (a : ArraysView K V). length a.linked) (between ∙ same) ∙ alone in
       d.passes.alone beside ∙ between ∙ same
@@ -178,7 +179,7 @@ module _ {K V H : Type 0} (IsTest : (K × V → Bool) → Type 0) (hash : H → 
       → KeepsPairs (state_of kind visited) (state_of kind next) → KeepsOpenTickets visited.arrays.tickets next.arrays.tickets
       → Leaves (hash visited.hasher) (bound_of (length visited.arrays.current) (index + 1)) place next.arrays at
       → HasNoNewMark (marks_of visited.arrays) (marks_of next.arrays)
-      → ShrinksThenPasses (λ to. to) false index visited.arrays place next.arrays → SweepStands next more place
+      → ShrinksThenPasses (λ to. to) Current index visited.arrays place next.arrays → SweepStands next more place
   stands_next now visited next count taken more index here place at s is law same retained counted kept bag leaves none_new departs =
       let law' = subst (λ (h : H). ArePlaced (hash h) now.arrays) s.settings.hasher law in
       let seen = settings_both old now visited s.settings (settings_swept IsTest now visited index taken same retained) in
@@ -197,7 +198,7 @@ module _ {K V H : Type 0} (IsTest : (K × V → Bool) → Type 0) (hash : H → 
             (omega (arith, counted, no_more)) ∙ before;
         marks = by-trans epoch (marks_of old.arrays) (marks_of visited.arrays) (marks_of next.arrays)
             (by-trans epoch (marks_of old.arrays) (marks_of now.arrays) (marks_of visited.arrays) s.marks
-            (rw retained.new_is (by-bucket epoch now.arrays false index retained.left retained.marks)))
+            (rw retained.new_is (by-bucket epoch now.arrays Current index retained.left retained.marks)))
             (by-no_new epoch (marks_of visited.arrays) (marks_of next.arrays) none_new);
       }
 

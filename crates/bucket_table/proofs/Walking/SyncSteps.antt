@@ -1,6 +1,6 @@
 -- A locked bucket that is left for the next one.
-use Rattle.bucket_table.proofs.Words.{ArraysView, AsksShrinking, Bool, Err, HasNoneFrom, IsLocked, IsPermutation-sym, Keeps, List, Ok}
-use Rattle.bucket_table.proofs.Words.{Place, Result, TableView, [], ap, bound_of, bucket_on, buckets_on, inl, inr, length, null_place}
+use Rattle.bucket_table.proofs.Words.{ArraysView, AsksShrinking, Err, HasNoneFrom, IsLocked, IsPermutation-sym, Keeps, List, Ok, Place}
+use Rattle.bucket_table.proofs.Words.{Result, Side, TableView, [], ap, bound_of, bucket_on, buckets_on, inl, inr, length, null_place}
 use Rattle.bucket_table.proofs.Words.{pairs_ahead, pairs_in, pairs_of, refl, subst, sym, ℕ, ◌+◌, ◌<◌, ◌∙◌, ◌∷◌, ◌≡◌, ◌≢◌, ◌⊎◌}
 use Rattle.bucket_table.specs.Walking.Cursors.{Advances, LeavesTo, ShrinksThenPasses}
 use Rattle.bucket_table.specs.declared.arrays.Missing.{Missing}
@@ -14,9 +14,9 @@ some_or_none : {A : Type 0} (xs : List A) → (xs ≡ []) ⊎ (xs ≢ [])
 some_or_none [] = inl refl
 some_or_none (x ∷ xs) = inr (λ e. cc)
 
-module _ {K V H : Type 0} (kind : ℕ) (hash : H → K → ℕ) (side : Bool) (index : ℕ) (from to : Place) where
+module _ {K V H : Type 0} (kind : ℕ) (hash : H → K → ℕ) (side : Side) (index : ℕ) (from to : Place) where
   -- what a cursor does in the arrays is what it does in the table
-  pub advances : (hasher : H) (a : ArraysView K V) (r : Result (Bool × ℕ) Missing) (new : ArraysView K V) → Keeps a new
+  pub advances : (hasher : H) (a : ArraysView K V) (r : Result (Side × ℕ) Missing) (new : ArraysView K V) → Keeps a new
       → (pairs_ahead (bucket_on a side index) from ≢ [] → (r ≡ Ok (side, index)) × (new ≡ a) × MovesToNext (bucket_on a side index) from to)
       → (pairs_ahead (bucket_on a side index) from ≡ []
       → LeavesTo (hash hasher) (bound_of (length (buckets_on a side)) (index + 1)) r new to)
@@ -32,18 +32,18 @@ module _ {K V H : Type 0} (kind : ℕ) (hash : H → K → ℕ) (side : Bool) (i
   }
 
   -- the next bucket is locked
-  pub next_locked : (old new : TableView K V H) (found : Bool × ℕ) → IsLocked old.arrays side index
+  pub next_locked : (old new : TableView K V H) (found : Side × ℕ) → IsLocked old.arrays side index
       → Advances kind hash old side index from (Ok found) to new → IsLocked new.arrays found.0 found.1
   next_locked old new found locked a = elim (some_or_none (pairs_ahead (bucket_on old.arrays side index) from)) [
     | inl none ↦
         let h = a.leaves none in
-        subst (λ (b : Bool). IsLocked new.arrays b found.1) (sym h.0) h.1.locked
+        subst (λ (s : Side). IsLocked new.arrays s found.1) (sym h.0) h.1.locked
     | inr some ↦
         let s = a.stays some in
         let answer = s.0 in
         let same : found ≡ (side, index) = cc in
         subst (λ (p : ArraysView K V). IsLocked p found.0 found.1) (sym s.1)
-        (subst (λ (p : Bool × ℕ). IsLocked old.arrays p.0 p.1) (sym same) locked)
+        (subst (λ (p : Side × ℕ). IsLocked old.arrays p.0 p.1) (sym same) locked)
   ]
 
   module _ (old new : TableView K V H) (missing : Missing) (a : Advances kind hash old side index from (Err missing) to new) where
@@ -75,7 +75,7 @@ module _ {K V H : Type 0} (kind : ℕ) (hash : H → K → ℕ) (side : Bool) (i
     refused_beside alone quiet memory = elim (some_or_none (pairs_ahead (bucket_on old.arrays side index) from)) [
       | inl none ↦
           let d = a.departs none in
-          passes_alone (λ (to : Bool × ℕ). to.1) (Err missing) _ d.between new.arrays d.passes
+          passes_alone (λ (to : Side × ℕ). to.1) (Err missing) _ d.between new.arrays d.passes
           (ap (λ (p : ArraysView K V). length p.linked) (d.asked.not_asked (λ asked. quiet asked.0 asked.1)) ∙ alone) memory
       | inr some ↦ absurd (not_held some)
     ]

@@ -1,10 +1,10 @@
 -- Cursors, as the table sees them.
-use Rattle.bucket_table.proofs.Words.{All, All-from_recursion, All-permutation, ArraysView, Bool, BucketView, Err, HasNoneFrom, IsDistinct}
-use Rattle.bucket_table.proofs.Words.{IsDistinct-IsPermutation, IsEntryHome, IsEquivalence, IsLocked, IsOneMap, IsPermutation}
+use Rattle.bucket_table.proofs.Words.{All, All-from_recursion, All-permutation, ArraysView, Bool, BucketView, Current, Err, HasNoneFrom}
+use Rattle.bucket_table.proofs.Words.{IsDistinct, IsDistinct-IsPermutation, IsEntryHome, IsEquivalence, IsLocked, IsOneMap, IsPermutation}
 use Rattle.bucket_table.proofs.Words.{IsPermutation-append_left, IsPermutation-append_right, IsPermutation-map, IsPermutation-sym}
 use Rattle.bucket_table.proofs.Words.{IsPermutation-trans, KeepsArrays, List, Ok, Place, Result, [], ap, append_assoc, arith, arrays_with}
-use Rattle.bucket_table.proofs.Words.{bucket_on, entries_in, entries_of, false, length, length_permutation, map, pairs_of}
-use Rattle.bucket_table.proofs.Words.{recursion_from_All, refl, subst, ℕ, ◌++◌, ◌∙◌, ◌∷◌, ◌≡◌, ◌≤◌}
+use Rattle.bucket_table.proofs.Words.{bucket_on, entries_in, entries_of, length, length_permutation, map, pairs_of, recursion_from_All}
+use Rattle.bucket_table.proofs.Words.{refl, subst, ℕ, ◌++◌, ◌∙◌, ◌∷◌, ◌≡◌, ◌≤◌}
 use Rattle.std.proofs.lemmas.Map.Keys.{IsDistinct-tail}
 use Rattle.bucket_table.specs.Walking.Cursors.{IsFoundFrom, Passes, SetsOut}
 use Rattle.bucket_table.specs.Walking.Sweeps.{RetainsAt}
@@ -24,11 +24,11 @@ module _ {K V : Type 0} where
   -- a bucket that keeps some of its pairs
   module _ (eq : K → K → Bool) (laws : IsEquivalence eq) (hash : K → ℕ) (arrays : ArraysView K V)
       (index : ℕ) (left : BucketView K V) (gone : List ((K × V) × ℕ))
-      (one : IsOneMap eq hash arrays) (locked : IsLocked arrays false index)
-      (parts : IsPermutation (entries_in (bucket_on arrays false index)) (gone ++ entries_in left))
-      (same : left.killed ≡ (bucket_on arrays false index).killed) where
+      (one : IsOneMap eq hash arrays) (locked : IsLocked arrays Current index)
+      (parts : IsPermutation (entries_in (bucket_on arrays Current index)) (gone ++ entries_in left))
+      (same : left.killed ≡ (bucket_on arrays Current index).killed) where
     abbrev pub after : ArraysView K V
-    after = arrays_with arrays false index left
+    after = arrays_with arrays Current index left
 
     -- those that went were among all
     pub taken_of_all : IsPermutation (entries_of arrays) (gone ++ entries_of after)
@@ -56,7 +56,7 @@ module _ {K V : Type 0} where
         record {
           distinct = distinct_behind eq (map key_of (map pair_of gone)) (map key_of (pairs_of after))
               (IsDistinct-IsPermutation eq laws.symm _ _ parted one.distinct);
-          placed = placed_change hash arrays false index left one.placed locked homes same;
+          placed = placed_change hash arrays Current index left one.placed locked homes same;
         }
 
 module _ {K V H : Type 0} where
@@ -77,7 +77,7 @@ module _ {K V : Type 0} where
   -- a bucket of the table was gone through
   pub left_of : {kind epoch : ℕ} (eq : K → K → Bool) → IsEquivalence eq → (hash : K → ℕ) (a : ArraysView K V)
       (index count : ℕ) (IsTest : (K × V → Bool) → Type 0) (new : ArraysView K V)
-      → IsOneMap eq hash a → IsLocked a false index → RetainsAt IsTest kind epoch a index count new → IsOneMap eq hash new
+      → IsOneMap eq hash a → IsLocked a Current index → RetainsAt IsTest kind epoch a index count new → IsOneMap eq hash new
   left_of eq laws hash a index count IsTest new one locked r =
       rw r.new_is (one_map_left eq laws hash a index r.left r.retains.gone one locked r.retains.parts r.retains.alive)
 

@@ -1,12 +1,12 @@
 -- A current bucket is lent, and comes back with some of its keys.
 use Rattle.bucket_table.proofs.Words.{All, All-from_recursion, AllByRecursion, AreSourcesKilled, ArraysView, AsksShrinking, Bool}
-use Rattle.bucket_table.proofs.Words.{BucketView, Err, IsDistinct, IsDistinct-IsPermutation, IsEntryHome, IsEquivalence, IsHome, IsLocked}
-use Rattle.bucket_table.proofs.Words.{IsOneMap, IsPermutation, IsPermutation-append_left, IsPermutation-append_right, IsPermutation-map}
-use Rattle.bucket_table.proofs.Words.{IsPermutation-sym, IsPermutation-trans, Keeps, KeepsArrays, KeepsOpenTickets, List, Meets, Ok}
-use Rattle.bucket_table.proofs.Words.{TableView, WorksUnits, [], ap, append_assoc, arith, arrays_with, bucket_at, bucket_on, cases_Bool}
-use Rattle.bucket_table.proofs.Words.{cases_lt, entries_in, entries_of, false, has_home_in, inl, inr, length, length-set, map}
-use Rattle.bucket_table.proofs.Words.{map-entries_in, recursion_from_All, refl, subst, sym, true, ℕ, ◌%◌, ◌++◌, ◌+◌, ◌<◌, ◌∙◌, ◌∷◌}
-use Rattle.bucket_table.proofs.Words.{◌≡◌, ◌≤◌}
+use Rattle.bucket_table.proofs.Words.{BucketView, Current, Err, IsDistinct, IsDistinct-IsPermutation, IsEntryHome, IsEquivalence, IsHome}
+use Rattle.bucket_table.proofs.Words.{IsLocked, IsOneMap, IsPermutation, IsPermutation-append_left, IsPermutation-append_right}
+use Rattle.bucket_table.proofs.Words.{IsPermutation-map, IsPermutation-sym, IsPermutation-trans, Keeps, KeepsArrays, KeepsOpenTickets, List}
+use Rattle.bucket_table.proofs.Words.{Meets, Ok, TableView, WorksUnits, [], ap, append_assoc, arith, arrays_with, bucket_at, bucket_on}
+use Rattle.bucket_table.proofs.Words.{cases_Bool, cases_lt, entries_in, entries_of, false, has_home_in, inl, inr, length, length-set, map}
+use Rattle.bucket_table.proofs.Words.{map-entries_in, recursion_from_All, refl, subst, sym, true, ℕ, ◌%◌, ◌++◌, ◌+◌, ◌<◌, ◌∙◌, ◌∷◌, ◌≡◌}
+use Rattle.bucket_table.proofs.Words.{◌≤◌}
 use Rattle.bucket_table.specs.Rehash.Units.{WantsMemory}
 use Rattle.bucket_table.specs.Views.ArraysView.{IsSource}
 use Rattle.bucket_table.specs.Resize.Asking.{ResizesIf}
@@ -50,19 +50,19 @@ module _ {K V : Type 0} where
 
   module _ (eq : K → K → Bool) (laws : IsEquivalence eq) (hash : K → ℕ) (arrays : ArraysView K V)
       (index : ℕ) (left : BucketView K V)
-      (one : IsOneMap eq hash arrays) (locked : IsLocked arrays false index) (kept : IsKeptBy (bucket_on arrays false index) left) where
+      (one : IsOneMap eq hash arrays) (locked : IsLocked arrays Current index) (kept : IsKeptBy (bucket_on arrays Current index) left) where
     abbrev pub after : ArraysView K V
-    after = arrays_with arrays false index left
+    after = arrays_with arrays Current index left
 
     homes : All (IsEntryHome hash (length arrays.current) index) (entries_in left)
-    homes = homes_kept hash (length arrays.current) index (bucket_on arrays false index) left kept.gone kept.keys
+    homes = homes_kept hash (length arrays.current) index (bucket_on arrays Current index) left kept.gone kept.keys
         (one.placed.homes.current_home index locked.within)
 
     keys_left : IsPermutation (map key_of (entries_of arrays)) (kept.gone ++ map key_of (entries_of after))
     keys_left =
         let s = splits hash arrays index one.placed locked.within (locked.killed refl) in
-        let first : IsPermutation (map key_of (entries_of arrays)) (keys_in (bucket_on arrays false index) ++ map key_of s.rest) =
-        subst (IsPermutation (map key_of (entries_of arrays))) (map_append key_of (entries_in (bucket_on arrays false index)) s.rest)
+        let first : IsPermutation (map key_of (entries_of arrays)) (keys_in (bucket_on arrays Current index) ++ map key_of s.rest) =
+        subst (IsPermutation (map key_of (entries_of arrays))) (map_append key_of (entries_in (bucket_on arrays Current index)) s.rest)
         (IsPermutation-map key_of _ _ s.before) in
         let second : IsPermutation (map key_of (entries_of arrays)) (kept.gone ++ (keys_in left ++ map key_of s.rest)) =
         subst (IsPermutation (map key_of (entries_of arrays))) (append_assoc kept.gone (keys_in left) (map key_of s.rest))
@@ -86,12 +86,12 @@ module _ {K V : Type 0} where
           distinct = subst (IsDistinct eq) (sym (keys_are (entries_of after)))
               (distinct_behind eq (map own kept.gone) (map own (map key_of (entries_of after)))
               (IsDistinct-IsPermutation eq laws.symm _ _ parted before));
-          placed = placed_change hash arrays false index left one.placed locked homes
+          placed = placed_change hash arrays Current index left one.placed locked homes
               (kept.alive ∙ sym (one.placed.homes.alive index locked.within));
         }
 
     -- and the bucket was lent with all of its pairs
-    pub visited : IsVisitOf hash arrays index (bucket_on arrays false index) left after
+    pub visited : IsVisitOf hash arrays index (bucket_on arrays Current index) left after
     visited =
         let n : ℕ = length arrays.current in
         let s = splits hash arrays index one.placed locked.within (locked.killed refl) in
@@ -111,17 +111,17 @@ module _ {K V : Type 0} where
   abbrev pub IsLentAt : (S : Type 0) → (S → BucketView K V → Bool → Bool → BucketView K V → Bool → S
       → Type 0) → ArraysView K V → ℕ → S → Bool → Bool → Bool → S → ArraysView K V → Type 0
   IsLentAt S step arrays index now flag more last next new = (left : BucketView K V)
-      × step now (bucket_on arrays false index) flag more left last next × (new ≡ arrays_with arrays false index left)
+      × step now (bucket_on arrays Current index) flag more left last next × (new ≡ arrays_with arrays Current index left)
 
 module _ {S K V H : Type 0} (step : S → BucketView K V → Bool → Bool → BucketView K V → Bool → S
     → Type 0) where
   pub one_map_lent : (eq : K → K → Bool) → IsEquivalence eq → (hash : H → K → ℕ) (t s : TableView K V H) (index : ℕ) (now next : S)
       (flag more last : Bool) (new : ArraysView K V) → t ≡ s
-      → IsOneMap eq (hash t.hasher) t.arrays → IsLocked s.arrays false index → KeepsBuckets step
+      → IsOneMap eq (hash t.hasher) t.arrays → IsLocked s.arrays Current index → KeepsBuckets step
       → IsLentAt S step t.arrays index now flag more last next new → IsOneMap eq (hash t.hasher) new
   one_map_lent eq laws hash t s index now next flag more last new is one locked owes (left, call, new_is) =
-      let here = subst (λ (z : TableView K V H). IsLocked z.arrays false index) (sym is) locked in
-      rw new_is (one_map_visited eq laws (hash t.hasher) t.arrays index left one here (owes now next (bucket_on t.arrays false index) left
+      let here = subst (λ (z : TableView K V H). IsLocked z.arrays Current index) (sym is) locked in
+      rw new_is (one_map_visited eq laws (hash t.hasher) t.arrays index left one here (owes now next (bucket_on t.arrays Current index) left
       flag more last (one.placed.homes.alive index here.within) call))
 
 module _ {S K V : Type 0} (step : S → BucketView K V → Bool → Bool → BucketView K V → Bool → S
@@ -144,12 +144,12 @@ module _ {S K V : Type 0} (step : S → BucketView K V → Bool → Bool → Buc
   pub stands_next : (eq : K → K → Bool) → IsEquivalence eq → (first now next : S) (old table ready new : ArraysView K V) (from index : ℕ)
       (flag last more : Bool) → WalkStands first now old from index flag true table → KeepsArrays table ready
       → WorksUnits 1 (λ home. home ≡ index) table ready → (length table.linked ≡ 0 → ready ≡ table)
-      → IsOneMap eq hash ready → IsLocked ready false index → KeepsBuckets step → IsLentAt S step ready index now flag more last next new
+      → IsOneMap eq hash ready → IsLocked ready Current index → KeepsBuckets step → IsLentAt S step ready index now flag more last next new
       → WalkStands first next old from (index + 1) last more new
   stands_next eq laws first now next old table ready new from index flag last more w kept unit waits one locked owes (left, call, new_is) =
-      let keeps = owes now next (bucket_on ready false index) left flag more last (one.placed.homes.alive index locked.within) call in
+      let keeps = owes now next (bucket_on ready Current index) left flag more last (one.placed.homes.alive index locked.within) call in
       let visit = visited eq laws hash ready index left one locked keeps in
-      let done : ArraysView K V = arrays_with ready false index left in
+      let done : ArraysView K V = arrays_with ready Current index left in
       let len = visit.len in
       let before = killed_wait table ready from index w.killed kept unit in
       let after : WalkStands first next old from (index + 1) last more done = record {
@@ -272,7 +272,8 @@ module _ {K V H : Type 0} where
       z.arrays.current ≤ index) is (subst (λ (n : ℕ). n ≤ index) long past)
 
   pub locked_seen : (t s : TableView K V H) (ready : ArraysView K V) (len index : ℕ) → t ≡ s
-      → len ≡ length t.arrays.current → index < len → KeepsArrays s.arrays ready → AreSourcesKilled ready index → IsLocked ready false index
+      → len ≡ length t.arrays.current → index < len → KeepsArrays s.arrays ready → AreSourcesKilled ready index
+      → IsLocked ready Current index
   locked_seen t s ready len index is long below kept dead =
       let same : length ready.current ≡ length s.arrays.current = kept.current_len in
       let seen : len ≡ length s.arrays.current = subst (λ (z : TableView K V H). len ≡ length z.arrays.current) is long in

@@ -1,10 +1,11 @@
 -- A walk goes on by one bucket.
-use Rattle.bucket_table.proofs.Words.{AllByRecursion, ArraysView, Bool, BucketView, IsInRange, IsPermutation, IsPermutation-append_right}
-use Rattle.bucket_table.proofs.Words.{IsPermutation-refl, IsPermutation-trans, KeepsArrays, List, WorksUnits, [], and_from, ap, append_assoc, arith}
-use Rattle.bucket_table.proofs.Words.{arrays_with, bucket_on, cases_Bool, cases_lt, false, false_from_ne_true, filter, filter-append}
-use Rattle.bucket_table.proofs.Words.{filter_agree, has_home_in, inl, inr, interval_width, le-leb, leb-true, length, lt-ltb, ltb-true}
-use Rattle.bucket_table.proofs.Words.{mul-le-mul_right, nat_le, nat_lt, not, not_from_false, not_from_true, pairs_in, pairs_of, refl, subst}
-use Rattle.bucket_table.proofs.Words.{sym, true, true≢false, ℕ, ◌&&◌, ◌*◌, ◌++◌, ◌+◌, ◌<◌, ◌∙◌, ◌∷◌, ◌≡◌, ◌≤◌}
+use Rattle.bucket_table.proofs.Words.{AllByRecursion, ArraysView, Bool, BucketView, Current, IsInRange, IsPermutation}
+use Rattle.bucket_table.proofs.Words.{IsPermutation-append_right, IsPermutation-refl, IsPermutation-trans, KeepsArrays, List}
+use Rattle.bucket_table.proofs.Words.{WorksUnits, [], and_from, ap, append_assoc, arith, arrays_with, bucket_on, cases_Bool, cases_lt}
+use Rattle.bucket_table.proofs.Words.{false, false_from_ne_true, filter, filter-append, filter_agree, has_home_in, inl, inr}
+use Rattle.bucket_table.proofs.Words.{interval_width, le-leb, leb-true, length, lt-ltb, ltb-true, mul-le-mul_right, nat_le, nat_lt}
+use Rattle.bucket_table.proofs.Words.{not, not_from_false, not_from_true, pairs_in, pairs_of, refl, subst, sym, true, true≢false, ℕ}
+use Rattle.bucket_table.proofs.Words.{◌&&◌, ◌*◌, ◌++◌, ◌+◌, ◌<◌, ◌∙◌, ◌∷◌, ◌≡◌, ◌≤◌}
 use Rattle.std.proofs.lemmas.Bool.{and_left, and_parts, and_right}
 use Rattle.std.proofs.lemmas.List.{append-nil, length_push}
 use Rattle.bucket_table.specs.Walking.Visits.{AreCalls, HasStopped, Visited}
@@ -256,25 +257,25 @@ module _ {K V : Type 0} where
       → MovesOn now ready → VisitsEach old start vs ready
   each_waits old now ready start [] so_far moves = moves_both old now ready so_far moves
   each_waits old now ready start (w ∷ vs) (first, moved, lent, rest) moves =
-      (first, moved, lent, each_waits (arrays_with first false start w.left) now ready (start + 1) vs rest moves)
+      (first, moved, lent, each_waits (arrays_with first Current start w.left) now ready (start + 1) vs rest moves)
 
   -- one visit more
   each_more : (old now ready : ArraysView K V) (start index : ℕ) (vs : List (Visited (BucketView K V))) (v : Visited (BucketView K V))
-      → index ≡ start + length vs → VisitsEach old start vs now → MovesOn now ready → v.lent ≡ bucket_on ready false index
-      → VisitsEach old start (vs ++ v ∷ []) (arrays_with ready false index v.left)
+      → index ≡ start + length vs → VisitsEach old start vs now → MovesOn now ready → v.lent ≡ bucket_on ready Current index
+      → VisitsEach old start (vs ++ v ∷ []) (arrays_with ready Current index v.left)
   each_more old now ready start index [] v at so_far moves lent =
       let here : index ≡ start = omega (arith, at) in
       rw here (
         ready,
         moves_both old now ready so_far moves,
-        subst (λ (j : ℕ). v.lent ≡ bucket_on ready false j) here lent,
-        moves_none (arrays_with ready false start v.left),
+        subst (λ (j : ℕ). v.lent ≡ bucket_on ready Current j) here lent,
+        moves_none (arrays_with ready Current start v.left),
       )
   each_more old now ready start index (w ∷ vs) v at (first, moved, lent_first, rest) moves lent = (
     first,
     moved,
     lent_first,
-    each_more (arrays_with first false start w.left) now ready (start + 1) index vs v (omega (arith, at)) rest moves lent,
+    each_more (arrays_with first Current start w.left) now ready (start + 1) index vs v (omega (arith, at)) rest moves lent,
   )
 
 module _ {S K V : Type 0} (step : S → BucketView K V → Bool → Bool → BucketView K V → Bool → S
@@ -322,18 +323,18 @@ module _ {S K V : Type 0} (step : S → BucketView K V → Bool → Bool → Buc
   pub goes_on : (first now next : S) (old table ready : ArraysView K V) (start index : ℕ) (flag last more : Bool) (left : BucketView K V)
       → WalksOn first now old start index flag true table → KeepsArrays table ready → WorksUnits 1 (λ home. home ≡ index) table ready
       → (length table.linked ≡ 0 → ready ≡ table)
-      → step now (bucket_on ready false index) flag more left last next → IsVisitOf hash ready index (bucket_on ready false index) left
-      (arrays_with ready false index left)
-      → WalksOn first next old start (index + 1) last more (arrays_with ready false index left)
+      → step now (bucket_on ready Current index) flag more left last next → IsVisitOf hash ready index (bucket_on ready Current index) left
+      (arrays_with ready Current index left)
+      → WalksOn first next old start (index + 1) last more (arrays_with ready Current index left)
   goes_on first now next old table ready start index flag last more left w kept unit waits call visit =
-      let v : Visited (BucketView K V) = record { lent = bucket_on ready false index; left = left; more = more } in
+      let v : Visited (BucketView K V) = record { lent = bucket_on ready Current index; left = left; more = more } in
       record {
         visits = w.visits ++ v ∷ [];
         calls = calls_more step first now next false flag last w.visits v w.calls (w.going refl) call;
-        part = walk_more hash old ready (arrays_with ready false index left) start index w.visits v w.reached
+        part = walk_more hash old ready (arrays_with ready Current index left) start index w.visits v w.reached
             (walk_waits hash old table ready start w.visits w.part (keeps_pairs table ready kept.keeps) kept.current_len) visit;
         units = rw (length_push w.visits v)
-            (units_as (length w.visits + 1) old ready (arrays_with ready false index left)
+            (units_as (length w.visits + 1) old ready (arrays_with ready Current index left)
             (walk_units first now old table ready start index flag true w unit)
             refl refl);
         visited = each_more old table ready start index w.visits v w.reached w.visited (kept, waits) refl;

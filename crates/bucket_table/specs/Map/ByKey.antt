@@ -16,12 +16,14 @@ use Rattle.bucket_table.specs.Map.Preparing.{IsPrepared, IsReady}
 use Rattle.bucket_table.specs.Views.Sides.{bucket_of, bucket_on, buckets_on, with_bucket}
 use Rattle.bucket_table.specs.declared.hash_table.NotInserted.{NotInserted}
 use Rattle.bucket_table.specs.declared.hash_table.NotInserted.TheVariants.{Present, Memory}
+use Rattle.bucket_table.specs.declared.arrays.side.Side.{Side}
+use Rattle.bucket_table.specs.declared.arrays.side.Side.TheVariants.{Current}
 
 -- a live slot of a bucket of one side has a pair whose key is equal to the key
-pub record StandsAt {K V : Type 0} (eq : K → K → Bool) (key : K) (arrays : ArraysView K V) (is_old : Bool) (index : ℕ) (at : Place) : Type 0 where
+pub record StandsAt {K V : Type 0} (eq : K → K → Bool) (key : K) (arrays : ArraysView K V) (side : Side) (index : ℕ) (at : Place) : Type 0 where
   pub pair : K × V
-  pub within : index < length (buckets_on arrays is_old)
-  pub slot : live_pair (slot_in (bucket_on arrays is_old index) at) ≡ Some pair
+  pub within : index < length (buckets_on arrays side)
+  pub slot : live_pair (slot_in (bucket_on arrays side index) at) ≡ Some pair
   pub there : IsThere eq key (pairs_of arrays) pair
 
 -- why a pair comes back that wasn't put: an equal key is there, or memory is wanted, and then none is
@@ -111,14 +113,14 @@ pub record PreparesThen {K V H : Type 0} (kind hash : ℕ) (old : TableView K V 
 module _ {K V H : Type 0} (eq : K → K → Bool) (key : K) (change : BucketView K V → Place → BucketView K V) where
   -- where the key was found its pair's place is changed, and nothing else is; else all stays
   abbrev pub ChangesAt : Bool → TableView K V H → TableView K V H → Type 0
-  ChangesAt true old new = (side : Bool) × (index : ℕ) × (at : Place) × StandsAt eq key old.arrays side index at
+  ChangesAt true old new = (side : Side) × (index : ℕ) × (at : Place) × StandsAt eq key old.arrays side index at
       × (new ≡ with_bucket old side index (change (bucket_of old side index) at))
   ChangesAt false old new = new ≡ old
 
   -- where the key was found its pair's place is changed, and where the bucket has no live pair then the arrays may shrink by the plan;
   -- else all stays
   abbrev pub ShrinksAt : Bool → TableView K V H → TableView K V H → Type 0
-  ShrinksAt true old new = (side : Bool) × (index : ℕ) × (at : Place) × StandsAt eq key old.arrays side index at
+  ShrinksAt true old new = (side : Side) × (index : ℕ) × (at : Place) × StandsAt eq key old.arrays side index at
       × RemovesAndShrinks old.arrays side index (change (bucket_of old side index) at) new.arrays
   ShrinksAt false old new = new ≡ old
 
@@ -132,17 +134,17 @@ WritesAt eq key false old new = new ≡ old
 abbrev pub EvictsAt : {K V H E : Type 0} → ℕ → TableView K V H → Result (Option (K × V)) E → TableView K V H → Type 0
 EvictsAt hash old (Ok (Some pair)) new = IsReady old.arrays hash
     × (index : ℕ) × IsHome (length old.arrays.current) hash index
-    × (live_pair (slot_at (bucket_of old false index).own (slot_to_evict (bucket_of old false index))) ≡ Some pair)
-    × (new ≡ with_bucket old false index (slots_evicted (bucket_of old false index)))
+    × (live_pair (slot_at (bucket_of old Current index).own (slot_to_evict (bucket_of old Current index))) ≡ Some pair)
+    × (new ≡ with_bucket old Current index (slots_evicted (bucket_of old Current index)))
 EvictsAt hash old (Ok None) new =
     ((length old.arrays.current ≡ 0) ⊎ (IsReady old.arrays hash
-    × (index : ℕ) × IsHome (length old.arrays.current) hash index × Contains (bucket_of old false index).own free)) × (new ≡ old)
+    × (index : ℕ) × IsHome (length old.arrays.current) hash index × Contains (bucket_of old Current index).own free)) × (new ≡ old)
 EvictsAt hash old (Err refused) new = (IsReady old.arrays hash → ⊥) × (new ≡ old)
 
 -- the pair is put into the bucket that was found, and none was put where none was found; else all stays, and memory is wanted only where
 -- none was found, or one without a free slot
 abbrev pub InsertsAt : {K V H A : Type 0} → ℕ → (ℕ → Bool) → K × V → ℕ → TableView K V H → Result A (NotInserted K V)
-    → Result (Bool × ℕ) (Unit {0}) → TableView K V H → Type 0
+    → Result (Side × ℕ) (Unit {0}) → TableView K V H → Type 0
 InsertsAt kind keeps pair byte old (Ok done) (Ok found) new =
     new ≡ with_bucket old found.0 found.1 (slots_after_insertion kind keeps (bucket_of old found.0 found.1) pair byte)
 InsertsAt kind keeps pair byte old (Ok done) (Err refused) new = ⊥
@@ -152,7 +154,7 @@ InsertsAt kind keeps pair byte old (Err (Memory k v)) (Err refused) new = new �
 
 -- the same, and where the key was found its pair's value is another one, also where no bucket was found for a writer
 abbrev pub UpsertsAt : {K V H : Type 0} → (K → K → Bool) → ℕ → (ℕ → Bool) → K → V → ℕ → TableView K V H → Result (Option V) (K × V)
-    → Result (Bool × ℕ) (Unit {0}) → TableView K V H → Type 0
+    → Result (Side × ℕ) (Unit {0}) → TableView K V H → Type 0
 UpsertsAt eq kind keeps key value byte old (Ok None) (Ok found) new =
     new ≡ with_bucket old found.0 found.1 (slots_after_insertion kind keeps (bucket_of old found.0 found.1) (key, value) byte)
 UpsertsAt eq kind keeps key value byte old (Ok None) (Err refused) new = ⊥

@@ -1,5 +1,5 @@
 -- What finding a bucket for a writer does to a table.
-use Rattle.std.specs.Prelude.{ℕ, ◌≡◌, ◌<◌, Bool, Result, Ok, Err, length}
+use Rattle.std.specs.Prelude.{ℕ, ◌≡◌, ◌<◌, Result, Ok, Err, length}
 use Rattle.bucket_slots.specs.Homes.{IsHome}
 use Rattle.bucket_table.specs.Views.ArraysView.{AreSourcesKilled, ArraysView, TableView}
 use Rattle.bucket_table.specs.Resize.Asking.{ResizesIf}
@@ -12,6 +12,7 @@ use Rattle.bucket_table.specs.Map.Refusing.{IsRefused}
 use Rattle.bucket_table.specs.Resize.Resizing.{MakesArray}
 use Rattle.bucket_table.specs.Views.Sides.{buckets_on}
 use Rattle.bucket_table.specs.Rehash.Units.{WorksUnits}
+use Rattle.bucket_table.specs.declared.arrays.side.Side.{Side}
 
 -- the arrays are made ready for a current bucket: a first array where there is none, and beside an old one a unit is
 -- worked and each source of the bucket moved
@@ -21,11 +22,11 @@ pub record MakesReady {K V : Type 0} (old : ArraysView K V) (index : ℕ) (new :
   pub units : WorksUnits 1 (λ home. home ≡ index) old new
   pub killed : AreSourcesKilled new index
 
--- and then they may grow: the answer says whether a growth was done, and it is done only where the bucket asks for it;
+-- and then they may grow: the side says whether a growth was done, and it is done only where the bucket asks for it;
 -- a caller that needs it unfolds it, since the search of one that doesn't would go through all of it
-unfoldable pub ReadiesThenGrows : {K V : Type 0} → ℕ → ℕ → ArraysView K V → Bool → ℕ → ArraysView K V → Type 0
-ReadiesThenGrows {K} {V} kind hash old is_old index new = (between : ArraysView K V) × MakesReady old index between
-    × ResizesIf (WriterAsksGrowth kind hash between index) between new × Grows is_old between new
+unfoldable pub ReadiesThenGrows : {K V : Type 0} → ℕ → ℕ → ArraysView K V → Side → ℕ → ArraysView K V → Type 0
+ReadiesThenGrows {K} {V} kind hash old side index new = (between : ArraysView K V) × MakesReady old index between
+    × ResizesIf (WriterAsksGrowth kind hash between index) between new × Grows side between new
 
 -- no bucket is found for a hash: a unit was worked, and memory was wanted for a source of its home; without an old array there
 -- was no current one either, and all stays
@@ -36,21 +37,21 @@ pub record FindsNone {K V : Type 0} (hash : ℕ) (old new : ArraysView K V) : Ty
   pub home : 0 < length new.current → HomeWantsMemory hash old new
 
 -- a hash's home in the array of its side is found for a writer, and may be locked; the map, the marks and the open tickets stay
-pub record FindsBucket {K V H : Type 0} (kind hash : ℕ) (old : TableView K V H) (is_old : Bool) (index : ℕ) (new : TableView K V H) : Type 0 where
+pub record FindsBucket {K V H : Type 0} (kind hash : ℕ) (old : TableView K V H) (side : Side) (index : ℕ) (new : TableView K V H) : Type 0 where
   pub map : KeepsPairs (state_of kind old) (state_of kind new)
   pub kept : Keeps old.arrays new.arrays
-  pub home : IsHome (length (buckets_on new.arrays is_old)) hash index
-  pub locked : IsLocked new.arrays is_old index
-  pub found : ReadiesThenGrows kind hash old.arrays is_old index new.arrays
+  pub home : IsHome (length (buckets_on new.arrays side)) hash index
+  pub locked : IsLocked new.arrays side index
+  pub found : ReadiesThenGrows kind hash old.arrays side index new.arrays
 
 -- what looking for a writer's bucket answers, its side and its index, and what it leaves; refused, the table is prepared
-abbrev pub Finds : {K V H E : Type 0} → ℕ → ℕ → TableView K V H → Result (Bool × ℕ) E → TableView K V H → Type 0
+abbrev pub Finds : {K V H E : Type 0} → ℕ → ℕ → TableView K V H → Result (Side × ℕ) E → TableView K V H → Type 0
 Finds kind hash old (Ok found) new = FindsBucket kind hash old found.0 found.1 new
 Finds kind hash old (Err refused) new = IsRefused kind hash old new
 
 -- a writer's bucket is looked for, and then this is done
-pub record FindsThen {K V H : Type 0} (kind hash : ℕ) (old : TableView K V H) (Then : Result (Bool × ℕ) (Unit {0}) → TableView K V H → Type 0) : Type 0 where
-  pub answer : Result (Bool × ℕ) (Unit {0})
+pub record FindsThen {K V H : Type 0} (kind hash : ℕ) (old : TableView K V H) (Then : Result (Side × ℕ) (Unit {0}) → TableView K V H → Type 0) : Type 0 where
+  pub answer : Result (Side × ℕ) (Unit {0})
   pub between : TableView K V H
   pub found : Finds kind hash old answer between
   pub done : Then answer between

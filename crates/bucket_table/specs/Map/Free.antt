@@ -1,17 +1,18 @@
 -- A home that may be locked at once, with no work before.
-use Rattle.std.specs.Prelude.{ℕ, ◌<◌, ◌≤◌, ◌≡◌, ◌⊎◌, Bool, true, false, length}
+use Rattle.std.specs.Prelude.{ℕ, ◌<◌, ◌≤◌, ◌≡◌, ◌⊎◌, Bool, true, length}
 use Rattle.bucket_slots.specs.BucketView.{pairs_in}
 use Rattle.bucket_slots.specs.Homes.{IsHome}
 use Rattle.bucket_table.specs.Views.ArraysView.{ArraysView}
 use Rattle.bucket_table.specs.Views.Sides.{bucket_on}
+use Rattle.bucket_table.specs.declared.arrays.side.Side.TheVariants.{Current}
 
 -- no old array stands, and where it is asked the hash's home has fewer than 32 live pairs
 pub record MayLockAtOnce {K V : Type 0} (is_checked : Bool) (arrays : ArraysView K V) (hash index : ℕ) : Type 0 where
   pub alone : length arrays.linked ≡ 0
   pub home : IsHome (length arrays.current) hash index
-  pub few : is_checked ≡ true → length (pairs_in (bucket_on arrays false index)) < 32
+  pub few : is_checked ≡ true → length (pairs_in (bucket_on arrays Current index)) < 32
 
 -- there is no array, or an old one stands, or it is asked and the hash's home has 32 live pairs or more
 abbrev pub MayNotLockAtOnce : {K V : Type 0} → Bool → ArraysView K V → ℕ → Type 0
 MayNotLockAtOnce is_checked arrays hash = (length arrays.current ≡ 0) ⊎ (0 < length arrays.linked
-    ⊎ ((is_checked ≡ true) × ((index : ℕ) × IsHome (length arrays.current) hash index × (32 ≤ length (pairs_in (bucket_on arrays false index))))))
+    ⊎ ((is_checked ≡ true) × ((index : ℕ) × IsHome (length arrays.current) hash index × (32 ≤ length (pairs_in (bucket_on arrays Current index))))))

@@ -13,10 +13,11 @@ use Rattle.bucket_table.specs.Views.ArraysView.{TableView}
 use Rattle.bucket_table.specs.Views.Sides.{bucket_of, with_bucket}
 use Rattle.bucket_table.specs.Views.TableRow.{table_row}
 use Rattle.bucket_table.specs.declared.key_hash.KeyHash as key_hash
+use Rattle.bucket_table.specs.declared.arrays.side.Side.{Side}
 
 -- the table, once a slot of a bucket of one side has the value
-abbrev pub with_value : {K V H : Type 0} → TableView K V H → Bool → ℕ → Place → V → TableView K V H
-with_value table is_old index at value = with_bucket table is_old index (bucket_with_value (bucket_of table is_old index) at value)
+abbrev pub with_value : {K V H : Type 0} → TableView K V H → Side → ℕ → Place → V → TableView K V H
+with_value table side index at value = with_bucket table side index (bucket_with_value (bucket_of table side index) at value)
 
 -- the value under the key was this one and is that one; for it a unit was worked and the sources of a hash's home moved, and then one
 -- slot was written
@@ -28,9 +29,9 @@ pub record WritesUnder {K V H : Type 0} (eq : K → K → Bool) (key : K) (kind 
 module _ (K V H L : RattleType) (TYPE : ℕ) (equal : equals.Ghosts K.Denot) (hashing : key_hash.Ghosts H.Denot K.Denot)
     (listing : list.Ghosts L.Denot) (fresh : default.Ghosts L.Denot) (table : MutBor (TableView K.Denot V.Denot H.Denot)) where
   -- the slot has the last value written through the loan, and nothing else changes
-  abbrev pub LendsSlot : Bool → ℕ → Place → MutBor V.Denot → Fml
-  LendsSlot is_old index at loan =
-      Lends (table_row K V H L (number TYPE) equal hashing listing fresh) V table loan (with_value table.now is_old index at)
+  abbrev pub LendsSlot : Side → ℕ → Place → MutBor V.Denot → Fml
+  LendsSlot side index at loan =
+      Lends (table_row K V H L (number TYPE) equal hashing listing fresh) V table loan (with_value table.now side index at)
 
   -- the value under the key was what the loan showed, and is the last one written through it; where there is no loan a unit was worked
   abbrev pub LendsUnder : K.Denot → Option (MutBor V.Denot) → Fml

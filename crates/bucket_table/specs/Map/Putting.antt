@@ -14,6 +14,7 @@ use Rattle.bucket_table.specs.Map.MapState.{MapState, AddsPair, Becomes, KeepsPa
 use Rattle.bucket_table.specs.Views.Sides.{bucket_of, with_bucket}
 use Rattle.bucket_table.specs.declared.hash_table.NotInserted.{NotInserted}
 use Rattle.bucket_table.specs.declared.hash_table.NotInserted.TheVariants.{Present, Memory}
+use Rattle.bucket_table.specs.declared.arrays.side.Side.{Side}
 
 -- one pair is out and another in, and nothing else changes: the rest of the pairs stays
 pub record ReplacesPair {K V H : Type 0} (old : MapState K V H) (gone pair : K × V) (new : MapState K V H) : Type 0 where
@@ -53,7 +54,7 @@ module _ {K V : Type 0} where
 
 -- the pair is put into the bucket that was found, after what goes for it; else all stays, and memory is wanted only where none was found
 abbrev pub PutsAt : {K V H : Type 0} → Bool → K × V → ℕ → TableView K V H → Result (Option (K × V)) (NotInserted K V)
-    → Result (Bool × ℕ) (Unit {0}) → TableView K V H → Type 0
+    → Result (Side × ℕ) (Unit {0}) → TableView K V H → Type 0
 PutsAt keeps pair byte old (Ok gone) (Ok found) new =
     Goes (bucket_of old found.0 found.1) gone
     × (new ≡ with_bucket old found.0 found.1 (slots_put keeps (slots_left (bucket_of old found.0 found.1) gone) pair byte))

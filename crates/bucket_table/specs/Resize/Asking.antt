@@ -1,11 +1,12 @@
 -- When a resize is looked into near a bucket.
-use Rattle.std.specs.Prelude.{[], ℕ, ◌<◌, ◌≡◌, Bool, length}
+use Rattle.std.specs.Prelude.{[], ℕ, ◌<◌, ◌≡◌, length}
 use Rattle.bucket_slots.specs.BucketView.{BucketView, pairs_in}
 use Rattle.bucket_table.specs.Views.ArraysView.{ArraysView}
 use Rattle.bucket_table.specs.Resize.ResizePlan.{slots_of}
 use Rattle.bucket_table.specs.Views.Sides.{arrays_with}
 use Rattle.bucket_table.specs.Resize.Resizing.{Resizes}
 use Rattle.bucket_table.specs.Resize.Sampling.{IsCrowded, IsDeserted, live_counts}
+use Rattle.bucket_table.specs.declared.arrays.side.Side.{Side}
 
 -- a current array stands and no old one, and near the bucket many slots are live
 pub record AsksGrowth {K V : Type 0} (arrays : ArraysView K V) (index : ℕ) : Type 0 where
@@ -27,6 +28,6 @@ pub record ResizesIf {K V : Type 0} (Asked : Type 0) (old new : ArraysView K V) 
 
 -- a bucket of one side is another one now; where it has no live pair, and a shrinking is asked for near
 -- it, the arrays follow the plan or stay for want of memory; else they stay
-abbrev pub RemovesAndShrinks : {K V : Type 0} → ArraysView K V → Bool → ℕ → BucketView K V → ArraysView K V → Type 0
-RemovesAndShrinks old is_old index bucket new =
-    ResizesIf ((pairs_in bucket ≡ []) × AsksShrinking (arrays_with old is_old index bucket) index) (arrays_with old is_old index bucket) new
+abbrev pub RemovesAndShrinks : {K V : Type 0} → ArraysView K V → Side → ℕ → BucketView K V → ArraysView K V → Type 0
+RemovesAndShrinks old side index bucket new =
+    ResizesIf ((pairs_in bucket ≡ []) × AsksShrinking (arrays_with old side index bucket) index) (arrays_with old side index bucket) new

@@ -1,5 +1,5 @@
 -- A growth that a writer starts.
-use Rattle.std.specs.Prelude.{ℕ, ◌*◌, ◌≤◌, ◌≡◌, Bool, true, false, length}
+use Rattle.std.specs.Prelude.{ℕ, ◌*◌, ◌≤◌, ◌≡◌, length}
 use Rattle.bucket_slots.specs.ArrayView.{bucket_at}
 use Rattle.bucket_slots.specs.BucketView.{pairs_in}
 use Rattle.bucket_slots.specs.Sampling.{StartsSampling}
@@ -7,6 +7,8 @@ use Rattle.bucket_slots.specs.declared.bucket.TheConstants.{CACHE}
 use Rattle.bucket_table.specs.Views.ArraysView.{ArraysView}
 use Rattle.bucket_table.specs.Resize.Asking.{AsksGrowth}
 use Rattle.bucket_table.specs.Resize.Resizing.{IsPushed}
+use Rattle.bucket_table.specs.declared.arrays.side.Side.{Side}
+use Rattle.bucket_table.specs.declared.arrays.side.Side.TheVariants.{Current, Old}
 
 -- a writer looks into a growth: a cache isn't at its greatest capacity, the bucket has 31 live slots
 -- or more, the hash starts a sample, no old array stands, and near the bucket many slots are live
@@ -16,7 +18,7 @@ pub record WriterAsksGrowth {K V : Type 0} (kind hash : ℕ) (arrays : ArraysVie
   pub sampled : StartsSampling (length arrays.current) hash
   pub near : AsksGrowth arrays index
 
--- a growth was done, and the current array is the old one now; or all stayed
-abbrev pub Grows : {K V : Type 0} → Bool → ArraysView K V → ArraysView K V → Type 0
-Grows true old new = (capacity : ℕ) × IsPushed capacity old new
-Grows false old new = new ≡ old
+-- the array that was the current one is on this side now: all stayed, or a growth was done
+abbrev pub Grows : {K V : Type 0} → Side → ArraysView K V → ArraysView K V → Type 0
+Grows Current old new = new ≡ old
+Grows Old old new = (capacity : ℕ) × IsPushed capacity old new

@@ -1,5 +1,5 @@
 -- What a table's arrays lend, as the arrays see it.
-use Rattle.std.specs.Prelude.{ℕ, Bool}
+use Rattle.std.specs.Prelude.{ℕ}
 use Rattle.std.specs.Borrow.{Lends, Fml, RattleType, MutBor}
 use Rattle.std.specs.declared.default.Default as default
 use Rattle.bucket_slots.specs.declared.lru.LruList as list
@@ -8,9 +8,10 @@ use Rattle.bucket_slots.specs.contracts.bucket.Bucket.{the_row as bucket_row}
 use Rattle.bucket_table.specs.Views.ArraysView.{ArraysView}
 use Rattle.bucket_table.specs.Views.Sides.{arrays_with}
 use Rattle.bucket_table.specs.contracts.arrays.Arrays.{the_row}
+use Rattle.bucket_table.specs.declared.arrays.side.Side.{Side}
 
 module _ (K V L TYPE : RattleType) (listing : list.Ghosts L.Denot) (fresh : default.Ghosts L.Denot) (arrays : MutBor (ArraysView K.Denot V.Denot)) where
-  -- that bucket of the old or of the current array has the last value written through the loan, and nothing else changes
-  abbrev pub LendsBucketOn : Bool → ℕ → MutBor (BucketView K.Denot V.Denot) → Fml
-  LendsBucketOn is_old index loan =
-      Lends (the_row K V L TYPE listing fresh) (bucket_row K V L TYPE listing fresh) arrays loan (arrays_with arrays.now is_old index)
+  -- that bucket of one side has the last value written through the loan, and nothing else changes
+  abbrev pub LendsBucketOn : Side → ℕ → MutBor (BucketView K.Denot V.Denot) → Fml
+  LendsBucketOn side index loan =
+      Lends (the_row K V L TYPE listing fresh) (bucket_row K V L TYPE listing fresh) arrays loan (arrays_with arrays.now side index)

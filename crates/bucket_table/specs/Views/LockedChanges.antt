@@ -18,19 +18,19 @@ use Rattle.bucket_table.specs.declared.hash_table.locked_bucket.LockedBucket.{Lo
 module _ {K V H L : Type 0} {TYPE : ℕ} {equal : equals.Ghosts K} {hashing : key_hash.Ghosts H K} {listing : list.Ghosts L} {fresh : default.Ghosts L} where
   -- the bucket itself
   abbrev pub bucket_in : LockedBucket K V H L TYPE equal hashing listing fresh → BucketView K V
-  bucket_in locked = bucket_of locked.table.now locked.is_old locked.index
+  bucket_in locked = bucket_of locked.table.now locked.side locked.index
 
   -- the bucket is changed so, and it is the same bucket of the same table, which changes nowhere else
   pub record Changes (old new : LockedBucket K V H L TYPE equal hashing listing fresh) (change : BucketView K V → BucketView K V) : Type 0 where
     pub same_table : new.table.ghost_name ≡ old.table.ghost_name
-    pub same_side : new.is_old ≡ old.is_old
+    pub same_side : new.side ≡ old.side
     pub same_index : new.index ≡ old.index
-    pub table : new.table.now ≡ with_bucket old.table.now old.is_old old.index (change (bucket_in old))
+    pub table : new.table.now ≡ with_bucket old.table.now old.side old.index (change (bucket_in old))
 
   -- the bucket is changed so, and where that leaves it no live pair the table may shrink by the plan; it is the table that comes back
   pub record ChangesThenShrinks (old : LockedBucket K V H L TYPE equal hashing listing fresh) (back : MutBor (TableView K V H)) (change : BucketView K V → BucketView K V) : Type 0 where
     pub same_table : back.ghost_name ≡ old.table.ghost_name
-    pub arrays : RemovesAndShrinks old.table.now.arrays old.is_old old.index (change (bucket_in old)) back.now.arrays
+    pub arrays : RemovesAndShrinks old.table.now.arrays old.side old.index (change (bucket_in old)) back.now.arrays
 
 -- where an inserted pair stands, in the first slot that is free then or made; refused, the pair, and no slot was free
 abbrev pub AnswersPlacing : {K V : Type 0} → ℕ → (ℕ → Bool) → K × V → ℕ → BucketView K V → Result Place (K × V) → BucketView K V → Type 0

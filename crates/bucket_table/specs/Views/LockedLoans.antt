@@ -18,12 +18,12 @@ module _ {K V H L : Type 0} {TYPE : ℕ} {equal : equals.Ghosts K} {hashing : ke
   -- the table, once the slot at the place has the value
   abbrev pub table_with_value : LockedBucket K V H L TYPE equal hashing listing fresh → Place → V → TableView K V H
   table_with_value locked place value =
-      with_bucket locked.table.now locked.is_old locked.index (bucket_with_value (bucket_of locked.table.now locked.is_old locked.index) place value)
+      with_bucket locked.table.now locked.side locked.index (bucket_with_value (bucket_of locked.table.now locked.side locked.index) place value)
 
   -- the borrowed bucket with that table
   abbrev pub locked_with_value : LockedBucket K V H L TYPE equal hashing listing fresh → Place → V → LockedBucket K V H L TYPE equal hashing listing fresh
   locked_with_value locked place value =
-      record { table = record locked.table { now = table_with_value locked place value }; is_old = locked.is_old; index = locked.index; locked = locked_with_value_is locked.table.now.arrays locked.is_old locked.index place value locked.locked }
+      record { table = record locked.table { now = table_with_value locked place value }; side = locked.side; index = locked.index; locked = locked_with_value_is locked.table.now.arrays locked.side locked.index place value locked.locked }
 
 module _ (K V H L : RattleType) (TYPE : ℕ) (equal : equals.Ghosts K.Denot) (hashing : key_hash.Ghosts H.Denot K.Denot) (listing : list.Ghosts L.Denot) (fresh : default.Ghosts L.Denot) where
   -- the slot at the place has the last value written through the loan

@@ -1,5 +1,5 @@
 -- Where a cursor stands, and what it has behind it.
-use Rattle.std.specs.Prelude.{ℕ, ◌+◌, ◌-◌, ◌*◌, ◌<◌, ◌≤◌, ◌≡◌, ◌≢◌, Bool, false, Some, Result, Ok, Err, IsErrAnd, List, [], ◌∷◌, length}
+use Rattle.std.specs.Prelude.{ℕ, ◌+◌, ◌-◌, ◌*◌, ◌<◌, ◌≤◌, ◌≡◌, ◌≢◌, Some, Result, Ok, Err, IsErrAnd, List, [], ◌∷◌, length}
 use Rattle.std.specs.List.{AllByRecursion}
 use Rattle.bucket_slots.specs.ArrayView.{bucket_at}
 use Rattle.bucket_slots.specs.BucketView.{Place, null_place, pairs_in, slot_in}
@@ -16,6 +16,8 @@ use Rattle.bucket_table.specs.Views.Sides.{bucket_on, buckets_on}
 use Rattle.bucket_table.specs.Rehash.Units.{WantsMemory, WorksUnits}
 use Rattle.bucket_table.specs.declared.arrays.Missing.{Missing}
 use Rattle.bucket_table.specs.declared.arrays.Missing.TheVariants.{Nothing, Memory}
+use Rattle.bucket_table.specs.declared.arrays.side.Side.{Side}
+use Rattle.bucket_table.specs.declared.arrays.side.Side.TheVariants.{Current}
 
 -- no pair has a hash from the bound on
 abbrev pub HasNoneFrom : {K V : Type 0} → (K → ℕ) → ℕ → List (K × V) → Type 0
@@ -28,11 +30,11 @@ bound_of len index = index * interval_width len
 -- the pointer is at the first live pair of a current bucket, and no live pair with a hash from the bound on stands before it:
 -- not in a current bucket below, nor in an old one that has a target below, and none has a hash from the bound up to that bucket's first
 pub record IsFirstFrom {K V : Type 0} (hash : K → ℕ) (arrays : ArraysView K V) (bound index : ℕ) (at : Place) : Type 0 where
-  pub locked : IsLocked arrays false index
+  pub locked : IsLocked arrays Current index
   pub pair : K × V
-  pub slot : live_pair (slot_in (bucket_on arrays false index) at) ≡ Some pair
-  pub first : pairs_in (bucket_on arrays false index) ≡ pair ∷ pairs_ahead (bucket_on arrays false index) at
-  pub current : (j : ℕ) → j < index → HasNoneFrom hash bound (pairs_in (bucket_on arrays false j))
+  pub slot : live_pair (slot_in (bucket_on arrays Current index) at) ≡ Some pair
+  pub first : pairs_in (bucket_on arrays Current index) ≡ pair ∷ pairs_ahead (bucket_on arrays Current index) at
+  pub current : (j : ℕ) → j < index → HasNoneFrom hash bound (pairs_in (bucket_on arrays Current j))
   pub old : (k target : ℕ) → k < length arrays.linked → target < index → Meets (length arrays.linked) k (length arrays.current) target
       → HasNoneFrom hash bound (pairs_in (bucket_at arrays.linked k))
   pub passed : AllByRecursion (λ pair. bound ≤ hash pair.0 → hash pair.0 < bound_of (length arrays.current) index → ⊥) (pairs_of arrays)
@@ -57,8 +59,8 @@ abbrev pub Leaves : {K V : Type 0} → (K → ℕ) → ℕ → Result ℕ Missin
 Leaves hash bound result arrays at = IsFoundFrom hash bound result arrays at × ReachesPast bound result arrays
 
 -- the same where the answer names the side too: a cursor always goes on in the current array
-abbrev pub LeavesTo : {K V : Type 0} → (K → ℕ) → ℕ → Result (Bool × ℕ) Missing → ArraysView K V → Place → Type 0
-LeavesTo hash bound (Ok to) arrays at = (to.0 ≡ false) × IsFirstFrom hash arrays bound to.1 at
+abbrev pub LeavesTo : {K V : Type 0} → (K → ℕ) → ℕ → Result (Side × ℕ) Missing → ArraysView K V → Place → Type 0
+LeavesTo hash bound (Ok to) arrays at = (to.0 ≡ Current) × IsFirstFrom hash arrays bound to.1 at
     × (bound < bound_of (length arrays.current) (to.1 + 1))
 LeavesTo hash bound (Err missing) arrays at = FindsNone hash bound missing arrays at
 
@@ -93,10 +95,10 @@ pub record Passes {K V A : Type 0} (index_of : A → ℕ) (bound : ℕ) (old : A
 
 -- a bucket is left: where it has no live pair, and a shrinking is asked for near it, the arrays follow the plan or stay for want of memory; else they stay.
 -- Then the buckets past it are passed
-pub record ShrinksThenPasses {K V A : Type 0} (index_of : A → ℕ) (is_old : Bool) (index : ℕ) (old : ArraysView K V) (result : Result A Missing) (new : ArraysView K V) : Type 0 where
+pub record ShrinksThenPasses {K V A : Type 0} (index_of : A → ℕ) (side : Side) (index : ℕ) (old : ArraysView K V) (result : Result A Missing) (new : ArraysView K V) : Type 0 where
   pub between : ArraysView K V
-  pub asked : ResizesIf ((pairs_in (bucket_on old is_old index) ≡ []) × AsksShrinking old index) old between
-  pub passes : Passes index_of (bound_of (length (buckets_on old is_old)) (index + 1)) between result new
+  pub asked : ResizesIf ((pairs_in (bucket_on old side index) ≡ []) × AsksShrinking old index) old between
+  pub passes : Passes index_of (bound_of (length (buckets_on old side)) (index + 1)) between result new
 
 -- a cursor sets out in a table: the map and the open tickets stay, no mark is new, and it goes on from the least hash
 pub record SetsOut {K V H : Type 0} (kind : ℕ) (hash : H → K → ℕ) (old : TableView K V H) (result : Result ℕ Missing) (at : Place) (new : TableView K V H) : Type 0 where
@@ -108,12 +110,12 @@ pub record SetsOut {K V H : Type 0} (kind : ℕ) (hash : H → K → ℕ) (old :
 
 -- a cursor advances in a table: the map and the open tickets stay, and no mark is new. Where a live pair is ahead in its bucket, of the
 -- old or of the current array, it stays there, at the next one; else it leaves
-pub record Advances {K V H : Type 0} (kind : ℕ) (hash : H → K → ℕ) (old : TableView K V H) (is_old : Bool) (index : ℕ) (from : Place) (result : Result (Bool × ℕ) Missing) (to : Place) (new : TableView K V H) : Type 0 where
+pub record Advances {K V H : Type 0} (kind : ℕ) (hash : H → K → ℕ) (old : TableView K V H) (side : Side) (index : ℕ) (from : Place) (result : Result (Side × ℕ) Missing) (to : Place) (new : TableView K V H) : Type 0 where
   pub map : KeepsPairs (state_of kind old) (state_of kind new)
   pub bag : KeepsOpenTickets old.arrays.tickets new.arrays.tickets
   pub marks : HasNoNewMark (marks_of old.arrays) (marks_of new.arrays)
-  pub stays : pairs_ahead (bucket_on old.arrays is_old index) from ≢ []
-      → (result ≡ Ok (is_old, index)) × (new.arrays ≡ old.arrays) × MovesToNext (bucket_on old.arrays is_old index) from to
-  pub leaves : pairs_ahead (bucket_on old.arrays is_old index) from ≡ []
-      → LeavesTo (hash old.hasher) (bound_of (length (buckets_on old.arrays is_old)) (index + 1)) result new.arrays to
-  pub departs : pairs_ahead (bucket_on old.arrays is_old index) from ≡ [] → ShrinksThenPasses (λ to. to.1) is_old index old.arrays result new.arrays
+  pub stays : pairs_ahead (bucket_on old.arrays side index) from ≢ []
+      → (result ≡ Ok (side, index)) × (new.arrays ≡ old.arrays) × MovesToNext (bucket_on old.arrays side index) from to
+  pub leaves : pairs_ahead (bucket_on old.arrays side index) from ≡ []
+      → LeavesTo (hash old.hasher) (bound_of (length (buckets_on old.arrays side)) (index + 1)) result new.arrays to
+  pub departs : pairs_ahead (bucket_on old.arrays side index) from ≡ [] → ShrinksThenPasses (λ to. to.1) side index old.arrays result new.arrays

@@ -1,5 +1,5 @@
 -- What a sweep does to the arrays, bucket after bucket.
-use Rattle.std.specs.Prelude.{ℕ, ◌≡◌, Bool, false, List, Result, Ok}
+use Rattle.std.specs.Prelude.{ℕ, ◌≡◌, Bool, List, Result, Ok}
 use Rattle.bucket_slots.specs.BucketView.{BucketView, marks_in}
 use Rattle.bucket_slots.specs.Marking.{MarksBy}
 use Rattle.bucket_table.specs.Views.ArraysView.{ArraysView}
@@ -8,15 +8,16 @@ use Rattle.bucket_table.specs.Walking.Retains.{IsLeftOf, Retains}
 use Rattle.bucket_table.specs.Scripts.Runs.{Run}
 use Rattle.bucket_table.specs.Views.Sides.{arrays_with, bucket_on}
 use Rattle.bucket_table.specs.declared.arrays.Missing.{Missing}
+use Rattle.bucket_table.specs.declared.arrays.side.Side.TheVariants.{Current}
 
 -- a current bucket is left with what is kept, each pair at its place, its marks with their epochs, and others with this one; nothing else
 -- changes
 pub record RetainsAt {K V : Type 0} (IsTest : (K × V → Bool) → Type 0) (kind epoch : ℕ) (old : ArraysView K V) (index : ℕ) (count : ℕ) (new : ArraysView K V) : Type 0 where
   pub left : BucketView K V
-  pub retains : Retains IsTest (bucket_on old false index) left count
-  pub slots : IsLeftOf kind epoch (bucket_on old false index) left
-  pub marks : MarksBy epoch (marks_in (bucket_on old false index)) (marks_in left)
-  pub new_is : new ≡ arrays_with old false index left
+  pub retains : Retains IsTest (bucket_on old Current index) left count
+  pub slots : IsLeftOf kind epoch (bucket_on old Current index) left
+  pub marks : MarksBy epoch (marks_in (bucket_on old Current index)) (marks_in left)
+  pub new_is : new ≡ arrays_with old Current index left
 
 -- where a sweep stands: the bucket that its cursor has found, or why there is none, and the arrays
 pub record SweepState (K V : Type 0) : Type 0 where
@@ -30,7 +31,7 @@ pub record SweepsAt {K V : Type 0} (IsTest : (K × V → Bool) → Type 0) (kind
   pub visited : ArraysView K V
   pub count : ℕ
   pub retained : RetainsAt IsTest kind epoch old.arrays index count visited
-  pub departs : ShrinksThenPasses (λ to. to) false index visited place new.arrays
+  pub departs : ShrinksThenPasses (λ to. to) Current index visited place new.arrays
 
 -- a cursor sets out, and goes from one bucket that is swept to the next
 pub record Sweeps {K V : Type 0} (IsTest : (K × V → Bool) → Type 0) (kind epoch : ℕ) (old : ArraysView K V) (last : SweepState K V) : Type 0 where

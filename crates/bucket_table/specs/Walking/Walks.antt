@@ -12,6 +12,7 @@ use Rattle.bucket_table.specs.Views.Keeping.{Keeps, KeepsArrays}
 use Rattle.bucket_table.specs.Views.Sides.{arrays_with, bucket_on}
 use Rattle.bucket_table.specs.Rehash.Units.{WantsMemory, WorksUnits, steps_of}
 use Rattle.bucket_table.specs.Walking.Visits.{AreCalls, HasStopped, Visited}
+use Rattle.bucket_table.specs.declared.arrays.side.Side.TheVariants.{Current}
 
 -- the live keys in slot order, each with its byte
 abbrev pub keys_in : {K V : Type 0} → BucketView K V → List (K × ℕ)
@@ -77,8 +78,8 @@ MovesOn old new = KeepsArrays old new × (length old.linked ≡ 0 → new ≡ ol
 -- each bucket is lent as it stands once old buckets have moved on, and nothing else changes but what the visits left
 abbrev pub VisitsEach : {K V : Type 0} → ArraysView K V → ℕ → List (Visited (BucketView K V)) → ArraysView K V → Type 0
 VisitsEach old index [] new = MovesOn old new
-VisitsEach {K} {V} old index (visit ∷ visits) new = (ready : ArraysView K V) × MovesOn old ready × (visit.lent ≡ bucket_on ready false index)
-    × VisitsEach (arrays_with ready false index visit.left) (index + 1) visits new
+VisitsEach {K} {V} old index (visit ∷ visits) new = (ready : ArraysView K V) × MovesOn old ready × (visit.lent ≡ bucket_on ready Current index)
+    × VisitsEach (arrays_with ready Current index visit.left) (index + 1) visits new
 
 -- a walk by a visitor: it comes to the array's end, is stopped, or is refused where memory is wanted for a source of the next bucket.
 -- Before its end the current array keeps its length, also beside an old array that goes

@@ -60,11 +60,11 @@ impl<K, V, L: LruList, const TYPE: u8> Arrays<K, V, L, TYPE> {
 }
 
 /// Returns how many pairs one side has, saturating.
-fn count_on<K, V, L: LruList, const TYPE: u8>(side: &Option<BucketArray<K, V, L, TYPE>>) -> usize
-    ensures count { result ≡ counted_to (entries_among (list_of side.now)) }
-    ensures within { IsHeldBy (entries_among (list_of side.now)) (list_of side.now) }
+fn count_on<K, V, L: LruList, const TYPE: u8>(held: &Option<BucketArray<K, V, L, TYPE>>) -> usize
+    ensures count { result ≡ counted_to (entries_among (list_of held.now)) }
+    ensures within { IsHeldBy (entries_among (list_of held.now)) (list_of held.now) }
 {
-    match side {
+    match held {
         None => 0,
         Some(array) => count_in(array),
     }

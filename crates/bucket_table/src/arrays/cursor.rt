@@ -1,5 +1,5 @@
 //! Cursors over the arrays.
-ghost use Rattle.std.specs.Prelude.{◌≡◌, ◌≢◌, ℕ, ◌<◌, ◌≤◌, ◌+◌, [], Ok, false, length, IfOk};
+ghost use Rattle.std.specs.Prelude.{◌≡◌, ◌≢◌, ℕ, ◌<◌, ◌≤◌, ◌+◌, [], Ok, length, IfOk};
 ghost use Rattle.bucket_slots.specs.BucketView.{BucketView};
 ghost use Rattle.bucket_slots.specs.Homes.{IsInInterval, interval_width};
 ghost use Rattle.bucket_slots.specs.Sizing.{IsLength};
@@ -11,8 +11,9 @@ ghost use Rattle.bucket_table.specs.Views.Keeping.{Keeps, KeepsArrays};
 ghost use Rattle.bucket_table.specs.Walking.Retains.{AnswersBy};
 ghost use Rattle.bucket_table.specs.Views.Sides.{arrays_with, bucket_on, buckets_on};
 ghost use Rattle.bucket_table.specs.Walking.Sweeps.{RetainsAt};
+ghost use Rattle.bucket_table.specs.declared.arrays.side.Side.TheVariants.{Current};
 
-use super::{Arrays, Missing};
+use super::{Arrays, Missing, Side};
 use crate::capacity::from_index_to_range;
 use crate::key_hash::KeyHash;
 use crate::retain::retain_in;
@@ -50,8 +51,8 @@ impl<K: Eq + Drop, V: Drop, L: LruList + Drop, const TYPE: u8> Arrays<K, V, L, T
             let Ok(()) = self.prepare_at(hasher, index) else {
                 return Err(Missing::Memory);
             };
-            self.room_of(false);
-            if at.find_next(self.bucket_of(false, index)) {
+            self.room_of(Side::Current);
+            if at.find_next(self.bucket_of(Side::Current, index)) {
                 return Ok(index);
             }
             index += 1;
@@ -104,25 +105,25 @@ impl<K: Eq + Drop, V: Drop, L: LruList + Drop, const TYPE: u8> Arrays<K, V, L, T
     pub(crate) fn first_past_bucket<H: KeyHash<K>>(
         &mut self,
         hasher: &H,
-        is_old: bool,
+        side: Side,
         index: usize,
         at: &mut EntryPtr<K, V, TYPE>,
     ) -> Result<usize, Missing>
-        requires within { index < length (buckets_on self.old is_old) }
+        requires within { index < length (buckets_on self.old side) }
         requires placed { ArePlaced (H.hash_of hasher.now) self.old }
         ensures placed { ArePlaced (H.hash_of hasher.now) self.new }
         ensures kept { Keeps self.old self.new }
         ensures leaves { Leaves (H.hash_of hasher.now) (bound_of
-            (length (buckets_on self.old is_old)) (index + 1)) result self.new at.new }
-        ensures departs { ShrinksThenPasses (λ index. index) is_old index self.old result self.new }
+            (length (buckets_on self.old side)) (index + 1)) result self.new at.new }
+        ensures departs { ShrinksThenPasses (λ index. index) side index self.old result self.new }
     {
-        let len = self.len_on(is_old);
-        self.shrink_emptied(is_old, index);
+        let len = self.len_on(side);
+        self.shrink_emptied(side, index);
         self.first_past(hasher, index, len, at)
     }
 
-    /// Moves a pointer from where it is in a bucket to the next live pair. Returns whether that
-    /// pair's bucket is one of the old array, and its index.
+    /// Moves a pointer from where it is in a bucket to the next live pair. Returns the
+    /// side of that pair's bucket, and its index.
     ///
     /// # Errors
     ///
@@ -130,29 +131,29 @@ impl<K: Eq + Drop, V: Drop, L: LruList + Drop, const TYPE: u8> Arrays<K, V, L, T
     pub(crate) fn advance<H: KeyHash<K>>(
         &mut self,
         hasher: &H,
-        is_old: bool,
+        side: Side,
         index: usize,
         at: &mut EntryPtr<K, V, TYPE>,
-    ) -> Result<(bool, usize), Missing>
-        requires within { index < length (buckets_on self.old is_old) }
+    ) -> Result<(Side, usize), Missing>
+        requires within { index < length (buckets_on self.old side) }
         requires placed { ArePlaced (H.hash_of hasher.now) self.old }
         ensures placed { ArePlaced (H.hash_of hasher.now) self.new }
         ensures kept { Keeps self.old self.new }
-        ensures stays { pairs_ahead (bucket_on self.old is_old index) at.old ≢ []
-            → (result ≡ Ok (is_old, index)) × (self.new ≡ self.old)
-            × MovesToNext (bucket_on self.old is_old index) at.old at.new }
-        ensures leaves { pairs_ahead (bucket_on self.old is_old index) at.old ≡ []
-            → LeavesTo (H.hash_of hasher.now) (bound_of (length (buckets_on self.old is_old))
+        ensures stays { pairs_ahead (bucket_on self.old side index) at.old ≢ []
+            → (result ≡ Ok (side, index)) × (self.new ≡ self.old)
+            × MovesToNext (bucket_on self.old side index) at.old at.new }
+        ensures leaves { pairs_ahead (bucket_on self.old side index) at.old ≡ []
+            → LeavesTo (H.hash_of hasher.now) (bound_of (length (buckets_on self.old side))
             (index + 1)) result self.new at.new }
-        ensures departs { pairs_ahead (bucket_on self.old is_old index) at.old ≡ []
-            → ShrinksThenPasses (λ to. to.1) is_old index self.old result self.new }
+        ensures departs { pairs_ahead (bucket_on self.old side index) at.old ≡ []
+            → ShrinksThenPasses (λ to. to.1) side index self.old result self.new }
     {
-        self.room_of(is_old);
-        if at.find_next(self.bucket_of(is_old, index)) {
-            return Ok((is_old, index));
+        self.room_of(side);
+        if at.find_next(self.bucket_of(side, index)) {
+            return Ok((side, index));
         }
-        match self.first_past_bucket(hasher, is_old, index, at) {
-            Ok(next) => Ok((false, next)),
+        match self.first_past_bucket(hasher, side, index, at) {
+            Ok(next) => Ok((Side::Current, next)),
             Err(missing) => Err(missing),
         }
     }
@@ -168,12 +169,12 @@ impl<K: Eq + Drop, V: Drop, L: LruList + Drop, const TYPE: u8> Arrays<K, V, L, T
         requires may { F.may_visit visitor.old }
         ensures again { F.may_visit visitor.new }
         ensures visited { (left : BucketView K V)
-            × F.visits visitor.old (bucket_on self.old false index) flag.old result left flag.new
+            × F.visits visitor.old (bucket_on self.old Current index) flag.old result left flag.new
             visitor.new
-            × (self.new ≡ arrays_with self.old false index left) }
+            × (self.new ≡ arrays_with self.old Current index left) }
     {
-        self.room_of(false);
-        visitor.visit(self.bucket_of_mut(false, index), flag)
+        self.room_of(Side::Current);
+        visitor.visit(self.bucket_of_mut(Side::Current, index), flag)
     }
 
     /// Takes out of a current bucket each pair that `keep` refuses, or marks it in an index.
@@ -190,8 +191,8 @@ impl<K: Eq + Drop, V: Drop, L: LruList + Drop, const TYPE: u8> Arrays<K, V, L, T
             (AnswersBy (λ key value answer. F.post keep.now key value answer)) TYPE
             (G.epoch_of generation.now) self.old index result self.new }
     {
-        self.room_of(false);
-        retain_in(self.bucket_of_mut(false, index), keep, generation)
+        self.room_of(Side::Current);
+        retain_in(self.bucket_of_mut(Side::Current, index), keep, generation)
     }
 }
 

@@ -24,15 +24,15 @@ impl<K, V, L: LruList, const TYPE: u8> Arrays<K, V, L, TYPE> {
 /// Calls a function with each pair of one side.
 #[inline(always)]
 fn each_on<K, V, L: LruList, F: FnMut(&K, &V), const TYPE: u8>(
-    side: &Option<BucketArray<K, V, L, TYPE>>,
+    held: &Option<BucketArray<K, V, L, TYPE>>,
     f: &mut F,
 )
     requires callable { F.IsAlwaysCallable f.old }
     ensures again { F.IsAlwaysCallable f.new }
     ensures calls { CallsEach (λ state own value last. F.step state own value tt last) f.old
-        (pairs_in_all (list_of side.now)) f.new }
+        (pairs_in_all (list_of held.now)) f.new }
 {
-    match side {
+    match held {
         None => {}
         Some(array) => each_in(array, f),
     }

@@ -13,14 +13,13 @@ ghost use Rattle.bucket_table.specs.Resize.Resizing.{MakesArray};
 ghost use Rattle.bucket_table.specs.Views.Sides.{buckets_on};
 ghost use Rattle.bucket_table.specs.Rehash.Units.{WorksUnits};
 
-use super::Arrays;
+use super::{Arrays, Side};
 use crate::key_hash::KeyHash;
 use bucket_slots::bucket::{AllocError, BUCKET_LEN, CACHE};
 use bucket_slots::lru::LruList;
 
 impl<K: Eq + Drop, V: Drop, L: LruList + Drop, const TYPE: u8> Arrays<K, V, L, TYPE> {
-    /// Finds the bucket for a writer of a hash. Returns whether it is one of the old array, and its
-    /// index.
+    /// Finds the bucket for a writer of a hash. Returns its side, and its index.
     ///
     /// # Errors
     ///
@@ -30,7 +29,7 @@ impl<K: Eq + Drop, V: Drop, L: LruList + Drop, const TYPE: u8> Arrays<K, V, L, T
         &mut self,
         hasher: &H,
         hash: u64,
-    ) -> Result<(bool, usize), AllocError>
+    ) -> Result<(Side, usize), AllocError>
         requires placed { ArePlaced (H.hash_of hasher.now) self.old }
         ensures placed { ArePlaced (H.hash_of hasher.now) self.new }
         ensures kept { Keeps self.old self.new }
@@ -43,8 +42,8 @@ impl<K: Eq + Drop, V: Drop, L: LruList + Drop, const TYPE: u8> Arrays<K, V, L, T
             return Err(AllocError);
         };
         let index = self.home(hash);
-        let is_old = self.grow_at(hash, index);
-        Ok((is_old, index))
+        let side = self.grow_at(hash, index);
+        Ok((side, index))
     }
 
     /// Makes a first array where there is none; beside an old one works a unit, and moves the
@@ -74,10 +73,10 @@ impl<K: Eq + Drop, V: Drop, L: LruList + Drop, const TYPE: u8> Arrays<K, V, L, T
         Ok(())
     }
 
-    /// Resizes where the bucket that a writer was given asks for it. Returns whether its array has
-    /// become the old one.
+    /// Resizes where the bucket that a writer was given asks for it. Returns the side that its
+    /// array is on then: the old one after a growth.
     #[inline(always)]
-    fn grow_at(&mut self, hash: u64, index: usize) -> bool
+    fn grow_at(&mut self, hash: u64, index: usize) -> Side
         requires within { index < length self.old.current }
         ensures asked { ResizesIf (WriterAsksGrowth TYPE hash self.old index) self.old self.new }
         ensures grown { Grows result self.old self.new }
@@ -85,11 +84,12 @@ impl<K: Eq + Drop, V: Drop, L: LruList + Drop, const TYPE: u8> Arrays<K, V, L, T
         ensures placed { (hash_of : K → ℕ) → ArePlaced hash_of self.old → ArePlaced hash_of self.new }
     {
         if !self.writer_asks_growth(hash, index) {
-            return false;
+            return Side::Current;
         }
         match self.try_resize() {
-            Ok(resized) => resized,
-            Err(_) => false,
+            Ok(true) => Side::Old,
+            Ok(false) => Side::Current,
+            Err(_) => Side::Current,
         }
     }
 }
@@ -132,8 +132,8 @@ impl<K, V, L: LruList, const TYPE: u8> Arrays<K, V, L, TYPE> {
             return None;
         }
         let index = self.home(hash);
-        self.room_of(false);
-        if is_checked && self.bucket_of(false, index).len() >= BUCKET_LEN {
+        self.room_of(Side::Current);
+        if is_checked && self.bucket_of(Side::Current, index).len() >= BUCKET_LEN {
             return None;
         }
         Some(index)

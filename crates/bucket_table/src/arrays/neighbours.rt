@@ -8,8 +8,8 @@ ghost use Rattle.bucket_slots.specs.ArrayView.{bucket_at};
 ghost use Rattle.bucket_slots.specs.BucketView.{pairs_in};
 ghost use Rattle.bucket_table.specs.Resize.Asking.{AsksGrowth, AsksShrinking, ResizesIf};
 
-use super::Arrays;
 use super::sampling::live_slots;
+use super::{Arrays, Side};
 use bucket_slots::bucket::BUCKET_LEN;
 use bucket_slots::bucket_array::BucketArray;
 use bucket_slots::lru::LruList;
@@ -32,24 +32,24 @@ impl<K: Drop, V: Drop, L: LruList + Drop, const TYPE: u8> Arrays<K, V, L, TYPE> 
 
     /// The same where a bucket has no live pair left.
     #[inline(always)]
-    pub(crate) fn shrink_emptied(&mut self, is_old: bool, index: usize)
-        requires within { index < length (buckets_on self.old is_old) }
-        ensures asked { ResizesIf ((pairs_in (bucket_at (buckets_on self.old is_old) index) ≡ []) × AsksShrinking self.old index)
+    pub(crate) fn shrink_emptied(&mut self, side: Side, index: usize)
+        requires within { index < length (buckets_on self.old side) }
+        ensures asked { ResizesIf ((pairs_in (bucket_at (buckets_on self.old side) index) ≡ []) × AsksShrinking self.old index)
             self.old self.new }
         ensures kept { Keeps self.old self.new }
         ensures placed { (hash : K → ℕ) → ArePlaced hash self.old → ArePlaced hash self.new }
     {
-        self.room_of(is_old);
-        let left = self.bucket_of(is_old, index).len();
-        self.shrink_left(is_old, index, left);
+        self.room_of(side);
+        let left = self.bucket_of(side, index).len();
+        self.shrink_left(side, index, left);
     }
 
     /// The same of a bucket that has so many live pairs left.
     #[inline(always)]
-    pub(crate) fn shrink_left(&mut self, is_old: bool, index: usize, left: usize)
-        requires within { index < length (buckets_on self.old is_old) }
-        requires left { left ≡ length (pairs_in (bucket_at (buckets_on self.old is_old) index)) }
-        ensures asked { ResizesIf ((pairs_in (bucket_at (buckets_on self.old is_old) index) ≡ []) × AsksShrinking self.old index)
+    pub(crate) fn shrink_left(&mut self, side: Side, index: usize, left: usize)
+        requires within { index < length (buckets_on self.old side) }
+        requires left { left ≡ length (pairs_in (bucket_at (buckets_on self.old side) index)) }
+        ensures asked { ResizesIf ((pairs_in (bucket_at (buckets_on self.old side) index) ≡ []) × AsksShrinking self.old index)
             self.old self.new }
         ensures kept { Keeps self.old self.new }
         ensures placed { (hash : K → ℕ) → ArePlaced hash self.old → ArePlaced hash self.new }
@@ -69,7 +69,7 @@ impl<K, V, L: LruList, const TYPE: u8> Arrays<K, V, L, TYPE> {
         if self.len() == 0 || self.has_old() {
             return false;
         }
-        is_crowded(self.array_of(false), index)
+        is_crowded(self.array_of(Side::Current), index)
     }
 
     pub(crate) fn asks_shrinking(&self, index: usize) -> bool
@@ -78,7 +78,7 @@ impl<K, V, L: LruList, const TYPE: u8> Arrays<K, V, L, TYPE> {
         if self.len() == 0 || self.has_old() {
             return false;
         }
-        let array = self.array_of(false);
+        let array = self.array_of(Side::Current);
         if array.num_slots() <= self.minimum {
             return false;
         }

@@ -46,13 +46,13 @@ impl<K: Drop, V: Drop, L: LruList + Drop, const TYPE: u8> Arrays<K, V, L, TYPE> 
 
 /// Returns whether each bucket of a unit is killed.
 fn is_unit_killed<K, V, L: LruList, const TYPE: u8>(
-    side: &Option<BucketArray<K, V, L, TYPE>>,
+    held: &Option<BucketArray<K, V, L, TYPE>>,
     unit: usize,
 ) -> bool
     requires { unit < 2 ^ 53 }
-    ensures { IsTrue result ↔ IsUnitKilled (killed_flags (list_of side.now)) unit }
+    ensures { IsTrue result ↔ IsUnitKilled (killed_flags (list_of held.now)) unit }
 {
-    match side {
+    match held {
         None => true,
         Some(array) => is_killed_in(array, unit),
     }

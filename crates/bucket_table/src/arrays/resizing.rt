@@ -6,8 +6,8 @@ ghost use Rattle.bucket_table.specs.Resize.ResizePlan.{IsCapacityWithin};
 ghost use Rattle.bucket_table.specs.Resize.Resizing.{IsMade, IsPlanOf, IsPushed, MakesArray, Releases, Reserves, Resizes, TriesResize};
 ghost use Rattle.bucket_table.specs.Resize.Resizing.{with_minimum};
 
-use super::Arrays;
 use super::plan::{Plan, plan_of};
+use super::{Arrays, Side};
 use crate::tickets::Tickets;
 use bucket_slots::bucket::AllocError;
 use bucket_slots::bucket_array::BucketArray;
@@ -22,7 +22,7 @@ impl<K, V, L: LruList, const TYPE: u8> Arrays<K, V, L, TYPE> {
         if self.len() == 0 || self.has_old() {
             return Plan::Keep;
         }
-        plan_of(self.array_of(false), self.minimum, self.maximum)
+        plan_of(self.array_of(Side::Current), self.minimum, self.maximum)
     }
 }
 

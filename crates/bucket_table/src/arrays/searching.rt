@@ -5,14 +5,14 @@ ghost use Rattle.bucket_table.specs.Map.ByKey.{StandsAt};
 ghost use Rattle.bucket_table.specs.Map.LookingUp.{home_bucket};
 ghost use Rattle.bucket_table.specs.Views.Sides.{buckets_on};
 
-use super::Arrays;
+use super::{Arrays, Side};
 use bucket_slots::bucket::EntryPtr;
 use bucket_slots::lru::LruList;
 
-/// A slot of a bucket of the old or of the current array.
+/// A slot of a bucket of one side.
 #[derive(Drop)]
 pub(crate) struct Spot<K, V, const TYPE: u8> {
-    pub(crate) is_old: bool,
+    pub(crate) side: Side,
     pub(crate) index: usize,
     pub(crate) at: EntryPtr<K, V, TYPE>,
 }
@@ -21,22 +21,22 @@ impl<K: Eq, V, L: LruList, const TYPE: u8> Arrays<K, V, L, TYPE> {
     /// Returns the live slot with an equal key in the home of a hash on one side; `None` where that
     /// home has none.
     #[inline(always)]
-    pub(crate) fn search_on(&self, is_old: bool, key: &K, hash: u64) -> Option<Spot<K, V, TYPE>>
+    pub(crate) fn search_on(&self, side: Side, key: &K, hash: u64) -> Option<Spot<K, V, TYPE>>
         ensures found { IfSome result (λ spot.
-            StandsAt K.eq key.now self.now spot.is_old spot.index spot.at) }
+            StandsAt K.eq key.now self.now spot.side spot.index spot.at) }
         ensures absent { IfNone result (pair_wanted (λ own. K.eq own key.now) (hash % 256)
-            (home_bucket hash (buckets_on self.now is_old)) ≡ None) }
+            (home_bucket hash (buckets_on self.now side)) ≡ None) }
     {
-        if self.len_on(is_old) == 0 {
+        if self.len_on(side) == 0 {
             return None;
         }
-        self.room_of(is_old);
-        let array = self.array_of(is_old);
+        self.room_of(side);
+        let array = self.array_of(side);
         let index = array.bucket_index(hash);
         let at = array.bucket(index).get_entry_ptr(key, hash);
         if !at.is_valid() {
             return None;
         }
-        Some(Spot { is_old, index, at })
+        Some(Spot { side, index, at })
     }
 }

@@ -12,75 +12,75 @@ ghost use Rattle.bucket_table.specs.Resize.Asking.{RemovesAndShrinks};
 ghost use Rattle.bucket_table.specs.Views.Sides.{arrays_with, bucket_on, buckets_on};
 ghost use Rattle.bucket_table.specs.Views.Keeping.{Keeps};
 
-use super::Arrays;
+use super::{Arrays, Side};
 use bucket_slots::bucket::{CACHE, EntryPtr, Generation, INDEX};
 use bucket_slots::lru::LruList;
 use std::mem;
 
 impl<K, V, L: LruList, const TYPE: u8> Arrays<K, V, L, TYPE> {
     /// Returns the pair in a live slot.
-    pub(crate) fn entry_of(&self, is_old: bool, index: usize, at: &EntryPtr<K, V, TYPE>) -> (&K, &V)
-        requires within { index < length (buckets_on self.now is_old) }
-        requires live_slot { IsTrue (is_live (slot_in (bucket_on self.now is_old index) at.now)) }
-        ensures { live_pair (slot_in (bucket_on self.now is_old index) at.now)
+    pub(crate) fn entry_of(&self, side: Side, index: usize, at: &EntryPtr<K, V, TYPE>) -> (&K, &V)
+        requires within { index < length (buckets_on self.now side) }
+        requires live_slot { IsTrue (is_live (slot_in (bucket_on self.now side index) at.now)) }
+        ensures { live_pair (slot_in (bucket_on self.now side index) at.now)
             ≡ Some (result.0.now, result.1.now) }
     {
-        self.room_of(is_old);
-        self.bucket_of(is_old, index).entry(at)
+        self.room_of(side);
+        self.bucket_of(side, index).entry(at)
     }
 
     /// Makes the pair in a live slot the one of its bucket touched last.
-    pub(crate) fn touch_slot(&mut self, is_old: bool, index: usize, at: &EntryPtr<K, V, TYPE>)
+    pub(crate) fn touch_slot(&mut self, side: Side, index: usize, at: &EntryPtr<K, V, TYPE>)
         requires cache { TYPE ≡ CACHE }
-        requires within { index < length (buckets_on self.old is_old) }
-        requires live_slot { IsTrue (is_live (slot_in (bucket_on self.old is_old index) at.now)) }
-        ensures { self.new ≡ arrays_with self.old is_old index
-            (slots_touched L.KEEPS (bucket_on self.old is_old index) at.now) }
+        requires within { index < length (buckets_on self.old side) }
+        requires live_slot { IsTrue (is_live (slot_in (bucket_on self.old side index) at.now)) }
+        ensures { self.new ≡ arrays_with self.old side index
+            (slots_touched L.KEEPS (bucket_on self.old side index) at.now) }
     {
-        self.room_of(is_old);
-        self.bucket_of_mut(is_old, index).update_lru_tail(at);
+        self.room_of(side);
+        self.bucket_of_mut(side, index).update_lru_tail(at);
     }
 
     /// Writes a value into a live slot, and returns the earlier one.
     pub(crate) fn swap_slot(
         &mut self,
-        is_old: bool,
+        side: Side,
         index: usize,
         at: &EntryPtr<K, V, TYPE>,
         value: V,
     ) -> V
-        requires within { index < length (buckets_on self.old is_old) }
-        requires live_slot { IsTrue (is_live (slot_in (bucket_on self.old is_old index) at.now)) }
+        requires within { index < length (buckets_on self.old side) }
+        requires live_slot { IsTrue (is_live (slot_in (bucket_on self.old side index) at.now)) }
         ensures pair { (found : K)
-            × (live_pair (slot_in (bucket_on self.old is_old index) at.now) ≡ Some (found, result)) }
-        ensures arrays { self.new ≡ arrays_with self.old is_old index
-            (bucket_with_value (bucket_on self.old is_old index) at.now value) }
+            × (live_pair (slot_in (bucket_on self.old side index) at.now) ≡ Some (found, result)) }
+        ensures arrays { self.new ≡ arrays_with self.old side index
+            (bucket_with_value (bucket_on self.old side index) at.now value) }
     {
-        self.room_of(is_old);
-        let bucket = self.bucket_of_mut(is_old, index);
+        self.room_of(side);
+        let bucket = self.bucket_of_mut(side, index);
         mem::replace(bucket.entry_mut(at).1, value)
     }
 
     /// Marks the pair in a live slot. Returns how many live pairs are left in the bucket.
     pub(crate) fn mark_slot<G: Generation>(
         &mut self,
-        is_old: bool,
+        side: Side,
         index: usize,
         at: &mut EntryPtr<K, V, TYPE>,
         generation: &G,
     ) -> usize
         requires index { TYPE ≡ INDEX }
-        requires within { index < length (buckets_on self.old is_old) }
-        requires live_slot { IsTrue (is_live (slot_in (bucket_on self.old is_old index) at.old)) }
-        ensures arrays { self.new ≡ arrays_with self.old is_old index
-            (slots_marked (bucket_on self.old is_old index) at.old (G.epoch_of generation.now)) }
+        requires within { index < length (buckets_on self.old side) }
+        requires live_slot { IsTrue (is_live (slot_in (bucket_on self.old side index) at.old)) }
+        ensures arrays { self.new ≡ arrays_with self.old side index
+            (slots_marked (bucket_on self.old side index) at.old (G.epoch_of generation.now)) }
         ensures pointer { at.new ≡ at.old }
-        ensures pairs_ahead { pairs_ahead (bucket_on self.new is_old index) at.new
-            ≡ pairs_ahead (bucket_on self.old is_old index) at.old }
-        ensures left { result ≡ length (pairs_in (bucket_on self.new is_old index)) }
+        ensures pairs_ahead { pairs_ahead (bucket_on self.new side index) at.new
+            ≡ pairs_ahead (bucket_on self.old side index) at.old }
+        ensures left { result ≡ length (pairs_in (bucket_on self.new side index)) }
     {
-        self.room_of(is_old);
-        let bucket = self.bucket_of_mut(is_old, index);
+        self.room_of(side);
+        let bucket = self.bucket_of_mut(side, index);
         bucket.mark_removed(at, generation);
         bucket.len()
     }
@@ -92,24 +92,24 @@ impl<K: Drop, V: Drop, L: LruList, const TYPE: u8> Arrays<K, V, L, TYPE> {
     #[inline(always)]
     pub(crate) fn take_slot(
         &mut self,
-        is_old: bool,
+        side: Side,
         index: usize,
         at: &mut EntryPtr<K, V, TYPE>,
     ) -> ((K, V), usize)
         requires not_index { TYPE ≢ INDEX }
-        requires within { index < length (buckets_on self.old is_old) }
-        requires live_slot { IsTrue (is_live (slot_in (bucket_on self.old is_old index) at.old)) }
-        ensures pair { live_pair (slot_in (bucket_on self.old is_old index) at.old)
+        requires within { index < length (buckets_on self.old side) }
+        requires live_slot { IsTrue (is_live (slot_in (bucket_on self.old side index) at.old)) }
+        ensures pair { live_pair (slot_in (bucket_on self.old side index) at.old)
             ≡ Some result.0 }
-        ensures arrays { self.new ≡ arrays_with self.old is_old index
-            (slots_without (bucket_on self.old is_old index) at.old) }
-        ensures place { at.new ≡ place_after (bucket_on self.old is_old index) at.old }
-        ensures pairs_ahead { pairs_ahead (bucket_on self.new is_old index) at.new
-            ≡ pairs_ahead (bucket_on self.old is_old index) at.old }
-        ensures left { result.1 ≡ length (pairs_in (bucket_on self.new is_old index)) }
+        ensures arrays { self.new ≡ arrays_with self.old side index
+            (slots_without (bucket_on self.old side index) at.old) }
+        ensures place { at.new ≡ place_after (bucket_on self.old side index) at.old }
+        ensures pairs_ahead { pairs_ahead (bucket_on self.new side index) at.new
+            ≡ pairs_ahead (bucket_on self.old side index) at.old }
+        ensures left { result.1 ≡ length (pairs_in (bucket_on self.new side index)) }
     {
-        self.room_of(is_old);
-        let bucket = self.bucket_of_mut(is_old, index);
+        self.room_of(side);
+        let bucket = self.bucket_of_mut(side, index);
         let pair = bucket.remove(at);
         let left = bucket.len();
         (pair, left)
@@ -121,27 +121,27 @@ impl<K: Drop, V: Drop, L: LruList + Drop, const TYPE: u8> Arrays<K, V, L, TYPE> 
     /// arrays where few slots near it are live.
     pub(crate) fn mark_at<G: Generation>(
         &mut self,
-        is_old: bool,
+        side: Side,
         index: usize,
         at: &mut EntryPtr<K, V, TYPE>,
         generation: &G,
     )
         requires index { TYPE ≡ INDEX }
-        requires within { index < length (buckets_on self.old is_old) }
-        requires live_slot { IsTrue (is_live (slot_in (bucket_on self.old is_old index) at.old)) }
-        ensures asked { RemovesAndShrinks self.old is_old index
-            (slots_marked (bucket_on self.old is_old index) at.old (G.epoch_of generation.now))
+        requires within { index < length (buckets_on self.old side) }
+        requires live_slot { IsTrue (is_live (slot_in (bucket_on self.old side index) at.old)) }
+        ensures asked { RemovesAndShrinks self.old side index
+            (slots_marked (bucket_on self.old side index) at.old (G.epoch_of generation.now))
             self.new }
-        ensures kept { Keeps (arrays_with self.old is_old index
-            (slots_marked (bucket_on self.old is_old index) at.old (G.epoch_of generation.now)))
+        ensures kept { Keeps (arrays_with self.old side index
+            (slots_marked (bucket_on self.old side index) at.old (G.epoch_of generation.now)))
             self.new }
-        ensures placed { (hash : K → ℕ) → ArePlaced hash (arrays_with self.old is_old index
-            (slots_marked (bucket_on self.old is_old index) at.old (G.epoch_of generation.now)))
+        ensures placed { (hash : K → ℕ) → ArePlaced hash (arrays_with self.old side index
+            (slots_marked (bucket_on self.old side index) at.old (G.epoch_of generation.now)))
             → ArePlaced hash self.new }
         ensures pointer { at.new ≡ at.old }
     {
-        let left = self.mark_slot(is_old, index, at, generation);
-        self.shrink_left(is_old, index, left);
+        let left = self.mark_slot(side, index, at, generation);
+        self.shrink_left(side, index, left);
     }
 
     /// Takes the pair out of a live slot, and where no live pair is left in the bucket shrinks the
@@ -149,24 +149,24 @@ impl<K: Drop, V: Drop, L: LruList + Drop, const TYPE: u8> Arrays<K, V, L, TYPE> 
     #[inline(always)]
     pub(crate) fn take_at(
         &mut self,
-        is_old: bool,
+        side: Side,
         index: usize,
         at: &mut EntryPtr<K, V, TYPE>,
     ) -> (K, V)
         requires not_index { TYPE ≢ INDEX }
-        requires within { index < length (buckets_on self.old is_old) }
-        requires live_slot { IsTrue (is_live (slot_in (bucket_on self.old is_old index) at.old)) }
-        ensures pair { live_pair (slot_in (bucket_on self.old is_old index) at.old) ≡ Some result }
-        ensures asked { RemovesAndShrinks self.old is_old index
-            (slots_without (bucket_on self.old is_old index) at.old) self.new }
-        ensures kept { Keeps (arrays_with self.old is_old index
-            (slots_without (bucket_on self.old is_old index) at.old)) self.new }
-        ensures placed { (hash : K → ℕ) → ArePlaced hash (arrays_with self.old is_old index
-            (slots_without (bucket_on self.old is_old index) at.old)) → ArePlaced hash self.new }
-        ensures place { at.new ≡ place_after (bucket_on self.old is_old index) at.old }
+        requires within { index < length (buckets_on self.old side) }
+        requires live_slot { IsTrue (is_live (slot_in (bucket_on self.old side index) at.old)) }
+        ensures pair { live_pair (slot_in (bucket_on self.old side index) at.old) ≡ Some result }
+        ensures asked { RemovesAndShrinks self.old side index
+            (slots_without (bucket_on self.old side index) at.old) self.new }
+        ensures kept { Keeps (arrays_with self.old side index
+            (slots_without (bucket_on self.old side index) at.old)) self.new }
+        ensures placed { (hash : K → ℕ) → ArePlaced hash (arrays_with self.old side index
+            (slots_without (bucket_on self.old side index) at.old)) → ArePlaced hash self.new }
+        ensures place { at.new ≡ place_after (bucket_on self.old side index) at.old }
     {
-        let (pair, left) = self.take_slot(is_old, index, at);
-        self.shrink_left(is_old, index, left);
+        let (pair, left) = self.take_slot(side, index, at);
+        self.shrink_left(side, index, left);
         pair
     }
 }

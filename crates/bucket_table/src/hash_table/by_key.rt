@@ -25,7 +25,7 @@ mod evicting;
 mod lending;
 mod updating;
 
-use crate::arrays::Spot;
+use crate::arrays::{Side, Spot};
 use crate::hash_table::{HashTable, NotInserted};
 use crate::key_hash::KeyHash;
 use bucket_slots::bucket::{Bucket, CACHE, Generation, INDEX};
@@ -55,7 +55,7 @@ impl<K: Eq + Drop, V: Drop, H: KeyHash<K>, L: LruList + Drop, const TYPE: u8> Ha
             ShrinksAt K.eq key.now slots_without (is_some result) between self.new) }
     {
         match self.fetch_spot(key) {
-            Some(mut spot) => Some(self.arrays.take_at(spot.is_old, spot.index, &mut spot.at)),
+            Some(mut spot) => Some(self.arrays.take_at(spot.side, spot.index, &mut spot.at)),
             None => None,
         }
     }
@@ -89,7 +89,7 @@ impl<K: Eq + Drop, V: Drop, H: KeyHash<K>, L: LruList + Drop, const TYPE: u8> Ha
             Some(mut spot) => {
                 let answer = self.read_at(&spot, reader);
                 self.arrays
-                    .mark_at(spot.is_old, spot.index, &mut spot.at, generation);
+                    .mark_at(spot.side, spot.index, &mut spot.at, generation);
                 Some(answer)
             }
             None => None,
@@ -113,7 +113,7 @@ impl<K: Eq + Drop, V: Drop, H: KeyHash<K>, L: LruList + Drop, const TYPE: u8> Ha
     {
         match self.fetch_spot(key) {
             Some(spot) => {
-                self.arrays.touch_slot(spot.is_old, spot.index, &spot.at);
+                self.arrays.touch_slot(spot.side, spot.index, &spot.at);
                 true
             }
             None => false,
@@ -166,10 +166,10 @@ impl<K: Eq + Drop, V: Drop, H: KeyHash<K>, L: LruList + Drop, const TYPE: u8> Ha
             (H.hash_of self.old.hasher key % 256) between result answer self.new) }
     {
         let hash = self.hash(&key);
-        let Ok((is_old, index)) = self.find(hash) else {
+        let Ok((side, index)) = self.find(hash) else {
             return Err(self.not_inserted(hash, key, value));
         };
-        self.insert_at(is_old, index, hash, key, value, generation)
+        self.insert_at(side, index, hash, key, value, generation)
     }
 
     /// Works a unit, moves the sources of the key's home, and returns the live slot with an equal
@@ -178,7 +178,7 @@ impl<K: Eq + Drop, V: Drop, H: KeyHash<K>, L: LruList + Drop, const TYPE: u8> Ha
     fn fetch_spot(&mut self, key: &K) -> Option<Spot<K, V, TYPE>>
         ensures prepared { IsPrepared TYPE (H.hash_of self.old.hasher key.now) self.old self.new }
         ensures found { IfSome result (λ spot.
-            StandsAt K.eq key.now self.new.arrays spot.is_old spot.index spot.at) }
+            StandsAt K.eq key.now self.new.arrays spot.side spot.index spot.at) }
         ensures absent { IfNone result (IsAbsent K.eq key.now (pairs_of self.old.arrays)) }
     {
         let hash = self.hash(key);
@@ -190,45 +190,45 @@ impl<K: Eq + Drop, V: Drop, H: KeyHash<K>, L: LruList + Drop, const TYPE: u8> Ha
     #[inline(always)]
     fn insert_at<G: Generation>(
         &mut self,
-        is_old: bool,
+        side: Side,
         index: usize,
         hash: u64,
         key: K,
         value: V,
         generation: &G,
     ) -> Result<(), NotInserted<K, V>>
-        requires locked { IsLocked self.old.arrays is_old index }
+        requires locked { IsLocked self.old.arrays side index }
         requires own_hash { hash ≡ H.hash_of self.old.hasher key }
-        requires home { IsHome (length (buckets_on self.old.arrays is_old)) hash index }
+        requires home { IsHome (length (buckets_on self.old.arrays side)) hash index }
         ensures map { Inserts K.eq key value (state_of TYPE self.old) result
             (state_of TYPE self.new) }
-        ensures put { OnOk result (self.new ≡ with_bucket self.old is_old index
+        ensures put { OnOk result (self.new ≡ with_bucket self.old side index
             (slots_after_insertion TYPE (G.keeps generation.now)
-            (bucket_of self.old is_old index) (key, value) (hash % 256))) }
+            (bucket_of self.old side index) (key, value) (hash % 256))) }
         ensures unchanged { OnErr result (self.new ≡ self.old) }
         ensures answer { AnswersInsertion K.eq key value (hash % 256) TYPE (G.keeps generation.now)
-            (bucket_of self.old is_old index) result }
+            (bucket_of self.old side index) result }
     {
-        self.arrays.room_of(is_old);
-        let bucket = self.arrays.bucket_of_mut(is_old, index);
+        self.arrays.room_of(side);
+        let bucket = self.arrays.bucket_of_mut(side, index);
         insert_absent(bucket, hash, key, value, generation)
     }
 
     /// Writes a value into a live slot, and returns the earlier one.
     fn swap_at(&mut self, spot: &Spot<K, V, TYPE>, value: V) -> V
-        requires within { spot.now.index < length (buckets_on self.old.arrays spot.now.is_old) }
+        requires within { spot.now.index < length (buckets_on self.old.arrays spot.now.side) }
         requires live_slot { IsTrue (is_live
-            (slot_in (bucket_of self.old spot.now.is_old spot.now.index) spot.now.at)) }
+            (slot_in (bucket_of self.old spot.now.side spot.now.index) spot.now.at)) }
         ensures map { (found : K)
-            × (live_pair (slot_in (bucket_of self.old spot.now.is_old spot.now.index) spot.now.at)
+            × (live_pair (slot_in (bucket_of self.old spot.now.side spot.now.index) spot.now.at)
             ≡ Some (found, result))
             × ChangesValue (state_of TYPE self.old) (found, result) value (state_of TYPE self.new) }
-        ensures table { self.new ≡ with_bucket self.old spot.now.is_old spot.now.index
-            (bucket_with_value (bucket_of self.old spot.now.is_old spot.now.index) spot.now.at
+        ensures table { self.new ≡ with_bucket self.old spot.now.side spot.now.index
+            (bucket_with_value (bucket_of self.old spot.now.side spot.now.index) spot.now.at
             value) }
     {
         self.arrays
-            .swap_slot(spot.is_old, spot.index, &spot.at, value)
+            .swap_slot(spot.side, spot.index, &spot.at, value)
     }
 }
 
@@ -238,12 +238,12 @@ impl<K: Eq, V, H: KeyHash<K>, L: LruList, const TYPE: u8> HashTable<K, V, H, L, 
     fn spot_of(&self, key: &K, hash: u64) -> Option<Spot<K, V, TYPE>>
         requires own_hash { hash ≡ H.hash_of self.now.hasher key.now }
         ensures found { IfSome result (λ spot.
-            StandsAt K.eq key.now self.now.arrays spot.is_old spot.index spot.at) }
+            StandsAt K.eq key.now self.now.arrays spot.side spot.index spot.at) }
         ensures absent { IfNone result (IsAbsent K.eq key.now (pairs_of self.now.arrays)) }
     {
-        match self.arrays.search_on(true, key, hash) {
+        match self.arrays.search_on(Side::Old, key, hash) {
             Some(spot) => Some(spot),
-            None => self.arrays.search_on(false, key, hash),
+            None => self.arrays.search_on(Side::Current, key, hash),
         }
     }
 
@@ -260,15 +260,15 @@ impl<K: Eq, V, H: KeyHash<K>, L: LruList, const TYPE: u8> HashTable<K, V, H, L, 
 
     /// Hands the pair in a live slot to a reader.
     fn read_at<R, F: FnOnce(&K, &V) -> R>(&self, spot: &Spot<K, V, TYPE>, reader: F) -> R
-        requires within { spot.now.index < length (buckets_on self.now.arrays spot.now.is_old) }
+        requires within { spot.now.index < length (buckets_on self.now.arrays spot.now.side) }
         requires live_slot { IsTrue (is_live
-            (slot_in (bucket_of self.now spot.now.is_old spot.now.index) spot.now.at)) }
+            (slot_in (bucket_of self.now spot.now.side spot.now.index) spot.now.at)) }
         requires callable { (own : Bor K) (value : Bor V) → F.pre reader own value }
         ensures { (own : Bor K) × (value : Bor V)
-            × (live_pair (slot_in (bucket_of self.now spot.now.is_old spot.now.index) spot.now.at)
+            × (live_pair (slot_in (bucket_of self.now spot.now.side spot.now.index) spot.now.at)
             ≡ Some (own.now, value.now)) × F.post reader own value result }
     {
-        let (key, value) = self.arrays.entry_of(spot.is_old, spot.index, &spot.at);
+        let (key, value) = self.arrays.entry_of(spot.side, spot.index, &spot.at);
         reader(key, value)
     }
 }

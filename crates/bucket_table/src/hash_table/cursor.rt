@@ -1,5 +1,5 @@
 //! Cursors over a table, and what they sweep.
-ghost use Rattle.std.specs.Prelude.{◌≡◌, ◌≢◌, ◌<◌, ◌+◌, [], ℕ, Bool, Ok, Err, false, length, IfOk, IsErrAnd, IsOk, OnErr};
+ghost use Rattle.std.specs.Prelude.{◌≡◌, ◌≢◌, ◌<◌, ◌+◌, [], ℕ, Bool, Ok, Err, length, IfOk, IsErrAnd, IsOk, OnErr};
 ghost use Rattle.std.specs.Prelude.{if◌then◌else◌, is_ok};
 ghost use Rattle.std.specs.Borrow.{RestsIfErr, sem};
 ghost use Rattle.std.specs.Result.{result_map_both};
@@ -16,7 +16,9 @@ ghost use Rattle.bucket_table.specs.Views.Settings.{KeepsSettings};
 ghost use Rattle.bucket_table.specs.Views.Sides.{bucket_on, buckets_on};
 ghost use Rattle.bucket_table.specs.Walking.Sweeps.{RetainsAt, Sweeps};
 ghost use Rattle.bucket_table.specs.Views.TableRow.{table_row};
+ghost use Rattle.bucket_table.specs.declared.arrays.side.Side.TheVariants.{Current};
 
+use crate::arrays::Side;
 use crate::hash_table::{HashTable, LockedBucket, Missing};
 use crate::key_hash::KeyHash;
 use bucket_slots::bucket::{AllocError, EntryPtr, Generation};
@@ -94,11 +96,11 @@ impl<K: Eq + Drop, V: Drop, H: KeyHash<K>, L: LruList + Drop, const TYPE: u8> Ha
         ensures leaves { Leaves (H.hash_of self.old.hasher)
             (bound_of (length self.old.arrays.current) (index + 1)) result
             self.new.arrays at.new }
-        ensures departs { ShrinksThenPasses (λ to. to) false index self.old.arrays result self.new.arrays }
+        ensures departs { ShrinksThenPasses (λ to. to) Current index self.old.arrays result self.new.arrays }
         ensures marks { HasNoNewMark (marks_of self.old.arrays) (marks_of self.new.arrays) }
     {
         self.arrays
-            .first_past_bucket(&self.hasher, false, index, at)
+            .first_past_bucket(&self.hasher, Side::Current, index, at)
     }
 
     /// Takes out of a current bucket each pair that `keep` refuses. Returns how many.
@@ -108,7 +110,7 @@ impl<K: Eq + Drop, V: Drop, H: KeyHash<K>, L: LruList + Drop, const TYPE: u8> Ha
         keep: &F,
         generation: &G,
     ) -> usize
-        requires locked { IsLocked self.old.arrays false index }
+        requires locked { IsLocked self.old.arrays Current index }
         requires callable { F.IsAlwaysCallable keep.now }
         ensures hasher { self.new.hasher ≡ self.old.hasher }
         ensures retained { RetainsAt
@@ -141,13 +143,13 @@ impl<K: Eq + Drop, V: Drop, H: KeyHash<K>, L: LruList + Drop, const TYPE: u8> Ha
             ≡ self.entry.ghost_name) }
         ensures sets_out { IfOk result (λ locked. SetsOut TYPE H.hash_of self.old
             (result_map_both (λ locked. locked.index) (λ missing. missing) result) at.new locked.table.now) }
-        ensures side { IfOk result (λ locked. locked.is_old ≡ false) }
+        ensures side { IfOk result (λ locked. locked.side ≡ Current) }
         ensures none { result ≡ Err Missing.Nothing → pairs_of self.old.arrays ≡ [] }
         ensures null { OnErr result (at.new ≡ null_place) }
         ensures succeeds { length self.old.arrays.linked ≡ 0 → IsErrAnd result (λ missing. missing ≡ Missing.Memory) → ⊥ }
     {
         match self.first(at) {
-            Ok(index) => Ok(self.lock(false, index)),
+            Ok(index) => Ok(self.lock(Side::Current, index)),
             Err(missing) => Err(missing),
         }
     }
@@ -179,36 +181,28 @@ impl<'a, K: Eq + Drop, V: Drop, H: KeyHash<K>, L: LruList + Drop, const TYPE: u8
             (table_row K.row V.row H.row L.row TYPE.row K.PartialEq H.KeyHash
             (record { KEEPS = L.KEEPS; listed = L.listed; IsTail = L.IsTail }) L.Default)
             self.entry.table (λ locked. locked.table.ghost_name) result
-            (Advances TYPE H.hash_of self.entry.table.now self.entry.is_old self.entry.index at.old
-            (result_map_both (λ locked. (locked.is_old, locked.index)) (λ missing. missing) result) at.new)) }
+            (Advances TYPE H.hash_of self.entry.table.now self.entry.side self.entry.index at.old
+            (result_map_both (λ locked. (locked.side, locked.index)) (λ missing. missing) result) at.new)) }
         ensures same_table { IfOk result (λ locked. locked.table.ghost_name
             ≡ self.entry.table.ghost_name) }
         ensures advances { IfOk result (λ locked. Advances TYPE H.hash_of self.entry.table.now
-            self.entry.is_old self.entry.index at.old
-            (result_map_both (λ locked. (locked.is_old, locked.index)) (λ missing. missing) result) at.new locked.table.now) }
-        ensures held { pairs_ahead (bucket_on self.entry.table.now.arrays self.entry.is_old
+            self.entry.side self.entry.index at.old
+            (result_map_both (λ locked. (locked.side, locked.index)) (λ missing. missing) result) at.new locked.table.now) }
+        ensures held { pairs_ahead (bucket_on self.entry.table.now.arrays self.entry.side
             self.entry.index) at.old ≢ [] → IsOk result }
         ensures none { result ≡ Err Missing.Nothing
             → HasNoneFrom (H.hash_of self.entry.table.now.hasher)
-            (bound_of (length (buckets_on self.entry.table.now.arrays self.entry.is_old))
+            (bound_of (length (buckets_on self.entry.table.now.arrays self.entry.side))
             (self.entry.index + 1)) (pairs_of self.entry.table.now.arrays) }
         ensures null { OnErr result (at.new ≡ null_place) }
         ensures succeeds { length self.entry.table.now.arrays.linked ≡ 0
-            → (pairs_in (bucket_on self.entry.table.now.arrays self.entry.is_old self.entry.index)
+            → (pairs_in (bucket_on self.entry.table.now.arrays self.entry.side self.entry.index)
             ≡ [] → AsksShrinking self.entry.table.now.arrays self.entry.index → ⊥)
             → IsErrAnd result (λ missing. missing ≡ Missing.Memory) → ⊥ }
     {
-        let LockedBucket {
-            table,
-            is_old,
-            index,
-        } = self;
-        match table.arrays.advance(&table.hasher, is_old, index, at) {
-            Ok((is_old, index)) => Ok(LockedBucket {
-                table,
-                is_old,
-                index,
-            }),
+        let LockedBucket { table, side, index } = self;
+        match table.arrays.advance(&table.hasher, side, index, at) {
+            Ok((side, index)) => Ok(LockedBucket { table, side, index }),
             Err(missing) => Err(missing),
         }
     }

@@ -8,6 +8,7 @@ ghost use Rattle.bucket_slots.specs.Slots.{is_live, live_pair};
 ghost use Rattle.bucket_table.specs.Map.MapState.{ChangesValue, state_of};
 ghost use Rattle.bucket_table.specs.Views.Sides.{bucket_of, buckets_on};
 
+use crate::arrays::Side;
 use crate::hash_table::HashTable;
 use crate::key_hash::KeyHash;
 use bucket_slots::bucket::EntryPtr;
@@ -16,30 +17,30 @@ use bucket_slots::lru::LruList;
 impl<K: Eq, V, H: KeyHash<K>, L: LruList, const TYPE: u8> HashTable<K, V, H, L, TYPE> {
     ghost use Rattle.bucket_table.specs.Map.Lending.{LendsSlot, with_value};
 
-    /// Lends the pair in a live slot of a bucket of the old or of the current array, its value for
+    /// Lends the pair in a live slot of a bucket of one side, its value for
     /// writing: what is written stands in the table.
     ///
     /// O(blocks of the chain). Own.
     pub fn entry_mut_at(
         &mut self,
-        is_old: bool,
+        side: Side,
         index: usize,
         at: &EntryPtr<K, V, TYPE>,
     ) -> (&K, &mut V)
-        requires within { index < length (buckets_on self.old.arrays is_old) }
-        requires live_slot { IsTrue (is_live (slot_in (bucket_of self.old is_old index) at.now)) }
+        requires within { index < length (buckets_on self.old.arrays side) }
+        requires live_slot { IsTrue (is_live (slot_in (bucket_of self.old side index) at.now)) }
         ensures* writes_back { sem 𝓛
             (LendsSlot K.row V.row H.row L.row TYPE K.PartialEq H.KeyHash
             (record { KEEPS = L.KEEPS; listed = L.listed; IsTail = L.IsTail }) L.Default
-            self.entry is_old index at.now result.1) }
-        ensures pair { live_pair (slot_in (bucket_of self.old is_old index) at.now)
+            self.entry side index at.now result.1) }
+        ensures pair { live_pair (slot_in (bucket_of self.old side index) at.now)
             ≡ Some (result.0.now, result.1.now) }
         ensures map { (value : V) → ChangesValue (state_of TYPE self.old)
             (result.0.now, result.1.now) value
-            (state_of TYPE (with_value self.old is_old index at.now value)) }
+            (state_of TYPE (with_value self.old side index at.now value)) }
     {
-        self.arrays.room_of(is_old);
-        let bucket = self.arrays.bucket_of_mut(is_old, index);
+        self.arrays.room_of(side);
+        let bucket = self.arrays.bucket_of_mut(side, index);
         bucket.entry_mut(at)
     }
 }

@@ -1,6 +1,6 @@
 //! A bucket of a table, and the table, which it borrows for writing.
 //!
-//! Model: `LockedBucket`, the table, a side (`is_old`) and an index; `bucket_in` is its bucket.
+//! Model: `LockedBucket`, the table, a side and an index; `bucket_in` is its bucket.
 //! Invariant (`IsLocked`, the ghost field): a current bucket has all its sources killed; an old one
 //! isn't killed, and then every current bucket is free throughout.
 //!
@@ -22,6 +22,7 @@ ghost use Rattle.bucket_table.specs.Views.Sides.{buckets_on};
 ghost use Rattle.std.specs.Borrow.{sem};
 ghost use Rattle.std.specs.Prelude.{◌%◌, ◌≡◌, ◌≢◌, IfSome, IsTrue, OnOk, Some, if◌then◌else◌, is_ok, length};
 
+use crate::arrays::Side;
 use crate::hash_table::HashTable;
 use crate::key_hash::KeyHash;
 use bucket_slots::bucket::{Bucket, CACHE, EntryPtr, Generation, INDEX};
@@ -32,9 +33,9 @@ use bucket_slots::lru::LruList;
 #[derive(Drop)]
 pub struct LockedBucket<'a, K: Eq, V, H: KeyHash<K>, L: LruList, const TYPE: u8> {
     pub(crate) table: &'a mut HashTable<K, V, H, L, TYPE>,
-    pub(crate) is_old: bool,
+    pub(crate) side: Side,
     pub(crate) index: usize,
-    ghost locked: { IsLocked table.now.arrays is_old index },
+    ghost locked: { IsLocked table.now.arrays side index },
 }
 
 impl<'a, K: Eq, V, H: KeyHash<K>, L: LruList, const TYPE: u8> LockedBucket<'a, K, V, H, L, TYPE> {
@@ -54,10 +55,10 @@ impl<'a, K: Eq, V, H: KeyHash<K>, L: LruList, const TYPE: u8> LockedBucket<'a, K
     ///
     /// O(1). scc: `LockedBucket::bucket_array`.
     pub fn array(&self) -> &BucketArray<K, V, L, TYPE>
-        ensures { result.now ≡ buckets_on self.now.table.now.arrays self.now.is_old }
+        ensures { result.now ≡ buckets_on self.now.table.now.arrays self.now.side }
     {
         let table = &*self.table;
-        table.arrays.array_of(self.is_old)
+        table.arrays.array_of(self.side)
     }
 
     /// Returns the bucket.
@@ -67,7 +68,7 @@ impl<'a, K: Eq, V, H: KeyHash<K>, L: LruList, const TYPE: u8> LockedBucket<'a, K
         ensures { result.now ≡ bucket_in self.now }
     {
         let table = &*self.table;
-        table.arrays.bucket_of(self.is_old, self.index)
+        table.arrays.bucket_of(self.side, self.index)
     }
 
     /// Returns a pointer to the pair whose key is equal; the null pointer exactly where the table
@@ -78,7 +79,7 @@ impl<'a, K: Eq, V, H: KeyHash<K>, L: LruList, const TYPE: u8> LockedBucket<'a, K
     pub fn search(&self, key: &K, hash: u64) -> EntryPtr<K, V, TYPE>
         requires own_hash { hash ≡ H.hash_of self.now.table.now.hasher key.now }
         requires home { IsHome
-            (length (buckets_on self.now.table.now.arrays self.now.is_old)) hash self.now.index }
+            (length (buckets_on self.now.table.now.arrays self.now.side)) hash self.now.index }
         ensures found { result.pos ≢ 32 → (pair : K × V)
             × (live_pair
             (slot_in (bucket_in self.now) result)
@@ -89,10 +90,10 @@ impl<'a, K: Eq, V, H: KeyHash<K>, L: LruList, const TYPE: u8> LockedBucket<'a, K
         ensures null { result.pos ≡ 32 → result ≡ null_place }
     {
         let table = &*self.table;
-        table.arrays.room_of(self.is_old);
+        table.arrays.room_of(self.side);
         table
             .arrays
-            .bucket_of(self.is_old, self.index)
+            .bucket_of(self.side, self.index)
             .get_entry_ptr(key, hash)
     }
 
@@ -107,7 +108,7 @@ impl<'a, K: Eq, V, H: KeyHash<K>, L: LruList, const TYPE: u8> LockedBucket<'a, K
             ≡ Some (result.0.now, result.1.now) }
     {
         let table = &*self.table;
-        table.arrays.entry_of(self.is_old, self.index, at)
+        table.arrays.entry_of(self.side, self.index, at)
     }
 
     /// Lends the pair in a live slot, its value for writing: what is written stands in the table.
@@ -127,11 +128,11 @@ impl<'a, K: Eq, V, H: KeyHash<K>, L: LruList, const TYPE: u8> LockedBucket<'a, K
             (result.0.now, result.1.now) value (state_of TYPE
             (table_with_value self.old at.now value)) }
     {
-        let is_old = self.is_old;
+        let side = self.side;
         let index = self.index;
         let table = &mut *self.table;
-        table.arrays.room_of(is_old);
-        let bucket = table.arrays.bucket_of_mut(is_old, index);
+        table.arrays.room_of(side);
+        let bucket = table.arrays.bucket_of_mut(side, index);
         bucket.entry_mut(at)
     }
 
@@ -146,10 +147,10 @@ impl<'a, K: Eq, V, H: KeyHash<K>, L: LruList, const TYPE: u8> LockedBucket<'a, K
         ensures map { KeepsPairs (state_of TYPE self.old.table.now)
             (state_of TYPE self.new.table.now) }
     {
-        let is_old = self.is_old;
+        let side = self.side;
         let index = self.index;
         let table = &mut *self.table;
-        table.arrays.touch_slot(is_old, index, at);
+        table.arrays.touch_slot(side, index, at);
     }
 
     /// Takes out the pair touched longest ago, or where none is listed the one in slot 0, and
@@ -164,11 +165,11 @@ impl<'a, K: Eq, V, H: KeyHash<K>, L: LruList, const TYPE: u8> LockedBucket<'a, K
             (state_of TYPE self.new.table.now)) }
         ensures answer { Goes (bucket_in self.old) result }
     {
-        let is_old = self.is_old;
+        let side = self.side;
         let index = self.index;
         let table = &mut *self.table;
-        table.arrays.room_of(is_old);
-        table.arrays.bucket_of_mut(is_old, index).evict_lru_head()
+        table.arrays.room_of(side);
+        table.arrays.bucket_of_mut(side, index).evict_lru_head()
     }
 
     /// Marks the pair in a live slot of an index as removed; the table isn't shrunk.
@@ -185,10 +186,10 @@ impl<'a, K: Eq, V, H: KeyHash<K>, L: LruList, const TYPE: u8> LockedBucket<'a, K
         ensures pairs_ahead { pairs_ahead (bucket_in self.new) at.new
             ≡ pairs_ahead (bucket_in self.old) at.old }
     {
-        let is_old = self.is_old;
+        let side = self.side;
         let index = self.index;
         let table = &mut *self.table;
-        let _left = table.arrays.mark_slot(is_old, index, at, generation);
+        let _left = table.arrays.mark_slot(side, index, at, generation);
     }
 }
 
@@ -218,7 +219,7 @@ impl<'a, K: Eq + Drop, V: Drop, H: KeyHash<K>, L: LruList, const TYPE: u8> Locke
     ) -> Result<EntryPtr<K, V, TYPE>, (K, V)>
         requires own_hash { hash ≡ H.hash_of self.old.table.now.hasher pair.0 }
         requires home { IsHome
-            (length (buckets_on self.old.table.now.arrays self.old.is_old)) hash self.old.index }
+            (length (buckets_on self.old.table.now.arrays self.old.side)) hash self.old.index }
         requires key_absent { IsAbsent K.eq pair.0 (pairs_of self.old.table.now.arrays) }
         ensures changed { Changes self.old self.new (λ bucket. if is_ok result
             then slots_after_insertion TYPE (G.keeps generation.now) bucket pair (hash % 256)
@@ -228,13 +229,13 @@ impl<'a, K: Eq + Drop, V: Drop, H: KeyHash<K>, L: LruList, const TYPE: u8> Locke
         ensures answer { AnswersPlacing TYPE (G.keeps generation.now) pair (hash % 256)
             (bucket_in self.old) result (bucket_in self.new) }
     {
-        let is_old = self.is_old;
+        let side = self.side;
         let index = self.index;
         let table = &mut *self.table;
-        table.arrays.room_of(is_old);
+        table.arrays.room_of(side);
         table
             .arrays
-            .bucket_of_mut(is_old, index)
+            .bucket_of_mut(side, index)
             .insert(hash, pair, generation)
     }
 
@@ -252,9 +253,9 @@ impl<'a, K: Eq + Drop, V: Drop, H: KeyHash<K>, L: LruList, const TYPE: u8> Locke
         ensures pairs_ahead { pairs_ahead (bucket_in self.new) at.new
             ≡ pairs_ahead (bucket_in self.old) at.old }
     {
-        let is_old = self.is_old;
+        let side = self.side;
         let index = self.index;
         let table = &mut *self.table;
-        table.arrays.take_slot(is_old, index, at).0
+        table.arrays.take_slot(side, index, at).0
     }
 }

@@ -6,6 +6,7 @@ ghost use Rattle.bucket_table.specs.Views.Settings.{KeepsSettings};
 ghost use Rattle.bucket_table.specs.Views.Sides.{buckets_on, with_buckets};
 ghost use Rattle.bucket_table.specs.Walking.Retains.{AreLeftOf, RetainsAmong, RetainsEach, RetainsIn, gone_len};
 
+use crate::arrays::Side;
 use crate::hash_table::HashTable;
 use crate::key_hash::KeyHash;
 use crate::retain::retain_each_in;
@@ -48,15 +49,15 @@ impl<K: Eq + Drop, V: Drop, H: KeyHash<K>, L: LruList + Drop, const TYPE: u8> Ha
         ensures linked { AreLeftOf TYPE (G.epoch_of generation.now) self.old.arrays.linked
             self.new.arrays.linked }
     {
-        let current = self.retain_on(false, keep, generation);
-        let linked = self.retain_on(true, keep, generation);
+        let current = self.retain_on(Side::Current, keep, generation);
+        let linked = self.retain_on(Side::Old, keep, generation);
         current.saturating_add(linked)
     }
 
     /// Asks `keep` of each pair of one side. Returns how many are gone, saturating.
     fn retain_on<F: FnMut(&K, &mut V) -> bool, G: Generation>(
         &mut self,
-        is_old: bool,
+        side: Side,
         keep: &mut F,
         generation: &G,
     ) -> usize
@@ -64,18 +65,18 @@ impl<K: Eq + Drop, V: Drop, H: KeyHash<K>, L: LruList + Drop, const TYPE: u8> Ha
         ensures again { F.IsAlwaysCallable keep.new }
         ensures retained { RetainsAmong
             (λ state own before answer after last. F.step state own before answer after last)
-            (G.epoch_of generation.now) keep.old (buckets_on self.old.arrays is_old)
-            (buckets_on self.new.arrays is_old) result keep.new }
+            (G.epoch_of generation.now) keep.old (buckets_on self.old.arrays side)
+            (buckets_on self.new.arrays side) result keep.new }
         ensures left { AreLeftOf TYPE (G.epoch_of generation.now)
-            (buckets_on self.old.arrays is_old) (buckets_on self.new.arrays is_old) }
+            (buckets_on self.old.arrays side) (buckets_on self.new.arrays side) }
         ensures hasher { self.new.hasher ≡ self.old.hasher }
         ensures others { self.new.arrays
-            ≡ with_buckets self.old.arrays is_old (buckets_on self.new.arrays is_old) }
+            ≡ with_buckets self.old.arrays side (buckets_on self.new.arrays side) }
     {
         let mut count: usize = 0;
         let mut index = 0;
-        while index < self.arrays.len_on(is_old) {
-            let gone = self.retain_at_index(is_old, index, keep, generation);
+        while index < self.arrays.len_on(side) {
+            let gone = self.retain_at_index(side, index, keep, generation);
             count = count.saturating_add(gone);
             index += 1;
         }
@@ -85,26 +86,26 @@ impl<K: Eq + Drop, V: Drop, H: KeyHash<K>, L: LruList + Drop, const TYPE: u8> Ha
     /// Asks `keep` of each pair of a bucket of one side. Returns how many are gone.
     fn retain_at_index<F: FnMut(&K, &mut V) -> bool, G: Generation>(
         &mut self,
-        is_old: bool,
+        side: Side,
         index: usize,
         keep: &mut F,
         generation: &G,
     ) -> usize
-        requires within { index < length (buckets_on self.old.arrays is_old) }
+        requires within { index < length (buckets_on self.old.arrays side) }
         requires callable { F.IsAlwaysCallable keep.old }
         ensures again { F.IsAlwaysCallable keep.new }
         ensures retained { RetainsIn
             (λ state own before answer after last. F.step state own before answer after last)
-            (G.epoch_of generation.now) keep.old self.old.arrays is_old index result self.new.arrays
+            (G.epoch_of generation.now) keep.old self.old.arrays side index result self.new.arrays
             keep.new }
         ensures left { AreLeftOf TYPE (G.epoch_of generation.now)
-            (buckets_on self.old.arrays is_old) (buckets_on self.new.arrays is_old) }
+            (buckets_on self.old.arrays side) (buckets_on self.new.arrays side) }
         ensures hasher { self.new.hasher ≡ self.old.hasher }
     {
-        self.arrays.room_of(is_old);
-        if self.arrays.bucket_of(is_old, index).len() == 0 {
+        self.arrays.room_of(side);
+        if self.arrays.bucket_of(side, index).len() == 0 {
             return 0;
         }
-        retain_each_in(self.arrays.bucket_of_mut(is_old, index), keep, generation)
+        retain_each_in(self.arrays.bucket_of_mut(side, index), keep, generation)
     }
 }

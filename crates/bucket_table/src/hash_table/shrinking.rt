@@ -40,7 +40,7 @@ impl<'a, K: Eq + Drop, V: Drop, H: KeyHash<K>, L: LruList + Drop, const TYPE: u8
     {
         let LockedBucket {
             table,
-            is_old: _,
+            side: _,
             index,
         } = self;
         table.arrays.try_shrink(index);
@@ -66,12 +66,8 @@ impl<'a, K: Eq + Drop, V: Drop, H: KeyHash<K>, L: LruList + Drop, const TYPE: u8
         ensures pair { live_pair (slot_in (bucket_in self.entry) at.old) ≡ Some result.0 }
         ensures place { at.new ≡ place_after (bucket_in self.entry) at.old }
     {
-        let LockedBucket {
-            table,
-            is_old,
-            index,
-        } = self;
-        let pair = table.arrays.take_at(is_old, index, at);
+        let LockedBucket { table, side, index } = self;
+        let pair = table.arrays.take_at(side, index, at);
         (pair, table)
     }
 
@@ -94,12 +90,8 @@ impl<'a, K: Eq + Drop, V: Drop, H: KeyHash<K>, L: LruList + Drop, const TYPE: u8
             × TakesPair (state_of TYPE self.entry.table.now) pair (state_of TYPE result.now) }
         ensures pointer { at.new ≡ at.old }
     {
-        let LockedBucket {
-            table,
-            is_old,
-            index,
-        } = self;
-        table.arrays.mark_at(is_old, index, at, generation);
+        let LockedBucket { table, side, index } = self;
+        table.arrays.mark_at(side, index, at, generation);
         table
     }
 }

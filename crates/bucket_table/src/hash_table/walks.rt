@@ -1,5 +1,5 @@
 //! Walks over a table's current buckets.
-ghost use Rattle.std.specs.Prelude.{◌≡◌, ◌≢◌, ◌<◌, ◌+◌, false, length, IsOk, OnErr, OnOk};
+ghost use Rattle.std.specs.Prelude.{◌≡◌, ◌≢◌, ◌<◌, ◌+◌, length, IsOk, OnErr, OnOk};
 ghost use Rattle.std.specs.Int.{IsPowerOfTwo};
 ghost use Rattle.bucket_slots.specs.ArrayRoom.{BucketFits};
 ghost use Rattle.bucket_slots.specs.BucketView.{BucketView};
@@ -14,7 +14,9 @@ ghost use Rattle.bucket_table.specs.Views.Sides.{arrays_with, bucket_on};
 ghost use Rattle.bucket_table.specs.Rehash.Units.{WantsMemory, WorksUnits};
 ghost use Rattle.bucket_table.specs.Walking.Visits.{reading};
 ghost use Rattle.bucket_table.specs.Walking.Walks.{BeginsAt, KeepsBuckets, WalksBy};
+ghost use Rattle.bucket_table.specs.declared.arrays.side.Side.TheVariants.{Current};
 
+use crate::arrays::Side;
 use crate::capacity::from_index_to_range;
 use crate::hash_table::HashTable;
 use crate::key_hash::KeyHash;
@@ -110,8 +112,8 @@ impl<K: Eq + Drop, V: Drop, H: KeyHash<K>, L: LruList + Drop, const TYPE: u8> Ha
                 return Err(AllocError);
             };
             self.sound();
-            self.arrays.room_of(false);
-            more = reader.read(self.arrays.bucket_of(false, index));
+            self.arrays.room_of(Side::Current);
+            more = reader.read(self.arrays.bucket_of(Side::Current, index));
             index += 1;
         }
         Ok(())
@@ -126,7 +128,7 @@ impl<K: Eq + Drop, V: Drop, H: KeyHash<K>, L: LruList + Drop, const TYPE: u8> Ha
         ensures { BucketFits K.row V.row L.row TYPE.row
             (record { KEEPS = L.KEEPS; listed = L.listed; IsTail = L.IsTail }) L.Default }
     {
-        self.arrays.room_of(false);
+        self.arrays.room_of(Side::Current);
     }
 
     /// Works a unit, and moves the sources of a current bucket.
@@ -155,15 +157,15 @@ impl<K: Eq + Drop, V: Drop, H: KeyHash<K>, L: LruList + Drop, const TYPE: u8> Ha
         visitor: &mut F,
         flag: &mut bool,
     ) -> bool
-        requires locked { IsLocked self.old.arrays false index }
+        requires locked { IsLocked self.old.arrays Current index }
         requires may { F.may_visit visitor.old }
         requires owes { KeepsBuckets F.visits }
         ensures again { F.may_visit visitor.new }
         ensures hasher { self.new.hasher ≡ self.old.hasher }
         ensures visited { (left : BucketView K V)
-            × F.visits visitor.old (bucket_on self.old.arrays false index) flag.old result left
+            × F.visits visitor.old (bucket_on self.old.arrays Current index) flag.old result left
             flag.new visitor.new
-            × (self.new.arrays ≡ arrays_with self.old.arrays false index left) }
+            × (self.new.arrays ≡ arrays_with self.old.arrays Current index left) }
     {
         self.arrays.visit_at(index, visitor, flag)
     }

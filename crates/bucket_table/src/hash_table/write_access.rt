@@ -6,7 +6,7 @@
 //!
 //! Ports `writer_sync`, `try_reserve_bucket`, `optional_writer_sync` and `try_optional_writer` of
 //! scc's `src/hash_table.rs`.
-ghost use Rattle.std.specs.Prelude.{◌≡◌, ◌<◌, [], false, Err, IfErr, IfOk, IfSome, IfNone, IsOk, OnOk, length};
+ghost use Rattle.std.specs.Prelude.{◌≡◌, ◌<◌, [], Err, IfErr, IfOk, IfSome, IfNone, IsOk, OnOk, length};
 ghost use Rattle.std.specs.Borrow.{RestsIfErr, RestsIfNone, sem};
 ghost use Rattle.bucket_slots.specs.Homes.{IsHome};
 ghost use Rattle.bucket_table.specs.Views.ArraysView.{pairs_of};
@@ -17,7 +17,9 @@ ghost use Rattle.bucket_table.specs.Views.TableRow.{table_row};
 ghost use Rattle.bucket_table.specs.Views.Locking.{IsLocked};
 ghost use Rattle.bucket_table.specs.Map.Preparing.{HomeWantsMemory, IsMissing, IsPrepared, IsReady};
 ghost use Rattle.bucket_table.specs.Views.Sides.{buckets_on};
+ghost use Rattle.bucket_table.specs.declared.arrays.side.Side.TheVariants.{Current};
 
+use crate::arrays::Side;
 use crate::hash_table::{HashTable, LockedBucket, Missing};
 use crate::key_hash::KeyHash;
 use bucket_slots::bucket::AllocError;
@@ -53,8 +55,7 @@ impl<K: Eq + Drop, V: Drop, H: KeyHash<K>, L: LruList + Drop, const TYPE: u8> Ha
         is_ready
     }
 
-    /// Finds the bucket for a writer of a hash, and returns whether it is one of the old array, and
-    /// its index.
+    /// Finds the bucket for a writer of a hash, and returns its side and its index.
     ///
     /// Without an array it makes the first one; beside an old one it works a unit and moves the
     /// sources of the hash's home. Then, where the home is nearly full and many slots near it are
@@ -67,26 +68,26 @@ impl<K: Eq + Drop, V: Drop, H: KeyHash<K>, L: LruList + Drop, const TYPE: u8> Ha
     ///
     /// O(slots of a unit, of the sources and of their targets; buckets that a resize makes). Own.
     #[inline(always)]
-    pub fn find(&mut self, hash: u64) -> Result<(bool, usize), AllocError>
+    pub fn find(&mut self, hash: u64) -> Result<(Side, usize), AllocError>
         ensures { Finds TYPE hash self.old result self.new }
     {
         self.arrays.find(&self.hasher, hash)
     }
 
-    /// Locks a bucket of the old or of the current array.
+    /// Locks a bucket of one side.
     ///
     /// O(1). Own.
     #[inline(always)]
-    pub fn lock(&mut self, is_old: bool, index: usize) -> LockedBucket<'_, K, V, H, L, TYPE>
-        requires { IsLocked self.old.arrays is_old index }
+    pub fn lock(&mut self, side: Side, index: usize) -> LockedBucket<'_, K, V, H, L, TYPE>
+        requires { IsLocked self.old.arrays side index }
         ensures same_table { result.table.ghost_name ≡ self.entry.ghost_name }
         ensures unchanged { result.table.now ≡ self.old }
-        ensures side { result.is_old ≡ is_old }
+        ensures side { result.side ≡ side }
         ensures index { result.index ≡ index }
     {
         LockedBucket {
             table: self,
-            is_old,
+            side,
             index,
         }
     }
@@ -98,14 +99,14 @@ impl<K: Eq + Drop, V: Drop, H: KeyHash<K>, L: LruList + Drop, const TYPE: u8> Ha
         requires ready { IsReady self.old.arrays hash }
         ensures same_table { result.table.ghost_name ≡ self.entry.ghost_name }
         ensures unchanged { result.table.now ≡ self.old }
-        ensures side { result.is_old ≡ false }
+        ensures side { result.side ≡ Current }
         ensures home { IsHome
             (length result.table.now.arrays.current) hash result.index }
     {
         let index = self.arrays.home(hash);
         LockedBucket {
             table: self,
-            is_old: false,
+            side: Side::Current,
             index,
         }
     }
@@ -131,12 +132,12 @@ impl<K: Eq + Drop, V: Drop, H: KeyHash<K>, L: LruList + Drop, const TYPE: u8> Ha
         ensures same_table { IfOk result (λ locked. locked.table.ghost_name
             ≡ self.entry.ghost_name) }
         ensures found { IfOk result (λ locked.
-            FindsBucket TYPE hash self.old locked.is_old locked.index locked.table.now) }
+            FindsBucket TYPE hash self.old locked.side locked.index locked.table.now) }
         ensures succeeds { length self.old.arrays.linked ≡ 0 → 0 < length self.old.arrays.current
             → IsOk result }
     {
         match self.find(hash) {
-            Ok((is_old, index)) => Ok(self.lock(is_old, index)),
+            Ok((side, index)) => Ok(self.lock(side, index)),
             Err(refused) => Err(refused),
         }
     }
@@ -160,7 +161,7 @@ impl<K: Eq + Drop, V: Drop, H: KeyHash<K>, L: LruList + Drop, const TYPE: u8> Ha
         ensures same_table { IfOk result (λ locked. locked.table.ghost_name
             ≡ self.entry.ghost_name) }
         ensures found { IfOk result (λ locked.
-            FindsBucket TYPE hash self.old locked.is_old locked.index locked.table.now) }
+            FindsBucket TYPE hash self.old locked.side locked.index locked.table.now) }
         ensures succeeds { length self.old.arrays.linked ≡ 0 → 0 < length self.old.arrays.current
             → IsOk result }
     {
@@ -189,10 +190,10 @@ impl<K: Eq + Drop, V: Drop, H: KeyHash<K>, L: LruList + Drop, const TYPE: u8> Ha
         ensures same_table { IfOk result (λ locked. locked.table.ghost_name
             ≡ self.entry.ghost_name) }
         ensures prepared { IfOk result (λ locked. IsPrepared TYPE hash self.old locked.table.now) }
-        ensures side { IfOk result (λ locked. locked.is_old ≡ false) }
+        ensures side { IfOk result (λ locked. locked.side ≡ Current) }
         ensures missing { IfErr result (λ missing. IsMissing missing self.old.arrays) }
         ensures home { IfOk result (λ locked.
-            IsHome (length (buckets_on locked.table.now.arrays locked.is_old)) hash locked.index) }
+            IsHome (length (buckets_on locked.table.now.arrays locked.side)) hash locked.index) }
         ensures empty { result ≡ Err Missing.Nothing → pairs_of self.old.arrays ≡ [] }
     {
         match self.fetch_home(hash) {
@@ -216,13 +217,13 @@ impl<K: Eq + Drop, V: Drop, H: KeyHash<K>, L: LruList + Drop, const TYPE: u8> Ha
         ensures same_table { IfSome result (λ locked. locked.table.ghost_name
             ≡ self.entry.ghost_name) }
         ensures unchanged { IfSome result (λ locked. locked.table.now ≡ self.old) }
-        ensures side { IfSome result (λ locked. locked.is_old ≡ false) }
+        ensures side { IfSome result (λ locked. locked.side ≡ Current) }
         ensures free { IfSome result (λ locked.
             MayLockAtOnce CHECK_SIZE self.old.arrays hash locked.index) }
         ensures none { IfNone result (MayNotLockAtOnce CHECK_SIZE self.old.arrays hash) }
     {
         match self.arrays.free_home(hash, CHECK_SIZE) {
-            Some(index) => Some(self.lock(false, index)),
+            Some(index) => Some(self.lock(Side::Current, index)),
             None => None,
         }
     }

@@ -12,6 +12,7 @@ ghost use Rattle.bucket_table.specs.Map.Putting.{slots_left, slots_put};
 ghost use Rattle.bucket_table.specs.Views.Locking.{IsLocked};
 ghost use Rattle.bucket_table.specs.Views.Sides.{bucket_of, buckets_on, with_bucket};
 
+use crate::arrays::Side;
 use crate::hash_table::{HashTable, Missing, NotInserted};
 use crate::key_hash::KeyHash;
 use bucket_slots::bucket::{AllocError, Bucket, CACHE};
@@ -72,33 +73,33 @@ impl<K: Eq + Drop, V: Drop, H: KeyHash<K>, L: LruList + Drop, const TYPE: u8> Ha
             self.new) }
     {
         let hash = self.hash(&key);
-        let Ok((is_old, index)) = self.find(hash) else {
+        let Ok((side, index)) = self.find(hash) else {
             return Err(self.not_inserted(hash, key, value));
         };
-        self.put_at(is_old, index, hash, key, value)
+        self.put_at(side, index, hash, key, value)
     }
 
     /// Puts a pair into a locked bucket.
     fn put_at(
         &mut self,
-        is_old: bool,
+        side: Side,
         index: usize,
         hash: u64,
         key: K,
         value: V,
     ) -> Result<Option<(K, V)>, NotInserted<K, V>>
         requires cache { TYPE ≡ CACHE }
-        requires locked { IsLocked self.old.arrays is_old index }
+        requires locked { IsLocked self.old.arrays side index }
         requires own_hash { hash ≡ H.hash_of self.old.hasher key }
-        requires home { IsHome (length (buckets_on self.old.arrays is_old)) hash index }
+        requires home { IsHome (length (buckets_on self.old.arrays side)) hash index }
         ensures map { Puts K.eq key value (state_of TYPE self.old) result (state_of TYPE self.new) }
         ensures bucket { (left : BucketView K V)
-            × PutsIn K.eq L.KEEPS key value (hash % 256) (bucket_of self.old is_old index) result
+            × PutsIn K.eq L.KEEPS key value (hash % 256) (bucket_of self.old side index) result
             left
-            × (self.new ≡ with_bucket self.old is_old index left) }
+            × (self.new ≡ with_bucket self.old side index left) }
     {
-        self.arrays.room_of(is_old);
-        let bucket = self.arrays.bucket_of_mut(is_old, index);
+        self.arrays.room_of(side);
+        let bucket = self.arrays.bucket_of_mut(side, index);
         put_in(bucket, hash, key, value)
     }
 }

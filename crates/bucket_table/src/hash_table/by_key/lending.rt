@@ -38,7 +38,7 @@ impl<K: Eq + Drop, V: Drop, H: KeyHash<K>, L: LruList + Drop, const TYPE: u8> Ha
         ensures absent { IfNone result (IsAbsent K.eq key.now (pairs_of self.old.arrays)) }
     {
         match self.fetch_spot(key) {
-            Some(spot) => Some(self.entry_mut_at(spot.is_old, spot.index, &spot.at).1),
+            Some(spot) => Some(self.entry_mut_at(spot.side, spot.index, &spot.at).1),
             None => None,
         }
     }

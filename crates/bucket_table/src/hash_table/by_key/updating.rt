@@ -13,7 +13,7 @@ ghost use Rattle.bucket_table.specs.Map.MapState.{ChangesValue, state_of};
 ghost use Rattle.bucket_table.specs.Views.Locking.{IsLocked};
 ghost use Rattle.bucket_table.specs.Views.Sides.{bucket_of, buckets_on, with_bucket};
 
-use crate::arrays::Spot;
+use crate::arrays::{Side, Spot};
 use crate::hash_table::HashTable;
 use crate::key_hash::KeyHash;
 use bucket_slots::bucket::{Bucket, Generation};
@@ -76,7 +76,7 @@ impl<K: Eq + Drop, V: Drop, H: KeyHash<K>, L: LruList + Drop, const TYPE: u8> Ha
     {
         let hash = self.hash(&key);
         match self.find(hash) {
-            Ok((is_old, index)) => self.upsert_at(is_old, index, hash, key, value, generation),
+            Ok((side, index)) => self.upsert_at(side, index, hash, key, value, generation),
             Err(_) => match self.spot_of(&key, hash) {
                 Some(spot) => Ok(Some(self.swap_at(&spot, value))),
                 None => Err((key, value)),
@@ -88,49 +88,49 @@ impl<K: Eq + Drop, V: Drop, H: KeyHash<K>, L: LruList + Drop, const TYPE: u8> Ha
     #[inline(always)]
     fn upsert_at<G: Generation>(
         &mut self,
-        is_old: bool,
+        side: Side,
         index: usize,
         hash: u64,
         key: K,
         value: V,
         generation: &G,
     ) -> Result<Option<V>, (K, V)>
-        requires locked { IsLocked self.old.arrays is_old index }
+        requires locked { IsLocked self.old.arrays side index }
         requires own_hash { hash ≡ H.hash_of self.old.hasher key }
-        requires home { IsHome (length (buckets_on self.old.arrays is_old)) hash index }
+        requires home { IsHome (length (buckets_on self.old.arrays side)) hash index }
         ensures map { Upserts K.eq key value (state_of TYPE self.old) result
             (state_of TYPE self.new) }
         ensures bucket { (left : BucketView K V)
             × UpsertsIn K.eq key value (hash % 256) TYPE (G.keeps generation.now)
-            (bucket_of self.old is_old index) result left
-            × (self.new ≡ with_bucket self.old is_old index left) }
+            (bucket_of self.old side index) result left
+            × (self.new ≡ with_bucket self.old side index left) }
     {
-        self.arrays.room_of(is_old);
-        let bucket = self.arrays.bucket_of_mut(is_old, index);
+        self.arrays.room_of(side);
+        let bucket = self.arrays.bucket_of_mut(side, index);
         upsert_in(bucket, hash, key, value, generation)
     }
 
     /// Hands the pair in a live slot to a closure, its value for writing.
     #[inline(always)]
     fn update_at<R, F: FnOnce(&K, &mut V) -> R>(&mut self, spot: &Spot<K, V, TYPE>, change: F) -> R
-        requires within { spot.now.index < length (buckets_on self.old.arrays spot.now.is_old) }
+        requires within { spot.now.index < length (buckets_on self.old.arrays spot.now.side) }
         requires live_slot { IsTrue (is_live
-            (slot_in (bucket_of self.old spot.now.is_old spot.now.index) spot.now.at)) }
+            (slot_in (bucket_of self.old spot.now.side spot.now.index) spot.now.at)) }
         requires callable { (own : Bor K) (value : MutBor V) → F.pre change own value }
         ensures map { (own : Bor K) × (before after : MutBor V)
             × F.post change own before result after
-            × (live_pair (slot_in (bucket_of self.old spot.now.is_old spot.now.index) spot.now.at)
+            × (live_pair (slot_in (bucket_of self.old spot.now.side spot.now.index) spot.now.at)
             ≡ Some (own.now, before.now))
             × ChangesValue (state_of TYPE self.old) (own.now, before.now) after.now
             (state_of TYPE self.new) }
-        ensures table { (value : V) × (self.new ≡ with_bucket self.old spot.now.is_old
-            spot.now.index (bucket_with_value (bucket_of self.old spot.now.is_old spot.now.index)
+        ensures table { (value : V) × (self.new ≡ with_bucket self.old spot.now.side
+            spot.now.index (bucket_with_value (bucket_of self.old spot.now.side spot.now.index)
             spot.now.at value)) }
     {
-        let is_old = spot.is_old;
+        let side = spot.side;
         let index = spot.index;
-        self.arrays.room_of(is_old);
-        let bucket = self.arrays.bucket_of_mut(is_old, index);
+        self.arrays.room_of(side);
+        let bucket = self.arrays.bucket_of_mut(side, index);
         let (key, value) = bucket.entry_mut(&spot.at);
         change(key, value)
     }

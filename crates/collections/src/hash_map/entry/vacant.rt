@@ -66,18 +66,18 @@ impl<K: Eq + Drop, V: Drop, H: KeyHash<K>> HashMap<K, V, H> {
         self.room.learn();
         self.table.sound();
         let hash = self.table.hash(&key);
-        let Ok((is_old, index)) = self.table.find(hash) else {
+        let Ok((side, index)) = self.table.find(hash) else {
             return Err((key, value));
         };
         let at = match self
             .table
-            .lock(is_old, index)
+            .lock(side, index)
             .insert(hash, (key, value), &())
         {
             Ok(at) => at,
             Err(pair) => return Err(pair),
         };
         self.table.sound();
-        Ok(self.table.entry_mut_at(is_old, index, &at).1)
+        Ok(self.table.entry_mut_at(side, index, &at).1)
     }
 }

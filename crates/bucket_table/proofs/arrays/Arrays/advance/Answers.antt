@@ -1,4 +1,4 @@
-use Rattle.bucket_table.proofs.Words.{Err, Ok, false, refl}
+use Rattle.bucket_table.proofs.Words.{Current, Err, Ok, refl}
 use Rattle.bucket_table.proofs.Walking.CursorSteps.{moves_in, none_ahead, some_ahead}
 use Rattle.bucket_table.proofs.Walking.PassingUnits.{departs_viewed}
 use Rattle.bucket_table.proofs.arrays.Arrays.advance.Goals as goal
@@ -27,10 +27,10 @@ returns-then-find_next-clause-departs g c = λ none. absurd
 
 pub returns-in-Ok-clause-departs : goal.returns-in-Ok-clause-departs
 returns-in-Ok-clause-departs g c = λ none.
-    departs_viewed (λ next. (false, next)) (λ to. to.1) (Ok c.in-Ok.next) c.args.is_old c.args.index c.args.self.now
+    departs_viewed (λ next. (Current, next)) (λ to. to.1) (Ok c.in-Ok.next) c.args.side c.args.index c.args.self.now
     c.first_past_bucket.new.self c.in-Ok.ensures.departs
 
 pub returns-in-Err-clause-departs : goal.returns-in-Err-clause-departs
 returns-in-Err-clause-departs g c = λ none.
-    departs_viewed (λ next. (false, next)) (λ to. to.1) (Err c.in-Err.missing) c.args.is_old c.args.index c.args.self.now
+    departs_viewed (λ next. (Current, next)) (λ to. to.1) (Err c.in-Err.missing) c.args.side c.args.index c.args.self.now
     c.first_past_bucket.new.self c.in-Err.ensures.departs

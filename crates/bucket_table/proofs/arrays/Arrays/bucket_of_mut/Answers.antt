@@ -1,39 +1,36 @@
-use Rattle.bucket_table.proofs.Words.{buckets_on}
-use Rattle.std.proofs.Common.{ap, refl, sym, ◌∙◌}
+use Rattle.std.proofs.Common.{ap, refl, ◌∙◌}
 use Rattle.bucket_slots.specs.ArrayView.{bucket_at}
 use Rattle.bucket_table.proofs.Views.Lent.{current_lent, current_seen, linked_lent, linked_seen}
 use Rattle.bucket_table.proofs.arrays.Arrays.bucket_of_mut.Goals as goal
 
 pub invariant_of-self-lent : goal.invariant_of-self-lent
-invariant_of-self-lent g c = λ bucket. linked_lent _ _ _ c.self.inside.linked _ c.args.index bucket c.self.invariant
+invariant_of-self-lent g c = λ bucket. current_lent _ _ _ c.self.inside.current _ c.args.index bucket c.self.invariant
 
-pub invariant_of-self-lent-else-is_old : goal.invariant_of-self-lent-else-is_old
-invariant_of-self-lent-else-is_old g c = λ bucket. current_lent _ _ _ c.self.inside.current _ c.args.index bucket c.self.invariant
+pub invariant_of-self-lent-in-Old : goal.invariant_of-self-lent-in-Old
+invariant_of-self-lent-in-Old g c = λ bucket. linked_lent _ _ _ c.self.inside.linked _ c.args.index bucket c.self.invariant
 
-pub returns-then-is_old : goal.returns-then-is_old
-returns-then-is_old g c = (
+pub returns-in-Current : goal.returns-in-Current
+returns-in-Current g c = (
   (
     refl,
-    λ bucket. linked_seen _ _ _ c.self.inside.linked _ c.args.self.now c.args.is_old c.args.index bucket c.if-is_old.true
+    λ bucket. current_seen _ _ _ c.self.inside.current _ c.args.self.now c.args.side c.args.index bucket c.in-Current.is
         c.self.view_is,
   ),
   record {
     writes_back = tt;
-    bucket = c.bucket_in.ensures.bucket ∙ ap (λ a. bucket_at a.linked c.args.index) c.self.view_is ∙ ap
-        (λ b. bucket_at (buckets_on c.args.self.now b) c.args.index) (sym c.if-is_old.true);
+    bucket = rw c.in-Current.is (c.bucket_in.ensures.bucket ∙ ap (λ a. bucket_at a.current c.args.index) c.self.view_is);
   },
 )
 
-pub returns-else-is_old : goal.returns-else-is_old
-returns-else-is_old g c = (
+pub returns-in-Old : goal.returns-in-Old
+returns-in-Old g c = (
   (
     refl,
-    λ bucket. current_seen _ _ _ c.self.inside.current _ c.args.self.now c.args.is_old c.args.index bucket c.if-is_old.false
+    λ bucket. linked_seen _ _ _ c.self.inside.linked _ c.args.self.now c.args.side c.args.index bucket c.in-Old.is
         c.self.view_is,
   ),
   record {
     writes_back = tt;
-    bucket = c.bucket_in-else-is_old.ensures.bucket ∙ ap (λ a. bucket_at a.current c.args.index) c.self.view_is ∙
-        ap (λ b. bucket_at (buckets_on c.args.self.now b) c.args.index) (sym c.if-is_old.false);
+    bucket = rw c.in-Old.is (c.bucket_in-in-Old.ensures.bucket ∙ ap (λ a. bucket_at a.linked c.args.index) c.self.view_is);
   },
 )

@@ -5,23 +5,23 @@ use Rattle.bucket_table.proofs.Views.Keeping.{keeps_both}
 use Rattle.bucket_table.proofs.arrays.Arrays.find.Goals as goal
 
 pub returns-clause-placed : goal.returns-clause-placed
-returns-clause-placed g c = c.grow_at-is_old.ensures.placed (g.H.KeyHash.hash_of c.args.hasher.now) c.fetch_or_make.ensures.placed
+returns-clause-placed g c = c.grow_at-side.ensures.placed (g.H.KeyHash.hash_of c.args.hasher.now) c.fetch_or_make.ensures.placed
 
 pub returns-clause-kept : goal.returns-clause-kept
-returns-clause-kept g c = keeps_both c.args.self.now c.fetch_or_make.new.self c.grow_at-is_old.new.self c.fetch_or_make.ensures.kept
-    c.grow_at-is_old.ensures.kept
+returns-clause-kept g c = keeps_both c.args.self.now c.fetch_or_make.new.self c.grow_at-side.new.self c.fetch_or_make.ensures.kept
+    c.grow_at-side.ensures.kept
 
 pub returns-clause-locked : goal.returns-clause-locked
 returns-clause-locked g c =
-    locked_grown c.grow_at-is_old.result c.home-index.result c.fetch_or_make.new.self c.grow_at-is_old.new.self
+    locked_grown c.grow_at-side.result c.home-index.result c.fetch_or_make.new.self c.grow_at-side.new.self
     (g.H.KeyHash.hash_of c.args.hasher.now)
-    c.grow_at-is_old.ensures.grown c.fetch_or_make.ensures.placed (locked_ready c.args.hash c.home-index.result c.fetch_or_make.new.self
+    c.grow_at-side.ensures.grown c.fetch_or_make.ensures.placed (locked_ready c.args.hash c.home-index.result c.fetch_or_make.new.self
     c.in-Ok.ensures.ready c.home-index.ensures)
 
 pub returns-clause-home : goal.returns-clause-home
 returns-clause-home g c =
-    home_grown c.grow_at-is_old.result c.args.hash c.home-index.result c.fetch_or_make.new.self c.grow_at-is_old.new.self
-    c.grow_at-is_old.ensures.grown c.home-index.ensures
+    home_grown c.grow_at-side.result c.args.hash c.home-index.result c.fetch_or_make.new.self c.grow_at-side.new.self
+    c.grow_at-side.ensures.grown c.home-index.ensures
 
 pub returns-clause-finds : goal.returns-clause-finds
 unfolding ReadiesThenGrows
@@ -31,8 +31,8 @@ returns-clause-finds g c =
     let killed = c.in-Ok.ensures.ready.killed c.home-index.result c.home-index.ensures in (
       c.fetch_or_make.new.self,
       record { first = c.in-Ok.ensures.made; beside = e.beside; units = one; killed = killed },
-      c.grow_at-is_old.ensures.asked,
-      c.grow_at-is_old.ensures.grown,
+      c.grow_at-side.ensures.asked,
+      c.grow_at-side.ensures.grown,
     )
 
 pub returns-in_default-clause-refused : goal.returns-in_default-clause-refused

@@ -7,9 +7,9 @@ returns-clause-arrays g c = rw (c.mark_removed.ensures.slots, c.bucket_of_mut-bu
 
 pub returns-clause-pairs_ahead : goal.returns-clause-pairs_ahead
 returns-clause-pairs_ahead g c =
-    rw (put_there c.args.self.now c.args.is_old c.args.index c.mark_removed.new.self c.requires.within)
+    rw (put_there c.args.self.now c.args.side c.args.index c.mark_removed.new.self c.requires.within)
     (c.mark_removed.ensures.pairs_ahead ∙ ap (λ b. pairs_ahead b c.args.at.now) c.bucket_of_mut-bucket.ensures.bucket)
 
 pub returns-clause-left : goal.returns-clause-left
 returns-clause-left g c =
-    rw (put_there c.args.self.now c.args.is_old c.args.index c.mark_removed.new.self c.requires.within) c.len.ensures
+    rw (put_there c.args.self.now c.args.side c.args.index c.mark_removed.new.self c.requires.within) c.len.ensures

@@ -13,7 +13,7 @@ pub invariant_of-self-lent : goal.invariant_of-self-lent
 invariant_of-self-lent g c value =
     let within = rw (← c.self.view_is) at c.requires.within in
     let here = rw c.bucket_of_mut-bucket.ensures.bucket at c.entry_mut.ensures.pair in
-    rw c.bucket_of_mut-bucket.ensures.bucket (writes g.met.K.Eq.laws g.H.KeyHash.hash_of g.row.TYPE c.args.is_old c.args.index
+    rw c.bucket_of_mut-bucket.ensures.bucket (writes g.met.K.Eq.laws g.H.KeyHash.hash_of g.row.TYPE c.args.side c.args.index
     c.self.invariant within c.args.at.now _ here value).one_map
 
 pub returns : goal.returns
@@ -24,7 +24,7 @@ returns g c =
       record {
         writes_back = tt;
         pair = rw (← c.self.view_is) here;
-        map = λ value. rw (← c.self.view_is) (writes g.met.K.Eq.laws g.H.KeyHash.hash_of g.row.TYPE c.args.is_old c.args.index
+        map = λ value. rw (← c.self.view_is) (writes g.met.K.Eq.laws g.H.KeyHash.hash_of g.row.TYPE c.args.side c.args.index
             c.self.invariant within c.args.at.now _ here value).map;
       },
     )

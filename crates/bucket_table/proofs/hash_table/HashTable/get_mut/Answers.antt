@@ -12,7 +12,7 @@ returns-in-Some g c =
     let stands = c.in-Some.ensures.found in (
       (
         refl,
-        λ value. lent_writes g.K.PartialEq.eq c.args.key.now g.row.TYPE _ c.args.self.now between prepared o.is_old o.index o.at stands
+        λ value. lent_writes g.K.PartialEq.eq c.args.key.now g.row.TYPE _ c.args.self.now between prepared o.side o.index o.at stands
             own _ e.pair value (e.map value),
         tt,
       ),
@@ -20,7 +20,7 @@ returns-in-Some g c =
         writes_back = tt;
         found = (
           own,
-          lent_there g.K.PartialEq.eq c.args.key.now g.row.TYPE _ c.args.self.now between prepared o.is_old o.index o.at stands own _
+          lent_there g.K.PartialEq.eq c.args.key.now g.row.TYPE _ c.args.self.now between prepared o.side o.index o.at stands own _
               e.pair,
         );
         absent = tt;

@@ -6,7 +6,7 @@ use Rattle.bucket_table.proofs.hash_table.HashTable.insert_at.Goals as goal
 pub invariant_of-self : goal.invariant_of-self
 invariant_of-self g c =
     let e = rw c.bucket_of_mut-bucket.ensures.bucket at c.insert_absent.ensures in
-    let x = inserted_where_absent g.met.K.Eq.laws g.H.KeyHash.hash_of g.row.TYPE c.args.is_old c.args.index c.self.invariant
+    let x = inserted_where_absent g.met.K.Eq.laws g.H.KeyHash.hash_of g.row.TYPE c.args.side c.args.index c.self.invariant
     (rw (← c.self.view_is) at c.requires.locked) c.insert_absent.result c.insert_absent.new.bucket
     (g.G.Generation.keeps c.args.generation.now) c.args.key c.args.value c.args.hash
     (λ own equal. g.met.H.KeyHash.alike c.self.inside.hasher own c.args.key equal ∙ sym (rw (← c.self.view_is) at c.requires.own_hash))
@@ -16,7 +16,7 @@ invariant_of-self g c =
 pub returns-clause-map : goal.returns-clause-map
 returns-clause-map g c =
     let e = rw c.bucket_of_mut-bucket.ensures.bucket at c.insert_absent.ensures in
-    let x = inserted_where_absent g.met.K.Eq.laws g.H.KeyHash.hash_of g.row.TYPE c.args.is_old c.args.index c.self.invariant
+    let x = inserted_where_absent g.met.K.Eq.laws g.H.KeyHash.hash_of g.row.TYPE c.args.side c.args.index c.self.invariant
     (rw (← c.self.view_is) at c.requires.locked) c.insert_absent.result c.insert_absent.new.bucket
     (g.G.Generation.keeps c.args.generation.now) c.args.key c.args.value c.args.hash
     (λ own equal. g.met.H.KeyHash.alike c.self.inside.hasher own c.args.key equal ∙ sym (rw (← c.self.view_is) at c.requires.own_hash))

@@ -21,5 +21,5 @@ pub returns-clause-arrays : goal.returns-clause-arrays
 returns-clause-arrays g c =
     found_then g.K.PartialEq.eq g.row.TYPE c.hash-hash.result (g.H.KeyHash.hash_of c.args.self.now.hasher c.args.key)
     (g.G.Generation.keeps c.args.generation.now) c.args.key c.args.value c.args.self.now c.find.new.self c.insert_at.new.self
-    c.in-Ok.is_old c.in-Ok.index c.insert_at.result c.hash-hash.ensures c.in-Ok.ensures c.insert_at.ensures.answer
+    c.in-Ok.side c.in-Ok.index c.insert_at.result c.hash-hash.ensures c.in-Ok.ensures c.insert_at.ensures.answer
     c.insert_at.ensures.put c.insert_at.ensures.unchanged

@@ -10,7 +10,7 @@ invariant_of-self g c =
     let o = c.in-Some.spot in
     let stands = rw (← c.self.view_is) at c.in-Some.ensures.found in
     let e = c.mark_at.ensures in
-    (marks g.met.K.Eq.laws g.H.KeyHash.hash_of g.row.TYPE o.is_old o.index c.self.invariant stands.within o.at stands.pair stands.slot _ _
+    (marks g.met.K.Eq.laws g.H.KeyHash.hash_of g.row.TYPE o.side o.index c.self.invariant stands.within o.at stands.pair stands.slot _ _
     e.kept e.placed).one_map
 
 pub returns-in-Some-clause-map : goal.returns-in-Some-clause-map
@@ -24,7 +24,7 @@ returns-in-Some-clause-map g c =
       value,
       reads,
       same_taken g.K.PartialEq.eq c.args.key.now _ _ stands.pair (own.now, value.now) stands.slot stands.there there,
-      then_taken _ _ _ (own.now, value.now) keeps (marks g.met.K.Eq.laws g.H.KeyHash.hash_of g.row.TYPE o.is_old o.index c.self.invariant
+      then_taken _ _ _ (own.now, value.now) keeps (marks g.met.K.Eq.laws g.H.KeyHash.hash_of g.row.TYPE o.side o.index c.self.invariant
           stands.within o.at (own.now, value.now) there _ _ e.kept e.placed).map,
     )
 
@@ -32,7 +32,7 @@ pub returns-in-Some-clause-arrays : goal.returns-in-Some-clause-arrays
 returns-in-Some-clause-arrays g c = record {
   between = c.fetch_spot.new.self;
   prepared = c.fetch_spot.ensures.prepared;
-  done = (c.in-Some.spot.is_old, c.in-Some.spot.index, c.in-Some.spot.at, c.in-Some.ensures.found, rw (← c.self.view_is) c.mark_at.ensures.asked);
+  done = (c.in-Some.spot.side, c.in-Some.spot.index, c.in-Some.spot.at, c.in-Some.ensures.found, rw (← c.self.view_is) c.mark_at.ensures.asked);
 }
 
 pub returns-in-Some-clause-marks : goal.returns-in-Some-clause-marks
@@ -43,8 +43,8 @@ returns-in-Some-clause-marks g c =
     let none = rw (← c.self.view_is) at c.fetch_spot.ensures.prepared.kept.keeps.marks in
     by-trans epoch (marks_of c.args.self.now.arrays) (marks_of c.self.inside.arrays) (marks_of c.mark_at.new.self)
     (by-no_new epoch _ _ none)
-    (marks_through epoch _ o.is_old o.index _ c.mark_at.new.self (by-one epoch stands.pair
-    (marks_in (bucket_on c.self.inside.arrays o.is_old o.index)) _ (marks_in-slots_marked _ o.at epoch stands.pair stands.slot))
+    (marks_through epoch _ o.side o.index _ c.mark_at.new.self (by-one epoch stands.pair
+    (marks_in (bucket_on c.self.inside.arrays o.side o.index)) _ (marks_in-slots_marked _ o.at epoch stands.pair stands.slot))
     c.mark_at.ensures.kept.marks)
 
 pub returns-in-None-clause-map : goal.returns-in-None-clause-map

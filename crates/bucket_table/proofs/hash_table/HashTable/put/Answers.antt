@@ -22,5 +22,5 @@ pub returns-clause-arrays : goal.returns-clause-arrays
 returns-clause-arrays g c =
     let (left, put, is) = c.put_at.ensures.bucket in
     found_put g.K.PartialEq.eq g.row.TYPE c.hash-hash.result (g.H.KeyHash.hash_of c.args.self.now.hasher c.args.key) g.L.LruList.KEEPS
-    c.args.key c.args.value c.args.self.now c.find.new.self c.put_at.new.self c.in-Ok.is_old c.in-Ok.index c.put_at.result left
+    c.args.key c.args.value c.args.self.now c.find.new.self c.put_at.new.self c.in-Ok.side c.in-Ok.index c.put_at.result left
     c.hash-hash.ensures c.in-Ok.ensures put is

@@ -10,8 +10,8 @@ invariant-loop-index g l =
     (always_mut g.F.FnMut l.fn.keep → always_mut g.F.FnMut l.keep)
     × (l.self.hasher ≡ l.fn.self.hasher)
     × IsAlong (λ state own before answer after last. goal.F-step g state own before answer after last)
-    (g.G.Generation.epoch_of l.generation) l.fn.keep l.fn.self.arrays l.is_old l.keep l.self.arrays l.index l.count
-    × AreLeftOf g.row.TYPE (g.G.Generation.epoch_of l.generation) (buckets_on l.fn.self.arrays l.is_old) (buckets_on l.self.arrays l.is_old)
+    (g.G.Generation.epoch_of l.generation) l.fn.keep l.fn.self.arrays l.side l.keep l.self.arrays l.index l.count
+    × AreLeftOf g.row.TYPE (g.G.Generation.epoch_of l.generation) (buckets_on l.fn.self.arrays l.side) (buckets_on l.self.arrays l.side)
 
 abbrev pub decreases-loop-index : goal.decreases-loop-index
-decreases-loop-index g l = length (buckets_on l.self.arrays l.is_old) - l.index
+decreases-loop-index g l = length (buckets_on l.self.arrays l.side) - l.index

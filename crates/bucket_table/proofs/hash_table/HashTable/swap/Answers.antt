@@ -22,7 +22,7 @@ pub returns-in-Some-clause-arrays : goal.returns-in-Some-clause-arrays
 returns-in-Some-clause-arrays g c = record {
   between = c.fetch_spot.new.self;
   prepared = c.fetch_spot.ensures.prepared;
-  done = (c.in-Some.spot.is_old, c.in-Some.spot.index, c.in-Some.spot.at, c.in-Some.ensures.found, c.swap_at.ensures.table);
+  done = (c.in-Some.spot.side, c.in-Some.spot.index, c.in-Some.spot.at, c.in-Some.ensures.found, c.swap_at.ensures.table);
 }
 
 pub returns-in-None-clause-arrays : goal.returns-in-None-clause-arrays

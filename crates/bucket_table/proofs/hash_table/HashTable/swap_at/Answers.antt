@@ -6,7 +6,7 @@ pub invariant_of-self : goal.invariant_of-self
 invariant_of-self g c =
     let o = c.args.spot.now in
     let within = rw (← c.self.view_is) at c.requires.within in
-    rw c.swap_slot.ensures.arrays (writes g.met.K.Eq.laws g.H.KeyHash.hash_of g.row.TYPE o.is_old o.index c.self.invariant
+    rw c.swap_slot.ensures.arrays (writes g.met.K.Eq.laws g.H.KeyHash.hash_of g.row.TYPE o.side o.index c.self.invariant
     within o.at _ c.swap_slot.ensures.pair.1 c.args.value).one_map
 
 pub returns-clause-map : goal.returns-clause-map
@@ -17,7 +17,7 @@ returns-clause-map g c =
     rw (← c.self.view_is, c.swap_slot.ensures.arrays) (
       c.swap_slot.ensures.pair.0,
       here,
-      (writes g.met.K.Eq.laws g.H.KeyHash.hash_of g.row.TYPE o.is_old o.index c.self.invariant within o.at _ here
+      (writes g.met.K.Eq.laws g.H.KeyHash.hash_of g.row.TYPE o.side o.index c.self.invariant within o.at _ here
           c.args.value).map,
     )
 

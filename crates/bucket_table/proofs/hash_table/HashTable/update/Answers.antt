@@ -26,7 +26,7 @@ returns-in-Some-clause-arrays g c =
     let (value, is) = c.update_at.ensures.table in record {
       between = c.fetch_spot.new.self;
       prepared = c.fetch_spot.ensures.prepared;
-      done = (value, (c.in-Some.spot.is_old, c.in-Some.spot.index, c.in-Some.spot.at, c.in-Some.ensures.found, is));
+      done = (value, (c.in-Some.spot.side, c.in-Some.spot.index, c.in-Some.spot.at, c.in-Some.ensures.found, is));
     }
 
 pub returns-in-None-clause-arrays : goal.returns-in-None-clause-arrays

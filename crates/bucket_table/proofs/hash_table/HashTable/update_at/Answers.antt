@@ -17,7 +17,7 @@ invariant_of-self g c =
     let o = c.args.spot.now in
     let within = rw (← c.self.view_is) at c.requires.within in
     let here = rw c.bucket_of_mut-bucket.ensures.bucket at c.entry_mut-value.ensures.pair in
-    rw c.bucket_of_mut-bucket.ensures.bucket (writes g.met.K.Eq.laws g.H.KeyHash.hash_of g.row.TYPE o.is_old o.index c.self.invariant
+    rw c.bucket_of_mut-bucket.ensures.bucket (writes g.met.K.Eq.laws g.H.KeyHash.hash_of g.row.TYPE o.side o.index c.self.invariant
     within o.at _ here c.change.new.arg3).one_map
 
 pub returns-clause-map : goal.returns-clause-map
@@ -31,7 +31,7 @@ returns-clause-map g c =
       _,
       c.change.ensures,
       here,
-      (writes g.met.K.Eq.laws g.H.KeyHash.hash_of g.row.TYPE o.is_old o.index c.self.invariant within o.at _ here
+      (writes g.met.K.Eq.laws g.H.KeyHash.hash_of g.row.TYPE o.side o.index c.self.invariant within o.at _ here
           c.change.new.arg3).map,
     )
 

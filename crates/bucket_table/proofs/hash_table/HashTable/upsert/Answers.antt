@@ -15,7 +15,7 @@ returns-in-Ok-clause-arrays g c =
     let (left, put, is) = c.upsert_at.ensures.bucket in
     found_upserted g.K.PartialEq.eq g.row.TYPE c.hash-hash.result (g.H.KeyHash.hash_of c.args.self.now.hasher c.args.key)
     (g.G.Generation.keeps c.args.generation.now) c.args.key c.args.value c.args.self.now c.find.new.self c.upsert_at.new.self
-    c.in-Ok.is_old c.in-Ok.index c.upsert_at.result left c.hash-hash.ensures c.in-Ok.ensures put is
+    c.in-Ok.side c.in-Ok.index c.upsert_at.result left c.hash-hash.ensures c.in-Ok.ensures put is
 
 pub returns-in-Some-clause-map : goal.returns-in-Some-clause-map
 returns-in-Some-clause-map g c =
@@ -32,7 +32,7 @@ returns-in-Some-clause-arrays g c = record {
   answer = Err tt;
   between = c.find.new.self;
   found = rw c.hash-hash.ensures at c.in-Err.ensures;
-  done = (c.in-Some.spot.is_old, c.in-Some.spot.index, c.in-Some.spot.at, c.in-Some.ensures.found, c.swap_at.ensures.table);
+  done = (c.in-Some.spot.side, c.in-Some.spot.index, c.in-Some.spot.at, c.in-Some.ensures.found, c.swap_at.ensures.table);
 }
 
 pub returns-in-None-clause-map : goal.returns-in-None-clause-map

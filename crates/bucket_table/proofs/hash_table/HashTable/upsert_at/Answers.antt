@@ -8,7 +8,7 @@ bucket_of_mut-bucket-requires g c = (omega arith, (c.room_of.ensures, rw (← c.
 pub invariant_of-self : goal.invariant_of-self
 invariant_of-self g c =
     let own = rw (← c.self.view_is) at c.requires.own_hash in
-    (upserted g.met.K.Eq.laws g.H.KeyHash.hash_of g.row.TYPE c.args.is_old c.args.index c.self.invariant
+    (upserted g.met.K.Eq.laws g.H.KeyHash.hash_of g.row.TYPE c.args.side c.args.index c.self.invariant
     (rw (← c.self.view_is) at c.requires.locked) c.upsert_in.result c.upsert_in.new.bucket
     (g.G.Generation.keeps c.args.generation.now) c.args.key c.args.value c.args.hash
     (λ found equal. g.met.H.KeyHash.alike c.self.inside.hasher found c.args.key equal ∙ sym own) own
@@ -17,7 +17,7 @@ invariant_of-self g c =
 pub returns-clause-map : goal.returns-clause-map
 returns-clause-map g c =
     let own = rw (← c.self.view_is) at c.requires.own_hash in
-    rw (← c.self.view_is) (upserted g.met.K.Eq.laws g.H.KeyHash.hash_of g.row.TYPE c.args.is_old c.args.index c.self.invariant
+    rw (← c.self.view_is) (upserted g.met.K.Eq.laws g.H.KeyHash.hash_of g.row.TYPE c.args.side c.args.index c.self.invariant
     (rw (← c.self.view_is) at c.requires.locked) c.upsert_in.result c.upsert_in.new.bucket
     (g.G.Generation.keeps c.args.generation.now) c.args.key c.args.value c.args.hash
     (λ found equal. g.met.H.KeyHash.alike c.self.inside.hasher found c.args.key equal ∙ sym own) own

@@ -41,7 +41,7 @@ returns g c =
       (
         refl,
         λ value is. added_lent g.K.PartialEq.eq g.met.K.Eq.laws 83 t c.sound.ensures.one_map.distinct c.find.new.self added
-            (with_value added c.in-Ok.is_old c.in-Ok.index c.in-Ok-insert.at value) c.args.key c.args.value value
+            (with_value added c.in-Ok.side c.in-Ok.index c.in-Ok-insert.at value) c.args.key c.args.value value
             (rw (← c.self.view_is) at c.requires.absent) c.in-Ok.ensures.map puts c.sound-2.ensures.one_map.distinct
             (rw pair at (e.map value)),
         tt,

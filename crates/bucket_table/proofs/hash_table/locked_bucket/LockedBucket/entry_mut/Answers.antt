@@ -15,7 +15,7 @@ pub invariant_of-table-lent : goal.invariant_of-table-lent
 invariant_of-table-lent g c w =
     let o = c.args.self.now in
     let locked = rw (← c.table.view_is) at o.locked in
-    rw c.bucket_of_mut-bucket.ensures.bucket (wrote g.met.K.Eq.laws g.H.KeyHash.hash_of g.row.TYPE o.is_old o.index c.table.invariant
+    rw c.bucket_of_mut-bucket.ensures.bucket (wrote g.met.K.Eq.laws g.H.KeyHash.hash_of g.row.TYPE o.side o.index c.table.invariant
     (changeable_locked _ _ _ locked) (c.entry_mut.result.0.now, c.entry_mut.result.1.now) w c.args.at.now
     (rw c.bucket_of_mut-bucket.ensures.bucket at c.entry_mut.ensures.pair)).one_map
 
@@ -23,7 +23,7 @@ pub invariant_of-self-lent : goal.invariant_of-self-lent
 invariant_of-self-lent g c w =
     let o = c.args.self.now in
     let locked = rw (← c.table.view_is) at o.locked in (
-      rw c.bucket_of_mut-bucket.ensures.bucket ((wrote g.met.K.Eq.laws g.H.KeyHash.hash_of g.row.TYPE o.is_old o.index c.table.invariant
+      rw c.bucket_of_mut-bucket.ensures.bucket ((wrote g.met.K.Eq.laws g.H.KeyHash.hash_of g.row.TYPE o.side o.index c.table.invariant
           (changeable_locked _ _ _ locked) (c.entry_mut.result.0.now, c.entry_mut.result.1.now) w c.args.at.now
           (rw c.bucket_of_mut-bucket.ensures.bucket at c.entry_mut.ensures.pair)).locked locked),
       tt,
@@ -38,7 +38,7 @@ returns g c =
       record {
         writes_back = tt;
         pair = rw (← c.table.view_is) (rw c.bucket_of_mut-bucket.ensures.bucket at c.entry_mut.ensures.pair);
-        map = λ w. rw (← c.table.view_is) (wrote g.met.K.Eq.laws g.H.KeyHash.hash_of g.row.TYPE o.is_old o.index c.table.invariant
+        map = λ w. rw (← c.table.view_is) (wrote g.met.K.Eq.laws g.H.KeyHash.hash_of g.row.TYPE o.side o.index c.table.invariant
             (changeable_locked _ _ _ locked) (c.entry_mut.result.0.now, c.entry_mut.result.1.now) w c.args.at.now
             (rw c.bucket_of_mut-bucket.ensures.bucket at c.entry_mut.ensures.pair)).map;
       },

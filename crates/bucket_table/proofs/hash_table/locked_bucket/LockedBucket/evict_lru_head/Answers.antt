@@ -10,7 +10,7 @@ invariant_of-table g c =
     let o = c.args.self.now in
     let locked = rw (← c.table.view_is) at o.locked in
     let e = rw c.bucket_of_mut.ensures.bucket at c.evict_lru_head.ensures in
-    (evicted g.met.K.Eq.laws g.H.KeyHash.hash_of g.row.TYPE o.is_old o.index c.table.invariant (changeable_locked _ _ _ locked)
+    (evicted g.met.K.Eq.laws g.H.KeyHash.hash_of g.row.TYPE o.side o.index c.table.invariant (changeable_locked _ _ _ locked)
     c.evict_lru_head.result c.evict_lru_head.new.self e.pair e.slots e.unchanged).one_map
 
 pub invariant_of-self : goal.invariant_of-self
@@ -19,7 +19,7 @@ invariant_of-self g c =
     let locked = rw (← c.table.view_is) at o.locked in
     let e = rw c.bucket_of_mut.ensures.bucket at c.evict_lru_head.ensures in
     record {
-      locked = (evicted g.met.K.Eq.laws g.H.KeyHash.hash_of g.row.TYPE o.is_old o.index c.table.invariant
+      locked = (evicted g.met.K.Eq.laws g.H.KeyHash.hash_of g.row.TYPE o.side o.index c.table.invariant
           (changeable_locked _ _ _ locked) c.evict_lru_head.result c.evict_lru_head.new.self e.pair e.slots e.unchanged).locked locked;
     }
 
@@ -28,7 +28,7 @@ returns-clause-map g c =
     let o = c.args.self.now in
     let locked = rw (← c.table.view_is) at o.locked in
     let e = rw c.bucket_of_mut.ensures.bucket at c.evict_lru_head.ensures in
-    rw (← c.table.view_is) (evicted g.met.K.Eq.laws g.H.KeyHash.hash_of g.row.TYPE o.is_old o.index c.table.invariant
+    rw (← c.table.view_is) (evicted g.met.K.Eq.laws g.H.KeyHash.hash_of g.row.TYPE o.side o.index c.table.invariant
     (changeable_locked _ _ _ locked) c.evict_lru_head.result c.evict_lru_head.new.self e.pair e.slots e.unchanged).map
 
 pub bucket_of_mut-requires : goal.bucket_of_mut-requires

@@ -11,7 +11,7 @@ invariant_of-table g c =
     let o = c.args.self.now in
     let locked = rw (← c.table.view_is) at o.locked in
     let e = rw c.bucket_of_mut.ensures.bucket at c.insert.ensures in
-    let x = inserted_or g.met.K.Eq.laws g.H.KeyHash.hash_of g.row.TYPE o.is_old o.index c.table.invariant (changeable_locked _ _ _ locked)
+    let x = inserted_or g.met.K.Eq.laws g.H.KeyHash.hash_of g.row.TYPE o.side o.index c.table.invariant (changeable_locked _ _ _ locked)
     c.insert.result c.insert.new.self (g.G.Generation.keeps c.args.generation.now) c.args.pair c.args.hash
     (rw (← c.table.view_is) at c.requires.own_hash) (rw (← c.table.view_is) at c.requires.home)
     (rw (← c.table.view_is) at c.requires.key_absent) e.slots (refused_unchanged c.insert.result _ _ _ e.refused) in
@@ -22,7 +22,7 @@ invariant_of-self g c =
     let o = c.args.self.now in
     let locked = rw (← c.table.view_is) at o.locked in
     let e = rw c.bucket_of_mut.ensures.bucket at c.insert.ensures in
-    let x = inserted_or g.met.K.Eq.laws g.H.KeyHash.hash_of g.row.TYPE o.is_old o.index c.table.invariant (changeable_locked _ _ _ locked)
+    let x = inserted_or g.met.K.Eq.laws g.H.KeyHash.hash_of g.row.TYPE o.side o.index c.table.invariant (changeable_locked _ _ _ locked)
     c.insert.result c.insert.new.self (g.G.Generation.keeps c.args.generation.now) c.args.pair c.args.hash
     (rw (← c.table.view_is) at c.requires.own_hash) (rw (← c.table.view_is) at c.requires.home)
     (rw (← c.table.view_is) at c.requires.key_absent) e.slots (refused_unchanged c.insert.result _ _ _ e.refused) in
@@ -33,7 +33,7 @@ returns-clause-map g c =
     let o = c.args.self.now in
     let locked = rw (← c.table.view_is) at o.locked in
     let e = rw c.bucket_of_mut.ensures.bucket at c.insert.ensures in
-    let x = inserted_or g.met.K.Eq.laws g.H.KeyHash.hash_of g.row.TYPE o.is_old o.index c.table.invariant (changeable_locked _ _ _ locked)
+    let x = inserted_or g.met.K.Eq.laws g.H.KeyHash.hash_of g.row.TYPE o.side o.index c.table.invariant (changeable_locked _ _ _ locked)
     c.insert.result c.insert.new.self (g.G.Generation.keeps c.args.generation.now) c.args.pair c.args.hash
     (rw (← c.table.view_is) at c.requires.own_hash) (rw (← c.table.view_is) at c.requires.home)
     (rw (← c.table.view_is) at c.requires.key_absent) e.slots (refused_unchanged c.insert.result _ _ _ e.refused) in
@@ -60,5 +60,5 @@ returns-clause-answer g c =
     let e = rw c.bucket_of_mut.ensures.bucket at c.insert.ensures in
     rw (← c.table.view_is) (answers_placing g.row.TYPE (g.G.Generation.keeps c.args.generation.now) _ c.insert.new.self _ c.args.pair
     (c.args.hash % 256) c.insert.result
-    (put_there c.table.inside.arrays o.is_old o.index c.insert.new.self (rw (← c.table.view_is) at o.locked.within))
+    (put_there c.table.inside.arrays o.side o.index c.insert.new.self (rw (← c.table.view_is) at o.locked.within))
     e.place e.names e.pair_returned e.refused)

@@ -8,9 +8,9 @@ use Rattle.bucket_table.proofs.hash_table.locked_bucket.LockedBucket.mark_entry.
 pub invariant_of-table : goal.invariant_of-table
 invariant_of-table g c =
     let o = c.args.self.now in
-    let there = pair_there (bucket_on c.table.inside.arrays o.is_old o.index) c.args.at.now
+    let there = pair_there (bucket_on c.table.inside.arrays o.side o.index) c.args.at.now
     (rw (← c.table.view_is) at c.requires.live_slot) in
-    rw c.mark_slot-left.ensures.arrays (marks_only g.met.K.Eq.laws g.H.KeyHash.hash_of g.row.TYPE o.is_old o.index c.table.invariant
+    rw c.mark_slot-left.ensures.arrays (marks_only g.met.K.Eq.laws g.H.KeyHash.hash_of g.row.TYPE o.side o.index c.table.invariant
     (rw (← c.table.view_is) at o.locked.within) c.args.at.now there.0 there.1 _).one_map
 
 pub invariant_of-self : goal.invariant_of-self
@@ -22,11 +22,11 @@ invariant_of-self g c = record {
 pub returns-clause-map : goal.returns-clause-map
 returns-clause-map g c =
     let o = c.args.self.now in
-    let there = pair_there (bucket_on c.table.inside.arrays o.is_old o.index) c.args.at.now
+    let there = pair_there (bucket_on c.table.inside.arrays o.side o.index) c.args.at.now
     (rw (← c.table.view_is) at c.requires.live_slot) in (
       there.0,
       rw (← c.table.view_is) there.1,
-      rw (← c.table.view_is, c.mark_slot-left.ensures.arrays) (marks_only g.met.K.Eq.laws g.H.KeyHash.hash_of g.row.TYPE o.is_old o.index
+      rw (← c.table.view_is, c.mark_slot-left.ensures.arrays) (marks_only g.met.K.Eq.laws g.H.KeyHash.hash_of g.row.TYPE o.side o.index
           c.table.invariant (rw (← c.table.view_is) at o.locked.within) c.args.at.now there.0 there.1 _).map,
     )
 

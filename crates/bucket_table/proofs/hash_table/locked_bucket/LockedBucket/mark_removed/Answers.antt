@@ -7,20 +7,20 @@ pub invariant_of-table : goal.invariant_of-table
 invariant_of-table g c =
     let o = c.args.self in
     let e = c.mark_at.ensures in
-    let there = pair_there (bucket_on c.table.inside.arrays o.is_old o.index) c.args.at.now
+    let there = pair_there (bucket_on c.table.inside.arrays o.side o.index) c.args.at.now
     (rw (← c.table.view_is) at c.requires.live_slot) in
-    (marks g.met.K.Eq.laws g.H.KeyHash.hash_of g.row.TYPE o.is_old o.index c.table.invariant (rw (← c.table.view_is) at o.locked.within)
+    (marks g.met.K.Eq.laws g.H.KeyHash.hash_of g.row.TYPE o.side o.index c.table.invariant (rw (← c.table.view_is) at o.locked.within)
     c.args.at.now there.0 there.1 _ _ e.kept e.placed).one_map
 
 pub returns-clause-map : goal.returns-clause-map
 returns-clause-map g c =
     let o = c.args.self in
     let e = c.mark_at.ensures in
-    let there = pair_there (bucket_on c.table.inside.arrays o.is_old o.index) c.args.at.now
+    let there = pair_there (bucket_on c.table.inside.arrays o.side o.index) c.args.at.now
     (rw (← c.table.view_is) at c.requires.live_slot) in (
       there.0,
       rw (← c.table.view_is) there.1,
-      rw (← c.table.view_is) (marks g.met.K.Eq.laws g.H.KeyHash.hash_of g.row.TYPE o.is_old o.index c.table.invariant
+      rw (← c.table.view_is) (marks g.met.K.Eq.laws g.H.KeyHash.hash_of g.row.TYPE o.side o.index c.table.invariant
           (rw (← c.table.view_is) at o.locked.within) c.args.at.now there.0 there.1 _ _ e.kept e.placed).map,
     )
 

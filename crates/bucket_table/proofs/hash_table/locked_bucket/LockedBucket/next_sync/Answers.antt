@@ -14,24 +14,24 @@ invariant_of-table-in-Err-1 g c =
     one_map_kept g.K.PartialEq.eq g.met.K.Eq.laws (g.H.KeyHash.hash_of c.table.inside.hasher) c.table.inside.arrays c.advance.new.self
     c.table.invariant c.advance.ensures.kept c.advance.ensures.placed
 
-pub invariant_of-self : goal.invariant_of-self
-invariant_of-self g c =
+pub invariant_of-self-in-Ok : goal.invariant_of-self-in-Ok
+invariant_of-self-in-Ok g c =
     let o = c.args.self in
     let e = c.in-Ok.ensures in
-    let a = rw c.table.view_is at (advances g.row.TYPE g.H.KeyHash.hash_of o.is_old o.index c.args.at.now c.advance.new.at
-    c.table.inside.hasher c.table.inside.arrays (Ok (c.in-Ok.is_old, c.in-Ok.index)) c.advance.new.self e.kept e.stays e.leaves
+    let a = rw c.table.view_is at (advances g.row.TYPE g.H.KeyHash.hash_of o.side o.index c.args.at.now c.advance.new.at
+    c.table.inside.hasher c.table.inside.arrays (Ok (c.in-Ok.side, c.in-Ok.index)) c.advance.new.self e.kept e.stays e.leaves
     e.departs) in
     record {
-      locked = next_locked g.row.TYPE g.H.KeyHash.hash_of o.is_old o.index c.args.at.now c.advance.new.at o.table.now _
-          (c.in-Ok.is_old, c.in-Ok.index) o.locked a;
+      locked = next_locked g.row.TYPE g.H.KeyHash.hash_of o.side o.index c.args.at.now c.advance.new.at o.table.now _
+          (c.in-Ok.side, c.in-Ok.index) o.locked a;
     }
 
 pub returns-in-Ok : goal.returns-in-Ok
 returns-in-Ok g c =
     let o = c.args.self in
     let e = c.in-Ok.ensures in
-    let a = rw c.table.view_is at (advances g.row.TYPE g.H.KeyHash.hash_of o.is_old o.index c.args.at.now c.advance.new.at
-    c.table.inside.hasher c.table.inside.arrays (Ok (c.in-Ok.is_old, c.in-Ok.index)) c.advance.new.self e.kept e.stays e.leaves
+    let a = rw c.table.view_is at (advances g.row.TYPE g.H.KeyHash.hash_of o.side o.index c.args.at.now c.advance.new.at
+    c.table.inside.hasher c.table.inside.arrays (Ok (c.in-Ok.side, c.in-Ok.index)) c.advance.new.self e.kept e.stays e.leaves
     e.departs) in (
       (refl, λ w. refl, tt),
       record {
@@ -49,19 +49,19 @@ pub returns-in-Err : goal.returns-in-Err
 returns-in-Err g c =
     let o = c.args.self in
     let e = c.in-Err.ensures in
-    let a = rw c.table.view_is at (advances g.row.TYPE g.H.KeyHash.hash_of o.is_old o.index c.args.at.now c.advance.new.at
+    let a = rw c.table.view_is at (advances g.row.TYPE g.H.KeyHash.hash_of o.side o.index c.args.at.now c.advance.new.at
     c.table.inside.hasher c.table.inside.arrays (Err c.in-Err.missing) c.advance.new.self e.kept e.stays e.leaves e.departs) in (
       (refl, λ w. tt, a),
       record {
         rests = tt;
         same_table = tt;
         advances = tt;
-        held = λ some. absurd (not_held g.row.TYPE g.H.KeyHash.hash_of o.is_old o.index c.args.at.now c.advance.new.at o.table.now _
+        held = λ some. absurd (not_held g.row.TYPE g.H.KeyHash.hash_of o.side o.index c.args.at.now c.advance.new.at o.table.now _
             c.in-Err.missing a some);
-        none = λ nothing. none_before g.row.TYPE g.H.KeyHash.hash_of o.is_old o.index c.args.at.now c.advance.new.at o.table.now _
+        none = λ nothing. none_before g.row.TYPE g.H.KeyHash.hash_of o.side o.index c.args.at.now c.advance.new.at o.table.now _
             c.in-Err.missing a cc;
-        null = none_null g.row.TYPE g.H.KeyHash.hash_of o.is_old o.index c.args.at.now c.advance.new.at o.table.now _ c.in-Err.missing a;
-        succeeds = refused_beside g.row.TYPE g.H.KeyHash.hash_of o.is_old o.index c.args.at.now c.advance.new.at o.table.now _
+        null = none_null g.row.TYPE g.H.KeyHash.hash_of o.side o.index c.args.at.now c.advance.new.at o.table.now _ c.in-Err.missing a;
+        succeeds = refused_beside g.row.TYPE g.H.KeyHash.hash_of o.side o.index c.args.at.now c.advance.new.at o.table.now _
             c.in-Err.missing a;
       },
     )

@@ -6,14 +6,14 @@ pub invariant_of-table : goal.invariant_of-table
 invariant_of-table g c =
     let o = c.args.self in
     let e = c.take_at-pair.ensures in
-    (takes g.met.K.Eq.laws g.H.KeyHash.hash_of g.row.TYPE o.is_old o.index c.table.invariant (rw (← c.table.view_is) at o.locked.within)
+    (takes g.met.K.Eq.laws g.H.KeyHash.hash_of g.row.TYPE o.side o.index c.table.invariant (rw (← c.table.view_is) at o.locked.within)
     c.args.at.now c.take_at-pair.result e.pair _ e.kept e.placed).one_map
 
 pub returns-clause-map : goal.returns-clause-map
 returns-clause-map g c =
     let o = c.args.self in
     let e = c.take_at-pair.ensures in
-    rw (← c.table.view_is) (takes g.met.K.Eq.laws g.H.KeyHash.hash_of g.row.TYPE o.is_old o.index c.table.invariant
+    rw (← c.table.view_is) (takes g.met.K.Eq.laws g.H.KeyHash.hash_of g.row.TYPE o.side o.index c.table.invariant
     (rw (← c.table.view_is) at o.locked.within) c.args.at.now c.take_at-pair.result e.pair _ e.kept e.placed).map
 
 pub returns-clause-pair : goal.returns-clause-pair

@@ -8,7 +8,7 @@ pub invariant_of-table : goal.invariant_of-table
 invariant_of-table g c =
     let o = c.args.self.now in
     let e = c.take_slot.ensures in
-    rw e.arrays (takes_only g.met.K.Eq.laws g.H.KeyHash.hash_of g.row.TYPE o.is_old o.index c.table.invariant
+    rw e.arrays (takes_only g.met.K.Eq.laws g.H.KeyHash.hash_of g.row.TYPE o.side o.index c.table.invariant
     (rw (← c.table.view_is) at o.locked.within) c.args.at.now c.take_slot.result.0 e.pair).one_map
 
 pub invariant_of-self : goal.invariant_of-self
@@ -21,7 +21,7 @@ pub returns-clause-map : goal.returns-clause-map
 returns-clause-map g c =
     let o = c.args.self.now in
     let e = c.take_slot.ensures in
-    rw (← c.table.view_is, e.arrays) (takes_only g.met.K.Eq.laws g.H.KeyHash.hash_of g.row.TYPE o.is_old o.index c.table.invariant
+    rw (← c.table.view_is, e.arrays) (takes_only g.met.K.Eq.laws g.H.KeyHash.hash_of g.row.TYPE o.side o.index c.table.invariant
     (rw (← c.table.view_is) at o.locked.within) c.args.at.now c.take_slot.result.0 e.pair).map
 
 pub returns-clause-pair : goal.returns-clause-pair

@@ -6,7 +6,7 @@ use Rattle.bucket_table.proofs.hash_table.locked_bucket.LockedBucket.search.Goal
 pub returns-clause-found : goal.returns-clause-found
 returns-clause-found g c =
     let o = c.args.self.now in
-    rw (← c.table.view_is) (λ valid. searched_found (λ own. g.K.PartialEq.eq own c.args.key.now) c.table.inside.arrays o.is_old
+    rw (← c.table.view_is) (λ valid. searched_found (λ own. g.K.PartialEq.eq own c.args.key.now) c.table.inside.arrays o.side
     c.bucket_of.result.now _ o.index
     c.get_entry_ptr.result c.bucket_of.ensures (c.get_entry_ptr.ensures.found valid))
 
@@ -16,7 +16,7 @@ returns-clause-absent g c =
     let own_hash = rw (← c.table.view_is) at c.requires.own_hash in
     rw (← c.table.view_is) (λ null. searched_absent (λ own. g.K.PartialEq.eq own c.args.key.now) c.args.hash
     (g.H.KeyHash.hash_of c.table.inside.hasher)
-    (λ key equal. g.met.H.KeyHash.alike c.table.inside.hasher key c.args.key.now equal ∙ sym own_hash) c.table.inside.arrays o.is_old
+    (λ key equal. g.met.H.KeyHash.alike c.table.inside.hasher key c.args.key.now equal ∙ sym own_hash) c.table.inside.arrays o.side
     c.bucket_of.result.now o.index
     c.table.invariant.placed (rw (← c.table.view_is) at o.locked) (rw (← c.table.view_is) at c.requires.home) c.bucket_of.ensures
     (c.get_entry_ptr.ensures.absent null))

@@ -7,7 +7,7 @@ use Rattle.bucket_table.proofs.hash_table.locked_bucket.LockedBucket.update_lru_
 pub invariant_of-table : goal.invariant_of-table
 invariant_of-table g c =
     let o = c.args.self.now in
-    rw c.touch_slot.ensures (touched g.met.K.Eq.laws g.H.KeyHash.hash_of g.row.TYPE o.is_old o.index c.table.invariant
+    rw c.touch_slot.ensures (touched g.met.K.Eq.laws g.H.KeyHash.hash_of g.row.TYPE o.side o.index c.table.invariant
     (changeable_locked _ _ _ (rw (← c.table.view_is) at o.locked)) g.L.LruList.KEEPS c.args.at.now).one_map
 
 pub invariant_of-self : goal.invariant_of-self
@@ -18,7 +18,7 @@ invariant_of-self g c = record {
 pub returns-clause-map : goal.returns-clause-map
 returns-clause-map g c =
     let o = c.args.self.now in
-    rw (← c.table.view_is, c.touch_slot.ensures) (touched g.met.K.Eq.laws g.H.KeyHash.hash_of g.row.TYPE o.is_old o.index c.table.invariant
+    rw (← c.table.view_is, c.touch_slot.ensures) (touched g.met.K.Eq.laws g.H.KeyHash.hash_of g.row.TYPE o.side o.index c.table.invariant
     (changeable_locked _ _ _ (rw (← c.table.view_is) at o.locked)) g.L.LruList.KEEPS c.args.at.now).map
 
 pub returns-clause-changed : goal.returns-clause-changed
