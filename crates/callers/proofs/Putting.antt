@@ -1,12 +1,20 @@
 -- What a put after a look-up says of the map before both.
-use Rattle.std.proofs.Common.{◌≡◌, Bool, cond, Option, Some, None, Result, Ok, Err, sym, ap, subst, ◌∙◌}
+use Rattle.std.proofs.Common.{◌≡◌, Bool, false, cond, Option, Some, None, is_some, IsSome, Result, Ok, Err, sym, ap, subst, ◌∙◌}
+use Rattle.std.specs.Borrow.{Bor}
 use Rattle.std.specs.Cmp.{IsEquivalence}
-use Rattle.std.specs.Option.{unwrap_or}
+use Rattle.std.specs.Option.{option_copied, unwrap_or}
+use Rattle.std.proofs.lemmas.Bool.{false≢true}
 use Rattle.std.proofs.lemmas.List.Sorted.{IsPermutation-trans}
 use Rattle.bucket_table.specs.declared.hash_table.NotInserted.{NotInserted}
 use Rattle.collections.specs.Changes.{Puts, Stays}
 use Rattle.collections.specs.Maps.{MapView, get}
 use Rattle.callers.specs.Sessions.{HasSession}
+
+-- a user of whom no session was found had none
+pub none_had : {S : Type 0} (found : Option (Bor S)) (had : Option S) (some : Bool) → option_copied found ≡ had → some ≡ is_some found
+    → some ≡ false → IsSome had → ⊥
+none_had None had some copied tested fails there = false≢true (rw (← copied) at there)
+none_had (Some session) had some copied tested fails there = false≢true (sym fails ∙ tested)
 
 module _ {U S H : Type 0} (eq : U → U → Bool) (old between : MapView U S H) (kept : Stays eq old between) where
   -- what stays in two steps

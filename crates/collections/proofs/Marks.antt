@@ -1,18 +1,13 @@
 -- That no mark is new where a table inserts, and where it resizes.
-use Rattle.std.proofs.Common.{ℕ, ◌≡◌, inl, inr, Bool, true, false, if◌then◌else◌, Result, Ok, Err, List, [], ◌+◌}
-use Rattle.std.proofs.Common.{◌%◌, ◌-◌, length, map, take, ap, sym, subst, arith}
+use Rattle.std.proofs.Common.{ℕ, ◌≡◌, inl, inr, Bool, true, false, Result, Ok, Err, List, ◌+◌}
+use Rattle.std.proofs.Common.{◌-◌, ap, sym, subst}
 use Rattle.std.proofs.lemmas.Bool.{cases_lt}
-use Rattle.std.proofs.lemmas.List.Elements.{filter_map-append}
-use Rattle.bucket_slots.specs.BucketView.{BucketView, flattened, marks_in}
-use Rattle.bucket_slots.specs.Clearing.{looks_at_marks, slot_without_expired, slots_after_insertion, slots_without_expired}
-use Rattle.bucket_slots.specs.Clearing.{slots_without_free_end}
+use Rattle.std.specs.List.{Contains}
+use Rattle.std.proofs.lemmas.List.Elements.{All-contains, All-contains_itself, All-filter}
+use Rattle.bucket_slots.specs.BucketView.{BucketView, marks_in}
+use Rattle.bucket_slots.specs.Clearing.{looks_at_marks, slots_after_insertion}
 use Rattle.bucket_slots.specs.Marking.{HasNoNewMark}
-use Rattle.bucket_slots.specs.Placing.{slots_with}
-use Rattle.bucket_slots.specs.Slots.{Slot, free, live, marked, marked_entries, marked_entry}
-use Rattle.bucket_slots.proofs.Entries.{filter_map-flattened, filter_map-is}
-use Rattle.bucket_slots.proofs.MarkCallerLemmas.{marks_in-slots_with, no_new-append, no_new-map, no_new-none, no_new-refl, no_new-same}
-use Rattle.bucket_slots.proofs.MarkCallerLemmas.{no_new-take, no_new-trans}
-use Rattle.bucket_slots.proofs.NoNewMarks.{mark_of}
+use Rattle.bucket_slots.proofs.MarkCallerLemmas.{no_new-append, no_new-refl, no_new-same, no_new-trans}
 use Rattle.bucket_table.specs.Views.ArraysView.{ArraysView, TableView, marks_of}
 use Rattle.bucket_table.specs.Views.Sides.{arrays_with, bucket_of, bucket_on}
 use Rattle.bucket_table.specs.Rehash.Relocation.{marks_among}
@@ -25,68 +20,22 @@ use Rattle.bucket_table.proofs.Resize.Following.{given_up_keeps, pushed_keeps}
 use Rattle.bucket_table.proofs.Views.MarksKept.{marks_among-set}
 use Rattle.bucket_table.specs.declared.arrays.side.Side.{Side}
 use Rattle.bucket_table.specs.declared.arrays.side.Side.TheVariants.{Current, Old}
+use Rattle.collections.proofs.InsertedMarks.{kept, left_of, marks_in-slots_after_insertion}
 
 module _ {K V : Type 0} where
-  module _ (keeps : ℕ → Bool) where
-    kept_or_gone : (pair : K × V) (epoch : ℕ) (stays : Bool)
-        → HasNoNewMark (mark_of (marked pair epoch)) (mark_of (if stays then marked pair epoch else free))
-    kept_or_gone pair epoch true = no_new-refl (mark_of (marked pair epoch))
-    kept_or_gone pair epoch false = no_new-none (mark_of (marked pair epoch))
-
-    unexpired : (slot : Slot K V) → HasNoNewMark (mark_of slot) (mark_of (slot_without_expired keeps slot))
-    unexpired free = no_new-refl []
-    unexpired (live pair byte) = no_new-refl []
-    unexpired (marked pair epoch) = kept_or_gone pair epoch (keeps epoch)
-
-    -- marks that a test lets go: of a row, of the chain and of the bucket
-    row_unexpired : (slots : List (Slot K V))
-        → HasNoNewMark (marked_entries slots) (marked_entries (map (slot_without_expired keeps) slots))
-    row_unexpired slots =
-        rw (filter_map-is marked_entry slots, filter_map-is marked_entry (map (slot_without_expired keeps) slots))
-        (no_new-map mark_of (slot_without_expired keeps) unexpired slots)
-
-    chain_unexpired : (rows : List (List (Slot K V)))
-        → HasNoNewMark (marked_entries (flattened rows)) (marked_entries (flattened (map (map (slot_without_expired keeps)) rows)))
-    chain_unexpired rows =
-        rw (filter_map-flattened marked_entry rows, filter_map-flattened marked_entry (map (map (slot_without_expired keeps)) rows))
-        (no_new-map marked_entries (map (slot_without_expired keeps)) row_unexpired rows)
-
-    pub marks_in-slots_without_expired : (s : BucketView K V) → HasNoNewMark (marks_in s) (marks_in (slots_without_expired keeps s))
-    marks_in-slots_without_expired s =
-        let own = map (slot_without_expired keeps) s.own in
-        let rows = map (map (slot_without_expired keeps)) s.chain in
-        rw (filter_map-append marked_entry s.own (flattened s.chain), filter_map-append marked_entry own (flattened rows))
-        (no_new-append (marked_entries s.own) (marked_entries (flattened s.chain)) (marked_entries own) (marked_entries (flattened rows))
-        (row_unexpired s.own) (chain_unexpired s.chain))
-
-  chain_front : (rows : List (List (Slot K V))) (n : ℕ)
-      → HasNoNewMark (marked_entries (flattened rows)) (marked_entries (flattened (take n rows)))
-  chain_front rows n =
-      rw (filter_map-flattened marked_entry rows, filter_map-flattened marked_entry (take n rows)) (no_new-take marked_entries n rows)
-
-  -- a chain that is cut
-  with_chain_front : (s : BucketView K V) (n : ℕ) → HasNoNewMark (marks_in s) (marks_in (record s { chain = take n s.chain }))
-  with_chain_front s n =
-      let own = marked_entries s.own in
-      rw (filter_map-append marked_entry s.own (flattened s.chain), filter_map-append marked_entry s.own (flattened (take n s.chain)))
-      (no_new-append own (marked_entries (flattened s.chain)) own (marked_entries (flattened (take n s.chain))) (no_new-refl own)
-      (chain_front s.chain n))
-
-  pub marks_in-slots_without_free_end : (s : BucketView K V) → HasNoNewMark (marks_in s) (marks_in (slots_without_free_end s))
-  marks_in-slots_without_free_end s = with_chain_front s _
-
-  inserted : (keeps : ℕ → Bool) (s : BucketView K V) (pair : K × V) (byte : ℕ) (looks : Bool) → HasNoNewMark (marks_in s)
-      (marks_in (if looks then slots_without_free_end (slots_with (slots_without_expired keeps s) pair byte) else slots_with s pair byte))
-  inserted keeps s pair byte true =
-      let cleared = slots_without_expired keeps s in
-      no_new-trans _ _ _ (marks_in-slots_without_expired keeps s) (no_new-trans _ _ _ (marks_in-slots_with cleared pair byte)
-      (marks_in-slots_without_free_end (slots_with cleared pair byte)))
-  inserted keeps s pair byte false = marks_in-slots_with s pair byte
+  -- marks that are let go
+  no_new-left : (keeps : ℕ → Bool) (looks : Bool) (marks : List ((K × V) × ℕ)) → HasNoNewMark marks (left_of keeps looks marks)
+  no_new-left keeps true marks = record {
+    stood = λ mark there. All-contains (Contains marks) (kept keeps marks) mark
+        (All-filter (λ mark. keeps mark.1) (Contains marks) marks (All-contains_itself marks)) there;
+  }
+  no_new-left keeps false marks = no_new-refl marks
 
   -- an insertion into a bucket brings no mark, whatever it lets go
-  pub marks_in-slots_after_insertion : (kind : ℕ) (keeps : ℕ → Bool) (s : BucketView K V) (pair : K × V) (byte : ℕ)
+  no_new-after_insertion : (kind : ℕ) (keeps : ℕ → Bool) (s : BucketView K V) (pair : K × V) (byte : ℕ)
       → HasNoNewMark (marks_in s) (marks_in (slots_after_insertion kind keeps s pair byte))
-  marks_in-slots_after_insertion kind keeps s pair byte = inserted keeps s pair byte (looks_at_marks kind s)
+  no_new-after_insertion kind keeps s pair byte =
+      rw (marks_in-slots_after_insertion keeps kind s pair byte) (no_new-left keeps (looks_at_marks kind s) (marks_in s))
 
   -- nor does another bucket that brings none to its own
   pub marks_of-arrays_with : (arrays : ArraysView K V) (side : Side) (index : ℕ) (left : BucketView K V)
@@ -140,7 +89,7 @@ module _ {K V H A : Type 0} (kind : ℕ) (keeps : ℕ → Bool) (pair : K × V) 
   inserted_at old (Ok done) (Ok at) new is =
       let left = slots_after_insertion kind keeps (bucket_of old at.0 at.1) pair byte in
       let put = marks_of-arrays_with old.arrays at.0 at.1 left
-      (marks_in-slots_after_insertion kind keeps (bucket_of old at.0 at.1) pair byte) in
+      (no_new-after_insertion kind keeps (bucket_of old at.0 at.1) pair byte) in
       subst (λ (table : TableView K V H). HasNoNewMark (marks_of old.arrays) (marks_of table.arrays)) (sym is) put
   inserted_at old (Ok done) (Err e) new none = absurd none
   inserted_at old (Err (Present k v)) answer new same = rw same (no_new-refl (marks_of old.arrays))

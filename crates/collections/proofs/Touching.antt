@@ -8,8 +8,8 @@ use Rattle.bucket_table.specs.Views.ArraysView.{TableView, pairs_of}
 use Rattle.bucket_table.specs.Map.ByKey.{ChangesAt, PreparesThen, Touches}
 use Rattle.bucket_table.specs.Map.LookingUp.{IsAbsent, IsThere}
 use Rattle.bucket_table.specs.Map.MapState.{KeepsPairs, state_of}
-use Rattle.collections.specs.CacheLoans.{IsTouched}
 use Rattle.collections.specs.Maps.{get, map_of}
+use Rattle.collections.specs.Orders.{IsTouched}
 use Rattle.collections.proofs.Lookups.{get_absent, get_there}
 use Rattle.collections.proofs.Steps.{stays}
 
@@ -38,16 +38,19 @@ module _ {K V H : Type 0} (eq : K → K → Bool) (laws : IsEquivalence eq) (t s
       absurd cc
 
   touched : (hash : ℕ) (r is_there : Bool) → r ≡ is_there → Touches eq k (state_of 67 t) r (state_of 67 s)
-      → PreparesThen 67 hash t (λ between. ChangesAt eq k (slots_touched true) r between s) → IsTouched eq k hash is_there t s
+      → PreparesThen 67 hash t (λ between. ChangesAt eq k (slots_touched true) r between s) → IsTouched eq k is_there t s
   touched hash r is_there is done moved = record {
     map = stays eq laws 67 t s distinct after (keeps r done);
-    arrays = subst (λ b. PreparesThen 67 hash t (λ between. ChangesAt eq k (slots_touched true) b between s)) is moved;
+    between = moved.between;
+    carried = moved.prepared.kept;
+    alone = moved.prepared.alone;
+    touched = subst (λ b. ChangesAt eq k (slots_touched true) b moved.between s) is moved.done;
   }
 
   -- a value was found, the one that the key had before
   pub found_touched : (hash : ℕ) (r : Bool) (p : K × V) → Touches eq k (state_of 67 t) r (state_of 67 s)
       → PreparesThen 67 hash t (λ between. ChangesAt eq k (slots_touched true) r between s) → IsThere eq k (pairs_of s.arrays) p
-      → IsTouched eq k hash true t s × (Some p.1 ≡ get eq (map_of t) k)
+      → IsTouched eq k true t s × (Some p.1 ≡ get eq (map_of t) k)
   found_touched hash r p done moved there = (
     touched hash r true (there_is r p done there) done moved,
     sym (get_there eq laws k (pairs_of s.arrays) p after there) ∙ same r done,
@@ -56,6 +59,6 @@ module _ {K V H : Type 0} (eq : K → K → Bool) (laws : IsEquivalence eq) (t s
   -- none was, and the key was absent before
   pub missed_touched : (hash : ℕ) (r : Bool) → Touches eq k (state_of 67 t) r (state_of 67 s)
       → PreparesThen 67 hash t (λ between. ChangesAt eq k (slots_touched true) r between s) → IsAbsent eq k (pairs_of s.arrays)
-      → IsTouched eq k hash false t s × (None ≡ get eq (map_of t) k)
+      → IsTouched eq k false t s × (None ≡ get eq (map_of t) k)
   missed_touched hash r done moved none =
       (touched hash r false (absent_is r done none) done moved, sym (get_absent eq laws k (pairs_of s.arrays) none) ∙ same r done)

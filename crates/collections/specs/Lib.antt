@@ -7,5 +7,7 @@ pub mod Keys
 pub mod Room
 pub mod Loans
 pub mod CacheLoans
+pub mod Orders
+pub mod Marks
 pub mod Entries
 pub mod Copies

@@ -4,17 +4,12 @@
 //! it, and answers as std's `HashMap` does.
 //!
 //! Ports scc's `src/hash_cache.rs` to an owned cache: a borrow stands where scc locks.
-ghost use Rattle.std.specs.Prelude.{◌≡◌, ◌↔◌, ◌^◌, ◌*◌, ◌-◌, ◌%◌, ◌++◌, [], IsTrue, is_some, length, max, min};
-ghost use Rattle.std.specs.Prelude.{true};
+ghost use Rattle.std.specs.Prelude.{◌≡◌, ◌↔◌, ◌^◌, ◌*◌, ◌-◌, ◌++◌, [], IsTrue, is_some, length, max, min};
 ghost use Rattle.std.specs.Borrow.{sem};
 ghost use Rattle.std.specs.Option.{option_copied};
-ghost use Rattle.bucket_slots.specs.Removing.{slots_without};
 ghost use Rattle.bucket_slots.specs.Sizing.{IsLeastPowerOfTwo};
 ghost use Rattle.bucket_slots.specs.Walking.{CallsEach};
-ghost use Rattle.bucket_table.specs.Map.ByKey.{PreparesThen, ShrinksAt};
 ghost use Rattle.bucket_table.specs.Map.Counting.{IsHeldBy};
-ghost use Rattle.bucket_table.specs.Map.Finding.{FindsThen};
-ghost use Rattle.bucket_table.specs.Map.Putting.{PutsAt};
 ghost use Rattle.bucket_table.specs.Rehash.State.{first_tickets};
 ghost use Rattle.bucket_table.specs.Views.ArraysView.{pairs_of};
 ghost use Rattle.collections.specs.Changes.{Puts, Removes};
@@ -180,19 +175,21 @@ impl<K: Eq, V, H: KeyHash<K>> HashCache<K, V, H> {
 }
 
 impl<K: Eq + Drop, V: Drop, H: KeyHash<K>> HashCache<K, V, H> {
-    ghost use Rattle.collections.specs.CacheLoans.{EndsSo, IsTouched};
+    ghost use Rattle.collections.specs.CacheLoans.{EndsSo};
+    ghost use Rattle.collections.specs.Orders.{IsTouched, LeavesPlace, PutsOrKeeps};
 
     /// Returns the value under a key, whose pair is now the one of its bucket touched last; a pair
     /// that doesn't stand in an own slot of its bucket isn't listed. `None` where the cache hasn't
     /// the key.
+    ///
+    /// `HashTable::touch` says where the incremental rehash happens.
     ///
     /// Never refused. O(1) expected. scc: `HashCache::get_sync`.
     #[inline(always)]
     pub fn get(&mut self, key: &K) -> Option<&V>
         ensures value { option_copied result ≡ get K.eq (map_of self.old) key.now }
         ensures* ends { sem 𝓛 (EndsSo K.row V.row H.row K.PartialEq H.KeyHash self.entry
-            (IsTouched K.eq key.now (H.hash_of self.old.hasher key.now) (is_some result)
-            self.old)) }
+            (IsTouched K.eq key.now (is_some result) self.old)) }
     {
         self.room.learn();
         self.table.sound();
@@ -209,6 +206,8 @@ impl<K: Eq + Drop, V: Drop, H: KeyHash<K>> HashCache<K, V, H> {
     /// none was touched the one in slot 0, and comes back. The pair stands in an own slot, so no
     /// chain gets longer.
     ///
+    /// `HashTable::put` says where growth and the incremental rehash happen.
+    ///
     /// # Errors
     ///
     /// An equal key is there; or want of memory, and then none is: the pair comes back, and none
@@ -217,9 +216,8 @@ impl<K: Eq + Drop, V: Drop, H: KeyHash<K>> HashCache<K, V, H> {
     /// O(1) expected, beside a resize. scc: `HashCache::put_sync`.
     pub fn put(&mut self, key: K, value: V) -> Result<Option<(K, V)>, NotInserted<K, V>>
         ensures map { Puts K.eq key value (map_of self.old) result (map_of self.new) }
-        ensures arrays { FindsThen CACHE (H.hash_of self.old.hasher key) self.old (λ answer between.
-            PutsAt true (key, value) (H.hash_of self.old.hasher key % 256) between result answer
-            self.new) }
+        ensures home { PutsOrKeeps K.eq (key, value) (H.hash_of self.old.hasher key) self.old result
+            self.new.arrays }
     {
         self.room.learn();
         self.table.sound();
@@ -231,12 +229,13 @@ impl<K: Eq + Drop, V: Drop, H: KeyHash<K>> HashCache<K, V, H> {
     /// Takes out the pair whose key is equal, and returns it; `None` where the cache hasn't the
     /// key.
     ///
+    /// `HashTable::take` says where shrinking and the incremental rehash happen.
+    ///
     /// Never refused. O(1) expected, beside a resize. scc: `HashCache::remove_sync`.
     #[inline(always)]
     pub fn remove(&mut self, key: &K) -> Option<(K, V)>
         ensures map { Removes K.eq key.now (map_of self.old) result (map_of self.new) }
-        ensures arrays { PreparesThen CACHE (H.hash_of self.old.hasher key.now) self.old (λ between.
-            ShrinksAt K.eq key.now slots_without (is_some result) between self.new) }
+        ensures place { LeavesPlace K.eq key.now (is_some result) self.old.arrays self.new.arrays }
     {
         self.room.learn();
         self.table.sound();

@@ -1,24 +1,23 @@
 //! A map that is read without moving anything, and whose removed pairs stay in their slots, each
 //! marked with the epoch of its removal, until an insertion finds that its generation lets it go.
 //!
-//! Model: the table's own view, since which marks an insertion lets go is said of a key's home. The
-//! map is `map_of` it, and answers as std's `HashMap` does; its marked pairs, which no look-up, walk
-//! or count sees, are `marks_of` its arrays. Only a removal marks, with the epoch of the generation
-//! that it is given; a mark may go in any call that changes the index, with its array.
+//! Model: the table's own view, since marked pairs are no part of a map. The map is `map_of` it, and
+//! answers as std's `HashMap` does; its marked pairs, which no look-up, walk or count sees, are
+//! `marks_of` its arrays. Only a removal marks, with the epoch of the generation that it is given; a
+//! mark may go in any call that changes the index, with its array.
 //!
 //! Ports scc's `src/hash_index.rs` to an owned index: a generation that the caller hands in stands
 //! where scc asks its collector.
-ghost use Rattle.std.specs.Prelude.{◌≡◌, ◌↔◌, ◌-◌, ◌*◌, ◌%◌, ◌^◌, [], IsTrue, is_some, length, min};
+ghost use Rattle.std.specs.Prelude.{◌≡◌, ◌↔◌, ◌-◌, ◌*◌, ◌^◌, [], IsTrue, is_some, length, min};
 ghost use Rattle.std.specs.Option.{option_copied};
 ghost use Rattle.std.specs.Borrow.{Bor};
-ghost use Rattle.bucket_slots.specs.Marking.{HasNoNewMark, MarksBy, slots_marked};
+ghost use Rattle.bucket_slots.specs.Marking.{HasNoNewMark, MarksBy};
 ghost use Rattle.bucket_slots.specs.Walking.{CallsEach};
-ghost use Rattle.bucket_table.specs.Map.ByKey.{InsertsAt, PreparesThen, ShrinksAt};
-ghost use Rattle.bucket_table.specs.Map.Finding.{FindsThen};
 ghost use Rattle.bucket_table.specs.Rehash.State.{first_tickets};
 ghost use Rattle.bucket_table.specs.Views.ArraysView.{marks_of, pairs_of};
-ghost use Rattle.collections.specs.Maps.{contains, get, IsEmpty, map_len, map_of};
 ghost use Rattle.collections.specs.Changes.{Inserts, ReadsOut, Reserves, Stays, TakesOut};
+ghost use Rattle.collections.specs.Maps.{contains, get, IsEmpty, map_len, map_of};
+ghost use Rattle.collections.specs.Marks.{LosesNoKeptMark, MarksRemoved};
 
 use crate::hash_map::NotInserted;
 use crate::room::{Fits, TableRoom};
@@ -165,6 +164,9 @@ impl<K: Eq + Drop, V: Drop, H: KeyHash<K>> HashIndex<K, V, H> {
     /// Inserts a pair whose key the index hasn't. Where no own slot of its home is free and one is
     /// marked, it first lets go each marked pair there whose mark the generation doesn't keep.
     ///
+    /// `HashTable::insert_pair` says which marks those are, and where growth and the incremental
+    /// rehash happen.
+    ///
     /// # Errors
     ///
     /// An equal key is there; or want of memory, and then none is: the pair comes back.
@@ -179,9 +181,7 @@ impl<K: Eq + Drop, V: Drop, H: KeyHash<K>> HashIndex<K, V, H> {
     ) -> Result<(), NotInserted<K, V>>
         ensures map { Inserts K.eq key value (map_of self.old) result (map_of self.new) }
         ensures marks { HasNoNewMark (marks_of self.old.arrays) (marks_of self.new.arrays) }
-        ensures arrays { FindsThen INDEX (H.hash_of self.old.hasher key) self.old (λ answer between.
-            InsertsAt INDEX (G.keeps generation.now) (key, value)
-            (H.hash_of self.old.hasher key % 256) between result answer self.new) }
+        ensures kept { LosesNoKeptMark (G.keeps generation.now) self.old.arrays self.new.arrays }
     {
         self.room.learn();
         self.table.sound();
@@ -193,16 +193,16 @@ impl<K: Eq + Drop, V: Drop, H: KeyHash<K>> HashIndex<K, V, H> {
     /// Marks the pair whose key is equal with the generation's epoch, so that the index is without
     /// it. Returns whether there was one.
     ///
+    /// `HashTable::mark` says where shrinking and the incremental rehash happen.
+    ///
     /// Never refused. O(1) expected, beside a resize. scc: `HashIndex::remove_sync`.
     #[inline(always)]
     pub fn remove<G: Generation>(&mut self, key: &K, generation: &G) -> bool
         ensures map { TakesOut K.eq key.now (map_of self.old) result (map_of self.new) }
         ensures marks { MarksBy (G.epoch_of generation.now) (marks_of self.old.arrays)
             (marks_of self.new.arrays) }
-        ensures arrays { PreparesThen INDEX (H.hash_of self.old.hasher key.now) self.old (λ between.
-            ShrinksAt K.eq key.now
-            (λ bucket at. slots_marked bucket at (G.epoch_of generation.now)) result between
-            self.new) }
+        ensures marked { MarksRemoved K.eq key.now (G.epoch_of generation.now) result
+            self.old.arrays self.new.arrays }
     {
         let removed = self.remove_with(key, generation, |_own: &K, _value: &V| ());
         removed.is_some()
@@ -210,6 +210,8 @@ impl<K: Eq + Drop, V: Drop, H: KeyHash<K>> HashIndex<K, V, H> {
 
     /// Hands the pair whose key is equal to a function, marks it as `remove` does, and returns what
     /// the function answers; `None` where the index hasn't the key.
+    ///
+    /// `HashTable::mark` says where shrinking and the incremental rehash happen.
     ///
     /// Never refused. O(1) expected, beside a resize. Own.
     #[inline(always)]
@@ -224,10 +226,8 @@ impl<K: Eq + Drop, V: Drop, H: KeyHash<K>> HashIndex<K, V, H> {
             (map_of self.old) result (map_of self.new) }
         ensures marks { MarksBy (G.epoch_of generation.now) (marks_of self.old.arrays)
             (marks_of self.new.arrays) }
-        ensures arrays { PreparesThen INDEX (H.hash_of self.old.hasher key.now) self.old (λ between.
-            ShrinksAt K.eq key.now
-            (λ bucket at. slots_marked bucket at (G.epoch_of generation.now)) (is_some result)
-            between self.new) }
+        ensures marked { MarksRemoved K.eq key.now (G.epoch_of generation.now) (is_some result)
+            self.old.arrays self.new.arrays }
     {
         self.room.learn();
         self.table.sound();

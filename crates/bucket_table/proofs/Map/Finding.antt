@@ -1,5 +1,5 @@
 -- What finding a bucket for a writer, and preparing a home, leave of a table.
-use Rattle.bucket_table.proofs.Words.{ArraysView, Bool, Err, IfOk, IsHome, IsLocked, Keeps, KeepsArrays, Ok, OnErr, OnOk, Result}
+use Rattle.bucket_table.proofs.Words.{ArraysView, Err, IfOk, IsHome, IsLocked, Keeps, KeepsArrays, Ok, OnErr, OnOk, Result}
 use Rattle.bucket_table.proofs.Words.{Side, TableView, WorksUnits, ap, arith, buckets_on, cases_lt, inl, inr, length, refl, subst}
 use Rattle.bucket_table.proofs.Words.{sym, ℕ, ◌<◌, ◌∙◌, ◌≡◌, ◌⊎◌}
 use Rattle.std.proofs.Common.{IfErr}

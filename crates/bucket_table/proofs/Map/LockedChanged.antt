@@ -1,9 +1,8 @@
 -- What a call of a locked bucket answers and leaves, by what its bucket's own call does.
-use Rattle.bucket_table.proofs.Words.{Bool, BucketView, Err, IfNone, IfOk, IfSome, KeepsOpenTickets, None, Ok, OnErr, OnOk, Option}
-use Rattle.bucket_table.proofs.Words.{Place, Result, Side, Some, TableView, free, if◌then◌else◌, is_free, live, live_pair, refl}
-use Rattle.bucket_table.proofs.Words.{slot_at, slot_in, slots_after_insertion, subst, ℕ, ◌↔◌, ◌∙◌, ◌≡◌}
-use Rattle.std.proofs.Common.{IfErr, IsNone, OnSome, is_ok}
-use Rattle.std.specs.List.{Contains}
+use Rattle.bucket_table.proofs.Words.{Bool, BucketView, Err, IfOk, Ok, OnErr, OnOk}
+use Rattle.bucket_table.proofs.Words.{Place, Result, Side, TableView, if◌then◌else◌, live, refl}
+use Rattle.bucket_table.proofs.Words.{slot_in, subst, ℕ, ◌∙◌, ◌≡◌}
+use Rattle.std.proofs.Common.{IfErr, is_ok}
 use Rattle.std.specs.declared.cmp.PartialEq as equals
 use Rattle.std.specs.declared.default.Default as default
 use Rattle.bucket_slots.specs.declared.lru.LruList as list

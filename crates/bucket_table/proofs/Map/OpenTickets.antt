@@ -1,8 +1,8 @@
 -- The open tickets stay: what becomes of the arrays says so, call by call.
 use Rattle.bucket_table.proofs.Words.{ArraysView, Bool, BucketView, Current, Err, KeepsOpenTickets, None, Ok, Option, Place, Result}
-use Rattle.bucket_table.proofs.Words.{Side, Some, TableView, arrays_with, bucket_with_value, cases_eq, cases_lt, false, inl, inr}
+use Rattle.bucket_table.proofs.Words.{Side, Some, TableView, arrays_with, cases_eq, cases_lt, false, inl, inr}
 use Rattle.bucket_table.proofs.Words.{refl, true, ℕ, ◌+◌, ◌-◌}
-use Rattle.bucket_table.specs.Map.ByKey.{ChangesAt, EvictsAt, InsertsAt, PreparesThen, ShrinksAt, UpsertsAt, WritesAt}
+use Rattle.bucket_table.specs.Map.ByKey.{ChangesAt, EvictsAt, InsertsAt, PreparesThen, ShrinksAt}
 use Rattle.bucket_table.specs.Map.Counting.{CountsAndResizes}
 use Rattle.bucket_table.specs.Map.Finding.{Finds, FindsThen}
 use Rattle.bucket_table.specs.Resize.Asking.{RemovesAndShrinks, ResizesIf}

@@ -1,5 +1,5 @@
 -- The units that a cursor works as it passes buckets.
-use Rattle.bucket_table.proofs.Words.{AreSourcesKilled, ArraysView, Bool, Err, IsInInterval, IsInRange, IsLength, KeepsArrays, Ok}
+use Rattle.bucket_table.proofs.Words.{AreSourcesKilled, ArraysView, Err, IsInInterval, IsInRange, IsLength, KeepsArrays, Ok}
 use Rattle.bucket_table.proofs.Words.{Result, Side, WorksUnits, ap, arith, bound_of, buckets_on, cases_lt, inl, inr, interval_width}
 use Rattle.bucket_table.proofs.Words.{length, refl, subst, sym, ℕ, ◌+◌, ◌-◌, ◌<◌, ◌^◌, ◌∙◌, ◌≡◌, ◌≤◌}
 use Rattle.bucket_table.specs.Rehash.Units.{WantsMemory}

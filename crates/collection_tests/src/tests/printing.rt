@@ -1,4 +1,4 @@
-//! How maps and sets are printed: as those of the standard library.
+//! How maps and sets are printed, which no clause says: as those of the standard library.
 use super::maps::Map;
 use super::sets::Set;
 use super::{check_same, steps};

@@ -1,6 +1,5 @@
-use Rattle.std.proofs.Common.{None, rules, ◌≡◌}
-use Rattle.collections.specs.Maps.{get, map_of}
-use Rattle.callers.proofs.Putting.{put_session, refused_stays}
+use Rattle.collections.specs.Maps.{map_of}
+use Rattle.callers.proofs.Putting.{none_had, put_session, refused_stays}
 use Rattle.callers.proofs.sessions.session_for.Goals as goal
 
 pub returns-in-Ok-clause-session : goal.returns-in-Ok-clause-session
@@ -15,5 +14,8 @@ returns-in-Err-Present-clause-unchanged g c =
 
 pub returns-in-Err-Present-clause-touched : goal.returns-in-Err-Present-clause-touched
 returns-in-Err-Present-clause-touched g c = λ there.
-    let none : get g.U.PartialEq.eq (map_of c.args.cache.now) c.args.user ≡ None = search rules in
-    absurd (search (rules, rw none at there))
+    absurd (none_had c.get.result _ c.is_some.result c.get.ensures.value c.is_some.ensures c.if-is_some.false there)
+
+pub returns-in-Ok-clause-touched : goal.returns-in-Ok-clause-touched
+returns-in-Ok-clause-touched g c = λ there.
+    absurd (none_had c.get.result _ c.is_some.result c.get.ensures.value c.is_some.ensures c.if-is_some.false there)

@@ -1,3 +1,4 @@
+use Rattle.collections.proofs.Orders.{puts_home}
 use Rattle.collections.proofs.Steps.{puts}
 use Rattle.collections.proofs.hash_cache.HashCache.put.Goals as goal
 
@@ -6,5 +7,8 @@ returns-clause-map g c = rw (← c.self.view_is) (puts g.K.PartialEq.eq g.met.K.
     c.sound.ensures.one_map.distinct c.sound-2.ensures.one_map.distinct c.args.key c.args.value
     c.put-outcome.result c.put-outcome.ensures.map)
 
-pub returns-clause-arrays : goal.returns-clause-arrays
-returns-clause-arrays g c = rw (← c.self.view_is) c.put-outcome.ensures.arrays
+pub returns-clause-home : goal.returns-clause-home
+returns-clause-home g c =
+    let puts = c.put-outcome.ensures.arrays in
+    rw (← c.self.view_is) (puts_home g.K.PartialEq.eq _ c.self.inside.table c.put-outcome.new.self g.met.K.Eq.laws
+    c.sound.ensures.one_map.distinct (c.args.key, c.args.value) c.put-outcome.result puts.answer puts.between puts.found puts.done)

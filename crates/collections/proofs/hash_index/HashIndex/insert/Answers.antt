@@ -1,4 +1,5 @@
 use Rattle.std.proofs.Common.{◌%◌}
+use Rattle.collections.proofs.KeptMarks.{inserted_keeps}
 use Rattle.collections.proofs.Marks.{no_new-inserted}
 use Rattle.collections.proofs.Steps.{inserts}
 use Rattle.collections.proofs.hash_index.HashIndex.insert.Goals as goal
@@ -15,5 +16,8 @@ returns-clause-marks g c =
     rw (← c.self.view_is) (no_new-inserted 79 (g.G.Generation.keeps c.args.generation.now) (c.args.key, c.args.value) (hash % 256) hash
     c.self.inside.table c.insert_pair-outcome.result c.insert_pair-outcome.new.self c.insert_pair-outcome.ensures.arrays)
 
-pub returns-clause-arrays : goal.returns-clause-arrays
-returns-clause-arrays g c = rw (← c.self.view_is) c.insert_pair-outcome.ensures.arrays
+pub returns-clause-kept : goal.returns-clause-kept
+returns-clause-kept g c =
+    let puts = c.insert_pair-outcome.ensures.arrays in
+    rw (← c.self.view_is) (inserted_keeps (g.G.Generation.keeps c.args.generation.now) 79 _ _ (c.args.key, c.args.value)
+    c.self.inside.table puts.between c.insert_pair-outcome.new.self c.insert_pair-outcome.result puts.answer puts.found puts.done)

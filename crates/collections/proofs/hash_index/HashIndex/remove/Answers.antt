@@ -6,5 +6,5 @@ pub returns-clause-map : goal.returns-clause-map
 returns-clause-map g c = rw c.is_some.ensures (takes_out g.K.PartialEq.eq _ c.args.key.now (map_of c.args.self.now)
     (map_of c.remove_with-removed.new.self) c.remove_with-removed.result c.remove_with-removed.ensures.map)
 
-pub returns-clause-arrays : goal.returns-clause-arrays
-returns-clause-arrays g c = rw c.is_some.ensures c.remove_with-removed.ensures.arrays
+pub returns-clause-marked : goal.returns-clause-marked
+returns-clause-marked g c = rw c.is_some.ensures c.remove_with-removed.ensures.marked

@@ -1,4 +1,5 @@
 use Rattle.collections.proofs.IndexSteps.{reads_out}
+use Rattle.collections.proofs.RemovedMarks.{marks_removed}
 use Rattle.collections.proofs.hash_index.HashIndex.remove_with.Goals as goal
 
 pub returns-clause-map : goal.returns-clause-map
@@ -8,5 +9,8 @@ returns-clause-map g c = rw (← c.self.view_is) (reads_out g.K.PartialEq.eq g.m
 pub returns-clause-marks : goal.returns-clause-marks
 returns-clause-marks g c = rw (← c.self.view_is) c.mark-outcome.ensures.marks
 
-pub returns-clause-arrays : goal.returns-clause-arrays
-returns-clause-arrays g c = rw (← c.self.view_is) c.mark-outcome.ensures.arrays
+pub returns-clause-marked : goal.returns-clause-marked
+returns-clause-marked g c =
+    let marks = c.mark-outcome.ensures.arrays in
+    rw (← c.self.view_is) (marks_removed g.K.PartialEq.eq c.args.key.now _ _ c.self.inside.table marks.between c.mark-outcome.new.self
+    marks.prepared c.sound.ensures.long _ marks.done)

@@ -1,0 +1,48 @@
+-- What the arrays are where a bucket was found for a writer: they were made ready, and may have grown then.
+use Rattle.bucket_table.specs.declared.arrays.side.Side.{Side}
+use Rattle.bucket_table.specs.declared.arrays.side.Side.TheVariants.{Current, Old}
+use Rattle.std.proofs.Common.{ℕ, ◌≡◌, ◌<◌, inl, inr, Bool, true, false, length, ap, refl, arith, ◌∙◌, ◌⊎◌}
+use Rattle.std.proofs.lemmas.Bool.{cases_lt}
+use Rattle.bucket_table.specs.Map.Finding.{MakesReady, ReadiesThenGrows}
+use Rattle.bucket_table.specs.Resize.Growing.{Grows}
+use Rattle.bucket_table.specs.Views.ArraysView.{ArraysView}
+use Rattle.bucket_table.specs.Views.Keeping.{Keeps}
+use Rattle.bucket_table.specs.Views.Sides.{buckets_on}
+use Rattle.bucket_table.proofs.Resize.Following.{made_keeps}
+use Rattle.bucket_table.proofs.Views.Keeping.{keeps_same}
+
+module _ {K V : Type 0} where
+  -- the arrays that were made ready, which are the old ones now where they grew
+  pub record IsFound (old : ArraysView K V) (side : Side) (index : ℕ) (new : ArraysView K V) : Type 0 where
+    pub ready : ArraysView K V
+    pub makes : MakesReady old index ready
+    pub grown : Grows side ready new
+
+  pub found : (kind hash : ℕ) (old : ArraysView K V) (side : Side) (index : ℕ) (new : ArraysView K V)
+      → ReadiesThenGrows kind hash old side index new → IsFound old side index new
+  unfolding ReadiesThenGrows
+  found kind hash old side index new readies = record { ready = readies.0; makes = readies.1; grown = readies.3 }
+
+  -- the same map
+  pub ready_keeps : (old : ArraysView K V) (index : ℕ) (ready : ArraysView K V) → MakesReady old index ready → Keeps old ready
+  ready_keeps old index ready makes = elim (cases_lt 0 (length old.linked)) [
+    | inl some ↦ (makes.beside some).keeps
+    | inr none ↦
+        let first = makes.first (omega (arith, none)) in
+        elim (cases_lt 0 (length old.current)) [
+          | inl stands ↦ rw (first.0 stands) (keeps_same old)
+          | inr lacks ↦ made_keeps old ready (first.1 (omega (arith, lacks)))
+        ]
+  ]
+
+  -- the side of the bucket is the array that was current
+  pub same_buckets : (side : Side) (ready new : ArraysView K V) → Grows side ready new → buckets_on new side ≡ ready.current
+  same_buckets Old ready new (capacity, pushed) = rw pushed.new_is refl
+  same_buckets Current ready new same = rw same refl
+
+  -- where no old array stands it is the one that stands
+  pub found_alone : (old : ArraysView K V) (side : Side) (index : ℕ) (new : ArraysView K V) → IsFound old side index new
+      → length old.linked ≡ 0 → 0 < length old.current → (new ≡ old) ⊎ (new.linked ≡ old.current)
+  found_alone old Old index new is none stands =
+      inr (rw (is.grown.1.new_is) (ap (λ (a : ArraysView K V). a.current) ((is.makes.first none).0 stands)))
+  found_alone old Current index new is none stands = inl (is.grown ∙ (is.makes.first none).0 stands)

@@ -1,0 +1,129 @@
+-- The marks of an index bucket after an insertion: those that it lets go are out, and the others stand as they stood.
+use Rattle.std.proofs.Common.{ℕ, ◌≡◌, ◌<◌, ◌≤◌, ◌-◌, ◌++◌, Bool, true, false, if◌then◌else◌, List, [], ◌∷◌, filter, flat_map, get_or}
+use Rattle.std.proofs.Common.{length, map, reverse, set, suc, zero, inl, inr, refl, sym, ap, ◌∙◌, arith}
+use Rattle.std.specs.List.{suffix_len}
+use Rattle.std.proofs.lemmas.Bool.{cases_Bool}
+use Rattle.std.proofs.lemmas.List.{get_or-reverse}
+use Rattle.std.proofs.lemmas.List.Elements.{filter-append, filter_map-append}
+use Rattle.std.proofs.lemmas.List.Sums.{prefix_len_passes}
+use Rattle.bucket_slots.specs.BucketView.{BucketView, block_at, flattened, marks_in, with_slot_at}
+use Rattle.bucket_slots.specs.Clearing.{looks_at_marks, rows_without_free_end, slot_without_expired, slots_after_insertion}
+use Rattle.bucket_slots.specs.Clearing.{slots_without_expired, slots_without_free_end}
+use Rattle.bucket_slots.specs.Placing.{free_block, place_for_next, slots_with, with_place_made}
+use Rattle.bucket_slots.specs.Slots.{Slot, all_free, free, live, marked, marked_entries, marked_entry, slot_at}
+use Rattle.bucket_slots.proofs.BucketPlacing.{place_made, same_made}
+use Rattle.bucket_slots.proofs.Entries.{filter_map-chain, filter_map-flattened, filter_map-is, flat_map-take}
+use Rattle.bucket_slots.proofs.NoNewMarks.{mark_of}
+
+-- another element that gives the same
+pub flat_map-set : {A B : Type 0} (f : A → List B) (items : List A) (i : ℕ) (a d : A) → f a ≡ f (get_or items i d)
+    → flat_map f (set items i a) ≡ flat_map f items
+flat_map-set f [] i a d same = refl
+flat_map-set f (c ∷ items) zero a d same = ap (λ l. l ++ flat_map f items) same
+flat_map-set f (c ∷ items) (suc i) a d same = ap (λ l. f c ++ l) (flat_map-set f items i a d same)
+
+filter-again : {A : Type 0} (test : A → Bool) (items : List A) → filter test (filter test items) ≡ filter test items
+filter-again test [] = refl
+filter-again test (a ∷ items) = elim (cases_Bool (test a)) [
+  | inl passes ↦ rw (passes, passes, filter-again test items) refl
+  | inr fails ↦ rw fails (filter-again test items)
+]
+
+-- what stands within the longest end that passes passes
+suffix_passes : {A : Type 0} (test : A → Bool) (xs : List A) (i : ℕ) (d : A) → length xs - suffix_len test xs ≤ i → i < length xs
+    → test (get_or xs i d) ≡ true
+suffix_passes test xs i d from below =
+    let back : length xs - 1 - (length xs - 1 - i) ≡ i = omega arith in
+    sym (ap test (get_or-reverse xs (length xs - 1 - i) d (omega arith) ∙ ap (λ k. get_or xs k d) back))
+    ∙ prefix_len_passes test (reverse xs) (length xs - 1 - i) d (omega arith)
+
+module _ {K V : Type 0} where
+  -- another slot that has the same mark, or none
+  row-set : (row : List (Slot K V)) (pos : ℕ) (x : Slot K V) → mark_of x ≡ mark_of (slot_at row pos)
+      → marked_entries (set row pos x) ≡ marked_entries row
+  row-set row pos x same =
+      filter_map-is marked_entry (set row pos x) ∙ flat_map-set mark_of row pos x free same ∙ sym (filter_map-is marked_entry row)
+
+  rows-set : (rows : List (List (Slot K V))) (i pos : ℕ) (x : Slot K V) → mark_of x ≡ mark_of (slot_at (get_or rows i []) pos)
+      → marked_entries (flattened (set rows i (set (get_or rows i []) pos x))) ≡ marked_entries (flattened rows)
+  rows-set rows i pos x same =
+      filter_map-flattened marked_entry (set rows i (set (get_or rows i []) pos x))
+      ∙ flat_map-set (λ row. marked_entries row) rows i _ [] (row-set (get_or rows i []) pos x same)
+      ∙ sym (filter_map-flattened marked_entry rows)
+
+  with_slot : (s : BucketView K V) (block pos : ℕ) (x : Slot K V) → mark_of x ≡ mark_of (slot_at (block_at s block) pos)
+      → marks_in (with_slot_at s block pos x) ≡ marks_in s
+  with_slot s zero pos x same = rows-set (s.own ∷ s.chain) zero pos x same
+  with_slot s (suc i) pos x same = rows-set (s.own ∷ s.chain) (suc i) pos x same
+
+  -- a pair is put, and the blocks that are all free at the end go
+  put : (s : BucketView K V) (pair : K × V) (byte : ℕ) → marks_in (slots_with s pair byte) ≡ marks_in s
+  put s pair byte =
+      let at = place_for_next s in
+      with_slot (with_place_made s) at.block at.pos (live pair byte) (sym (ap mark_of (place_made s).slot))
+      ∙ same_made marks_in s (filter_map-chain marked_entry s (free_block ∷ s.chain) refl)
+
+  no_mark : (row : List (Slot K V)) → all_free row ≡ true → marked_entries row ≡ []
+  no_mark [] vacant = refl
+  no_mark (free ∷ row) vacant = no_mark row vacant
+  no_mark (slot ∷ row) vacant = cc
+
+  end : (s : BucketView K V) → marks_in (slots_without_free_end s) ≡ marks_in s
+  end s = filter_map-chain marked_entry s (rows_without_free_end s.chain)
+      (filter_map-flattened marked_entry (rows_without_free_end s.chain)
+      ∙ flat_map-take (λ row. marked_entries row) _ s.chain []
+      (λ i from below. no_mark (get_or s.chain i []) (suffix_passes all_free s.chain i [] from below))
+      ∙ sym (filter_map-flattened marked_entry s.chain))
+
+  module _ (keeps : ℕ → Bool) where
+    -- the marks whose epoch is kept
+    abbrev pub kept : List ((K × V) × ℕ) → List ((K × V) × ℕ)
+    kept marks = filter (λ mark. keeps mark.1) marks
+
+    row_unexpired : (row : List (Slot K V)) → marked_entries (map (slot_without_expired keeps) row) ≡ kept (marked_entries row)
+    row_unexpired [] = refl
+    row_unexpired (free ∷ row) = row_unexpired row
+    row_unexpired (live pair byte ∷ row) = row_unexpired row
+    row_unexpired (marked pair epoch ∷ row) = elim (cases_Bool (keeps epoch)) [
+      | inl stays ↦ rw stays (ap (λ l. (pair, epoch) ∷ l) (row_unexpired row))
+      | inr goes ↦ rw goes (row_unexpired row)
+    ]
+
+    rows_unexpired : (rows : List (List (Slot K V)))
+        → marked_entries (flattened (map (map (slot_without_expired keeps)) rows)) ≡ kept (marked_entries (flattened rows))
+    rows_unexpired [] = refl
+    rows_unexpired (row ∷ rows) =
+        rw (
+          filter_map-append marked_entry (map (slot_without_expired keeps) row) (flattened (map (map (slot_without_expired keeps)) rows)),
+          filter_map-append marked_entry row (flattened rows),
+          filter-append (λ mark. keeps mark.1) (marked_entries row)
+              (marked_entries (flattened rows)),
+          row_unexpired row,
+          rows_unexpired rows,
+        ) refl
+
+    -- what stands after an insertion, that looks at marks or doesn't
+    abbrev pub left_of : Bool → List ((K × V) × ℕ) → List ((K × V) × ℕ)
+    left_of looks marks = if looks then kept marks else marks
+
+    inserted : (s : BucketView K V) (pair : K × V) (byte : ℕ) (looks : Bool) → marks_in (if looks
+        then slots_without_free_end (slots_with (slots_without_expired keeps s) pair byte) else slots_with s pair byte)
+        ≡ left_of looks (marks_in s)
+    inserted s pair byte true =
+        let cleared = slots_without_expired keeps s in
+        end (slots_with cleared pair byte) ∙ put cleared pair byte ∙ rows_unexpired (s.own ∷ s.chain)
+    inserted s pair byte false = put s pair byte
+
+    pub marks_in-slots_after_insertion : (kind : ℕ) (s : BucketView K V) (pair : K × V) (byte : ℕ)
+        → marks_in (slots_after_insertion kind keeps s pair byte) ≡ left_of (looks_at_marks kind s) (marks_in s)
+    marks_in-slots_after_insertion kind s pair byte = inserted s pair byte (looks_at_marks kind s)
+
+    -- what is kept stands
+    kept-left_of : (looks : Bool) (marks : List ((K × V) × ℕ)) → kept (left_of looks marks) ≡ kept marks
+    kept-left_of true marks = filter-again (λ mark. keeps mark.1) marks
+    kept-left_of false marks = refl
+
+    pub kept_after_insertion : (kind : ℕ) (s : BucketView K V) (pair : K × V) (byte : ℕ)
+        → kept (marks_in (slots_after_insertion kind keeps s pair byte)) ≡ kept (marks_in s)
+    kept_after_insertion kind s pair byte =
+        ap kept (marks_in-slots_after_insertion kind s pair byte) ∙ kept-left_of (looks_at_marks kind s) (marks_in s)

@@ -1,0 +1,90 @@
+-- The order of use in a cache after a put and after a removal.
+use Rattle.bucket_table.specs.declared.arrays.side.Side.{Side}
+use Rattle.bucket_table.specs.declared.arrays.side.Side.TheVariants.{Current, Old}
+use Rattle.std.proofs.Common.{ℕ, ◌≡◌, ◌<◌, ◌%◌, inl, inr, Bool, true, false, Option, Result, Ok, Err, length, refl, ap}
+use Rattle.std.proofs.Common.{subst, ◌∙◌, arith}
+use Rattle.std.specs.Cmp.{IsEquivalence}
+use Rattle.std.specs.List.{IsDistinct}
+use Rattle.std.specs.Map.{keys_of}
+use Rattle.bucket_slots.specs.ArrayView.{bucket_at}
+use Rattle.bucket_slots.specs.BucketView.{BucketView}
+use Rattle.bucket_slots.specs.Homes.{IsHome}
+use Rattle.bucket_slots.specs.Removing.{slots_without}
+use Rattle.bucket_slots.specs.Sizing.{IsLength}
+use Rattle.bucket_table.specs.Map.ByKey.{PreparesThen, ShrinksAt}
+use Rattle.bucket_table.specs.Map.Finding.{Finds, MakesReady}
+use Rattle.bucket_table.specs.Map.Putting.{Goes, PutsAt, slots_left, slots_put}
+use Rattle.bucket_table.specs.Resize.Growing.{Grows}
+use Rattle.bucket_table.specs.Views.ArraysView.{ArraysView, TableView, pairs_of}
+use Rattle.bucket_table.specs.Views.Sides.{arrays_with, bucket_of}
+use Rattle.bucket_table.specs.declared.hash_table.NotInserted.{NotInserted}
+use Rattle.bucket_table.specs.declared.hash_table.NotInserted.TheVariants.{Memory, Present}
+use Rattle.bucket_table.proofs.Map.MapKept.{state_found}
+use Rattle.collections.specs.Changes.{Stays}
+use Rattle.collections.specs.Maps.{map_of}
+use Rattle.collections.specs.Orders.{LeavesPlace, PutsOrKeeps, ReplacesBucket}
+use Rattle.collections.proofs.Found.{found, found_alone, ready_keeps, same_buckets}
+use Rattle.collections.proofs.Lookups.{distinct_permuted}
+use Rattle.collections.proofs.Shrinking.{none_left, removed_ends}
+use Rattle.collections.proofs.Steps.{stays}
+
+module _ {K V : Type 0} where
+  -- another bucket on the side that was current
+  replaced : (side : Side) (index : ℕ) (bucket : BucketView K V) (ready between new : ArraysView K V) → Grows side ready between
+      → new ≡ arrays_with between side index bucket → ReplacesBucket index bucket ready new
+  replaced Old index bucket ready between new (capacity, pushed) is = inr (rw (is, pushed.new_is) refl)
+  replaced Current index bucket ready between new same is = inl (rw same at is)
+
+module _ {K V H : Type 0} (eq : K → K → Bool) (hash : ℕ) (old new : TableView K V H) where
+  module _ (laws : IsEquivalence eq) (distinct : IsDistinct eq (keys_of (pairs_of old.arrays))) where
+    ready_stays : (index : ℕ) (ready : ArraysView K V) → MakesReady old.arrays index ready
+        → Stays eq (map_of old) (map_of (record old { arrays = ready }))
+    ready_stays index ready makes =
+        let keeps = state_found 67 old.hasher old.arrays ready (ready_keeps old.arrays index ready makes) in
+        stays eq laws 67 old (record old { arrays = ready }) distinct
+        (distinct_permuted eq laws (pairs_of old.arrays) (pairs_of ready) keeps.pairs distinct) keeps
+
+    -- what the table puts where it found a bucket
+    pub puts_home : (pair : K × V) (r : Result (Option (K × V)) (NotInserted K V)) (answer : Result (Side × ℕ) (Unit {0}))
+        (between : TableView K V H) → Finds 67 hash old answer between → PutsAt true pair (hash % 256) between r answer new
+        → PutsOrKeeps eq pair hash old r new.arrays
+    puts_home pair (Ok went) (Ok at) between finds puts =
+        let is = found 67 hash old.arrays at.0 at.1 between.arrays finds.found in
+        let same = same_buckets at.0 is.ready between.arrays is.grown in
+        let here : bucket_of between at.0 at.1 ≡ bucket_at is.ready.current at.1 = ap (λ bs. bucket_at bs at.1) same in
+        let after : BucketView K V → BucketView K V = λ bucket. slots_put true (slots_left bucket went) pair (hash % 256) in
+        record {
+          between = is.ready;
+          map = ready_stays at.1 is.ready is.makes;
+          carried = is.makes.beside;
+          alone = λ none stands. (is.makes.first none).0 stands;
+          index = at.1;
+          home = subst (λ bs. IsHome (length bs) hash at.1) same finds.home;
+          goes = subst (λ bucket. Goes bucket went) here puts.0;
+          put = replaced at.0 at.1 _ is.ready between.arrays new.arrays is.grown
+              (subst (λ bucket. new.arrays ≡ arrays_with between.arrays at.0 at.1 (after bucket)) here
+              (ap (λ (t : TableView K V H). t.arrays) puts.1));
+        }
+    puts_home pair (Ok went) (Err e) between finds none = absurd none
+    puts_home pair (Err (Present k v)) (Ok at) between finds same =
+        let is = found 67 hash old.arrays at.0 at.1 between.arrays finds.found in
+        rw same (found_alone old.arrays at.0 at.1 between.arrays is)
+    puts_home pair (Err (Present k v)) (Err e) between finds same = λ none stands. absurd (omega (arith, finds.alone none, stands))
+    puts_home pair (Err (Memory k v)) (Ok at) between finds none = absurd none
+    puts_home pair (Err (Memory k v)) (Err e) between finds same = λ none stands. absurd (omega (arith, finds.alone none, stands))
+
+  module _ (key : K) (long : 0 < length old.arrays.current → IsLength (length old.arrays.current)) where
+    left : length old.arrays.linked ≡ 0 → ShrinksAt eq key slots_without true old new → LeavesPlace eq key true old.arrays new.arrays
+    left none (Old, index, at, stands, shrinks) = absurd (omega (arith, stands.within, none))
+    left none (Current, index, at, stands, shrinks) = λ _. elim (removed_ends old.arrays Current index _ new.arrays long shrinks) [
+      | inl is ↦ inr (index, at, stands, inl is)
+      | inr (inl gone) ↦ inl (none_left _ new.arrays gone)
+      | inr (inr (capacity, pushed)) ↦ inr (index, at, stands, inr (rw pushed.new_is refl))
+    ]
+
+    -- what the table takes
+    pub leaves_place : (removed : Bool) → PreparesThen 67 hash old (λ between. ShrinksAt eq key slots_without removed between new)
+        → LeavesPlace eq key removed old.arrays new.arrays
+    leaves_place true p = λ none.
+        left none (subst (λ between. ShrinksAt eq key slots_without true between new) (p.prepared.alone none) p.done) none
+    leaves_place false p = λ none. ap (λ (t : TableView K V H). t.arrays) (p.done ∙ p.prepared.alone none)

@@ -1,0 +1,112 @@
+-- The marks of an index after a removal.
+use Rattle.bucket_table.specs.declared.arrays.side.Side.{Side}
+use Rattle.bucket_table.specs.declared.arrays.side.Side.TheVariants.{Current, Old}
+use Rattle.std.proofs.Common.{ℕ, ◌≡◌, ◌<◌, ◌++◌, inl, inr, Bool, true, false, Some, List, [], ◌∷◌, length, replicate, zero, suc, refl}
+use Rattle.std.proofs.Common.{sym, ap, subst, ◌∙◌, append-nil}
+use Rattle.std.specs.List.Sorted.{IsPermutation}
+use Rattle.std.proofs.lemmas.List.{nil_from_length}
+use Rattle.std.proofs.lemmas.List.Sorted.{Contains-permutation, IsPermutation-append_right, IsPermutation-sym, IsPermutation-trans}
+use Rattle.bucket_slots.specs.ArrayView.{IsNewArray}
+use Rattle.bucket_slots.specs.BucketView.{BucketView, Place, block_at, empty_bucket, marks_in, slot_in, with_slot_at}
+use Rattle.bucket_slots.specs.Marking.{slot_marked, slots_marked}
+use Rattle.bucket_slots.specs.Sizing.{IsLength}
+use Rattle.bucket_slots.specs.Slots.{Slot, free, is_live, live_pair, marked, marked_entry, slot_at}
+use Rattle.bucket_slots.proofs.CallerLemmas.{flat_map-exchanged, live_is, regrouped, rotated}
+use Rattle.bucket_slots.proofs.ChangedSlots.{live_inside}
+use Rattle.bucket_slots.proofs.Entries.{rows-exchanged}
+use Rattle.bucket_slots.proofs.NoNewMarks.{mark_of}
+use Rattle.bucket_table.specs.Map.ByKey.{ShrinksAt}
+use Rattle.bucket_table.specs.Map.LookingUp.{IsThere}
+use Rattle.bucket_table.specs.Map.Preparing.{IsPrepared}
+use Rattle.bucket_table.specs.Rehash.Relocation.{marks_among}
+use Rattle.bucket_table.specs.Resize.Resizing.{IsMade, IsPushed}
+use Rattle.bucket_table.specs.Views.ArraysView.{ArraysView, TableView, marks_of, pairs_of}
+use Rattle.bucket_table.specs.Views.Sides.{arrays_with, bucket_on, buckets_on}
+use Rattle.collections.specs.Marks.{AddsMark, AreEarlierMarks, MarksRemoved}
+use Rattle.collections.proofs.Shrinking.{none_left, removed_ends}
+
+module _ {K V : Type 0} where
+  -- another slot exchanges its mark for what stands there
+  marks_in-with_slot : (s : BucketView K V) (block pos : ℕ) (x : Slot K V) → pos < length (block_at s block)
+      → IsPermutation (mark_of x ++ marks_in s) (mark_of (slot_at (block_at s block) pos) ++ marks_in (with_slot_at s block pos x))
+  marks_in-with_slot s zero pos x short = rows-exchanged marked_entry (s.own ∷ s.chain) zero pos x free short
+  marks_in-with_slot s (suc i) pos x short = rows-exchanged marked_entry (s.own ∷ s.chain) (suc i) pos x free short
+
+  -- a pair that is marked adds its mark, among those of its bucket and among all
+  marks_in-marked : (s : BucketView K V) (at : Place) (epoch : ℕ) (pair : K × V) → live_pair (slot_in s at) ≡ Some pair
+      → IsPermutation ((pair, epoch) ∷ marks_in s) (marks_in (slots_marked s at epoch))
+  marks_in-marked s at epoch pair here =
+      let is = live_is (slot_in s at) pair here in
+      let put = marks_in-with_slot s at.block at.pos (marked pair epoch) (live_inside (block_at s at.block) at.pos (ap is_live is.1)) in
+      let went = rw is.1 at put in
+      let same = ap (slot_marked epoch) (sym is.1) in
+      subst (λ x. IsPermutation ((pair, epoch) ∷ marks_in s) (marks_in (with_slot_at s at.block at.pos x))) same went
+
+  marks_of-marked : (arrays : ArraysView K V) (side : Side) (index : ℕ) (at : Place) (epoch : ℕ) (pair : K × V)
+      → index < length (buckets_on arrays side) → live_pair (slot_in (bucket_on arrays side index) at) ≡ Some pair
+      → IsPermutation ((pair, epoch) ∷ marks_of arrays)
+      (marks_of (arrays_with arrays side index (slots_marked (bucket_on arrays side index) at epoch)))
+  marks_of-marked arrays Current index at epoch pair within here =
+      let one = (pair, epoch) ∷ [] in
+      regrouped one [] (marks_among arrays.current) _ (marks_among arrays.linked)
+      (flat_map-exchanged marks_in one [] arrays.current index _ empty_bucket within (marks_in-marked _ at epoch pair here))
+  marks_of-marked arrays Old index at epoch pair within here =
+      let one = (pair, epoch) ∷ [] in
+      let front = marks_among arrays.current in
+      IsPermutation-trans _ _ _ (rotated one front (marks_among arrays.linked)) (IsPermutation-append_right front _ _
+      (flat_map-exchanged marks_in one [] arrays.linked index _ empty_bucket within (marks_in-marked _ at epoch pair here)))
+
+  -- a new array has none, and so arrays that are pushed or made have the marks that they had
+  new_marks : (n : ℕ) → marks_among (replicate n (empty_bucket {K = K} {V = V})) ≡ []
+  new_marks zero = refl
+  new_marks (suc n) = new_marks n
+
+  fresh_marks : (capacity : ℕ) (fresh : List (BucketView K V)) → IsNewArray capacity fresh → marks_among fresh ≡ []
+  fresh_marks capacity fresh is = ap (λ (bs : List (BucketView K V)). marks_among bs) is.empty ∙ new_marks (length fresh)
+
+  pub marks_of-made : (old new : ArraysView K V) → IsMade old new → marks_of new ≡ marks_of old
+  marks_of-made old new made =
+      rw (made.new_is, fresh_marks old.minimum made.fresh made.fresh_is, nil_from_length old.current made.none) refl
+
+  pub marks_of-pushed : (capacity : ℕ) (old new : ArraysView K V) → IsPushed capacity old new → marks_of new ≡ marks_of old
+  marks_of-pushed capacity old new pushed = rw (
+    pushed.new_is,
+    fresh_marks capacity pushed.fresh pushed.fresh_is,
+    nil_from_length old.linked pushed.alone,
+    append-nil (marks_among old.current),
+  ) refl
+
+module _ {K V H : Type 0} (eq : K → K → Bool) (key : K) (epoch hash : ℕ) (old between new : TableView K V H)
+    (prepared : IsPrepared 79 hash old between) where
+  earlier : AreEarlierMarks old.arrays (marks_of between.arrays)
+  earlier =
+      record { earlier = prepared.kept.keeps.marks; all = λ none. ap (λ (t : TableView K V H). marks_of t.arrays) (prepared.alone none) }
+
+  stood : (pair : K × V) → IsThere eq key (pairs_of between.arrays) pair → IsThere eq key (pairs_of old.arrays) pair
+  stood pair there = (
+    Contains-permutation (pairs_of between.arrays) (pairs_of old.arrays) pair
+        (IsPermutation-sym (pairs_of old.arrays) (pairs_of between.arrays) prepared.map.pairs) there.0,
+    there.1,
+  )
+
+  -- the table's removal, that may shrink it
+  pub marks_removed : (0 < length old.arrays.current → IsLength (length old.arrays.current)) → (removed : Bool)
+      → ShrinksAt eq key (λ bucket at. slots_marked bucket at epoch) removed between new
+      → MarksRemoved eq key epoch removed old.arrays new.arrays
+  marks_removed long false same = rw same earlier
+  marks_removed long true (side, index, at, stands, shrinks) =
+      let bucket = slots_marked (bucket_on between.arrays side index) at epoch in
+      let mid = arrays_with between.arrays side index bucket in
+      let marks = marks_of-marked between.arrays side index at epoch stands.pair stands.within stands.slot in
+      let adds : marks_of new.arrays ≡ marks_of mid → AddsMark eq key epoch old.arrays new.arrays = λ same. record {
+        pair = stands.pair;
+        there = stood stands.pair stands.there;
+        earlier = marks_of between.arrays;
+        kept = earlier;
+        marks = rw same marks;
+      } in
+      elim (removed_ends between.arrays side index bucket new.arrays (rw prepared.kept.current_len long) shrinks) [
+        | inl is ↦ inl (adds (ap (λ (a : ArraysView K V). marks_of a) is))
+        | inr (inl gone) ↦ inr (none_left mid new.arrays gone)
+        | inr (inr (capacity, pushed)) ↦ inl (adds (marks_of-pushed capacity mid new.arrays pushed))
+      ]

@@ -1,0 +1,31 @@
+-- What becomes of the marks of an index.
+use Rattle.std.specs.Prelude.{ℕ, ◌≡◌, ◌⊎◌, ◌++◌, Bool, true, false, List, [], ◌∷◌, length}
+use Rattle.std.specs.List.{filter}
+use Rattle.std.specs.List.Sorted.{IsPermutation}
+use Rattle.bucket_slots.specs.Marking.{HasNoNewMark}
+use Rattle.bucket_table.specs.Map.LookingUp.{IsThere}
+use Rattle.bucket_table.specs.Views.ArraysView.{ArraysView, marks_of, pairs_of}
+
+-- these marks are earlier ones, and all of them where no old array stands
+pub record AreEarlierMarks {K V : Type 0} (old : ArraysView K V) (marks : List ((K × V) × ℕ)) : Type 0 where
+  pub earlier : HasNoNewMark (marks_of old) marks
+  pub all : length old.linked ≡ 0 → marks ≡ marks_of old
+
+-- the pair under the key is marked with the epoch, beside earlier marks
+pub record AddsMark {K V : Type 0} (eq : K → K → Bool) (key : K) (epoch : ℕ) (old new : ArraysView K V) : Type 0 where
+  pub pair : K × V
+  pub there : IsThere eq key (pairs_of old) pair
+  pub earlier : List ((K × V) × ℕ)
+  pub kept : AreEarlierMarks old earlier
+  pub marks : IsPermutation ((pair, epoch) ∷ earlier) (marks_of new)
+
+module _ {K V : Type 0} where
+  -- a pair that is removed is marked, or no array is left; where none is removed, the marks are earlier ones
+  abbrev pub MarksRemoved : (K → K → Bool) → K → ℕ → Bool → ArraysView K V → ArraysView K V → Type 0
+  MarksRemoved eq key epoch true old new = AddsMark eq key epoch old new ⊎ (new.current ++ new.linked ≡ [])
+  MarksRemoved eq key epoch false old new = AreEarlierMarks old (marks_of new)
+
+  -- where no old array stands, no mark goes whose epoch the generation keeps
+  abbrev pub LosesNoKeptMark : (ℕ → Bool) → ArraysView K V → ArraysView K V → Type 0
+  LosesNoKeptMark keeps old new =
+      length old.linked ≡ 0 → filter (λ mark. keeps mark.1) (marks_of new) ≡ filter (λ mark. keeps mark.1) (marks_of old)
