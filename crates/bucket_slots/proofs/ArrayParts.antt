@@ -2,10 +2,10 @@
 use Rattle.bucket_slots.proofs.Words.{All, All-head, All-tail, AreParts, Bool, BucketView, IsLengthFor, List, [], add-mul, ap, append-nil}
 use Rattle.bucket_slots.proofs.Words.{append_assoc, arith, cases_lt, div-add-mod, div_below, drop, empty_bucket, false, flat_map-append}
 use Rattle.bucket_slots.proofs.Words.{flattened, get_or, inl, inr, length, length-append, length-set, length-take-le, mod-lt, mul_comm}
-use Rattle.bucket_slots.proofs.Words.{one-mul, part_at, pow_pos, replicate, set, set-get_or, set_split, subst, suc, sym, take, true}
+use Rattle.bucket_slots.proofs.Words.{one-mul, part_at, pow_pos, refl, replicate, set, set-get_or, set_split, subst, suc, sym, take, true}
 use Rattle.bucket_slots.proofs.Words.{unmade_bucket, with_unmade, zero, ℕ, ◌%◌, ◌*◌, ◌++◌, ◌+◌, ◌-◌, ◌/◌, ◌<◌, ◌^◌, ◌∙◌, ◌∷◌, ◌≡◌, ◌≤◌}
-use Rattle.std.proofs.lemmas.List.{get_or-append_right, get_or_append_left, length-replicate, length_push, replicate-append-replicate}
-use Rattle.std.proofs.lemmas.List.{set-append_left, set-append_right}
+use Rattle.std.proofs.lemmas.List.{get_or-append_right, get_or-replicate, get_or_append_left, get_or_read, length-replicate, length_push}
+use Rattle.std.proofs.lemmas.List.{replicate-append-replicate, set-append_left, set-append_right}
 use Rattle.std.proofs.lemmas.List.Elements.{All-get_or, All-replicate, All-same, All-set, All-take}
 use Rattle.bucket_slots.specs.ArrayView.{IsNewArray}
 
@@ -79,6 +79,29 @@ module _ {K V : Type 0} where
       → get_or (with_unmade made len released) i empty_bucket ≡ get_or made i empty_bucket
   get_or-made made len i released there =
       get_or_append_left made (replicate (len - length made) (unmade_bucket released)) empty_bucket i there
+
+  -- a bucket is read of a part, whose buckets are the made ones and more
+  pub part_read : (made part : Buckets K V) (len i : ℕ) (released : Bool) (bucket : BucketView K V) → with_unmade made len released ≡ part
+      → i < length made → bucket ≡ get_or made i bucket → bucket ≡ get_or part i empty_bucket
+  part_read made part len i released bucket same there is =
+      rw (← same) (get_or_read made i bucket there is empty_bucket ∙ sym (get_or-made made len i released there))
+
+  pub length-part : (made part : Buckets K V) (len : ℕ) (released : Bool) → with_unmade made len released ≡ part
+      → length part ≡ length made + (len - length made)
+  length-part made part len released same =
+      let behind = replicate (len - length made) (unmade_bucket released) in
+      rw (← same)
+      (length-append made behind ∙ ap (λ n. length made + n) (length-replicate (len - length made) (unmade_bucket released)))
+
+  -- and one that isn't made
+  pub part_unmade : (made part : Buckets K V) (len i : ℕ) (released : Bool) → with_unmade made len released ≡ part → length made ≤ i
+      → i < length part → unmade_bucket released ≡ get_or part i empty_bucket
+  part_unmade made part len i released same past below =
+      let spare : BucketView K V = unmade_bucket released in
+      let behind = replicate (len - length made) spare in
+      let long = length-part made part len released same in
+      rw (← same) (sym (get_or-append_right made behind (length made) i empty_bucket refl past
+      ∙ get_or-replicate (len - length made) (i - length made) spare empty_bucket (omega arith)))
 
   -- one more bucket is made
   pub made_one : (made : Buckets K V) (len : ℕ) (released : Bool) → length made < len

@@ -1,7 +1,7 @@
 -- Rows on both sides of a place in a list of blocks.
 use Rattle.bucket_slots.proofs.Words.{Box, List, None, Option, Some, [], ap, append_assoc, arith, drop, drop-drop, drop_all, get_or}
-use Rattle.bucket_slots.proofs.Words.{get_or-drop, length, length-drop, refl, rows_of, sym, take, take-add, ℕ, ◌++◌, ◌+◌, ◌-◌, ◌<◌, ◌∙◌}
-use Rattle.bucket_slots.proofs.Words.{◌∷◌, ◌≡◌, ◌≤◌}
+use Rattle.bucket_slots.proofs.Words.{get_or-drop, get_or_read, length, length-drop, refl, rows_of, suc, sym, take, take-add, ℕ, ◌++◌}
+use Rattle.bucket_slots.proofs.Words.{◌+◌, ◌-◌, ◌<◌, ◌∙◌, ◌∷◌, ◌≡◌, ◌≤◌}
 use Rattle.bucket_slots.specs.declared.bucket.blocks.Block.{Block}
 use Rattle.bucket_slots.specs.Layout.LinkLoans.{link_with_next, link_with_row}
 
@@ -48,3 +48,13 @@ drop_past_end rows index count later here = drop_all count rows (omega (arith, l
 pub length-some : {T A : Type 0} (rows : List T) (link : Option (Box (Block T) A)) (block : Box (Block T) A)
     → rows_of link ≡ rows → link ≡ Some block → rows ≡ block.value.row ∷ block.value.next
 length-some rows link block same some = sym same ∙ ap rows_of some
+
+-- the row that is read or lent is the one at its number
+pub row_read : {T : Type 0} (rows now : List (List T)) (index : ℕ) (row : List T) → rows ≡ now → index < length now
+    → row ≡ get_or rows index row → row ≡ get_or now index []
+row_read rows now index row same within is = rw (← same) (get_or_read rows index row (rw same within) is [])
+
+-- behind a link's first block are fewer rows
+pub fewer_behind : {T A : Type 0} (rows behind : List T) (link : Option (Box (Block T) A)) (block : Box (Block T) A)
+    → rows_of link ≡ rows → link ≡ Some block → behind ≡ block.value.next → suc (length behind) ≤ length rows
+fewer_behind rows behind link block same some rest = omega (arith, ap length (length-some rows link block same some), ap length rest)

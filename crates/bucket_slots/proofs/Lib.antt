@@ -2,13 +2,13 @@ pub mod Words
 pub mod WalkWords
 pub mod Matching
 pub mod CallingEach
-pub mod ChangingEach
 pub mod SlotFronts
 pub mod Recency
 pub mod CellsMemory
 pub mod OptionWalks
 pub mod BodyParts
 pub mod EmptyPlaces
+pub mod FilledPlaces
 pub mod Positions
 pub mod Masks
 pub mod Bitmaps
@@ -46,3 +46,4 @@ pub mod Sampled
 pub mod Capacities
 pub mod ArrayParts
 pub mod ArrayCallerLemmas
+pub mod WrittenValues

@@ -17,6 +17,11 @@ module _ {K V : Type 0} where
   is_live_by free = refl
   is_live_by slot = refl
 
+  -- a slot with a byte is live
+  pub candidate_live : (slot : Slot K V) (byte : ℕ) → has_byte byte slot ≡ true → is_live slot ≡ true
+  candidate_live (live pair own) byte is = refl
+  candidate_live slot byte is = cc
+
   candidate_bit : (slot : Slot K V) (byte own bit : ℕ) → slot_of (pair_of slot) own (cond (is_marked slot) 1 0) ≡ slot
       → (is_live slot ≡ true → bit ≡ cond (own == byte) 1 0) → min bit (cond (is_live slot) 1 0) ≡ cond (has_byte byte slot) 1 0
   candidate_bit (live pair stored) byte own bit whole compared =

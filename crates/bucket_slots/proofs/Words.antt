@@ -39,7 +39,7 @@ pub use Rattle.std.specs.Simd.Lanes.{mask_l, zip2}
 pub use Rattle.bucket_slots.specs.BucketLaws.{IsBucketOf}
 pub use Rattle.bucket_slots.specs.BucketView.{BucketView, Place, all_slots, block_at, bucket_with_value, empty_bucket, entries_in}
 pub use Rattle.bucket_slots.specs.BucketView.{first_from, first_place, flattened, listed_pairs, marks_in, null_place, pair_at, pairs_in}
-pub use Rattle.bucket_slots.specs.BucketView.{place_or_null, row_at, rows_with, slot_in, with_slot, with_slot_at, without_values}
+pub use Rattle.bucket_slots.specs.BucketView.{place_or_null, row_at, rows_with, slot_in, with_slot, with_slot_at}
 pub use Rattle.bucket_slots.specs.Clearing.{is_full_with_marks, looks_at_marks, rows_without_free_end, slot_without_expired}
 pub use Rattle.bucket_slots.specs.Clearing.{slots_after_insertion, slots_without_expired, slots_without_free_end}
 pub use Rattle.bucket_slots.specs.Layout.ArrayParts.{AreParts, part_at, unmade_bucket, with_unmade}
@@ -65,8 +65,8 @@ pub use Rattle.bucket_slots.specs.Searching.{has_byte, is_wanted, matching_len, 
 pub use Rattle.bucket_slots.specs.Sizing.{IsGrownCapacity, IsLeastDoubling, IsLeastPowerOfTwo, IsLengthFor, IsOptimalCapacity}
 pub use Rattle.bucket_slots.specs.Slots.{Slot, all_free, byte_of, free, free_len, is_free, is_live, is_marked, live, live_entries}
 pub use Rattle.bucket_slots.specs.Slots.{live_entry, live_pair, live_pairs, marked, marked_entries, marked_entry, marked_len, pair_of}
-pub use Rattle.bucket_slots.specs.Slots.{places_of, row_with_value, slot_at, slot_with_value, slot_without_value}
-pub use Rattle.bucket_slots.specs.Walking.{CallsEach, ChangesEach, MovesToNext, next_in, next_place, pairs_ahead, position_after}
+pub use Rattle.bucket_slots.specs.Slots.{places_of, row_with_value, slot_at, slot_with_value}
+pub use Rattle.bucket_slots.specs.Walking.{CallsEach, MovesToNext, next_in, next_place, pairs_ahead, position_after}
 pub use Rattle.bucket_slots.specs.declared.bucket.TheConstants.{CACHE, INDEX}
 pub use denote.Param.Always.{always_mut}
 pub use lib.Count.{ones, ones_step}

@@ -6,7 +6,7 @@ use Rattle.bucket_table.proofs.Words.{length-append, live_pair, marks_in, no_new
 use Rattle.bucket_table.proofs.Words.{slot_in, subst, sym, true, ℕ, ◌++◌, ◌+◌, ◌∙◌, ◌∷◌, ◌≡◌, ◌≤◌}
 use Rattle.std.specs.Borrow.{Bor, MutBor}
 use Rattle.bucket_slots.proofs.CallerLemmas.{rewritten}
-use Rattle.bucket_slots.proofs.ChangingEach.{valued}
+use Rattle.bucket_slots.proofs.WrittenValues.{valued}
 use Rattle.bucket_slots.proofs.RoomCallerLemmas.{killed-bucket_with_value}
 use Rattle.bucket_table.specs.Walking.Retains.{LosesKeys, RetainsEach, RetainsSlot}
 use Rattle.bucket_table.specs.Walking.Walks.{keys_in}

@@ -1,5 +1,5 @@
 use Rattle.bucket_table.proofs.Words.{by-no_new, by-trans, bucket_with_value, live_from_pair, marks_in, rules, slot_in}
-use Rattle.bucket_slots.proofs.ChangingEach.{valued}
+use Rattle.bucket_slots.proofs.WrittenValues.{valued}
 use Rattle.bucket_slots.proofs.MarkCallerLemmas.{marks_in-bucket_with_value}
 use Rattle.bucket_table.proofs.Walking.Leaving.{left_both, left_taken, left_written}
 use Rattle.bucket_table.proofs.Walking.RetainingEach.{kept_at, taken_at}

@@ -1,4 +1,6 @@
-use Rattle.bucket_slots.proofs.Words.{is_wanted, sym, ◌%◌}
+use Rattle.bucket_slots.proofs.Words.{arith, flattened, has_byte, is_wanted, refl, sum_by-append, sym, ◌%◌, ◌∙◌}
+use Rattle.bucket_slots.proofs.Counting.{tally}
+use Rattle.bucket_slots.proofs.FilledPlaces.{low_byte_fits}
 use Rattle.bucket_slots.proofs.FirstPlaces.{first_chain, found_in_chain, none_wanted}
 use Rattle.bucket_slots.proofs.bucket.Bucket.find_by.Goals as goal
 
@@ -16,3 +18,33 @@ returns-clause-place g c =
 pub returns-clause-pair : goal.returns-clause-pair
 returns-clause-pair g c =
     found_in_chain _ _ c.args.self.now c.find_by-2.result c.self.view_is c.find_by-2.ensures.place c.find_by-2.ensures.pair
+
+pub overflow_cast-byte : goal.overflow_cast-byte
+overflow_cast-byte g c = low_byte_fits c.args.hash
+
+pub returns-in-Some-clause-pair : goal.returns-in-Some-clause-pair
+returns-in-Some-clause-pair g c = rw (c.at.ensures, ← c.self.view_is) c.in-Some.ensures.pair
+
+pub returns-in-Some-clause-fixed : goal.returns-in-Some-clause-fixed
+returns-in-Some-clause-fixed g c = c.find_by.ensures.fixed
+
+pub returns-clause-fixed : goal.returns-clause-fixed
+returns-clause-fixed g c = c.find_by-2.ensures.fixed ∙ c.find_by.ensures.fixed
+
+pub returns-in-Some-clause-place : goal.returns-in-Some-clause-place
+returns-in-Some-clause-place g c = rw (c.at.ensures, ← c.self.view_is, ← c.in-Some.ensures.place) refl
+
+pub returns-in-Some-clause-few : goal.returns-in-Some-clause-few
+returns-in-Some-clause-few g c =
+    let byte = c.args.hash % 256 in
+    let parts = sum_by-append (λ x. tally (has_byte byte x)) c.self.inside.own (flattened c.self.inside.chain) in
+    rw (← c.self.view_is) (omega (arith, c.find_by.ensures.few, parts))
+
+pub returns-clause-few : goal.returns-clause-few
+returns-clause-few g c =
+    let byte = c.args.hash % 256 in
+    let parts = sum_by-append (λ x. tally (has_byte byte x)) c.self.inside.own (flattened c.self.inside.chain) in
+    rw (← c.self.view_is) (omega (arith, c.find_by.ensures.few, c.find_by-2.ensures.few, parts))
+
+pub returns-then-self-eq0-clause-few : goal.returns-then-self-eq0-clause-few
+returns-then-self-eq0-clause-few g c = omega arith

@@ -1,6 +1,6 @@
-use Rattle.bucket_slots.proofs.Words.{None, Some, [], ap, arith, common_steps, count_by, drop, flattened, get_or_read, has_byte, is_wanted}
-use Rattle.bucket_slots.proofs.Words.{length, position, sum_by-append, sym, ◌+◌, ◌-◌, ◌∙◌, ◌∷◌, ◌≡◌}
-use Rattle.bucket_slots.proofs.BoxedWalks.{drop_behind, length-some, row_behind}
+use Rattle.bucket_slots.proofs.Words.{None, Some, [], ap, arith, common_steps, count_by, drop, flattened, get_or_read, has_byte}
+use Rattle.bucket_slots.proofs.Words.{is_wanted, length, position, sum_by-append, sym, ◌+◌, ◌-◌, ◌∙◌, ◌∷◌, ◌≡◌}
+use Rattle.bucket_slots.proofs.BoxedWalks.{drop_behind, fewer_behind, length-some, row_behind}
 use Rattle.bucket_slots.proofs.Counting.{tally}
 use Rattle.bucket_slots.proofs.bucket.chain.Chain.find_by.Goals as goal
 
@@ -58,3 +58,17 @@ loop-at-preserved g c =
       few = omega (arith, parts, step, bytes, c.find_by.ensures.few, c.loop-at.invariant.few);
       fixed = c.find_by.ensures.fixed ∙ c.loop-at.invariant.fixed;
     }
+
+pub returns-in-Some-find_by-clause-fixed : goal.returns-in-Some-find_by-clause-fixed
+returns-in-Some-find_by-clause-fixed g c = c.find_by.ensures.fixed ∙ c.loop-at.invariant.fixed
+
+pub overflow_add-number : goal.overflow_add-number
+overflow_add-number g c =
+    record { fits = omega (arith, c.loop-at.invariant.within, ap length c.self.view_is, c.self.invariant.chain.few) }
+
+pub returns-clause-fixed : goal.returns-clause-fixed
+returns-clause-fixed g c = c.loop-at.invariant.fixed
+
+pub loop-at-smaller : goal.loop-at-smaller
+loop-at-smaller g c =
+    omega (arith, fewer_behind _ _ _ _ c.at.view_is c.in-Some.is (ap (λ block. block.next) c.deref-in-Some.ensures))

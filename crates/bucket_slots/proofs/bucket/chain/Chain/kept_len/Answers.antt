@@ -1,5 +1,5 @@
 use Rattle.bucket_slots.proofs.Words.{all_free, ap, arith, length, refl, sym, ◌∙◌}
-use Rattle.bucket_slots.proofs.BoxedWalks.{drop_behind, length-some}
+use Rattle.bucket_slots.proofs.BoxedWalks.{drop_behind, fewer_behind, length-some}
 use Rattle.bucket_slots.proofs.FreeEnds.{kept_passed}
 use Rattle.bucket_slots.proofs.bucket.chain.Chain.kept_len.Goals as goal
 use Rattle.bucket_slots.proofs.bucket.chain.Chain.kept_len.Goals.{else-not-is_empty, then-not-is_empty}
@@ -23,3 +23,11 @@ loop-at-preserved g c =
             | else-not-is_empty w ↦ rw (seen ∙ w.if-not-is_empty.false) w.kept-is
           ]);
     }
+
+pub overflow_add-passed : goal.overflow_add-passed
+overflow_add-passed g c =
+    record { fits = omega (arith, c.loop-at.invariant.within, ap length c.self.view_is, c.self.invariant.chain.few) }
+
+pub loop-at-smaller : goal.loop-at-smaller
+loop-at-smaller g c =
+    omega (arith, fewer_behind _ _ _ _ c.at.view_is c.in-Some.is (ap (λ block. block.next) c.deref-in-Some.ensures))

@@ -1,5 +1,6 @@
-use Rattle.bucket_slots.proofs.Words.{arith, rows_of, ◌∙◌}
-use Rattle.bucket_slots.proofs.ChainRows.{IsCounted-freed, IsCounted-unlinked, place_before_next, place_behind_previous, place_stays, taken}
+use Rattle.bucket_slots.proofs.Words.{ap, arith, length, rows_of, ◌∙◌}
+use Rattle.bucket_slots.proofs.ChainRows.{IsCounted-freed, IsCounted-unlinked, first_behind, place_before_next, place_behind_previous}
+use Rattle.bucket_slots.proofs.ChainRows.{place_stays, taken}
 use Rattle.bucket_slots.proofs.bucket.chain.Chain.take.Goals as goal
 
 pub invariant_of-self : goal.invariant_of-self
@@ -53,3 +54,27 @@ returns g c =
       place = c.at-2.ensures ∙ place_behind_previous _ _ _ _ c.self.invariant.counted (left.gone_is ∙ c.if-not-gone.false)
           (omega (arith, c.if-block-len.false, c.get-len.ensures));
     })
+
+pub overflow_add-block : goal.overflow_add-block
+overflow_add-block g c =
+    record { fits = omega (arith, c.requires.within, ap length c.self.view_is, c.self.invariant.chain.few) }
+
+pub overflow_sub-len : goal.overflow_sub-len
+overflow_sub-len g c = omega (arith, c.get-len.ensures, c.self.invariant.counted, ap length c.self.view_is, c.requires.within)
+
+pub overflow_add-block-then-block-len : goal.overflow_add-block-then-block-len
+overflow_add-block-then-block-len g c =
+    record { fits = omega (arith, c.requires.within, ap length c.self.view_is, c.self.invariant.chain.few) }
+
+pub room-requires : goal.room-requires
+room-requires g c = omega (arith, c.requires.within)
+
+pub walk-link-requires-clause-within : goal.walk-link-requires-clause-within
+walk-link-requires-clause-within g c = omega (arith, ap length c.self.view_is, c.requires.within)
+
+pub walk-link-requires-clause-reached : goal.walk-link-requires-clause-reached
+walk-link-requires-clause-reached g c = omega (arith, ap length c.self.view_is, c.requires.within, c.self.invariant.chain.few)
+
+pub take_first-pair-requires : goal.take_first-pair-requires
+take_first-pair-requires g c =
+    (omega arith, (c.requires.pos, rw (c.walk-link.ensures.rest, first_behind, c.self.view_is) c.requires.live_slot))
