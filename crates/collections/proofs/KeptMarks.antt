@@ -1,7 +1,7 @@
 -- That an insertion into an index without an old array keeps each mark whose epoch its generation keeps.
 use Rattle.bucket_table.specs.declared.arrays.side.Side.{Side}
 use Rattle.bucket_table.specs.declared.arrays.side.Side.TheVariants.{Current, Old}
-use Rattle.std.proofs.Common.{ℕ, ◌≡◌, ◌++◌, Bool, true, false, Result, Ok, Err, List, [], ◌∷◌, filter, flat_map, length, set, inl, inr}
+use Rattle.std.proofs.Common.{ℕ, ◌≡◌, ◌++◌, Bool, Result, Ok, Err, List, [], ◌∷◌, filter, flat_map, length, set, inl, inr}
 use Rattle.std.proofs.Common.{refl, sym, ap, ◌∙◌, arith}
 use Rattle.std.proofs.lemmas.Bool.{cases_lt}
 use Rattle.std.proofs.lemmas.List.Elements.{filter-append}

@@ -1,5 +1,5 @@
 -- A home that may be locked at once, with no work before.
-use Rattle.std.specs.Prelude.{ℕ, ◌<◌, ◌≤◌, ◌≡◌, ◌⊎◌, Bool, true, length}
+use Rattle.std.specs.Prelude.{ℕ, ◌<◌, ◌≡◌, Bool, true, length}
 use Rattle.bucket_slots.specs.BucketView.{pairs_in}
 use Rattle.bucket_slots.specs.Homes.{IsHome}
 use Rattle.bucket_table.specs.Views.ArraysView.{ArraysView}
@@ -11,8 +11,3 @@ pub record MayLockAtOnce {K V : Type 0} (is_checked : Bool) (arrays : ArraysView
   pub alone : length arrays.linked ≡ 0
   pub home : IsHome (length arrays.current) hash index
   pub few : is_checked ≡ true → length (pairs_in (bucket_on arrays Current index)) < 32
-
--- there is no array, or an old one stands, or it is asked and the hash's home has 32 live pairs or more
-abbrev pub MayNotLockAtOnce : {K V : Type 0} → Bool → ArraysView K V → ℕ → Type 0
-MayNotLockAtOnce is_checked arrays hash = (length arrays.current ≡ 0) ⊎ (0 < length arrays.linked
-    ⊎ ((is_checked ≡ true) × ((index : ℕ) × IsHome (length arrays.current) hash index × (32 ≤ length (pairs_in (bucket_on arrays Current index))))))

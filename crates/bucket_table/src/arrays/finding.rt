@@ -4,7 +4,7 @@ ghost use Rattle.bucket_slots.specs.Homes.{IsHome};
 ghost use Rattle.bucket_table.specs.Views.ArraysView.{ArePlaced};
 ghost use Rattle.bucket_table.specs.Resize.Asking.{ResizesIf};
 ghost use Rattle.bucket_table.specs.Map.Finding.{FindsNone, ReadiesThenGrows};
-ghost use Rattle.bucket_table.specs.Map.Free.{MayNotLockAtOnce, MayLockAtOnce};
+ghost use Rattle.bucket_table.specs.Map.Free.{MayLockAtOnce};
 ghost use Rattle.bucket_table.specs.Resize.Growing.{Grows, WriterAsksGrowth};
 ghost use Rattle.bucket_table.specs.Views.Locking.{IsLocked};
 ghost use Rattle.bucket_table.specs.Map.Preparing.{HomeWantsMemory, IsReady};
@@ -123,7 +123,8 @@ impl<K, V, L: LruList, const TYPE: u8> Arrays<K, V, L, TYPE> {
     pub(crate) fn free_home(&self, hash: u64, is_checked: bool) -> Option<usize>
         ensures free { IfSome result (λ index. MayLockAtOnce is_checked self.now hash index) }
         ensures within { IfSome result (λ index. index < length self.now.current) }
-        ensures none { IfNone result (MayNotLockAtOnce is_checked self.now hash) }
+        ensures none { IfNone result
+            ((index : ℕ) → MayLockAtOnce is_checked self.now hash index → ⊥) }
     {
         if self.has_old() {
             return None;

@@ -16,7 +16,7 @@ ghost use Rattle.bucket_table.specs.Map.ByKey.{AnswersInsertion, ChangesAt, Hand
 ghost use Rattle.bucket_table.specs.Map.Finding.{FindsThen};
 ghost use Rattle.bucket_table.specs.Map.ByKey.{Inserts, Marks, ShrinksAt, StandsAt, Swaps, Takes, Touches};
 ghost use Rattle.bucket_table.specs.Map.LookingUp.{IsAbsent};
-ghost use Rattle.bucket_table.specs.Map.Preparing.{IsPrepared};
+ghost use Rattle.bucket_table.specs.Map.Preparing.{IsPrepared, IsReady};
 ghost use Rattle.bucket_table.specs.Map.MapState.{ChangesValue, state_of};
 ghost use Rattle.bucket_table.specs.Views.Sides.{bucket_of, buckets_on, with_bucket};
 ghost use Rattle.bucket_table.specs.Views.Locking.{IsLocked};
@@ -182,8 +182,10 @@ impl<K: Eq + Drop, V: Drop, H: KeyHash<K>, L: LruList + Drop, const TYPE: u8> Ha
         ensures absent { IfNone result (IsAbsent K.eq key.now (pairs_of self.old.arrays)) }
     {
         let hash = self.hash(key);
-        let _ = self.fetch_home(hash);
-        self.spot_of(key, hash)
+        match self.fetch_home(hash) {
+            Ok(()) => self.spot_at_home(key, hash),
+            Err(_) => self.spot_of(key, hash),
+        }
     }
 
     /// Puts a pair into a locked bucket where its key is nowhere.
@@ -245,6 +247,30 @@ impl<K: Eq, V, H: KeyHash<K>, L: LruList, const TYPE: u8> HashTable<K, V, H, L, 
             Some(spot) => Some(spot),
             None => self.arrays.search_on(Side::Current, key, hash),
         }
+    }
+
+    /// Returns the live slot with an equal key, where each source of the key's home is killed; `None`
+    /// where the map has none.
+    #[inline(always)]
+    fn spot_at_home(&self, key: &K, hash: u64) -> Option<Spot<K, V, TYPE>>
+        requires own_hash { hash ≡ H.hash_of self.now.hasher key.now }
+        requires ready { IsReady self.now.arrays hash }
+        ensures found { IfSome result (λ spot.
+            StandsAt K.eq key.now self.now.arrays spot.side spot.index spot.at) }
+        ensures absent { IfNone result (IsAbsent K.eq key.now (pairs_of self.now.arrays)) }
+    {
+        self.arrays.room_of(Side::Current);
+        let index = self.arrays.home(hash);
+        let bucket = self.arrays.bucket_of(Side::Current, index);
+        let at = bucket.get_entry_ptr(key, hash);
+        if !at.is_valid() {
+            return None;
+        }
+        Some(Spot {
+            side: Side::Current,
+            index,
+            at,
+        })
     }
 
     /// Gives a pair back for which no bucket was found: an equal key is there, or memory is wanted.

@@ -21,7 +21,18 @@ impl<K: Eq, V, H: KeyHash<K>, L: LruList, const TYPE: u8> HashTable<K, V, H, L, 
             (λ pair. IsThere K.eq key.now (pairs_of self.now.arrays) (pair.0.now, pair.1.now)) }
         ensures absent { IfNone result (IsAbsent K.eq key.now (pairs_of self.now.arrays)) }
     {
-        self.peek_entry_by(self.hasher.hash_one(key), &mut EqProbe::new(key))
+        self.peek_hashed(key, self.hasher.hash_one(key))
+    }
+
+    /// Returns the pair whose key is equal, by its key's hash; `None` where the map has none.
+    #[inline(always)]
+    fn peek_hashed(&self, key: &K, hash: u64) -> Option<(&K, &V)>
+        requires own_hash { hash ≡ H.hash_of self.now.hasher key.now }
+        ensures found { IfSome result
+            (λ pair. IsThere K.eq key.now (pairs_of self.now.arrays) (pair.0.now, pair.1.now)) }
+        ensures absent { IfNone result (IsAbsent K.eq key.now (pairs_of self.now.arrays)) }
+    {
+        self.peek_entry_by(hash, &mut EqProbe::new(key))
     }
 
     /// Returns a pair whose key the probe wants; `None` where the map has none. The probe wants
@@ -72,7 +83,7 @@ impl<K: Eq + Drop, V: Drop, H: KeyHash<K>, L: LruList + Drop, const TYPE: u8> Ha
     {
         let hash = self.hasher.hash_one(key);
         let _ = self.fetch_home(hash);
-        match self.peek_entry(key) {
+        match self.peek_hashed(key, hash) {
             Some((own, value)) => Some(reader(own, value)),
             None => None,
         }

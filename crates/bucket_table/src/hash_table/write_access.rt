@@ -6,12 +6,12 @@
 //!
 //! Ports `writer_sync`, `try_reserve_bucket`, `optional_writer_sync` and `try_optional_writer` of
 //! scc's `src/hash_table.rs`.
-ghost use Rattle.std.specs.Prelude.{◌≡◌, ◌<◌, [], Err, IfErr, IfOk, IfSome, IfNone, IsOk, OnOk, length};
+ghost use Rattle.std.specs.Prelude.{ℕ, ◌≡◌, ◌<◌, [], Err, IfErr, IfOk, IfSome, IfNone, IsOk, OnOk, length};
 ghost use Rattle.std.specs.Borrow.{RestsIfErr, RestsIfNone, sem};
 ghost use Rattle.bucket_slots.specs.Homes.{IsHome};
 ghost use Rattle.bucket_table.specs.Views.ArraysView.{pairs_of};
 ghost use Rattle.bucket_table.specs.Map.Finding.{Finds, FindsBucket};
-ghost use Rattle.bucket_table.specs.Map.Free.{MayNotLockAtOnce, MayLockAtOnce};
+ghost use Rattle.bucket_table.specs.Map.Free.{MayLockAtOnce};
 ghost use Rattle.bucket_table.specs.Map.Refusing.{IsRefused};
 ghost use Rattle.bucket_table.specs.Views.TableRow.{table_row};
 ghost use Rattle.bucket_table.specs.Views.Locking.{IsLocked};
@@ -220,7 +220,8 @@ impl<K: Eq + Drop, V: Drop, H: KeyHash<K>, L: LruList + Drop, const TYPE: u8> Ha
         ensures side { IfSome result (λ locked. locked.side ≡ Current) }
         ensures free { IfSome result (λ locked.
             MayLockAtOnce CHECK_SIZE self.old.arrays hash locked.index) }
-        ensures none { IfNone result (MayNotLockAtOnce CHECK_SIZE self.old.arrays hash) }
+        ensures none { IfNone result
+            ((index : ℕ) → MayLockAtOnce CHECK_SIZE self.old.arrays hash index → ⊥) }
     {
         match self.arrays.free_home(hash, CHECK_SIZE) {
             Some(index) => Some(self.lock(Side::Current, index)),

@@ -1,20 +1,15 @@
-use Rattle.bucket_table.proofs.Words.{ap, false≢true, inr, length, pairs_in, subst, sym, ℕ, ◌<◌, ◌∙◌, ◌≤◌}
+use Rattle.bucket_table.proofs.Words.{ap, arith, false≢true, length, pairs_in, subst, sym, ℕ, ◌<◌, ◌∙◌}
 use Rattle.bucket_table.proofs.Resize.Asked.{none_from}
 use Rattle.bucket_table.proofs.arrays.Arrays.free_home.Goals.{else-is_checked-via-else-is_checked}
 use Rattle.bucket_table.proofs.arrays.Arrays.free_home.Goals.{else-is_checked-via-then-is_checked+else-len-ge-BUCKET_LEN}
 use Rattle.bucket_table.proofs.arrays.Arrays.free_home.Goals as goal
 
 pub returns-then-len-ge-BUCKET_LEN-clause-none : goal.returns-then-len-ge-BUCKET_LEN-clause-none
-returns-then-len-ge-BUCKET_LEN-clause-none g c =
+returns-then-len-ge-BUCKET_LEN-clause-none g c = λ index may.
     let long = c.len-then-is_checked.ensures ∙ ap (λ b. length (pairs_in b)) c.bucket_of.ensures in
-    inr (inr (
-      c.if-is_checked.true,
-      (
-        c.home-index.result,
-        c.home-index.ensures,
-        subst (λ (n : ℕ). 32 ≤ n) long c.if-len-ge-BUCKET_LEN.true,
-      ),
-    ))
+    let one = c.home-index.ensures.the_one index may.home.own in
+    let few = may.few c.if-is_checked.true in
+    omega (arith, rw (one, ← long) at few, c.if-len-ge-BUCKET_LEN.true)
 
 pub returns-clause-free : goal.returns-clause-free
 returns-clause-free g c = record {
