@@ -78,7 +78,8 @@ module _ {K V : Type 0} where
   ]
 
 module _ {K V H : Type 0} (kind hash : ℕ) (old new : TableView K V H) where
-  found : {E : Type 0} (answer : Result (Side × ℕ) E) → Finds kind hash old answer new → HasNoNewMark (marks_of old.arrays) (marks_of new.arrays)
+  found : {E : Type 0} (answer : Result (Side × ℕ) E) → Finds kind hash old answer new
+      → HasNoNewMark (marks_of old.arrays) (marks_of new.arrays)
   found (Ok at) finds = finds.kept.marks
   found (Err e) refused = refused.prepared.kept.keeps.marks
 

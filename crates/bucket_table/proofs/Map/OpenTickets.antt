@@ -56,7 +56,8 @@ module _ {K V : Type 0} where
   ]
 
   pub bag_counted : (old new : ArraysView K V) → CountsAndResizes old new → KeepsOpenTickets old.tickets new.tickets
-  bag_counted old new c = bag_both old.tickets c.between.tickets new.tickets c.kept.keeps.open_tickets (bag_resized_if c.between new c.resized)
+  bag_counted old new c =
+      bag_both old.tickets c.between.tickets new.tickets c.kept.keeps.open_tickets (bag_resized_if c.between new c.resized)
 
   pub bag_left : {A : Type 0} (index_of : A → ℕ) (side : Side) (i : ℕ) (old : ArraysView K V) (r : Result A Missing) (new : ArraysView K V)
       → ShrinksThenPasses index_of side i old r new → KeepsOpenTickets old.tickets new.tickets

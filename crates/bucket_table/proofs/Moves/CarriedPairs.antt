@@ -118,8 +118,8 @@ module _ {K V : Type 0} where
         (Contains-append_left (pairs_among (set c j empty_bucket)) more p (among (set c j empty_bucket) i p still))
 
     -- where a pair landed tells in which bucket's own slots its key is
-    pub landing_tells : (j : ℕ) (p : K × V) (landing : Option ℕ) → HasLanded c p landing → is_own_of j landing ≡ has_own_key eq (bucket_at c j)
-        p.0
+    pub landing_tells : (j : ℕ) (p : K × V) (landing : Option ℕ) → HasLanded c p landing
+        → is_own_of j landing ≡ has_own_key eq (bucket_at c j) p.0
     landing_tells j p (Some i) has = elim (cases_Bool (i == j)) [
       | inl here ↦ rw here (sym (rw (eqb-true i j here) at (is_own i p has)))
       | inr there ↦ rw there (sym (not_own j p (λ within. elsewhere i j p (eqb-false i j there) (in_own (bucket_at c i) p has))))

@@ -79,8 +79,8 @@ module _ {K V : Type 0} where
   pub ended_order : (old new : ArraysView K V) (ticket : ℕ) (success : Bool) (answer : Result Bool TicketError)
       → LosesNoUnit old.linked old.tickets → EndsRehash old ticket success answer new → CarriesOrder old new
   ended_order old new ticket success (Ok true) kept ends = rw ends.2
-      (carries_unmoved old (record old { linked = []; tickets = first_tickets 0 }) (λ i. sym (unlisted_all old.linked ends.1 kept.emptied i))
-      (stay_same old.current) (λ j. refl))
+      (carries_unmoved old (record old { linked = []; tickets = first_tickets 0 })
+      (λ i. sym (unlisted_all old.linked ends.1 kept.emptied i)) (stay_same old.current) (λ j. refl))
   ended_order old new ticket success (Ok false) kept ends = rw ends.1
       (carries_unmoved old (record old { tickets = new.tickets }) (λ i. refl) (stay_same old.current) (λ j. refl))
   ended_order old new ticket success (Err error) kept ends = rw ends.1

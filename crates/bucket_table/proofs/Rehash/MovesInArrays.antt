@@ -110,7 +110,8 @@ module _ {K V : Type 0} (minimum maximum index : ℕ) (c l d m : List (BucketVie
     linked_is = set_is l m index within moved.linked_len moved.other_linked;
     tickets_are = refl;
     others = moved.other_current;
-    kept = kept_by moved.current_len moved.entries moved.marks (order_one index before after moved.entries moved.empty moved.other_linked recency);
+    kept = kept_by moved.current_len moved.entries moved.marks
+        (order_one index before after moved.entries moved.empty moved.other_linked recency);
   }
   done_at (Err e) within moved recency = tt
 

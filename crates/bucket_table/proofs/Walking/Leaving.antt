@@ -8,8 +8,8 @@ module _ {K V : Type 0} (kind epoch : ℕ) where
   pub left_same : (s : BucketView K V) → IsLeftOf kind epoch s s
   left_same s = ([], refl)
 
-  changes_both : (xs ys : List (Place × Option V)) (s t u : BucketView K V) → ChangesPairs kind epoch xs s t → ChangesPairs kind epoch ys t u
-      → ChangesPairs kind epoch (xs ++ ys) s u
+  changes_both : (xs ys : List (Place × Option V)) (s t u : BucketView K V) → ChangesPairs kind epoch xs s t
+      → ChangesPairs kind epoch ys t u → ChangesPairs kind epoch (xs ++ ys) s u
   changes_both [] ys s t u is more = subst (λ (b : BucketView K V). ChangesPairs kind epoch ys b u) is more
   changes_both ((at, Some value) ∷ xs) ys s t u (alive, rest) more =
       (alive, changes_both xs ys (bucket_with_value s at value) t u rest more)

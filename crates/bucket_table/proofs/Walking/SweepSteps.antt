@@ -175,7 +175,8 @@ module _ {K V H : Type 0} (IsTest : (K × V → Bool) → Type 0) (hash : H → 
   -- a bucket was swept, and the cursor has left it
   pub stands_next : (now visited next : TableView K V H) (count taken more index : ℕ) (here place : Result ℕ Missing) (at : Place)
       → SweepStands now count here → here ≡ Ok index → ArePlaced (hash now.hasher) now.arrays
-      → visited.hasher ≡ now.hasher → RetainsAt IsTest kind epoch now.arrays index taken visited.arrays → more ≡ min (count + taken) (2 ^ 64 - 1)
+      → visited.hasher ≡ now.hasher → RetainsAt IsTest kind epoch now.arrays index taken visited.arrays
+      → more ≡ min (count + taken) (2 ^ 64 - 1)
       → KeepsPairs (state_of kind visited) (state_of kind next) → KeepsOpenTickets visited.arrays.tickets next.arrays.tickets
       → Leaves (hash visited.hasher) (bound_of (length visited.arrays.current) (index + 1)) place next.arrays at
       → HasNoNewMark (marks_of visited.arrays) (marks_of next.arrays)

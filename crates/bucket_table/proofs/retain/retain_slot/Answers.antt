@@ -38,8 +38,9 @@ returns-clause-marks g c =
     by-trans _ old changed (marks_in c.take_at.new.bucket) (by-no_new _ old changed none) c.take_at.ensures.marks
 
 pub returns-then-keep-clause-left : goal.returns-then-keep-clause-left
-returns-then-keep-clause-left g c = left_written g.row.TYPE (g.G.Generation.epoch_of c.args.generation.now) c.args.bucket.now c.args.at.now _
-    c.keep.new.arg3 c.entry_mut-value.ensures.pair
+returns-then-keep-clause-left g c =
+    left_written g.row.TYPE (g.G.Generation.epoch_of c.args.generation.now) c.args.bucket.now c.args.at.now _ c.keep.new.arg3
+    c.entry_mut-value.ensures.pair
 
 pub returns-clause-left : goal.returns-clause-left
 returns-clause-left g c =

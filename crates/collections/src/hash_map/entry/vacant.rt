@@ -69,11 +69,7 @@ impl<K: Eq + Drop, V: Drop, H: KeyHash<K>> HashMap<K, V, H> {
         let Ok((side, index)) = self.table.find(hash) else {
             return Err((key, value));
         };
-        let at = match self
-            .table
-            .lock(side, index)
-            .insert(hash, (key, value), &())
-        {
+        let at = match self.table.lock(side, index).insert(hash, (key, value), &()) {
             Ok(at) => at,
             Err(pair) => return Err(pair),
         };

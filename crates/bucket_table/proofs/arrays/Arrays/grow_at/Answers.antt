@@ -12,8 +12,8 @@ returns-in-Ok-true-clause-asked g c =
 pub returns-in-Ok-true-clause-grown : goal.returns-in-Ok-true-clause-grown
 returns-in-Ok-true-clause-grown g c =
     let full = (c.writer_asks_growth.ensures.0 c.if-not-writer_asks_growth.false).full in
-    rw (c.in-Ok-true.is, c.in-Ok-true.field-0-test) at (grown c.args.self.now _ c.try_resize.result c.args.index c.try_resize.ensures.resized
-    c.requires.within (omega (arith, full)))
+    rw (c.in-Ok-true.is, c.in-Ok-true.field-0-test) at (grown c.args.self.now _ c.try_resize.result c.args.index
+    c.try_resize.ensures.resized c.requires.within (omega (arith, full)))
 
 pub returns-in-Ok-false-clause-asked : goal.returns-in-Ok-false-clause-asked
 returns-in-Ok-false-clause-asked g c =

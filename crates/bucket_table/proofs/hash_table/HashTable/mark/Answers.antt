@@ -32,7 +32,13 @@ pub returns-in-Some-clause-arrays : goal.returns-in-Some-clause-arrays
 returns-in-Some-clause-arrays g c = record {
   between = c.fetch_spot.new.self;
   prepared = c.fetch_spot.ensures.prepared;
-  done = (c.in-Some.spot.side, c.in-Some.spot.index, c.in-Some.spot.at, c.in-Some.ensures.found, rw (← c.self.view_is) c.mark_at.ensures.asked);
+  done = (
+    c.in-Some.spot.side,
+    c.in-Some.spot.index,
+    c.in-Some.spot.at,
+    c.in-Some.ensures.found,
+    rw (← c.self.view_is) c.mark_at.ensures.asked,
+  );
 }
 
 pub returns-in-Some-clause-marks : goal.returns-in-Some-clause-marks

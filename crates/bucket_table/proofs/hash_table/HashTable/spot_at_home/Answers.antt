@@ -17,6 +17,6 @@ returns-then-not-is_valid-clause-absent g c =
 
 pub returns-clause-found : goal.returns-clause-found
 returns-clause-found g c =
-    rw (← c.self.view_is) (stands_found g.K.PartialEq.eq c.args.key.now c.self.inside.arrays Current c.self.inside.arrays.current c.bucket_of-bucket.result.now
-    (c.args.hash % 256) c.home-index.result _ refl c.bucket_of-bucket.ensures c.home-index.ensures.within
+    rw (← c.self.view_is) (stands_found g.K.PartialEq.eq c.args.key.now c.self.inside.arrays Current c.self.inside.arrays.current
+    c.bucket_of-bucket.result.now (c.args.hash % 256) c.home-index.result _ refl c.bucket_of-bucket.ensures c.home-index.ensures.within
     (c.get_entry_ptr-at.ensures.found (c.is_valid.ensures.0 c.if-not-is_valid.false)))

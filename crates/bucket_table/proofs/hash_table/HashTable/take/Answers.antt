@@ -27,7 +27,13 @@ pub returns-in-Some-clause-arrays : goal.returns-in-Some-clause-arrays
 returns-in-Some-clause-arrays g c = record {
   between = c.fetch_spot.new.self;
   prepared = c.fetch_spot.ensures.prepared;
-  done = (c.in-Some.spot.side, c.in-Some.spot.index, c.in-Some.spot.at, c.in-Some.ensures.found, rw (← c.self.view_is) c.take_at.ensures.asked);
+  done = (
+    c.in-Some.spot.side,
+    c.in-Some.spot.index,
+    c.in-Some.spot.at,
+    c.in-Some.ensures.found,
+    rw (← c.self.view_is) c.take_at.ensures.asked,
+  );
 }
 
 pub returns-in-None-clause-map : goal.returns-in-None-clause-map
