@@ -66,9 +66,7 @@ impl<K: Eq + Drop, V: Drop, L: LruList + Drop, const TYPE: u8> Arrays<K, V, L, T
             let index = self.home(hash);
             return self.prepare_at(hasher, index);
         }
-        let Ok(()) = self.make_array() else {
-            return Err(AllocError);
-        };
+        self.make_array()?;
         let _ = self.len();
         Ok(())
     }

@@ -44,10 +44,10 @@ impl<K: Drop, V: Drop, L: LruList + Drop, const TYPE: u8> Arrays<K, V, L, TYPE> 
                 self.give_array_up();
                 Ok(true)
             }
-            Plan::Resize(capacity) => match self.push_array(capacity) {
-                Ok(()) => Ok(true),
-                Err(refused) => Err(refused),
-            },
+            Plan::Resize(capacity) => {
+                self.push_array(capacity)?;
+                Ok(true)
+            }
         }
     }
 
@@ -78,9 +78,7 @@ impl<K: Drop, V: Drop, L: LruList + Drop, const TYPE: u8> Arrays<K, V, L, TYPE> 
         ensures made { OnOk result (IsMade self.old self.new) }
         ensures unchanged { OnErr result (self.new ≡ self.old) }
     {
-        let Ok(fresh) = BucketArray::alloc(self.alloc, self.minimum) else {
-            return Err(AllocError);
-        };
+        let fresh = BucketArray::alloc(self.alloc, self.minimum)?;
         self.current = Some(fresh);
         Ok(())
     }
@@ -152,9 +150,7 @@ impl<K: Drop, V: Drop, L: LruList + Drop, const TYPE: u8> Arrays<K, V, L, TYPE> 
         let Ok(tickets) = Tickets::new(self.alloc, self.len()) else {
             return Err(AllocError);
         };
-        let Ok(fresh) = BucketArray::alloc(self.alloc, capacity) else {
-            return Err(AllocError);
-        };
+        let fresh = BucketArray::alloc(self.alloc, capacity)?;
         let Some(array) = self.current.take() else {
             unreachable!()
         };

@@ -39,9 +39,7 @@ impl<K: Eq + Drop, V: Drop, H: KeyHash<K>, L: LruList + Drop, const TYPE: u8> Ha
             self.entry (λ new. GetsArray self.old result new)) }
     {
         self.arrays.sound();
-        let Ok(()) = self.arrays.make_array() else {
-            return Err(AllocError);
-        };
+        self.arrays.make_array()?;
         match self.arrays.array() {
             Some(array) => Ok(array),
             None => unreachable!(),

@@ -15,11 +15,14 @@ pub returns-in-GiveUp-clause-placed : goal.returns-in-GiveUp-clause-placed
 returns-in-GiveUp-clause-placed g c = λ hash. given_up_placed hash c.args.self.now _
     (gives_up c.args.self.now _ c.in-GiveUp.ensures.plan c.give_array_up.ensures)
 
-pub returns-in-Ok-clause-resized : goal.returns-in-Ok-clause-resized
-returns-in-Ok-clause-resized g c = inr (c.in-Resize.capacity, c.in-Resize.ensures.plan, c.in-Ok.ensures.pushed)
+pub returns-in_ok-push_array-in-Resize-clause-resized : goal.returns-in_ok-push_array-in-Resize-clause-resized
+returns-in_ok-push_array-in-Resize-clause-resized g c =
+    inr (c.in-Resize.capacity, c.in-Resize.ensures.plan, c.in_ok-push_array-in-Resize.ensures.pushed)
 
-pub returns-in-Ok-clause-kept : goal.returns-in-Ok-clause-kept
-returns-in-Ok-clause-kept g c = pushed_keeps c.in-Resize.capacity c.args.self.now _ c.in-Ok.ensures.pushed
+pub returns-in_ok-push_array-in-Resize-clause-kept : goal.returns-in_ok-push_array-in-Resize-clause-kept
+returns-in_ok-push_array-in-Resize-clause-kept g c =
+    pushed_keeps c.in-Resize.capacity c.args.self.now _ c.in_ok-push_array-in-Resize.ensures.pushed
 
-pub returns-in-Ok-clause-placed : goal.returns-in-Ok-clause-placed
-returns-in-Ok-clause-placed g c = λ hash. pushed_placed hash c.in-Resize.capacity c.args.self.now _ c.in-Ok.ensures.pushed
+pub returns-in_ok-push_array-in-Resize-clause-placed : goal.returns-in_ok-push_array-in-Resize-clause-placed
+returns-in_ok-push_array-in-Resize-clause-placed g c =
+    λ hash. pushed_placed hash c.in-Resize.capacity c.args.self.now _ c.in_ok-push_array-in-Resize.ensures.pushed

@@ -6,4 +6,4 @@ pub invariant_of-self-in-Some-1 : goal.invariant_of-self-in-Some-1
 invariant_of-self-in-Some-1 g c =
     one_map_kept g.K.PartialEq.eq g.met.K.Eq.laws (g.H.KeyHash.hash_of c.self.inside.hasher) c.self.inside.arrays c.make_array.new.self
     c.self.invariant
-    (kept_made _ _ c.in-Ok.ensures.made) (placed_made _ _ _ c.in-Ok.ensures.made c.self.invariant.placed)
+    (kept_made _ _ c.in_ok-make_array.ensures.made) (placed_made _ _ _ c.in_ok-make_array.ensures.made c.self.invariant.placed)
