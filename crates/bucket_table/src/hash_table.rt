@@ -221,6 +221,7 @@ impl<K: Eq, V, H: KeyHash<K>, L: LruList, const TYPE: u8> HashTable<K, V, H, L, 
             → IsLength (length self.now.arrays.current) }
         ensures empty { length self.now.arrays.current ≡ 0
             → pairs_of self.now.arrays ≡ [] }
+        ensures beside { 0 < length self.now.arrays.linked → 0 < length self.now.arrays.current }
     {
         self.arrays.sound();
         let _len = self.arrays.len();

@@ -1,10 +1,10 @@
 -- A pair evicted from a hash's home, and what that makes of the table in which the home was prepared.
 use Rattle.bucket_table.proofs.Words.{Current, Err, IfSome, IsHome, KeepsPairs, None, Ok, Old, Option, Side, Some, TableView, buckets_on}
 use Rattle.bucket_table.proofs.Words.{inl, inr, length, refl, subst, sym, ℕ, ◌∙◌, ◌≡◌}
-use Rattle.bucket_table.specs.Map.ByKey.{Evicts, EvictsAt, PreparesThen}
+use Rattle.bucket_table.specs.Map.ByKey.{Evicts, PreparesThen}
 use Rattle.bucket_table.specs.Map.MapState.{TakesPair, state_of}
 use Rattle.bucket_table.specs.Map.Preparing.{HomeWantsMemory, IsPrepared, IsReady}
-use Rattle.bucket_table.specs.Map.Putting.{Goes, slots_left}
+use Rattle.bucket_table.specs.Map.Putting.{EvictsAt, Goes, slots_left}
 use Rattle.bucket_table.specs.Views.Sides.{bucket_of, with_bucket}
 use Rattle.bucket_table.proofs.Map.LockedSteps.{with_own}
 use Rattle.bucket_table.proofs.Map.Preparing.{wanting_unready}
@@ -23,29 +23,20 @@ module _ {K V H : Type 0} (kind : ℕ) (old between new : TableView K V H) where
       subst (λ (t : TableView K V H). KeepsPairs (state_of kind old) (state_of kind t)) (sym same) keeps
 
   -- and which pair it is
-  at_current : (hash index : ℕ) (r : Option (K × V)) → IsPrepared kind hash old between → IsReady between.arrays hash
-      → IsHome (length between.arrays.current) hash index → Goes (bucket_of between Current index) r
-      → new ≡ with_bucket between Current index (slots_left (bucket_of between Current index) r)
-      → PreparesThen kind hash old (λ moved. EvictsAt {E = ℕ} hash moved (Ok r) new)
-  at_current hash index (Some pair) prepared ready home went is =
-      record { between = between; prepared = prepared; done = (ready, index, home, went.1, is) }
-  at_current hash index None prepared ready home went is =
-      let same = is ∙ with_own between.hasher between.arrays Current index (bucket_of between Current index) refl in
-      record { between = between; prepared = prepared; done = (inr (ready, index, home, went), same) }
-
   pub evicted_at : (hash : ℕ) (side : Side) (index : ℕ) (r : Option (K × V)) → IsPrepared kind hash old between → side ≡ Current
       → IsReady between.arrays hash → IsHome (length (buckets_on between.arrays side)) hash index → Goes (bucket_of between side index) r
       → new ≡ with_bucket between side index (slots_left (bucket_of between side index) r)
       → PreparesThen kind hash old (λ moved. EvictsAt {E = ℕ} hash moved (Ok r) new)
   evicted_at hash Old index r prepared current ready home went is = absurd cc
-  evicted_at hash Current index r prepared current ready home went is = at_current hash index r prepared ready home went is
+  evicted_at hash Current index r prepared current ready home went is =
+      record { between = between; prepared = prepared; done = inr (ready, index, home, went, is) }
 
 module _ {K V H : Type 0} (kind : ℕ) (old new : TableView K V H) where
   -- without an array there is nothing to evict
   pub nothing_evicted : (hash : ℕ) → IsPrepared kind hash old new → length old.arrays.current ≡ 0
       → PreparesThen kind hash old (λ moved. EvictsAt {E = ℕ} hash moved (Ok None) new)
   nothing_evicted hash prepared none =
-      record { between = new; prepared = prepared; done = (inl (prepared.kept.current_len ∙ none), refl) }
+      record { between = new; prepared = prepared; done = inl (prepared.kept.current_len ∙ none, refl, refl) }
 
   -- nor is anything evicted where memory was wanted
   pub evict_refused : (hash : ℕ) → IsPrepared kind hash old new → HomeWantsMemory hash old.arrays new.arrays

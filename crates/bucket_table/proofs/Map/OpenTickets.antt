@@ -1,8 +1,9 @@
 -- The open tickets stay: what becomes of the arrays says so, call by call.
-use Rattle.bucket_table.proofs.Words.{ArraysView, Bool, BucketView, Current, Err, KeepsOpenTickets, None, Ok, Option, Place, Result}
-use Rattle.bucket_table.proofs.Words.{Side, Some, TableView, arrays_with, cases_eq, cases_lt, false, inl, inr}
+use Rattle.bucket_table.proofs.Words.{ArraysView, Bool, BucketView, Current, Err, KeepsOpenTickets, Ok, Option, Place, Result}
+use Rattle.bucket_table.proofs.Words.{Side, TableView, arrays_with, cases_eq, cases_lt, false, inl, inr}
 use Rattle.bucket_table.proofs.Words.{refl, true, ℕ, ◌+◌, ◌-◌}
-use Rattle.bucket_table.specs.Map.ByKey.{ChangesAt, EvictsAt, InsertsAt, PreparesThen, ShrinksAt}
+use Rattle.bucket_table.specs.Map.ByKey.{ChangesAt, InsertsAt, PreparesThen, ShrinksAt}
+use Rattle.bucket_table.specs.Map.Putting.{EvictsAt}
 use Rattle.bucket_table.specs.Map.Counting.{CountsAndResizes}
 use Rattle.bucket_table.specs.Map.Finding.{Finds, FindsThen}
 use Rattle.bucket_table.specs.Resize.Asking.{RemovesAndShrinks, ResizesIf}
@@ -85,8 +86,8 @@ module _ {K V H : Type 0} where
 
   evicted_from : {E : Type 0} (hash : ℕ) (old : TableView K V H) (r : Result (Option (K × V)) E) (new : TableView K V H)
       → EvictsAt hash old r new → KeepsOpenTickets old.arrays.tickets new.arrays.tickets
-  evicted_from hash old (Ok (Some pair)) new (ready, i, home, there, is) = bag_set old new Current i _ is
-  evicted_from hash old (Ok None) new (none, same) = rw same (bag_same old.arrays.tickets)
+  evicted_from hash old (Ok gone) new (inl (none, nothing, same)) = rw same (bag_same old.arrays.tickets)
+  evicted_from hash old (Ok gone) new (inr (ready, i, home, goes, is)) = bag_set old new Current i _ is
   evicted_from hash old (Err e) new (unready, same) = rw same (bag_same old.arrays.tickets)
 
   module _ (kind hash : ℕ) (old new : TableView K V H) where

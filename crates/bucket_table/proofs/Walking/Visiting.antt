@@ -195,9 +195,9 @@ module _ {S K V : Type 0} (step : S → BucketView K V → Bool → Bool → Buc
       (old table ready : ArraysView K V) (from index : ℕ) (flag more : Bool) → BeginsAt (length old.current) expected start from
       → WalkStands first now old from index flag more table → KeepsArrays table ready
       → WorksUnits 1 (λ home. home ≡ index) table ready → (length table.linked ≡ 0 → ready ≡ table)
-      → WantsMemory (IsSource ready index) table ready
+      → WantsMemory (IsSource ready index) table ready → more ≡ true
       → WalksBy {A = A} step hash expected start first old (Err e) now ready
-  walk_refused e expected start first now old table ready from index flag more at w kept unit waits wants =
+  walk_refused e expected start first now old table ready from index flag more at w kept unit waits wants going =
       let part = walk_waits hash old table ready from w.walks.visits w.walks.part (keeps_pairs table ready kept.keeps) kept.current_len in
       record {
         from = from;
@@ -217,6 +217,7 @@ module _ {S K V : Type 0} (step : S → BucketView K V → Bool → Bool → Buc
             (wanted_before (IsSource ready index) (length w.walks.visits) old table ready w.walks.part.len w.walks.units
             (λ on. (unit.stands on).len) wants);
         whole = tt;
+        going = w.walks.going going;
         ends = refl;
       }
 
@@ -243,6 +244,7 @@ module _ {S K V : Type 0} (step : S → BucketView K V → Bool → Bool → Buc
       | inl going ↦ let reached = w.walks.reached in let len = w.walks.part.len in inl (omega (arith, reached, len, over going))
       | inr stopped ↦ inr (w.walks.stopped stopped)
     ];
+    going = tt;
     ends = ends;
   }
 

@@ -1,23 +1,19 @@
 -- What a call by key does to a table, in the words of its map. A reply that isn't stated doesn't come.
-use Rattle.std.specs.Prelude.{ℕ, ◌≡◌, ◌<◌, Bool, true, false, List, Option, Some, None, Result, Ok, Err, length, ◌⊎◌}
+use Rattle.std.specs.Prelude.{ℕ, ◌≡◌, ◌<◌, Bool, true, false, List, Option, Some, None, Result, Ok, Err, length}
 use Rattle.std.specs.Borrow.{Bor, MutBor}
-use Rattle.std.specs.List.{Contains}
 use Rattle.bucket_slots.specs.BucketView.{BucketView, Place, bucket_with_value, first_place, slot_in}
 use Rattle.bucket_slots.specs.Clearing.{slots_after_insertion, slots_for_insertion}
-use Rattle.bucket_slots.specs.Evicting.{slot_to_evict, slots_evicted}
-use Rattle.bucket_slots.specs.Homes.{IsHome}
 use Rattle.bucket_slots.specs.Searching.{place_wanted}
-use Rattle.bucket_slots.specs.Slots.{free, is_free, live_pair, slot_at}
+use Rattle.bucket_slots.specs.Slots.{is_free, live_pair}
 use Rattle.bucket_table.specs.Views.ArraysView.{ArraysView, TableView, pairs_of}
 use Rattle.bucket_table.specs.Resize.Asking.{RemovesAndShrinks}
 use Rattle.bucket_table.specs.Map.LookingUp.{IsAbsent, IsThere}
 use Rattle.bucket_table.specs.Map.MapState.{MapState, KeepsPairs, AddsPair, TakesPair, ChangesValue}
-use Rattle.bucket_table.specs.Map.Preparing.{IsPrepared, IsReady}
+use Rattle.bucket_table.specs.Map.Preparing.{IsPrepared}
 use Rattle.bucket_table.specs.Views.Sides.{bucket_of, bucket_on, buckets_on, with_bucket}
 use Rattle.bucket_table.specs.declared.hash_table.NotInserted.{NotInserted}
 use Rattle.bucket_table.specs.declared.hash_table.NotInserted.TheVariants.{Present, Memory}
 use Rattle.bucket_table.specs.declared.arrays.side.Side.{Side}
-use Rattle.bucket_table.specs.declared.arrays.side.Side.TheVariants.{Current}
 
 -- a live slot of a bucket of one side has a pair whose key is equal to the key
 pub record StandsAt {K V : Type 0} (eq : K → K → Bool) (key : K) (arrays : ArraysView K V) (side : Side) (index : ℕ) (at : Place) : Type 0 where
@@ -128,18 +124,6 @@ module _ {K V H : Type 0} (eq : K → K → Bool) (key : K) (change : BucketView
 abbrev pub WritesAt : {K V H : Type 0} → (K → K → Bool) → K → Bool → TableView K V H → TableView K V H → Type 0
 WritesAt {K} {V} eq key true old new = (value : V) × ChangesAt eq key (λ bucket at. bucket_with_value bucket at value) true old new
 WritesAt eq key false old new = new ≡ old
-
--- the pair of a hash's home that was touched longest ago is out, or where none is listed the one in slot 0; there is none where
--- an own slot of that home is free or no array stands, and then all stays, as where it is refused, since that home isn't ready
-abbrev pub EvictsAt : {K V H E : Type 0} → ℕ → TableView K V H → Result (Option (K × V)) E → TableView K V H → Type 0
-EvictsAt hash old (Ok (Some pair)) new = IsReady old.arrays hash
-    × (index : ℕ) × IsHome (length old.arrays.current) hash index
-    × (live_pair (slot_at (bucket_of old Current index).own (slot_to_evict (bucket_of old Current index))) ≡ Some pair)
-    × (new ≡ with_bucket old Current index (slots_evicted (bucket_of old Current index)))
-EvictsAt hash old (Ok None) new =
-    ((length old.arrays.current ≡ 0) ⊎ (IsReady old.arrays hash
-    × (index : ℕ) × IsHome (length old.arrays.current) hash index × Contains (bucket_of old Current index).own free)) × (new ≡ old)
-EvictsAt hash old (Err refused) new = (IsReady old.arrays hash → ⊥) × (new ≡ old)
 
 -- the pair is put into the bucket that was found, and none was put where none was found; else all stays, and memory is wanted only where
 -- none was found, or one without a free slot

@@ -1,17 +1,20 @@
 -- What a put does to a cache: a pair goes in where its key is absent, and where its home has no free own slot another goes out.
-use Rattle.std.specs.Prelude.{ℕ, ◌≡◌, Bool, Option, Some, None, Result, Ok, Err, List, ◌∷◌, if◌then◌else◌, is_some}
+use Rattle.std.specs.Prelude.{ℕ, ◌≡◌, ◌⊎◌, Bool, Option, Some, None, Result, Ok, Err, List, ◌∷◌, if◌then◌else◌, is_some, length}
 use Rattle.std.specs.List.{Contains}
 use Rattle.std.specs.List.Sorted.{IsPermutation}
 use Rattle.bucket_slots.specs.BucketView.{BucketView, Place}
 use Rattle.bucket_slots.specs.Evicting.{slot_to_evict, slots_evicted, slots_touched}
+use Rattle.bucket_slots.specs.Homes.{IsHome}
 use Rattle.bucket_slots.specs.Placing.{place_for_next, slots_with}
 use Rattle.bucket_slots.specs.Searching.{place_wanted}
 use Rattle.bucket_slots.specs.Slots.{free, live_pair, slot_at}
 use Rattle.bucket_table.specs.Views.ArraysView.{TableView}
 use Rattle.bucket_table.specs.Map.ByKey.{HandsBack}
 use Rattle.bucket_table.specs.Map.LookingUp.{IsAbsent}
+use Rattle.bucket_table.specs.Map.Preparing.{IsReady}
 use Rattle.bucket_table.specs.Map.MapState.{MapState, AddsPair, Becomes, KeepsPairs}
 use Rattle.bucket_table.specs.Views.Sides.{bucket_of, with_bucket}
+use Rattle.bucket_table.specs.declared.arrays.side.Side.TheVariants.{Current}
 use Rattle.bucket_table.specs.declared.hash_table.NotInserted.{NotInserted}
 use Rattle.bucket_table.specs.declared.hash_table.NotInserted.TheVariants.{Present, Memory}
 use Rattle.bucket_table.specs.declared.arrays.side.Side.{Side}
@@ -52,13 +55,20 @@ module _ {K V : Type 0} where
       (k ≡ key) × (v ≡ value) × ((at : Place) × (place_wanted (λ own. eq own key) byte old ≡ Some at)) × (new ≡ old)
   PutsIn eq keeps key value byte old (Err (Memory k v)) new = ⊥
 
+-- what goes from a hash's home, readied, is out; without an array nothing is there, and where it is refused the home isn't ready: then
+-- all stays
+abbrev pub EvictsAt : {K V H E : Type 0} → ℕ → TableView K V H → Result (Option (K × V)) E → TableView K V H → Type 0
+EvictsAt hash old (Ok gone) new = ((length old.arrays.current ≡ 0) × (gone ≡ None) × (new ≡ old))
+    ⊎ (IsReady old.arrays hash × (index : ℕ) × IsHome (length old.arrays.current) hash index × Goes (bucket_of old Current index) gone
+    × (new ≡ with_bucket old Current index (slots_left (bucket_of old Current index) gone)))
+EvictsAt hash old (Err refused) new = (IsReady old.arrays hash → ⊥) × (new ≡ old)
+
 -- the pair is put into the bucket that was found, after what goes for it; else all stays, and memory is wanted only where none was found
 abbrev pub PutsAt : {K V H : Type 0} → Bool → K × V → ℕ → TableView K V H → Result (Option (K × V)) (NotInserted K V)
     → Result (Side × ℕ) (Unit {0}) → TableView K V H → Type 0
 PutsAt keeps pair byte old (Ok gone) (Ok found) new =
     Goes (bucket_of old found.0 found.1) gone
     × (new ≡ with_bucket old found.0 found.1 (slots_put keeps (slots_left (bucket_of old found.0 found.1) gone) pair byte))
-PutsAt keeps pair byte old (Ok gone) (Err refused) new = ⊥
 PutsAt keeps pair byte old (Err (Present k v)) answer new = new ≡ old
 PutsAt keeps pair byte old (Err (Memory k v)) (Err refused) new = new ≡ old
-PutsAt keeps pair byte old (Err (Memory k v)) (Ok found) new = ⊥
+PutsAt keeps pair byte old result answer new = ⊥

@@ -98,5 +98,6 @@ pub record WalksBy {S A E K V : Type 0} (step : S → BucketView K V → Bool �
   pub within : 0 < length visits → from + length visits ≤ length old.current
   pub wanted : OnErr result (WantsMemory (IsSource ended (from + length visits)) old ended)
   pub whole : OnOk result ((length old.current ≤ from + length visits) ⊎ HasStopped visits)
+  pub going : OnErr result (HasStopped visits → ⊥)
   pub ends : EndsWalk (is_ok result && flag) ended new
   pub visited : VisitsEach old from visits ended

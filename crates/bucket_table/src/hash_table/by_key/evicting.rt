@@ -4,10 +4,10 @@
 ghost use Rattle.std.specs.Prelude.{◌≡◌, ◌%◌, ℕ, Bool, IsOk, Option, length};
 ghost use Rattle.bucket_slots.specs.BucketView.{BucketView};
 ghost use Rattle.bucket_slots.specs.Homes.{IsHome};
-ghost use Rattle.bucket_table.specs.Map.ByKey.{Evicts, EvictsAt, PreparesThen};
+ghost use Rattle.bucket_table.specs.Map.ByKey.{Evicts, PreparesThen};
 ghost use Rattle.bucket_table.specs.Map.Finding.{FindsThen};
 ghost use Rattle.bucket_table.specs.Map.MapState.{state_of};
-ghost use Rattle.bucket_table.specs.Map.Putting.{Goes, Puts, PutsAt, PutsIn};
+ghost use Rattle.bucket_table.specs.Map.Putting.{EvictsAt, Goes, Puts, PutsAt, PutsIn};
 ghost use Rattle.bucket_table.specs.Map.Putting.{slots_left, slots_put};
 ghost use Rattle.bucket_table.specs.Views.Locking.{IsLocked};
 ghost use Rattle.bucket_table.specs.Views.Sides.{bucket_of, buckets_on, with_bucket};

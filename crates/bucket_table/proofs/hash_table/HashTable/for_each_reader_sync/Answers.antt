@@ -22,7 +22,8 @@ returns-in_default-clause-walked g c =
     walk_refused (reading g.F.Read.reads) (g.H.KeyHash.hash_of c.args.self.now.hasher) _ 0 0 c.args.reader.now c.loop-more.reader
     c.args.self.now.arrays c.loop-more.self.arrays c.prepare_at.new.self.arrays 0 c.loop-more.index false c.loop-more.more
     (begins_as_given _ 0 0 refl)
-    c.loop-more.invariant.2 c.prepare_at.ensures.kept c.prepare_at.ensures.units c.prepare_at.ensures.alone c.in_default.ensures.wanted
+    c.loop-more.invariant.2 c.prepare_at.ensures.kept c.prepare_at.ensures.units c.prepare_at.ensures.alone
+    c.in_default.ensures.wanted c.loop-more-test.true
 
 pub returns-in_default-clause-succeeds : goal.returns-in_default-clause-succeeds
 returns-in_default-clause-succeeds g c =

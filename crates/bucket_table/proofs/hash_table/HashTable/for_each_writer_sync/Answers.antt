@@ -20,7 +20,8 @@ returns-in_default-clause-walked g c =
     walk_refused g.F.Visit.visits (g.H.KeyHash.hash_of c.args.self.now.hasher) _ c.args.expected_len c.args.start c.args.visitor.now
     c.loop-more.visitor c.args.self.now.arrays c.loop-more.self.arrays c.prepare_at.new.self.arrays c.first_index-index.result
     c.loop-more.index c.loop-more.flag c.loop-more.more at
-    c.loop-more.invariant.2 c.prepare_at.ensures.kept c.prepare_at.ensures.units c.prepare_at.ensures.alone c.in_default.ensures.wanted
+    c.loop-more.invariant.2 c.prepare_at.ensures.kept c.prepare_at.ensures.units c.prepare_at.ensures.alone
+    c.in_default.ensures.wanted c.loop-more-test.true
 
 pub returns-in_default-clause-settings : goal.returns-in_default-clause-settings
 returns-in_default-clause-settings g c =
