@@ -23,7 +23,7 @@ ran() {
     if [ -z "$4" ]; then
         [ ! -s "$folder/log" ] || fail "it said something"
     else
-        grep -q "$4" "$folder/log" || fail "it didn't say: $4"
+        grep -qF -- "$4" "$folder/log" || fail "it didn't say: $4"
     fi
     count=$((count + 1))
 }
