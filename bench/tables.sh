@@ -2,7 +2,8 @@
 # Prints what calls cost on a table that grew from nothing, on the `HashMap` of the collections over
 # it, on the kit's and, where `rustc` is there, on that of Rust's standard library: one hash, the
 # same keys, the maps in turn in each round. A figure is a median, with the least and the greatest;
-# ratios are of medians. It asserts nothing.
+# ratios are of medians. The machine's load stands in the first line: other work beside it changes
+# what a call costs. It asserts nothing.
 #
 # Called as `bench/tables.sh [-i] [-p] [ROUNDS]`. With -i it prints instructions a call as well,
 # where `valgrind` is there. With -p it draws docs/calls.svg and docs/insertions.svg anew, by
@@ -45,6 +46,13 @@ run() {
         std) "${@:4}" "$folder/std_map" "$2" "$3" ;;
     esac
 }
+
+# Built by now, so that what is told is the load of other work, in the minute before.
+load=$(cut -d ' ' -f 1 /proc/loadavg)
+echo "load: $load"
+if awk -v load="$load" 'BEGIN { exit load <= 0.5 }'; then
+    echo "The load is above 0.5: times are those of a busy machine."
+fi
 
 jobs=({calls,large,single}\ {1000,64000,1000000} "single 4000000")
 if [ -n "$with_pictures" ]; then

@@ -1,6 +1,7 @@
 -- The pairs of one old bucket move on, and their order with them.
 pub mod Exchanges
 pub mod Vacating
+pub mod MarksLeft
 pub mod MovingPairs
 pub mod RoomMade
 pub mod Relocating

@@ -10,7 +10,6 @@ use Rattle.bucket_slots.specs.ArrayView.{bucket_at}
 use Rattle.bucket_slots.specs.BucketView.{BucketView}
 use Rattle.bucket_slots.specs.Homes.{IsHome}
 use Rattle.bucket_slots.specs.Removing.{slots_without}
-use Rattle.bucket_slots.specs.Sizing.{IsLength}
 use Rattle.bucket_table.specs.Map.ByKey.{PreparesThen, ShrinksAt}
 use Rattle.bucket_table.specs.Map.Finding.{Finds, MakesReady}
 use Rattle.bucket_table.specs.Map.Putting.{Goes, PutsAt, slots_left, slots_put}
@@ -73,10 +72,10 @@ module _ {K V H : Type 0} (eq : K → K → Bool) (hash : ℕ) (old new : TableV
     puts_home pair (Err (Memory k v)) (Ok at) between finds none = absurd none
     puts_home pair (Err (Memory k v)) (Err e) between finds same = λ none stands. absurd (omega (arith, finds.alone none, stands))
 
-  module _ (key : K) (long : 0 < length old.arrays.current → IsLength (length old.arrays.current)) where
+  module _ (key : K) where
     left : length old.arrays.linked ≡ 0 → ShrinksAt eq key slots_without true old new → LeavesPlace eq key true old.arrays new.arrays
     left none (Old, index, at, stands, shrinks) = absurd (omega (arith, stands.within, none))
-    left none (Current, index, at, stands, shrinks) = λ _. elim (removed_ends old.arrays Current index _ new.arrays long shrinks) [
+    left none (Current, index, at, stands, shrinks) = λ _. elim (removed_ends old.arrays Current index _ new.arrays shrinks) [
       | inl is ↦ inr (index, at, stands, inl is)
       | inr (inl gone) ↦ inl (none_left _ new.arrays gone)
       | inr (inr (capacity, pushed)) ↦ inr (index, at, stands, inr (rw pushed.new_is refl))

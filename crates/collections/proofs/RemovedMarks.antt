@@ -9,7 +9,6 @@ use Rattle.std.proofs.lemmas.List.Sorted.{Contains-permutation, IsPermutation-ap
 use Rattle.bucket_slots.specs.ArrayView.{IsNewArray}
 use Rattle.bucket_slots.specs.BucketView.{BucketView, Place, block_at, empty_bucket, marks_in, slot_in, with_slot_at}
 use Rattle.bucket_slots.specs.Marking.{slot_marked, slots_marked}
-use Rattle.bucket_slots.specs.Sizing.{IsLength}
 use Rattle.bucket_slots.specs.Slots.{Slot, free, is_live, live_pair, marked, marked_entry, slot_at}
 use Rattle.bucket_slots.proofs.CallerLemmas.{flat_map-exchanged, live_is, regrouped, rotated}
 use Rattle.bucket_slots.proofs.ChangedSlots.{live_inside}
@@ -90,11 +89,10 @@ module _ {K V H : Type 0} (eq : K → K → Bool) (key : K) (epoch hash : ℕ) (
   )
 
   -- the table's removal, that may shrink it
-  pub marks_removed : (0 < length old.arrays.current → IsLength (length old.arrays.current)) → (removed : Bool)
-      → ShrinksAt eq key (λ bucket at. slots_marked bucket at epoch) removed between new
+  pub marks_removed : (removed : Bool) → ShrinksAt eq key (λ bucket at. slots_marked bucket at epoch) removed between new
       → MarksRemoved eq key epoch removed old.arrays new.arrays
-  marks_removed long false same = rw same earlier
-  marks_removed long true (side, index, at, stands, shrinks) =
+  marks_removed false same = rw same earlier
+  marks_removed true (side, index, at, stands, shrinks) =
       let bucket = slots_marked (bucket_on between.arrays side index) at epoch in
       let mid = arrays_with between.arrays side index bucket in
       let marks = marks_of-marked between.arrays side index at epoch stands.pair stands.within stands.slot in
@@ -105,7 +103,7 @@ module _ {K V H : Type 0} (eq : K → K → Bool) (key : K) (epoch hash : ℕ) (
         kept = earlier;
         marks = rw same marks;
       } in
-      elim (removed_ends between.arrays side index bucket new.arrays (rw prepared.kept.current_len long) shrinks) [
+      elim (removed_ends between.arrays side index bucket new.arrays shrinks) [
         | inl is ↦ inl (adds (ap (λ (a : ArraysView K V). marks_of a) is))
         | inr (inl gone) ↦ inr (none_left mid new.arrays gone)
         | inr (inr (capacity, pushed)) ↦ inl (adds (marks_of-pushed capacity mid new.arrays pushed))

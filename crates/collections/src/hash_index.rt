@@ -13,6 +13,7 @@ ghost use Rattle.std.specs.Option.{option_copied};
 ghost use Rattle.std.specs.Borrow.{Bor};
 ghost use Rattle.bucket_slots.specs.Marking.{HasNoNewMark, MarksBy};
 ghost use Rattle.bucket_slots.specs.Walking.{CallsEach};
+ghost use Rattle.bucket_table.specs.Map.LookingUp.{IsThere};
 ghost use Rattle.bucket_table.specs.Rehash.State.{first_tickets};
 ghost use Rattle.bucket_table.specs.Views.ArraysView.{marks_of, pairs_of};
 ghost use Rattle.collections.specs.Changes.{Inserts, ReadsOut, Reserves, Stays, TakesOut};
@@ -209,7 +210,7 @@ impl<K: Eq + Drop, V: Drop, H: KeyHash<K>> HashIndex<K, V, H> {
     }
 
     /// Hands the pair whose key is equal to a function, marks it as `remove` does, and returns what
-    /// the function answers; `None` where the index hasn't the key.
+    /// the function answers; `None` where the index hasn't the key, and then it isn't called.
     ///
     /// `HashTable::mark` says where shrinking and the incremental rehash happen.
     ///
@@ -221,7 +222,9 @@ impl<K: Eq + Drop, V: Drop, H: KeyHash<K>> HashIndex<K, V, H> {
         generation: &G,
         reader: F,
     ) -> Option<R>
-        requires callable { (own : Bor K) (value : Bor V) → F.pre reader own value }
+        requires callable { (own : Bor K) (value : Bor V)
+            → IsThere K.eq key.now (pairs_of self.old.arrays) (own.now, value.now)
+            → F.pre reader own value }
         ensures map { ReadsOut K.eq key.now (λ own value answer. F.post reader own value answer)
             (map_of self.old) result (map_of self.new) }
         ensures marks { MarksBy (G.epoch_of generation.now) (marks_of self.old.arrays)

@@ -8,6 +8,7 @@ ghost use Rattle.std.specs.Prelude.{◌≡◌, ◌↔◌, ◌-◌, ◌^◌, ◌&
 ghost use Rattle.std.specs.Option.{option_copied, option_eq};
 ghost use Rattle.std.specs.Borrow.{Bor, MutBor};
 ghost use Rattle.bucket_slots.specs.Walking.{CallsEach};
+ghost use Rattle.bucket_table.specs.Map.LookingUp.{IsThere};
 ghost use Rattle.collections.specs.Equality.{is_within};
 ghost use Rattle.collections.specs.Maps.{contains, get, IsEmpty, map_len};
 ghost use Rattle.collections.specs.Changes.{Inserts, Removes, Reserves, Retains, Rewrites};
@@ -212,12 +213,13 @@ impl<K: Eq + Drop, V: Drop, H: KeyHash<K>> HashMap<K, V, H> {
     }
 
     /// Hands the pair whose key is equal to a function, its value for writing, and returns what
-    /// that answers; `None` where the map hasn't the key.
+    /// that answers; `None` where the map hasn't the key, and then it isn't called.
     ///
     /// Never refused. O(1) expected. scc: `HashMap::update_sync`.
     #[inline(always)]
     pub fn update<R, F: FnOnce(&K, &mut V) -> R>(&mut self, key: &K, change: F) -> Option<R>
-        requires callable { (own : Bor K) (value : MutBor V) → F.pre change own value }
+        requires callable { (own : Bor K) (value : MutBor V)
+            → IsThere K.eq key.now self.old.entries (own.now, value.now) → F.pre change own value }
         ensures { Rewrites K.eq key.now (λ own before answer after. F.post change own before answer after)
             self.old result self.new }
     {

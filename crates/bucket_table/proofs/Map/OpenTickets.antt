@@ -27,15 +27,9 @@ module _ {K V : Type 0} where
   pub bag_resized : (old new : ArraysView K V) → Resizes old new → KeepsOpenTickets old.tickets new.tickets
   bag_resized old new r = bag_tried old r.0 new r.1
 
-  -- that each number of open tickets stays can be decided, and so whether a resize was asked for needn't be
   pub bag_resized_if : {Asked : Type 0} (old new : ArraysView K V) → ResizesIf Asked old new → KeepsOpenTickets old.tickets new.tickets
-  bag_resized_if old new r = λ unit. elim (cases_eq _ _) [
-    | inl same ↦ same
-    | inr apart ↦
-        let stays : KeepsOpenTickets old.tickets new.tickets =
-        rw (r.not_asked (λ asked. apart (bag_resized old new (r.asked asked) unit))) (bag_same old.tickets) in
-        absurd (apart (stays unit))
-  ]
+  bag_resized_if old new (inl did) = bag_resized old new did.1
+  bag_resized_if old new (inr stays) = rw stays.1 (bag_same old.tickets)
 
   pub bag_shrunk : (old : ArraysView K V) (side : Side) (i : ℕ) (b : BucketView K V) (new : ArraysView K V)
       → RemovesAndShrinks old side i b new → KeepsOpenTickets old.tickets new.tickets

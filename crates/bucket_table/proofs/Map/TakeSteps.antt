@@ -1,5 +1,5 @@
 -- A pair is taken out of a table, after its bucket was found.
-use Rattle.bucket_table.proofs.Words.{All-permutation, Bool, IsAbsent, IsPermutation-sym, IsPermutation-trans, KeepsPairs, List, MapState}
+use Rattle.bucket_table.proofs.Words.{All-permutation, Bool, Contains-permutation, IsAbsent, IsPermutation-sym, IsPermutation-trans, KeepsPairs, List, MapState}
 use Rattle.bucket_table.proofs.Words.{Slot, Some, ap, false, live_pair, same_Some, subst, sym, true, ◌∙◌, ◌∷◌, ◌≡◌}
 use Rattle.bucket_table.specs.Map.LookingUp.{IsThere}
 use Rattle.bucket_table.specs.Map.MapState.{TakesPair}
@@ -29,3 +29,14 @@ pub absent_before : {K V H : Type 0} (eq : K → K → Bool) (k : K) (a b : MapS
     → KeepsPairs a b → IsAbsent eq k b.pairs → IsAbsent eq k a.pairs
 absent_before {K} {V} eq k a b keeps none = All-permutation (λ (p : K × V). eq p.0 k ≡ false)
     b.pairs a.pairs (IsPermutation-sym a.pairs b.pairs keeps.pairs) none
+
+-- nor is the pair that a search found another one than was there before, in another order
+pub there_before : {K V H : Type 0} (eq : K → K → Bool) (k : K) (a b : MapState K V H) (p : K × V)
+    → KeepsPairs a b → IsThere eq k b.pairs p → IsThere eq k a.pairs p
+there_before eq k a b p keeps (there, own) = (Contains-permutation b.pairs a.pairs p (IsPermutation-sym a.pairs b.pairs keeps.pairs) there, own)
+
+-- and it is what a slot shows
+pub shown_before : {K V H : Type 0} (eq : K → K → Bool) (k : K) (a b : MapState K V H) (slot : Slot K V) (p q : K × V) → KeepsPairs a b
+    → live_pair slot ≡ Some p → IsThere eq k b.pairs p → live_pair slot ≡ Some q → IsThere eq k a.pairs q
+shown_before {K} {V} eq k a b slot p q keeps found there shown =
+    there_before eq k a b q keeps (subst (λ (r : K × V). IsThere eq k b.pairs r) (same_Some p q (sym found ∙ shown)) there)

@@ -141,6 +141,7 @@ module _ {K V : Type 0} where
     alive = moved.alive;
     as_alive = moved.as_alive;
     marks = moved.marks;
+    same_marks = moved.same_marks;
   }
 
   -- and they can move as before
@@ -212,6 +213,7 @@ module _ {K V : Type 0} where
       as_alive = moved.as_alive;
       marks = subst (λ (those : List ((K × V) × ℕ)). HasNoNewMark (marks_in s ++ marks_among c) (marks_in left ++ those))
           (sym (marks_alike d e listed.len (λ j. ap marks_in (listed.each j)))) moved.marks;
+      same_marks = moved.same_marks;
     }
 
     pub homes_still : AreHome hash d → AreHome hash e

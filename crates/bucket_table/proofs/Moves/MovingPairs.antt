@@ -10,7 +10,7 @@ use Rattle.bucket_table.proofs.Words.{sum_by-cons, sym, true, ℕ, ◌%◌, ◌+
 use Rattle.std.proofs.lemmas.Bool.Decides.{nat_tests}
 use Rattle.std.proofs.lemmas.List.Sorted.{sum_by-IsPermutation}
 use Rattle.bucket_slots.proofs.CallerLemmas.{entries_in-slots_vacated, entries_in-slots_with}
-use Rattle.bucket_slots.proofs.MarkCallerLemmas.{marks_in-slots_vacated, marks_in-slots_with, no_new-append}
+use Rattle.bucket_slots.proofs.MarkCallerLemmas.{marks_in-slots_with, no_new-append, no_new-same}
 use Rattle.bucket_slots.proofs.RoomCallerLemmas.{free_len_in-none, free_len_in-slots_with, killed-slots_vacated, killed-slots_with}
 use Rattle.bucket_slots.specs.BucketView.{first_place}
 use Rattle.bucket_slots.specs.Placing.{slots_with}
@@ -21,6 +21,7 @@ use Rattle.bucket_table.specs.declared.arrays.moving.Landing.{Landing}
 use Rattle.bucket_table.proofs.Moves.Exchanges.{ChangesAt, changes_at, exchanged}
 use Rattle.bucket_table.proofs.Moves.HomesByDivision.{home_of-interval}
 use Rattle.bucket_table.proofs.Moves.Landings.{AreLanding, landing_first, landing_step}
+use Rattle.bucket_table.proofs.Moves.MarksLeft.{marks_in-vacated}
 use Rattle.bucket_table.proofs.Views.MarksKept.{marks_among-set}
 use Rattle.bucket_table.proofs.Moves.Vacating.{IsWalkedTo, walked}
 
@@ -60,6 +61,7 @@ module _ {K V : Type 0} (hash : K → ℕ) where
     alive = λ i. refl;
     as_alive = refl;
     marks = no_new-refl (marks_in s ++ marks_among c);
+    same_marks = refl;
   }
 
   pub MovesInto-trans : (s t u : BucketView K V) (c d e : List (BucketView K V)) → MovesInto hash s c t d → MovesInto hash t d u e
@@ -78,6 +80,7 @@ module _ {K V : Type 0} (hash : K → ℕ) where
         alive = λ i. two.alive i ∙ one.alive i;
         as_alive = two.as_alive ∙ one.as_alive;
         marks = no_new-trans _ _ _ one.marks two.marks;
+        same_marks = two.same_marks ∙ one.same_marks;
       }
 
   -- between two moves: what has moved from s0 to c0 and where it landed, and that the rest, all of it ahead of the pointer, can move
@@ -134,7 +137,7 @@ module _ {K V : Type 0} (hash : K → ℕ) where
     byte_is : byte ≡ h % 256
     byte_is = All-head (HasOwnByte hash) (p, byte) (entries_in t) bytes ∙ sym way.own_byte
 
-    pub moved_one : t.killed ≡ s.killed → HasNoNewMark (marks_in s) (marks_in t) → HasNoNewMark (marks_among c) (marks_among d)
+    pub moved_one : t.killed ≡ s.killed → marks_in t ≡ marks_in s → HasNoNewMark (marks_among c) (marks_among d)
         → MovesInto hash s c t d
     moved_one alive left there = record {
       entries =
@@ -155,7 +158,8 @@ module _ {K V : Type 0} (hash : K → ℕ) where
         | inr apart ↦ ap (λ (b : BucketView K V). b.killed) (put.other i apart)
       ];
       as_alive = alive;
-      marks = no_new-append (marks_in s) (marks_among c) (marks_in t) (marks_among d) left there;
+      marks = no_new-append (marks_in s) (marks_among c) (marks_in t) (marks_among d) (no_new-same (marks_in s) (marks_in t) left) there;
+      same_marks = left;
     }
 
     homes_here : All (IsEntryHome hash (length c) j) (entries_in (bucket_at d j))
@@ -254,7 +258,7 @@ module _ {K V : Type 0} (hash : K → ℕ) where
       let placed = exchanged ((p, h % 256) ∷ []) [] c j b one.way.home.within (entries_in-slots_with (bucket_at c j) p (h % 256)) in
       let there = marks_among-set c j b (marks_in-slots_with (bucket_at c j) p (h % 256)) in
       let moved = moved_one start end s (slots_vacated s new) c (set c j b) p h out.0 j moving.ready out.1 one.way put placed
-      (killed-slots_vacated s new) (marks_in-slots_vacated s new) there in
+      (killed-slots_vacated s new) (marks_in-vacated s new p one.here) there in
       let still = ready_still start end s (slots_vacated s new) c (set c j b) p h out.0 j moving.ready out.1 one.way put placed in
       let landing : AreLanding hash s0 c0 (slots_vacated s new) (set c j b) said =
       rw (one.vacated, one.placed) at (landing_step hash moving.landing one (homed_there moving one)

@@ -19,7 +19,7 @@ module _ {K V : Type 0} (old worked last : ArraysView K V) (started : TicketStat
   -- what a unit's end leaves
   finished : (answer : Result Bool TicketError) → old.tickets.open_units ≡ [] → EndsRehash worked ticket success answer last
       → (last.tickets.open_units ≡ []) × (success ≡ true → units_left last + 1 ≡ units_left old)
-      × (success ≡ false → WantsMemory (λ i. Unit {0}) old last)
+      × (success ≡ false → (last.tickets.position ≡ old.tickets.position) × WantsMemory (λ i. Unit {0}) old last)
   finished (Err error) none ends =
       absurd (not_refused old.tickets started ticket h success _ error last.tickets w.1 (ends_now old worked last started ticket success h w
       (Err error) last.tickets ends.0))
@@ -49,8 +49,11 @@ module _ {K V : Type 0} (old worked last : ArraysView K V) (started : TicketStat
             omega (arith, at, next, left, last_len, long),
         λ failed.
             let handed = h.ticket_is in
-            unit_wants old worked last started (ticket / 2048) (omega (arith, handed)) none covered w.0
+            let back = closes.position_is ∙ ap (λ (s : Bool). position_after s started.position old.tickets.position) failed in (
+              omega (arith, next, back),
+              unit_wants old worked last started (ticket / 2048) (omega (arith, handed)) none covered w.0
             (ap (λ (a : ArraysView K V). a.linked) ends.1) (wants failed),
+            ),
       )
 
   pub finishes : (answer : Result Bool TicketError) → EndsRehash worked ticket success answer last → old.tickets.open_units ≡ []

@@ -107,6 +107,7 @@ module _ {K V : Type 0} (minimum maximum index : ℕ) (c l d m : List (BucketVie
     bucket = bucket_at m index;
     is_killed = moved.killed;
     empty = moved.empty;
+    marks = moved.same_marks;
     linked_is = set_is l m index within moved.linked_len moved.other_linked;
     tickets_are = refl;
     others = moved.other_current;

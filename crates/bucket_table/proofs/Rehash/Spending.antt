@@ -1,24 +1,30 @@
 -- Old buckets whose pairs move on.
 use Rattle.bucket_table.proofs.Words.{ArraysView, BucketView, IsUnmoved, List, RelocatesAt, SpendsSome, [], ap, arith, bucket_at, inl}
-use Rattle.bucket_table.proofs.Words.{inr, length, pairs_in, refl, subst, sym, true, ℕ, ◌<◌, ◌∙◌, ◌≡◌, ◌≤◌, ◌⊎◌}
-use Rattle.bucket_table.proofs.Rehash.UnitSteps.{at_set}
+use Rattle.bucket_table.proofs.Words.{cases_eq, empty_bucket, get_or-set_other, get_or-set_same, inr, length, marks_in, pairs_in, refl}
+use Rattle.bucket_table.proofs.Words.{subst, sym, true, ℕ, ◌<◌, ◌∙◌, ◌≡◌, ◌≤◌}
 
 module _ {K V : Type 0} where
   -- a bucket whose pairs have moved on
-  abbrev IsSpent : BucketView K V → Type 0
-  IsSpent bucket = (bucket.killed ≡ true) × (pairs_in bucket ≡ [])
+  abbrev IsSpent : BucketView K V → BucketView K V → Type 0
+  IsSpent was bucket = (bucket.killed ≡ true) × (pairs_in bucket ≡ []) × (marks_in bucket ≡ marks_in was)
 
   pub spends_same : (buckets : List (BucketView K V)) → SpendsSome buckets buckets
   spends_same buckets i = inl refl
+
+  spends_marks : (was is : List (BucketView K V)) (i : ℕ) → SpendsSome was is → marks_in (bucket_at is i) ≡ marks_in (bucket_at was i)
+  spends_marks was is i spends = elim (spends i) [
+    | inl same ↦ ap marks_in same
+    | inr spent ↦ spent.2
+  ]
 
   -- what has moved on stays so
   pub spends_both : (first second third : List (BucketView K V)) → SpendsSome first second
       → SpendsSome second third → SpendsSome first third
   spends_both first second third before after i = elim (after i) [
-    | inr spent ↦ inr spent
+    | inr spent ↦ inr (spent.0, spent.1, spent.2 ∙ spends_marks first second i before)
     | inl same ↦ elim (before i) [
       | inl as_first ↦ inl (same ∙ as_first)
-      | inr spent ↦ inr (subst IsSpent (sym same) spent)
+      | inr spent ↦ inr (subst (IsSpent (bucket_at first i)) (sym same) spent)
     ]
   ]
 
@@ -39,9 +45,12 @@ module _ {K V : Type 0} where
   -- one bucket is relocated, or isn't
   pub spends_one : (index : ℕ) (old new : ArraysView K V) → RelocatesAt index old new → index < length old.linked
       → SpendsSome old.linked new.linked
-  spends_one index old new moved within i = rw moved.linked_is
-      (at_set (λ (b : BucketView K V). (b ≡ bucket_at old.linked i) ⊎ IsSpent b) old.linked index i moved.bucket within
-      (inr (moved.is_killed, moved.empty)) (λ other. inl refl))
+  spends_one index old new moved within i =
+      rw moved.linked_is (elim (cases_eq i index) [
+        | inl here ↦ rw (here, get_or-set_same old.linked index moved.bucket empty_bucket within)
+            (inr (moved.is_killed, moved.empty, moved.marks))
+        | inr apart ↦ inl (get_or-set_other old.linked index i moved.bucket empty_bucket apart)
+      ])
 
   pub spends_none : (old new : ArraysView K V) → IsUnmoved old new → SpendsSome old.linked new.linked
   spends_none old new same i = inl (ap (λ (bs : List (BucketView K V)). bucket_at bs i) same.linked_is)

@@ -15,11 +15,14 @@ module _ {K V : Type 0} where
   -- what was asked for was tried, and what wasn't asked for wasn't
   pub resizes_asked : {E Asked : Type 0} (old new : ArraysView K V) (answer : Result Bool E) → Asked → TriesResize old answer new
       → ResizesIf Asked old new
-  resizes_asked old new answer asks tries =
-      record { asked = λ h. resizes old new answer tries; not_asked = λ refused. absurd (refused asks) }
+  resizes_asked old new answer asks tries = inl (asks, resizes old new answer tries)
 
   pub stays_unasked : {Asked : Type 0} (arrays : ArraysView K V) → (Asked → ⊥) → ResizesIf Asked arrays arrays
-  stays_unasked arrays none = record { asked = λ h. absurd (none h); not_asked = λ refused. refl }
+  stays_unasked arrays none = inr (none, refl)
+
+  pub not_asked : {Asked : Type 0} {old new : ArraysView K V} → (Asked → ⊥) → ResizesIf Asked old new → new ≡ old
+  not_asked none (inl did) = absurd (none did.0)
+  not_asked none (inr stays) = stays.1
 
   -- the law says nothing of the minimum
   pub placed_with : (hash : K → ℕ) (arrays : ArraysView K V) (least : ℕ) → ArePlaced hash arrays

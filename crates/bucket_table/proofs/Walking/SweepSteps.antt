@@ -13,6 +13,7 @@ use Rattle.bucket_table.specs.declared.arrays.Missing.{Missing}
 use Rattle.bucket_table.specs.declared.arrays.Missing.TheVariants.{Memory, Nothing}
 use Rattle.bucket_table.proofs.Walking.Bounds.{bound_fits}
 use Rattle.bucket_table.proofs.Walking.HomeSplit.{changed_there, splits, taken_there}
+use Rattle.bucket_table.proofs.Resize.Settling.{not_asked}
 use Rattle.bucket_table.proofs.Views.MarksKept.{by-bucket}
 use Rattle.bucket_table.proofs.Scripts.RunSteps.{run_more}
 use Rattle.bucket_table.proofs.Views.SettingsKept.{settings_both, settings_kept, settings_swept}
@@ -143,7 +144,7 @@ module _ {K V : Type 0} (IsTest : (K × V → Bool) → Type 0) where
       arrays_with-same now Current index in
       let quiet : pairs_in (bucket_on visited Current index) ≢ [] = subst
       (λ (a : ArraysView K V). pairs_in (bucket_on a Current index) ≢ []) (sym same) some in
-      let between : d.between ≡ visited = d.asked.not_asked (λ asked. quiet asked.0) in
+      let between : d.between ≡ visited = not_asked (λ asked. quiet asked.0) d.asked in
       let beside : length d.between.linked ≡ 0 = ap (λ (a : ArraysView K V). length a.linked) (between ∙ same) ∙ alone in
       d.passes.alone beside ∙ between ∙ same
 

@@ -7,6 +7,7 @@ use Rattle.bucket_table.specs.declared.arrays.Missing.{Missing}
 use Rattle.bucket_table.specs.declared.arrays.Missing.TheVariants.{Memory, Nothing}
 use Rattle.bucket_table.proofs.Walking.Each.{all_permuted}
 use Rattle.bucket_table.proofs.Walking.PassingUnits.{passes_alone}
+use Rattle.bucket_table.proofs.Resize.Settling.{not_asked}
 use Rattle.bucket_table.proofs.Map.MapKept.{state_found}
 use Rattle.bucket_slots.specs.Walking.{MovesToNext}
 
@@ -76,6 +77,6 @@ module _ {K V H : Type 0} (kind : ℕ) (hash : H → K → ℕ) (side : Side) (i
       | inl none ↦
           let d = a.departs none in
           passes_alone (λ (to : Side × ℕ). to.1) (Err missing) _ d.between new.arrays d.passes
-          (ap (λ (p : ArraysView K V). length p.linked) (d.asked.not_asked (λ asked. quiet asked.0 asked.1)) ∙ alone) memory
+          (ap (λ (p : ArraysView K V). length p.linked) (not_asked (λ asked. quiet asked.0 asked.1) d.asked) ∙ alone) memory
       | inr some ↦ absurd (not_held some)
     ]

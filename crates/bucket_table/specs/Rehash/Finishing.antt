@@ -1,5 +1,5 @@
 -- Finishing a rehash, unit by unit.
-use Rattle.std.specs.Prelude.{ℕ, ◌+◌, ◌-◌, ◌/◌, ◌<◌, ◌≡◌, Bool, true, false, [], Option, IfNone, IfSome, length}
+use Rattle.std.specs.Prelude.{ℕ, ◌+◌, ◌*◌, ◌-◌, ◌/◌, ◌<◌, ◌≡◌, Bool, true, false, [], Option, IfNone, IfSome, length}
 use Rattle.bucket_table.specs.Rehash.Units.{WantsMemory}
 use Rattle.bucket_table.specs.Views.ArraysView.{ArraysView}
 
@@ -11,9 +11,11 @@ units_left arrays = (length arrays.linked + 63) / 64 - arrays.tickets.position
 abbrev pub IsUnopened : {K V : Type 0} → ArraysView K V → Type 0
 IsUnopened arrays = 0 < length arrays.linked → arrays.tickets.open_units ≡ []
 
--- where no ticket was open one unit is worked, and finished unless memory is wanted; there is one exactly while an old array stands
+-- where no ticket was open one unit is worked, and finished unless memory is refused, when it is the next one still; there is a unit
+-- exactly while an old array stands
 pub record Finishes {K V : Type 0} (old : ArraysView K V) (answer : Option Bool) (new : ArraysView K V) : Type 0 where
   pub none_open : new.tickets.open_units ≡ []
   pub none : IfNone answer ((length old.linked ≡ 0) × (new ≡ old))
-  pub one : IfSome answer (λ success. (0 < length old.linked) × (success ≡ true → units_left new + 1 ≡ units_left old)
-      × (success ≡ false → WantsMemory (λ i. Unit {0}) old new))
+  pub one : IfSome answer (λ success. (64 * old.tickets.position < length old.linked)
+      × (success ≡ true → units_left new + 1 ≡ units_left old)
+      × (success ≡ false → (new.tickets.position ≡ old.tickets.position) × WantsMemory (λ i. Unit {0}) old new))

@@ -1,7 +1,7 @@
 -- What the calls of a rehash do to a table's old array and its tickets.
 use Rattle.std.specs.Prelude.{ℕ, ◌/◌, ◌≡◌, Bool, true, [], Result, Ok, length, slice_set}
 use Rattle.bucket_slots.specs.ArrayView.{bucket_at}
-use Rattle.bucket_slots.specs.BucketView.{BucketView, pairs_in}
+use Rattle.bucket_slots.specs.BucketView.{BucketView, marks_in, pairs_in}
 use Rattle.bucket_slots.specs.Homes.{Meets}
 use Rattle.bucket_table.specs.Views.ArraysView.{ArraysView, killed_flags}
 use Rattle.bucket_table.specs.Rehash.Relocation.{KeepsEntries}
@@ -20,11 +20,13 @@ EndsRehash old ticket success answer new =
     Ends old.tickets ticket success (IsUnitKilled (killed_flags old.linked) (ticket / 2048)) answer new.tickets
     × (new ≡ record old { tickets = new.tickets })
 
--- the old bucket is killed and empty, its pairs stand in the current array, and no other bucket changes but its targets
+-- the old bucket is killed, without a pair, and has its marks; its pairs stand in the current array, and no other bucket changes but its
+-- targets
 pub record RelocatesAt {K V : Type 0} (index : ℕ) (old new : ArraysView K V) : Type 0 where
   pub bucket : BucketView K V
   pub is_killed : bucket.killed ≡ true
   pub empty : pairs_in bucket ≡ []
+  pub marks : marks_in bucket ≡ marks_in (bucket_at old.linked index)
   pub linked_is : new.linked ≡ slice_set old.linked index bucket
   pub tickets_are : new.tickets ≡ old.tickets
   pub others : (j : ℕ) → (Meets (length old.linked) index (length old.current) j → ⊥) → bucket_at new.current j ≡ bucket_at old.current j

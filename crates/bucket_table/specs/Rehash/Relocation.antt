@@ -44,7 +44,8 @@ abbrev pub HasRoomFor : {K V : Type 0} → (K → ℕ) → List (BucketView K V)
 HasRoomFor hash buckets pairs =
     (i : ℕ) → i < length buckets → homed_len hash (length buckets) i pairs ≤ free_len_in (bucket_at buckets i)
 
--- pairs move from a bucket into an array: none goes and none comes, only homes of the bucket's pairs change, and no mark is new
+-- pairs move from a bucket into an array: none goes and none comes, only homes of the bucket's pairs change, the bucket's marks stay, and
+-- no mark is new
 pub record MovesInto {K V : Type 0} (hash : K → ℕ) (bucket : BucketView K V) (buckets : List (BucketView K V)) (left : BucketView K V) (after : List (BucketView K V)) : Type 0 where
   pub entries : IsPermutation (entries_in bucket ++ entries_among buckets) (entries_in left ++ entries_among after)
   pub len : length after ≡ length buckets
@@ -53,6 +54,7 @@ pub record MovesInto {K V : Type 0} (hash : K → ℕ) (bucket : BucketView K V)
   pub alive : (i : ℕ) → (bucket_at after i).killed ≡ (bucket_at buckets i).killed
   pub as_alive : left.killed ≡ bucket.killed
   pub marks : HasNoNewMark (marks_in bucket ++ marks_among buckets) (marks_in left ++ marks_among after)
+  pub same_marks : marks_in left ≡ marks_in bucket
 
 -- every slot of a bucket is free, the 32 own ones among them
 pub record IsVacant {K V : Type 0} (bucket : BucketView K V) : Type 0 where
@@ -69,12 +71,14 @@ pub record AreTwoArrays {K V : Type 0} (hash : K → ℕ) (current linked : List
       → (i j : ℕ) → i < length linked → j < length current → (bucket_at linked i).killed ≡ false → Meets (length linked) i (length current) j
       → IsVacant (bucket_at current j)
 
--- old bucket `index` was moved: it is killed and empty, its pairs are among the current ones, no mark is new, and nothing else has changed
+-- old bucket `index` was moved: it is killed, without a pair, and has its marks; its pairs are among the current ones, no mark is new, and
+-- nothing else has changed
 pub record IsRelocated {K V : Type 0} (index : ℕ) (current linked new_current new_linked : List (BucketView K V)) : Type 0 where
   pub killed : (bucket_at new_linked index).killed ≡ true
   pub empty : pairs_in (bucket_at new_linked index) ≡ []
   pub entries : IsPermutation (entries_among current ++ entries_among linked) (entries_among new_current ++ entries_among new_linked)
   pub marks : HasNoNewMark (marks_among current ++ marks_among linked) (marks_among new_current ++ marks_among new_linked)
+  pub same_marks : marks_in (bucket_at new_linked index) ≡ marks_in (bucket_at linked index)
   pub current_len : length new_current ≡ length current
   pub linked_len : length new_linked ≡ length linked
   pub other_linked : (i : ℕ) → (i ≡ index → ⊥) → bucket_at new_linked i ≡ bucket_at linked i

@@ -1,7 +1,7 @@
 -- What working units of the old array does, one after another, as a look-up, a cursor and a walk do.
 use Rattle.std.specs.Prelude.{ℕ, ◌+◌, ◌*◌, ◌<◌, ◌≤◌, ◌≡◌, ◌⊎◌, Bool, true, false, List, [], Result, Ok, Err, length}
 use Rattle.bucket_slots.specs.ArrayView.{bucket_at}
-use Rattle.bucket_slots.specs.BucketView.{BucketView, pairs_in}
+use Rattle.bucket_slots.specs.BucketView.{BucketView, marks_in, pairs_in}
 use Rattle.bucket_slots.specs.Homes.{IsInRange}
 use Rattle.bucket_table.specs.Views.ArraysView.{ArraysView, IsSource, killed_flags}
 use Rattle.bucket_table.specs.Rehash.Covered.{IsUnitKilled}
@@ -46,9 +46,10 @@ pub record WantsMemory {K V : Type 0} (IsOne : ℕ → Type 0) (old new : Arrays
   pub alive : (bucket_at new.linked index).killed ≡ false
   pub needed : NeedsNoMemory index (index + 1) old → ⊥
 
--- each bucket is as it was, or its pairs have moved on: it is killed and has none
+-- each bucket is as it was, or its pairs have moved on: it is killed, has none, and keeps its marks
 abbrev pub SpendsSome : {K V : Type 0} → List (BucketView K V) → List (BucketView K V) → Type 0
-SpendsSome was is = (i : ℕ) → (bucket_at is i ≡ bucket_at was i) ⊎ (((bucket_at is i).killed ≡ true) × (pairs_in (bucket_at is i) ≡ []))
+SpendsSome was is = (i : ℕ) → (bucket_at is i ≡ bucket_at was i)
+    ⊎ (((bucket_at is i).killed ≡ true) × (pairs_in (bucket_at is i) ≡ []) × (marks_in (bucket_at is i) ≡ marks_in (bucket_at was i)))
 
 -- a bucket stands, and isn't killed
 abbrev pub IsAlive : {K V : Type 0} → List (BucketView K V) → ℕ → Type 0

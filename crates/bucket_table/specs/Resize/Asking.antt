@@ -1,5 +1,5 @@
 -- When a resize is looked into near a bucket.
-use Rattle.std.specs.Prelude.{[], ℕ, ◌<◌, ◌≡◌, length}
+use Rattle.std.specs.Prelude.{[], ℕ, ◌<◌, ◌≡◌, ◌⊎◌, length}
 use Rattle.bucket_slots.specs.BucketView.{BucketView, pairs_in}
 use Rattle.bucket_table.specs.Views.ArraysView.{ArraysView}
 use Rattle.bucket_table.specs.Resize.ResizePlan.{slots_of}
@@ -22,9 +22,8 @@ pub record AsksShrinking {K V : Type 0} (arrays : ArraysView K V) (index : ℕ) 
   pub near : IsDeserted (live_counts arrays.current) index
 
 -- where a resize is asked for the arrays follow the plan, or stay for want of memory; else they stay
-pub record ResizesIf {K V : Type 0} (Asked : Type 0) (old new : ArraysView K V) : Type 0 where
-  pub asked : Asked → Resizes old new
-  pub not_asked : (Asked → ⊥) → new ≡ old
+abbrev pub ResizesIf : {K V : Type 0} → Type 0 → ArraysView K V → ArraysView K V → Type 0
+ResizesIf Asked old new = (Asked × Resizes old new) ⊎ ((Asked → ⊥) × (new ≡ old))
 
 -- a bucket of one side is another one now; where it has no live pair, and a shrinking is asked for near
 -- it, the arrays follow the plan or stay for want of memory; else they stay

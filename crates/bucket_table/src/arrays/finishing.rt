@@ -1,8 +1,8 @@
 //! Finishing a rehash.
-ghost use Rattle.std.specs.Prelude.{◌≡◌, [], length, Ok, IfOk, OnErr};
+ghost use Rattle.std.specs.Prelude.{◌≡◌, ◌+◌, ◌-◌, [], length, Ok, IfOk, OnErr};
 ghost use Rattle.bucket_table.specs.Views.ArraysView.{ArePlaced};
 ghost use Rattle.bucket_table.specs.Rehash.Finishing.{units_left};
-ghost use Rattle.bucket_table.specs.Rehash.Units.{WantsMemory};
+ghost use Rattle.bucket_table.specs.Rehash.Units.{WantsMemory, WorksUnits};
 ghost use Rattle.bucket_table.specs.Views.Keeping.{KeepsArrays};
 
 use super::Arrays;
@@ -25,6 +25,9 @@ impl<K: Eq + Drop, V: Drop, L: LruList + Drop, const TYPE: u8> Arrays<K, V, L, T
         ensures gone { IfOk result (λ count. length self.new.linked ≡ 0) }
         ensures counted { IfOk result (λ count. count ≡ units_left self.old) }
         ensures wanted { OnErr result (WantsMemory (λ i. Unit {0}) self.old self.new) }
+        ensures units { OnErr result (WorksUnits
+            (self.new.tickets.position + 1 - self.old.tickets.position)
+            (λ index. ⊥) self.old self.new) }
         ensures alone { length self.old.linked ≡ 0 → (result ≡ Ok 0) × (self.new ≡ self.old) }
     {
         let _len = self.old_len();

@@ -68,6 +68,7 @@ pub(crate) fn relocate<K: Eq + Drop, V: Drop, H: KeyHash<K>, L: LruList, const T
         return Ok(());
     }
     let source = linked.bucket_mut(index);
+    source.sound();
     if to < from || BUCKET_LEN < source.len() {
         if let Err(refused) = reserve_targets(alloc, hasher, current, source, start, end) {
             return Err(refused);

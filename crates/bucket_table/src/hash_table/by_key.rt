@@ -15,7 +15,7 @@ ghost use Rattle.bucket_table.specs.Views.ArraysView.{marks_of, pairs_of};
 ghost use Rattle.bucket_table.specs.Map.ByKey.{AnswersInsertion, ChangesAt, HandsBack, InsertsAt, PreparesThen};
 ghost use Rattle.bucket_table.specs.Map.Finding.{FindsThen};
 ghost use Rattle.bucket_table.specs.Map.ByKey.{Inserts, Marks, ShrinksAt, StandsAt, Swaps, Takes, Touches};
-ghost use Rattle.bucket_table.specs.Map.LookingUp.{IsAbsent};
+ghost use Rattle.bucket_table.specs.Map.LookingUp.{IsAbsent, IsThere};
 ghost use Rattle.bucket_table.specs.Map.Preparing.{IsPrepared, IsReady};
 ghost use Rattle.bucket_table.specs.Map.MapState.{ChangesValue, state_of};
 ghost use Rattle.bucket_table.specs.Views.Sides.{bucket_of, buckets_on, with_bucket};
@@ -61,7 +61,8 @@ impl<K: Eq + Drop, V: Drop, H: KeyHash<K>, L: LruList + Drop, const TYPE: u8> Ha
     }
 
     /// Hands the pair of an index whose key is equal to `reader`, marks it, and returns the reader's
-    /// answer: the map is without it. `None` exactly where the map has none.
+    /// answer: the map is without it. `None` exactly where the map has none: the reader isn't called
+    /// then.
     ///
     /// Beside an old array it works one unit first, and moves the sources of the hash's home. May
     /// take memory, and is never refused: without it a pair is marked in the old array. Where no
@@ -75,7 +76,9 @@ impl<K: Eq + Drop, V: Drop, H: KeyHash<K>, L: LruList + Drop, const TYPE: u8> Ha
         reader: F,
     ) -> Option<R>
         requires index { TYPE ≡ INDEX }
-        requires callable { (own : Bor K) (value : Bor V) → F.pre reader own value }
+        requires callable { (own : Bor K) (value : Bor V)
+            → IsThere K.eq key.now (pairs_of self.old.arrays) (own.now, value.now)
+            → F.pre reader own value }
         ensures map { Marks K.eq key.now (λ own value answer. F.post reader own value answer)
             (state_of TYPE self.old) result (state_of TYPE self.new) }
         ensures arrays { PreparesThen TYPE (H.hash_of self.old.hasher key.now) self.old (λ between.
@@ -289,7 +292,10 @@ impl<K: Eq, V, H: KeyHash<K>, L: LruList, const TYPE: u8> HashTable<K, V, H, L, 
         requires within { spot.now.index < length (buckets_on self.now.arrays spot.now.side) }
         requires live_slot { IsTrue (is_live
             (slot_in (bucket_of self.now spot.now.side spot.now.index) spot.now.at)) }
-        requires callable { (own : Bor K) (value : Bor V) → F.pre reader own value }
+        requires callable { (own : Bor K) (value : Bor V)
+            → live_pair (slot_in (bucket_of self.now spot.now.side spot.now.index) spot.now.at)
+            ≡ Some (own.now, value.now)
+            → F.pre reader own value }
         ensures { (own : Bor K) × (value : Bor V)
             × (live_pair (slot_in (bucket_of self.now spot.now.side spot.now.index) spot.now.at)
             ≡ Some (own.now, value.now)) × F.post reader own value result }

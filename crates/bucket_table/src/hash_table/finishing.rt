@@ -1,7 +1,7 @@
 //! Finishing a rehash of a table.
-ghost use Rattle.std.specs.Prelude.{◌≡◌, Ok, IfOk, OnErr, length};
+ghost use Rattle.std.specs.Prelude.{◌≡◌, ◌+◌, ◌-◌, Ok, IfOk, OnErr, length};
 ghost use Rattle.bucket_table.specs.Rehash.Finishing.{IsUnopened, units_left};
-ghost use Rattle.bucket_table.specs.Rehash.Units.{WantsMemory};
+ghost use Rattle.bucket_table.specs.Rehash.Units.{WantsMemory, WorksUnits};
 ghost use Rattle.bucket_table.specs.Map.MapState.{KeepsPairs, state_of};
 ghost use Rattle.bucket_table.specs.Views.Keeping.{KeepsArrays};
 
@@ -24,7 +24,8 @@ impl<K: Eq + Drop, V: Drop, H: KeyHash<K>, L: LruList + Drop, const TYPE: u8> Ha
     ///
     /// Want of memory beside an old array: it stands, its pairs are in both arrays, and no ticket is
     /// open. The first old bucket that isn't killed had more than 32 live pairs, or the current
-    /// array is shorter than the old one.
+    /// array is shorter than the old one. The rehash stands at its unit: the old buckets of the
+    /// units behind that one are as they were.
     ///
     /// O(old buckets from the position on, and their pairs). Own.
     pub fn finish_rehash(&mut self) -> Result<usize, AllocError>
@@ -35,6 +36,9 @@ impl<K: Eq + Drop, V: Drop, H: KeyHash<K>, L: LruList + Drop, const TYPE: u8> Ha
             → (result ≡ Ok 0) × (self.new ≡ self.old) }
         ensures wanted { OnErr result
             (WantsMemory (λ i. Unit {0}) self.old.arrays self.new.arrays) }
+        ensures units { OnErr result (WorksUnits
+            (self.new.arrays.tickets.position + 1 - self.old.arrays.tickets.position)
+            (λ index. ⊥) self.old.arrays self.new.arrays) }
 
         // Done or refused, the map is the same, and no ticket is open.
         ensures map { KeepsPairs (state_of TYPE self.old) (state_of TYPE self.new) }

@@ -67,14 +67,16 @@ impl<K: Eq + Drop, V: Drop, H: KeyHash<K>, L: LruList + Drop, const TYPE: u8> Ha
     TYPE,
 > {
     /// Returns what a function answers on the pair whose key is equal; `None` where the map has
-    /// none.
+    /// none, and then the function isn't called.
     ///
     /// Beside an old array it works one unit first, and moves the sources of the hash's home. May
     /// take memory, and is never refused: without it a pair is found in the old array.
     ///
     /// O(slots of a unit, of the sources and of their targets). scc: `HashTable::reader_sync`.
     pub fn reader_sync<R, F: FnOnce(&K, &V) -> R>(&mut self, key: &K, reader: F) -> Option<R>
-        requires callable { (own : Bor K) (value : Bor V) → F.pre reader own value }
+        requires callable { (own : Bor K) (value : Bor V)
+            → IsThere K.eq key.now (pairs_of self.old.arrays) (own.now, value.now)
+            → F.pre reader own value }
         ensures found { IfSome result (λ answer. (own : Bor K) × (value : Bor V)
             × IsThere K.eq key.now (pairs_of self.new.arrays) (own.now, value.now)
             × F.post reader own value answer) }

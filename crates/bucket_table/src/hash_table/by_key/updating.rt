@@ -9,7 +9,9 @@ ghost use Rattle.bucket_slots.specs.Slots.{is_live, live_pair};
 ghost use Rattle.bucket_table.specs.Map.ByKey.{PreparesThen, Rewrites, WritesAt};
 ghost use Rattle.bucket_table.specs.Map.ByKey.{Upserts, UpsertsAt, UpsertsIn};
 ghost use Rattle.bucket_table.specs.Map.Finding.{FindsThen};
+ghost use Rattle.bucket_table.specs.Map.LookingUp.{IsThere};
 ghost use Rattle.bucket_table.specs.Map.MapState.{ChangesValue, state_of};
+ghost use Rattle.bucket_table.specs.Views.ArraysView.{pairs_of};
 ghost use Rattle.bucket_table.specs.Views.Locking.{IsLocked};
 ghost use Rattle.bucket_table.specs.Views.Sides.{bucket_of, buckets_on, with_bucket};
 
@@ -28,7 +30,7 @@ impl<K: Eq + Drop, V: Drop, H: KeyHash<K>, L: LruList + Drop, const TYPE: u8> Ha
     TYPE,
 > {
     /// Hands the pair whose key is equal to `change`, its value for writing, and returns what that
-    /// answers. `None` exactly where the map has none.
+    /// answers. `None` exactly where the map has none: `change` isn't called then.
     ///
     /// Beside an old array it works one unit first, and moves the sources of the hash's home. May
     /// take memory, and is never refused: without it a value is written in the old array.
@@ -36,7 +38,9 @@ impl<K: Eq + Drop, V: Drop, H: KeyHash<K>, L: LruList + Drop, const TYPE: u8> Ha
     /// O(slots of a unit, of the sources and of their targets). Own.
     #[inline(always)]
     pub fn update<R, F: FnOnce(&K, &mut V) -> R>(&mut self, key: &K, change: F) -> Option<R>
-        requires callable { (own : Bor K) (value : MutBor V) → F.pre change own value }
+        requires callable { (own : Bor K) (value : MutBor V)
+            → IsThere K.eq key.now (pairs_of self.old.arrays) (own.now, value.now)
+            → F.pre change own value }
         ensures map { Rewrites K.eq key.now
             (λ own before answer after. F.post change own before answer after)
             (state_of TYPE self.old) result (state_of TYPE self.new) }
@@ -116,7 +120,10 @@ impl<K: Eq + Drop, V: Drop, H: KeyHash<K>, L: LruList + Drop, const TYPE: u8> Ha
         requires within { spot.now.index < length (buckets_on self.old.arrays spot.now.side) }
         requires live_slot { IsTrue (is_live
             (slot_in (bucket_of self.old spot.now.side spot.now.index) spot.now.at)) }
-        requires callable { (own : Bor K) (value : MutBor V) → F.pre change own value }
+        requires callable { (own : Bor K) (value : MutBor V)
+            → live_pair (slot_in (bucket_of self.old spot.now.side spot.now.index) spot.now.at)
+            ≡ Some (own.now, value.now)
+            → F.pre change own value }
         ensures map { (own : Bor K) × (before after : MutBor V)
             × F.post change own before result after
             × (live_pair (slot_in (bucket_of self.old spot.now.side spot.now.index) spot.now.at)

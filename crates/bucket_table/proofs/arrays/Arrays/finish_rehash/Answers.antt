@@ -1,4 +1,4 @@
-use Rattle.bucket_table.proofs.Words.{ap, arith, length, refl}
+use Rattle.bucket_table.proofs.Words.{ap, arith, length, refl, ◌+◌, ◌-◌, ◌≡◌}
 use Rattle.bucket_table.proofs.Views.Keeping.{kept_both, kept_none}
 use Rattle.bucket_table.proofs.Rehash.UnitRuns.{stands_still, units_both}
 use Rattle.bucket_table.proofs.Rehash.Wanting.{wanted_before}
@@ -40,9 +40,21 @@ pub returns-then-not-success-clause-kept : goal.returns-then-not-success-clause-
 returns-then-not-success-clause-kept g c =
     kept_both c.args.self.now c.loop-success.self c.work_unit.new.self c.loop-success.invariant.1 c.in-Some.ensures.kept
 
+pub returns-then-not-success-clause-units : goal.returns-then-not-success-clause-units
+returns-then-not-success-clause-units g c =
+    let done = (c.in-Some.ensures.finishes c.loop-success.invariant.2).one in
+    let here = done.0 in
+    let so_far = c.loop-success.invariant.3 in
+    let same_len = (c.loop-success.invariant.5.stands (omega (arith, here))).len in
+    let stays = (done.2 c.if-not-success.true).0 in
+    let steps : c.work_unit.new.self.tickets.position + 1 - c.args.self.now.tickets.position ≡ c.loop-success.count + 1 =
+    omega (arith, here, so_far, same_len, stays) in
+    rw steps (units_both _ c.loop-success.count 1 c.args.self.now c.loop-success.self c.work_unit.new.self (λ i none. none) (λ i none. none)
+        c.loop-success.invariant.1.current_len c.loop-success.invariant.5 c.work_unit.ensures.units)
+
 pub returns-then-not-success-clause-wanted : goal.returns-then-not-success-clause-wanted
 returns-then-not-success-clause-wanted g c =
     let done = c.in-Some.ensures.finishes c.loop-success.invariant.2 in
     wanted_before _ c.loop-success.count c.args.self.now c.loop-success.self c.work_unit.new.self
     c.loop-success.invariant.1.current_len c.loop-success.invariant.5 (λ on. (c.work_unit.ensures.units.stands on).len)
-    (done.one.2 c.if-not-success.true)
+    (done.one.2 c.if-not-success.true).1

@@ -1,4 +1,4 @@
-use Rattle.bucket_table.proofs.Words.{ap, length, nil_from_length, sym, ◌∙◌}
+use Rattle.bucket_table.proofs.Words.{ap, inl, inr, length, nil_from_length, sym, ◌∙◌}
 use Rattle.bucket_table.proofs.Views.Keeping.{keeps_same}
 use Rattle.bucket_table.proofs.Resize.Settling.{stays_unasked}
 use Rattle.bucket_table.proofs.arrays.Arrays.shrink_left.Goals as goal
@@ -14,10 +14,10 @@ pub returns : goal.returns
 returns g c =
     let empty = nil_from_length _ (sym c.requires.left ∙ c.if-left-ne0.false) in
     record {
-      asked = record {
-        asked = λ h. c.try_shrink.ensures.asked.asked h.1;
-        not_asked = λ refused. c.try_shrink.ensures.asked.not_asked (λ near. refused (empty, near));
-      };
+      asked = elim c.try_shrink.ensures.asked [
+        | inl did ↦ inl ((empty, did.0), did.1)
+        | inr stays ↦ inr (λ asks. stays.0 asks.1, stays.1)
+      ];
       kept = c.try_shrink.ensures.kept;
       placed = c.try_shrink.ensures.placed;
     }

@@ -1,8 +1,10 @@
-use Rattle.bucket_table.proofs.Words.{bucket_on, by-no_new, by-trans, marks_in, marks_of, refl}
+use Rattle.bucket_table.proofs.Words.{bucket_on, by-no_new, by-trans, marks_in, marks_of, refl, rules}
 use Rattle.bucket_slots.proofs.MarkCallerLemmas.{by-one, marks_in-slots_marked}
 use Rattle.bucket_table.proofs.Map.KeySteps.{marks_through}
 use Rattle.bucket_table.proofs.Map.SlotSteps.{marks}
-use Rattle.bucket_table.proofs.Map.TakeSteps.{same_taken, then_taken}
+use Rattle.bucket_table.specs.Map.MapState.{state_of}
+use Rattle.bucket_slots.proofs.CallerLemmas.{live_from_pair}
+use Rattle.bucket_table.proofs.Map.TakeSteps.{same_taken, shown_before, then_taken}
 use Rattle.bucket_table.proofs.hash_table.HashTable.mark.Goals as goal
 
 pub invariant_of-self : goal.invariant_of-self
@@ -61,3 +63,22 @@ returns-in-None-clause-arrays g c = record { between = c.fetch_spot.new.self; pr
 
 pub returns-in-None-clause-marks : goal.returns-in-None-clause-marks
 returns-in-None-clause-marks g c = by-no_new _ _ _ c.fetch_spot.ensures.prepared.kept.keeps.marks
+
+pub read_at-answer-requires : goal.read_at-answer-requires
+read_at-answer-requires g c =
+    let stands = c.in-Some.ensures.found in
+    let live = live_from_pair _ stands.pair stands.slot in (
+      search rules,
+      (
+        search rules,
+        (
+          stands.within,
+          (
+            live,
+            λ own value shown. c.requires.callable own value (shown_before g.K.PartialEq.eq c.args.key.now
+                (state_of g.row.TYPE c.args.self.now) (state_of g.row.TYPE c.fetch_spot.new.self) _ stands.pair (own.now, value.now)
+                c.fetch_spot.ensures.prepared.map stands.slot stands.there shown),
+          ),
+        ),
+      ),
+    )

@@ -1,7 +1,8 @@
-use Rattle.bucket_table.proofs.Words.{refl}
+use Rattle.bucket_table.proofs.Words.{refl, rules}
 use Rattle.bucket_table.specs.Map.MapState.{state_of}
 use Rattle.bucket_table.proofs.Scripts.CallSteps.{then_changed}
-use Rattle.bucket_table.proofs.Map.TakeSteps.{same_taken}
+use Rattle.bucket_slots.proofs.CallerLemmas.{live_from_pair}
+use Rattle.bucket_table.proofs.Map.TakeSteps.{same_taken, shown_before}
 use Rattle.bucket_table.proofs.hash_table.HashTable.update.Goals as goal
 
 pub returns-in-Some-clause-map : goal.returns-in-Some-clause-map
@@ -31,3 +32,19 @@ returns-in-Some-clause-arrays g c =
 
 pub returns-in-None-clause-arrays : goal.returns-in-None-clause-arrays
 returns-in-None-clause-arrays g c = record { between = c.fetch_spot.new.self; prepared = c.fetch_spot.ensures.prepared; done = refl }
+
+pub update_at-requires : goal.update_at-requires
+update_at-requires g c =
+    let stands = c.in-Some.ensures.found in
+    let live = live_from_pair _ stands.pair stands.slot in (
+      search rules,
+      (
+        stands.within,
+        (
+          live,
+          λ own value shown. c.requires.callable own value (shown_before g.K.PartialEq.eq c.args.key.now
+              (state_of g.row.TYPE c.args.self.now) (state_of g.row.TYPE c.fetch_spot.new.self) _ stands.pair (own.now, value.now)
+              c.fetch_spot.ensures.prepared.map stands.slot stands.there shown),
+        ),
+      ),
+    )

@@ -10,7 +10,8 @@ entry_mut-value-requires g c =
     (c.room_of.ensures, (omega arith, rw c.bucket_of_mut-bucket.ensures.bucket (rw (← c.self.view_is) at c.requires.live_slot)))
 
 pub change-requires : goal.change-requires
-change-requires g c = c.requires.callable _ _
+change-requires g c =
+    c.requires.callable _ _ (rw (← c.self.view_is) (rw c.bucket_of_mut-bucket.ensures.bucket at c.entry_mut-value.ensures.pair))
 
 pub invariant_of-self : goal.invariant_of-self
 invariant_of-self g c =

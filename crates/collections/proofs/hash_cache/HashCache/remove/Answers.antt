@@ -9,5 +9,5 @@ returns-clause-map g c =
 
 pub returns-clause-place : goal.returns-clause-place
 returns-clause-place g c =
-    rw (← c.self.view_is) (leaves_place g.K.PartialEq.eq _ c.self.inside.table c.take-taken.new.self c.args.key.now c.sound.ensures.long _
+    rw (← c.self.view_is) (leaves_place g.K.PartialEq.eq _ c.self.inside.table c.take-taken.new.self c.args.key.now _
     c.take-taken.ensures.arrays)

@@ -13,4 +13,4 @@ pub returns-clause-marked : goal.returns-clause-marked
 returns-clause-marked g c =
     let marks = c.mark-outcome.ensures.arrays in
     rw (← c.self.view_is) (marks_removed g.K.PartialEq.eq c.args.key.now _ _ c.self.inside.table marks.between c.mark-outcome.new.self
-    marks.prepared c.sound.ensures.long _ marks.done)
+    marks.prepared _ marks.done)
