@@ -12,7 +12,7 @@ use Rattle.bucket_table.specs.Map.Finding.{Finds}
 use Rattle.bucket_table.specs.Rehash.Relocation.{marks_among}
 use Rattle.bucket_table.specs.Resize.Growing.{Grows}
 use Rattle.bucket_table.specs.Views.ArraysView.{ArraysView, TableView, marks_of}
-use Rattle.bucket_table.specs.Views.Sides.{arrays_with, bucket_of, bucket_on}
+use Rattle.bucket_table.specs.Views.Sides.{arrays_with, bucket_on}
 use Rattle.bucket_table.specs.declared.hash_table.NotInserted.{NotInserted}
 use Rattle.bucket_table.specs.declared.hash_table.NotInserted.TheVariants.{Memory, Present}
 use Rattle.collections.specs.Marks.{LosesNoKeptMark}
@@ -71,7 +71,7 @@ module _ {K V : Type 0} (keeps : ℕ → Bool) where
     inserted_at : {A : Type 0} (r : Result A (NotInserted K V)) (answer : Result (Side × ℕ) (Unit {0}))
         → InsertsAt kind keeps pair byte between r answer new → kept keeps (marks_of new.arrays) ≡ kept keeps (marks_of between.arrays)
     inserted_at (Ok done) (Ok at) is =
-        rw is (with_bucket between.arrays at.0 at.1 _ (kept_after_insertion keeps kind (bucket_of between at.0 at.1) pair byte))
+        rw is (with_bucket between.arrays at.0 at.1 _ (kept_after_insertion keeps kind (bucket_on between.arrays at.0 at.1) pair byte))
     inserted_at (Ok done) (Err e) none = absurd none
     inserted_at (Err (Present k v)) answer same = rw same refl
     inserted_at (Err (Memory k v)) (Ok at) (full, same) = rw same refl

@@ -9,7 +9,7 @@ use Rattle.bucket_slots.specs.Clearing.{looks_at_marks, slots_after_insertion}
 use Rattle.bucket_slots.specs.Marking.{HasNoNewMark}
 use Rattle.bucket_slots.proofs.MarkCallerLemmas.{no_new-append, no_new-refl, no_new-same, no_new-trans}
 use Rattle.bucket_table.specs.Views.ArraysView.{ArraysView, TableView, marks_of}
-use Rattle.bucket_table.specs.Views.Sides.{arrays_with, bucket_of, bucket_on}
+use Rattle.bucket_table.specs.Views.Sides.{arrays_with, bucket_on}
 use Rattle.bucket_table.specs.Rehash.Relocation.{marks_among}
 use Rattle.bucket_table.specs.Map.ByKey.{InsertsAt}
 use Rattle.bucket_table.specs.Map.Finding.{Finds, FindsThen}
@@ -88,9 +88,9 @@ module _ {K V H A : Type 0} (kind : ℕ) (keeps : ℕ → Bool) (pair : K × V) 
       → InsertsAt kind keeps pair byte old r answer new
       → HasNoNewMark (marks_of old.arrays) (marks_of new.arrays)
   inserted_at old (Ok done) (Ok at) new is =
-      let left = slots_after_insertion kind keeps (bucket_of old at.0 at.1) pair byte in
+      let left = slots_after_insertion kind keeps (bucket_on old.arrays at.0 at.1) pair byte in
       let put = marks_of-arrays_with old.arrays at.0 at.1 left
-      (no_new-after_insertion kind keeps (bucket_of old at.0 at.1) pair byte) in
+      (no_new-after_insertion kind keeps (bucket_on old.arrays at.0 at.1) pair byte) in
       subst (λ (table : TableView K V H). HasNoNewMark (marks_of old.arrays) (marks_of table.arrays)) (sym is) put
   inserted_at old (Ok done) (Err e) new none = absurd none
   inserted_at old (Err (Present k v)) answer new same = rw same (no_new-refl (marks_of old.arrays))

@@ -15,7 +15,7 @@ use Rattle.bucket_table.specs.Map.Finding.{Finds, MakesReady}
 use Rattle.bucket_table.specs.Map.Putting.{Goes, PutsAt, slots_left, slots_put}
 use Rattle.bucket_table.specs.Resize.Growing.{Grows}
 use Rattle.bucket_table.specs.Views.ArraysView.{ArraysView, TableView, pairs_of}
-use Rattle.bucket_table.specs.Views.Sides.{arrays_with, bucket_of}
+use Rattle.bucket_table.specs.Views.Sides.{arrays_with, bucket_on}
 use Rattle.bucket_table.specs.declared.hash_table.NotInserted.{NotInserted}
 use Rattle.bucket_table.specs.declared.hash_table.NotInserted.TheVariants.{Memory, Present}
 use Rattle.bucket_table.proofs.Map.MapKept.{state_found}
@@ -50,7 +50,7 @@ module _ {K V H : Type 0} (eq : K → K → Bool) (hash : ℕ) (old new : TableV
     puts_home pair (Ok went) (Ok at) between finds puts =
         let is = found 67 hash old.arrays at.0 at.1 between.arrays finds.found in
         let same = same_buckets at.0 is.ready between.arrays is.grown in
-        let here : bucket_of between at.0 at.1 ≡ bucket_at is.ready.current at.1 = ap (λ bs. bucket_at bs at.1) same in
+        let here : bucket_on between.arrays at.0 at.1 ≡ bucket_at is.ready.current at.1 = ap (λ bs. bucket_at bs at.1) same in
         let after : BucketView K V → BucketView K V = λ bucket. slots_put true (slots_left bucket went) pair (hash % 256) in
         record {
           between = is.ready;

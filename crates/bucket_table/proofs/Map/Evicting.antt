@@ -5,7 +5,7 @@ use Rattle.bucket_table.specs.Map.ByKey.{Evicts, PreparesThen}
 use Rattle.bucket_table.specs.Map.MapState.{TakesPair, state_of}
 use Rattle.bucket_table.specs.Map.Preparing.{HomeWantsMemory, IsPrepared, IsReady}
 use Rattle.bucket_table.specs.Map.Putting.{EvictsAt, Goes, slots_left}
-use Rattle.bucket_table.specs.Views.Sides.{bucket_of, with_bucket}
+use Rattle.bucket_table.specs.Views.Sides.{bucket_on, with_bucket}
 use Rattle.bucket_table.proofs.Map.LockedSteps.{with_own}
 use Rattle.bucket_table.proofs.Map.Preparing.{wanting_unready}
 use Rattle.bucket_table.proofs.Map.TakeSteps.{then_taken}
@@ -14,18 +14,18 @@ module _ {K V H : Type 0} (kind : ℕ) (old between new : TableView K V H) where
   -- a pair is out, or all stays, after the pairs moved
   pub then_evicted : (side : Side) (index : ℕ) (r : Option (K × V)) → KeepsPairs (state_of kind old) (state_of kind between)
       → IfSome r (λ pair. TakesPair (state_of kind between) pair (state_of kind new))
-      → new ≡ with_bucket between side index (slots_left (bucket_of between side index) r)
+      → new ≡ with_bucket between side index (slots_left (bucket_on between.arrays side index) r)
       → Evicts {E = ℕ} (state_of kind old) (Ok r) (state_of kind new)
   then_evicted side index (Some pair) keeps takes is =
       then_taken (state_of kind old) (state_of kind between) (state_of kind new) pair keeps takes
   then_evicted side index None keeps takes is =
-      let same = is ∙ with_own between.hasher between.arrays side index (bucket_of between side index) refl in
+      let same = is ∙ with_own between.hasher between.arrays side index (bucket_on between.arrays side index) refl in
       subst (λ (t : TableView K V H). KeepsPairs (state_of kind old) (state_of kind t)) (sym same) keeps
 
   -- and which pair it is
   pub evicted_at : (hash : ℕ) (side : Side) (index : ℕ) (r : Option (K × V)) → IsPrepared kind hash old between → side ≡ Current
-      → IsReady between.arrays hash → IsHome (length (buckets_on between.arrays side)) hash index → Goes (bucket_of between side index) r
-      → new ≡ with_bucket between side index (slots_left (bucket_of between side index) r)
+      → IsReady between.arrays hash → IsHome (length (buckets_on between.arrays side)) hash index → Goes (bucket_on between.arrays side index) r
+      → new ≡ with_bucket between side index (slots_left (bucket_on between.arrays side index) r)
       → PreparesThen kind hash old (λ moved. EvictsAt {E = ℕ} hash moved (Ok r) new)
   evicted_at hash Old index r prepared current ready home went is = absurd cc
   evicted_at hash Current index r prepared current ready home went is =

@@ -6,7 +6,7 @@ use Rattle.bucket_table.specs.Map.ByKey.{AnswersInsertion, HandsBack, Inserts, I
 use Rattle.bucket_table.specs.Map.Finding.{FindsBucket, FindsThen}
 use Rattle.bucket_table.specs.Map.MapState.{state_of}
 use Rattle.bucket_table.specs.Map.Refusing.{IsRefused}
-use Rattle.bucket_table.specs.Views.Sides.{bucket_of, with_bucket}
+use Rattle.bucket_table.specs.Views.Sides.{bucket_on, with_bucket}
 use Rattle.bucket_table.specs.declared.hash_table.NotInserted.{NotInserted}
 use Rattle.bucket_table.specs.declared.hash_table.NotInserted.TheVariants.{Memory, Present}
 use Rattle.bucket_table.proofs.Map.LookUps.{searched_absent, searched_found}
@@ -62,8 +62,8 @@ module _ {K V H A : Type 0} where
   -- a bucket found for the hash of a key, and changed where a pair was put
   pub found_then : (eq : K → K → Bool) (kind h n : ℕ) (keeps : ℕ → Bool) (key : K) (value : V) (old between new : TableView K V H)
       (side : Side) (i : ℕ) (r : Result A (NotInserted K V)) → h ≡ n → FindsBucket kind h old side i between
-      → AnswersInsertion eq key value (h % 256) kind keeps (bucket_of between side i) r
-      → OnOk r (new ≡ with_bucket between side i (slots_after_insertion kind keeps (bucket_of between side i) (key, value) (h % 256)))
+      → AnswersInsertion eq key value (h % 256) kind keeps (bucket_on between.arrays side i) r
+      → OnOk r (new ≡ with_bucket between side i (slots_after_insertion kind keeps (bucket_on between.arrays side i) (key, value) (h % 256)))
       → OnErr r (new ≡ between)
       → FindsThen kind n old (λ answer table. InsertsAt kind keeps (key, value) (n % 256) table r answer new)
   found_then eq kind h n keeps key value old between new side i (Ok done) own found answer put same =

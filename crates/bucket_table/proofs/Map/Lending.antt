@@ -6,7 +6,7 @@ use Rattle.bucket_table.specs.Map.Lending.{WritesUnder, with_value}
 use Rattle.bucket_table.specs.Map.LookingUp.{IsThere}
 use Rattle.bucket_table.specs.Map.MapState.{ChangesValue, state_of}
 use Rattle.bucket_table.specs.Map.Preparing.{IsPrepared}
-use Rattle.bucket_table.specs.Views.Sides.{bucket_of}
+use Rattle.bucket_table.specs.Views.Sides.{bucket_on}
 use Rattle.bucket_table.proofs.Scripts.CallSteps.{then_changed, there_before}
 
 -- the pair in the slot is the one that the search found
@@ -18,9 +18,9 @@ same_there {K} {V} eq key pairs slot p q found there lent =
 module _ {K V H : Type 0} (eq : K → K → Bool) (key : K) (kind hash : ℕ) (old between : TableView K V H)
     (prepared : IsPrepared kind hash old between)
     (side : Side) (i : ℕ) (at : Place) (stands : StandsAt eq key between.arrays side i at) (own : K) (before : V)
-    (lent : live_pair (slot_in (bucket_of between side i) at) ≡ Some (own, before)) where
+    (lent : live_pair (slot_in (bucket_on between.arrays side i) at) ≡ Some (own, before)) where
   there : IsThere eq key (pairs_of between.arrays) (own, before)
-  there = same_there eq key (pairs_of between.arrays) (slot_in (bucket_of between side i) at) stands.pair (own, before) stands.slot
+  there = same_there eq key (pairs_of between.arrays) (slot_in (bucket_on between.arrays side i) at) stands.pair (own, before) stands.slot
       stands.there lent
 
   -- what is lent was in the map before the unit was worked

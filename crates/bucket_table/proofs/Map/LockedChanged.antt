@@ -9,7 +9,7 @@ use Rattle.bucket_slots.specs.declared.lru.LruList as list
 use Rattle.bucket_slots.specs.Clearing.{slots_for_insertion}
 use Rattle.bucket_slots.specs.Placing.{IsRefused, place_for_next}
 use Rattle.bucket_table.specs.Views.LockedChanges.{AnswersPlacing, Changes, bucket_in}
-use Rattle.bucket_table.specs.Views.Sides.{bucket_of, with_bucket}
+use Rattle.bucket_table.specs.Views.Sides.{bucket_on, with_bucket}
 use Rattle.bucket_table.specs.declared.key_hash.KeyHash as key_hash
 use Rattle.bucket_table.specs.declared.hash_table.locked_bucket.LockedBucket.{LockedBucket}
 use Rattle.bucket_table.proofs.Views.SideChanges.{arrays_with-same}
@@ -26,8 +26,8 @@ module _ {K V : Type 0} where
 module _ {K V H : Type 0} where
   -- what it leaves: t is the table inside, and s what it is known as
   pub put_or_same : {A E : Type 0} (r : Result A E) (t s : TableView K V H) (side : Side) (i : ℕ) (b : BucketView K V)
-      (f : BucketView K V → BucketView K V) → t ≡ s → OnOk r (b ≡ f (bucket_of t side i)) → OnErr r (b ≡ bucket_of t side i)
-      → with_bucket t side i b ≡ with_bucket s side i (if is_ok r then f (bucket_of s side i) else bucket_of s side i)
+      (f : BucketView K V → BucketView K V) → t ≡ s → OnOk r (b ≡ f (bucket_on t.arrays side i)) → OnErr r (b ≡ bucket_on t.arrays side i)
+      → with_bucket t side i b ≡ with_bucket s side i (if is_ok r then f (bucket_on s.arrays side i) else bucket_on s.arrays side i)
   put_or_same (Ok x) t s side i b f is put same = rw (← is, put) refl
   put_or_same (Err e) t s side i b f is put same = rw (← is, same) refl
 

@@ -6,7 +6,7 @@ use Rattle.bucket_table.proofs.Words.{live_pair, pairs_in, refl, slot_in, subst,
 use Rattle.bucket_slots.specs.Slots.{marked as marked_slot}
 use Rattle.bucket_table.specs.Resize.Asking.{RemovesAndShrinks, ResizesIf}
 use Rattle.bucket_table.specs.Map.MapState.{TakesPair, state_of}
-use Rattle.bucket_table.specs.Views.Sides.{bucket_of, with_bucket}
+use Rattle.bucket_table.specs.Views.Sides.{bucket_on, with_bucket}
 use Rattle.bucket_table.proofs.Map.MapKept.{state_found}
 use Rattle.bucket_table.proofs.Views.SideChanges.{arrays_with-same, buckets_on-arrays_with}
 
@@ -63,9 +63,9 @@ module _ {K V H : Type 0} where
   -- another bucket where a call succeeds: t is the table inside, and s what it is known as
   pub put_if_ok : {A E : Type 0} (r : Result A E) (t s : TableView K V H) (side : Side) (i : ℕ) (b : BucketView K V) (f : BucketView K V
       → BucketView K V)
-      → t ≡ s → OnOk r (b ≡ f (bucket_of t side i)) → OnOk r (with_bucket t side i b ≡ with_bucket s side i (f (bucket_of s side i)))
+      → t ≡ s → OnOk r (b ≡ f (bucket_on t.arrays side i)) → OnOk r (with_bucket t side i b ≡ with_bucket s side i (f (bucket_on s.arrays side i)))
   put_if_ok (Ok x) t s side i b f is put = subst (λ (z : TableView K V H). with_bucket t side i b ≡ with_bucket z side i
-      (f (bucket_of z side i))) is
+      (f (bucket_on z.arrays side i))) is
       (ap (λ (c : BucketView K V). with_bucket t side i c) put)
   put_if_ok (Err e) t s side i b f is put = tt
 

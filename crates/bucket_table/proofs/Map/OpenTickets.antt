@@ -1,6 +1,6 @@
 -- The open tickets stay: what becomes of the arrays says so, call by call.
 use Rattle.bucket_table.proofs.Words.{ArraysView, Bool, BucketView, Current, Err, KeepsOpenTickets, Ok, Option, Place, Result}
-use Rattle.bucket_table.proofs.Words.{Side, TableView, arrays_with, cases_eq, cases_lt, false, inl, inr}
+use Rattle.bucket_table.proofs.Words.{Side, TableView, arrays_with, cases_lt, false, inl, inr}
 use Rattle.bucket_table.proofs.Words.{refl, true, ℕ, ◌+◌, ◌-◌}
 use Rattle.bucket_table.specs.Map.ByKey.{ChangesAt, InsertsAt, PreparesThen, ShrinksAt}
 use Rattle.bucket_table.specs.Map.Putting.{EvictsAt}

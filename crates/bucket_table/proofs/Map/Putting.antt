@@ -10,7 +10,7 @@ use Rattle.bucket_table.specs.Map.Finding.{FindsBucket, FindsThen}
 use Rattle.bucket_table.specs.Map.MapState.{AddsPair, state_of}
 use Rattle.bucket_table.specs.Map.Refusing.{IsRefused}
 use Rattle.bucket_table.specs.Map.Putting.{Goes, Puts, PutsAt, PutsIn, slots_left, slots_put}
-use Rattle.bucket_table.specs.Views.Sides.{bucket_of, with_bucket}
+use Rattle.bucket_table.specs.Views.Sides.{bucket_on, with_bucket}
 use Rattle.bucket_table.specs.declared.hash_table.NotInserted.{NotInserted}
 use Rattle.bucket_table.specs.declared.hash_table.NotInserted.TheVariants.{Memory, Present}
 use Rattle.bucket_table.proofs.Map.Inserting.{handed_back}
@@ -161,7 +161,7 @@ module _ {K V H : Type 0} where
   -- a bucket found for the hash of a key, and the pair put there
   pub found_put : (eq : K → K → Bool) (kind h n : ℕ) (keeps : Bool) (key : K) (value : V) (old between new : TableView K V H)
       (side : Side) (i : ℕ) (r : Result (Option (K × V)) (NotInserted K V)) (left : BucketView K V) → h ≡ n
-      → FindsBucket kind h old side i between → PutsIn eq keeps key value (h % 256) (bucket_of between side i) r left
+      → FindsBucket kind h old side i between → PutsIn eq keeps key value (h % 256) (bucket_on between.arrays side i) r left
       → new ≡ with_bucket between side i left
       → FindsThen kind n old (λ answer table. PutsAt keeps (key, value) (n % 256) table r answer new)
   found_put eq kind h n keeps key value old between new side i (Ok out) left own found x is =

@@ -5,7 +5,7 @@ use Rattle.bucket_table.proofs.Words.{length, pairs_of, refl, true, ℕ, ◌%◌
 use Rattle.bucket_table.specs.Map.ByKey.{Upserts, UpsertsAt, UpsertsIn}
 use Rattle.bucket_table.specs.Map.Finding.{FindsBucket, FindsThen}
 use Rattle.bucket_table.specs.Map.MapState.{state_of}
-use Rattle.bucket_table.specs.Views.Sides.{bucket_of, with_bucket}
+use Rattle.bucket_table.specs.Views.Sides.{bucket_on, with_bucket}
 use Rattle.bucket_table.proofs.Map.Inserting.{inserted_where_absent}
 use Rattle.bucket_table.proofs.Map.KeySteps.{stands_found}
 use Rattle.bucket_table.proofs.Map.LockedSteps.{with_own}
@@ -49,13 +49,13 @@ module _ {K V H : Type 0} where
   -- a bucket found for the hash of a key, and the pair put there or its value written
   pub found_upserted : (eq : K → K → Bool) (kind h n : ℕ) (keeps : ℕ → Bool) (key : K) (value : V) (old between new : TableView K V H)
       (side : Side) (i : ℕ) (r : Result (Option V) (K × V)) (left : BucketView K V) → h ≡ n → FindsBucket kind h old side i between
-      → UpsertsIn eq key value (h % 256) kind keeps (bucket_of between side i) r left → new ≡ with_bucket between side i left
+      → UpsertsIn eq key value (h % 256) kind keeps (bucket_on between.arrays side i) r left → new ≡ with_bucket between side i left
       → FindsThen kind n old (λ answer table. UpsertsAt eq kind keeps key value (n % 256) table r answer new)
   found_upserted eq kind h n keeps key value old between new side i (Ok None) left own found x is =
       let put = is ∙ ap (λ (b : BucketView K V). with_bucket between side i b) x.1 in
       rw (← own) (record { answer = Ok (side, i); between = between; found = found; done = put })
   found_upserted eq kind h n keeps key value old between new side i (Ok (Some earlier)) left own found x is =
-      let stands = stands_found eq key between.arrays side _ (bucket_of between side i) (h % 256) i x.0 refl refl found.home.within x.2 in
+      let stands = stands_found eq key between.arrays side _ (bucket_on between.arrays side i) (h % 256) i x.0 refl refl found.home.within x.2 in
       let wrote = is ∙ ap (λ (b : BucketView K V). with_bucket between side i b) x.4 in
       rw (← own) (record { answer = Ok (side, i); between = between; found = found; done = (side, i, x.0, stands, wrote) })
   found_upserted eq kind h n keeps key value old between new side i (Err back) left own found x is =

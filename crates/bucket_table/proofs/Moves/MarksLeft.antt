@@ -2,7 +2,7 @@
 use Rattle.bucket_table.proofs.Words.{Bool, BucketView, IsBucketOf, List, Option, Place, Slot, Some, [], all_slots, ap, append-nil, arith}
 use Rattle.bucket_table.proofs.Words.{cond, false, flattened, get_or, length, length-append, live_pair}
 use Rattle.bucket_table.proofs.Words.{marks_in, nil_from_length, refl, set, slot_in, slots_vacated, suc, sum_by-cons, sym, true, zero}
-use Rattle.bucket_table.proofs.Words.{ℕ, ◌++◌, ◌+◌, ◌==◌, ◌∙◌, ◌∷◌, ◌≡◌}
+use Rattle.bucket_table.proofs.Words.{ℕ, ◌++◌, ◌==◌, ◌∙◌, ◌∷◌, ◌≡◌}
 use Rattle.std.proofs.lemmas.Bool.Decides.{nat_tests}
 use Rattle.std.proofs.lemmas.List.Elements.{filter_map-append}
 use Rattle.std.specs.Prelude.{filter_map, flat_map, if◌then◌else◌}

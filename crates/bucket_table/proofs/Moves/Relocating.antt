@@ -4,7 +4,7 @@ use Rattle.bucket_table.proofs.Words.{IsPermutation, IsPermutation-append_left, 
 use Rattle.bucket_table.proofs.Words.{IsPermutation-trans, IsVacant, KeepsEntries, List, Meets, MovesInto, [], ap, append-nil, arith}
 use Rattle.bucket_table.proofs.Words.{bucket_at, cases_eq, empty_bucket, entries_among, entries_in, false, get_or, home_of, inl, inr}
 use Rattle.bucket_table.proofs.Words.{interval_width, length, map-entries_in, marks_among, no_new-refl, pairs_in, refl, rotated, scales}
-use Rattle.bucket_table.proofs.Words.{set, subst, sym, true, ℕ, ◌++◌, ◌/◌, ◌<◌, ◌↔◌, ◌∙◌, ◌≡◌, ◌≤◌}
+use Rattle.bucket_table.proofs.Words.{set, subst, sym, true, true≢false, ℕ, ◌++◌, ◌/◌, ◌<◌, ◌↔◌, ◌∙◌, ◌≡◌, ◌≤◌}
 use Rattle.std.proofs.Common.{append_assoc}
 use Rattle.std.proofs.lemmas.List.{set-get_or}
 use Rattle.bucket_slots.proofs.ArrayCallerLemmas.{one_source}
@@ -89,6 +89,7 @@ module _ {K V : Type 0} where
       entries = IsPermutation-refl (entries_among c ++ entries_among l);
       marks = no_new-refl (marks_among c ++ marks_among l);
       same_marks = refl;
+      again = λ dead. (refl, refl);
       current_len = refl;
       linked_len = refl;
       other_linked = λ i apart. refl;
@@ -101,7 +102,8 @@ module _ {K V : Type 0} where
         (current_long : IsLength (length c0)) (linked_long : IsLength (length l0))
         (range : (j : ℕ) → IsInRange start end j ↔ Meets (length l0) index (length c0) j)
         (kept : KeepsEntries c0 c1) (others : KeepsOthers start end c0 c1) (moved : MovesInto hash (bucket_at l0 index) c1 left c2)
-        (homes : AreHome hash c2) (emptied : pairs_in left ≡ []) (laws : IsBucketOf kind (bucket_at l0 index)) (l2_is : l2 ≡ set l0 index (slots_killed kind left)) where
+        (homes : AreHome hash c2) (emptied : pairs_in left ≡ []) (laws : IsBucketOf kind (bucket_at l0 index))
+        (alive : (bucket_at l0 index).killed ≡ false) (l2_is : l2 ≡ set l0 index (slots_killed kind left)) where
       in_range : All (λ (p : K × V). IsInRange start end (home_of (length c0) (hash p.0))) (pairs_in (bucket_at l0 index))
       in_range =
           homes_in_range (length l0) (length c0) index start end (bucket_at l0 index) (some_width (length c0) current_long) range
@@ -145,6 +147,7 @@ module _ {K V : Type 0} where
         marks = rw (marks_among-kept c0 c1 kept, ← l2_is) at
             (marks_moved c1 l0 c2 index left (slots_killed kind left) moved.marks (marks_in-slots_killed kind left));
         same_marks = rw put.here (marks_in-killed kind (bucket_at l0 index) left laws moved.same_marks);
+        again = λ dead. absurd (true≢false (sym dead ∙ alive));
         current_len = moved.len ∙ kept.len;
         linked_len = put.len;
         other_linked = put.other;
@@ -255,14 +258,15 @@ module _ {K V : Type 0} where
 
       pub all_moved : (kind : ℕ) {d e : List (BucketView K V)} {left killed : BucketView K V}
           → IsPrepared start end s c d → MovesInto hash s d left e → AreHome hash e → pairs_in left ≡ [] → IsBucketOf kind s
-          → killed ≡ slots_killed kind left
+          → s.killed ≡ false → killed ≡ slots_killed kind left
           → IsRelocated index c l e (set l index killed) × AreTwoArrays hash e (set l index killed)
-      all_moved kind {d} {e} {left} {killed} prepared moved homes emptied laws killed_is =
+      all_moved kind {d} {e} {left} {killed} prepared moved homes emptied laws alive killed_is =
           let moves : MovesInto hash (bucket_at l index) d left e = rw s_is at moved in
           let lawful : IsBucketOf kind (bucket_at l index) = rw s_is at laws in
+          let stood : (bucket_at l index).killed ≡ false = rw s_is at alive in
           let l_is : set l index killed ≡ set l index (slots_killed kind left) = ap (λ (b : BucketView K V). set l index b) killed_is in (
             relocated kind index start end c d e l (set l index killed) left targets.law targets.within
-                targets.current_long targets.linked_long targets.range prepared.kept prepared.others moves homes emptied lawful l_is,
+                targets.current_long targets.linked_long targets.range prepared.kept prepared.others moves homes emptied lawful stood l_is,
             law_after kind index start end c d e l (set l index killed) left targets.law targets.within
-                targets.current_long targets.linked_long targets.range prepared.kept prepared.others moves homes emptied lawful l_is,
+                targets.current_long targets.linked_long targets.range prepared.kept prepared.others moves homes emptied lawful stood l_is,
           )

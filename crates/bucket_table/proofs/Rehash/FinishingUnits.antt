@@ -52,7 +52,7 @@ module _ {K V : Type 0} (old worked last : ArraysView K V) (started : TicketStat
             let back = closes.position_is ∙ ap (λ (s : Bool). position_after s started.position old.tickets.position) failed in (
               omega (arith, next, back),
               unit_wants old worked last started (ticket / 2048) (omega (arith, handed)) none covered w.0
-            (ap (λ (a : ArraysView K V). a.linked) ends.1) (wants failed),
+                  (ap (λ (a : ArraysView K V). a.linked) ends.1) (wants failed),
             ),
       )
 

@@ -111,6 +111,7 @@ module _ {K V : Type 0} (minimum maximum index : ℕ) (c l d m : List (BucketVie
     linked_is = set_is l m index within moved.linked_len moved.other_linked;
     tickets_are = refl;
     others = moved.other_current;
+    again = λ dead. let (here, there) = moved.again dead in rw (here, there) refl;
     kept = kept_by moved.current_len moved.entries moved.marks
         (order_one index before after moved.entries moved.empty moved.other_linked recency);
   }

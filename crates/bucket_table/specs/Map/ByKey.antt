@@ -10,7 +10,7 @@ use Rattle.bucket_table.specs.Resize.Asking.{RemovesAndShrinks}
 use Rattle.bucket_table.specs.Map.LookingUp.{IsAbsent, IsThere}
 use Rattle.bucket_table.specs.Map.MapState.{MapState, KeepsPairs, AddsPair, TakesPair, ChangesValue}
 use Rattle.bucket_table.specs.Map.Preparing.{IsPrepared}
-use Rattle.bucket_table.specs.Views.Sides.{bucket_of, bucket_on, buckets_on, with_bucket}
+use Rattle.bucket_table.specs.Views.Sides.{bucket_on, buckets_on, with_bucket}
 use Rattle.bucket_table.specs.declared.hash_table.NotInserted.{NotInserted}
 use Rattle.bucket_table.specs.declared.hash_table.NotInserted.TheVariants.{Present, Memory}
 use Rattle.bucket_table.specs.declared.arrays.side.Side.{Side}
@@ -110,14 +110,14 @@ module _ {K V H : Type 0} (eq : K → K → Bool) (key : K) (change : BucketView
   -- where the key was found its pair's place is changed, and nothing else is; else all stays
   abbrev pub ChangesAt : Bool → TableView K V H → TableView K V H → Type 0
   ChangesAt true old new = (side : Side) × (index : ℕ) × (at : Place) × StandsAt eq key old.arrays side index at
-      × (new ≡ with_bucket old side index (change (bucket_of old side index) at))
+      × (new ≡ with_bucket old side index (change (bucket_on old.arrays side index) at))
   ChangesAt false old new = new ≡ old
 
   -- where the key was found its pair's place is changed, and where the bucket has no live pair then the arrays may shrink by the plan;
   -- else all stays
   abbrev pub ShrinksAt : Bool → TableView K V H → TableView K V H → Type 0
   ShrinksAt true old new = (side : Side) × (index : ℕ) × (at : Place) × StandsAt eq key old.arrays side index at
-      × RemovesAndShrinks old.arrays side index (change (bucket_of old side index) at) new.arrays
+      × RemovesAndShrinks old.arrays side index (change (bucket_on old.arrays side index) at) new.arrays
   ShrinksAt false old new = new ≡ old
 
 -- where the key was found its value is another one, and nothing else is; else all stays
@@ -130,19 +130,19 @@ WritesAt eq key false old new = new ≡ old
 abbrev pub InsertsAt : {K V H A : Type 0} → ℕ → (ℕ → Bool) → K × V → ℕ → TableView K V H → Result A (NotInserted K V)
     → Result (Side × ℕ) (Unit {0}) → TableView K V H → Type 0
 InsertsAt kind keeps pair byte old (Ok done) (Ok found) new =
-    new ≡ with_bucket old found.0 found.1 (slots_after_insertion kind keeps (bucket_of old found.0 found.1) pair byte)
+    new ≡ with_bucket old found.0 found.1 (slots_after_insertion kind keeps (bucket_on old.arrays found.0 found.1) pair byte)
 InsertsAt kind keeps pair byte old (Ok done) (Err refused) new = ⊥
 InsertsAt kind keeps pair byte old (Err (Present k v)) answer new = new ≡ old
-InsertsAt kind keeps pair byte old (Err (Memory k v)) (Ok found) new = HasNoSlot kind keeps (bucket_of old found.0 found.1) × (new ≡ old)
+InsertsAt kind keeps pair byte old (Err (Memory k v)) (Ok found) new = HasNoSlot kind keeps (bucket_on old.arrays found.0 found.1) × (new ≡ old)
 InsertsAt kind keeps pair byte old (Err (Memory k v)) (Err refused) new = new ≡ old
 
 -- the same, and where the key was found its pair's value is another one, also where no bucket was found for a writer
 abbrev pub UpsertsAt : {K V H : Type 0} → (K → K → Bool) → ℕ → (ℕ → Bool) → K → V → ℕ → TableView K V H → Result (Option V) (K × V)
     → Result (Side × ℕ) (Unit {0}) → TableView K V H → Type 0
 UpsertsAt eq kind keeps key value byte old (Ok None) (Ok found) new =
-    new ≡ with_bucket old found.0 found.1 (slots_after_insertion kind keeps (bucket_of old found.0 found.1) (key, value) byte)
+    new ≡ with_bucket old found.0 found.1 (slots_after_insertion kind keeps (bucket_on old.arrays found.0 found.1) (key, value) byte)
 UpsertsAt eq kind keeps key value byte old (Ok None) (Err refused) new = ⊥
 UpsertsAt eq kind keeps key value byte old (Ok (Some earlier)) answer new =
     ChangesAt eq key (λ bucket at. bucket_with_value bucket at value) true old new
-UpsertsAt eq kind keeps key value byte old (Err back) (Ok found) new = HasNoSlot kind keeps (bucket_of old found.0 found.1) × (new ≡ old)
+UpsertsAt eq kind keeps key value byte old (Err back) (Ok found) new = HasNoSlot kind keeps (bucket_on old.arrays found.0 found.1) × (new ≡ old)
 UpsertsAt eq kind keeps key value byte old (Err back) (Err refused) new = new ≡ old

@@ -10,14 +10,14 @@ use Rattle.bucket_table.specs.Map.ByKey.{ChangesAt, PreparesThen, Swaps}
 use Rattle.bucket_table.specs.Map.MapState.{state_of}
 use Rattle.bucket_table.specs.Map.Preparing.{IsPrepared}
 use Rattle.bucket_table.specs.Views.ArraysView.{TableView}
-use Rattle.bucket_table.specs.Views.Sides.{bucket_of, with_bucket}
+use Rattle.bucket_table.specs.Views.Sides.{bucket_on, with_bucket}
 use Rattle.bucket_table.specs.Views.TableRow.{table_row}
 use Rattle.bucket_table.specs.declared.key_hash.KeyHash as key_hash
 use Rattle.bucket_table.specs.declared.arrays.side.Side.{Side}
 
 -- the table, once a slot of a bucket of one side has the value
 abbrev pub with_value : {K V H : Type 0} → TableView K V H → Side → ℕ → Place → V → TableView K V H
-with_value table side index at value = with_bucket table side index (bucket_with_value (bucket_of table side index) at value)
+with_value table side index at value = with_bucket table side index (bucket_with_value (bucket_on table.arrays side index) at value)
 
 -- the value under the key was this one and is that one; for it a unit was worked and the sources of a hash's home moved, and then one
 -- slot was written

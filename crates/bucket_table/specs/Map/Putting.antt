@@ -13,7 +13,7 @@ use Rattle.bucket_table.specs.Map.ByKey.{HandsBack}
 use Rattle.bucket_table.specs.Map.LookingUp.{IsAbsent}
 use Rattle.bucket_table.specs.Map.Preparing.{IsReady}
 use Rattle.bucket_table.specs.Map.MapState.{MapState, AddsPair, Becomes, KeepsPairs}
-use Rattle.bucket_table.specs.Views.Sides.{bucket_of, with_bucket}
+use Rattle.bucket_table.specs.Views.Sides.{bucket_on, with_bucket}
 use Rattle.bucket_table.specs.declared.arrays.side.Side.TheVariants.{Current}
 use Rattle.bucket_table.specs.declared.hash_table.NotInserted.{NotInserted}
 use Rattle.bucket_table.specs.declared.hash_table.NotInserted.TheVariants.{Present, Memory}
@@ -59,16 +59,16 @@ module _ {K V : Type 0} where
 -- all stays
 abbrev pub EvictsAt : {K V H E : Type 0} → ℕ → TableView K V H → Result (Option (K × V)) E → TableView K V H → Type 0
 EvictsAt hash old (Ok gone) new = ((length old.arrays.current ≡ 0) × (gone ≡ None) × (new ≡ old))
-    ⊎ (IsReady old.arrays hash × (index : ℕ) × IsHome (length old.arrays.current) hash index × Goes (bucket_of old Current index) gone
-    × (new ≡ with_bucket old Current index (slots_left (bucket_of old Current index) gone)))
+    ⊎ (IsReady old.arrays hash × (index : ℕ) × IsHome (length old.arrays.current) hash index × Goes (bucket_on old.arrays Current index) gone
+    × (new ≡ with_bucket old Current index (slots_left (bucket_on old.arrays Current index) gone)))
 EvictsAt hash old (Err refused) new = (IsReady old.arrays hash → ⊥) × (new ≡ old)
 
 -- the pair is put into the bucket that was found, after what goes for it; else all stays, and memory is wanted only where none was found
 abbrev pub PutsAt : {K V H : Type 0} → Bool → K × V → ℕ → TableView K V H → Result (Option (K × V)) (NotInserted K V)
     → Result (Side × ℕ) (Unit {0}) → TableView K V H → Type 0
 PutsAt keeps pair byte old (Ok gone) (Ok found) new =
-    Goes (bucket_of old found.0 found.1) gone
-    × (new ≡ with_bucket old found.0 found.1 (slots_put keeps (slots_left (bucket_of old found.0 found.1) gone) pair byte))
+    Goes (bucket_on old.arrays found.0 found.1) gone
+    × (new ≡ with_bucket old found.0 found.1 (slots_put keeps (slots_left (bucket_on old.arrays found.0 found.1) gone) pair byte))
 PutsAt keeps pair byte old (Err (Present k v)) answer new = new ≡ old
 PutsAt keeps pair byte old (Err (Memory k v)) (Err refused) new = new ≡ old
 PutsAt keeps pair byte old result answer new = ⊥

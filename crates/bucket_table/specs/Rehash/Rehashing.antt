@@ -21,7 +21,7 @@ EndsRehash old ticket success answer new =
     × (new ≡ record old { tickets = new.tickets })
 
 -- the old bucket is killed, without a pair, and has its marks; its pairs stand in the current array, and no other bucket changes but its
--- targets
+-- targets; where it was killed already nothing changes
 pub record RelocatesAt {K V : Type 0} (index : ℕ) (old new : ArraysView K V) : Type 0 where
   pub bucket : BucketView K V
   pub is_killed : bucket.killed ≡ true
@@ -30,6 +30,7 @@ pub record RelocatesAt {K V : Type 0} (index : ℕ) (old new : ArraysView K V) :
   pub linked_is : new.linked ≡ slice_set old.linked index bucket
   pub tickets_are : new.tickets ≡ old.tickets
   pub others : (j : ℕ) → (Meets (length old.linked) index (length old.current) j → ⊥) → bucket_at new.current j ≡ bucket_at old.current j
+  pub again : (bucket_at old.linked index).killed ≡ true → new ≡ old
   pub kept : KeepsArrays old new
 
 -- the old array and the pairs stay

@@ -72,7 +72,7 @@ pub record AreTwoArrays {K V : Type 0} (hash : K → ℕ) (current linked : List
       → IsVacant (bucket_at current j)
 
 -- old bucket `index` was moved: it is killed, without a pair, and has its marks; its pairs are among the current ones, no mark is new, and
--- nothing else has changed
+-- nothing else has changed; one that was killed already stays
 pub record IsRelocated {K V : Type 0} (index : ℕ) (current linked new_current new_linked : List (BucketView K V)) : Type 0 where
   pub killed : (bucket_at new_linked index).killed ≡ true
   pub empty : pairs_in (bucket_at new_linked index) ≡ []
@@ -83,6 +83,7 @@ pub record IsRelocated {K V : Type 0} (index : ℕ) (current linked new_current 
   pub linked_len : length new_linked ≡ length linked
   pub other_linked : (i : ℕ) → (i ≡ index → ⊥) → bucket_at new_linked i ≡ bucket_at linked i
   pub other_current : (j : ℕ) → (Meets (length linked) index (length current) j → ⊥) → bucket_at new_current j ≡ bucket_at current j
+  pub again : (bucket_at linked index).killed ≡ true → (new_current ≡ current) × (new_linked ≡ linked)
 
 -- every occupied slot of every bucket is as it was, so no pair leaves its place
 abbrev pub KeepsPlaces : {K V : Type 0} → List (BucketView K V) → List (BucketView K V) → Type 0

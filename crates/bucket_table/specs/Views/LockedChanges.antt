@@ -11,14 +11,14 @@ use Rattle.bucket_slots.specs.Slots.{live}
 use Rattle.bucket_table.specs.Map.ByKey.{HasNoSlot}
 use Rattle.bucket_table.specs.Resize.Asking.{RemovesAndShrinks}
 use Rattle.bucket_table.specs.Views.ArraysView.{TableView}
-use Rattle.bucket_table.specs.Views.Sides.{bucket_of, with_bucket}
+use Rattle.bucket_table.specs.Views.Sides.{bucket_on, with_bucket}
 use Rattle.bucket_table.specs.declared.key_hash.KeyHash as key_hash
 use Rattle.bucket_table.specs.declared.hash_table.locked_bucket.LockedBucket.{LockedBucket}
 
 module _ {K V H L : Type 0} {TYPE : ℕ} {equal : equals.Ghosts K} {hashing : key_hash.Ghosts H K} {listing : list.Ghosts L} {fresh : default.Ghosts L} where
   -- the bucket itself
   abbrev pub bucket_in : LockedBucket K V H L TYPE equal hashing listing fresh → BucketView K V
-  bucket_in locked = bucket_of locked.table.now locked.side locked.index
+  bucket_in locked = bucket_on locked.table.now.arrays locked.side locked.index
 
   -- the bucket is changed so, and it is the same bucket of the same table, which changes nowhere else
   pub record Changes (old new : LockedBucket K V H L TYPE equal hashing listing fresh) (change : BucketView K V → BucketView K V) : Type 0 where

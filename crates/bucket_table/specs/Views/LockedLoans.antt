@@ -8,7 +8,7 @@ use Rattle.std.specs.declared.default.Default as default
 use Rattle.bucket_slots.specs.declared.lru.LruList as list
 use Rattle.bucket_slots.specs.BucketView.{Place, bucket_with_value}
 use Rattle.bucket_table.specs.Views.ArraysView.{TableView}
-use Rattle.bucket_table.specs.Views.Sides.{bucket_of, with_bucket}
+use Rattle.bucket_table.specs.Views.Sides.{bucket_on, with_bucket}
 use Rattle.bucket_table.specs.declared.key_hash.KeyHash as key_hash
 use Rattle.bucket_table.specs.declared.hash_table.locked_bucket.LockedBucket.{LockedBucket}
 use Rattle.bucket_table.specs.contracts.hash_table.locked_bucket.LockedBucket as locked_bucket
@@ -18,7 +18,7 @@ module _ {K V H L : Type 0} {TYPE : ℕ} {equal : equals.Ghosts K} {hashing : ke
   -- the table, once the slot at the place has the value
   abbrev pub table_with_value : LockedBucket K V H L TYPE equal hashing listing fresh → Place → V → TableView K V H
   table_with_value locked place value =
-      with_bucket locked.table.now locked.side locked.index (bucket_with_value (bucket_of locked.table.now locked.side locked.index) place value)
+      with_bucket locked.table.now locked.side locked.index (bucket_with_value (bucket_on locked.table.now.arrays locked.side locked.index) place value)
 
   -- the borrowed bucket with that table
   abbrev pub locked_with_value : LockedBucket K V H L TYPE equal hashing listing fresh → Place → V → LockedBucket K V H L TYPE equal hashing listing fresh

@@ -25,10 +25,6 @@ abbrev pub arrays_with : {K V : Type 0} → ArraysView K V → Side → ℕ → 
 arrays_with arrays Current index bucket = record arrays { current = slice_set arrays.current index bucket }
 arrays_with arrays Old index bucket = record arrays { linked = slice_set arrays.linked index bucket }
 
--- the bucket of the table with an index, on one side
-abbrev pub bucket_of : {K V H : Type 0} → TableView K V H → Side → ℕ → BucketView K V
-bucket_of table side index = bucket_at (buckets_on table.arrays side) index
-
--- the table with another bucket there
+-- the table with another bucket on one side
 abbrev pub with_bucket : {K V H : Type 0} → TableView K V H → Side → ℕ → BucketView K V → TableView K V H
 with_bucket table side index bucket = record table { arrays = arrays_with table.arrays side index bucket }

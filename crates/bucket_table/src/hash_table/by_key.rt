@@ -18,7 +18,7 @@ ghost use Rattle.bucket_table.specs.Map.ByKey.{Inserts, Marks, ShrinksAt, Stands
 ghost use Rattle.bucket_table.specs.Map.LookingUp.{IsAbsent, IsThere};
 ghost use Rattle.bucket_table.specs.Map.Preparing.{IsPrepared, IsReady};
 ghost use Rattle.bucket_table.specs.Map.MapState.{ChangesValue, state_of};
-ghost use Rattle.bucket_table.specs.Views.Sides.{bucket_of, buckets_on, with_bucket};
+ghost use Rattle.bucket_table.specs.Views.Sides.{bucket_on, buckets_on, with_bucket};
 ghost use Rattle.bucket_table.specs.Views.Locking.{IsLocked};
 
 mod evicting;
@@ -209,10 +209,10 @@ impl<K: Eq + Drop, V: Drop, H: KeyHash<K>, L: LruList + Drop, const TYPE: u8> Ha
             (state_of TYPE self.new) }
         ensures put { OnOk result (self.new ≡ with_bucket self.old side index
             (slots_after_insertion TYPE (G.keeps generation.now)
-            (bucket_of self.old side index) (key, value) (hash % 256))) }
+            (bucket_on self.old.arrays side index) (key, value) (hash % 256))) }
         ensures unchanged { OnErr result (self.new ≡ self.old) }
         ensures answer { AnswersInsertion K.eq key value (hash % 256) TYPE (G.keeps generation.now)
-            (bucket_of self.old side index) result }
+            (bucket_on self.old.arrays side index) result }
     {
         self.arrays.room_of(side);
         let bucket = self.arrays.bucket_of_mut(side, index);
@@ -223,13 +223,13 @@ impl<K: Eq + Drop, V: Drop, H: KeyHash<K>, L: LruList + Drop, const TYPE: u8> Ha
     fn swap_at(&mut self, spot: &Spot<K, V, TYPE>, value: V) -> V
         requires within { spot.now.index < length (buckets_on self.old.arrays spot.now.side) }
         requires live_slot { IsTrue (is_live
-            (slot_in (bucket_of self.old spot.now.side spot.now.index) spot.now.at)) }
+            (slot_in (bucket_on self.old.arrays spot.now.side spot.now.index) spot.now.at)) }
         ensures map { (found : K)
-            × (live_pair (slot_in (bucket_of self.old spot.now.side spot.now.index) spot.now.at)
+            × (live_pair (slot_in (bucket_on self.old.arrays spot.now.side spot.now.index) spot.now.at)
             ≡ Some (found, result))
             × ChangesValue (state_of TYPE self.old) (found, result) value (state_of TYPE self.new) }
         ensures table { self.new ≡ with_bucket self.old spot.now.side spot.now.index
-            (bucket_with_value (bucket_of self.old spot.now.side spot.now.index) spot.now.at
+            (bucket_with_value (bucket_on self.old.arrays spot.now.side spot.now.index) spot.now.at
             value) }
     {
         self.arrays
@@ -291,13 +291,13 @@ impl<K: Eq, V, H: KeyHash<K>, L: LruList, const TYPE: u8> HashTable<K, V, H, L, 
     fn read_at<R, F: FnOnce(&K, &V) -> R>(&self, spot: &Spot<K, V, TYPE>, reader: F) -> R
         requires within { spot.now.index < length (buckets_on self.now.arrays spot.now.side) }
         requires live_slot { IsTrue (is_live
-            (slot_in (bucket_of self.now spot.now.side spot.now.index) spot.now.at)) }
+            (slot_in (bucket_on self.now.arrays spot.now.side spot.now.index) spot.now.at)) }
         requires callable { (own : Bor K) (value : Bor V)
-            → live_pair (slot_in (bucket_of self.now spot.now.side spot.now.index) spot.now.at)
+            → live_pair (slot_in (bucket_on self.now.arrays spot.now.side spot.now.index) spot.now.at)
             ≡ Some (own.now, value.now)
             → F.pre reader own value }
         ensures { (own : Bor K) × (value : Bor V)
-            × (live_pair (slot_in (bucket_of self.now spot.now.side spot.now.index) spot.now.at)
+            × (live_pair (slot_in (bucket_on self.now.arrays spot.now.side spot.now.index) spot.now.at)
             ≡ Some (own.now, value.now)) × F.post reader own value result }
     {
         let (key, value) = self.arrays.entry_of(spot.side, spot.index, &spot.at);

@@ -6,7 +6,7 @@ ghost use Rattle.std.specs.Borrow.{sem};
 ghost use Rattle.bucket_slots.specs.BucketView.{slot_in};
 ghost use Rattle.bucket_slots.specs.Slots.{is_live, live_pair};
 ghost use Rattle.bucket_table.specs.Map.MapState.{ChangesValue, state_of};
-ghost use Rattle.bucket_table.specs.Views.Sides.{bucket_of, buckets_on};
+ghost use Rattle.bucket_table.specs.Views.Sides.{bucket_on, buckets_on};
 
 use crate::arrays::Side;
 use crate::hash_table::HashTable;
@@ -28,12 +28,12 @@ impl<K: Eq, V, H: KeyHash<K>, L: LruList, const TYPE: u8> HashTable<K, V, H, L, 
         at: &EntryPtr<K, V, TYPE>,
     ) -> (&K, &mut V)
         requires within { index < length (buckets_on self.old.arrays side) }
-        requires live_slot { IsTrue (is_live (slot_in (bucket_of self.old side index) at.now)) }
+        requires live_slot { IsTrue (is_live (slot_in (bucket_on self.old.arrays side index) at.now)) }
         ensures* writes_back { sem 𝓛
             (LendsSlot K.row V.row H.row L.row TYPE K.PartialEq H.KeyHash
             (record { KEEPS = L.KEEPS; listed = L.listed; IsTail = L.IsTail }) L.Default
             self.entry side index at.now result.1) }
-        ensures pair { live_pair (slot_in (bucket_of self.old side index) at.now)
+        ensures pair { live_pair (slot_in (bucket_on self.old.arrays side index) at.now)
             ≡ Some (result.0.now, result.1.now) }
         ensures map { (value : V) → ChangesValue (state_of TYPE self.old)
             (result.0.now, result.1.now) value

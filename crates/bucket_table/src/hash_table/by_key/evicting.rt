@@ -10,7 +10,7 @@ ghost use Rattle.bucket_table.specs.Map.MapState.{state_of};
 ghost use Rattle.bucket_table.specs.Map.Putting.{EvictsAt, Goes, Puts, PutsAt, PutsIn};
 ghost use Rattle.bucket_table.specs.Map.Putting.{slots_left, slots_put};
 ghost use Rattle.bucket_table.specs.Views.Locking.{IsLocked};
-ghost use Rattle.bucket_table.specs.Views.Sides.{bucket_of, buckets_on, with_bucket};
+ghost use Rattle.bucket_table.specs.Views.Sides.{bucket_on, buckets_on, with_bucket};
 
 use crate::arrays::Side;
 use crate::hash_table::{HashTable, Missing, NotInserted};
@@ -94,7 +94,7 @@ impl<K: Eq + Drop, V: Drop, H: KeyHash<K>, L: LruList + Drop, const TYPE: u8> Ha
         requires home { IsHome (length (buckets_on self.old.arrays side)) hash index }
         ensures map { Puts K.eq key value (state_of TYPE self.old) result (state_of TYPE self.new) }
         ensures bucket { (left : BucketView K V)
-            × PutsIn K.eq L.KEEPS key value (hash % 256) (bucket_of self.old side index) result
+            × PutsIn K.eq L.KEEPS key value (hash % 256) (bucket_on self.old.arrays side index) result
             left
             × (self.new ≡ with_bucket self.old side index left) }
     {

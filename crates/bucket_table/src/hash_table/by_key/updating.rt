@@ -13,7 +13,7 @@ ghost use Rattle.bucket_table.specs.Map.LookingUp.{IsThere};
 ghost use Rattle.bucket_table.specs.Map.MapState.{ChangesValue, state_of};
 ghost use Rattle.bucket_table.specs.Views.ArraysView.{pairs_of};
 ghost use Rattle.bucket_table.specs.Views.Locking.{IsLocked};
-ghost use Rattle.bucket_table.specs.Views.Sides.{bucket_of, buckets_on, with_bucket};
+ghost use Rattle.bucket_table.specs.Views.Sides.{bucket_on, buckets_on, with_bucket};
 
 use crate::arrays::{Side, Spot};
 use crate::hash_table::HashTable;
@@ -106,7 +106,7 @@ impl<K: Eq + Drop, V: Drop, H: KeyHash<K>, L: LruList + Drop, const TYPE: u8> Ha
             (state_of TYPE self.new) }
         ensures bucket { (left : BucketView K V)
             × UpsertsIn K.eq key value (hash % 256) TYPE (G.keeps generation.now)
-            (bucket_of self.old side index) result left
+            (bucket_on self.old.arrays side index) result left
             × (self.new ≡ with_bucket self.old side index left) }
     {
         self.arrays.room_of(side);
@@ -119,19 +119,19 @@ impl<K: Eq + Drop, V: Drop, H: KeyHash<K>, L: LruList + Drop, const TYPE: u8> Ha
     fn update_at<R, F: FnOnce(&K, &mut V) -> R>(&mut self, spot: &Spot<K, V, TYPE>, change: F) -> R
         requires within { spot.now.index < length (buckets_on self.old.arrays spot.now.side) }
         requires live_slot { IsTrue (is_live
-            (slot_in (bucket_of self.old spot.now.side spot.now.index) spot.now.at)) }
+            (slot_in (bucket_on self.old.arrays spot.now.side spot.now.index) spot.now.at)) }
         requires callable { (own : Bor K) (value : MutBor V)
-            → live_pair (slot_in (bucket_of self.old spot.now.side spot.now.index) spot.now.at)
+            → live_pair (slot_in (bucket_on self.old.arrays spot.now.side spot.now.index) spot.now.at)
             ≡ Some (own.now, value.now)
             → F.pre change own value }
         ensures map { (own : Bor K) × (before after : MutBor V)
             × F.post change own before result after
-            × (live_pair (slot_in (bucket_of self.old spot.now.side spot.now.index) spot.now.at)
+            × (live_pair (slot_in (bucket_on self.old.arrays spot.now.side spot.now.index) spot.now.at)
             ≡ Some (own.now, before.now))
             × ChangesValue (state_of TYPE self.old) (own.now, before.now) after.now
             (state_of TYPE self.new) }
         ensures table { (value : V) × (self.new ≡ with_bucket self.old spot.now.side
-            spot.now.index (bucket_with_value (bucket_of self.old spot.now.side spot.now.index)
+            spot.now.index (bucket_with_value (bucket_on self.old.arrays spot.now.side spot.now.index)
             spot.now.at value)) }
     {
         let side = spot.side;

@@ -50,7 +50,7 @@ returns-then-not-success-clause-units g c =
     let steps : c.work_unit.new.self.tickets.position + 1 - c.args.self.now.tickets.position ≡ c.loop-success.count + 1 =
     omega (arith, here, so_far, same_len, stays) in
     rw steps (units_both _ c.loop-success.count 1 c.args.self.now c.loop-success.self c.work_unit.new.self (λ i none. none) (λ i none. none)
-        c.loop-success.invariant.1.current_len c.loop-success.invariant.5 c.work_unit.ensures.units)
+    c.loop-success.invariant.1.current_len c.loop-success.invariant.5 c.work_unit.ensures.units)
 
 pub returns-then-not-success-clause-wanted : goal.returns-then-not-success-clause-wanted
 returns-then-not-success-clause-wanted g c =

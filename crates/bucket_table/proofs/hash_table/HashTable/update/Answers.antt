@@ -39,12 +39,15 @@ update_at-requires g c =
     let live = live_from_pair _ stands.pair stands.slot in (
       search rules,
       (
-        stands.within,
+        search rules,
         (
-          live,
-          λ own value shown. c.requires.callable own value (shown_before g.K.PartialEq.eq c.args.key.now
-              (state_of g.row.TYPE c.args.self.now) (state_of g.row.TYPE c.fetch_spot.new.self) _ stands.pair (own.now, value.now)
-              c.fetch_spot.ensures.prepared.map stands.slot stands.there shown),
+          stands.within,
+          (
+            live,
+            λ own value shown. c.requires.callable own value (shown_before g.K.PartialEq.eq c.args.key.now
+                (state_of g.row.TYPE c.args.self.now) (state_of g.row.TYPE c.fetch_spot.new.self) _ stands.pair (own.now, value.now)
+                c.fetch_spot.ensures.prepared.map stands.slot stands.there shown),
+          ),
         ),
       ),
     )
