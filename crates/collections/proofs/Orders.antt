@@ -1,7 +1,7 @@
 -- The order of use in a cache after a put and after a removal.
 use Rattle.bucket_table.specs.declared.arrays.side.Side.{Side}
 use Rattle.bucket_table.specs.declared.arrays.side.Side.TheVariants.{Current, Old}
-use Rattle.std.proofs.Common.{ℕ, ◌≡◌, ◌<◌, ◌%◌, inl, inr, Bool, true, false, Option, Result, Ok, Err, length, refl, ap}
+use Rattle.std.proofs.Common.{ℕ, ◌≡◌, ◌%◌, inl, inr, Bool, true, false, Option, Result, Ok, Err, length, refl, ap}
 use Rattle.std.proofs.Common.{subst, ◌∙◌, arith}
 use Rattle.std.specs.Cmp.{IsEquivalence}
 use Rattle.std.specs.List.{IsDistinct}

@@ -1,5 +1,5 @@
 -- What a table is after a removal, which may shrink it.
-use Rattle.std.proofs.Common.{ℕ, ◌≡◌, ◌⊎◌, ◌++◌, inl, inr, Bool, true, false, [], length, Result, Ok, Err}
+use Rattle.std.proofs.Common.{ℕ, ◌≡◌, ◌⊎◌, ◌++◌, inl, inr, Bool, true, false, [], Result, Ok, Err}
 use Rattle.std.proofs.lemmas.List.{nil_from_length}
 use Rattle.bucket_slots.specs.BucketView.{BucketView}
 use Rattle.bucket_table.specs.Resize.Asking.{RemovesAndShrinks}

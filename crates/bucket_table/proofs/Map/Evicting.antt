@@ -24,7 +24,8 @@ module _ {K V H : Type 0} (kind : ℕ) (old between new : TableView K V H) where
 
   -- and which pair it is
   pub evicted_at : (hash : ℕ) (side : Side) (index : ℕ) (r : Option (K × V)) → IsPrepared kind hash old between → side ≡ Current
-      → IsReady between.arrays hash → IsHome (length (buckets_on between.arrays side)) hash index → Goes (bucket_on between.arrays side index) r
+      → IsReady between.arrays hash → IsHome (length (buckets_on between.arrays side)) hash index
+      → Goes (bucket_on between.arrays side index) r
       → new ≡ with_bucket between side index (slots_left (bucket_on between.arrays side index) r)
       → PreparesThen kind hash old (λ moved. EvictsAt {E = ℕ} hash moved (Ok r) new)
   evicted_at hash Old index r prepared current ready home went is = absurd cc

@@ -63,7 +63,8 @@ module _ {K V H A : Type 0} where
   pub found_then : (eq : K → K → Bool) (kind h n : ℕ) (keeps : ℕ → Bool) (key : K) (value : V) (old between new : TableView K V H)
       (side : Side) (i : ℕ) (r : Result A (NotInserted K V)) → h ≡ n → FindsBucket kind h old side i between
       → AnswersInsertion eq key value (h % 256) kind keeps (bucket_on between.arrays side i) r
-      → OnOk r (new ≡ with_bucket between side i (slots_after_insertion kind keeps (bucket_on between.arrays side i) (key, value) (h % 256)))
+      → OnOk r (new ≡ with_bucket between side i
+      (slots_after_insertion kind keeps (bucket_on between.arrays side i) (key, value) (h % 256)))
       → OnErr r (new ≡ between)
       → FindsThen kind n old (λ answer table. InsertsAt kind keeps (key, value) (n % 256) table r answer new)
   found_then eq kind h n keeps key value old between new side i (Ok done) own found answer put same =

@@ -63,7 +63,8 @@ module _ {K V H : Type 0} where
   -- another bucket where a call succeeds: t is the table inside, and s what it is known as
   pub put_if_ok : {A E : Type 0} (r : Result A E) (t s : TableView K V H) (side : Side) (i : ℕ) (b : BucketView K V) (f : BucketView K V
       → BucketView K V)
-      → t ≡ s → OnOk r (b ≡ f (bucket_on t.arrays side i)) → OnOk r (with_bucket t side i b ≡ with_bucket s side i (f (bucket_on s.arrays side i)))
+      → t ≡ s → OnOk r (b ≡ f (bucket_on t.arrays side i))
+      → OnOk r (with_bucket t side i b ≡ with_bucket s side i (f (bucket_on s.arrays side i)))
   put_if_ok (Ok x) t s side i b f is put = subst (λ (z : TableView K V H). with_bucket t side i b ≡ with_bucket z side i
       (f (bucket_on z.arrays side i))) is
       (ap (λ (c : BucketView K V). with_bucket t side i c) put)

@@ -1,5 +1,6 @@
 -- A pair is taken out of a table, after its bucket was found.
-use Rattle.bucket_table.proofs.Words.{All-permutation, Bool, Contains-permutation, IsAbsent, IsPermutation-sym, IsPermutation-trans, KeepsPairs, List, MapState}
+use Rattle.bucket_table.proofs.Words.{All-permutation, Bool, Contains-permutation, IsAbsent, IsPermutation-sym, IsPermutation-trans}
+use Rattle.bucket_table.proofs.Words.{KeepsPairs, List, MapState}
 use Rattle.bucket_table.proofs.Words.{Slot, Some, ap, false, live_pair, same_Some, subst, sym, true, ◌∙◌, ◌∷◌, ◌≡◌}
 use Rattle.bucket_table.specs.Map.LookingUp.{IsThere}
 use Rattle.bucket_table.specs.Map.MapState.{TakesPair}
@@ -33,7 +34,8 @@ absent_before {K} {V} eq k a b keeps none = All-permutation (λ (p : K × V). eq
 -- nor is the pair that a search found another one than was there before, in another order
 pub there_before : {K V H : Type 0} (eq : K → K → Bool) (k : K) (a b : MapState K V H) (p : K × V)
     → KeepsPairs a b → IsThere eq k b.pairs p → IsThere eq k a.pairs p
-there_before eq k a b p keeps (there, own) = (Contains-permutation b.pairs a.pairs p (IsPermutation-sym a.pairs b.pairs keeps.pairs) there, own)
+there_before eq k a b p keeps (there, own) =
+    (Contains-permutation b.pairs a.pairs p (IsPermutation-sym a.pairs b.pairs keeps.pairs) there, own)
 
 -- and it is what a slot shows
 pub shown_before : {K V H : Type 0} (eq : K → K → Bool) (k : K) (a b : MapState K V H) (slot : Slot K V) (p q : K × V) → KeepsPairs a b

@@ -55,7 +55,8 @@ module _ {K V H : Type 0} where
       let put = is ∙ ap (λ (b : BucketView K V). with_bucket between side i b) x.1 in
       rw (← own) (record { answer = Ok (side, i); between = between; found = found; done = put })
   found_upserted eq kind h n keeps key value old between new side i (Ok (Some earlier)) left own found x is =
-      let stands = stands_found eq key between.arrays side _ (bucket_on between.arrays side i) (h % 256) i x.0 refl refl found.home.within x.2 in
+      let stands = stands_found eq key between.arrays side _ (bucket_on between.arrays side i) (h % 256) i x.0 refl refl found.home.within
+      x.2 in
       let wrote = is ∙ ap (λ (b : BucketView K V). with_bucket between side i b) x.4 in
       rw (← own) (record { answer = Ok (side, i); between = between; found = found; done = (side, i, x.0, stands, wrote) })
   found_upserted eq kind h n keeps key value old between new side i (Err back) left own found x is =

@@ -78,5 +78,6 @@ module _ {K V : Type 0} where
   pub marks_in-killed : (kind : ℕ) (s left : BucketView K V) → IsBucketOf kind s → marks_in left ≡ marks_in s
       → marks_in (slots_killed kind left) ≡ marks_in s
   marks_in-killed kind s left laws same =
-      killed_alike (kind == INDEX) left (λ other. same ∙ none_marked (all_slots s) (laws.unmarked (λ is. absurd (grind (arith, nat_tests)))))
+      killed_alike (kind == INDEX) left
+      (λ other. same ∙ none_marked (all_slots s) (laws.unmarked (λ is. absurd (grind (arith, nat_tests)))))
       ∙ same
