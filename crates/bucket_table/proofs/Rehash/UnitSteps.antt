@@ -2,9 +2,15 @@
 use Rattle.bucket_table.proofs.Words.{ArraysView, Bool, BucketView, IsUnmoved, List, RelocatesAt, arith, bucket_at, cases_eq, empty_bucket}
 use Rattle.bucket_table.proofs.Words.{false, false≢true, get_or-set_other, get_or-set_same, inl, inr, length, length-set, refl, set, true}
 use Rattle.bucket_table.proofs.Words.{ℕ, ◌*◌, ◌+◌, ◌<◌, ◌∙◌, ◌≡◌, ◌≢◌, ◌≤◌}
-use Rattle.bucket_table.specs.Rehash.Units.{RelocatesRange, WorksRange, WorksUnit}
+use Rattle.bucket_table.specs.Rehash.Units.{AreKilled, RelocatesSome, WorksRange, WorksUnit}
 use Rattle.bucket_table.proofs.Views.Keeping.{kept_both, kept_none}
 use Rattle.bucket_table.proofs.Views.Killed.{get_or-killed_flags, length-killed_flags}
+
+-- the old buckets from `start` up to below `end` were relocated, and none past them
+pub record RelocatesRange {K V : Type 0} (start end : ℕ) (old new : ArraysView K V) : Type 0 where
+  pub some : RelocatesSome old new
+  pub killed : AreKilled start end new.linked
+  pub rest : (i : ℕ) → end ≤ i → bucket_at new.linked i ≡ bucket_at old.linked i
 
 module _ {K V : Type 0} where
   -- no bucket was relocated yet

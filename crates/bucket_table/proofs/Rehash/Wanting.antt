@@ -3,7 +3,8 @@ use Rattle.bucket_table.proofs.Words.{ArraysView, Bool, IsInRange, IsUnmoved, Sp
 use Rattle.bucket_table.proofs.Words.{Meets, inl, inr, killed_flags, length, refl, sym, true, ℕ, ◌*◌, ◌+◌, ◌/◌, ◌<◌, ◌↔◌, ◌∙◌, ◌≡◌, ◌≤◌}
 use Rattle.bucket_table.specs.Rehash.Covered.{IsCovered}
 use Rattle.bucket_table.specs.Rehash.State.{TicketState}
-use Rattle.bucket_table.specs.Rehash.Units.{NeedsNoMemory, RelocatesRange, RelocatesSome, WantsMemory}
+use Rattle.bucket_table.specs.Rehash.Units.{NeedsNoMemory, RelocatesSome, WantsMemory}
+use Rattle.bucket_table.proofs.Rehash.UnitSteps.{RelocatesRange}
 use Rattle.bucket_table.specs.Views.ArraysView.{IsSource}
 use Rattle.bucket_table.proofs.Rehash.Spending.{spends_few}
 use Rattle.bucket_table.proofs.Views.Killed.{get_or-killed_flags, length-killed_flags}

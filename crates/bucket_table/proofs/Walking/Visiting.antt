@@ -12,7 +12,7 @@ use Rattle.bucket_table.specs.Views.ArraysView.{IsSource}
 use Rattle.bucket_table.specs.Resize.Asking.{ResizesIf}
 use Rattle.bucket_table.specs.Walking.Cursors.{AreKilledFor}
 use Rattle.bucket_table.specs.Views.Settings.{KeepsSettings}
-use Rattle.bucket_table.specs.Walking.Walks.{BeginsAt, EndsWalk, IsKeptBy, IsVisitOf, KeepsBuckets, WalksBy, keys_in}
+use Rattle.bucket_table.specs.Walking.Walks.{BeginsAt, EndsWalk, IsKeptBy, KeepsBuckets, WalksBy, keys_in}
 use Rattle.bucket_table.proofs.Walking.Bounds.{is_in}
 use Rattle.bucket_table.proofs.Walking.Each.{all_permuted, each_back, each_implies, each_map, each_unmap, map_append}
 use Rattle.bucket_table.proofs.Walking.HomeSplit.{changed_there, splits, taken_there}
@@ -24,7 +24,7 @@ use Rattle.bucket_table.proofs.Rehash.StayingKilled.{sources_still}
 use Rattle.bucket_table.proofs.Rehash.Wanting.{wanted_before}
 use Rattle.bucket_table.proofs.Walking.TableCursor.{distinct_behind}
 use Rattle.bucket_table.proofs.Rehash.UnitRuns.{units_alone}
-use Rattle.bucket_table.proofs.Walking.WalkSteps.{WalksOn, begins, goes_on, walk_units, walk_visited, walk_waits}
+use Rattle.bucket_table.proofs.Walking.WalkSteps.{IsVisitOf, WalksOn, begins, goes_on, walk_units, walk_visited, walk_waits}
 
 module _ {K V : Type 0} where
   abbrev pub key_of : (K × V) × ℕ → K × ℕ

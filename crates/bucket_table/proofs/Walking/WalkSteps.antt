@@ -9,13 +9,24 @@ use Rattle.bucket_table.proofs.Words.{◌&&◌, ◌*◌, ◌++◌, ◌+◌, ◌<
 use Rattle.std.proofs.lemmas.Bool.{and_left, and_parts, and_right}
 use Rattle.std.proofs.lemmas.List.{append-nil, length_push}
 use Rattle.bucket_table.specs.Walking.Visits.{AreCalls, HasStopped, Visited}
-use Rattle.bucket_table.specs.Walking.Walks.{AreLent, IsVisitOf, IsWalk, MovesOn, VisitsEach, pairs_left}
+use Rattle.bucket_table.specs.Walking.Walks.{AreLent, IsWalk, MovesOn, VisitsEach, pairs_left}
 use Rattle.bucket_table.proofs.Walking.Bounds.{next_multiple}
 use Rattle.bucket_table.proofs.Walking.Each.{each, each_append, each_implies, to_front}
 use Rattle.bucket_table.proofs.Walking.Filters.{IsPermutation-filter, filter_all, filter_filter, filter_none}
 use Rattle.bucket_table.proofs.Map.MapKept.{keeps_pairs}
 use Rattle.bucket_table.proofs.Views.Keeping.{kept_both, kept_none}
 use Rattle.bucket_table.proofs.Rehash.UnitRuns.{stands_still, units_as, units_both}
+
+-- bucket `index` was lent with all the pairs of the map that have their home there, and the map is those that it was left with, and the
+-- others
+pub record IsVisitOf {K V : Type 0} (hash : K → ℕ) (old : ArraysView K V) (index : ℕ) (lent left : BucketView K V)
+    (new : ArraysView K V) : Type 0 where
+  pub lent_is : IsPermutation (filter (has_home_in hash (length old.current) index (index + 1)) (pairs_of old)) (pairs_in lent)
+  pub left_homes : AllByRecursion (λ pair. has_home_in hash (length old.current) index (index + 1) pair ≡ true) (pairs_in left)
+  pub pairs : IsPermutation
+      (pairs_in left ++ filter (λ pair. not (has_home_in hash (length old.current) index (index + 1) pair)) (pairs_of old))
+      (pairs_of new)
+  pub len : length new.current ≡ length old.current
 
 -- tests on hashes
 module _ (low high h : ℕ) where

@@ -17,12 +17,6 @@ pub record RelocatesSome {K V : Type 0} (old new : ArraysView K V) : Type 0 wher
   pub killed : StayKilled old.linked new.linked
   pub kept : KeepsArrays old new
 
--- the old buckets from `start` up to below `end` were relocated, and none past them
-pub record RelocatesRange {K V : Type 0} (start end : ℕ) (old new : ArraysView K V) : Type 0 where
-  pub some : RelocatesSome old new
-  pub killed : AreKilled start end new.linked
-  pub rest : (i : ℕ) → end ≤ i → bucket_at new.linked i ≡ bucket_at old.linked i
-
 -- what working the old buckets from `start` up to below `end` leaves, and whether all of them are killed
 abbrev pub WorksRange : {K V : Type 0} → ℕ → ℕ → Bool → ArraysView K V → ArraysView K V → Type 0
 WorksRange start end success old new = RelocatesSome old new × (success ≡ true → AreKilled start end new.linked)

@@ -37,15 +37,6 @@ has_home_in hash len start end pair = nat_le (bound_of len start) (hash pair.0) 
 abbrev pub pairs_left : {K V : Type 0} → List (Visited (BucketView K V)) → List (K × V)
 pairs_left visits = flat_map (λ visit. pairs_in visit.left) visits
 
--- bucket `index` was lent with all the pairs of the map that have their home there, and the map is those that it was left with, and the others
-pub record IsVisitOf {K V : Type 0} (hash : K → ℕ) (old : ArraysView K V) (index : ℕ) (lent left : BucketView K V) (new : ArraysView K V) : Type 0 where
-  pub lent_is : IsPermutation (filter (has_home_in hash (length old.current) index (index + 1)) (pairs_of old)) (pairs_in lent)
-  pub left_homes : AllByRecursion (λ pair. has_home_in hash (length old.current) index (index + 1) pair ≡ true) (pairs_in left)
-  pub pairs : IsPermutation
-      (pairs_in left ++ filter (λ pair. not (has_home_in hash (length old.current) index (index + 1) pair)) (pairs_of old))
-      (pairs_of new)
-  pub len : length new.current ≡ length old.current
-
 -- the buckets from `index` on were lent, each with all the pairs at entry that have their home there
 abbrev pub AreLent : {K V : Type 0} → (K → ℕ) → ℕ → List (K × V) → ℕ → List (Visited (BucketView K V)) → Type 0
 AreLent hash len pairs index [] = Unit {0}

@@ -1,5 +1,5 @@
 use Rattle.bucket_table.proofs.Words.{ArePlaced, IsInRange, KillsOnly, SpendsSome}
-use Rattle.bucket_table.specs.Rehash.Units.{RelocatesRange}
+use Rattle.bucket_table.proofs.Rehash.UnitSteps.{RelocatesRange}
 use Rattle.bucket_table.proofs.arrays.Arrays.relocate_range.Given as goal
 
 abbrev pub invariant-buckets : goal.invariant-buckets
