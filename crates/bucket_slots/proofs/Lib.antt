@@ -25,6 +25,7 @@ pub mod ChangedSlots
 pub mod BucketPlacing
 pub mod NextInRow
 pub mod NextSlots
+pub mod LiveMasks
 pub mod NextPlaces
 pub mod BucketRemoving
 pub mod BucketMoving
