@@ -26,6 +26,7 @@ pub mod BucketPlacing
 pub mod NextInRow
 pub mod NextSlots
 pub mod LiveMasks
+pub mod AskingSlots
 pub mod NextPlaces
 pub mod BucketRemoving
 pub mod BucketMoving
