@@ -47,5 +47,6 @@ pub mod Doublings
 pub mod Sampled
 pub mod Capacities
 pub mod ArrayParts
+pub mod Spreading
 pub mod ArrayCallerLemmas
 pub mod WrittenValues

@@ -125,6 +125,11 @@ module _ {A : Type 0} (test : A → Bool) where
         other_bit true = omega arith
         other_bit false = omega arith
 
+  -- the element of the lowest bit passes
+  pub lowest_passes : (xs : List A) (bits k : ℕ) (d : A) → IsMaskOf test xs bits → IsLowest bits k → test d ≡ false
+      → test (get_or xs k d) ≡ true
+  lowest_passes xs bits k d mask low fails = bit_is _ (sym (bit-mask xs bits mask k d fails) ∙ low.set)
+
   -- an element passes exactly where there is a first one
   pub any-position : (xs : List A) (d : A) (found : Option ℕ) → found ≡ position test xs → list_any test xs ≡ is_some found
   any-position xs d None e = list_any_none test xs (λ i e₀ below. position-None test xs i e₀ (sym e) below)
