@@ -33,23 +33,23 @@ module _ {A : Type 0} where
 
   module _ (rows : List (List A)) (m p o : ℕ) (long : All (λ row. length row ≡ m) rows) (within : p < length rows) (inside : o < m) where
     -- the elements of the rows in front of one and of those behind it
-    abbrev front : List A
+    abbrev pub front : List A
     front = flattened (take p rows)
 
-    abbrev back : List A
+    abbrev pub back : List A
     back = flattened (drop (suc p) rows)
 
-    length-front : length front ≡ p * m
+    pub length-front : length front ≡ p * m
     length-front =
         length-flattened (take p rows) m (All-take (λ r. length r ≡ m) p rows long) ∙ ap (λ n. n * m) (length-take-le p rows (omega arith))
 
-    flattened-set : (row : List A) → flattened (set rows p row) ≡ front ++ (row ++ back)
+    pub flattened-set : (row : List A) → flattened (set rows p row) ≡ front ++ (row ++ back)
     flattened-set row = ap flattened (set_split rows p row within) ∙ flat_map-append (λ r. r) (take p rows) (row ∷ drop (suc p) rows)
 
-    flattened_split : flattened rows ≡ front ++ (get_or rows p [] ++ back)
+    pub flattened_split : flattened rows ≡ front ++ (get_or rows p [] ++ back)
     flattened_split = ap flattened (sym (set-get_or rows p [])) ∙ flattened-set (get_or rows p [])
 
-    length_row : length (get_or rows p []) ≡ m
+    pub length_row : length (get_or rows p []) ≡ m
     length_row = All-get_or (λ r. length r ≡ m) rows p [] within long
 
     offset_left : p * m + o - p * m ≡ o

@@ -128,7 +128,8 @@ module _ {K V : Type 0} where
       (omega (arith, some_live kind s len block pos h alive, ap tally alive, ap tally (marked_is_dead slot epoch)))
       (λ other. absurd (other index)) (rw none (λ k d below. absurd (omega arith))) h.unlisted
 
-  live-value : (x : Slot K V) (value : V) → is_live x ≡ true
+  -- a live slot with another value is live
+  pub live-value : (x : Slot K V) (value : V) → is_live x ≡ true
       → (is_live (slot_with_value x value) ≡ true) × (is_marked (slot_with_value x value) ≡ false)
   live-value (live pair byte) value alive = (refl, refl)
   live-value slot value alive = cc

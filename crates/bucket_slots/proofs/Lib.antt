@@ -25,6 +25,8 @@ pub mod ChangedSlots
 pub mod BucketPlacing
 pub mod NextInRow
 pub mod NextSlots
+pub mod LiveMasks
+pub mod AskingSlots
 pub mod NextPlaces
 pub mod BucketRemoving
 pub mod BucketMoving
@@ -45,5 +47,6 @@ pub mod Doublings
 pub mod Sampled
 pub mod Capacities
 pub mod ArrayParts
+pub mod Spreading
 pub mod ArrayCallerLemmas
 pub mod WrittenValues

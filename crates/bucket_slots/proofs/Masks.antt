@@ -1,10 +1,11 @@
 -- Masks: what their bits say of a list's elements, and what they become where an element changes.
-use Rattle.bucket_slots.proofs.Words.{Bool, IsLeft, IsLowest, IsLowestClear, IsMaskOf, List, None, Option, SetsBit, Some, [], ap, arith}
+use Rattle.bucket_slots.proofs.Words.{Bool, IsLeft, IsLowest, IsMaskOf, List, None, Option, SetsBit, Some, [], ap, arith}
 use Rattle.bucket_slots.proofs.Words.{bit_and, bit_at, bit_at-zero, bit_at_and, bit_at_not, bit_mask_l, cases_eq, cases_lt, common_steps}
 use Rattle.bucket_slots.proofs.Words.{cond, count_by, eqb, false, get_or, get_or-map, get_or-set_other, get_or-set_same, get_or_past, inl}
 use Rattle.bucket_slots.proofs.Words.{inr, is_some, length, length-map, list_all, list_any, list_any_at, list_any_none, map, map-set}
-use Rattle.bucket_slots.proofs.Words.{mask_l, min, nat_tests, not, not-false, not-true, ones, ones-mask_l, position, position-Some, refl}
-use Rattle.bucket_slots.proofs.Words.{same_from_bits, set, subst, sym, true, w32, ℕ, ◌&&◌, ◌+◌, ◌-◌, ◌<◌, ◌^◌, ◌∙◌, ◌∷◌, ◌≡◌, ◌≢◌, ◌≤◌}
+use Rattle.bucket_slots.proofs.Words.{mask_l, min, nat_tests, not, ones, ones-mask_l, position, position-Some, refl}
+use Rattle.bucket_slots.proofs.Words.{same_from_bits, set, subst, sym, true, w32, ℕ, ◌&&◌, ◌+◌, ◌-◌, ◌/◌, ◌<◌, ◌^◌, ◌∙◌, ◌∷◌, ◌≡◌, ◌≢◌, ◌≤◌}
+use Rattle.std.proofs.lemmas.Nat.Bits.{bit_at_ones, bit_at_ones_above, ones_shr}
 use Rattle.bucket_slots.proofs.Positions.{position-None, position_at, position_nowhere}
 
 pub bit_is : (b : Bool) → ◌≡◌ {A = ℕ} (cond b 1 0) 1 → b ≡ true
@@ -76,17 +77,21 @@ module _ {A : Type 0} (test : A → Bool) where
       | inr other ↦ rw (s.others j other, get_or-set_other (map test xs) i j (test x) false other) (mask j)
     ])
 
+    -- the bit of an element that there is
+    bit_within : (i : ℕ) (d : A) → i < length xs → bit_at bits i ≡ cond (test (get_or xs i d)) 1 0
+    bit_within i d below = mask i ∙ ap (λ b. cond b 1 0) (get_or-map test xs i d false below)
+
     -- where no bit is set no element passes
-    pub position-no_bit : (d : A) → test d ≡ false → bits ≡ 0 → position test xs ≡ None
-    position-no_bit d fails none =
-        position_nowhere test xs d (λ i below. bit_is_not _ (sym (bit-mask i d fails) ∙ ap (λ m. bit_at m i) none ∙ bit_at-zero i))
+    pub position-no_bit : (d : A) → bits ≡ 0 → position test xs ≡ None
+    position-no_bit d none =
+        position_nowhere test xs d (λ i below. bit_is_not _ (sym (bit_within i d below) ∙ ap (λ m. bit_at m i) none ∙ bit_at-zero i))
 
     -- the lowest bit is the first element that passes
-    pub position-lowest : (k : ℕ) (d : A) → test d ≡ false → IsLowest bits k → position test xs ≡ Some k
-    position-lowest k d fails low =
-        let here : test (get_or xs k d) ≡ true = bit_is _ (sym (bit-mask k d fails) ∙ low.set) in
-        position_at test xs k d (within test xs k d fails here) (λ j below. bit_is_not _ (sym (bit-mask j d fails) ∙ low.lower j below))
-        here
+    pub position-lowest : (k : ℕ) (d : A) → IsLowest bits k → position test xs ≡ Some k
+    position-lowest k d low =
+        let below = rw length-map at (within (λ b. b) (map test xs) k false refl (bit_is _ (sym (mask k) ∙ low.set))) in
+        position_at test xs k d below (λ j less. bit_is_not _ (sym (bit_within j d (omega (arith, less, below))) ∙ low.lower j less))
+        (bit_is _ (sym (bit_within k d below) ∙ low.set))
 
   module _ (xs : List A) (bits : ℕ) (mask : IsMaskOf (λ x. not (test x)) xs bits) where
     -- no bit is set exactly where each element passes
@@ -97,18 +102,33 @@ module _ {A : Type 0} (test : A → Bool) where
     pub ones-mask_not : ones bits + count_by test xs ≡ length xs
     ones-mask_not = ap (λ n. n + count_by test xs) (ones-mask (λ x. not (test x)) xs bits mask) ∙ count_not xs
 
-    clear_bit : (i : ℕ) (d : A) → i < length xs → bit_at bits i ≡ cond (not (test (get_or xs i d))) 1 0
-    clear_bit i d below = mask i ∙ ap (λ b. cond b 1 0) (get_or-map (λ x. not (test x)) xs i d false below)
+    -- the bits that aren't set, of the first ones, are the mask of the elements that pass
+    pub IsMaskOf-not : (len : ℕ) (d : A) → len ≤ 32 → bits < 2 ^ 32 → length xs ≡ len
+        → IsMaskOf test xs (bit_and (2 ^ 32 - 1 - bits) ((2 ^ 32 - 1) / 2 ^ (32 - len)))
+    IsMaskOf-not len d few fits long i =
+        bit_at_and (2 ^ 32 - 1 - bits) ((2 ^ 32 - 1) / 2 ^ (32 - len)) i ∙ elim (cases_lt i len) [
+          | inl below ↦
+              let front : bit_at ((2 ^ 32 - 1) / 2 ^ (32 - len)) i ≡ 1 = rw ones_is (bit_at_ones len i below) in
+              let here = mask i ∙ ap (λ b. cond b 1 0) (get_or-map (λ x. not (test x)) xs i d false (omega (arith, below, long))) in
+              let is = get_or-map test xs i d false (omega (arith, below, long)) in
+              rw (bit_at_not w32 bits i fits (omega (arith, below, few)), front, here, is)
+              (other_bit (test (get_or xs i d)))
+          | inr past ↦
+              let behind : bit_at ((2 ^ 32 - 1) / 2 ^ (32 - len)) i ≡ 0 = rw ones_is (bit_at_ones_above len i past) in
+              rw (behind, get_or_past (map test xs) i false (simp length-map (omega (arith, past, long)))) (omega arith)
+        ]
+      where
+        ones_is : (2 ^ 32 - 1) / 2 ^ (32 - len) ≡ 2 ^ len - 1
+        ones_is = let e : 32 - (32 - len) ≡ len = omega (arith, few) in ones_shr 32 (32 - len) (omega arith) ∙ ap (λ k. 2 ^ k - 1) e
 
-    -- the lowest bit that isn't set is the first element that passes, or none does
-    pub position-lowest_clear : (k : ℕ) (d : A) → IsLowestClear bits k → k < length xs → position test xs ≡ Some k
-    position-lowest_clear k d low h =
-        position_at test xs k d h (λ j below. not-true _ (bit_is _ (sym (clear_bit j d (omega arith)) ∙ low.lower j below)))
-        (not-false _ (bit_is_not _ (sym (clear_bit k d h) ∙ low.clear)))
+        other_bit : (b : Bool) → min (1 - cond (not b) 1 0) 1 ≡ cond b 1 0
+        other_bit true = omega arith
+        other_bit false = omega arith
 
-    pub position-all_set : (k : ℕ) (d : A) → IsLowestClear bits k → length xs ≤ k → position test xs ≡ None
-    position-all_set k d low h =
-        position_nowhere test xs d (λ j below. not-true _ (bit_is _ (sym (clear_bit j d below) ∙ low.lower j (omega arith))))
+  -- the element of the lowest bit passes
+  pub lowest_passes : (xs : List A) (bits k : ℕ) (d : A) → IsMaskOf test xs bits → IsLowest bits k → test d ≡ false
+      → test (get_or xs k d) ≡ true
+  lowest_passes xs bits k d mask low fails = bit_is _ (sym (bit-mask xs bits mask k d fails) ∙ low.set)
 
   -- an element passes exactly where there is a first one
   pub any-position : (xs : List A) (d : A) (found : Option ℕ) → found ≡ position test xs → list_any test xs ≡ is_some found

@@ -3,9 +3,11 @@ use Rattle.bucket_slots.proofs.Words.{Bool, IsLowest, IsMaskOf, IsRow, List, Opt
 use Rattle.bucket_slots.proofs.Words.{bit_at-zero, bit_at_and, common_steps, cond, false, free, get_or, get_or-map, get_or-set_other}
 use Rattle.bucket_slots.proofs.Words.{get_or-set_same, get_or_default, has_byte, if◌then◌else◌, is_free, is_live, is_marked, is_some}
 use Rattle.bucket_slots.proofs.Words.{is_wanted, length, live, map, map-set, map_fixed, marked, min, not, pair_of, refl, row_slots, set}
-use Rattle.bucket_slots.proofs.Words.{set-get_or, slot_at, slot_of, slot_without_expired, sym, true, ℕ, ◌&&◌, ◌-◌, ◌<◌, ◌==◌, ◌^◌, ◌∙◌, ◌≡◌}
+use Rattle.bucket_slots.proofs.Words.{set-get_or, slot_at, slot_of, slot_without_expired, sym, true, ℕ, ◌&&◌, ◌-◌, ◌/◌, ◌<◌, ◌==◌}
+use Rattle.bucket_slots.proofs.Words.{◌^◌, ◌∙◌, ◌≡◌}
 use Rattle.bucket_slots.specs.Layout.Expiring.{IsExpiring}
-use Rattle.bucket_slots.proofs.Masks.{IsLeft-first, IsLeft-next, IsMaskOf-alike, IsMaskOf-and_not, IsMaskOf-from, bit-mask, within}
+use Rattle.bucket_slots.proofs.Masks.{IsLeft-first, IsLeft-next, IsMaskOf-alike, IsMaskOf-and_not, IsMaskOf-from, IsMaskOf-not}
+use Rattle.bucket_slots.proofs.Masks.{bit-mask, within}
 use Rattle.bucket_slots.proofs.RowSlots.{length-row_slots, slot_held}
 
 twice : (b : Bool) → b ≡ not (not b)
@@ -39,6 +41,10 @@ module _ {K V : Type 0} where
     occupied_mask = IsMaskOf-from (λ slot. not (is_free slot)) slots occupied free refl (λ i.
         (slot_held len places bytes occupied marks slots row view i).filled ∙ ap (λ b. cond b 1 0)
         (twice (is_some (pair_of (slot_at slots i)))))
+
+    -- the others are free
+    pub free_mask : occupied < 2 ^ 32 → IsMaskOf is_free slots (bit_and (2 ^ 32 - 1 - occupied) ((2 ^ 32 - 1) / 2 ^ (32 - len)))
+    free_mask fits = IsMaskOf-not is_free slots occupied occupied_mask len free row.few fits length-slots
 
     pub mark_mask : IsMaskOf is_marked slots marks
     mark_mask = rw (← view) row.marked

@@ -43,7 +43,7 @@ pub use Rattle.bucket_slots.specs.BucketView.{place_or_null, row_at, rows_with, 
 pub use Rattle.bucket_slots.specs.Clearing.{is_full_with_marks, looks_at_marks, rows_without_free_end, slot_without_expired}
 pub use Rattle.bucket_slots.specs.Clearing.{slots_after_insertion, slots_without_expired, slots_without_free_end}
 pub use Rattle.bucket_slots.specs.Layout.ArrayParts.{AreParts, part_at, unmade_bucket, with_unmade}
-pub use Rattle.bucket_slots.specs.Layout.Bitmaps.{IsLowest, IsLowestClear, SetsBit}
+pub use Rattle.bucket_slots.specs.Layout.Bitmaps.{IsLowest, SetsBit}
 pub use Rattle.bucket_slots.specs.Layout.Blocks.{IsRow, row_slots, slot_of}
 pub use Rattle.bucket_slots.specs.Layout.BoxedRows.{rows_of}
 pub use Rattle.bucket_slots.specs.Layout.BucketFields.{IsBucket, IsChain, IsCounted}

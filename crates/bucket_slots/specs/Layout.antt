@@ -14,3 +14,4 @@ pub mod RowLoans
 pub mod ArrayFields
 pub mod ArrayParts
 pub mod PartLoans
+pub mod TargetLoans

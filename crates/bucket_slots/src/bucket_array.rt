@@ -26,6 +26,7 @@ ghost use Rattle.bucket_slots.specs.Sizing.{
   IsTooFull,
 };
 ghost use Rattle.bucket_slots.specs.Slots.{places_of};
+ghost use Rattle.bucket_slots.specs.Spreading.{SpreadsSome};
 
 mod part;
 mod sizing;
@@ -34,7 +35,7 @@ use crate::bucket::room::fits_in_memory;
 use crate::bucket::{AllocError, BUCKET_LEN, Bucket};
 use crate::data_block::DataBlock;
 use crate::lru::LruList;
-use part::{Part, bucket_in, release_in, spare_buckets};
+use part::{Part, bucket_in, release_in, spare_buckets, spread_in};
 use sizing::{LEAST_PART_BITS, MINIMUM_CAPACITY};
 pub use sizing::{MAXIMUM_SLOTS, full_sample_size_of, large_sample_size_of, small_sample_size_of};
 use std::alloc::Global;
@@ -120,6 +121,47 @@ impl<K: Drop, V: Drop, L: LruList + Drop, const TYPE: u8> BucketArray<K, V, L, T
             parts,
             spare,
         })
+    }
+}
+
+impl<K: Drop, V: Drop, L: LruList, const TYPE: u8> BucketArray<K, V, L, TYPE> {
+    /// Moves pairs of own slots of a bucket, the first ones in slot order, to own slots of their
+    /// homes, where these are some of the buckets from `start` up to below `end`. Which pairs move
+    /// is left open: it may stop at any pair, and where there is one such bucket alone none moves.
+    /// The slots that they leave are free.
+    ///
+    /// Takes no memory. O(own slots), but O(buckets of a part) where buckets are made. Own.
+    #[inline(always)]
+    pub fn spread_own<F: Fn(&K) -> u64>(
+        &mut self,
+        source: &mut Bucket<K, V, L, TYPE>,
+        start: usize,
+        end: usize,
+        hash_of: &F,
+    )
+        requires callable { F.IsAlwaysCallable hash_of.now }
+        ensures { SpreadsSome TYPE (λ key answer. F.post hash_of.now key answer)
+            (IsHome (length self.old)) 0 source.old self.old source.new self.new }
+    {
+        let len = end.saturating_sub(start);
+        if len < 2 {
+            return;
+        }
+        if start >= self.len {
+            return;
+        }
+        self.room();
+        let (part, offset) = sizing::place_of(start, self.part_bits, self.part_mask);
+        spread_in(
+            &mut self.parts,
+            part,
+            source,
+            offset,
+            len,
+            start,
+            self.hash_offset,
+            hash_of,
+        );
     }
 }
 

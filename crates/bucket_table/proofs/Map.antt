@@ -14,6 +14,7 @@ pub mod Evicting
 pub mod PutSlots
 pub mod Putting
 pub mod Finding
+pub mod HomeInserting
 pub mod Preparing
 pub mod SlotSteps
 pub mod CountSteps

@@ -3,6 +3,7 @@ pub mod Exchanges
 pub mod Vacating
 pub mod MarksLeft
 pub mod MovingPairs
+pub mod SpreadHomes
 pub mod RoomMade
 pub mod Relocating
 pub mod Staying

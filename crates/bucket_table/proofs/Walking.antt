@@ -9,6 +9,7 @@ pub mod PassingUnits
 pub mod Leaving
 pub mod Retaining
 pub mod RetainingEach
+pub mod AskingOwn
 pub mod TableCursor
 pub mod Sweeping
 pub mod SweepSteps

@@ -5,10 +5,10 @@ ghost use Rattle.bucket_slots.specs.BucketView.{entries_in, marks_in, pairs_in, 
 ghost use Rattle.bucket_slots.specs.Marking.{MarksBy};
 ghost use Rattle.bucket_slots.specs.Slots.{is_live, live_pair};
 ghost use Rattle.bucket_slots.specs.Walking.{pairs_ahead};
-ghost use Rattle.bucket_table.specs.Walking.Retains.{AnswersBy, IsLeftOf, Retains, RetainsPair};
-ghost use Rattle.bucket_table.specs.Walking.Retains.{RetainsBucket, RetainsSlot, slots_taken};
+ghost use Rattle.bucket_table.specs.Walking.Retains.{AnswersBy, AsksFront, IsLeftOf, Retains};
+ghost use Rattle.bucket_table.specs.Walking.Retains.{RetainsBucket, RetainsPair, RetainsSlot, slots_taken};
 
-use bucket_slots::bucket::{Bucket, EntryPtr, Generation, INDEX};
+use bucket_slots::bucket::{BUCKET_LEN, Bucket, CACHE, EntryPtr, Generation, INDEX};
 use bucket_slots::lru::LruList;
 
 /// Takes out each pair that the test refuses, or marks it in an index. Returns how many.
@@ -79,7 +79,8 @@ pub(crate) fn retain_each_in<
     ensures left { IsLeftOf TYPE (G.epoch_of generation.now) bucket.old bucket.new }
 {
     let before = bucket.len();
-    let mut at = EntryPtr::null();
+    bucket.sound();
+    let mut at = retain_front(bucket, keep);
     'own: while at.find_next_here(bucket) {
         retain_slot(bucket, &mut at, keep, generation);
     }
@@ -87,6 +88,29 @@ pub(crate) fn retain_each_in<
         retain_slot(bucket, &mut at, keep, generation);
     }
     before - bucket.len()
+}
+
+/// Lends `keep` the values of the own slots at once, where nothing is marked or listed in this kind
+/// of bucket, and drops each pair that it refuses. Returns the pointer behind which the others are.
+#[inline(always)]
+#[tactic(auto, unfolding(crate::specs::Walking::Retains::AsksFront))]
+fn retain_front<K: Drop, V: Drop, L: LruList, F: FnMut(&K, &mut V) -> bool, const TYPE: u8>(
+    bucket: &mut Bucket<K, V, L, TYPE>,
+    keep: &mut F,
+) -> EntryPtr<K, V, TYPE>
+    requires callable { F.IsAlwaysCallable keep.old }
+    ensures again { F.IsAlwaysCallable keep.new }
+    ensures asked { AsksFront
+        (λ state own before answer after last. F.step state own before answer after last)
+        keep.old bucket.old result bucket.new keep.new }
+    ensures left { (epoch : ℕ) → IsLeftOf TYPE epoch bucket.old bucket.new }
+{
+    bucket.sound();
+    if TYPE == INDEX || TYPE == CACHE {
+        return EntryPtr::null();
+    }
+    bucket.retain_own(keep);
+    EntryPtr::own_slot(BUCKET_LEN - 1)
 }
 
 /// Lends `keep` the value in a live slot, and takes the pair out, or marks it in an index, where it

@@ -5,13 +5,15 @@
 //! nothing is released: its buckets go, and those that aren't made are killed ones from then on.
 //!
 //! Own.
-ghost use Rattle.std.specs.Prelude.{◌≡◌, ◌<◌, ◌≤◌, ◌∷◌, [], true, false, IfOk, length, replicate, vec_capacity, vec_len};
+ghost use Rattle.std.specs.Prelude.{◌≡◌, ℕ, ◌+◌, ◌<◌, ◌≤◌, ◌∷◌, [], List, true, false, IfOk, length, replicate, slice_set};
+ghost use Rattle.std.specs.Prelude.{vec_capacity, vec_len};
 ghost use Rattle.std.specs.Borrow.{sem};
 ghost use Rattle.bucket_slots.specs.ArrayRoom.{BucketFits};
 ghost use Rattle.bucket_slots.specs.ArrayView.{bucket_at};
-ghost use Rattle.bucket_slots.specs.BucketView.{empty_bucket};
+ghost use Rattle.bucket_slots.specs.BucketView.{BucketView, empty_bucket};
 ghost use Rattle.bucket_slots.specs.Layout.ArrayParts.{part_at, unmade_bucket, with_unmade};
 ghost use Rattle.bucket_slots.specs.Layout.PartLoans.{LendsBucketIn};
+ghost use Rattle.bucket_slots.specs.Spreading.{IsShifted, SpreadsSome};
 
 use crate::bucket::room::fits_in_memory;
 use crate::bucket::{AllocError, Bucket};
@@ -148,6 +150,42 @@ impl<K: Drop, V: Drop, L: LruList + Drop, const TYPE: u8> Part<K, V, L, TYPE> {
     }
 }
 
+impl<K: Drop, V: Drop, L: LruList, const TYPE: u8> Part<K, V, L, TYPE> {
+    /// Moves pairs of own slots of a bucket to buckets from an offset on, so many, as
+    /// `Bucket::spread_own` does; none where the part ends before. `start` is the index in the array
+    /// of the bucket at the offset.
+    #[inline(always)]
+    pub(crate) fn spread<F: Fn(&K) -> u64>(
+        &mut self,
+        source: &mut Bucket<K, V, L, TYPE>,
+        offset: usize,
+        len: usize,
+        start: usize,
+        shift: u32,
+        hash_of: &F,
+    )
+        requires fits { BucketFits K.row V.row L.row TYPE.row
+            (record { KEEPS = L.KEEPS; listed = L.listed; IsTail = L.IsTail }) L.Default }
+        requires callable { F.IsAlwaysCallable hash_of.now }
+        requires within { offset < length self.old }
+        requires shift { shift < 64 }
+        ensures { (first : ℕ) → start ≡ first + offset
+            → SpreadsSome TYPE (λ key answer. F.post hash_of.now key answer) (IsShifted shift) first
+            source.old self.old source.new self.new }
+    {
+        if self.made.capacity() - offset < len {
+            return;
+        }
+        make_to(&mut self.made, offset + len, self.released);
+        source.spread_own(
+            self.made.slice_mut(offset..offset + len),
+            start,
+            shift,
+            hash_of,
+        );
+    }
+}
+
 /// Returns an empty bucket and a killed one, which stand for each one that isn't made.
 ///
 /// # Errors
@@ -257,4 +295,31 @@ pub(crate) fn release_in<K: Drop, V: Drop, L: LruList + Drop, const TYPE: u8>(
     ensures { parts.new.items ≡ parts.old.items }
 {
     parts[part].release();
+}
+
+/// Moves pairs of own slots of a bucket to buckets of one of the parts, as `Part::spread` does.
+#[inline(always)]
+pub(crate) fn spread_in<K: Drop, V: Drop, L: LruList, F: Fn(&K) -> u64, const TYPE: u8>(
+    parts: &mut Vec<Part<K, V, L, TYPE>>,
+    part: usize,
+    source: &mut Bucket<K, V, L, TYPE>,
+    offset: usize,
+    len: usize,
+    start: usize,
+    shift: u32,
+    hash_of: &F,
+)
+    requires fits { BucketFits K.row V.row L.row TYPE.row
+        (record { KEEPS = L.KEEPS; listed = L.listed; IsTail = L.IsTail }) L.Default }
+    requires callable { F.IsAlwaysCallable hash_of.now }
+    requires within { part < vec_len parts.old }
+    requires offset { offset < length (part_at parts.old.items part) }
+    requires shift { shift < 64 }
+    ensures { (left : List (BucketView K V)) × (parts.new.items ≡ slice_set parts.old.items part left)
+        × ((first : ℕ) → start ≡ first + offset
+        → SpreadsSome TYPE (λ key answer. F.post hash_of.now key answer) (IsShifted shift) first
+        source.old (part_at parts.old.items part) source.new left) }
+{
+    let lent = &mut parts[part];
+    lent.spread(source, offset, len, start, shift, hash_of);
 }

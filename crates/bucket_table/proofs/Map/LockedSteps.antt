@@ -60,6 +60,12 @@ module _ {K V H : Type 0} where
   with_own hasher a side i b same = rw same (ap (λ (d : ArraysView K V). record { hasher = hasher; arrays = d })
       (arrays_with-same a side i))
 
+  -- the same bucket where it fails
+  pub same_if_err : {A E : Type 0} (r : Result A E) (hasher : H) (a : ArraysView K V) (s : TableView K V H) (side : Side) (i : ℕ)
+      (b : BucketView K V) → record { hasher = hasher; arrays = a } ≡ s → OnErr r (b ≡ bucket_at (buckets_on a side) i)
+      → OnErr r (record { hasher = hasher; arrays = arrays_with a side i b } ≡ s)
+  same_if_err r hasher a s side i b is kept = on_err r (λ same. with_own hasher a side i b same ∙ is) kept
+
   -- another bucket where a call succeeds: t is the table inside, and s what it is known as
   pub put_if_ok : {A E : Type 0} (r : Result A E) (t s : TableView K V H) (side : Side) (i : ℕ) (b : BucketView K V) (f : BucketView K V
       → BucketView K V)

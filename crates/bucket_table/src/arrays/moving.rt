@@ -182,6 +182,7 @@ fn carry_pairs<K: Eq + Drop, V: Drop, H: KeyHash<K>, L: LruList, const TYPE: u8>
     source.sound();
     let (order, len) = source.take_lru();
     if len == 0 {
+        current.spread_own(source, start, end, &|key: &K| hasher.hash_one(key));
         move_pairs(hasher, current, source, start, end, &mut []);
         return;
     }

@@ -36,18 +36,18 @@ impl<K: Eq + Drop, V: Drop, L: LruList + Drop, const TYPE: u8> Arrays<K, V, L, T
             return Ok(());
         }
         let index = self.home(hash);
-        match self.prepare_at(hasher, index) {
+        match self.prepare_beside(hasher, index) {
             Ok(()) => Ok(()),
             Err(_) => Err(Missing::Memory),
         }
     }
 
-    /// Works a unit, and moves the sources of a current bucket.
+    /// Works a unit, and moves the sources of a current bucket. Without an old array it does nothing.
     ///
     /// # Errors
     ///
     /// Want of memory: a source isn't killed.
-    #[inline(never)]
+    #[inline(always)]
     pub(crate) fn prepare_at<H: KeyHash<K>>(
         &mut self,
         hasher: &H,
@@ -62,6 +62,28 @@ impl<K: Eq + Drop, V: Drop, L: LruList + Drop, const TYPE: u8> Arrays<K, V, L, T
         ensures units { WorksUnits 1 (λ home. home ≡ index) self.old self.new }
         ensures alone { length self.old.linked ≡ 0 → self.new ≡ self.old }
         ensures succeeds { length self.old.linked ≡ 0 → IsOk result }
+    {
+        if !self.has_old() {
+            return Ok(());
+        }
+        self.prepare_beside(hasher, index)
+    }
+
+    /// Works a unit beside an old array, and moves the sources of a current bucket.
+    ///
+    /// # Errors
+    ///
+    /// Want of memory: a source isn't killed.
+    #[inline(never)]
+    fn prepare_beside<H: KeyHash<K>>(&mut self, hasher: &H, index: usize) -> Result<(), AllocError>
+        requires within { index < length self.old.current }
+        requires beside { 0 < length self.old.linked }
+        requires placed { ArePlaced (H.hash_of hasher.now) self.old }
+        ensures placed { ArePlaced (H.hash_of hasher.now) self.new }
+        ensures kept { KeepsArrays self.old self.new }
+        ensures ready { OnOk result (AreSourcesKilled self.new index) }
+        ensures wanted { OnErr result (WantsMemory (IsSource self.new index) self.old self.new) }
+        ensures units { WorksUnits 1 (λ home. home ≡ index) self.old self.new }
     {
         let _ = self.work_unit(hasher);
         let to = self.len();

@@ -1,15 +1,28 @@
-use Rattle.bucket_table.proofs.Words.{ap, arith, length}
-use Rattle.bucket_table.proofs.Walking.Leaving.{left_both, left_same}
-use Rattle.bucket_table.proofs.Walking.RetainingEach.{all_asked, asks, begins, fewer}
+use Rattle.bucket_table.proofs.Words.{ap, arith, length, rules}
+use Rattle.bucket_table.proofs.Walking.Leaving.{left_both}
+use Rattle.bucket_table.proofs.Walking.Retaining.{next_live}
+use Rattle.bucket_table.proofs.Walking.RetainingEach.{all_asked, asks, fewer}
+use Rattle.bucket_table.proofs.Walking.AskingOwn.{asking_front}
 use Rattle.bucket_table.proofs.retain.retain_each_in.Goals as goal
 
 pub own-init : goal.own-init
-own-init g c = (
-  λ always. always,
-  begins _ (g.G.Generation.epoch_of c.args.generation.now) c.args.keep.now c.args.bucket.now
-      c.null-at.result c.null-at.ensures,
-  left_same g.row.TYPE (g.G.Generation.epoch_of c.args.generation.now) c.args.bucket.now,
-)
+own-init g c =
+    let epoch = g.G.Generation.epoch_of c.args.generation.now in (
+      λ always. c.retain_front-at.ensures.again,
+      asking_front _ g.row.TYPE epoch c.args.keep.now c.retain_front-at.new.keep c.args.bucket.now c.retain_front-at.new.bucket
+          c.retain_front-at.result c.sound.ensures.own_long (c.retain_front-at.ensures.left epoch) c.retain_front-at.ensures.asked,
+      c.retain_front-at.ensures.left epoch,
+    )
+
+pub retain_slot-requires : goal.retain_slot-requires
+retain_slot-requires g c =
+    let live = next_live c.own.bucket c.own.at c.find_next_here.new.self (c.find_next_here.ensures.ahead c.own-test.true) in
+    (search rules, (search rules, (c.own.invariant.0 c.requires.callable, live)))
+
+pub retain_slot-requires-in-pairs : goal.retain_slot-requires-in-pairs
+retain_slot-requires-in-pairs g c =
+    let live = next_live c.pairs.bucket c.pairs.at c.find_next.new.self (c.find_next.ensures.ahead c.pairs-test.true) in
+    (search rules, (search rules, (c.pairs.invariant.0 c.requires.callable, live)))
 
 pub own-smaller : goal.own-smaller
 own-smaller g c =

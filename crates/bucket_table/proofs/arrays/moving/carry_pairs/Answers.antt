@@ -2,23 +2,40 @@ use Rattle.bucket_table.proofs.Words.{MovesInto, refl, rules, subst, sym, ◌∙
 use Rattle.bucket_table.proofs.Moves.Carried.{can_move_unlisted, carried_over, carries_unlisted, is_cache, is_kept, moves_unlisted}
 use Rattle.bucket_table.proofs.Moves.Carried.{order_back}
 use Rattle.bucket_table.proofs.Moves.Landings.{none_said}
+use Rattle.bucket_table.proofs.Moves.MovingPairs.{MovesInto-trans}
+use Rattle.bucket_table.proofs.Moves.SpreadHomes.{spread_moving}
+use Rattle.bucket_table.proofs.Moves.Staying.{stay_both}
 use Rattle.bucket_table.proofs.arrays.moving.carry_pairs.Goals as goal
 
 pub move_pairs-requires : goal.move_pairs-requires
 move_pairs-requires g c =
-    let ready = can_move_unlisted (g.H.KeyHash.hash_of c.args.hasher.now) c.take_lru-len.ensures.bucket c.requires in
-    (search rules, (search rules, (ready, λ slot. refl)))
+    let hash = g.H.KeyHash.hash_of c.args.hasher.now in
+    let ready = can_move_unlisted hash c.take_lru-len.ensures.bucket c.requires in
+    let moving = spread_moving hash g.row.TYPE c.args.start c.args.end _ (λ key n post. search rules) c.take_lru-len.new.self
+    c.args.current.now ready c.spread_own.new.source c.spread_own.new.self c.spread_own.ensures in
+    (search rules, (search rules, (moving.ready, λ slot. refl)))
 
 pub returns-then-len-eq0-clause-moved : goal.returns-then-len-eq0-clause-moved
 returns-then-len-eq0-clause-moved g c =
     let hash = g.H.KeyHash.hash_of c.args.hasher.now in
-    let moved = subst (λ s. MovesInto hash s c.args.current.now c.move_pairs.new.source c.move_pairs.new.current)
-    c.take_lru-len.ensures.bucket c.move_pairs.ensures.moved in
-    moves_unlisted hash c.args.source.now c.move_pairs.new.source c.args.current.now c.move_pairs.new.current moved
+    let ready = can_move_unlisted hash c.take_lru-len.ensures.bucket c.requires in
+    let moving = spread_moving hash g.row.TYPE c.args.start c.args.end _ (λ key n post. search rules) c.take_lru-len.new.self
+    c.args.current.now ready c.spread_own.new.source c.spread_own.new.self c.spread_own.ensures in
+    let all = MovesInto-trans hash c.take_lru-len.new.self c.spread_own.new.source c.move_pairs.new.source c.args.current.now
+    c.spread_own.new.self c.move_pairs.new.current moving.moves c.move_pairs.ensures.moved in
+    moves_unlisted hash c.args.source.now c.move_pairs.new.source c.args.current.now c.move_pairs.new.current
+    (subst (λ s. MovesInto hash s c.args.current.now c.move_pairs.new.source c.move_pairs.new.current) c.take_lru-len.ensures.bucket all)
 
 pub returns-then-len-eq0-clause-recency : goal.returns-then-len-eq0-clause-recency
-returns-then-len-eq0-clause-recency g c = carries_unlisted c.args.source.now c.args.current.now c.move_pairs.new.current
-    (sym c.take_lru-len.ensures.number ∙ c.if-len-eq0.true) c.move_pairs.ensures.landed.same_lists c.move_pairs.ensures.landed.stay
+returns-then-len-eq0-clause-recency g c =
+    let hash = g.H.KeyHash.hash_of c.args.hasher.now in
+    let ready = can_move_unlisted hash c.take_lru-len.ensures.bucket c.requires in
+    let moving = spread_moving hash g.row.TYPE c.args.start c.args.end _ (λ key n post. search rules) c.take_lru-len.new.self
+    c.args.current.now ready c.spread_own.new.source c.spread_own.new.self c.spread_own.ensures in
+    carries_unlisted c.args.source.now c.args.current.now c.move_pairs.new.current
+    (sym c.take_lru-len.ensures.number ∙ c.if-len-eq0.true)
+    (λ j. c.move_pairs.ensures.landed.same_lists j ∙ moving.landing.same_lists j)
+    (stay_both c.args.current.now c.spread_own.new.self c.move_pairs.new.current moving.landing.stay c.move_pairs.ensures.landed.stay)
 
 pub move_pairs-requires-2 : goal.move_pairs-requires-2
 move_pairs-requires-2 g c =

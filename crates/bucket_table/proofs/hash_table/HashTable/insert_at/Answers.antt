@@ -1,6 +1,6 @@
 use Rattle.bucket_table.proofs.Words.{slots_after_insertion, sym, ◌%◌, ◌∙◌}
 use Rattle.bucket_table.proofs.Map.Inserting.{inserted_where_absent}
-use Rattle.bucket_table.proofs.Map.LockedSteps.{on_err, put_if_ok, with_own}
+use Rattle.bucket_table.proofs.Map.LockedSteps.{put_if_ok, same_if_err}
 use Rattle.bucket_table.proofs.hash_table.HashTable.insert_at.Goals as goal
 
 pub invariant_of-self : goal.invariant_of-self
@@ -33,8 +33,8 @@ returns-clause-put g c =
 pub returns-clause-unchanged : goal.returns-clause-unchanged
 returns-clause-unchanged g c =
     let e = rw c.bucket_of_mut-bucket.ensures.bucket at c.insert_absent.ensures in
-    rw (← c.self.view_is) (on_err c.insert_absent.result (with_own c.self.inside.hasher c.self.inside.arrays _ _ c.insert_absent.new.bucket)
-    e.unchanged)
+    same_if_err c.insert_absent.result c.self.inside.hasher c.self.inside.arrays c.args.self.now _ _ c.insert_absent.new.bucket
+    c.self.view_is e.unchanged
 
 pub returns-clause-answer : goal.returns-clause-answer
 returns-clause-answer g c = rw (← c.self.view_is) (rw c.bucket_of_mut-bucket.ensures.bucket at c.insert_absent.ensures.answer)

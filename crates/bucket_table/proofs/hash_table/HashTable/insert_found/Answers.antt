@@ -1,6 +1,6 @@
 use Rattle.bucket_table.specs.Map.MapState.{state_of}
 use Rattle.bucket_table.proofs.Map.Inserting.{found_then, refused_then, then_inserted, unfound}
-use Rattle.bucket_table.proofs.hash_table.HashTable.insert_pair.Goals as goal
+use Rattle.bucket_table.proofs.hash_table.HashTable.insert_found.Goals as goal
 
 pub returns-in_default-clause-map : goal.returns-in_default-clause-map
 returns-in_default-clause-map g c =
@@ -10,7 +10,7 @@ returns-in_default-clause-map g c =
 pub returns-in_default-clause-arrays : goal.returns-in_default-clause-arrays
 returns-in_default-clause-arrays g c =
     refused_then g.row.TYPE _ (g.G.Generation.keeps c.args.generation.now) (c.args.key, c.args.value) c.args.self.now c.find.new.self
-    c.not_inserted.result (rw c.hash-hash.ensures at c.in_default.ensures)
+    c.not_inserted.result (rw c.requires.own_hash at c.in_default.ensures)
 
 pub returns-clause-map : goal.returns-clause-map
 returns-clause-map g c =
@@ -19,7 +19,7 @@ returns-clause-map g c =
 
 pub returns-clause-arrays : goal.returns-clause-arrays
 returns-clause-arrays g c =
-    found_then g.K.PartialEq.eq g.row.TYPE c.hash-hash.result (g.H.KeyHash.hash_of c.args.self.now.hasher c.args.key)
+    found_then g.K.PartialEq.eq g.row.TYPE c.args.hash (g.H.KeyHash.hash_of c.args.self.now.hasher c.args.key)
     (g.G.Generation.keeps c.args.generation.now) c.args.key c.args.value c.args.self.now c.find.new.self c.insert_at.new.self
-    c.in-Ok.side c.in-Ok.index c.insert_at.result c.hash-hash.ensures c.in-Ok.ensures c.insert_at.ensures.answer
+    c.in-Ok.side c.in-Ok.index c.insert_at.result c.requires.own_hash c.in-Ok.ensures c.insert_at.ensures.answer
     c.insert_at.ensures.put c.insert_at.ensures.unchanged

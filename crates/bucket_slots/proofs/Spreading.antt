@@ -1,0 +1,224 @@
+-- Pairs that spread from a bucket's own slots over some buckets.
+use Rattle.bucket_slots.proofs.Words.{AreParts, Bool, Bor, BucketView, List, Slot, Some, ap, append-nil, append_assoc, arith}
+use Rattle.bucket_slots.proofs.Words.{div-add-mod, drop, drop-drop, drop_all, empty_bucket, first_place, flattened, free, is_free, length}
+use Rattle.bucket_slots.proofs.Words.{length-append, length-drop, length-set, length-take-le, live, live_pair, marked, mod-lt, mul_comm}
+use Rattle.bucket_slots.proofs.Words.{option_map, pair_of, part_at, position, pow_pos, refl, replicate, set}
+use Rattle.bucket_slots.proofs.Words.{slots_with, subst, suc, sym, take, take_all, unmade_bucket, with_slot, with_unmade}
+use Rattle.bucket_slots.proofs.Words.{zero, ℕ, ◌%◌, ◌*◌, ◌++◌, ◌+◌, ◌-◌, ◌/◌, ◌<◌, ◌^◌, ◌∙◌, ◌≡◌, ◌≤◌}
+use Rattle.std.proofs.lemmas.List.{get_or-append_right, get_or_append_left, set-append_left, set-append_right, take-append-drop}
+use Rattle.std.proofs.lemmas.List.Elements.{All-set}
+use Rattle.bucket_slots.specs.ArrayView.{bucket_at}
+use Rattle.bucket_slots.specs.Homes.{IsHome}
+use Rattle.bucket_slots.specs.Layout.ArrayFields.{IsArray}
+use Rattle.bucket_slots.specs.Spreading.{IsShifted, Spreads, SpreadsOne, SpreadsSome}
+use Rattle.bucket_slots.proofs.ArrayParts.{back, flattened-set, flattened_split, front, length-front, length_row, place_is}
+use Rattle.bucket_slots.proofs.Intervals.{home_by_offset}
+
+module _ {K V : Type 0} where
+  -- where an own slot is free, a pair goes to the first one
+  pub put_in_own : (b : BucketView K V) (pos : ℕ) (pair : K × V) (byte : ℕ) → position is_free b.own ≡ Some pos
+      → slots_with b pair byte ≡ with_slot b (record { block = 0; pos = pos }) (live pair byte)
+  put_in_own b pos pair byte at =
+      let first : first_place is_free b ≡ Some (record { block = 0; pos = pos }) = rw at refl in
+      rw first refl
+
+  -- the key that was read is that of the pair which is taken
+  pub key_taken : (slot : Slot K V) (k : K) (pair : K × V) → live_pair slot ≡ Some pair
+      → option_map (λ (p : K × V). p.0) (pair_of slot) ≡ Some k → pair ≡ (k, pair.1)
+  key_taken free k pair here read = cc
+  key_taken (live own byte) k pair here read =
+      let same : own ≡ pair = cc in
+      let first : own.0 ≡ k = cc in
+      rw (← same) (ap (λ (x : K). (x, own.1)) first)
+  key_taken (marked own byte) k pair here read = cc
+
+-- elements put over others
+pub put_over : {A : Type 0} (xs ws : List A) (i : ℕ) → i + length ws ≤ length xs
+    → take (length xs) ((take i xs ++ (ws ++ drop (length ws) (drop i xs)))
+    ++ drop (length (take i xs ++ (ws ++ drop (length ws) (drop i xs)))) xs)
+    ≡ take i xs ++ (ws ++ drop (i + length ws) xs)
+put_over xs ws i fits =
+    let zs = take i xs ++ (ws ++ drop (length ws) (drop i xs)) in
+    let long : length zs ≡ length xs = simp (length-append, length-drop) (omega (arith, length-take-le i xs (omega arith))) in
+    let none = drop_all (length zs) xs (omega (arith, long)) in
+    ap (λ l. take (length xs) (zs ++ l)) none ∙ ap (take (length xs)) (append-nil zs) ∙ take_all (length xs) zs (omega (arith, long))
+    ∙ ap (λ l. take i xs ++ (ws ++ l)) (drop-drop (length ws) i xs)
+
+module _ {K V : Type 0} (kind : ℕ) (answers : Bor K → ℕ → Type 0) (names : ℕ → ℕ → Type 0) where
+  pub spread_len : (start count : ℕ) (s t : BucketView K V) (c d : List (BucketView K V)) → Spreads kind answers names start count s c t d
+      → length d ≡ length c
+  spread_len start zero s t c d (left, same) = ap length same
+  spread_len start (suc count) s t c d (left, between, rest, one) =
+      ap length one.placed ∙ length-set between one.index _ ∙ spread_len start count s left c between rest
+
+  module _ (front back : List (BucketView K V)) (start at : ℕ) (stands : at ≡ start + length front) where
+    -- what happens to some buckets happens to those among which they are
+    one_within : (s t : BucketView K V) (c d : List (BucketView K V)) → SpreadsOne kind answers names at s c t d
+        → SpreadsOne kind answers names start s (front ++ (c ++ back)) t (front ++ (d ++ back))
+    one_within s t c d one =
+        let i : ℕ = length front + one.index in
+        let left : i - length front ≡ one.index = omega arith in
+        let read : bucket_at (front ++ (c ++ back)) i ≡ bucket_at c one.index =
+        get_or-append_right front (c ++ back) (length front) i empty_bucket refl (omega arith) ∙ ap (bucket_at (c ++ back)) left
+        ∙ get_or_append_left c back empty_bucket one.index one.within in
+        let b = slots_with (bucket_at c one.index) (one.key.now, one.value) (one.number % 256) in
+        let put : set (front ++ (c ++ back)) i b ≡ front ++ (set c one.index b ++ back) =
+        set-append_right front (c ++ back) (length front) i b refl (omega arith) ∙ ap (λ k. front ++ set (c ++ back) k b) left
+        ∙ ap (λ l. front ++ l) (set-append_left c back one.index b one.within) in
+        record {
+          at = one.at;
+          next = one.next;
+          key = one.key;
+          value = one.value;
+          here = one.here;
+          number = one.number;
+          answered = one.answered;
+          index = i;
+          within = simp length-append (omega (arith, one.within));
+          named = (let same : at + one.index ≡ start + i = omega (arith, stands) in subst (names one.number) same one.named);
+          laws = one.laws;
+          home_laws = rw read one.home_laws;
+          vacated = one.vacated;
+          placed = rw (read, put) (ap (λ l. front ++ (l ++ back)) one.placed);
+        }
+
+    pub spread_within : (count : ℕ) (s t : BucketView K V) (c d : List (BucketView K V)) → Spreads kind answers names at count s c t d
+        → Spreads kind answers names start count s (front ++ (c ++ back)) t (front ++ (d ++ back))
+    spread_within zero s t c d (left, same) = (left, ap (λ l. front ++ (l ++ back)) same)
+    spread_within (suc count) s t c d (left, between, rest, one) =
+        (left, front ++ (between ++ back), spread_within count s left c between rest, one_within left t between d one)
+
+  -- another word for the index that a number names
+  pub spread_named : (other : ℕ → ℕ → Type 0) → ((number index : ℕ) → names number index → other number index) → (start count : ℕ)
+      (s t : BucketView K V) (c d : List (BucketView K V)) → Spreads kind answers names start count s c t d
+      → Spreads kind answers other start count s c t d
+  spread_named other means start zero s t c d same = same
+  spread_named other means start (suc count) s t c d (left, between, rest, one) = (
+    left,
+    between,
+    spread_named other means start count s left c between rest,
+    record {
+      at = one.at;
+      next = one.next;
+      key = one.key;
+      value = one.value;
+      here = one.here;
+      number = one.number;
+      answered = one.answered;
+      index = one.index;
+      within = one.within;
+      named = means one.number (start + one.index) one.named;
+      laws = one.laws;
+      home_laws = one.home_laws;
+      vacated = one.vacated;
+      placed = one.placed;
+    },
+  )
+
+module _ {K V : Type 0} where
+  -- a part of which some made buckets are others now, and what stands before them and behind them
+  pub record IsPartOver (made : List (BucketView K V)) (len : ℕ) (released : Bool) (i : ℕ) (run ws made_after : List (BucketView K V)) : Type 0 where
+    pub front : List (BucketView K V)
+    pub back : List (BucketView K V)
+    pub front_len : length front ≡ i
+    pub was : with_unmade made len released ≡ front ++ (run ++ back)
+    pub is : with_unmade made_after len released ≡ front ++ (ws ++ back)
+
+  pub part_over : (made : List (BucketView K V)) (len count : ℕ) (released : Bool) (i n : ℕ) (run ws : List (BucketView K V))
+      → count ≡ length made → i + n ≤ length made → run ≡ take (i + n - i) (drop i made) → length ws ≡ length run
+      → IsPartOver made len released i run ws (take count ((take i made ++ (ws ++ drop (length ws) (drop i made)))
+      ++ drop (length (take i made ++ (ws ++ drop (length ws) (drop i made)))) made))
+  part_over made len count released i n run ws counted fits run_is same =
+      let size : i + n - i ≡ n = omega arith in
+      let run_at : run ≡ take n (drop i made) = run_is ∙ ap (λ k. take k (drop i made)) size in
+      let long : length run ≡ n = ap length run_at ∙ length-take-le n (drop i made) (omega (arith, length-drop i made)) in
+      let rest = replicate (len - length made) (unmade_bucket released) in
+      let after = take i made ++ (ws ++ drop (i + length ws) made) in
+      let put = put_over made ws i (omega (arith, same, long)) in
+      let after_len : length after ≡ length made =
+      simp (length-append, length-drop) (omega (arith, length-take-le i made (omega arith), same, long)) in
+      let whole : take i made ++ (run ++ drop (i + n) made) ≡ made =
+      ap (λ l. take i made ++ (l ++ drop (i + n) made)) run_at
+      ∙ ap (λ l. take i made ++ (take n (drop i made) ++ l)) (sym (drop-drop n i made))
+      ∙ ap (λ l. take i made ++ l) (take-append-drop n (drop i made)) ∙ take-append-drop i made in
+      record {
+        front = take i made;
+        back = drop (i + n) made ++ rest;
+        front_len = length-take-le i made (omega arith);
+        was = ap (λ l. l ++ rest) (sym whole) ∙ append_assoc (take i made) (run ++ drop (i + n) made) rest
+            ∙ ap (λ l. take i made ++ l) (append_assoc run (drop (i + n) made) rest);
+        is =
+            let count_is = ap (λ k. take k ((take i made ++ (ws ++ drop (length ws) (drop i made)))
+            ++ drop (length (take i made ++ (ws ++ drop (length ws) (drop i made)))) made)) counted ∙ put in
+            let ends : i + length ws ≡ i + n = omega (arith, same, long) in
+            ap (λ l. with_unmade l len released) count_is
+            ∙ ap (λ k. after ++ replicate (len - k) (unmade_bucket released)) after_len
+            ∙ append_assoc (take i made) (ws ++ drop (i + length ws) made) rest
+            ∙ ap (λ l. take i made ++ l) (append_assoc ws (drop (i + length ws) made) rest)
+            ∙ ap (λ k. take i made ++ (ws ++ (drop k made ++ rest))) ends;
+      }
+
+  -- the parts of an array around the place of a bucket
+  pub record IsAround (parts : List (List (BucketView K V))) (spare : List (BucketView K V)) (len bits part offset start : ℕ) : Type 0 where
+    pub first : start ≡ part * 2 ^ bits + offset
+    pub front : List (BucketView K V)
+    pub back : List (BucketView K V)
+    pub stands : part * 2 ^ bits ≡ 0 + length front
+    pub was : flattened parts ≡ front ++ (part_at parts part ++ back)
+    pub is : (left : List (BucketView K V)) → flattened (set parts part left) ≡ front ++ (left ++ back)
+    pub kept : (left : List (BucketView K V)) → length left ≡ length (part_at parts part) → AreParts (set parts part left) spare len bits
+
+  around : (parts : List (List (BucketView K V))) (spare : List (BucketView K V)) (len bits : ℕ) (kept : AreParts parts spare len bits)
+      (part offset start : ℕ) → start < length (flattened parts) → part ≡ start / 2 ^ bits → offset ≡ start % 2 ^ bits
+      → IsAround parts spare len bits part offset start
+  around parts spare len bits kept part offset start below part_is offset_is =
+      let m : ℕ = 2 ^ bits in
+      let place = place_is parts spare len bits kept part offset start (flattened parts) refl below part_is offset_is in
+      let inside : offset < m = rw offset_is (mod-lt start (pow_pos bits)) in
+      let long = length_row parts m part offset kept.long place.within inside in
+      let was = flattened_split parts m part offset kept.long place.within inside in
+      let is = flattened-set parts m part offset kept.long place.within inside in
+      let length_front = length-front parts m part offset kept.long place.within inside in
+      record {
+        first = rw (part_is, offset_is) (sym (ap (λ n. n + start % m) (mul_comm (start / m) m) ∙ div-add-mod start m));
+        front = front parts m part offset kept.long place.within inside;
+        back = back parts m part offset kept.long place.within inside;
+        stands = omega (arith, length_front);
+        was = was;
+        is = is;
+        kept = λ left same. record {
+          long = All-set (λ p. length p ≡ m) parts part left (same ∙ long) kept.long;
+          few_bits = kept.few_bits;
+          len_is = kept.len_is ∙ ap length was ∙ sym (ap length (is left) ∙ simp length-append (omega (arith, same)));
+          spare_is = kept.spare_is;
+        };
+      }
+
+  -- what happens to one of an array's parts happens to the array
+  pub spread_in_array : (kind : ℕ) (answers : Bor K → ℕ → Type 0) (parts : List (List (BucketView K V))) (spare : List (BucketView K V))
+      (len bits : ℕ) (kept : AreParts parts spare len bits) (part offset start shift size : ℕ) → IsArray len shift size
+      → start < length (flattened parts) → part ≡ start / 2 ^ bits → offset ≡ start % 2 ^ bits → (s t : BucketView K V)
+      (now : List (BucketView K V)) → flattened parts ≡ now → (items : List (List (BucketView K V))) (left : List (BucketView K V))
+      → items ≡ set parts part left → ((first : ℕ) → start ≡ first + offset
+      → SpreadsSome kind answers (IsShifted shift) first s (part_at parts part) t left)
+      → AreParts items spare len bits × SpreadsSome kind answers (IsHome (length now)) 0 s now t (flattened items)
+  spread_in_array kind answers parts spare len bits kept part offset start shift size fields below part_is offset_is s t now view
+      items left is spreads =
+      let there = around parts spare len bits kept part offset start below part_is offset_is in
+      let (count, spread) = spreads (part * 2 ^ bits) there.first in
+      let same = spread_len kind answers (IsShifted shift) (part * 2 ^ bits) count s t (part_at parts part) left spread in
+      let whole = spread_within kind answers (IsShifted shift) there.front there.back 0 (part * 2 ^ bits) there.stands count s t
+      (part_at parts part) left spread in
+      let long : length now ≡ 2 ^ (64 - shift) = ap length (sym view) ∙ sym kept.len_is ∙ fields.len_is in
+      let named : (number index : ℕ) → IsShifted shift number index → IsHome (length now) number index =
+      λ number index shifted.
+      subst (λ i. IsHome (length now) number i) shifted.1
+      (home_by_offset number (length now) shift fields.offset_positive fields.offset_in_range long shifted.0) in
+      let all = spread_named kind answers (IsShifted shift) (IsHome (length now)) named 0 count s t _ _ whole in
+      let before = subst
+      (λ cs. Spreads kind answers (IsHome (length now)) 0 count s cs t (there.front ++ (left ++ there.back)))
+      (sym there.was ∙ view) all in
+      rw is (
+        there.kept left same,
+        (count, subst (λ ds. Spreads kind answers (IsHome (length now)) 0 count s now t ds) (sym (there.is left)) before),
+      )

@@ -1,0 +1,22 @@
+use Rattle.bucket_slots.proofs.Words.{Bor, arith, sym, vec_capacity, ℕ, ◌∙◌}
+use Rattle.bucket_slots.specs.Spreading.{IsShifted}
+use Rattle.bucket_slots.proofs.Spreading.{part_over, spread_len, spread_within}
+use Rattle.bucket_slots.proofs.bucket_array.part.Part.spread.Goals as goal
+
+pub returns : goal.returns
+returns g c = λ first stands.
+    let made = c.make_to.new.made in
+    let answers = λ (key : Bor g.row.K.Denot) (answer : ℕ). goal.F-post g c.args.hash_of.now key answer in
+    let (count, spread) = c.spread_own.ensures in
+    let run = c.slice_mut.result.now in
+    let ws = c.spread_own.new.targets in
+    let same = spread_len g.row.TYPE answers (IsShifted c.args.shift) c.args.start count c.args.source.now c.spread_own.new.self run ws
+    spread in
+    let over = part_over made.items (vec_capacity made) made.len c.self.inside.released c.args.offset c.args.len run ws made.ok.0
+    (omega (arith, made.ok.0, c.make_to.ensures.made)) c.slice_mut.ensures.value same in
+    let whole = spread_within g.row.TYPE answers (IsShifted c.args.shift) over.front over.back first c.args.start
+    (omega (arith, stands, over.front_len)) count c.args.source.now c.spread_own.new.self run ws spread in
+    let was = sym over.was ∙ c.make_to.ensures.same ∙ c.self.view_is in (
+      count,
+      rw (← was, over.is) whole,
+    )
