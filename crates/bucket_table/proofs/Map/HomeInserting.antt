@@ -34,7 +34,7 @@ found_alone kind n hasher a i b len alone home lent counted few =
           units = record { stands = λ some. absurd (omega (arith, alone, some)); only = λ j alive. inr alive };
           killed = locked.killed refl;
         },
-        record { asked = λ asks. absurd (unasked asks); not_asked = λ refused. refl },
+        inr (unasked, refl),
         refl,
       );
     }

@@ -2,7 +2,7 @@ use Rattle.bucket_table.proofs.Words.{Current, ap, slots_after_insertion, subst,
 use Rattle.bucket_table.specs.Map.ByKey.{AnswersInsertion, Inserts, InsertsAt}
 use Rattle.bucket_table.specs.Map.Finding.{FindsBucket, FindsThen}
 use Rattle.bucket_table.specs.Map.MapState.{state_of}
-use Rattle.bucket_table.specs.Views.Sides.{bucket_of}
+use Rattle.bucket_table.specs.Views.Sides.{bucket_on}
 use Rattle.bucket_table.proofs.Map.HomeInserting.{found_alone, locked_alone}
 use Rattle.bucket_table.proofs.Map.Inserting.{found_then, inserted_where_absent}
 use Rattle.bucket_table.proofs.Map.LockedSteps.{put_if_ok, same_if_err, with_own}
@@ -66,7 +66,7 @@ returns-clause-arrays g c =
     c.insert_absent.new.bucket c.self.view_is e.unchanged in
     let answer = subst (λ b. AnswersInsertion g.K.PartialEq.eq c.args.key c.args.value (c.args.hash % 256) g.row.TYPE
     (g.G.Generation.keeps c.args.generation.now) b c.insert_absent.result)
-    (ap (λ t. bucket_of t Current c.args.index) c.self.view_is) e.answer in
+    (ap (λ t. bucket_on t.arrays Current c.args.index) c.self.view_is) e.answer in
     found_then g.K.PartialEq.eq g.row.TYPE c.args.hash (g.H.KeyHash.hash_of c.args.self.now.hasher c.args.key)
     (g.G.Generation.keeps c.args.generation.now) c.args.key c.args.value c.args.self.now c.args.self.now _ Current c.args.index
     c.insert_absent.result c.requires.own_hash found answer put kept
