@@ -22,6 +22,7 @@ mod entries;
 mod finishing;
 mod locked_bucket;
 mod lookup;
+mod not_inserted;
 mod pairs;
 mod resize;
 mod retaining;
