@@ -15,6 +15,7 @@ ghost use Rattle.collections.specs.Changes.{Stays, Upserts};
 
 mod cloning;
 pub mod entry;
+mod iterating;
 mod lending;
 
 use crate::room::{Fits, TableRoom};
@@ -22,6 +23,7 @@ use bucket_slots::bucket::MAP;
 pub use bucket_table::hash_table::NotInserted;
 use bucket_table::hash_table::{HashTable, MAXIMUM_CAPACITY_LIMIT};
 use bucket_table::key_hash::{KeyHash, StdHash};
+pub use iterating::{Iter, Keys, Values};
 use std::alloc::Global;
 use std::fmt::{self, Debug, Formatter, Write};
 use std::hash::{BuildHasherDefault, FoldHasher, Hash};

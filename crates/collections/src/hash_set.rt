@@ -12,8 +12,11 @@ ghost use Rattle.collections.specs.Keys.{CallsEachKey, CallsIf, RetainsKeys};
 ghost use Rattle.collections.specs.Keys.{keys_of_either, keys_of_one, keys_outside, keys_within};
 ghost use Rattle.collections.specs.Maps.{contains, IsEmpty, map_len};
 
+mod iterating;
+
 use crate::hash_map::{HashMap, NotInserted};
 use bucket_table::key_hash::{KeyHash, StdHash};
+pub use iterating::Iter;
 use std::alloc::{AllocError, Global};
 use std::fmt::{self, Debug, Formatter, Write};
 use std::hash::{BuildHasherDefault, FoldHasher, Hash};
