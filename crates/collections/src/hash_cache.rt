@@ -15,13 +15,15 @@ ghost use Rattle.bucket_table.specs.Views.ArraysView.{pairs_of};
 ghost use Rattle.collections.specs.Changes.{Puts, Removes};
 ghost use Rattle.collections.specs.Maps.{contains, get, IsEmpty, map_len, map_of};
 
+use crate::default_hash::DefaultHash;
 use crate::room::{Fits, TableRoom};
 use bucket_slots::bucket::CACHE;
 use bucket_slots::lru::DoublyLinkedList;
 pub use bucket_table::hash_table::NotInserted;
 use bucket_table::hash_table::{HashTable, MAXIMUM_CAPACITY_LIMIT};
-use bucket_table::key_hash::KeyHash;
+use bucket_table::key_hash::{KeyHash, StdHash};
 use std::alloc::Global;
+use std::hash::{BuildHasherDefault, Hash, RandomState};
 use std::marker::Model;
 
 /// The greatest number of slots of a cache that isn't told one. scc: `DEFAULT_MAXIMUM_CAPACITY`.
@@ -32,7 +34,7 @@ const LEAST_CAPACITY: usize = 64;
 
 /// A cache: a map of bounded size, whose insertions may make an earlier pair go. scc: `HashCache`.
 #[derive(Drop)]
-pub struct HashCache<K: Eq, V, H: KeyHash<K>> {
+pub struct HashCache<K: Eq, V, H: KeyHash<K> = DefaultHash> {
     table: HashTable<K, V, H, DoublyLinkedList, CACHE>,
     room: Fits<TableRoom<K, V, H, DoublyLinkedList, CACHE>>,
 }
@@ -254,5 +256,36 @@ impl<K: Eq + Drop, V: Drop, H: KeyHash<K>> HashCache<K, V, H> {
     {
         self.room.learn();
         self.table.clear();
+    }
+}
+
+impl<K: Eq + Hash, V> HashCache<K, V, DefaultHash> {
+    /// Returns an empty cache of at most 256 slots and what hangs off them, which hashes by std's
+    /// default. Takes no memory.
+    ///
+    /// O(1). scc: `HashCache::new`.
+    pub fn new(alloc: Global) -> Self
+        ensures empty { IsEmpty (map_of result) }
+        ensures minimum { result.arrays.minimum ≡ 0 }
+        ensures maximum { result.arrays.maximum ≡ 256 }
+        ensures slots { length result.arrays.current ≡ 0 }
+    {
+        Self::with_hasher(alloc, StdHash::new(BuildHasherDefault::new()))
+    }
+}
+
+impl<K: Eq + Hash, V> HashCache<K, V, StdHash<RandomState>> {
+    /// Returns an empty cache of at most 256 slots and what hangs off them, which hashes by keys
+    /// drawn at random, for keys that an adversary may pick. Takes no memory.
+    ///
+    /// O(1). Own: what std's `new` does.
+    pub fn with_random_state(alloc: Global, state: RandomState) -> Self
+        ensures empty { IsEmpty (map_of result) }
+        ensures hasher { result.hasher.builder ≡ state }
+        ensures minimum { result.arrays.minimum ≡ 0 }
+        ensures maximum { result.arrays.maximum ≡ 256 }
+        ensures slots { length result.arrays.current ≡ 0 }
+    {
+        Self::with_hasher(alloc, StdHash::new(state))
     }
 }

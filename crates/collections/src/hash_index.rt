@@ -19,17 +19,19 @@ ghost use Rattle.collections.specs.Changes.{Inserts, ReadsOut, Reserves, Stays, 
 ghost use Rattle.collections.specs.Maps.{contains, get, IsEmpty, map_len, map_of};
 ghost use Rattle.collections.specs.Marks.{LosesNoKeptMark, MarksRemoved};
 
+use crate::default_hash::DefaultHash;
 use crate::hash_map::NotInserted;
 use crate::room::{Fits, TableRoom};
 use bucket_slots::bucket::{Generation, INDEX};
 use bucket_table::hash_table::{HashTable, MAXIMUM_CAPACITY_LIMIT};
-use bucket_table::key_hash::KeyHash;
+use bucket_table::key_hash::{KeyHash, StdHash};
 use std::alloc::Global;
+use std::hash::{BuildHasherDefault, Hash, RandomState};
 use std::marker::Model;
 
 /// A map whose removed pairs wait for their epoch. scc: `HashIndex`.
 #[derive(Drop)]
-pub struct HashIndex<K: Eq, V, H: KeyHash<K>> {
+pub struct HashIndex<K: Eq, V, H: KeyHash<K> = DefaultHash> {
     table: HashTable<K, V, H, (), INDEX>,
     room: Fits<TableRoom<K, V, H, (), INDEX>>,
 }
@@ -275,5 +277,37 @@ impl<K: Eq + Drop, V: Drop, H: KeyHash<K>> HashIndex<K, V, H> {
     {
         self.room.learn();
         self.table.clear();
+    }
+}
+
+impl<K: Eq + Hash, V> HashIndex<K, V, DefaultHash> {
+    /// Returns an empty index that hashes by std's default. Takes no memory.
+    ///
+    /// O(1). scc: `HashIndex::new`.
+    pub fn new(alloc: Global) -> Self
+        ensures empty { IsEmpty (map_of result) }
+        ensures unmarked { marks_of result.arrays ≡ [] }
+        ensures minimum { result.arrays.minimum ≡ 0 }
+        ensures maximum { result.arrays.maximum ≡ 2 ^ 63 }
+        ensures slots { length result.arrays.current ≡ 0 }
+    {
+        Self::with_hasher(alloc, StdHash::new(BuildHasherDefault::new()))
+    }
+}
+
+impl<K: Eq + Hash, V> HashIndex<K, V, StdHash<RandomState>> {
+    /// Returns an empty index that hashes by keys drawn at random, for keys that an adversary may
+    /// pick. Takes no memory.
+    ///
+    /// O(1). Own: what std's `new` does.
+    pub fn with_random_state(alloc: Global, state: RandomState) -> Self
+        ensures empty { IsEmpty (map_of result) }
+        ensures unmarked { marks_of result.arrays ≡ [] }
+        ensures hasher { result.hasher.builder ≡ state }
+        ensures minimum { result.arrays.minimum ≡ 0 }
+        ensures maximum { result.arrays.maximum ≡ 2 ^ 63 }
+        ensures slots { length result.arrays.current ≡ 0 }
+    {
+        Self::with_hasher(alloc, StdHash::new(state))
     }
 }

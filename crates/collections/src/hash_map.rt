@@ -18,6 +18,7 @@ pub mod entry;
 mod iterating;
 mod lending;
 
+use crate::default_hash::DefaultHash;
 use crate::room::{Fits, TableRoom};
 use bucket_slots::bucket::MAP;
 pub use bucket_table::hash_table::NotInserted;
@@ -26,12 +27,12 @@ use bucket_table::key_hash::{KeyHash, StdHash};
 pub use iterating::{Iter, Keys, Values};
 use std::alloc::Global;
 use std::fmt::{self, Debug, Formatter, Write};
-use std::hash::{BuildHasherDefault, FoldHasher, Hash};
+use std::hash::{BuildHasherDefault, Hash, RandomState};
 use std::marker::Model;
 
 /// A map from keys to values. scc: `HashMap`.
 #[derive(Drop)]
-pub struct HashMap<K: Eq, V, H: KeyHash<K>> {
+pub struct HashMap<K: Eq, V, H: KeyHash<K> = DefaultHash> {
     table: HashTable<K, V, H, (), MAP>,
     room: Fits<TableRoom<K, V, H, (), MAP>>,
 }
@@ -297,7 +298,7 @@ impl<K: Eq + Debug, V: Debug, H: KeyHash<K>> Debug for HashMap<K, V, H> {
     }
 }
 
-impl<K: Eq + Hash, V> HashMap<K, V, StdHash<BuildHasherDefault<FoldHasher>>> {
+impl<K: Eq + Hash, V> HashMap<K, V, DefaultHash> {
     /// Returns an empty map that hashes by std's default. Takes no memory.
     ///
     /// O(1). scc: `HashMap::new`.
@@ -308,6 +309,22 @@ impl<K: Eq + Hash, V> HashMap<K, V, StdHash<BuildHasherDefault<FoldHasher>>> {
         ensures slots { result.slots ≡ 0 }
     {
         Self::with_hasher(alloc, StdHash::new(BuildHasherDefault::new()))
+    }
+}
+
+impl<K: Eq + Hash, V> HashMap<K, V, StdHash<RandomState>> {
+    /// Returns an empty map that hashes by keys drawn at random, for keys that an adversary may
+    /// pick. Takes no memory.
+    ///
+    /// O(1). Own: what std's `new` does.
+    pub fn with_random_state(alloc: Global, state: RandomState) -> Self
+        ensures empty { IsEmpty result }
+        ensures hasher { result.hasher.builder ≡ state }
+        ensures minimum { result.minimum ≡ 0 }
+        ensures maximum { result.maximum ≡ 2 ^ 63 }
+        ensures slots { result.slots ≡ 0 }
+    {
+        Self::with_hasher(alloc, StdHash::new(state))
     }
 }
 
