@@ -25,7 +25,7 @@ pub use bucket_table::hash_table::NotInserted;
 use bucket_table::hash_table::{HashTable, MAXIMUM_CAPACITY_LIMIT};
 use bucket_table::key_hash::{KeyHash, StdHash};
 pub use iterating::{Iter, Keys, Values};
-use std::alloc::Global;
+use std::alloc::{AllocFailed, Global};
 use std::fmt::{self, Debug, Formatter, Write};
 use std::hash::{BuildHasherDefault, Hash, RandomState};
 use std::marker::Model;
@@ -204,14 +204,18 @@ impl<K: Eq + Drop, V: Drop, H: KeyHash<K>> HashMap<K, V, H> {
     ///
     /// O(1) expected, beside a resize. scc: `HashMap::upsert_sync`.
     #[inline(always)]
-    pub fn upsert(&mut self, key: K, value: V) -> Result<Option<V>, (K, V)>
+    pub fn upsert(&mut self, key: K, value: V) -> Result<Option<V>, AllocFailed<(K, V)>>
         ensures { Upserts K.eq key value self.old result self.new }
     {
         self.room.learn();
         self.table.sound();
         let outcome = self.table.upsert(key, value, &());
         self.table.sound();
-        outcome
+        let earlier = match outcome {
+            Ok(earlier) => earlier,
+            Err(value) => return Err(AllocFailed { value }),
+        };
+        Ok(earlier)
     }
 
     /// Hands the pair whose key is equal to a function, its value for writing, and returns what
