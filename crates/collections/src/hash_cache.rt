@@ -13,9 +13,10 @@ ghost use Rattle.bucket_table.specs.Map.Counting.{IsHeldBy};
 ghost use Rattle.bucket_table.specs.Rehash.State.{first_tickets};
 ghost use Rattle.bucket_table.specs.Views.ArraysView.{pairs_of};
 ghost use Rattle.collections.specs.Changes.{Puts, Removes};
-ghost use Rattle.collections.specs.Maps.{contains, get, IsEmpty, map_len, map_of};
+ghost use Rattle.collections.specs.Maps.{contains_by, get, get_by, IsEmpty, map_len, map_of};
 
 use crate::default_hash::DefaultHash;
+use crate::key_form::{KeyForm, value_by};
 use crate::room::{Fits, TableRoom};
 use bucket_slots::bucket::CACHE;
 use bucket_slots::lru::DoublyLinkedList;
@@ -150,27 +151,24 @@ impl<K: Eq, V, H: KeyHash<K>> HashCache<K, V, H> {
         self.table.num_slots()
     }
 
-    /// Returns the value under a key, which isn't touched; `None` where the cache hasn't the key.
+    /// Returns the value under a key, or under the keys that a form stands for, which isn't touched;
+    /// `None` where the cache hasn't the key.
     ///
     /// Moves nothing, and takes no memory. O(1) expected. scc: `HashCache::peek_with`.
     #[inline(always)]
-    pub fn peek(&self, key: &K) -> Option<&V>
-        ensures { option_copied result ≡ get K.eq (map_of self.now) key.now }
+    pub fn peek<Q: KeyForm<K, H>>(&self, key: Q) -> Option<&V>
+        ensures { option_copied result ≡ get_by (Q.stands_for key) (map_of self.now) }
     {
         self.room.learn();
-        self.table.sound();
-        match self.table.peek_entry(key) {
-            Some((_, value)) => Some(value),
-            None => None,
-        }
+        value_by(&self.table, key)
     }
 
-    /// Tests whether the cache has a key, which isn't touched.
+    /// Tests whether the cache has a key, or one that a form stands for; none is touched.
     ///
     /// Moves nothing, and takes no memory. O(1) expected. scc: `HashCache::contains_sync`.
     #[inline(always)]
-    pub fn contains(&self, key: &K) -> bool
-        ensures { result ≡ contains K.eq (map_of self.now) key.now }
+    pub fn contains<Q: KeyForm<K, H>>(&self, key: Q) -> bool
+        ensures { result ≡ contains_by (Q.stands_for key) (map_of self.now) }
     {
         self.peek(key).is_some()
     }

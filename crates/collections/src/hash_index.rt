@@ -16,11 +16,12 @@ ghost use Rattle.bucket_slots.specs.Walking.{CallsEach};
 ghost use Rattle.bucket_table.specs.Rehash.State.{first_tickets};
 ghost use Rattle.bucket_table.specs.Views.ArraysView.{marks_of, pairs_of};
 ghost use Rattle.collections.specs.Changes.{Inserts, ReadsOut, Reserves, Stays, TakesOut};
-ghost use Rattle.collections.specs.Maps.{contains, get, IsEmpty, map_len, map_of};
+ghost use Rattle.collections.specs.Maps.{contains_by, get_by, IsEmpty, map_len, map_of};
 ghost use Rattle.collections.specs.Marks.{LosesNoKeptMark, MarksRemoved};
 
 use crate::default_hash::DefaultHash;
 use crate::hash_map::NotInserted;
+use crate::key_form::{KeyForm, value_by};
 use crate::room::{Fits, TableRoom};
 use bucket_slots::bucket::{Generation, INDEX};
 use bucket_table::hash_table::{HashTable, MAXIMUM_CAPACITY_LIMIT};
@@ -136,27 +137,24 @@ impl<K: Eq, V, H: KeyHash<K>> HashIndex<K, V, H> {
         self.table.for_each(f);
     }
 
-    /// Returns the value under a key; `None` where the index hasn't the key.
+    /// Returns the value under a key, or under the keys that a form stands for; `None` where the
+    /// index hasn't the key.
     ///
     /// Moves nothing, and takes no memory. O(1) expected. scc: `HashIndex::peek`.
     #[inline(always)]
-    pub fn peek(&self, key: &K) -> Option<&V>
-        ensures { option_copied result ≡ get K.eq (map_of self.now) key.now }
+    pub fn peek<Q: KeyForm<K, H>>(&self, key: Q) -> Option<&V>
+        ensures { option_copied result ≡ get_by (Q.stands_for key) (map_of self.now) }
     {
         self.room.learn();
-        self.table.sound();
-        match self.table.peek_entry(key) {
-            Some((_, value)) => Some(value),
-            None => None,
-        }
+        value_by(&self.table, key)
     }
 
-    /// Tests whether the index has a key.
+    /// Tests whether the index has a key, or one that a form stands for.
     ///
     /// Moves nothing, and takes no memory. O(1) expected. scc: `HashIndex::contains`.
     #[inline(always)]
-    pub fn contains(&self, key: &K) -> bool
-        ensures { result ≡ contains K.eq (map_of self.now) key.now }
+    pub fn contains<Q: KeyForm<K, H>>(&self, key: Q) -> bool
+        ensures { result ≡ contains_by (Q.stands_for key) (map_of self.now) }
     {
         self.peek(key).is_some()
     }

@@ -9,7 +9,7 @@ ghost use Rattle.std.specs.Option.{option_copied, option_eq};
 ghost use Rattle.std.specs.Borrow.{Bor, MutBor};
 ghost use Rattle.bucket_slots.specs.Walking.{CallsEach};
 ghost use Rattle.collections.specs.Equality.{is_within};
-ghost use Rattle.collections.specs.Maps.{contains, get, IsEmpty, map_len};
+ghost use Rattle.collections.specs.Maps.{contains_by, get, get_by, IsEmpty, map_len};
 ghost use Rattle.collections.specs.Changes.{Inserts, Removes, Reserves, Retains, Rewrites};
 ghost use Rattle.collections.specs.Changes.{Stays, Upserts};
 
@@ -19,6 +19,7 @@ mod iterating;
 mod lending;
 
 use crate::default_hash::DefaultHash;
+use crate::key_form::{KeyForm, value_by};
 use crate::room::{Fits, TableRoom};
 use bucket_slots::bucket::MAP;
 pub use bucket_table::hash_table::NotInserted;
@@ -136,27 +137,24 @@ impl<K: Eq, V, H: KeyHash<K>> HashMap<K, V, H> {
         self.table.num_slots()
     }
 
-    /// Returns the value under a key; `None` where the map hasn't the key.
+    /// Returns the value under a key, or under the keys that a form stands for; `None` where the map
+    /// hasn't the key.
     ///
     /// Moves nothing, and takes no memory. O(1) expected. scc: `HashMap::peek_with`.
     #[inline(always)]
-    pub fn get(&self, key: &K) -> Option<&V>
-        ensures { option_copied result ≡ get K.eq self.now key.now }
+    pub fn get<Q: KeyForm<K, H>>(&self, key: Q) -> Option<&V>
+        ensures { option_copied result ≡ get_by (Q.stands_for key) self.now }
     {
         self.room.learn();
-        self.table.sound();
-        match self.table.peek_entry(key) {
-            Some((_, value)) => Some(value),
-            None => None,
-        }
+        value_by(&self.table, key)
     }
 
-    /// Tests whether the map has a key.
+    /// Tests whether the map has a key, or one that a form stands for.
     ///
     /// Moves nothing, and takes no memory. O(1) expected. scc: `HashMap::contains_sync`.
     #[inline(always)]
-    pub fn contains(&self, key: &K) -> bool
-        ensures { result ≡ contains K.eq self.now key.now }
+    pub fn contains<Q: KeyForm<K, H>>(&self, key: Q) -> bool
+        ensures { result ≡ contains_by (Q.stands_for key) self.now }
     {
         self.get(key).is_some()
     }

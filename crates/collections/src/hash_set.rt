@@ -10,12 +10,13 @@ ghost use Rattle.collections.specs.Changes.{Inserts, Reserves, SetRemoves, Stays
 ghost use Rattle.collections.specs.Copies.{IsCopy};
 ghost use Rattle.collections.specs.Keys.{CallsEachKey, CallsIf, RetainsKeys};
 ghost use Rattle.collections.specs.Keys.{keys_of_either, keys_of_one, keys_outside, keys_within};
-ghost use Rattle.collections.specs.Maps.{contains, IsEmpty, map_len};
+ghost use Rattle.collections.specs.Maps.{contains, contains_by, IsEmpty, map_len};
 
 mod iterating;
 
 use crate::default_hash::DefaultHash;
 use crate::hash_map::{HashMap, NotInserted};
+use crate::key_form::KeyForm;
 use bucket_table::key_hash::{KeyHash, StdHash};
 pub use iterating::Iter;
 use std::alloc::{AllocError, Global};
@@ -56,11 +57,11 @@ impl<K: Eq, H: KeyHash<K>> HashSet<K, H> {
         }
     }
 
-    /// Tests whether the set has a key.
+    /// Tests whether the set has a key, or one that a form stands for.
     ///
     /// Moves nothing, and takes no memory. O(1) expected. scc: `HashSet::contains_sync`.
-    pub fn contains(&self, key: &K) -> bool
-        ensures { result ≡ contains K.eq self.now key.now }
+    pub fn contains<Q: KeyForm<K, H>>(&self, key: Q) -> bool
+        ensures { result ≡ contains_by (Q.stands_for key) self.now }
     {
         self.map.contains(key)
     }
