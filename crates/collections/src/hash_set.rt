@@ -13,6 +13,7 @@ ghost use Rattle.collections.specs.Keys.{keys_of_either, keys_of_one, keys_outsi
 ghost use Rattle.collections.specs.Maps.{contains, contains_by, IsEmpty, map_len};
 
 mod iterating;
+mod relating;
 
 use crate::default_hash::DefaultHash;
 use crate::hash_map::{HashMap, NotInserted};

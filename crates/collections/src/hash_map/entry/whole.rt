@@ -128,4 +128,30 @@ impl<'a, K: Eq + Drop, V: Drop, H: KeyHash<K>> Entry<'a, K, V, H> {
             Entry::Vacant(entry) => entry.insert(make()),
         }
     }
+
+    /// Lends the value under the key for writing; where the map hasn't the key, it inserts it with
+    /// the default of values first. Once the loan ends, the key has the value last written, and each
+    /// other key what it had. Where the map has the key it is never refused.
+    ///
+    /// # Errors
+    ///
+    /// Want of memory, and the map hasn't the key: the key comes back with the default, and the map
+    /// has the pairs that it had.
+    ///
+    /// O(1) expected, beside a resize. std: `Entry::or_default`.
+    pub fn or_default(self) -> Result<&'a mut V, AllocFailed<(K, V)>>
+    where
+        V: Default,
+        ensures* writes_back { sem 𝓛
+            (LendsPut K.row V.row H.row K.PartialEq H.KeyHash (entry_map self.entry)
+            (entry_key self.entry) result) }
+        ensures value { IfOk result (λ lent.
+            MatchOption (get K.eq (entry_map self.entry).now (entry_key self.entry))
+            (V.is_default lent.now) (λ held. lent.now ≡ held)) }
+        ensures refused { IfErr result (λ back. (back.value.0 ≡ entry_key self.entry)
+            × V.is_default back.value.1
+            × (get K.eq (entry_map self.entry).now (entry_key self.entry) ≡ None)) }
+    {
+        self.or_insert_with(|| V::default())
+    }
 }
