@@ -21,3 +21,4 @@ pub mod WalkBegins
 pub mod ReadSteps
 pub mod LentPairs
 pub mod WalkCounts
+pub mod Left

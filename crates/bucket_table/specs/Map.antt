@@ -8,5 +8,6 @@ pub mod Counting
 pub mod Finding
 pub mod Preparing
 pub mod Refusing
+pub mod Refusals
 pub mod Free
 pub mod StdHashes

@@ -2,5 +2,6 @@
 pub mod Visits
 pub mod Walks
 pub mod Cursors
+pub mod Left
 pub mod Sweeps
 pub mod Retains

@@ -22,6 +22,8 @@ mod entries;
 mod finishing;
 mod locked_bucket;
 mod lookup;
+mod not_inserted;
+mod pairs;
 mod resize;
 mod retaining;
 mod shrinking;
@@ -30,7 +32,7 @@ mod walks;
 mod write_access;
 
 use crate::arrays::Arrays;
-pub use crate::arrays::{Missing, Side, peek_arrays};
+pub use crate::arrays::{Missing, Side, TablePairs, peek_arrays};
 pub use crate::capacity::{
     from_index_to_range, num_entries_from_hint, ranges_part_the_indices,
     table_capacity_from_num_entries,

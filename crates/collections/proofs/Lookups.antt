@@ -133,3 +133,17 @@ module _ {K V : Type 0} (eq : K → K → Bool) (laws : IsEquivalence eq) where
             found ∙ lookup_tail (eq q) (p.0, v) rest own ∙ sym (lookup_tail (eq q) p rest own) ∙ was
             ∙ ap (λ (b : Bool). cond b (Some v) (lookup (eq q) xs)) (sym miss)
       ]
+
+module _ {K V : Type 0} (eq : K → K → Bool) (laws : IsEquivalence eq) (test : K → Bool) where
+  -- a test that passes the equals of one key finds its pair
+  pub form_there : ((key other : K) → test key ≡ true → test other ≡ eq key other) → (ps : List (K × V)) (p : K × V)
+      → IsDistinct eq (keys_of ps) → Contains ps p → test p.0 ≡ true → lookup test ps ≡ Some p.1
+  form_there alike ps p distinct there passes =
+      (λ i. lookup (λ (other : K). alike p.0 other passes i) ps) ∙ lookup_there eq laws p.0 ps p distinct there (laws.refl p.0)
+
+module _ {K V : Type 0} (test : K → Bool) where
+  -- no key passes: nothing is found
+  pub form_absent : (ps : List (K × V)) → All (λ (o : K × V). test o.0 ≡ false) ps → lookup test ps ≡ None
+  form_absent [] none = refl
+  form_absent (p ∷ ps) none =
+      lookup_tail test p ps (none 0 p (omega arith)) ∙ form_absent ps (λ i d below. none (suc i) d (omega arith))

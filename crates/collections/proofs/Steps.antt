@@ -6,6 +6,7 @@ use Rattle.std.specs.Cmp.{IsEquivalence}
 use Rattle.std.specs.List.{Contains, IsDistinct}
 use Rattle.std.specs.List.Sorted.{IsPermutation}
 use Rattle.std.specs.Map.{keys_of}
+use Rattle.std.specs.declared.alloc.AllocFailed.{AllocFailed}
 use Rattle.std.proofs.lemmas.Bool.{le-leb}
 use Rattle.std.proofs.lemmas.List.Sorted.{Contains-permutation, IsPermutation-sym, length_permutation}
 use Rattle.bucket_table.specs.Views.ArraysView.{TableView, pairs_of}
@@ -18,6 +19,11 @@ use Rattle.bucket_table.specs.declared.hash_table.NotInserted.TheVariants.{Prese
 use Rattle.collections.specs.Maps.{get, map_of}
 use Rattle.collections.specs.Changes.{Adds, Displaces, HandsBack, Inserts, Keeps, Puts, Removes, Replaces, Rewrites, Stays, Takes, Upserts}
 use Rattle.collections.proofs.Lookups.{get_absent, get_there, lookup_added, lookup_changed, lookup_permuted, lookup_taken}
+
+-- a table's answer, the pair that comes back in the error of std
+abbrev pub as_failed : {A E : Type 0} → Result A E → Result A (AllocFailed E)
+as_failed (Ok x) = Ok x
+as_failed (Err back) = Err (record { value = back })
 
 module _ {K V H : Type 0} (eq : K → K → Bool) (laws : IsEquivalence eq) where
   module _ (kind : ℕ) (t s : TableView K V H) (distinct : IsDistinct eq (keys_of (pairs_of t.arrays)))
@@ -129,7 +135,7 @@ module _ {K V H : Type 0} (eq : K → K → Bool) (laws : IsEquivalence eq) wher
     removes k None done = (absent k done.0, stays done.1)
 
     pub upserts : (k : K) (v : V) (r : Result (Option V) (K × V)) → by_key.Upserts eq k v (state_of kind t) r (state_of kind s)
-        → Upserts eq k v (map_of t) r (map_of s)
+        → Upserts eq k v (map_of t) (as_failed r) (map_of s)
     upserts k v (Ok None) done = adds k v done.0 done.1
     upserts k v (Ok (Some earlier)) done = (done.0, replaces k (done.0, earlier) v done.1 done.2)
     upserts k v (Err back) done = (done.0, absent k done.1, stays done.2)

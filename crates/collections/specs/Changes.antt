@@ -2,6 +2,7 @@
 use Rattle.std.specs.Prelude.{ℕ, ◌≡◌, ◌+◌, ◌-◌, Bool, true, false, cond, if◌then◌else◌, nat_le, List, ◌∷◌, Option, Some, None, Result, Ok, Err, IsSome}
 use Rattle.std.specs.Borrow.{Bor, MutBor}
 use Rattle.std.specs.List.Sorted.{IsPermutation}
+use Rattle.std.specs.declared.alloc.AllocFailed.{AllocFailed}
 use Rattle.collections.specs.Maps.{MapView, IsUnique, get, map_len}
 use Rattle.bucket_table.specs.Walking.Retains.{RetainsEach}
 use Rattle.bucket_table.specs.declared.hash_table.NotInserted.{NotInserted}
@@ -101,10 +102,10 @@ module _ {K V H : Type 0} (eq : K → K → Bool) (key : K) where
 
   -- a pair is put, or its value stands beside the key that is there, and the earlier value is the answer; for want of memory
   -- the pair comes back, and then its key is absent
-  abbrev pub Upserts : V → MapView K V H → Result (Option V) (K × V) → MapView K V H → Type 0
+  abbrev pub Upserts : V → MapView K V H → Result (Option V) (AllocFailed (K × V)) → MapView K V H → Type 0
   Upserts value old (Ok None) new = Adds eq old key value new
   Upserts value old (Ok (Some earlier)) new = (own : K) × Replaces eq old key (own, earlier) value new
-  Upserts value old (Err back) new = (back ≡ (key, value)) × (get eq old key ≡ None) × Stays eq old new
+  Upserts value old (Err back) new = (back.value ≡ (key, value)) × (get eq old key ≡ None) × Stays eq old new
 
   -- the value under the key is lent to a call, and is what that leaves; there is no answer exactly where the key is absent
   abbrev pub Rewrites : {R : Type 0} → (Bor K → MutBor V → R → MutBor V → Type 0) → MapView K V H → Option R → MapView K V H → Type 0

@@ -26,6 +26,14 @@ module _ {K V H : Type 0} where
   abbrev pub IsEmpty : MapView K V H → Type 0
   IsEmpty m = m.entries ≡ []
 
+  -- the value at the first key that passes a test
+  abbrev pub get_by : (K → Bool) → MapView K V H → Option V
+  get_by test m = lookup test m.entries
+
+  -- whether a key passes a test
+  abbrev pub contains_by : (K → Bool) → MapView K V H → Bool
+  contains_by test m = is_some (get_by test m)
+
   module _ (eq : K → K → Bool) where
     -- no two keys are equal
     abbrev pub IsUnique : MapView K V H → Type 0

@@ -13,15 +13,18 @@ ghost use Rattle.bucket_table.specs.Map.Counting.{IsHeldBy};
 ghost use Rattle.bucket_table.specs.Rehash.State.{first_tickets};
 ghost use Rattle.bucket_table.specs.Views.ArraysView.{pairs_of};
 ghost use Rattle.collections.specs.Changes.{Puts, Removes};
-ghost use Rattle.collections.specs.Maps.{contains, get, IsEmpty, map_len, map_of};
+ghost use Rattle.collections.specs.Maps.{contains_by, get, get_by, IsEmpty, map_len, map_of};
 
+use crate::default_hash::DefaultHash;
+use crate::key_form::{KeyForm, value_by};
 use crate::room::{Fits, TableRoom};
 use bucket_slots::bucket::CACHE;
 use bucket_slots::lru::DoublyLinkedList;
 pub use bucket_table::hash_table::NotInserted;
 use bucket_table::hash_table::{HashTable, MAXIMUM_CAPACITY_LIMIT};
-use bucket_table::key_hash::KeyHash;
+use bucket_table::key_hash::{KeyHash, StdHash};
 use std::alloc::Global;
+use std::hash::{BuildHasherDefault, Hash, RandomState};
 use std::marker::Model;
 
 /// The greatest number of slots of a cache that isn't told one. scc: `DEFAULT_MAXIMUM_CAPACITY`.
@@ -32,7 +35,7 @@ const LEAST_CAPACITY: usize = 64;
 
 /// A cache: a map of bounded size, whose insertions may make an earlier pair go. scc: `HashCache`.
 #[derive(Drop)]
-pub struct HashCache<K: Eq, V, H: KeyHash<K>> {
+pub struct HashCache<K: Eq, V, H: KeyHash<K> = DefaultHash> {
     table: HashTable<K, V, H, DoublyLinkedList, CACHE>,
     room: Fits<TableRoom<K, V, H, DoublyLinkedList, CACHE>>,
 }
@@ -148,27 +151,24 @@ impl<K: Eq, V, H: KeyHash<K>> HashCache<K, V, H> {
         self.table.num_slots()
     }
 
-    /// Returns the value under a key, which isn't touched; `None` where the cache hasn't the key.
+    /// Returns the value under a key, or under the keys that a form stands for, which isn't touched;
+    /// `None` where the cache hasn't the key.
     ///
     /// Moves nothing, and takes no memory. O(1) expected. scc: `HashCache::peek_with`.
     #[inline(always)]
-    pub fn peek(&self, key: &K) -> Option<&V>
-        ensures { option_copied result ≡ get K.eq (map_of self.now) key.now }
+    pub fn peek<Q: KeyForm<K, H>>(&self, key: Q) -> Option<&V>
+        ensures { option_copied result ≡ get_by (Q.stands_for key) (map_of self.now) }
     {
         self.room.learn();
-        self.table.sound();
-        match self.table.peek_entry(key) {
-            Some((_, value)) => Some(value),
-            None => None,
-        }
+        value_by(&self.table, key)
     }
 
-    /// Tests whether the cache has a key, which isn't touched.
+    /// Tests whether the cache has a key, or one that a form stands for; none is touched.
     ///
     /// Moves nothing, and takes no memory. O(1) expected. scc: `HashCache::contains_sync`.
     #[inline(always)]
-    pub fn contains(&self, key: &K) -> bool
-        ensures { result ≡ contains K.eq (map_of self.now) key.now }
+    pub fn contains<Q: KeyForm<K, H>>(&self, key: Q) -> bool
+        ensures { result ≡ contains_by (Q.stands_for key) (map_of self.now) }
     {
         self.peek(key).is_some()
     }
@@ -254,5 +254,36 @@ impl<K: Eq + Drop, V: Drop, H: KeyHash<K>> HashCache<K, V, H> {
     {
         self.room.learn();
         self.table.clear();
+    }
+}
+
+impl<K: Eq + Hash, V> HashCache<K, V, DefaultHash> {
+    /// Returns an empty cache of at most 256 slots and what hangs off them, which hashes by std's
+    /// default. Takes no memory.
+    ///
+    /// O(1). scc: `HashCache::new`.
+    pub fn new(alloc: Global) -> Self
+        ensures empty { IsEmpty (map_of result) }
+        ensures minimum { result.arrays.minimum ≡ 0 }
+        ensures maximum { result.arrays.maximum ≡ 256 }
+        ensures slots { length result.arrays.current ≡ 0 }
+    {
+        Self::with_hasher(alloc, StdHash::new(BuildHasherDefault::new()))
+    }
+}
+
+impl<K: Eq + Hash, V> HashCache<K, V, StdHash<RandomState>> {
+    /// Returns an empty cache of at most 256 slots and what hangs off them, which hashes by keys
+    /// drawn at random, for keys that an adversary may pick. Takes no memory.
+    ///
+    /// O(1). Own: what std's `new` does.
+    pub fn with_random_state(alloc: Global, state: RandomState) -> Self
+        ensures empty { IsEmpty (map_of result) }
+        ensures hasher { result.hasher.builder ≡ state }
+        ensures minimum { result.arrays.minimum ≡ 0 }
+        ensures maximum { result.arrays.maximum ≡ 256 }
+        ensures slots { length result.arrays.current ≡ 0 }
+    {
+        Self::with_hasher(alloc, StdHash::new(state))
     }
 }

@@ -17,20 +17,23 @@ ghost use Rattle.bucket_table.specs.Map.LookingUp.{IsThere};
 ghost use Rattle.bucket_table.specs.Rehash.State.{first_tickets};
 ghost use Rattle.bucket_table.specs.Views.ArraysView.{marks_of, pairs_of};
 ghost use Rattle.collections.specs.Changes.{Inserts, ReadsOut, Reserves, Stays, TakesOut};
-ghost use Rattle.collections.specs.Maps.{contains, get, IsEmpty, map_len, map_of};
+ghost use Rattle.collections.specs.Maps.{contains_by, get_by, IsEmpty, map_len, map_of};
 ghost use Rattle.collections.specs.Marks.{LosesNoKeptMark, MarksRemoved};
 
+use crate::default_hash::DefaultHash;
 use crate::hash_map::NotInserted;
+use crate::key_form::{KeyForm, value_by};
 use crate::room::{Fits, TableRoom};
 use bucket_slots::bucket::{Generation, INDEX};
 use bucket_table::hash_table::{HashTable, MAXIMUM_CAPACITY_LIMIT};
-use bucket_table::key_hash::KeyHash;
+use bucket_table::key_hash::{KeyHash, StdHash};
 use std::alloc::Global;
+use std::hash::{BuildHasherDefault, Hash, RandomState};
 use std::marker::Model;
 
 /// A map whose removed pairs wait for their epoch. scc: `HashIndex`.
 #[derive(Drop)]
-pub struct HashIndex<K: Eq, V, H: KeyHash<K>> {
+pub struct HashIndex<K: Eq, V, H: KeyHash<K> = DefaultHash> {
     table: HashTable<K, V, H, (), INDEX>,
     room: Fits<TableRoom<K, V, H, (), INDEX>>,
 }
@@ -135,27 +138,24 @@ impl<K: Eq, V, H: KeyHash<K>> HashIndex<K, V, H> {
         self.table.for_each(f);
     }
 
-    /// Returns the value under a key; `None` where the index hasn't the key.
+    /// Returns the value under a key, or under the keys that a form stands for; `None` where the
+    /// index hasn't the key.
     ///
     /// Moves nothing, and takes no memory. O(1) expected. scc: `HashIndex::peek`.
     #[inline(always)]
-    pub fn peek(&self, key: &K) -> Option<&V>
-        ensures { option_copied result ≡ get K.eq (map_of self.now) key.now }
+    pub fn peek<Q: KeyForm<K, H>>(&self, key: Q) -> Option<&V>
+        ensures { option_copied result ≡ get_by (Q.stands_for key) (map_of self.now) }
     {
         self.room.learn();
-        self.table.sound();
-        match self.table.peek_entry(key) {
-            Some((_, value)) => Some(value),
-            None => None,
-        }
+        value_by(&self.table, key)
     }
 
-    /// Tests whether the index has a key.
+    /// Tests whether the index has a key, or one that a form stands for.
     ///
     /// Moves nothing, and takes no memory. O(1) expected. scc: `HashIndex::contains`.
     #[inline(always)]
-    pub fn contains(&self, key: &K) -> bool
-        ensures { result ≡ contains K.eq (map_of self.now) key.now }
+    pub fn contains<Q: KeyForm<K, H>>(&self, key: Q) -> bool
+        ensures { result ≡ contains_by (Q.stands_for key) (map_of self.now) }
     {
         self.peek(key).is_some()
     }
@@ -278,5 +278,37 @@ impl<K: Eq + Drop, V: Drop, H: KeyHash<K>> HashIndex<K, V, H> {
     {
         self.room.learn();
         self.table.clear();
+    }
+}
+
+impl<K: Eq + Hash, V> HashIndex<K, V, DefaultHash> {
+    /// Returns an empty index that hashes by std's default. Takes no memory.
+    ///
+    /// O(1). scc: `HashIndex::new`.
+    pub fn new(alloc: Global) -> Self
+        ensures empty { IsEmpty (map_of result) }
+        ensures unmarked { marks_of result.arrays ≡ [] }
+        ensures minimum { result.arrays.minimum ≡ 0 }
+        ensures maximum { result.arrays.maximum ≡ 2 ^ 63 }
+        ensures slots { length result.arrays.current ≡ 0 }
+    {
+        Self::with_hasher(alloc, StdHash::new(BuildHasherDefault::new()))
+    }
+}
+
+impl<K: Eq + Hash, V> HashIndex<K, V, StdHash<RandomState>> {
+    /// Returns an empty index that hashes by keys drawn at random, for keys that an adversary may
+    /// pick. Takes no memory.
+    ///
+    /// O(1). Own: what std's `new` does.
+    pub fn with_random_state(alloc: Global, state: RandomState) -> Self
+        ensures empty { IsEmpty (map_of result) }
+        ensures unmarked { marks_of result.arrays ≡ [] }
+        ensures hasher { result.hasher.builder ≡ state }
+        ensures minimum { result.arrays.minimum ≡ 0 }
+        ensures maximum { result.arrays.maximum ≡ 2 ^ 63 }
+        ensures slots { length result.arrays.current ≡ 0 }
+    {
+        Self::with_hasher(alloc, StdHash::new(state))
     }
 }

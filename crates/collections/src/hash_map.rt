@@ -10,27 +10,31 @@ ghost use Rattle.std.specs.Borrow.{Bor, MutBor};
 ghost use Rattle.bucket_slots.specs.Walking.{CallsEach};
 ghost use Rattle.bucket_table.specs.Map.LookingUp.{IsThere};
 ghost use Rattle.collections.specs.Equality.{is_within};
-ghost use Rattle.collections.specs.Maps.{contains, get, IsEmpty, map_len};
+ghost use Rattle.collections.specs.Maps.{contains_by, get, get_by, IsEmpty, map_len};
 ghost use Rattle.collections.specs.Changes.{Inserts, Removes, Reserves, Retains, Rewrites};
 ghost use Rattle.collections.specs.Changes.{Stays, Upserts};
 
 mod cloning;
 pub mod entry;
+mod iterating;
 mod lending;
 
+use crate::default_hash::DefaultHash;
+use crate::key_form::{KeyForm, value_by};
 use crate::room::{Fits, TableRoom};
 use bucket_slots::bucket::MAP;
 pub use bucket_table::hash_table::NotInserted;
 use bucket_table::hash_table::{HashTable, MAXIMUM_CAPACITY_LIMIT};
 use bucket_table::key_hash::{KeyHash, StdHash};
-use std::alloc::Global;
+pub use iterating::{Iter, Keys, Values};
+use std::alloc::{AllocFailed, Global};
 use std::fmt::{self, Debug, Formatter, Write};
-use std::hash::{BuildHasherDefault, FoldHasher, Hash};
+use std::hash::{BuildHasherDefault, Hash, RandomState};
 use std::marker::Model;
 
 /// A map from keys to values. scc: `HashMap`.
 #[derive(Drop)]
-pub struct HashMap<K: Eq, V, H: KeyHash<K>> {
+pub struct HashMap<K: Eq, V, H: KeyHash<K> = DefaultHash> {
     table: HashTable<K, V, H, (), MAP>,
     room: Fits<TableRoom<K, V, H, (), MAP>>,
 }
@@ -134,27 +138,24 @@ impl<K: Eq, V, H: KeyHash<K>> HashMap<K, V, H> {
         self.table.num_slots()
     }
 
-    /// Returns the value under a key; `None` where the map hasn't the key.
+    /// Returns the value under a key, or under the keys that a form stands for; `None` where the map
+    /// hasn't the key.
     ///
     /// Moves nothing, and takes no memory. O(1) expected. scc: `HashMap::peek_with`.
     #[inline(always)]
-    pub fn get(&self, key: &K) -> Option<&V>
-        ensures { option_copied result ≡ get K.eq self.now key.now }
+    pub fn get<Q: KeyForm<K, H>>(&self, key: Q) -> Option<&V>
+        ensures { option_copied result ≡ get_by (Q.stands_for key) self.now }
     {
         self.room.learn();
-        self.table.sound();
-        match self.table.peek_entry(key) {
-            Some((_, value)) => Some(value),
-            None => None,
-        }
+        value_by(&self.table, key)
     }
 
-    /// Tests whether the map has a key.
+    /// Tests whether the map has a key, or one that a form stands for.
     ///
     /// Moves nothing, and takes no memory. O(1) expected. scc: `HashMap::contains_sync`.
     #[inline(always)]
-    pub fn contains(&self, key: &K) -> bool
-        ensures { result ≡ contains K.eq self.now key.now }
+    pub fn contains<Q: KeyForm<K, H>>(&self, key: Q) -> bool
+        ensures { result ≡ contains_by (Q.stands_for key) self.now }
     {
         self.get(key).is_some()
     }
@@ -202,14 +203,18 @@ impl<K: Eq + Drop, V: Drop, H: KeyHash<K>> HashMap<K, V, H> {
     ///
     /// O(1) expected, beside a resize. scc: `HashMap::upsert_sync`.
     #[inline(always)]
-    pub fn upsert(&mut self, key: K, value: V) -> Result<Option<V>, (K, V)>
+    pub fn upsert(&mut self, key: K, value: V) -> Result<Option<V>, AllocFailed<(K, V)>>
         ensures { Upserts K.eq key value self.old result self.new }
     {
         self.room.learn();
         self.table.sound();
         let outcome = self.table.upsert(key, value, &());
         self.table.sound();
-        outcome
+        let earlier = match outcome {
+            Ok(earlier) => earlier,
+            Err(value) => return Err(AllocFailed { value }),
+        };
+        Ok(earlier)
     }
 
     /// Hands the pair whose key is equal to a function, its value for writing, and returns what
@@ -297,7 +302,7 @@ impl<K: Eq + Debug, V: Debug, H: KeyHash<K>> Debug for HashMap<K, V, H> {
     }
 }
 
-impl<K: Eq + Hash, V> HashMap<K, V, StdHash<BuildHasherDefault<FoldHasher>>> {
+impl<K: Eq + Hash, V> HashMap<K, V, DefaultHash> {
     /// Returns an empty map that hashes by std's default. Takes no memory.
     ///
     /// O(1). scc: `HashMap::new`.
@@ -308,6 +313,22 @@ impl<K: Eq + Hash, V> HashMap<K, V, StdHash<BuildHasherDefault<FoldHasher>>> {
         ensures slots { result.slots ≡ 0 }
     {
         Self::with_hasher(alloc, StdHash::new(BuildHasherDefault::new()))
+    }
+}
+
+impl<K: Eq + Hash, V> HashMap<K, V, StdHash<RandomState>> {
+    /// Returns an empty map that hashes by keys drawn at random, for keys that an adversary may
+    /// pick. Takes no memory.
+    ///
+    /// O(1). Own: what std's `new` does.
+    pub fn with_random_state(alloc: Global, state: RandomState) -> Self
+        ensures empty { IsEmpty result }
+        ensures hasher { result.hasher.builder ≡ state }
+        ensures minimum { result.minimum ≡ 0 }
+        ensures maximum { result.maximum ≡ 2 ^ 63 }
+        ensures slots { result.slots ≡ 0 }
+    {
+        Self::with_hasher(alloc, StdHash::new(state))
     }
 }
 

@@ -10,18 +10,24 @@ ghost use Rattle.collections.specs.Changes.{Inserts, Reserves, SetRemoves, Stays
 ghost use Rattle.collections.specs.Copies.{IsCopy};
 ghost use Rattle.collections.specs.Keys.{CallsEachKey, CallsIf, RetainsKeys};
 ghost use Rattle.collections.specs.Keys.{keys_of_either, keys_of_one, keys_outside, keys_within};
-ghost use Rattle.collections.specs.Maps.{contains, IsEmpty, map_len};
+ghost use Rattle.collections.specs.Maps.{contains, contains_by, IsEmpty, map_len};
 
+mod iterating;
+mod relating;
+
+use crate::default_hash::DefaultHash;
 use crate::hash_map::{HashMap, NotInserted};
+use crate::key_form::KeyForm;
 use bucket_table::key_hash::{KeyHash, StdHash};
+pub use iterating::Iter;
 use std::alloc::{AllocError, Global};
 use std::fmt::{self, Debug, Formatter, Write};
-use std::hash::{BuildHasherDefault, FoldHasher, Hash};
+use std::hash::{BuildHasherDefault, Hash, RandomState};
 use std::marker::Model;
 
 /// A set of keys. scc: `HashSet`.
 #[derive(Drop)]
-pub struct HashSet<K: Eq, H: KeyHash<K>> {
+pub struct HashSet<K: Eq, H: KeyHash<K> = DefaultHash> {
     map: HashMap<K, (), H>,
 }
 
@@ -52,11 +58,11 @@ impl<K: Eq, H: KeyHash<K>> HashSet<K, H> {
         }
     }
 
-    /// Tests whether the set has a key.
+    /// Tests whether the set has a key, or one that a form stands for.
     ///
     /// Moves nothing, and takes no memory. O(1) expected. scc: `HashSet::contains_sync`.
-    pub fn contains(&self, key: &K) -> bool
-        ensures { result ≡ contains K.eq self.now key.now }
+    pub fn contains<Q: KeyForm<K, H>>(&self, key: Q) -> bool
+        ensures { result ≡ contains_by (Q.stands_for key) self.now }
     {
         self.map.contains(key)
     }
@@ -270,7 +276,7 @@ impl<K: Eq + Copy, H: KeyHash<K> + Copy> HashSet<K, H> {
     }
 }
 
-impl<K: Eq + Hash> HashSet<K, StdHash<BuildHasherDefault<FoldHasher>>> {
+impl<K: Eq + Hash> HashSet<K, DefaultHash> {
     /// Returns an empty set that hashes by std's default. Takes no memory.
     ///
     /// O(1). scc: `HashSet::new`.
@@ -281,6 +287,22 @@ impl<K: Eq + Hash> HashSet<K, StdHash<BuildHasherDefault<FoldHasher>>> {
         ensures slots { result.slots ≡ 0 }
     {
         Self::with_hasher(alloc, StdHash::new(BuildHasherDefault::new()))
+    }
+}
+
+impl<K: Eq + Hash> HashSet<K, StdHash<RandomState>> {
+    /// Returns an empty set that hashes by keys drawn at random, for keys that an adversary may
+    /// pick. Takes no memory.
+    ///
+    /// O(1). Own: what std's `new` does.
+    pub fn with_random_state(alloc: Global, state: RandomState) -> Self
+        ensures empty { IsEmpty result }
+        ensures hasher { result.hasher.builder ≡ state }
+        ensures minimum { result.minimum ≡ 0 }
+        ensures maximum { result.maximum ≡ 2 ^ 63 }
+        ensures slots { result.slots ≡ 0 }
+    {
+        Self::with_hasher(alloc, StdHash::new(state))
     }
 }
 

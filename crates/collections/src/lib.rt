@@ -8,8 +8,15 @@
 //! collections: a borrow stands where scc locks. SPDX-License-Identifier: Apache-2.0
 #![tactic(auto)]
 
+mod default_hash;
 pub mod hash_cache;
 pub mod hash_index;
 pub mod hash_map;
 pub mod hash_set;
+pub mod key_form;
 mod room;
+
+pub use default_hash::{
+    BuildHasherDefault, DefaultHash, FoldHasher, KeyHash, RandomState, StdHash,
+};
+pub use key_form::KeyForm;

@@ -119,7 +119,7 @@ impl Course {
             }
             Err(back) => {
                 self.refused = self.refused.saturating_add(1);
-                wanted.is_none() && back == (key, value)
+                wanted.is_none() && back.value == (key, value)
             }
         }
     }

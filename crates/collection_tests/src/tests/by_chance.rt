@@ -70,8 +70,8 @@ impl Course {
                 }
             }
             (4..=6, true) => {
-                let earlier = self.map.upsert(key, value);
-                check_same(rt, earlier, Ok(there), ("upsert", key));
+                let earlier = self.map.upsert(key, value).ok();
+                check_same(rt, earlier, Some(there), ("upsert", key));
                 self.std.insert(key, value)?;
             }
             (0..=6, false) | (7..=8, _) => {

@@ -176,10 +176,10 @@ fn take(rt: &impl Abort, map: &mut Map, at: At, step: &Step) -> Result<(), Fail>
                 }
                 _ => check_same(rt, true, false, (at, "inserted")),
             }
-            check_same(rt, map.upsert(*key, *value), Err((*key, *value)), at);
+            check_same(rt, upsert(map, *key, *value), Err((*key, *value)), at);
         }
         Upserts(key, value, earlier) => {
-            check_same(rt, map.upsert(*key, *value), Ok(*earlier), at);
+            check_same(rt, upsert(map, *key, *value), Ok(*earlier), at);
         }
         _ => change(rt, map, at, step),
     }
@@ -205,6 +205,11 @@ fn change(rt: &impl Abort, map: &mut Map, at: At, step: &Step) {
         Clears => map.clear(),
         _ => look(rt, map, at, step),
     }
+}
+
+// Puts a value or writes it. Returns the earlier one, or the pair that came back.
+fn upsert(map: &mut Map, key: u64, value: u64) -> Result<Option<u64>, (u64, u64)> {
+    map.upsert(key, value).map_err(|back| back.value)
 }
 
 // Adds one to a value, and returns the pair that was there.

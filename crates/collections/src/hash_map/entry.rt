@@ -9,12 +9,13 @@ mod occupied;
 mod vacant;
 mod whole;
 
+use crate::default_hash::DefaultHash;
 use crate::hash_map::HashMap;
 use bucket_table::key_hash::KeyHash;
 
 /// A key's place in a map. std: `hash_map::Entry`.
 #[derive(Drop)]
-pub enum Entry<'a, K: Eq, V, H: KeyHash<K>> {
+pub enum Entry<'a, K: Eq, V, H: KeyHash<K> = DefaultHash> {
     /// The map has the key.
     Occupied(OccupiedEntry<'a, K, V, H>),
     /// The map hasn't the key.
@@ -23,7 +24,7 @@ pub enum Entry<'a, K: Eq, V, H: KeyHash<K>> {
 
 /// The place of a key that the map has. std: `hash_map::OccupiedEntry`.
 #[derive(Drop)]
-pub struct OccupiedEntry<'a, K: Eq, V, H: KeyHash<K>> {
+pub struct OccupiedEntry<'a, K: Eq, V, H: KeyHash<K> = DefaultHash> {
     map: &'a mut HashMap<K, V, H>,
     key: K,
     ghost there: { IsSome (get K.eq map.now key) },
@@ -31,7 +32,7 @@ pub struct OccupiedEntry<'a, K: Eq, V, H: KeyHash<K>> {
 
 /// The place of a key that the map hasn't. std: `hash_map::VacantEntry`.
 #[derive(Drop)]
-pub struct VacantEntry<'a, K: Eq, V, H: KeyHash<K>> {
+pub struct VacantEntry<'a, K: Eq, V, H: KeyHash<K> = DefaultHash> {
     map: &'a mut HashMap<K, V, H>,
     key: K,
     ghost absent: { get K.eq map.now key ≡ None },

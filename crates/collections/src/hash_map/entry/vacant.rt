@@ -6,6 +6,7 @@ ghost use Rattle.collections.specs.Maps.{get};
 use crate::hash_map::HashMap;
 use crate::hash_map::entry::VacantEntry;
 use bucket_table::key_hash::KeyHash;
+use std::alloc::AllocFailed;
 
 impl<'a, K: Eq, V, H: KeyHash<K>> VacantEntry<'a, K, V, H> {
     /// Returns the key that was asked for.
@@ -40,12 +41,12 @@ impl<'a, K: Eq + Drop, V: Drop, H: KeyHash<K>> VacantEntry<'a, K, V, H> {
     /// Want of memory: the pair comes back, and the map has the pairs that it had.
     ///
     /// O(1) expected, beside a resize. std: `VacantEntry::insert`.
-    pub fn insert(self, value: V) -> Result<&'a mut V, (K, V)>
+    pub fn insert(self, value: V) -> Result<&'a mut V, AllocFailed<(K, V)>>
         ensures* writes_back { sem 𝓛
             (LendsAdded K.row V.row H.row K.PartialEq H.KeyHash self.entry.map self.entry.key
             result) }
         ensures value { IfOk result (λ lent. lent.now ≡ value) }
-        ensures pair_returned { IfErr result (λ back. back ≡ (self.entry.key, value)) }
+        ensures pair_returned { IfErr result (λ back. back.value ≡ (self.entry.key, value)) }
     {
         let VacantEntry { map, key } = self;
         map.add(key, value)
@@ -56,22 +57,24 @@ impl<K: Eq + Drop, V: Drop, H: KeyHash<K>> HashMap<K, V, H> {
     ghost use Rattle.collections.specs.Loans.{LendsAdded};
 
     /// Inserts a pair whose key the map hasn't, and lends its value for writing.
-    fn add(&mut self, key: K, value: V) -> Result<&mut V, (K, V)>
+    fn add(&mut self, key: K, value: V) -> Result<&mut V, AllocFailed<(K, V)>>
         requires absent { get K.eq self.old key ≡ None }
         ensures* writes_back { sem 𝓛
             (LendsAdded K.row V.row H.row K.PartialEq H.KeyHash self.entry key result) }
         ensures value { IfOk result (λ lent. lent.now ≡ value) }
-        ensures pair_returned { IfErr result (λ back. back ≡ (key, value)) }
+        ensures pair_returned { IfErr result (λ back. back.value ≡ (key, value)) }
     {
         self.room.learn();
         self.table.sound();
         let hash = self.table.hash(&key);
         let Ok((side, index)) = self.table.find(hash) else {
-            return Err((key, value));
+            return Err(AllocFailed {
+                value: (key, value),
+            });
         };
         let at = match self.table.lock(side, index).insert(hash, (key, value), &()) {
             Ok(at) => at,
-            Err(pair) => return Err(pair),
+            Err(value) => return Err(AllocFailed { value }),
         };
         self.table.sound();
         Ok(self.table.entry_mut_at(side, index, &at).1)

@@ -6,6 +6,7 @@ ghost use Rattle.collections.specs.Maps.{contains, get};
 use crate::hash_map::HashMap;
 use crate::hash_map::entry::{Entry, OccupiedEntry, VacantEntry};
 use bucket_table::key_hash::KeyHash;
+use std::alloc::AllocFailed;
 
 impl<K: Eq, V, H: KeyHash<K>> HashMap<K, V, H> {
     ghost use Rattle.collections.specs.Entries.{entry_key, entry_map, is_occupied};
@@ -78,13 +79,13 @@ impl<'a, K: Eq + Drop, V: Drop, H: KeyHash<K>> Entry<'a, K, V, H> {
     /// that it had.
     ///
     /// O(1) expected, beside a resize. std: `Entry::or_insert`.
-    pub fn or_insert(self, default: V) -> Result<&'a mut V, (K, V)>
+    pub fn or_insert(self, default: V) -> Result<&'a mut V, AllocFailed<(K, V)>>
         ensures* writes_back { sem 𝓛
             (LendsPut K.row V.row H.row K.PartialEq H.KeyHash (entry_map self.entry)
             (entry_key self.entry) result) }
         ensures value { IfOk result (λ lent. lent.now
             ≡ unwrap_or (get K.eq (entry_map self.entry).now (entry_key self.entry)) default) }
-        ensures refused { IfErr result (λ back. (back ≡ (entry_key self.entry, default))
+        ensures refused { IfErr result (λ back. (back.value ≡ (entry_key self.entry, default))
             × (get K.eq (entry_map self.entry).now (entry_key self.entry) ≡ None)) }
     {
         match self {
@@ -107,7 +108,7 @@ impl<'a, K: Eq + Drop, V: Drop, H: KeyHash<K>> Entry<'a, K, V, H> {
     /// map has the pairs that it had.
     ///
     /// O(1) expected, beside a resize. std: `Entry::or_insert_with`.
-    pub fn or_insert_with<F: FnOnce() -> V>(self, make: F) -> Result<&'a mut V, (K, V)>
+    pub fn or_insert_with<F: FnOnce() -> V>(self, make: F) -> Result<&'a mut V, AllocFailed<(K, V)>>
         requires callable { is_occupied self ≡ false → F.pre make }
         ensures* writes_back { sem 𝓛
             (LendsPut K.row V.row H.row K.PartialEq H.KeyHash (entry_map self.entry)
@@ -115,8 +116,8 @@ impl<'a, K: Eq + Drop, V: Drop, H: KeyHash<K>> Entry<'a, K, V, H> {
         ensures value { IfOk result (λ lent.
             MatchOption (get K.eq (entry_map self.entry).now (entry_key self.entry))
             (F.post make lent.now) (λ held. lent.now ≡ held)) }
-        ensures refused { IfErr result (λ back. (back.0 ≡ entry_key self.entry)
-            × F.post make back.1
+        ensures refused { IfErr result (λ back. (back.value.0 ≡ entry_key self.entry)
+            × F.post make back.value.1
             × (get K.eq (entry_map self.entry).now (entry_key self.entry) ≡ None)) }
     {
         match self {
@@ -126,5 +127,31 @@ impl<'a, K: Eq + Drop, V: Drop, H: KeyHash<K>> Entry<'a, K, V, H> {
             },
             Entry::Vacant(entry) => entry.insert(make()),
         }
+    }
+
+    /// Lends the value under the key for writing; where the map hasn't the key, it inserts it with
+    /// the default of values first. Once the loan ends, the key has the value last written, and each
+    /// other key what it had. Where the map has the key it is never refused.
+    ///
+    /// # Errors
+    ///
+    /// Want of memory, and the map hasn't the key: the key comes back with the default, and the map
+    /// has the pairs that it had.
+    ///
+    /// O(1) expected, beside a resize. std: `Entry::or_default`.
+    pub fn or_default(self) -> Result<&'a mut V, AllocFailed<(K, V)>>
+    where
+        V: Default,
+        ensures* writes_back { sem 𝓛
+            (LendsPut K.row V.row H.row K.PartialEq H.KeyHash (entry_map self.entry)
+            (entry_key self.entry) result) }
+        ensures value { IfOk result (λ lent.
+            MatchOption (get K.eq (entry_map self.entry).now (entry_key self.entry))
+            (V.is_default lent.now) (λ held. lent.now ≡ held)) }
+        ensures refused { IfErr result (λ back. (back.value.0 ≡ entry_key self.entry)
+            × V.is_default back.value.1
+            × (get K.eq (entry_map self.entry).now (entry_key self.entry) ≡ None)) }
+    {
+        self.or_insert_with(|| V::default())
     }
 }

@@ -1,0 +1,66 @@
+//! The iterator over a set's keys.
+ghost use Rattle.std.specs.Prelude.{◌≡◌};
+ghost use Rattle.std.specs.Iterator.{YieldsFirstRef, item_count};
+ghost use Rattle.std.specs.Map.{keys_of};
+ghost use Rattle.collections.specs.Maps.{IsUnique};
+
+use crate::hash_map::Keys;
+use crate::hash_set::HashSet;
+use bucket_table::key_hash::KeyHash;
+use std::iter::{FusedIterator, IntoIterator};
+use std::marker::Model;
+
+/// The keys of a set that are left. std: `hash_set::Iter`.
+#[derive(Drop)]
+pub struct Iter<'a, K> {
+    inner: Keys<'a, K, ()>,
+}
+
+impl<'a, K> Model for Iter<'a, K> {
+    ghost use Rattle.std.specs.Prelude.{List};
+
+    ghost Value = { List K };
+
+    ghost view = { λ keys. keys.inner };
+}
+
+impl<'a, K> Iterator for Iter<'a, K> {
+    type Item = &'a K;
+
+    ghost next_gives = { YieldsFirstRef (λ left. left) };
+
+    ghost remaining = { item_count (λ left. left) };
+
+    fn next(&mut self) -> Option<&'a K> {
+        self.inner.next()
+    }
+}
+
+impl<'a, K> FusedIterator for Iter<'a, K> {}
+
+impl<K: Eq, H: KeyHash<K>> HashSet<K, H> {
+    /// Lends the keys one after the other, in the order of the view.
+    ///
+    /// Takes no memory. O(1); all steps together O(slots, and the square of the number of blocks of
+    /// each chain). std: `HashSet::iter`.
+    pub fn iter(&self) -> Iter<'_, K>
+        ensures rest { result ≡ keys_of self.now.entries }
+        ensures unique { IsUnique K.eq self.now }
+    {
+        Iter {
+            inner: self.map.keys(),
+        }
+    }
+}
+
+impl<'a, K: Eq, H: KeyHash<K>> IntoIterator for &'a HashSet<K, H> {
+    type Item = &'a K;
+
+    type IntoIter = Iter<'a, K>;
+
+    ghost into_iter_gives = { λ set keys. keys ≡ keys_of set.now.entries };
+
+    fn into_iter(self) -> Iter<'a, K> {
+        self.iter()
+    }
+}

@@ -1,0 +1,140 @@
+//! The forms in which a key is looked up, as a `&str` in the place of a `String`.
+ghost use Rattle.std.specs.Prelude.{◌≡◌, Bool, true, string_bytes};
+ghost use Rattle.std.specs.Option.{option_copied};
+ghost use Rattle.std.specs.Str.{bytes_eq};
+ghost use Rattle.collections.specs.Maps.{get_by, map_of};
+
+use bucket_slots::bucket::KeyProbe;
+use bucket_slots::lru::LruList;
+use bucket_table::hash_table::HashTable;
+use bucket_table::key_hash::{KeyHash, StdHash};
+use std::alloc::Allocator;
+use std::hash::{BuildHasher, Hash};
+use std::marker::PhantomData;
+
+/// A form in which a key is looked up: it stands for the keys that are equal to one of them, and is
+/// hashed as they are. Own; std has `Borrow` there, scc `Equivalent`.
+pub trait KeyForm<K: Eq, H: KeyHash<K>>: Copy {
+    /// Whether the form stands for a key.
+    ghost stands_for: { Self → K → Bool };
+
+    /// Returns whether it stands for a key.
+    fn stands_for(&self, key: &K) -> bool
+        ensures { result ≡ stands_for self.now key.now };
+
+    /// Returns the hash of the keys that it stands for.
+    fn hash_by(&self, hasher: &H) -> u64
+        ensures { (key : K) → stands_for self.now key ≡ true → H.hash_of hasher.now key ≡ result };
+
+    /// It stands for the keys that are equal to one of them, and for no other.
+    ghost alike: { (form : Self) (key other : K)
+        → stands_for form key ≡ true
+        → stands_for form other ≡ K.eq key other };
+}
+
+/// A key stands for its equals.
+impl<'k, K: Eq, H: KeyHash<K>> KeyForm<K, H> for &'k K {
+    ghost stands_for = { λ form. K.eq form.now };
+
+    fn stands_for(&self, key: &K) -> bool {
+        **self == *key
+    }
+
+    fn hash_by(&self, hasher: &H) -> u64 {
+        hasher.hash_one(*self)
+    }
+
+    ghost alike = { λ form. K.Eq.laws.congr form.now };
+}
+
+/// A text stands for the strings that have its bytes.
+impl<'s, A: Allocator, S: BuildHasher> KeyForm<String<A>, StdHash<S>> for &'s str {
+    ghost use Rattle.std.specs.Cmp.Lexicographic.{nat_list_eq_equiv};
+
+    ghost stands_for = { λ form key. bytes_eq form.now (string_bytes key) };
+
+    fn stands_for(&self, key: &String<A>) -> bool {
+        *self == key.as_str()
+    }
+
+    fn hash_by(&self, hasher: &StdHash<S>) -> u64 {
+        hasher.builder.hash_one(self)
+    }
+
+    ghost alike = { λ form key other. nat_list_eq_equiv.congr form.now (string_bytes key) (string_bytes other) };
+}
+
+/// A slice stands for the vectors that have its items.
+impl<'s, T: Eq + Hash, A: Allocator, S: BuildHasher> KeyForm<Vec<T, A>, StdHash<S>> for &'s [T] {
+    ghost use Rattle.std.specs.Cmp.Lexicographic.{lists_equiv, pointwise};
+
+    ghost stands_for = { λ form key. pointwise T.eq form.now key.items };
+
+    fn stands_for(&self, key: &Vec<T, A>) -> bool {
+        *self == key.as_slice()
+    }
+
+    fn hash_by(&self, hasher: &StdHash<S>) -> u64 {
+        hasher.builder.hash_one(self)
+    }
+
+    ghost alike = { λ form key other. (lists_equiv T.Eq.laws).congr form.now key.items other.items };
+}
+
+/// Wants the keys that a form stands for. Own.
+#[derive(Drop)]
+pub(crate) struct FormProbe<Q: Copy, H> {
+    form: Q,
+    asked: u64,
+    hashed_by: PhantomData<H>,
+}
+
+impl<Q: Copy, H> FormProbe<Q, H> {
+    /// Returns a probe that was asked nothing, of a form for this type of hasher.
+    pub(crate) fn new(form: Q) -> Self
+        ensures form { result.form ≡ form }
+        ensures asked { result.asked ≡ 0 }
+    {
+        FormProbe {
+            form,
+            asked: 0,
+            hashed_by: PhantomData,
+        }
+    }
+}
+
+impl<K: Eq, H: KeyHash<K>, Q: KeyForm<K, H>> KeyProbe<K> for FormProbe<Q, H> {
+    ghost wants = { λ probe. Q.stands_for probe.form };
+
+    ghost asked = { λ probe. probe.asked };
+
+    fn same(&mut self, key: &K) -> bool {
+        self.asked = self.asked.saturating_add(1);
+        self.form.stands_for(key)
+    }
+}
+
+/// Returns the value under the keys that a form stands for; `None` where a table has none of them.
+///
+/// Moves nothing, and takes no memory. O(1) expected.
+#[inline(always)]
+pub(crate) fn value_by<
+    K: Eq,
+    V,
+    H: KeyHash<K>,
+    L: LruList,
+    Q: KeyForm<K, H>,
+    const TYPE: u8,
+>(
+    table: &HashTable<K, V, H, L, TYPE>,
+    form: Q,
+) -> Option<&V>
+    ensures { option_copied result ≡ get_by (Q.stands_for form) (map_of table.now) }
+{
+    table.sound();
+    let hash = form.hash_by(table.hasher());
+    match table.peek_entry_by(hash, &mut FormProbe::<Q, H>::new(form)) {
+        Some((_, value)) => Some(value),
+        None => None,
+    }
+}
