@@ -1,7 +1,7 @@
 -- What a step of an iterator over the pairs of an array leaves.
 use Rattle.bucket_table.proofs.Words.{BucketView, List, MovesToNext, Place, Some, [], ap, live_pair, pairs_ahead, slot_in, sym, ℕ}
 use Rattle.bucket_table.proofs.Words.{length, ◌++◌, ◌≤◌, ◌∙◌, ◌∷◌, ◌≡◌}
-use Rattle.std.proofs.Common.{drop, Option, arith}
+use Rattle.std.proofs.Common.{drop, Option}
 use Rattle.std.specs.Option.{unwrap_or}
 use Rattle.std.proofs.lemmas.List.{drop_all}
 use Rattle.bucket_slots.specs.Walking.{IsEnd}
