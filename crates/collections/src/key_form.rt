@@ -118,14 +118,7 @@ impl<K: Eq, H: KeyHash<K>, Q: KeyForm<K, H>> KeyProbe<K> for FormProbe<Q, H> {
 ///
 /// Moves nothing, and takes no memory. O(1) expected.
 #[inline(always)]
-pub(crate) fn value_by<
-    K: Eq,
-    V,
-    H: KeyHash<K>,
-    L: LruList,
-    Q: KeyForm<K, H>,
-    const TYPE: u8,
->(
+pub(crate) fn value_by<K: Eq, V, H: KeyHash<K>, L: LruList, Q: KeyForm<K, H>, const TYPE: u8>(
     table: &HashTable<K, V, H, L, TYPE>,
     form: Q,
 ) -> Option<&V>

@@ -36,7 +36,12 @@ fn a_change_of_a_map_leaves_its_copy(rt: HostRuntime) -> Result<(), Fail> {
         Some((150, 150)),
         "removed of the copy",
     );
-    check_same(&rt, map.upsert(1, 10).ok(), Some(Some(1)), "written to the map");
+    check_same(
+        &rt,
+        map.upsert(1, 10).ok(),
+        Some(Some(1)),
+        "written to the map",
+    );
     map.insert(40, 40)?;
     let found = (map.get(&150).copied(), map.get(&1).copied(), map.len());
     check_same(&rt, found, (Some(150), Some(10), 64), "map");

@@ -29,7 +29,7 @@ enum Step {
     Clears,
     /// Whether a key is there.
     Holds(u64, bool),
-    /// The keys that `for_each` hands over.
+    /// The keys that `for_each` hands over and a loop meets.
     Has(Ranges),
     /// How many keys and slots there are.
     Sees(usize, usize),
@@ -70,7 +70,15 @@ fn take(rt: &impl Abort, alloc: Global, set: &mut Set, at: At, step: &Step) -> R
         Shrinks => set.shrink_to_fit(),
         Clears => set.clear(),
         Holds(key, there) => check_same(rt, set.contains(key), *there, at),
-        Has(ranges) => check_same(rt, keys_of(alloc, set)?, listed(alloc, ranges)?, at),
+        Has(ranges) => {
+            check_same(rt, keys_of(alloc, set)?, listed(alloc, ranges)?, at);
+            check_same(
+                rt,
+                keys_met(alloc, set)?,
+                listed(alloc, ranges)?,
+                (at, "iter"),
+            );
+        }
         Sees(keys, slots) => {
             let found = (set.len(), set.is_empty(), set.capacity());
             check_same(rt, found, (*keys, *keys == 0, *slots), at);
@@ -96,6 +104,16 @@ fn keys_of(alloc: Global, set: &Set) -> Result<Vec<u64>, Fail> {
     set.for_each(&mut |key: &u64| {
         let _ = keys.push(*key);
     });
+    keys.sort()?;
+    Ok(keys)
+}
+
+// The keys that a loop over the set meets, in order.
+fn keys_met(alloc: Global, set: &Set) -> Result<Vec<u64>, Fail> {
+    let mut keys = Vec::new(alloc);
+    for key in set {
+        keys.push(*key)?;
+    }
     keys.sort()?;
     Ok(keys)
 }
