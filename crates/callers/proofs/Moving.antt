@@ -1,6 +1,6 @@
 -- What one move more does to what is held.
-use Rattle.std.proofs.Common.{ℕ, ◌≡◌, ◌+◌, ◌-◌, ◌<◌, Bool, true, false, cond, if◌then◌else◌, not, ◌&&◌, List, ◌∷◌, length, drop, get_or, sym, ap, ◌∙◌, arith}
-use Rattle.std.proofs.Common.{inl, inr, Option}
+use Rattle.std.proofs.Common.{Bool, List, Option, ap, arith, cond, drop, false, get_or, if◌then◌else◌, inl, inr, length, not, sym, true}
+use Rattle.std.proofs.Common.{ℕ, ◌&&◌, ◌+◌, ◌<◌, ◌∙◌, ◌∷◌, ◌≡◌}
 use Rattle.std.specs.Cmp.{IsEquivalence}
 use Rattle.std.specs.Option.{unwrap_or}
 use Rattle.std.proofs.lemmas.Bool.{cases_Bool}
@@ -18,7 +18,8 @@ module _ {K : Type 0} (eq : K → K → Bool) (laws : IsEquivalence eq) (moves :
       → moved eq kind (drop i moves) name
       ≡ (if hit && (if kind then added else not added) then m.count else 0) + moved eq kind (drop (i + 1) moves) name
   moved_by kind hit added name h a =
-      ap (λ (ms : List (Move K)). moved eq kind ms name) (drop_more moves i m below ∙ ap (λ (x : Move K). x ∷ drop (i + 1) moves) (sym item))
+      ap (λ (ms : List (Move K)). moved eq kind ms name)
+      (drop_more moves i m below ∙ ap (λ (x : Move K). x ∷ drop (i + 1) moves) (sym item))
       ∙ (λ j. (if (h j) && (if kind then (a j) else not (a j)) then m.count else 0) + moved eq kind (drop (i + 1) moves) name)
 
   module _ {H : Type 0} (old new : MapView K ℕ H) (number : ℕ) (writes : HoldsThen eq old m.name number new) (name : K) (start all none : ℕ)
@@ -35,13 +36,29 @@ module _ {K : Type 0} (eq : K → K → Bool) (laws : IsEquivalence eq) (moves :
     pub added : m.is_added ≡ true → number ≡ held eq old m.name + m.count
         → held eq new name + moved eq true (drop (i + 1) moves) name + none ≡ start + all + moved eq false (drop (i + 1) moves) name
     added kind sum = elim (cases_Bool (eq m.name name)) [
-      | inl hit ↦ omega (arith, before, sum, same_held hit, is_number hit, moved_by true true true name hit kind, moved_by false true true name hit kind)
+      | inl hit ↦ omega (
+        arith,
+        before,
+        sum,
+        same_held hit,
+        is_number hit,
+        moved_by true true true name hit kind,
+        moved_by false true true name hit kind,
+      )
       | inr miss ↦ omega (arith, before, is_held miss, moved_by true false true name miss kind, moved_by false false true name miss kind)
     ]
 
     pub taken : m.is_added ≡ false → number + m.count ≡ held eq old m.name
         → held eq new name + moved eq true (drop (i + 1) moves) name + none ≡ start + all + moved eq false (drop (i + 1) moves) name
     taken kind left = elim (cases_Bool (eq m.name name)) [
-      | inl hit ↦ omega (arith, before, left, same_held hit, is_number hit, moved_by true true false name hit kind, moved_by false true false name hit kind)
+      | inl hit ↦ omega (
+        arith,
+        before,
+        left,
+        same_held hit,
+        is_number hit,
+        moved_by true true false name hit kind,
+        moved_by false true false name hit kind,
+      )
       | inr miss ↦ omega (arith, before, is_held miss, moved_by true false false name miss kind, moved_by false false false name miss kind)
     ]
