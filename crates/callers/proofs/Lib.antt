@@ -1,4 +1,4 @@
 pub mod KeyCounts
+pub mod Moving
 pub mod Putting
-pub mod Seen
 pub mod WithoutKeys

@@ -1,5 +1,6 @@
 -- What the callers answer.
 pub mod Counts
-pub mod Repeats
+pub mod Held
+pub mod Moves
 pub mod Sessions
 pub mod Without

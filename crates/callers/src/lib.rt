@@ -5,11 +5,10 @@
 #![tactic(auto)]
 
 mod counting;
-mod repeats;
+pub mod ledger;
 mod retiring;
 mod sessions;
 
 pub use counting::count_keys;
-pub use repeats::without_repeats;
 pub use retiring::retire_keys;
 pub use sessions::session_for;

@@ -1,0 +1,19 @@
+//! Keeps how many of each item are in stock, by lines of input.
+//!
+//! SPDX-License-Identifier: Apache-2.0
+#![tactic(auto)]
+
+mod stock;
+
+use std::io;
+use std::io::{BufRead, BufReader};
+use stock::Stock;
+
+fn main(rt: HostRuntime) -> io::Result<()> {
+    let mut stock = Stock::new(rt.alloc());
+    for line in BufReader::new(rt.alloc(), rt.reader())?.lines(rt.alloc()) {
+        let reply = stock.answer(rt.alloc(), line?.as_str())?;
+        println!(rt; "{reply}")?;
+    }
+    Ok(())
+}
