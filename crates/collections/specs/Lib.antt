@@ -7,6 +7,8 @@ pub mod Keys
 pub mod Room
 pub mod Loans
 pub mod CacheLoans
+pub mod CacheWrites
+pub mod CacheLends
 pub mod Orders
 pub mod Marks
 pub mod Entries
