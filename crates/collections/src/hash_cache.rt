@@ -16,6 +16,7 @@ ghost use Rattle.collections.specs.Changes.{Puts, Removes};
 ghost use Rattle.collections.specs.Maps.{contains, get, IsEmpty, map_len, map_of};
 
 mod changing;
+mod printing;
 
 use crate::room::{Fits, TableRoom};
 use bucket_slots::bucket::CACHE;

@@ -19,6 +19,8 @@ ghost use Rattle.collections.specs.Changes.{Inserts, ReadsOut, Reserves, Stays, 
 ghost use Rattle.collections.specs.Maps.{contains, get, IsEmpty, map_len, map_of};
 ghost use Rattle.collections.specs.Marks.{LosesNoKeptMark, MarksRemoved};
 
+mod printing;
+
 use crate::hash_map::NotInserted;
 use crate::room::{Fits, TableRoom};
 use bucket_slots::bucket::{Generation, INDEX};
