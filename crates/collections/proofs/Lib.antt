@@ -14,6 +14,7 @@ pub mod Visits
 pub mod Touching
 pub mod Staying
 pub mod Writing
+pub mod Upserting
 pub mod Adding
 pub mod Entries
 mod Copying

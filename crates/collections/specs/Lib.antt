@@ -9,6 +9,7 @@ pub mod Loans
 pub mod CacheLoans
 pub mod CacheWrites
 pub mod CacheLends
+pub mod CacheUpserts
 pub mod Orders
 pub mod Marks
 pub mod Entries

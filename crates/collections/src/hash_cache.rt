@@ -17,6 +17,7 @@ ghost use Rattle.collections.specs.Maps.{contains, get, IsEmpty, map_len, map_of
 
 mod changing;
 mod printing;
+mod putting;
 
 use crate::room::{Fits, TableRoom};
 use bucket_slots::bucket::CACHE;
@@ -24,6 +25,7 @@ use bucket_slots::lru::DoublyLinkedList;
 pub use bucket_table::hash_table::NotInserted;
 use bucket_table::hash_table::{HashTable, MAXIMUM_CAPACITY_LIMIT};
 use bucket_table::key_hash::KeyHash;
+pub use putting::Upserted;
 use std::alloc::Global;
 use std::marker::Model;
 
