@@ -12,6 +12,9 @@ pub mod IndexSteps
 pub mod Loans
 pub mod Visits
 pub mod Touching
+pub mod Staying
+pub mod Writing
+pub mod Upserting
 pub mod Adding
 pub mod Entries
 mod Copying

@@ -37,7 +37,7 @@ module _ {K V H : Type 0} (eq : K → K → Bool) (laws : IsEquivalence eq) (t s
       ∙ sym (same true done) ∙ get_absent eq laws k (pairs_of s.arrays) none in
       absurd cc
 
-  touched : (hash : ℕ) (r is_there : Bool) → r ≡ is_there → Touches eq k (state_of 67 t) r (state_of 67 s)
+  pub touched : (hash : ℕ) (r is_there : Bool) → r ≡ is_there → Touches eq k (state_of 67 t) r (state_of 67 s)
       → PreparesThen 67 hash t (λ between. ChangesAt eq k (slots_touched true) r between s) → IsTouched eq k is_there t s
   touched hash r is_there is done moved = record {
     map = stays eq laws 67 t s distinct after (keeps r done);

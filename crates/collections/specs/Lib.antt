@@ -7,6 +7,9 @@ pub mod Keys
 pub mod Room
 pub mod Loans
 pub mod CacheLoans
+pub mod CacheWrites
+pub mod CacheLends
+pub mod CacheUpserts
 pub mod Orders
 pub mod Marks
 pub mod Entries

@@ -15,6 +15,10 @@ ghost use Rattle.bucket_table.specs.Views.ArraysView.{pairs_of};
 ghost use Rattle.collections.specs.Changes.{Puts, Removes};
 ghost use Rattle.collections.specs.Maps.{contains_by, get, get_by, IsEmpty, map_len, map_of};
 
+mod changing;
+mod printing;
+mod putting;
+
 use crate::default_hash::DefaultHash;
 use crate::key_form::{KeyForm, value_by};
 use crate::room::{Fits, TableRoom};
@@ -23,6 +27,7 @@ use bucket_slots::lru::DoublyLinkedList;
 pub use bucket_table::hash_table::NotInserted;
 use bucket_table::hash_table::{HashTable, MAXIMUM_CAPACITY_LIMIT};
 use bucket_table::key_hash::{KeyHash, StdHash};
+pub use putting::Upserted;
 use std::alloc::Global;
 use std::hash::{BuildHasherDefault, Hash, RandomState};
 use std::marker::Model;

@@ -20,6 +20,8 @@ ghost use Rattle.collections.specs.Changes.{Inserts, ReadsOut, Reserves, Stays, 
 ghost use Rattle.collections.specs.Maps.{contains_by, get_by, IsEmpty, map_len, map_of};
 ghost use Rattle.collections.specs.Marks.{LosesNoKeptMark, MarksRemoved};
 
+mod printing;
+
 use crate::default_hash::DefaultHash;
 use crate::hash_map::NotInserted;
 use crate::key_form::{KeyForm, value_by};

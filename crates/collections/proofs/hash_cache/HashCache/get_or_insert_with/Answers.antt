@@ -1,0 +1,34 @@
+use Rattle.std.proofs.Common.{inl, inr, ap, refl, sym, ◌∙◌}
+use Rattle.collections.proofs.Upserting.{came_back, puts_after, refused_parts, went_home}
+use Rattle.collections.proofs.hash_cache.HashCache.get_or_insert_with.Goals as goal
+
+pub returns-then-touch : goal.returns-then-touch
+returns-then-touch g c =
+    let touched = c.if-touch.ensures.touched in
+    (c.in-Some.value, c.reader.ensures, inl (sym (c.in-Some.ensures ∙ touched.map.gets c.args.key), refl, touched))
+
+pub returns-in-Ok : goal.returns-in-Ok
+returns-in-Ok g c =
+    let touched = c.if-touch.ensures.touched in
+    let eq = g.K.PartialEq.eq in
+    let t = c.args.self.now in
+    let b = c.touch.new.self in
+    let own = ap (λ h. g.H.KeyHash.hash_of h c.args.key) touched.map.kept.hasher in
+    let puts = puts_after eq c.args.key t b touched c.make-made.result c.put.new.self c.put.result c.put.ensures.map
+    c.in-Ok.gone c.in-Ok.is in
+    let home = went_home eq c.args.key t b touched _ _ own c.make-made.result c.put.new.self.arrays c.put.result c.put.ensures.home
+    c.touch.ensures.beside c.in-Ok.gone _ c.in-Ok.is refl in
+    (_, c.reader-answer.ensures, inr (c.make-made.ensures, puts, home))
+
+pub returns-in-Err-Memory : goal.returns-in-Err-Memory
+returns-in-Err-Memory g c =
+    let touched = c.if-touch.ensures.touched in
+    let eq = g.K.PartialEq.eq in
+    let t = c.args.self.now in
+    let b = c.touch.new.self in
+    let own = ap (λ h. g.H.KeyHash.hash_of h c.args.key) touched.map.kept.hasher in
+    let back = refused_parts eq c.args.key t b touched c.make-made.result c.put.new.self c.put.result
+    c.put.ensures.map _ _ _ c.in-Err-Memory.is c.in-Err-Memory.field-0-is in
+    let stays = came_back eq c.args.key t b touched _ _ own c.make-made.result c.put.new.self.arrays c.put.result c.put.ensures.home _
+    c.in-Err-Memory.is in
+    (back.0, rw back.1 c.make-made.ensures, back.2, back.3, stays)
