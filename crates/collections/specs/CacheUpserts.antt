@@ -1,6 +1,7 @@
 -- What calls do to a cache that put a pair where its key is absent, and something else where it is there.
 use Rattle.std.specs.Prelude.{ℕ, ◌≡◌, ◌<◌, ◌⊎◌, Bool, true, Option, Some, None, Result, Ok, Err, length}
 use Rattle.std.specs.Borrow.{Bor}
+use Rattle.std.specs.declared.alloc.AllocFailed.{AllocFailed}
 use Rattle.bucket_table.specs.Views.ArraysView.{ArraysView, TableView}
 use Rattle.collections.specs.CacheWrites.{IsTouchedAndWritten}
 use Rattle.collections.specs.Changes.{Adds, Displaces, Puts, Replaces, Stays}
@@ -16,15 +17,15 @@ LeavesArray old new = length old.linked ≡ 0 → 0 < length old.current → (ne
 module _ {K V H : Type 0} (eq : K → K → Bool) where
   -- a pair is put, and none or one goes for it, which is the answer; or its value stands beside the key that is there, and the earlier
   -- value is the answer; at allocation failure the pair comes back, its key is absent, and all stays
-  abbrev pub UpsertsOrEvicts : K → V → MapView K V H → Result (Upserted K V) (K × V) → MapView K V H → Type 0
+  abbrev pub UpsertsOrEvicts : K → V → MapView K V H → Result (Upserted K V) (AllocFailed (K × V)) → MapView K V H → Type 0
   UpsertsOrEvicts key value old (Ok Added) new = Adds eq old key value new
   UpsertsOrEvicts key value old (Ok (Evicted k v)) new = Displaces eq old (k, v) key value new
   UpsertsOrEvicts key value old (Ok (Replaced earlier)) new = (own : K) × Replaces eq old key (own, earlier) value new
-  UpsertsOrEvicts key value old (Err back) new = (back ≡ (key, value)) × (get eq old key ≡ None) × Stays eq old new
+  UpsertsOrEvicts key value old (Err back) new = (back.value ≡ (key, value)) × (get eq old key ≡ None) × Stays eq old new
 
   -- a pair is put into its home, as the one touched last, after what goes for it; or the pair that is there is touched, and written;
   -- where it comes back the array stays
-  abbrev pub UpsertsInOrder : K × V → ℕ → TableView K V H → Result (Upserted K V) (K × V) → TableView K V H → Type 0
+  abbrev pub UpsertsInOrder : K × V → ℕ → TableView K V H → Result (Upserted K V) (AllocFailed (K × V)) → TableView K V H → Type 0
   UpsertsInOrder pair hash old (Ok Added) new = PutsInHome eq pair hash None old new.arrays
   UpsertsInOrder pair hash old (Ok (Evicted k v)) new = PutsInHome eq pair hash (Some (k, v)) old new.arrays
   UpsertsInOrder pair hash old (Ok (Replaced earlier)) new = IsTouchedAndWritten eq pair.0 true old new
@@ -33,10 +34,10 @@ module _ {K V H : Type 0} (eq : K → K → Bool) where
   -- the pair under the key is touched, and its value is read; or a value is made, read and put, after what goes for it; at allocation
   -- failure the key comes back with what was made, and all stays
   abbrev pub GetsOrInserts : {R : Type 0} → K → ℕ → (V → Type 0) → (Bor V → R → Type 0) → TableView K V H
-      → Result (R × Option (K × V)) (K × V) → TableView K V H → Type 0
+      → Result (R × Option (K × V)) (AllocFailed (K × V)) → TableView K V H → Type 0
   GetsOrInserts key hash makes reads old (Ok done) new = (value : Bor V) × reads value done.0
       × (((get eq (map_of old) key ≡ Some value.now) × (done.1 ≡ None) × IsTouched eq key true old new)
       ⊎ (makes value.now × Puts eq key value.now (map_of old) (Ok done.1) (map_of new)
       × PutsInHome eq (key, value.now) hash done.1 old new.arrays))
-  GetsOrInserts key hash makes reads old (Err back) new = (back.0 ≡ key) × makes back.1 × (get eq (map_of old) key ≡ None)
+  GetsOrInserts key hash makes reads old (Err back) new = (back.value.0 ≡ key) × makes back.value.1 × (get eq (map_of old) key ≡ None)
       × Stays eq (map_of old) (map_of new) × LeavesArray old.arrays new.arrays

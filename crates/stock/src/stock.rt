@@ -74,8 +74,7 @@ impl Stock {
         };
         let key = String::from_str(alloc, item)?;
         self.shown = self.shown.wrapping_add(1);
-        let _ = self.recent.remove(&key);
-        self.recent.put(key, self.shown)?;
+        self.recent.upsert(key, self.shown)?;
         format!(in alloc; "{item} {count}")
     }
 

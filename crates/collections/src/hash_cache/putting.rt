@@ -6,6 +6,7 @@ ghost use Rattle.collections.specs.Maps.{contains, map_of};
 
 use crate::hash_cache::{HashCache, NotInserted};
 use bucket_table::key_hash::KeyHash;
+use std::alloc::AllocFailed;
 use std::mem;
 
 /// What an upsert did.
@@ -33,7 +34,7 @@ impl<K: Eq + Drop, V: Drop, H: KeyHash<K>> HashCache<K, V, H> {
     ///
     /// O(1) expected, beside a resize. Own: std's `HashMap::insert`, and `put` of other caches.
     #[inline(always)]
-    pub fn upsert(&mut self, key: K, value: V) -> Result<Upserted<K, V>, (K, V)>
+    pub fn upsert(&mut self, key: K, value: V) -> Result<Upserted<K, V>, AllocFailed<(K, V)>>
         ensures map { UpsertsOrEvicts K.eq key value (map_of self.old) result (map_of self.new) }
         ensures order { UpsertsInOrder K.eq (key, value) (H.hash_of self.old.hasher key) self.old
             result self.new }
@@ -47,7 +48,9 @@ impl<K: Eq + Drop, V: Drop, H: KeyHash<K>> HashCache<K, V, H> {
         match self.put(key, value) {
             Ok(None) => Ok(Upserted::Added),
             Ok(Some((key, value))) => Ok(Upserted::Evicted(key, value)),
-            Err(NotInserted::Memory(key, value)) => Err((key, value)),
+            Err(NotInserted::Memory(key, value)) => Err(AllocFailed {
+                value: (key, value),
+            }),
             Err(NotInserted::Present(_key, _value)) => unreachable!(),
         }
     }
@@ -70,7 +73,7 @@ impl<K: Eq + Drop, V: Drop, H: KeyHash<K>> HashCache<K, V, H> {
         key: K,
         make: M,
         reader: F,
-    ) -> Result<(R, Option<(K, V)>), (K, V)>
+    ) -> Result<(R, Option<(K, V)>), AllocFailed<(K, V)>>
         requires makes { contains K.eq (map_of self.old) key ≡ false → M.pre make }
         requires reads { (value : Bor V) → F.pre reader value }
         ensures { GetsOrInserts K.eq key (H.hash_of self.old.hasher key)
@@ -87,7 +90,7 @@ impl<K: Eq + Drop, V: Drop, H: KeyHash<K>> HashCache<K, V, H> {
         let answer = reader(&made);
         match self.put(key, made) {
             Ok(gone) => Ok((answer, gone)),
-            Err(NotInserted::Memory(key, made)) => Err((key, made)),
+            Err(NotInserted::Memory(key, made)) => Err(AllocFailed { value: (key, made) }),
             Err(NotInserted::Present(_key, _made)) => unreachable!(),
         }
     }
