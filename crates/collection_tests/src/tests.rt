@@ -13,6 +13,7 @@ mod printing;
 mod sets;
 mod tags;
 mod two_sets;
+mod words;
 
 use std::fmt::Debug;
 use std::process::Abort;
