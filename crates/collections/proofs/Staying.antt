@@ -1,5 +1,5 @@
 -- The map stays, and then a call does something to it: so it does that to the map of before.
-use Rattle.std.proofs.Common.{◌≡◌, Bool, cond, Option, Some, None, ◌∷◌, sym, ap, ◌+◌, ◌∙◌}
+use Rattle.std.proofs.Common.{Bool, cond, Option, Some, None, ◌∷◌, sym, ap, ◌+◌, ◌∙◌}
 use Rattle.std.proofs.lemmas.List.Sorted.{IsPermutation-cons, IsPermutation-trans}
 use Rattle.collections.specs.Changes.{Adds, Displaces, Keeps, Replaces, Stays}
 use Rattle.collections.specs.Maps.{MapView}

@@ -1,7 +1,6 @@
 -- What becomes of a cache's buckets, and of their LRU order, where values are written and pairs are taken out.
-use Rattle.std.specs.Prelude.{ℕ, ◌≡◌, Bool, length}
+use Rattle.std.specs.Prelude.{◌≡◌, Bool, length}
 use Rattle.bucket_table.specs.Map.ByKey.{WritesAt}
-use Rattle.bucket_table.specs.Rehash.State.{TicketState}
 use Rattle.bucket_table.specs.Views.ArraysView.{ArraysView, TableView}
 use Rattle.bucket_table.specs.Views.Keeping.{KeepsArrays}
 use Rattle.bucket_table.specs.Walking.Retains.{AreLeftOf}
