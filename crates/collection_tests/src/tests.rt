@@ -1,6 +1,7 @@
 //! Tests of what no clause says: that calls succeed where memory is there, that slots come and go,
 //! and that values are dropped once; and calls by chance beside a map of the standard library.
 mod by_chance;
+mod cache_changes;
 mod caches;
 mod copies;
 mod drops;

@@ -71,8 +71,7 @@ module _ {K V H : Type 0} (eq : K → K → Bool) (laws : IsEquivalence eq) (t s
         → IfNone loan ((get eq (map_of t) k ≡ None) × Stays eq (map_of t) (map_of s) × IsWritten eq k false t s)
     lent_unwritten (Some lent) prepared absent = tt
     lent_unwritten None prepared absent =
-        let none = lent_none eq laws 67 t distinct k hash None s prepared absent in
-        (
+        let none = lent_none eq laws 67 t distinct k hash None s prepared absent in (
           none.0,
           none.1,
           record { between = s; map = none.1; carried = prepared.kept; alone = prepared.alone; written = refl },

@@ -1,8 +1,10 @@
-//! How maps and sets are printed, which no clause says: as those of the standard library.
+//! How collections are printed, which no clause says: as those of the standard library.
 use super::maps::Map;
 use super::sets::Set;
 use super::{check_same, steps};
 use bucket_table::script::ScriptHash;
+use collections::hash_cache::HashCache;
+use collections::hash_index::HashIndex;
 use collections::hash_map::HashMap;
 use collections::hash_set::HashSet;
 use std::test::Fail;
@@ -102,4 +104,34 @@ fn printed(line: &str) -> Option<usize> {
         came = came.saturating_add(1);
     }
     Some(came)
+}
+
+// As the map of the pair. A removed pair of an index isn't printed, and printing touches no pair of
+// a cache.
+#[test]
+fn caches_and_indexes_are_printed(rt: HostRuntime) -> Result<(), Fail> {
+    for (number, row) in ROWS.iter().enumerate() {
+        let mut cache: HashCache<u64, u64, ScriptHash> = HashCache::with_hasher(
+            rt.alloc(),
+            ScriptHash::Id,
+        );
+        let mut index: HashIndex<u64, u64, ScriptHash> = HashIndex::with_hasher(
+            rt.alloc(),
+            ScriptHash::Id,
+        );
+        index.insert(7, 70, &())?;
+        check_same(&rt, index.remove(&7, &()), true, number);
+        if let Some((key, value)) = row.pair {
+            check_same(&rt, cache.put(key, value).is_ok(), true, number);
+            index.insert(key, value, &())?;
+        }
+        let [line, lines] = row.map;
+        let shown = format!(in rt.alloc(); "{cache:?} {index:?}")?;
+        let wanted = format!(in rt.alloc(); "{line} {line}")?;
+        check_same(&rt, shown.as_str(), wanted.as_str(), number);
+        let shown = format!(in rt.alloc(); "{cache:#?} {index:#?}")?;
+        let wanted = format!(in rt.alloc(); "{lines} {lines}")?;
+        check_same(&rt, shown.as_str(), wanted.as_str(), number);
+    }
+    Ok(())
 }

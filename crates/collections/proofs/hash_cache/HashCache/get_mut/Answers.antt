@@ -12,8 +12,7 @@ returns g c =
     let touched = c.touch-there.ensures.touched in
     let loan = c.peek_mut.result in
     let lent = c.peek_mut.follows in
-    let is = c.peek_mut.ensures.value in
-    (
+    let is = c.peek_mut.ensures.value in (
       (
         refl,
         λ value. lent_touched eq key t b (lent.lender value) _ tells touched loan value is (lent.holds value),
