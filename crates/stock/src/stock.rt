@@ -36,8 +36,7 @@ impl Stock {
             (Some("list"), None, None) => self.list(alloc),
             (Some("recent"), None, None) => self.recent(alloc),
             (Some("empty"), None, None) => {
-                let none = self.counts.values().filter(|count| **count == 0).count();
-                format!(in alloc; "{none} of {}", self.counts.len())
+                format!(in alloc; "{} of {}", self.empty_items(), self.counts.len())
             }
             (Some("forget"), Some(item), None) => self.forget(alloc, item),
             _ => format!(in alloc; "bad line {line:?}"),
@@ -76,6 +75,17 @@ impl Stock {
         self.shown = self.shown.wrapping_add(1);
         self.recent.upsert(key, self.shown)?;
         format!(in alloc; "{item} {count}")
+    }
+
+    /// How many items have none left.
+    fn empty_items(&self) -> usize {
+        let mut none = 0usize;
+        for count in self.counts.values() {
+            if *count == 0 {
+                none = none.saturating_add(1);
+            }
+        }
+        none
     }
 
     /// Lists the items in order.
