@@ -143,11 +143,7 @@ fn take(rt: &impl Abort, cache: &mut Cache, at: At, step: &Step) {
             check_same(rt, found, *earlier, at);
         }
         Gets(key, value, gone) => {
-            let found = cache.get_or_insert_with(
-                *key,
-                || key.wrapping_add(1000),
-                |held| *held,
-            );
+            let found = cache.get_or_insert_with(*key, || key.wrapping_add(1000), |held| *held);
             check_same(rt, found.ok(), Some((*value, *gone)), at);
         }
         Retains => {
