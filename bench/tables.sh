@@ -54,9 +54,9 @@ if awk -v load="$load" 'BEGIN { exit load <= 0.5 }'; then
     echo "The load is above 0.5: times are those of a busy machine."
 fi
 
-jobs=({calls,large,single}\ {1000,64000,1000000} "single 4000000")
+jobs=({calls,large,single}\ {1000,64000,1000000} {calls,single}\ 4000000)
 if [ -n "$with_pictures" ]; then
-    jobs+=(calls\ {4000,16000,256000,4000000})
+    jobs+=(calls\ {4000,16000,256000})
 fi
 
 # A line for each figure: pairs, its name, the map, and the figure a call. Of the bytes the first of
@@ -110,12 +110,14 @@ awk -v maps="$maps" '
     }
     END {
         kinds = split(maps, kind)
-        split("1000 64000 1000000", sizes)
-        for (s = 1; s <= 3; s++) {
+        split("1000 64000 1000000 4000000", sizes)
+        for (s = 1; s <= 4; s++) {
             head(sizes[s] " pairs")
             line(sizes[s], "insert", "  insert, grown, ns", 1)
-            line(sizes[s], "large", "  insert, large enough, ns", 1)
-            grown(sizes[s])
+            if (s < 4) {
+                line(sizes[s], "large", "  insert, large enough, ns", 1)
+                grown(sizes[s])
+            }
             line(sizes[s], "hit", "  hit, ns", 1)
             line(sizes[s], "miss", "  miss, ns", 1)
             line(sizes[s], "churn", "  remove one, insert one, ns", 1)
@@ -126,9 +128,6 @@ awk -v maps="$maps" '
             line(sizes[s], "longest", "  longest insertion, us", 1000)
             line(sizes[s], "rarely", "  99.99th percentile of these, us", 1000)
         }
-        head("4000000 pairs")
-        line(4000000, "longest", "  longest insertion, us", 1000)
-        line(4000000, "rarely", "  99.99th percentile of these, us", 1000)
     }' "$folder/figures"
 
 echo

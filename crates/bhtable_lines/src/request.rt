@@ -30,7 +30,7 @@ pub(crate) enum Request {
     Call(Call<u64, u64>),
     /// What the table at hand is to tell of itself.
     Question(Question),
-    /// What removed pairs of an index are marked with from here on, and whether marks are kept.
+    /// The epoch of an index's tombstones from here on, and whether tombstones are kept.
     Epoch(FixedGeneration),
 }
 

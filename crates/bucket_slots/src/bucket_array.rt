@@ -42,7 +42,7 @@ use std::alloc::Global;
 use std::marker::Model;
 use std::mem::ManuallyDrop;
 
-/// Buckets of the kind `TYPE` with recency lists `L`, each the home of an interval of hashes.
+/// Buckets of the kind `TYPE` with LRU lists `L`, each the home of an interval of hashes.
 pub struct BucketArray<K, V, L: LruList, const TYPE: u8> {
     hash_offset: u32,
     sample_size: u8,
@@ -97,8 +97,8 @@ impl<K: Drop, V: Drop, L: LruList + Drop, const TYPE: u8> BucketArray<K, V, L, T
     ///
     /// # Errors
     ///
-    /// Want of memory: nothing is kept. All memory is asked for here, a request for each part among
-    /// others, and its buckets are made later.
+    /// Allocation failed: nothing is kept. All memory is asked for here, a request for each part
+    /// among others, and its buckets are made later.
     ///
     /// O(parts), which are 256 at most. scc: `BucketArray::new`.
     pub fn alloc(alloc: Global, capacity: usize) -> Result<Self, AllocError>
@@ -285,7 +285,8 @@ impl<K, V, L: LruList, const TYPE: u8> BucketArray<K, V, L, TYPE> {
         bucket_in(&mut self.parts, part, offset)
     }
 
-    /// Returns the pairs of the own slots of the bucket with an index, marked ones among them.
+    /// Returns the pairs of the own slots of the bucket with an index, those of tombstones among
+    /// them.
     ///
     /// O(1). scc: `BucketArray::data_block`.
     pub fn data_block(&self, index: usize) -> &DataBlock<K, V, BUCKET_LEN>

@@ -11,7 +11,7 @@ ghost use Rattle.bucket_table.specs.Walking.Retains.{RetainsBucket, RetainsPair,
 use bucket_slots::bucket::{BUCKET_LEN, Bucket, CACHE, EntryPtr, Generation, INDEX};
 use bucket_slots::lru::LruList;
 
-/// Takes out each pair that the test refuses, or marks it in an index. Returns how many.
+/// Takes out each pair that the test refuses; in an index it leaves a tombstone. Returns how many.
 #[tactic(auto, using(crate::proofs::Walking::Retaining::next_live))]
 pub(crate) fn retain_in<
     K: Drop,
@@ -38,7 +38,7 @@ pub(crate) fn retain_in<
     before - bucket.len()
 }
 
-/// Takes the pair out of a live slot, or marks it in an index, where the test refuses it.
+/// Takes the pair out of a live slot, or leaves a tombstone in an index, where the test refuses it.
 #[inline(always)]
 fn retain_at<K: Drop, V: Drop, L: LruList, F: Fn(&K, &V) -> bool, G: Generation, const TYPE: u8>(
     bucket: &mut Bucket<K, V, L, TYPE>,
@@ -60,8 +60,8 @@ fn retain_at<K: Drop, V: Drop, L: LruList, F: Fn(&K, &V) -> bool, G: Generation,
     take_at(bucket, at, generation);
 }
 
-/// Lends `keep` the value of each live pair, in slot order, and takes out each pair that it refuses,
-/// or marks it in an index. Returns how many.
+/// Lends `keep` the value of each live pair, in slot order, and takes out each pair that it
+/// refuses, or leaves a tombstone in an index. Returns how many.
 #[tactic(auto, using(crate::proofs::Walking::Retaining::next_live))]
 pub(crate) fn retain_each_in<
     K: Drop,
@@ -113,8 +113,8 @@ fn retain_front<K: Drop, V: Drop, L: LruList, F: FnMut(&K, &mut V) -> bool, cons
     EntryPtr::own_slot(BUCKET_LEN - 1)
 }
 
-/// Lends `keep` the value in a live slot, and takes the pair out, or marks it in an index, where it
-/// is refused.
+/// Lends `keep` the value in a live slot, and takes the pair out, or leaves a tombstone in an
+/// index, where it is refused.
 #[inline(always)]
 fn retain_slot<
     K: Drop,
@@ -142,7 +142,7 @@ fn retain_slot<
     take_at(bucket, at, generation);
 }
 
-/// Takes the pair out of a live slot, or marks it in an index.
+/// Takes the pair out of a live slot, or leaves a tombstone in an index.
 pub(crate) fn take_at<K: Drop, V: Drop, L: LruList, G: Generation, const TYPE: u8>(
     bucket: &mut Bucket<K, V, L, TYPE>,
     at: &mut EntryPtr<K, V, TYPE>,

@@ -11,7 +11,7 @@ use std::alloc::AllocError;
 ///
 /// # Errors
 ///
-/// Want of memory: the map counts some first keys of the list.
+/// Allocation failed: the map counts some first keys of the list.
 ///
 /// O(keys) expected. Own.
 pub fn count_keys<K: Eq + Copy, H: KeyHash<K>>(

@@ -13,7 +13,7 @@ use collections::hash_cache::{HashCache, NotInserted};
 ///
 /// # Errors
 ///
-/// Want of memory: the fresh session comes back, and the cache has the same sessions.
+/// Allocation failed: the fresh session comes back, and the cache has the same sessions.
 ///
 /// O(1) expected, beside a resize. Own.
 pub fn session_for<U: Eq + Drop, S: Drop, H: KeyHash<U>>(

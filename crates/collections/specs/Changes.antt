@@ -67,17 +67,17 @@ module _ {K V H : Type 0} (eq : K → K → Bool) where
     pub kept : Keeps old new
 
 module _ {K V H : Type 0} (eq : K → K → Bool) (key : K) where
-  -- why a pair comes back that wasn't put: an equal key is there, or memory is wanted, and then none is
+  -- why a pair comes back that wasn't put: an equal key is there, or allocation failed, and then none is
   abbrev pub HandsBack : V → MapView K V H → NotInserted K V → Type 0
   HandsBack value map (Present k v) = (k ≡ key) × (v ≡ value) × IsSome (get eq map key)
   HandsBack value map (Memory k v) = (k ≡ key) × (v ≡ value) × (get eq map key ≡ None)
 
-  -- a pair is put where its key is absent; else, and for want of memory, it comes back and all stays
+  -- a pair is put where its key is absent; else, and if allocation fails, it comes back and all stays
   abbrev pub Inserts : {A : Type 0} → V → MapView K V H → Result A (NotInserted K V) → MapView K V H → Type 0
   Inserts value old (Ok done) new = Adds eq old key value new
   Inserts value old (Err why) new = HandsBack value old why × Stays eq old new
 
-  -- a pair is put where its key is absent, and a pair that goes for it comes back; else, and for want of memory, the pair itself
+  -- a pair is put where its key is absent, and a pair that goes for it comes back; else, and if allocation fails, the pair itself
   -- comes back and all stays
   abbrev pub Puts : V → MapView K V H → Result (Option (K × V)) (NotInserted K V) → MapView K V H → Type 0
   Puts value old (Ok None) new = Adds eq old key value new
@@ -100,7 +100,7 @@ module _ {K V H : Type 0} (eq : K → K → Bool) (key : K) where
       (own : Bor K) × (value : Bor V) × reads own value answer × Takes eq old key (own.now, value.now) new
   ReadsOut reads old None new = (get eq old key ≡ None) × Stays eq old new
 
-  -- a pair is put, or its value stands beside the key that is there, and the earlier value is the answer; for want of memory
+  -- a pair is put, or its value stands beside the key that is there, and the earlier value is the answer; if allocation fails
   -- the pair comes back, and then its key is absent
   abbrev pub Upserts : V → MapView K V H → Result (Option V) (AllocFailed (K × V)) → MapView K V H → Type 0
   Upserts value old (Ok None) new = Adds eq old key value new

@@ -215,7 +215,7 @@ impl<K: Eq + Drop, V: Drop, H: KeyHash<K>> HashCache<K, V, H> {
     ///
     /// # Errors
     ///
-    /// An equal key is there; or want of memory, and then none is: the pair comes back, and none
+    /// An equal key is there; or allocation failed, and then none is: the pair comes back, and none
     /// goes.
     ///
     /// O(1) expected, beside a resize. scc: `HashCache::put_sync`.

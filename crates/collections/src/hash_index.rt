@@ -1,10 +1,11 @@
 //! A map that is read without moving anything, and whose removed pairs stay in their slots, each
-//! marked with the epoch of its removal, until an insertion finds that its generation lets it go.
+//! as a tombstone with the epoch of its removal, until an insertion finds that its generation lets
+//! it go.
 //!
-//! Model: the table's own view, since marked pairs are no part of a map. The map is `map_of` it, and
-//! answers as std's `HashMap` does; its marked pairs, which no look-up, walk or count sees, are
-//! `marks_of` its arrays. Only a removal marks, with the epoch of the generation that it is given; a
-//! mark may go in any call that changes the index, with its array.
+//! Model: the table's own view, since tombstones are no part of a map. The map is `map_of` it, and
+//! answers as std's `HashMap` does; its tombstones, which no look-up, walk or count sees, are
+//! `marks_of` its arrays. Only a removal leaves a tombstone, with the epoch of the generation that
+//! it is given; a tombstone may go in any call that changes the index, with its array.
 //!
 //! Ports scc's `src/hash_index.rs` to an owned index: a generation that the caller hands in stands
 //! where scc asks its collector.
@@ -96,7 +97,7 @@ impl<K: Eq, V, H: KeyHash<K>> HashIndex<K, V, H> {
         self.table.hasher()
     }
 
-    /// Returns how many pairs the index has, marked ones left out, at most 2^64 - 1.
+    /// Returns how many pairs the index has, tombstones left out, at most 2^64 - 1.
     ///
     /// O(slots / 32). scc: `HashIndex::len`.
     pub fn len(&self) -> usize
@@ -106,7 +107,7 @@ impl<K: Eq, V, H: KeyHash<K>> HashIndex<K, V, H> {
         self.table.len()
     }
 
-    /// Tests whether the index has no pair; a marked one isn't its pair any more.
+    /// Tests whether the index has no pair; a tombstone's pair isn't in it any more.
     ///
     /// O(slots / 32). scc: `HashIndex::is_empty`.
     pub fn is_empty(&self) -> bool
@@ -126,7 +127,7 @@ impl<K: Eq, V, H: KeyHash<K>> HashIndex<K, V, H> {
         self.table.num_slots()
     }
 
-    /// Calls a function with each pair once, in the order of the view, and with no marked one.
+    /// Calls a function with each pair once, in the order of the view, and with no tombstone's.
     ///
     /// O(slots), and the function's calls. scc: `HashIndex::iter_sync`.
     #[inline(always)]
@@ -165,14 +166,14 @@ impl<K: Eq, V, H: KeyHash<K>> HashIndex<K, V, H> {
 
 impl<K: Eq + Drop, V: Drop, H: KeyHash<K>> HashIndex<K, V, H> {
     /// Inserts a pair whose key the index hasn't. Where no own slot of its home is free and one is
-    /// marked, it first lets go each marked pair there whose mark the generation doesn't keep.
+    /// marked, it first lets go each tombstone there whose epoch the generation doesn't keep.
     ///
-    /// `HashTable::insert_pair` says which marks those are, and where growth and the incremental
-    /// rehash happen.
+    /// `HashTable::insert_pair` says which tombstones those are, and where growth and the
+    /// incremental rehash happen.
     ///
     /// # Errors
     ///
-    /// An equal key is there; or want of memory, and then none is: the pair comes back.
+    /// An equal key is there; or allocation failed, and then none is: the pair comes back.
     ///
     /// O(1) expected, beside a resize. scc: `HashIndex::insert_sync`.
     #[inline(always)]
@@ -193,8 +194,8 @@ impl<K: Eq + Drop, V: Drop, H: KeyHash<K>> HashIndex<K, V, H> {
         outcome
     }
 
-    /// Marks the pair whose key is equal with the generation's epoch, so that the index is without
-    /// it. Returns whether there was one.
+    /// Removes the pair whose key is equal, and leaves a tombstone with the generation's epoch: the
+    /// index is without it. Returns whether there was one.
     ///
     /// `HashTable::mark` says where shrinking and the incremental rehash happen.
     ///
@@ -211,8 +212,9 @@ impl<K: Eq + Drop, V: Drop, H: KeyHash<K>> HashIndex<K, V, H> {
         removed.is_some()
     }
 
-    /// Hands the pair whose key is equal to a function, marks it as `remove` does, and returns what
-    /// the function answers; `None` where the index hasn't the key, and then it isn't called.
+    /// Hands the pair whose key is equal to a function, leaves a tombstone as `remove` does, and
+    /// returns what the function answers; `None` where the index hasn't the key, and then it isn't
+    /// called.
     ///
     /// `HashTable::mark` says where shrinking and the incremental rehash happen.
     ///
@@ -270,9 +272,9 @@ impl<K: Eq + Drop, V: Drop, H: KeyHash<K>> HashIndex<K, V, H> {
         self.table.sound();
     }
 
-    /// Drops all pairs, the marked ones too, and all slots; the hasher and the capacities stay.
+    /// Drops all pairs, the tombstones too, and all slots; the hasher and the capacities stay.
     ///
-    /// Never refused. O(slots). scc: `HashIndex::clear_sync`, which marks the pairs.
+    /// Never refused. O(slots). scc: `HashIndex::clear_sync`, which leaves tombstones.
     pub fn clear(&mut self)
         ensures hasher { self.new.hasher ≡ self.old.hasher }
         ensures arrays { self.new.arrays

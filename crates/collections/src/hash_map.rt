@@ -166,7 +166,7 @@ impl<K: Eq + Drop, V: Drop, H: KeyHash<K>> HashMap<K, V, H> {
     ///
     /// # Errors
     ///
-    /// An equal key is there; or want of memory, and then none is: the pair comes back.
+    /// An equal key is there; or allocation failed, and then none is: the pair comes back.
     ///
     /// O(1) expected, beside a resize. scc: `HashMap::insert_sync`.
     #[inline(always)]

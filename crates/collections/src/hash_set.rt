@@ -194,7 +194,7 @@ impl<K: Eq + Drop, H: KeyHash<K>> HashSet<K, H> {
     ///
     /// # Errors
     ///
-    /// An equal key is there; or want of memory, and then none is: the key comes back.
+    /// An equal key is there; or allocation failed, and then none is: the key comes back.
     ///
     /// O(1) expected, beside a resize. scc: `HashSet::insert_sync`.
     pub fn insert(&mut self, key: K) -> Result<(), NotInserted<K, ()>>

@@ -62,7 +62,7 @@ pub(crate) fn touch_key<V, L: LruList, const TYPE: u8>(
     true
 }
 
-/// Inserts a pair, and puts it at the oldest end of the recency list, where it has an own slot.
+/// Inserts a pair, and puts it at the oldest end of the LRU list, where it has an own slot.
 pub(crate) fn insert_oldest<V: Drop, L: LruList, G: Generation, const TYPE: u8>(
     bucket: &mut Bucket<u64, V, L, TYPE>,
     hash: u64,

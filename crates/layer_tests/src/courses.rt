@@ -106,7 +106,7 @@ impl Course {
     }
 }
 
-// Takes the pair of a key out, or marks it in an index.
+// Takes the pair of a key out, or leaves a tombstone in an index.
 fn remove<L: LruList + Drop, const TYPE: u8>(
     table: &mut Table<L, TYPE>,
     key: u64,

@@ -11,7 +11,7 @@ use bucket_table::hash_table::{HashTable, KeyHash, LockedBucket, Missing};
 ///
 /// # Errors
 ///
-/// There is no next live pair, or want of memory: the pointer is null.
+/// There is no next live pair, or allocation failed: the pointer is null.
 pub fn next_after<'a, K: Eq + Drop, V: Drop, H: KeyHash<K>, L: LruList + Drop, const TYPE: u8>(
     table: &'a mut HashTable<K, V, H, L, TYPE>,
     key: &K,

@@ -3,7 +3,7 @@
 use crate::steps::Step::*;
 use crate::steps::{Kept, Step, Story, stories};
 
-// Epoch 0, and every mark is kept.
+// Epoch 0, and every tombstone is kept.
 const KEEP: Step = Now(0, Kept::All);
 
 // Epoch 0, and no mark is kept.

@@ -29,7 +29,7 @@ pub fn len_at<K, V, L: LruList, const TYPE: u8>(
 ///
 /// # Errors
 ///
-/// Want of memory: the pair comes back and the buckets are as they were.
+/// Allocation failed: the pair comes back and the buckets are as they were.
 ///
 /// O(blocks in the bucket's chain). Own.
 pub fn insert_at<K: Drop, V: Drop, L: LruList, G: Generation, const TYPE: u8>(

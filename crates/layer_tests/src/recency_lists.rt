@@ -1,4 +1,4 @@
-//! Recency lists on their own, as their owner keeps them.
+//! LRU lists on their own, as their owner keeps them.
 ghost use Rattle.std.specs.Prelude.{◌<◌, ℕ, List};
 
 use crate::checks::check_same;

@@ -1,4 +1,4 @@
-//! The stage of a story: a bucket of any kind, with any recency list, and what steps do there. A
+//! The stage of a story: a bucket of any kind, with any LRU list, and what steps do there. A
 //! step that finds another answer than its own tells its story, its row, the call, both answers.
 use crate::by_key::{
     insert_oldest, kill_empty, mark_key, move_key, remove_at, touch_key, write_key,
@@ -222,7 +222,7 @@ impl<L: LruList, const TYPE: u8> Stage<L, TYPE> {
         Some(self.bucket.evict_lru_head())
     }
 
-    // Takes the recency order, which has these slots and then bytes of 0.
+    // Takes the LRU order, which has these slots and then bytes of 0.
     fn take_order(&mut self, rt: &impl Abort, row: (&str, usize), slots: &[u8]) {
         let (order, len) = self.bucket.take_lru();
         check_same(rt, len, slots.len(), (row, "take order"));

@@ -126,7 +126,7 @@ pub(crate) enum Step {
 /// One epoch, and an answer for each mark.
 #[derive(Drop)]
 pub(crate) struct Answers {
-    /// The byte that marks a pair removed now.
+    /// The byte that a tombstone gets now.
     pub(crate) epoch: u8,
     /// Whether a mark is kept, for each.
     pub(crate) kept: [bool; 256],

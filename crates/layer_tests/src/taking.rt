@@ -12,7 +12,7 @@ use bucket_table::key_hash::KeyHash;
 ///
 /// # Errors
 ///
-/// Want of memory: the map is as it was.
+/// Allocation failed: the map is as it was.
 pub fn take<K: Eq + Drop, V: Drop, H: KeyHash<K>, L: LruList + Drop, const TYPE: u8>(
     table: &mut HashTable<K, V, H, L, TYPE>,
     key: &K,

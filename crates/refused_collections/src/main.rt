@@ -1,8 +1,8 @@
 //! Calls by chance on collections of numbers, beside an array that has what each must have, for
 //! runs in which requests for memory are refused by chance.
 //!
-//! An insertion may answer want of memory, and so may an upsert of a key that isn't there: the
-//! collection then has the pairs that it had. No other call may. The program judges each answer
+//! An insertion may answer an allocation failure, and so may an upsert of a key that isn't there:
+//! the collection then has the pairs that it had. No other call may. The program judges each answer
 //! itself, and writes a line for each collection: its status is 0 where every answer was right, and
 //! each cache let pairs go. How many of them a cache takes depends on its slots, and isn't written.
 #![tactic(auto)]

@@ -1,4 +1,4 @@
--- What the private calls of a recency list do to its pairs of bytes.
+-- What the private calls of an LRU list do to its pairs of bytes.
 use Rattle.std.specs.Prelude.{ℕ, ◌<◌, ◌≡◌, Bool, true, false, List, ◌∷◌}
 use Rattle.bucket_slots.specs.Recency.{is_listed, is_newest, order_without}
 use Rattle.bucket_slots.specs.RecencyLinks.{Links, links_of}

@@ -142,7 +142,7 @@ impl<T: Drop> Blocks<T> {
     ///
     /// # Errors
     ///
-    /// Want of memory: the blocks are as they were.
+    /// Allocation failed: the blocks are as they were.
     pub(super) fn push_front(&mut self, alloc: Global, row: T) -> Result<(), AllocError>
         ensures rows { OnOk result (self.new ≡ row ∷ self.old) }
         ensures unchanged { OnErr result (self.new ≡ self.old) }

@@ -56,7 +56,7 @@ impl<K, V, L: LruList, const TYPE: u8> Part<K, V, L, TYPE> {
     ///
     /// # Errors
     ///
-    /// Want of memory: the memory of all its buckets is asked for here.
+    /// Allocation failed: the memory of all its buckets is asked for here.
     pub(crate) fn alloc(alloc: Global, len: usize) -> Result<Self, AllocError>
         ensures { IfOk result (λ part. part ≡ replicate len empty_bucket) }
     {
@@ -130,7 +130,7 @@ impl<K: Drop, V: Drop, L: LruList + Drop, const TYPE: u8> Part<K, V, L, TYPE> {
     ///
     /// # Errors
     ///
-    /// Want of memory: nothing is kept.
+    /// Allocation failed: nothing is kept.
     pub(crate) fn alloc_all(
         alloc: Global,
         count: usize,

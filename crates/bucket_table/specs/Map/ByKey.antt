@@ -22,7 +22,7 @@ pub record StandsAt {K V : Type 0} (eq : K → K → Bool) (key : K) (arrays : A
   pub slot : live_pair (slot_in (bucket_on arrays side index) at) ≡ Some pair
   pub there : IsThere eq key (pairs_of arrays) pair
 
--- why a pair comes back that wasn't put: an equal key is there, or memory is wanted, and then none is
+-- why a pair comes back that wasn't put: an equal key is there, or allocation failed, and then none is
 abbrev pub HandsBack : {K V : Type 0} → (K → K → Bool) → K → V → List (K × V) → NotInserted K V → Type 0
 HandsBack {K} {V} eq key value pairs (Present k v) = (k ≡ key) × (v ≡ value) × ((pair : K × V) × IsThere eq key pairs pair)
 HandsBack eq key value pairs (Memory k v) = (k ≡ key) × (v ≡ value) × IsAbsent eq key pairs
@@ -38,7 +38,7 @@ module _ {K V H : Type 0} (eq : K → K → Bool) (key : K) where
   Swaps value old (Ok earlier) new = (found : K) × (eq found key ≡ true) × ChangesValue old (found, earlier) value new
   Swaps value old (Err back) new = (back ≡ value) × IsAbsent eq key old.pairs × KeepsPairs old new
 
-  -- a pair is put where its key is absent; else, and for want of memory, it comes back
+  -- a pair is put where its key is absent; else, and if allocation fails, it comes back
   abbrev pub Inserts : {A : Type 0} → V → MapState K V H → Result A (NotInserted K V) → MapState K V H → Type 0
   Inserts value old (Ok done) new = IsAbsent eq key old.pairs × AddsPair old (key, value) new
   Inserts value old (Err why) new = HandsBack eq key value old.pairs why × KeepsPairs old new
@@ -78,7 +78,7 @@ Evicts old (Err refused) new = KeepsPairs old new
 abbrev pub HasNoSlot : {K V : Type 0} → ℕ → (ℕ → Bool) → BucketView K V → Type 0
 HasNoSlot kind keeps bucket = first_place is_free (slots_for_insertion kind keeps bucket) ≡ None
 
--- an insertion into a bucket: no live slot has an equal key where a pair was put, or memory is wanted, and then no slot is free; one has
+-- an insertion into a bucket: no live slot has an equal key where a pair was put, or allocation failed, and then no slot is free; one has
 -- where the answer says so; what isn't put comes back
 abbrev pub AnswersInsertion : {K V A : Type 0} → (K → K → Bool) → K → V → ℕ → ℕ → (ℕ → Bool) → BucketView K V → Result A (NotInserted K V)
     → Type 0
@@ -125,7 +125,7 @@ abbrev pub WritesAt : {K V H : Type 0} → (K → K → Bool) → K → Bool →
 WritesAt {K} {V} eq key true old new = (value : V) × ChangesAt eq key (λ bucket at. bucket_with_value bucket at value) true old new
 WritesAt eq key false old new = new ≡ old
 
--- the pair is put into the bucket that was found, and none was put where none was found; else all stays, and memory is wanted only where
+-- the pair is put into the bucket that was found, and none was put where none was found; else all stays, and allocation fails only where
 -- none was found, or one without a free slot
 abbrev pub InsertsAt : {K V H A : Type 0} → ℕ → (ℕ → Bool) → K × V → ℕ → TableView K V H → Result A (NotInserted K V)
     → Result (Side × ℕ) (Unit {0}) → TableView K V H → Type 0

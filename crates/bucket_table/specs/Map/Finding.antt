@@ -28,7 +28,7 @@ unfoldable pub ReadiesThenGrows : {K V : Type 0} → ℕ → ℕ → ArraysView 
 ReadiesThenGrows {K} {V} kind hash old side index new = (between : ArraysView K V) × MakesReady old index between
     × ResizesIf (WriterAsksGrowth kind hash between index) between new × Grows side between new
 
--- no bucket is found for a hash: a unit was worked, and memory was wanted for a source of its home; without an old array there
+-- no bucket is found for a hash: a unit was worked, and allocation failed for a source of its home; without an old array there
 -- was no current one either, and all stays
 pub record FindsNone {K V : Type 0} (hash : ℕ) (old new : ArraysView K V) : Type 0 where
   pub kept : KeepsArrays old new

@@ -13,11 +13,11 @@ pub record IsReady {K V : Type 0} (arrays : ArraysView K V) (hash : ℕ) : Type 
   pub stands : 0 < length arrays.current
   pub killed : (index : ℕ) → IsHome (length arrays.current) hash index → AreSourcesKilled arrays index
 
--- memory was wanted for a source of a hash's home
+-- allocation failed for a source of a hash's home
 abbrev pub HomeWantsMemory : {K V : Type 0} → ℕ → ArraysView K V → ArraysView K V → Type 0
 HomeWantsMemory hash old new = (index : ℕ) × IsHome (length new.current) hash index × WantsMemory (IsSource new index) old new
 
--- a unit was worked, and the sources of a hash's home moved, unless memory was wanted for one: the map, the length of the
+-- a unit was worked, and the sources of a hash's home moved, unless allocation failed for one: the map, the length of the
 -- current array and the bag of tickets stay, and without an old array all stays
 pub record IsPrepared {K V H : Type 0} (kind hash : ℕ) (old after : TableView K V H) : Type 0 where
   pub map : KeepsPairs (state_of kind old) (state_of kind after)
@@ -26,7 +26,7 @@ pub record IsPrepared {K V H : Type 0} (kind hash : ℕ) (old after : TableView 
   pub alone : length old.arrays.linked ≡ 0 → after ≡ old
   pub home : 0 < length after.arrays.current → IsReady after.arrays hash ⊎ HomeWantsMemory hash old.arrays after.arrays
 
--- why there is no home: nothing is there where no current array stands, and memory is wanted only beside an old one
+-- why there is no home: nothing is there where no current array stands, and allocation fails only beside an old one
 abbrev pub IsMissing : {K V : Type 0} → Missing → ArraysView K V → Type 0
 IsMissing Nothing arrays = length arrays.current ≡ 0
 IsMissing Memory arrays = (0 < length arrays.linked) × (0 < length arrays.current)

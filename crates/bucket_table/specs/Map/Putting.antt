@@ -63,7 +63,7 @@ EvictsAt hash old (Ok gone) new = ((length old.arrays.current ≡ 0) × (gone �
     × (new ≡ with_bucket old Current index (slots_left (bucket_on old.arrays Current index) gone)))
 EvictsAt hash old (Err refused) new = (IsReady old.arrays hash → ⊥) × (new ≡ old)
 
--- the pair is put into the bucket that was found, after what goes for it; else all stays, and memory is wanted only where none was found
+-- the pair is put into the bucket that was found, after what goes for it; else all stays, and allocation fails only where none was found
 abbrev pub PutsAt : {K V H : Type 0} → Bool → K × V → ℕ → TableView K V H → Result (Option (K × V)) (NotInserted K V)
     → Result (Side × ℕ) (Unit {0}) → TableView K V H → Type 0
 PutsAt keeps pair byte old (Ok gone) (Ok found) new =

@@ -21,7 +21,7 @@ abbrev pub CarriesPairs : {K V : Type 0} → (K → K → Bool) → List (K × V
 CarriesPairs eq listed current new_current = (j : ℕ) → listed_pairs (bucket_at new_current j)
     ≡ listed_pairs (bucket_at current j) ++ filter (λ pair. has_own_key eq (bucket_at new_current j) pair.0) listed
 
--- old buckets have moved on, one after another, and carried their recency order: each of the others lists what it listed, no pair of the
+-- old buckets have moved on, one after another, and carried their LRU order: each of the others lists what it listed, no pair of the
 -- current array leaves its place, and each listed pair of those that moved stands there now, listed where it has an own slot
 pub record CarriesOrder {K V : Type 0} (old new : ArraysView K V) : Type 0 where
   pub moved : List ℕ

@@ -90,7 +90,7 @@ abbrev pub KeepsPlaces : {K V : Type 0} → List (BucketView K V) → List (Buck
 KeepsPlaces buckets after = (i : ℕ) (at : Place) → is_free (slot_in (bucket_at buckets i) at) ≡ false
     → slot_in (bucket_at after i) at ≡ slot_in (bucket_at buckets i) at
 
--- the live pairs of every bucket are the same, its marks, its own slots, its recency list and whether it is killed, and none leaves its
+-- the live pairs of every bucket are the same, its marks, its own slots, its LRU list and whether it is killed, and none leaves its
 -- place; only free slots may be more
 pub record KeepsEntries {K V : Type 0} (buckets after : List (BucketView K V)) : Type 0 where
   pub len : length after ≡ length buckets

@@ -30,7 +30,7 @@ pub record NeedsNoMemory {K V : Type 0} (start end : ℕ) (arrays : ArraysView K
   pub no_shorter : length arrays.linked ≤ length arrays.current
   pub few : (i : ℕ) → start ≤ i → i < end → length (pairs_in (bucket_at arrays.linked i)) ≤ 32
 
--- memory was wanted for one of some old buckets: it isn't killed, and those of them before it are. As of entry it needed memory: the
+-- allocation failed for one of some old buckets: it isn't killed, and those of them before it are. As of entry it needed memory: the
 -- current array was shorter, or the bucket had more than 32 live pairs
 pub record WantsMemory {K V : Type 0} (IsOne : ℕ → Type 0) (old new : ArraysView K V) : Type 0 where
   pub index : ℕ

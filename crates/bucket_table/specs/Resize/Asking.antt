@@ -21,12 +21,12 @@ pub record AsksShrinking {K V : Type 0} (arrays : ArraysView K V) (index : ℕ) 
   pub more : arrays.minimum < slots_of (live_counts arrays.current)
   pub near : IsDeserted (live_counts arrays.current) index
 
--- where a resize is asked for the arrays follow the plan, or stay for want of memory; else they stay
+-- where a resize is asked for the arrays follow the plan, or stay if allocation fails; else they stay
 abbrev pub ResizesIf : {K V : Type 0} → Type 0 → ArraysView K V → ArraysView K V → Type 0
 ResizesIf Asked old new = (Asked × Resizes old new) ⊎ ((Asked → ⊥) × (new ≡ old))
 
 -- a bucket of one side is another one now; where it has no live pair, and a shrinking is asked for near
--- it, the arrays follow the plan or stay for want of memory; else they stay
+-- it, the arrays follow the plan or stay if allocation fails; else they stay
 abbrev pub RemovesAndShrinks : {K V : Type 0} → ArraysView K V → Side → ℕ → BucketView K V → ArraysView K V → Type 0
 RemovesAndShrinks old side index bucket new =
     ResizesIf ((pairs_in bucket ≡ []) × AsksShrinking (arrays_with old side index bucket) index) (arrays_with old side index bucket) new

@@ -37,7 +37,7 @@ pub record IsPlanOf {K V : Type 0} (arrays : ArraysView K V) (plan : Plan) : Typ
   pub beside : 0 < length arrays.linked → plan ≡ Keep
   pub alone : 0 < length arrays.current → length arrays.linked ≡ 0 → IsPlan (live_counts arrays.current) arrays.minimum arrays.maximum plan
 
--- what a resize does, and its answer: the arrays follow the plan, and for want of memory nothing changes
+-- what a resize does, and its answer: the arrays follow the plan, and if allocation fails nothing changes
 abbrev pub TriesResize : {K V E : Type 0} → ArraysView K V → Result Bool E → ArraysView K V → Type 0
 TriesResize old (Ok false) new = IsPlanOf old Keep × (new ≡ old)
 TriesResize old (Ok true) new = (IsPlanOf old GiveUp × IsGivenUp old new)
@@ -48,7 +48,7 @@ TriesResize old (Err refused) new = (capacity : ℕ) × IsPlanOf old (Resize cap
 abbrev pub MakesArray : {K V : Type 0} → ArraysView K V → ArraysView K V → Type 0
 MakesArray old new = (0 < length old.current → new ≡ old) × (length old.current ≡ 0 → IsMade old new)
 
--- the arrays follow the plan, or stay for want of memory
+-- the arrays follow the plan, or stay if allocation fails
 abbrev pub Resizes : {K V : Type 0} → ArraysView K V → ArraysView K V → Type 0
 Resizes old new = (answer : Result Bool (Unit {0})) × TriesResize old answer new
 

@@ -39,7 +39,8 @@ pub record IsFirstFrom {K V : Type 0} (hash : K → ℕ) (arrays : ArraysView K 
       → HasNoneFrom hash bound (pairs_in (bucket_at arrays.linked k))
   pub passed : AllByRecursion (λ pair. bound ≤ hash pair.0 → hash pair.0 < bound_of (length arrays.current) index → ⊥) (pairs_of arrays)
 
--- a cursor that goes on from a hash finds no bucket: the pointer is null, and where that isn't for want of memory no live pair has a hash from there on
+-- a cursor that goes on from a hash finds no bucket: the pointer is null, and unless allocation failed no live pair has a hash from there
+-- on
 pub record FindsNone {K V : Type 0} (hash : K → ℕ) (bound : ℕ) (missing : Missing) (arrays : ArraysView K V) (at : Place) : Type 0 where
   pub null : at ≡ null_place
   pub none : missing ≡ Nothing → HasNoneFrom hash bound (pairs_of arrays)
@@ -68,20 +69,20 @@ LeavesTo hash bound (Err missing) arrays at = FindsNone hash bound missing array
 abbrev pub AreKilledFor : {K V : Type 0} → ArraysView K V → ℕ → ℕ → Type 0
 AreKilledFor arrays start end = (index : ℕ) → start ≤ index → index < end → AreSourcesKilled arrays index
 
--- how many buckets a cursor passes from `from` on: up to the one that it answers, or all, and fewer for want of memory
+-- how many buckets a cursor passes from `from` on: up to the one that it answers, or all, and fewer if allocation fails
 abbrev pub IsPassed : {A : Type 0} → (A → ℕ) → ℕ → ℕ → Result A Missing → ℕ → Type 0
 IsPassed index_of len from (Ok found) passed = from + passed ≡ index_of found + 1
 IsPassed index_of len from (Err Nothing) passed = passed ≡ len - from
 IsPassed index_of len from (Err Memory) passed = passed < len - from
 
--- the units that are worked: one before each bucket, and one more before the one for which memory is wanted
+-- the units that are worked: one before each bucket, and one more before the one for which allocation fails
 abbrev pub units_passed : {A : Type 0} → Result A Missing → ℕ → ℕ
 units_passed (Err Memory) passed = passed + 1
 units_passed result passed = passed
 
--- a cursor passes current buckets, from the one whose interval has a hash on, or none where the hash is past all: before each a unit is worked,
--- and its sources are killed then. The pairs and the length of the current array stay; without an old array all does, and it is refused only
--- where memory is wanted for a source of the next bucket
+-- a cursor passes current buckets, from the one whose interval has a hash on, or none where the hash is past all: before each a unit is
+-- worked, and its sources are killed then. The pairs and the length of the current array stay; without an old array all does, and it is
+-- refused only where allocation fails for a source of the next bucket
 pub record Passes {K V A : Type 0} (index_of : A → ℕ) (bound : ℕ) (old : ArraysView K V) (result : Result A Missing) (new : ArraysView K V) : Type 0 where
   pub from : ℕ
   pub passed : ℕ
@@ -93,8 +94,8 @@ pub record Passes {K V A : Type 0} (index_of : A → ℕ) (bound : ℕ) (old : A
   pub alone : length old.linked ≡ 0 → new ≡ old
   pub wanted : IsErrAnd result (λ missing. missing ≡ Memory) → WantsMemory (IsSource new (from + passed)) old new
 
--- a bucket is left: where it has no live pair, and a shrinking is asked for near it, the arrays follow the plan or stay for want of memory; else they stay.
--- Then the buckets past it are passed
+-- a bucket is left: where it has no live pair, and a shrinking is asked for near it, the arrays follow the plan or stay if allocation
+-- fails; else they stay. Then the buckets past it are passed
 pub record ShrinksThenPasses {K V A : Type 0} (index_of : A → ℕ) (side : Side) (index : ℕ) (old : ArraysView K V) (result : Result A Missing) (new : ArraysView K V) : Type 0 where
   pub between : ArraysView K V
   pub asked : ResizesIf ((pairs_in (bucket_on old side index) ≡ []) × AsksShrinking old index) old between

@@ -72,7 +72,7 @@ VisitsEach old index [] new = MovesOn old new
 VisitsEach {K} {V} old index (visit ∷ visits) new = (ready : ArraysView K V) × MovesOn old ready × (visit.lent ≡ bucket_on ready Current index)
     × VisitsEach (arrays_with ready Current index visit.left) (index + 1) visits new
 
--- a walk by a visitor: it comes to the array's end, is stopped, or is refused where memory is wanted for a source of the next bucket.
+-- a walk by a visitor: it comes to the array's end, is stopped, or is refused where allocation fails for a source of the next bucket.
 -- Before its end the current array keeps its length, also beside an old array that goes
 pub record WalksBy {S A E K V : Type 0} (step : S → BucketView K V → Bool → Bool → BucketView K V → Bool → S → Type 0) (hash : K → ℕ) (expected start : ℕ)
     (first : S) (old : ArraysView K V) (result : Result A E) (now : S) (new : ArraysView K V) : Type 0 where

@@ -27,7 +27,7 @@ impl<K: Eq + Drop, V: Drop, L: LruList + Drop, const TYPE: u8> Arrays<K, V, L, T
     ///
     /// # Errors
     ///
-    /// No live pair is there, or want of memory: the pointer is null.
+    /// No live pair is there, or allocation failed: the pointer is null.
     pub(crate) fn first_from<H: KeyHash<K>>(
         &mut self,
         hasher: &H,
@@ -66,7 +66,7 @@ impl<K: Eq + Drop, V: Drop, L: LruList + Drop, const TYPE: u8> Arrays<K, V, L, T
     ///
     /// # Errors
     ///
-    /// No live pair has a hash past the bucket's, or want of memory: the pointer is null.
+    /// No live pair has a hash past the bucket's, or allocation failed: the pointer is null.
     fn first_past<H: KeyHash<K>>(
         &mut self,
         hasher: &H,
@@ -101,7 +101,7 @@ impl<K: Eq + Drop, V: Drop, L: LruList + Drop, const TYPE: u8> Arrays<K, V, L, T
     ///
     /// # Errors
     ///
-    /// No live pair has a hash past the bucket's, or want of memory: the pointer is null.
+    /// No live pair has a hash past the bucket's, or allocation failed: the pointer is null.
     pub(crate) fn first_past_bucket<H: KeyHash<K>>(
         &mut self,
         hasher: &H,
@@ -127,7 +127,7 @@ impl<K: Eq + Drop, V: Drop, L: LruList + Drop, const TYPE: u8> Arrays<K, V, L, T
     ///
     /// # Errors
     ///
-    /// No live pair has a hash past the bucket's, or want of memory: the pointer is null.
+    /// No live pair has a hash past the bucket's, or allocation failed: the pointer is null.
     pub(crate) fn advance<H: KeyHash<K>>(
         &mut self,
         hasher: &H,
@@ -177,8 +177,8 @@ impl<K: Eq + Drop, V: Drop, L: LruList + Drop, const TYPE: u8> Arrays<K, V, L, T
         visitor.visit(self.bucket_of_mut(Side::Current, index), flag)
     }
 
-    /// Takes out of a current bucket each pair that `keep` refuses, or marks it in an index.
-    /// Returns how many.
+    /// Takes out of a current bucket each pair that `keep` refuses, or leaves a tombstone in an
+    /// index. Returns how many.
     pub(crate) fn retain_at<F: Fn(&K, &V) -> bool, G: Generation>(
         &mut self,
         index: usize,

@@ -15,7 +15,7 @@ impl<K: Eq + Drop, V: Drop, L: LruList + Drop, const TYPE: u8> Arrays<K, V, L, T
     ///
     /// # Errors
     ///
-    /// Want of memory: no ticket is open.
+    /// Allocation failed: no ticket is open.
     pub(crate) fn finish_rehash<H: KeyHash<K>>(&mut self, hasher: &H) -> Result<usize, AllocError>
         requires placed { ArePlaced (H.hash_of hasher.now) self.old }
         requires none_open { self.old.tickets.open_units ≡ [] }

@@ -35,11 +35,11 @@ pub(crate) struct Landing {
 /// that is killed already stays as it is.
 ///
 /// Room is made in all targets before a pair moves, where the old array is longer or the bucket
-/// has more pairs than an empty target takes. The recency order goes along.
+/// has more pairs than an empty target takes. The LRU order goes along.
 ///
 /// # Errors
 ///
-/// Want of memory: no pair has moved, no recency list has changed, and the bucket isn't killed.
+/// Allocation failed: no pair has moved, no LRU list has changed, and the bucket isn't killed.
 pub(crate) fn relocate<K: Eq + Drop, V: Drop, H: KeyHash<K>, L: LruList, const TYPE: u8>(
     alloc: Global,
     hasher: &H,
@@ -162,7 +162,7 @@ fn reserve_each<K: Drop, V: Drop, L: LruList, const TYPE: u8>(
 }
 
 /// Moves each pair of a bucket to its home in an array that has room for it, one of the buckets
-/// from `start` up to below `end`, and its recency order with it.
+/// from `start` up to below `end`, and its LRU order with it.
 ///
 /// The listed pairs that land in own slots are listed there behind their bucket's own, in the order
 /// in which they were listed. A pair that lands in a chain isn't listed.

@@ -17,7 +17,7 @@ impl<K: Eq + Drop, V: Drop, L: LruList + Drop, const TYPE: u8> Arrays<K, V, L, T
     ///
     /// # Errors
     ///
-    /// There is no current array; or want of memory: a source isn't killed.
+    /// There is no current array; or allocation failed: a source isn't killed.
     #[inline(always)]
     pub(crate) fn fetch_home<H: KeyHash<K>>(&mut self, hasher: &H, hash: u64) -> Result<(), Missing>
         requires placed { ArePlaced (H.hash_of hasher.now) self.old }
@@ -46,7 +46,7 @@ impl<K: Eq + Drop, V: Drop, L: LruList + Drop, const TYPE: u8> Arrays<K, V, L, T
     ///
     /// # Errors
     ///
-    /// Want of memory: a source isn't killed.
+    /// Allocation failed: a source isn't killed.
     #[inline(always)]
     pub(crate) fn prepare_at<H: KeyHash<K>>(
         &mut self,
@@ -73,7 +73,7 @@ impl<K: Eq + Drop, V: Drop, L: LruList + Drop, const TYPE: u8> Arrays<K, V, L, T
     ///
     /// # Errors
     ///
-    /// Want of memory: a source isn't killed.
+    /// Allocation failed: a source isn't killed.
     #[inline(never)]
     fn prepare_beside<H: KeyHash<K>>(&mut self, hasher: &H, index: usize) -> Result<(), AllocError>
         requires within { index < length self.old.current }

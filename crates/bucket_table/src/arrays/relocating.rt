@@ -15,11 +15,11 @@ use bucket_slots::lru::LruList;
 
 impl<K: Eq + Drop, V: Drop, L: LruList + Drop, const TYPE: u8> Arrays<K, V, L, TYPE> {
     /// Moves the pairs of an old bucket to their homes in the current array, and kills it. The
-    /// recency order goes along.
+    /// LRU order goes along.
     ///
     /// # Errors
     ///
-    /// Want of memory: no pair has moved, no recency list has changed, and the bucket isn't killed.
+    /// Allocation failed: no pair has moved, no LRU list has changed, and the bucket isn't killed.
     pub(crate) fn relocate<H: KeyHash<K>>(
         &mut self,
         hasher: &H,

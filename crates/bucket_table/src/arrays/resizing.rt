@@ -31,7 +31,7 @@ impl<K: Drop, V: Drop, L: LruList + Drop, const TYPE: u8> Arrays<K, V, L, TYPE> 
     ///
     /// # Errors
     ///
-    /// Want of memory: all is as it was.
+    /// Allocation failed: all is as it was.
     #[inline(never)]
     pub(crate) fn try_resize(&mut self) -> Result<bool, AllocError>
         ensures resized { TriesResize self.old result self.new }
@@ -55,7 +55,7 @@ impl<K: Drop, V: Drop, L: LruList + Drop, const TYPE: u8> Arrays<K, V, L, TYPE> 
     ///
     /// # Errors
     ///
-    /// Want of memory: there is still none.
+    /// Allocation failed: there is still none.
     #[inline(always)]
     pub(crate) fn make_array(&mut self) -> Result<(), AllocError>
         ensures made { OnOk result (MakesArray self.old self.new) }
@@ -71,7 +71,7 @@ impl<K: Drop, V: Drop, L: LruList + Drop, const TYPE: u8> Arrays<K, V, L, TYPE> 
     ///
     /// # Errors
     ///
-    /// Want of memory: there is still none.
+    /// Allocation failed: there is still none.
     #[inline(never)]
     fn make_first_array(&mut self) -> Result<(), AllocError>
         requires { length self.old.current ≡ 0 }
@@ -117,7 +117,7 @@ impl<K: Drop, V: Drop, L: LruList + Drop, const TYPE: u8> Arrays<K, V, L, TYPE> 
         released
     }
 
-    /// Sets the minimum, and then resizes; want of memory leaves the arrays.
+    /// Sets the minimum, and then resizes; an allocation failure leaves the arrays.
     fn settle(&mut self, minimum: usize)
         requires { minimum ≤ self.old.maximum }
         ensures settled { Resizes (with_minimum self.old minimum) self.new }

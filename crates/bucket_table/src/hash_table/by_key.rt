@@ -60,13 +60,13 @@ impl<K: Eq + Drop, V: Drop, H: KeyHash<K>, L: LruList + Drop, const TYPE: u8> Ha
         }
     }
 
-    /// Hands the pair of an index whose key is equal to `reader`, marks it, and returns the reader's
-    /// answer: the map is without it. `None` exactly where the map has none: the reader isn't called
-    /// then.
+    /// Hands the pair of an index whose key is equal to `reader`, leaves a tombstone, and returns
+    /// the reader's answer: the map is without it. `None` exactly where the map has none: the
+    /// reader isn't called then.
     ///
     /// Beside an old array it works one unit first, and moves the sources of the hash's home. May
-    /// take memory, and is never refused: without it a pair is marked in the old array. Where no
-    /// live pair is left in the bucket, the table may shrink.
+    /// take memory, and is never refused: without it the tombstone is left in the old array. Where
+    /// no live pair is left in the bucket, the table may shrink.
     ///
     /// O(slots of a unit, of the sources and of their targets; buckets where it shrinks). Own.
     pub fn mark<R, F: FnOnce(&K, &V) -> R, G: Generation>(
@@ -151,8 +151,8 @@ impl<K: Eq + Drop, V: Drop, H: KeyHash<K>, L: LruList + Drop, const TYPE: u8> Ha
     ///
     /// # Errors
     ///
-    /// An equal key is there; or want of memory, and then none is: the pair comes back. A free slot
-    /// in the bucket that is found rules want of memory out.
+    /// An equal key is there; or allocation failed, and then none is: the pair comes back. A free
+    /// slot in the bucket that is found rules an allocation failure out.
     ///
     /// O(slots of a unit, of the sources and of their targets; buckets that a resize makes). Own.
     #[inline(always)]
@@ -327,7 +327,8 @@ impl<K: Eq, V, H: KeyHash<K>, L: LruList, const TYPE: u8> HashTable<K, V, H, L, 
         })
     }
 
-    /// Gives a pair back for which no bucket was found: an equal key is there, or memory is wanted.
+    /// Gives a pair back for which no bucket was found: an equal key is there, or allocation
+    /// failed.
     pub(super) fn not_inserted(&self, hash: u64, key: K, value: V) -> NotInserted<K, V>
         requires own_hash { hash ≡ H.hash_of self.now.hasher key }
         ensures { HandsBack K.eq key value (pairs_of self.now.arrays) result }

@@ -13,7 +13,7 @@ impl<K: Eq + Drop, V: Drop, H: KeyHash<K>, L: LruList + Drop, const TYPE: u8> Ha
     L,
     TYPE,
 > {
-    /// Drops both arrays with their pairs, live and marked. The open tickets are gone with the old
+    /// Drops both arrays with their pairs and tombstones. The open tickets are gone with the old
     /// array; the hasher and the capacities stay.
     ///
     /// Takes no memory, and is never refused. O(pairs, and buckets). Own.

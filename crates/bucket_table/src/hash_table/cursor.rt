@@ -31,13 +31,13 @@ impl<K: Eq + Drop, V: Drop, H: KeyHash<K>, L: LruList + Drop, const TYPE: u8> Ha
     L,
     TYPE,
 > {
-    /// Takes out each pair that `keep` refuses, or marks it in an index. Returns how many,
-    /// saturating.
+    /// Takes out each pair that `keep` refuses, or leaves a tombstone in an index. Returns how
+    /// many, saturating.
     ///
     /// # Errors
     ///
-    /// Want of memory: the pairs with hashes below some bound are swept, and the others are as they
-    /// were.
+    /// Allocation failed: the pairs with hashes below some bound are swept, and the others are as
+    /// they were.
     ///
     /// O(pairs, and buckets of the arrays that it passes). Own.
     pub fn sweep<F: Fn(&K, &V) -> bool, G: Generation>(
@@ -127,7 +127,7 @@ impl<K: Eq + Drop, V: Drop, H: KeyHash<K>, L: LruList + Drop, const TYPE: u8> Ha
     ///
     /// # Errors
     ///
-    /// The map is empty, or want of memory beside an old array: the pointer is null.
+    /// The map is empty, or allocation failed beside an old array: the pointer is null.
     ///
     /// O(buckets passed, and pairs that move). Own.
     pub fn first_sync(
@@ -172,7 +172,7 @@ impl<'a, K: Eq + Drop, V: Drop, H: KeyHash<K>, L: LruList + Drop, const TYPE: u8
     ///
     /// # Errors
     ///
-    /// No live pair has a hash past the bucket's, or want of memory beside an old array: the
+    /// No live pair has a hash past the bucket's, or allocation failed beside an old array: the
     /// pointer is null, and no bucket is locked.
     ///
     /// O(buckets passed, and pairs that move). scc: `LockedBucket::next_sync`.

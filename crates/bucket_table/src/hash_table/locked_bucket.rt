@@ -172,7 +172,7 @@ impl<'a, K: Eq, V, H: KeyHash<K>, L: LruList, const TYPE: u8> LockedBucket<'a, K
         table.arrays.bucket_of_mut(side, index).evict_lru_head()
     }
 
-    /// Marks the pair in a live slot of an index as removed; the table isn't shrunk.
+    /// Makes the live slot of an index a tombstone; the table isn't shrunk.
     ///
     /// Takes no memory. O(blocks of the chain). scc: `Bucket::mark_removed`.
     pub fn mark_entry<G: Generation>(&mut self, at: &mut EntryPtr<K, V, TYPE>, generation: &G)
@@ -207,7 +207,7 @@ impl<'a, K: Eq + Drop, V: Drop, H: KeyHash<K>, L: LruList, const TYPE: u8> Locke
     ///
     /// # Errors
     ///
-    /// Want of memory: the pair comes back and the table is as it was. A free slot rules it out.
+    /// Allocation failed: the pair comes back and the table is as it was. A free slot rules it out.
     ///
     /// O(slots of the bucket). scc: `LockedBucket::insert`.
     #[inline(always)]

@@ -21,7 +21,7 @@ impl<K: Eq + Drop, V: Drop, H: KeyHash<K>, L: LruList + Drop, const TYPE: u8> Ha
     TYPE,
 > {
     /// Asks `keep` of each pair once, with its value lent for writing, and takes out each pair that
-    /// it refuses, or marks it in an index. Returns how many, saturating.
+    /// it refuses, or leaves a tombstone in an index. Returns how many, saturating.
     ///
     /// The pairs of the current array come first, and then those of the old one. No pair moves, and
     /// nothing is resized.

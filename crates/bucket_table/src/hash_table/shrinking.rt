@@ -71,7 +71,7 @@ impl<'a, K: Eq + Drop, V: Drop, H: KeyHash<K>, L: LruList + Drop, const TYPE: u8
         (pair, table)
     }
 
-    /// Marks the pair in a live slot of an index as removed, and where no live pair is left in the
+    /// Makes the live slot of an index a tombstone, and where no live pair is left in the
     /// bucket shrinks the table where few slots near it are live. Gives the table back.
     ///
     /// May take memory, and is never refused. O(buckets). scc: `LockedBucket::mark_removed`.

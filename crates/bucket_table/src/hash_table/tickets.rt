@@ -63,13 +63,13 @@ impl<K: Eq + Drop, V: Drop, H: KeyHash<K>, L: LruList + Drop, const TYPE: u8> Ha
     /// Moves the pairs of an old bucket to their homes in the current array, and kills it. A killed
     /// bucket stays as it is.
     ///
-    /// A cache's recency order goes along: the listed pairs that land in own slots are listed there
+    /// A cache's LRU order goes along: the listed pairs that land in own slots are listed there
     /// behind their bucket's own, in the order in which they were listed. A pair that lands in a
     /// chain isn't listed.
     ///
     /// # Errors
     ///
-    /// Want of memory: each bucket has the live pairs and the recency list that it had, and the old
+    /// Allocation failed: each bucket has the live pairs and the LRU list that it had, and the old
     /// one isn't killed. A current array that isn't shorter rules it out, where the bucket has at
     /// most 32 live pairs.
     ///

@@ -135,7 +135,7 @@ impl<K: Eq + Drop, V: Drop, H: KeyHash<K>, L: LruList + Drop, const TYPE: u8> Ha
     ///
     /// # Errors
     ///
-    /// Want of memory: a source isn't killed.
+    /// Allocation failed: a source isn't killed.
     #[inline(always)]
     fn prepare_at(&mut self, index: usize) -> Result<(), AllocError>
         requires within { index < length self.old.arrays.current }

@@ -36,7 +36,7 @@ impl<K: Eq + Drop, V: Drop, H: KeyHash<K>, L: LruList + Drop, const TYPE: u8> Ha
     ///
     /// # Errors
     ///
-    /// There is no array, and so no pair; or want of memory beside an old array: a source of the
+    /// There is no array, and so no pair; or allocation failed beside an old array: a source of the
     /// home isn't killed.
     ///
     /// O(slots of a unit, of the sources and of their targets). scc:
@@ -172,7 +172,7 @@ impl<K: Eq + Drop, V: Drop, H: KeyHash<K>, L: LruList + Drop, const TYPE: u8> Ha
     ///
     /// # Errors
     ///
-    /// There is no array, and so no pair; or want of memory beside an old array: a source of the
+    /// There is no array, and so no pair; or allocation failed beside an old array: a source of the
     /// home isn't killed.
     ///
     /// O(slots of a unit, of the sources and of their targets). scc:

@@ -37,7 +37,8 @@ impl<K, V, L: LruList, const TYPE: u8> Read<Bucket<K, V, L, TYPE>> for Tally {
     }
 }
 
-/// Takes all pairs out of the buckets that it is lent, or marks them in an index, and counts them.
+/// Takes all pairs out of the buckets that it is lent, or leaves tombstones in an index, and counts
+/// them.
 #[derive(Drop)]
 struct Emptier<'a, G> {
     generation: &'a G,
@@ -94,7 +95,7 @@ fn empties_keep<K, V, G: Generation, const TYPE: u8>()
         after.count) }
 {}
 
-/// Takes all pairs out, or marks them in an index.
+/// Takes all pairs out, or leaves tombstones in an index.
 pub(super) fn clear<
     K: Eq + Copy,
     V: Copy,

@@ -1,5 +1,5 @@
-//! Copies of maps and sets: one is made where there is memory, which no clause promises; a change of
-//! one leaves the other; and want of memory is answered.
+//! Copies of maps and sets: one is made where there is memory, which no clause promises; a change
+//! of one leaves the other; and an allocation failure is answered.
 use super::check_same;
 use super::maps::Map;
 use super::sets::Set;

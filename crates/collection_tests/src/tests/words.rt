@@ -127,7 +127,7 @@ fn shown<E: Error>(alloc: Global, error: &E) -> Result<String, AllocError> {
     format!(in alloc; "{error}")
 }
 
-// Inserts a word; every refusal is one for want of memory.
+// Inserts a word; every refusal is an allocation failure.
 fn insert_once(words: &mut HashMap<&'static str, u64>) -> Result<(), AllocError> {
     words.insert("Ann", 1)?;
     Ok(())

@@ -66,7 +66,7 @@ impl<K: Drop, V: Drop> Chain<K, V> {
         }
     }
 
-    /// Returns blocks of free slots: `count`, or fewer for want of memory.
+    /// Returns blocks of free slots: `count`, or fewer if allocation fails.
     fn free_blocks(alloc: Global, count: usize) -> Self
         ensures most { length result ≤ count }
         ensures free { result ≡ replicate (length result) free_block }
@@ -116,7 +116,7 @@ impl<K: Drop, V: Drop> Chain<K, V> {
         (pair, EntryPtr::at(block, BUCKET_LEN - 1))
     }
 
-    /// Drops the pair of each marked slot whose mark the test doesn't keep. No block goes.
+    /// Drops each tombstone whose epoch the test doesn't keep. No block goes.
     pub(crate) fn drop_expired<G: Generation>(&mut self, generation: &G)
         ensures { self.new ≡ map (map (slot_without_expired (G.keeps generation.now))) self.old }
     {

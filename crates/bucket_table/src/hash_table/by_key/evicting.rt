@@ -60,7 +60,7 @@ impl<K: Eq + Drop, V: Drop, H: KeyHash<K>, L: LruList + Drop, const TYPE: u8> Ha
     ///
     /// # Errors
     ///
-    /// An equal key is there; or want of memory, and then none is: the pair comes back, and none
+    /// An equal key is there; or allocation failed, and then none is: the pair comes back, and none
     /// goes.
     ///
     /// O(slots of a unit, of the sources and of their targets; buckets that a resize makes). scc:

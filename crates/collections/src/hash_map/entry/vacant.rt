@@ -38,7 +38,7 @@ impl<'a, K: Eq + Drop, V: Drop, H: KeyHash<K>> VacantEntry<'a, K, V, H> {
     ///
     /// # Errors
     ///
-    /// Want of memory: the pair comes back, and the map has the pairs that it had.
+    /// Allocation failed: the pair comes back, and the map has the pairs that it had.
     ///
     /// O(1) expected, beside a resize. std: `VacantEntry::insert`.
     pub fn insert(self, value: V) -> Result<&'a mut V, AllocFailed<(K, V)>>
