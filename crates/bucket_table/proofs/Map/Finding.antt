@@ -73,6 +73,5 @@ module _ {K V H : Type 0} (kind hash : ℕ) (hasher : H) (a new : ArraysView K V
   finds (Err e) kept locked home ready none = record {
     prepared = prepared none.kept none.units (λ gone. (none.alone gone).1) (λ stands. inr (none.home stands));
     alone = λ gone. (none.alone gone).0;
-    no_array = λ gone. none.kept.current_len ∙ gone;
     home = none.home;
   }

@@ -3,10 +3,9 @@ use Rattle.std.specs.Prelude.{ℕ, ◌<◌, length, ◌≡◌}
 use Rattle.bucket_table.specs.Views.ArraysView.{TableView}
 use Rattle.bucket_table.specs.Map.Preparing.{HomeWantsMemory, IsPrepared}
 
--- no bucket was found for a writer of a hash: the table is prepared; without an old array there was no current one, and where
--- there was none there is none; else allocation failed for a source of the hash's home
+-- no bucket was found for a writer of a hash: the table is prepared; without an old array there was no current one; else allocation
+-- failed for a source of the hash's home
 pub record IsRefused {K V H : Type 0} (kind hash : ℕ) (old after : TableView K V H) : Type 0 where
   pub prepared : IsPrepared kind hash old after
   pub alone : length old.arrays.linked ≡ 0 → length old.arrays.current ≡ 0
-  pub no_array : length old.arrays.current ≡ 0 → length after.arrays.current ≡ 0
   pub home : 0 < length after.arrays.current → HomeWantsMemory hash old.arrays after.arrays
