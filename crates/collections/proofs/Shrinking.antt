@@ -7,15 +7,16 @@ use Rattle.bucket_table.specs.Resize.Resizing.{IsGivenUp, IsPushed, TriesResize}
 use Rattle.bucket_table.specs.Views.ArraysView.{ArraysView}
 use Rattle.bucket_table.specs.Views.Sides.{arrays_with}
 use Rattle.bucket_table.specs.declared.arrays.side.Side.{Side}
+use Rattle.bucket_table.proofs.Resize.GivingUp.{gives_up_at_zero}
 
 module _ {K V : Type 0} where
-  -- the arrays stay, or are given up, or are pushed
+  -- the arrays stay, or are given up where the minimum is 0, or are pushed
   abbrev pub Ends : ArraysView K V → ArraysView K V → Type 0
-  Ends old new = (new ≡ old) ⊎ (IsGivenUp old new ⊎ ((capacity : ℕ) × IsPushed capacity old new))
+  Ends old new = (new ≡ old) ⊎ (((old.minimum ≡ 0) × IsGivenUp old new) ⊎ ((capacity : ℕ) × IsPushed capacity old new))
 
   tried : {E : Type 0} (old new : ArraysView K V) (answer : Result Bool E) → TriesResize old answer new → Ends old new
   tried old new (Ok false) tries = inl tries.1
-  tried old new (Ok true) (inl gone) = inr (inl gone.1)
+  tried old new (Ok true) (inl gone) = inr (inl (gives_up_at_zero old gone.0, gone.1))
   tried old new (Ok true) (inr moved) = inr (inr (moved.0, moved.2))
   tried old new (Err refused) tries = inl tries.2
 
@@ -26,5 +27,6 @@ module _ {K V : Type 0} where
   removed_ends arrays side index bucket new (inr stays) = inl stays.1
 
   -- an array that is given up leaves none
-  pub none_left : (old new : ArraysView K V) → IsGivenUp old new → new.current ++ new.linked ≡ []
-  none_left old new gone = rw gone.new_is (nil_from_length old.linked gone.alone)
+  pub none_left : (old new : ArraysView K V) → (old.minimum ≡ 0) × IsGivenUp old new
+      → (new.minimum ≡ 0) × (new.current ++ new.linked ≡ [])
+  none_left old new (least, gone) = rw gone.new_is (least, nil_from_length old.linked gone.alone)

@@ -20,9 +20,10 @@ pub record AddsMark {K V : Type 0} (eq : K → K → Bool) (key : K) (epoch : �
   pub marks : IsPermutation ((pair, epoch) ∷ earlier) (marks_of new)
 
 module _ {K V : Type 0} where
-  -- a pair that is removed is marked, or no array is left; where none is removed, the marks are earlier ones
+  -- a pair that is removed is marked, or no array is left, where the minimum is 0; where none is removed, the marks are earlier ones
   abbrev pub MarksRemoved : (K → K → Bool) → K → ℕ → Bool → ArraysView K V → ArraysView K V → Type 0
-  MarksRemoved eq key epoch true old new = AddsMark eq key epoch old new ⊎ (new.current ++ new.linked ≡ [])
+  MarksRemoved eq key epoch true old new =
+      AddsMark eq key epoch old new ⊎ ((new.minimum ≡ 0) × (new.current ++ new.linked ≡ []))
   MarksRemoved eq key epoch false old new = AreEarlierMarks old (marks_of new)
 
   -- where no old array stands, no mark goes whose epoch the generation keeps

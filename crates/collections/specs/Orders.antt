@@ -49,9 +49,9 @@ PutsOrKeeps eq pair hash old (Err why) new =
     length old.arrays.linked ≡ 0 → 0 < length old.arrays.current → (new ≡ old.arrays) ⊎ (new.linked ≡ old.arrays.current)
 
 -- where no old array stands, the pair under the key leaves its place, if it is there, and nothing else of its array changes, or no
--- array is left
+-- array is left, where the minimum is 0
 abbrev pub LeavesPlace : {K V : Type 0} → (K → K → Bool) → K → Bool → ArraysView K V → ArraysView K V → Type 0
-LeavesPlace eq key true old new = length old.linked ≡ 0 → (new.current ++ new.linked ≡ [])
+LeavesPlace eq key true old new = length old.linked ≡ 0 → ((new.minimum ≡ 0) × (new.current ++ new.linked ≡ []))
     ⊎ ((index : ℕ) × (at : Place) × StandsAt eq key old Current index at
     × ReplacesBucket index (slots_without (bucket_at old.current index) at) old new)
 LeavesPlace eq key false old new = length old.linked ≡ 0 → new ≡ old

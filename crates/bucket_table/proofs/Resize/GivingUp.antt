@@ -26,18 +26,29 @@ never_given_up slots capacity P plan = ⊎_elim (λ (less : capacity < slots).
     (λ (ne : capacity ≡ slots → ⊥). let f = ap plan_code (plan.greater (omega arith)) in absurd (omega arith)) (cases_eq capacity slots))
     (cases_lt capacity slots)
 
+-- no plan gives an array up unless the last estimate and the minimum are 0
+not_given_up : (counts : List ℕ) (minimum maximum : ℕ) (plan : IsPlan counts minimum maximum GiveUp)
+    → (last_estimate counts plan.large ≡ 0 → minimum ≡ 0 → ⊥) → ⊥
+not_given_up counts minimum maximum plan standing =
+    let last : ℕ = last_estimate counts plan.large in
+    ⊎_elim (λ (full : ((slots_of counts) / 16) * 13 < last). let (c, is, to) = plan.unsettled standing
+    (inl full) in never_given_up _ c _ to) (λ (not_full : last ≤ ((slots_of counts) / 16) * 13). ⊎_elim
+    (λ (empty : last < (slots_of counts) / 8). let (c, is, to) = plan.unsettled standing (inr empty)
+    in never_given_up _ c _ to) (λ (not_empty : (slots_of counts) / 8 ≤ last).
+    not_kept (plan.settled standing (λ full. omega arith) (λ empty. omega arith))) (cases_lt last ((slots_of counts) / 8)))
+    (cases_lt (((slots_of counts) / 16) * 13) last)
+
 -- an array is given up only where no slot is live
 pub emptied : (counts : List ℕ) (minimum maximum : ℕ) → IsPlan counts minimum maximum GiveUp → All (λ count. count ≡ 0) counts
 emptied counts minimum maximum plan = ⊎_elim (λ (all : All (λ (count : ℕ). count ≡ 0) counts). all)
-    (λ (some : All (λ (count : ℕ). count ≡ 0) counts → ⊥).
-    let last : ℕ = last_estimate counts plan.large in
-    let standing : last ≡ 0 → minimum ≡ 0 → ⊥ = λ none least. not_kept (plan.not_emptied none least some) in
-    ⊎_elim (λ (full : ((slots_of counts) / 16) * 13 < last). let (c, is, to) = plan.unsettled standing
-    (inl full) in absurd (never_given_up _ c _ to)) (λ (not_full : last ≤ ((slots_of counts) / 16) * 13). ⊎_elim
-    (λ (empty : last < (slots_of counts) / 8). let (c, is, to) = plan.unsettled standing (inr empty)
-    in absurd (never_given_up _ c _ to)) (λ (not_empty : (slots_of counts) / 8 ≤ last). absurd
-    (not_kept (plan.settled standing (λ full. omega arith) (λ empty. omega arith)))) (cases_lt last ((slots_of counts) / 8)))
-    (cases_lt (((slots_of counts) / 16) * 13) last)) (all_or_not counts)
+    (λ (some : All (λ (count : ℕ). count ≡ 0) counts → ⊥). absurd (not_given_up counts minimum maximum plan
+    (λ none least. not_kept (plan.not_emptied none least some)))) (all_or_not counts)
+
+-- and only where the minimum is 0
+least_emptied : (counts : List ℕ) (minimum maximum : ℕ) → IsPlan counts minimum maximum GiveUp → minimum ≡ 0
+least_emptied counts minimum maximum plan = ⊎_elim (λ (none : minimum ≡ 0). none)
+    (λ (some : minimum ≡ 0 → ⊥). absurd (not_given_up counts minimum maximum plan (λ none least. some least)))
+    (cases_eq minimum 0)
 
 module _ {K V : Type 0} (arrays : ArraysView K V) (plan : Plan) (is : IsPlanOf arrays plan) (asks : 0 < plan_code plan) where
   not_keep : plan ≡ Keep → ⊥
@@ -61,3 +72,7 @@ module _ {K V : Type 0} where
     alone = plan_alone old GiveUp is (omega arith);
     new_is = new_is;
   }
+
+  pub gives_up_at_zero : (old : ArraysView K V) → IsPlanOf old GiveUp → old.minimum ≡ 0
+  gives_up_at_zero old is =
+      least_emptied _ _ _ (is.alone (plan_stands old GiveUp is (omega arith)) (plan_alone old GiveUp is (omega arith)))
