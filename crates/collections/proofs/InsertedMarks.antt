@@ -1,11 +1,8 @@
 -- The marks of an index bucket after an insertion: those that it lets go are out, and the others stand as they stood.
-use Rattle.std.proofs.Common.{ℕ, ◌≡◌, ◌<◌, ◌≤◌, ◌-◌, ◌++◌, Bool, true, false, if◌then◌else◌, List, [], ◌∷◌, filter, flat_map, get_or}
-use Rattle.std.proofs.Common.{length, map, reverse, set, suc, zero, inl, inr, refl, sym, ap, ◌∙◌, arith}
-use Rattle.std.specs.List.{suffix_len}
+use Rattle.std.proofs.Common.{ℕ, ◌≡◌, ◌++◌, Bool, true, false, if◌then◌else◌, List, [], ◌∷◌, filter, flat_map, get_or}
+use Rattle.std.proofs.Common.{map, set, suc, zero, inl, inr, refl, sym, ap, ◌∙◌}
 use Rattle.std.proofs.lemmas.Bool.{cases_Bool}
-use Rattle.std.proofs.lemmas.List.{get_or-reverse}
 use Rattle.std.proofs.lemmas.List.Elements.{filter-append, filter_map-append}
-use Rattle.std.proofs.lemmas.List.Sums.{prefix_len_passes}
 use Rattle.bucket_slots.specs.BucketView.{BucketView, block_at, flattened, marks_in, with_slot_at}
 use Rattle.bucket_slots.specs.Clearing.{looks_at_marks, rows_without_free_end, slot_without_expired, slots_after_insertion}
 use Rattle.bucket_slots.specs.Clearing.{slots_without_expired, slots_without_free_end}
@@ -13,6 +10,7 @@ use Rattle.bucket_slots.specs.Placing.{free_block, place_for_next, slots_with, w
 use Rattle.bucket_slots.specs.Slots.{Slot, all_free, free, live, marked, marked_entries, marked_entry, slot_at}
 use Rattle.bucket_slots.proofs.BucketPlacing.{place_made, same_made}
 use Rattle.bucket_slots.proofs.Entries.{filter_map-chain, filter_map-flattened, filter_map-is, flat_map-take}
+use Rattle.bucket_slots.proofs.FreeEnds.{suffix_passes}
 use Rattle.bucket_slots.proofs.NoNewMarks.{mark_of}
 
 -- another element that gives the same
@@ -28,14 +26,6 @@ filter-again test (a ∷ items) = elim (cases_Bool (test a)) [
   | inl passes ↦ rw (passes, passes, filter-again test items) refl
   | inr fails ↦ rw fails (filter-again test items)
 ]
-
--- what stands within the longest end that passes passes
-suffix_passes : {A : Type 0} (test : A → Bool) (xs : List A) (i : ℕ) (d : A) → length xs - suffix_len test xs ≤ i → i < length xs
-    → test (get_or xs i d) ≡ true
-suffix_passes test xs i d from below =
-    let back : length xs - 1 - (length xs - 1 - i) ≡ i = omega arith in
-    sym (ap test (get_or-reverse xs (length xs - 1 - i) d (omega arith) ∙ ap (λ k. get_or xs k d) back))
-    ∙ prefix_len_passes test (reverse xs) (length xs - 1 - i) d (omega arith)
 
 module _ {K V : Type 0} where
   -- another slot that has the same mark, or none
