@@ -17,4 +17,5 @@ pub mod Finding
 pub mod HomeInserting
 pub mod Preparing
 pub mod SlotSteps
+pub mod TakingOn
 pub mod CountSteps

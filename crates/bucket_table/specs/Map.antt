@@ -9,5 +9,6 @@ pub mod Finding
 pub mod Preparing
 pub mod Refusing
 pub mod Refusals
+pub mod Taking
 pub mod Free
 pub mod StdHashes

@@ -1,7 +1,7 @@
 -- What finding a bucket for a writer, and preparing a home, leave of a table.
 use Rattle.bucket_table.proofs.Words.{ArraysView, Err, IfOk, IsHome, IsLocked, Keeps, KeepsArrays, Ok, OnErr, OnOk, Result}
 use Rattle.bucket_table.proofs.Words.{Side, TableView, WorksUnits, ap, arith, buckets_on, cases_lt, inl, inr, length, refl, subst}
-use Rattle.bucket_table.proofs.Words.{sym, ℕ, ◌<◌, ◌∙◌, ◌≡◌, ◌⊎◌}
+use Rattle.bucket_table.proofs.Words.{sym, ℕ, ◌<◌, ◌≡◌, ◌⊎◌}
 use Rattle.std.proofs.Common.{IfErr}
 use Rattle.bucket_table.specs.Map.Finding.{Finds, FindsNone, ReadiesThenGrows}
 use Rattle.bucket_table.specs.Map.Preparing.{HomeWantsMemory, IsMissing, IsPrepared, IsReady}

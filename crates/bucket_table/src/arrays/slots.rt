@@ -7,6 +7,7 @@ ghost use Rattle.bucket_slots.specs.Marking.{slots_marked};
 ghost use Rattle.bucket_slots.specs.Removing.{place_after, slots_without};
 ghost use Rattle.bucket_slots.specs.Slots.{is_live, live_pair};
 ghost use Rattle.bucket_slots.specs.Walking.{pairs_ahead};
+ghost use Rattle.bucket_table.specs.Map.Taking.{TakesOn};
 ghost use Rattle.bucket_table.specs.Views.ArraysView.{ArePlaced};
 ghost use Rattle.bucket_table.specs.Resize.Asking.{RemovesAndShrinks};
 ghost use Rattle.bucket_table.specs.Views.Sides.{arrays_with, bucket_on, buckets_on};
@@ -168,5 +169,30 @@ impl<K: Drop, V: Drop, L: LruList + Drop, const TYPE: u8> Arrays<K, V, L, TYPE> 
         let (pair, left) = self.take_slot(side, index, at);
         self.shrink_left(side, index, left);
         pair
+    }
+}
+
+impl<K: Eq + Drop, V: Drop, L: LruList + Drop, const TYPE: u8> Arrays<K, V, L, TYPE> {
+    /// Takes the pair with an equal key out of the home of a hash on one side, and where no live
+    /// pair is left in the bucket shrinks the arrays where few slots near it are live.
+    #[inline(always)]
+    pub(crate) fn take_on(&mut self, side: Side, key: &K, hash: u64) -> Option<(K, V)>
+        requires not_index { TYPE ≢ INDEX }
+        ensures { TakesOn K.eq key.now hash side self.old result self.new }
+    {
+        if self.len_on(side) == 0 {
+            return None;
+        }
+        self.room_of(side);
+        let index = self.array_of(side).bucket_index(hash);
+        let bucket = self.bucket_of_mut(side, index);
+        let mut at = bucket.get_entry_ptr(key, hash);
+        if !at.is_valid() {
+            return None;
+        }
+        let pair = bucket.remove(&mut at);
+        let left = bucket.len();
+        self.shrink_left(side, index, left);
+        Some(pair)
     }
 }

@@ -54,10 +54,12 @@ impl<K: Eq + Drop, V: Drop, H: KeyHash<K>, L: LruList + Drop, const TYPE: u8> Ha
         ensures arrays { PreparesThen TYPE (H.hash_of self.old.hasher key.now) self.old (λ between.
             ShrinksAt K.eq key.now slots_without (is_some result) between self.new) }
     {
-        match self.fetch_spot(key) {
-            Some(mut spot) => Some(self.arrays.take_at(spot.side, spot.index, &mut spot.at)),
-            None => None,
+        let hash = self.hash(key);
+        let _ready = self.fetch_home(hash);
+        if let Some(pair) = self.arrays.take_on(Side::Old, key, hash) {
+            return Some(pair);
         }
+        self.arrays.take_on(Side::Current, key, hash)
     }
 
     /// Hands the pair of an index whose key is equal to `reader`, leaves a tombstone, and returns

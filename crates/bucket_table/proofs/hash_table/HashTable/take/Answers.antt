@@ -1,43 +1,39 @@
-use Rattle.bucket_table.proofs.Words.{refl}
-use Rattle.bucket_table.proofs.Map.SlotSteps.{takes}
-use Rattle.bucket_table.proofs.Map.TakeSteps.{same_taken, then_taken}
+use Rattle.bucket_table.proofs.Words.{ap, subst, sym, ◌∙◌}
+use Rattle.bucket_table.specs.Map.Taking.{TakesOn}
+use Rattle.bucket_table.specs.declared.arrays.side.Side.TheVariants.{Current, Old}
+use Rattle.bucket_table.proofs.Map.TakingOn.{taken_from, taken_last}
 use Rattle.bucket_table.proofs.hash_table.HashTable.take.Goals as goal
 
 pub invariant_of-self : goal.invariant_of-self
 invariant_of-self g c =
-    let o = c.in-Some.spot in
-    let stands = rw (← c.self.view_is) at c.in-Some.ensures.found in
-    let e = c.take_at.ensures in
-    (takes g.met.K.Eq.laws g.H.KeyHash.hash_of g.row.TYPE o.side o.index c.self.invariant stands.within o.at c.take_at.result e.pair _
-    e.kept
-    e.placed).one_map
+    let prepared = rw (← c.self.view_is) at c.fetch_home-ready.ensures.prepared in
+    (taken_from g.met.K.Eq.laws g.H.KeyHash.hash_of g.row.TYPE c.args.key.now c.hash-hash.result c.self.inside.hasher c.args.self.now
+    c.self.inside.arrays c.self.invariant prepared Old c.in-Some.pair c.take_on.new.self c.in-Some.ensures).one_map
 
-pub returns-in-Some-clause-map : goal.returns-in-Some-clause-map
-returns-in-Some-clause-map g c =
-    let o = c.in-Some.spot in
-    let stands = rw (← c.self.view_is) at c.in-Some.ensures.found in
-    let keeps = rw (← c.self.view_is) at c.fetch_spot.ensures.prepared.map in
-    let e = c.take_at.ensures in (
-      same_taken g.K.PartialEq.eq c.args.key.now _ _ stands.pair c.take_at.result stands.slot stands.there e.pair,
-      then_taken _ _ _ c.take_at.result keeps (takes g.met.K.Eq.laws g.H.KeyHash.hash_of g.row.TYPE o.side o.index c.self.invariant
-          stands.within o.at c.take_at.result e.pair _ e.kept e.placed).map,
-    )
+pub returns-in-Some : goal.returns-in-Some
+returns-in-Some g c =
+    let prepared = rw (← c.self.view_is) at c.fetch_home-ready.ensures.prepared in
+    let taken = taken_from g.met.K.Eq.laws g.H.KeyHash.hash_of g.row.TYPE c.args.key.now c.hash-hash.result c.self.inside.hasher
+    c.args.self.now c.self.inside.arrays c.self.invariant prepared Old c.in-Some.pair c.take_on.new.self c.in-Some.ensures in
+    record { map = taken.map; arrays = rw (← c.hash-hash.ensures) taken.arrays }
 
-pub returns-in-Some-clause-arrays : goal.returns-in-Some-clause-arrays
-returns-in-Some-clause-arrays g c = record {
-  between = c.fetch_spot.new.self;
-  prepared = c.fetch_spot.ensures.prepared;
-  done = (
-    c.in-Some.spot.side,
-    c.in-Some.spot.index,
-    c.in-Some.spot.at,
-    c.in-Some.ensures.found,
-    rw (← c.self.view_is) c.take_at.ensures.asked,
-  );
-}
+pub invariant_of-self-2 : goal.invariant_of-self-2
+invariant_of-self-2 g c =
+    let prepared = rw (← c.self.view_is) at c.fetch_home-ready.ensures.prepared in
+    let own = c.hash-hash.ensures ∙ ap (λ h. g.H.KeyHash.hash_of h c.args.key.now) (sym (ap (λ m. m.hasher) prepared.map.others)) in
+    let last = subst (λ a. TakesOn g.K.PartialEq.eq c.args.key.now c.hash-hash.result Current a c.take_on-2.result c.take_on-2.new.self)
+    c.in_default.ensures.0 c.take_on-2.ensures in
+    (taken_last g.met.K.Eq.laws g.H.KeyHash.hash_of g.row.TYPE c.args.key.now c.hash-hash.result c.self.inside.hasher c.args.self.now
+    c.self.inside.arrays c.self.invariant prepared c.take_on-2.result c.take_on-2.new.self
+    (λ k equal. g.met.H.KeyHash.alike c.self.inside.hasher k c.args.key.now equal ∙ sym own) c.in_default.ensures.1 last).one_map
 
-pub returns-in-None-clause-map : goal.returns-in-None-clause-map
-returns-in-None-clause-map g c = (c.in-None.ensures.absent, c.fetch_spot.ensures.prepared.map)
-
-pub returns-in-None-clause-arrays : goal.returns-in-None-clause-arrays
-returns-in-None-clause-arrays g c = record { between = c.fetch_spot.new.self; prepared = c.fetch_spot.ensures.prepared; done = refl }
+pub returns : goal.returns
+returns g c =
+    let prepared = rw (← c.self.view_is) at c.fetch_home-ready.ensures.prepared in
+    let own = c.hash-hash.ensures ∙ ap (λ h. g.H.KeyHash.hash_of h c.args.key.now) (sym (ap (λ m. m.hasher) prepared.map.others)) in
+    let last = subst (λ a. TakesOn g.K.PartialEq.eq c.args.key.now c.hash-hash.result Current a c.take_on-2.result c.take_on-2.new.self)
+    c.in_default.ensures.0 c.take_on-2.ensures in
+    let taken = taken_last g.met.K.Eq.laws g.H.KeyHash.hash_of g.row.TYPE c.args.key.now c.hash-hash.result c.self.inside.hasher
+    c.args.self.now c.self.inside.arrays c.self.invariant prepared c.take_on-2.result c.take_on-2.new.self
+    (λ k equal. g.met.H.KeyHash.alike c.self.inside.hasher k c.args.key.now equal ∙ sym own) c.in_default.ensures.1 last in
+    record { map = taken.map; arrays = rw (← c.hash-hash.ensures) taken.arrays }
