@@ -1,5 +1,5 @@
 -- A pair was added, and its value lent: what is written through the loan stands beside the key.
-use Rattle.std.proofs.Common.{ℕ, suc, ◌≡◌, Bool, false, not, Some, None, List, [], ◌∷◌, refl, sym, ap, ◌∙◌, arith}
+use Rattle.std.proofs.Common.{ℕ, suc, ◌≡◌, Bool, false, not, Some, None, List, [], ◌∷◌, refl, sym, ap, subst, ◌∙◌, arith}
 use Rattle.std.specs.Cmp.{IsEquivalence}
 use Rattle.std.specs.List.{All, IsDistinct, filter}
 use Rattle.std.specs.List.Sorted.{IsPermutation}
@@ -9,6 +9,9 @@ use Rattle.std.proofs.lemmas.Map.{lookup-none}
 use Rattle.std.proofs.lemmas.Map.Entries.{none_past_head}
 use Rattle.bucket_slots.specs.Slots.{Slot, live, live_pair}
 use Rattle.bucket_table.specs.Views.ArraysView.{TableView, pairs_of}
+use Rattle.bucket_table.specs.Views.Sides.{bucket_on}
+use Rattle.bucket_table.specs.declared.arrays.side.Side.{Side}
+use Rattle.bucket_table.specs.Map.ByKey.{HasNoSlot}
 use Rattle.bucket_table.specs.Map.LookingUp.{IsAbsent}
 use Rattle.bucket_table.specs.Map.MapState.{AddsPair, ChangesValue, KeepsPairs, MapState, state_of}
 use Rattle.bucket_table.proofs.Walking.Filters.{IsPermutation-filter}
@@ -43,6 +46,14 @@ module _ {K V : Type 0} (eq : K → K → Bool) (laws : IsEquivalence eq) where
   pub absent_permuted : (k : K) (xs ys : List (K × V)) → lookup (eq k) xs ≡ None → IsPermutation xs ys → IsAbsent eq k ys
   absent_permuted k xs ys none moved = λ i d below.
       laws.symm _ k ∙ All-permutation (λ (o : K × V). eq k o.0 ≡ false) xs ys moved (absent_from_lookup eq laws k xs none) i d below
+
+-- a bucket without a free slot, named otherwise
+pub full_there : {K V H : Type 0} (keeps : ℕ → Bool) (t s : TableView K V H) (side to : Side) (index at : ℕ) → t ≡ s → side ≡ to → index ≡ at
+    → HasNoSlot 83 keeps (bucket_on t.arrays side index) → HasNoSlot 83 keeps (bucket_on s.arrays to at)
+full_there {K} {V} {H} keeps t s side to index at same here there none =
+    subst (λ (u : TableView K V H). HasNoSlot 83 keeps (bucket_on u.arrays to at)) same
+    (subst (λ (k : Side). HasNoSlot 83 keeps (bucket_on t.arrays k at)) here
+    (subst (λ (i : ℕ). HasNoSlot 83 keeps (bucket_on t.arrays side i)) there none))
 
 -- the pair of a live slot
 pub pair_named : {K V : Type 0} (slot : Slot K V) (p q : K × V) (byte : ℕ) → slot ≡ live p byte → live_pair slot ≡ Some q → q ≡ p

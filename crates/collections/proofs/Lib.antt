@@ -2,6 +2,7 @@ pub mod Equal
 pub mod Lookups
 pub mod Steps
 pub mod Shrinking
+pub mod Crowding
 pub mod Found
 pub mod InsertedMarks
 pub mod Marks

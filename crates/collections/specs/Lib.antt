@@ -1,6 +1,7 @@
 -- What contracts of the collections say.
 pub mod Maps
 pub mod Changes
+pub mod Crowding
 pub mod Equality
 pub mod EqualityLaws
 pub mod Keys

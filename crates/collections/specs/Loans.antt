@@ -5,6 +5,7 @@ use Rattle.std.specs.declared.cmp.PartialEq as equals
 use Rattle.bucket_table.specs.declared.key_hash.KeyHash as key_hash
 use Rattle.collections.specs.Maps.{MapView, get}
 use Rattle.collections.specs.Changes.{Adds, Replaces, Stays}
+use Rattle.collections.specs.Crowding.{LacksRoom}
 use Rattle.collections.specs.contracts.hash_map.HashMap.{the_row}
 
 -- the value stands under the key: a pair more, or beside the key that is there
@@ -21,17 +22,17 @@ module _ (K V H : RattleType) (equal : equals.Ghosts K.Denot) (hashing : key_has
       (λ new value. IfSome loan (λ lent. (own : K.Denot) × Replaces equal.eq map.now key (own, lent.now) value new))
       (λ new. IfNone loan ((get equal.eq map.now key ≡ None) × Stays equal.eq map.now new))
 
-  -- a pair more, which has the last value written through the loan; where nothing is lent all stays
+  -- a pair more, which has the last value written through the loan; where nothing is lent all stays, and room is lacking
   abbrev pub LendsAdded : {E : Type 0} → K.Denot → Result (MutBor V.Denot) E → Fml
   LendsAdded key loan =
       LendsSoOk (the_row K V H (record {}) equal hashing) V map loan
       (λ new value. Adds equal.eq map.now key value new)
-      (λ new. Stays equal.eq map.now new)
+      (λ new. Stays equal.eq map.now new × LacksRoom hashing.hash_of key new)
 
   -- the value under the key is the last one written through the loan, whether the map had the key or not; where nothing is
-  -- lent all stays
+  -- lent all stays, and room is lacking
   abbrev pub LendsPut : {E : Type 0} → K.Denot → Result (MutBor V.Denot) E → Fml
   LendsPut key loan =
       LendsSoOk (the_row K V H (record {}) equal hashing) V map loan
       (λ new value. Puts equal.eq map.now key value new)
-      (λ new. Stays equal.eq map.now new)
+      (λ new. Stays equal.eq map.now new × LacksRoom hashing.hash_of key new)

@@ -5,18 +5,25 @@ use Rattle.std.specs.Map.{keys_of, lookup}
 use Rattle.bucket_table.specs.Views.ArraysView.{TableView, pairs_of}
 
 -- the pairs, in an order that any call may change, the hasher, the least number of slots that a shrink leaves and the
--- greatest that a growth makes, and the number of slots
+-- greatest that a growth makes, the number of slots, and that of the old slots whose pairs are on their way to these
 pub record MapView (K V H : Type 0) : Type 0 where
   pub entries : List (K × V)
   pub hasher : H
   pub minimum : ℕ
   pub maximum : ℕ
   pub slots : ℕ
+  pub old_slots : ℕ
 
 -- the map that a table is
 abbrev pub map_of : {K V H : Type 0} → TableView K V H → MapView K V H
-map_of table =
-    record { entries = pairs_of table.arrays; hasher = table.hasher; minimum = table.arrays.minimum; maximum = table.arrays.maximum; slots = 32 * length table.arrays.current }
+map_of table = record {
+  entries = pairs_of table.arrays;
+  hasher = table.hasher;
+  minimum = table.arrays.minimum;
+  maximum = table.arrays.maximum;
+  slots = 32 * length table.arrays.current;
+  old_slots = 32 * length table.arrays.linked;
+}
 
 module _ {K V H : Type 0} where
   -- how many pairs

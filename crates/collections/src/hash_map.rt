@@ -4,11 +4,13 @@
 //! map answers as std's `HashMap` does: `get` is a look-up of the pairs.
 //!
 //! Ports scc's `src/hash_map.rs` to an owned map: a borrow stands where scc locks.
-ghost use Rattle.std.specs.Prelude.{◌≡◌, ◌↔◌, ◌-◌, ◌^◌, ◌&&◌, [], IsTrue, Some, min};
+ghost use Rattle.std.specs.Prelude.{◌≡◌, ◌↔◌, ◌-◌, ◌^◌, ◌&&◌, [], Err, IsTrue, OnErr, Some, min};
 ghost use Rattle.std.specs.Option.{option_copied, option_eq};
 ghost use Rattle.std.specs.Borrow.{Bor, MutBor};
 ghost use Rattle.bucket_slots.specs.Walking.{CallsEach};
 ghost use Rattle.bucket_table.specs.Map.LookingUp.{IsThere};
+ghost use Rattle.bucket_table.specs.declared.hash_table.NotInserted.TheVariants.{Memory};
+ghost use Rattle.collections.specs.Crowding.{LacksRoom};
 ghost use Rattle.collections.specs.Equality.{is_within};
 ghost use Rattle.collections.specs.Maps.{contains_by, get, get_by, IsEmpty, map_len};
 ghost use Rattle.collections.specs.Changes.{Inserts, Removes, Reserves, Retains, Rewrites};
@@ -20,6 +22,7 @@ mod iterating;
 mod lending;
 
 use crate::default_hash::DefaultHash;
+use crate::homes::{learn_homes, learn_refused};
 use crate::key_form::{KeyForm, value_by};
 use crate::room::{Fits, TableRoom};
 use bucket_slots::bucket::MAP;
@@ -60,7 +63,7 @@ impl<K: Eq, V, H: KeyHash<K>> HashMap<K, V, H> {
         ensures hasher { result.hasher ≡ hasher }
         ensures minimum { result.minimum ≡ 0 }
         ensures maximum { result.maximum ≡ 2 ^ 63 }
-        ensures slots { result.slots ≡ 0 }
+        ensures slots { (result.slots ≡ 0) × (result.old_slots ≡ 0) }
     {
         Self::with_capacity(alloc, hasher, 0)
     }
@@ -75,7 +78,7 @@ impl<K: Eq, V, H: KeyHash<K>> HashMap<K, V, H> {
         ensures hasher { result.hasher ≡ hasher }
         ensures minimum { result.minimum ≡ min capacity (2 ^ 63) }
         ensures maximum { result.maximum ≡ 2 ^ 63 }
-        ensures slots { result.slots ≡ 0 }
+        ensures slots { (result.slots ≡ 0) × (result.old_slots ≡ 0) }
     {
         let minimum = capacity.min(MAXIMUM_CAPACITY_LIMIT);
         HashMap {
@@ -166,16 +169,20 @@ impl<K: Eq + Drop, V: Drop, H: KeyHash<K>> HashMap<K, V, H> {
     ///
     /// # Errors
     ///
-    /// An equal key is there; or allocation failed, and then none is: the pair comes back.
+    /// An equal key is there; or allocation failed, and then none is: the pair comes back. Allocation
+    /// can't fail while the map has slots, no fewer than old ones, and the key's bucket is the home
+    /// of fewer than 32 pairs.
     ///
     /// O(1) expected, beside a resize. scc: `HashMap::insert_sync`.
     #[inline(always)]
     pub fn insert(&mut self, key: K, value: V) -> Result<(), NotInserted<K, V>>
-        ensures { Inserts K.eq key value self.old result self.new }
+        ensures map { Inserts K.eq key value self.old result self.new }
+        ensures memory { result ≡ Err (Memory key value) → LacksRoom H.hash_of key self.new }
     {
         self.room.learn();
         self.table.sound();
         let outcome = self.table.insert_pair(key, value, &());
+        learn_refused(&self.table, &outcome);
         self.table.sound();
         outcome
     }
@@ -199,12 +206,13 @@ impl<K: Eq + Drop, V: Drop, H: KeyHash<K>> HashMap<K, V, H> {
     ///
     /// # Errors
     ///
-    /// Want of memory, and the map has no such key: the pair comes back.
+    /// Allocation failed, as in `insert`, and the map has no such key: the pair comes back.
     ///
     /// O(1) expected, beside a resize. scc: `HashMap::upsert_sync`.
     #[inline(always)]
     pub fn upsert(&mut self, key: K, value: V) -> Result<Option<V>, AllocFailed<(K, V)>>
-        ensures { Upserts K.eq key value self.old result self.new }
+        ensures map { Upserts K.eq key value self.old result self.new }
+        ensures memory { OnErr result (LacksRoom H.hash_of key self.new) }
     {
         self.room.learn();
         self.table.sound();
@@ -212,7 +220,10 @@ impl<K: Eq + Drop, V: Drop, H: KeyHash<K>> HashMap<K, V, H> {
         self.table.sound();
         let earlier = match outcome {
             Ok(earlier) => earlier,
-            Err(value) => return Err(AllocFailed { value }),
+            Err(value) => {
+                learn_homes(&self.table, self.table.hash(&value.0));
+                return Err(AllocFailed { value });
+            }
         };
         Ok(earlier)
     }
@@ -284,7 +295,7 @@ impl<K: Eq + Drop, V: Drop, H: KeyHash<K>> HashMap<K, V, H> {
     ///
     /// Never refused. O(slots). scc: `HashMap::clear_sync`.
     pub fn clear(&mut self)
-        ensures { self.new ≡ record self.old { entries = []; slots = 0 } }
+        ensures { self.new ≡ record self.old { entries = []; slots = 0; old_slots = 0 } }
     {
         self.room.learn();
         self.table.clear();
@@ -310,7 +321,7 @@ impl<K: Eq + Hash, V> HashMap<K, V, DefaultHash> {
         ensures empty { IsEmpty result }
         ensures minimum { result.minimum ≡ 0 }
         ensures maximum { result.maximum ≡ 2 ^ 63 }
-        ensures slots { result.slots ≡ 0 }
+        ensures slots { (result.slots ≡ 0) × (result.old_slots ≡ 0) }
     {
         Self::with_hasher(alloc, StdHash::new(BuildHasherDefault::new()))
     }
@@ -326,7 +337,7 @@ impl<K: Eq + Hash, V> HashMap<K, V, StdHash<RandomState>> {
         ensures hasher { result.hasher.builder ≡ state }
         ensures minimum { result.minimum ≡ 0 }
         ensures maximum { result.maximum ≡ 2 ^ 63 }
-        ensures slots { result.slots ≡ 0 }
+        ensures slots { (result.slots ≡ 0) × (result.old_slots ≡ 0) }
     {
         Self::with_hasher(alloc, StdHash::new(state))
     }

@@ -3,11 +3,13 @@
 //! Model: `MapView`, whose pairs are the keys beside `()`.
 //!
 //! Ports scc's `src/hash_set.rs` to an owned set.
-ghost use Rattle.std.specs.Prelude.{◌≡◌, ◌↔◌, ◌-◌, ◌^◌, [], IfOk, IsTrue, min, not, true};
+ghost use Rattle.std.specs.Prelude.{◌≡◌, ◌↔◌, ◌-◌, ◌^◌, [], Err, IfOk, IsTrue, min, not, true};
 ghost use Rattle.std.specs.Fn.{CalledAt};
 ghost use Rattle.std.specs.Map.{keys_of};
+ghost use Rattle.bucket_table.specs.declared.hash_table.NotInserted.TheVariants.{Memory};
 ghost use Rattle.collections.specs.Changes.{Inserts, Reserves, SetRemoves, Stays};
 ghost use Rattle.collections.specs.Copies.{IsCopy};
+ghost use Rattle.collections.specs.Crowding.{LacksRoom};
 ghost use Rattle.collections.specs.Keys.{CallsEachKey, CallsIf, RetainsKeys};
 ghost use Rattle.collections.specs.Keys.{keys_of_either, keys_of_one, keys_outside, keys_within};
 ghost use Rattle.collections.specs.Maps.{contains, contains_by, IsEmpty, map_len};
@@ -51,7 +53,7 @@ impl<K: Eq, H: KeyHash<K>> HashSet<K, H> {
         ensures hasher { result.hasher ≡ hasher }
         ensures minimum { result.minimum ≡ 0 }
         ensures maximum { result.maximum ≡ 2 ^ 63 }
-        ensures slots { result.slots ≡ 0 }
+        ensures slots { (result.slots ≡ 0) × (result.old_slots ≡ 0) }
     {
         HashSet {
             map: HashMap::with_hasher(alloc, hasher),
@@ -194,11 +196,13 @@ impl<K: Eq + Drop, H: KeyHash<K>> HashSet<K, H> {
     ///
     /// # Errors
     ///
-    /// An equal key is there; or allocation failed, and then none is: the key comes back.
+    /// An equal key is there; or allocation failed, as in `HashMap::insert`, and then none is: the
+    /// key comes back.
     ///
     /// O(1) expected, beside a resize. scc: `HashSet::insert_sync`.
     pub fn insert(&mut self, key: K) -> Result<(), NotInserted<K, ()>>
-        ensures { Inserts K.eq key tt self.old result self.new }
+        ensures map { Inserts K.eq key tt self.old result self.new }
+        ensures memory { result ≡ Err (Memory key tt) → LacksRoom H.hash_of key self.new }
     {
         self.map.insert(key, ())
     }
@@ -253,7 +257,7 @@ impl<K: Eq + Drop, H: KeyHash<K>> HashSet<K, H> {
     ///
     /// Never refused. O(slots). scc: `HashSet::clear_sync`.
     pub fn clear(&mut self)
-        ensures { self.new ≡ record self.old { entries = []; slots = 0 } }
+        ensures { self.new ≡ record self.old { entries = []; slots = 0; old_slots = 0 } }
     {
         self.map.clear();
     }
@@ -284,7 +288,7 @@ impl<K: Eq + Hash> HashSet<K, DefaultHash> {
         ensures empty { IsEmpty result }
         ensures minimum { result.minimum ≡ 0 }
         ensures maximum { result.maximum ≡ 2 ^ 63 }
-        ensures slots { result.slots ≡ 0 }
+        ensures slots { (result.slots ≡ 0) × (result.old_slots ≡ 0) }
     {
         Self::with_hasher(alloc, StdHash::new(BuildHasherDefault::new()))
     }
@@ -300,7 +304,7 @@ impl<K: Eq + Hash> HashSet<K, StdHash<RandomState>> {
         ensures hasher { result.hasher.builder ≡ state }
         ensures minimum { result.minimum ≡ 0 }
         ensures maximum { result.maximum ≡ 2 ^ 63 }
-        ensures slots { result.slots ≡ 0 }
+        ensures slots { (result.slots ≡ 0) × (result.old_slots ≡ 0) }
     {
         Self::with_hasher(alloc, StdHash::new(state))
     }

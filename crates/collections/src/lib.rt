@@ -13,6 +13,7 @@ pub mod hash_cache;
 pub mod hash_index;
 pub mod hash_map;
 pub mod hash_set;
+mod homes;
 pub mod key_form;
 mod room;
 

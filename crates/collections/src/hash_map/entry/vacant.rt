@@ -5,6 +5,7 @@ ghost use Rattle.collections.specs.Maps.{get};
 
 use crate::hash_map::HashMap;
 use crate::hash_map::entry::VacantEntry;
+use crate::homes::learn_homes;
 use bucket_table::key_hash::KeyHash;
 use std::alloc::AllocFailed;
 
@@ -38,7 +39,8 @@ impl<'a, K: Eq + Drop, V: Drop, H: KeyHash<K>> VacantEntry<'a, K, V, H> {
     ///
     /// # Errors
     ///
-    /// Allocation failed: the pair comes back, and the map has the pairs that it had.
+    /// Allocation failed, as in `HashMap::insert`: the pair comes back, and the map has the pairs
+    /// that it had.
     ///
     /// O(1) expected, beside a resize. std: `VacantEntry::insert`.
     pub fn insert(self, value: V) -> Result<&'a mut V, AllocFailed<(K, V)>>
@@ -68,13 +70,19 @@ impl<K: Eq + Drop, V: Drop, H: KeyHash<K>> HashMap<K, V, H> {
         self.table.sound();
         let hash = self.table.hash(&key);
         let Ok((side, index)) = self.table.find(hash) else {
+            learn_homes(&self.table, hash);
+            self.table.sound();
             return Err(AllocFailed {
                 value: (key, value),
             });
         };
         let at = match self.table.lock(side, index).insert(hash, (key, value), &()) {
             Ok(at) => at,
-            Err(value) => return Err(AllocFailed { value }),
+            Err(value) => {
+                learn_homes(&self.table, hash);
+                self.table.sound();
+                return Err(AllocFailed { value });
+            }
         };
         self.table.sound();
         Ok(self.table.entry_mut_at(side, index, &at).1)

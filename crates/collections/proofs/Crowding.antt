@@ -1,0 +1,227 @@
+-- An insertion that ran out of memory lacked room.
+use Rattle.std.proofs.Common.{ℕ, suc, ◌≡◌, ◌<◌, ◌≤◌, ◌+◌, ◌*◌, ◌/◌, ◌%◌, ◌++◌, Bool, cond, ◌==◌, None, Result, Ok, Err, IfOk, List}
+use Rattle.std.proofs.Common.{[], ◌∷◌, inl, inr}
+use Rattle.std.proofs.Common.{length, map, refl, sym, subst, ◌∙◌, arith, append-nil, length-append}
+use Rattle.std.specs.List.{All}
+use Rattle.std.proofs.lemmas.Bool.{cases_lt, false≢true}
+use Rattle.std.specs.List.Sorted.{IsPermutation}
+use Rattle.std.proofs.lemmas.List.Sorted.{IsPermutation-refl}
+use Rattle.std.proofs.lemmas.List.Sums.{sum_by-append, sum_by-cons}
+use Rattle.bucket_slots.specs.ArrayView.{bucket_at}
+use Rattle.bucket_slots.specs.BucketLaws.{IsBucketOf}
+use Rattle.bucket_slots.specs.BucketView.{BucketView, all_slots, empty_bucket, entries_in, first_place, flattened, pairs_in}
+use Rattle.bucket_slots.specs.Homes.{IsHome, Meets}
+use Rattle.bucket_slots.specs.Slots.{Slot, free, free_len, is_free, is_live, is_marked, live, live_pairs, marked, marked_len}
+use Rattle.bucket_slots.proofs.ArrayCallerLemmas.{homes_meet, one_source, scales}
+use Rattle.bucket_slots.proofs.CallerLemmas.{length-entries_in}
+use Rattle.bucket_slots.proofs.Counting.{length-live_pairs, tally}
+use Rattle.bucket_slots.proofs.RoomCallerLemmas.{free_len_in-none}
+use Rattle.bucket_table.specs.Map.ByKey.{HasNoSlot, Inserts, InsertsAt, Upserts, UpsertsAt}
+use Rattle.bucket_table.specs.Map.Finding.{Finds, FindsThen}
+use Rattle.bucket_table.specs.Map.MapState.{KeepsPairs, state_of}
+use Rattle.bucket_table.specs.Map.Preparing.{HomeWantsMemory}
+use Rattle.bucket_table.specs.Map.Refusing.{IsRefused}
+use Rattle.bucket_table.specs.Rehash.Relocation.{IsEntryHome, home_of, homed_len}
+use Rattle.bucket_table.specs.Views.ArraysView.{ArePlaced, ArraysView, TableView, pairs_of}
+use Rattle.bucket_table.specs.Views.Sides.{arrays_with, bucket_on, buckets_on}
+use Rattle.bucket_table.specs.declared.arrays.side.Side.{Side}
+use Rattle.bucket_table.specs.declared.arrays.side.Side.TheVariants.{Current, Old}
+use Rattle.bucket_table.specs.declared.hash_table.NotInserted.{NotInserted}
+use Rattle.bucket_table.specs.declared.hash_table.NotInserted.TheVariants.{Memory}
+use Rattle.bucket_table.proofs.Map.MapKept.{hasher_kept}
+use Rattle.bucket_table.proofs.Moves.HomesByDivision.{home_of-interval}
+use Rattle.bucket_table.proofs.Moves.MovingPairs.{homed-permutation, homed_here}
+use Rattle.bucket_table.proofs.Views.SideChanges.{homes_on, pairs_exchanged}
+use Rattle.collections.specs.Crowding.{IsCrowded, KeepsHome, LacksRoom}
+use Rattle.collections.specs.Maps.{map_of}
+
+module _ {K V : Type 0} where
+  -- each slot is live, free or marked
+  parted : (slots : List (Slot K V)) → length (live_pairs slots) + free_len slots + marked_len slots ≡ length slots
+  parted [] = refl
+  parted (x ∷ slots) =
+      let rest = parted slots in
+      let frees = sum_by-cons (λ (y : Slot K V). tally (is_free y)) x slots in
+      let marks = sum_by-cons (λ (y : Slot K V). tally (is_marked y)) x slots in
+      let lives = sum_by-cons (λ (y : Slot K V). tally (is_live y)) x slots in
+      omega (arith, rest, frees, marks, lives, length-live_pairs slots, length-live_pairs (x ∷ slots), one x)
+    where
+      one : (y : Slot K V) → tally (is_free y) + tally (is_marked y) + tally (is_live y) ≡ 1
+      one free = refl
+      one (live pair byte) = refl
+      one (marked pair byte) = refl
+
+  -- a bucket of a map that has no free slot has 32 pairs
+  held : (bucket : BucketView K V) → IsBucketOf 83 bucket → first_place is_free bucket ≡ None → 32 ≤ length (pairs_in bucket)
+  held bucket laws none = omega (
+    arith,
+    parted (all_slots bucket),
+    laws.unmarked (λ e. omega arith),
+    free_len_in-none bucket none,
+    length-append bucket.own (flattened bucket.chain),
+    laws.own_long,
+  )
+
+  module _ (hash : K → ℕ) where
+    -- pairs that stand in their home have it
+    homed : (len index : ℕ) (entries : List ((K × V) × ℕ)) → All (IsEntryHome hash len index) entries
+        → homed_len hash len index (map (λ (e : (K × V) × ℕ). e.0) entries) ≡ length entries
+    homed len index [] all = refl
+    homed len index (e ∷ entries) all =
+        let here = all 0 e (omega arith) in
+        let first = homed_here hash len index e.0 (map (λ (d : (K × V) × ℕ). d.0) entries)
+        (home_of-interval len index (hash e.0.0) here.home.own) in
+        let rest = homed len index entries (λ i d below. all (suc i) d (omega arith)) in
+        omega (arith, first, rest)
+
+    module _ (arrays : ArraysView K V) (side : Side) (index : ℕ) (placed : ArePlaced hash arrays) where
+      -- the pairs of a bucket are some of all pairs
+      shared : index < length (buckets_on arrays side)
+          → length (pairs_in (bucket_on arrays side index)) ≤ homed_len hash (length (buckets_on arrays side)) index (pairs_of arrays)
+      shared within =
+          let len = length (buckets_on arrays side) in
+          let entries = entries_in (bucket_on arrays side index) in
+          let own = map (λ (e : (K × V) × ℕ). e.0) entries in
+          let rest = pairs_of (arrays_with arrays side index empty_bucket) in
+          let none : IsPermutation entries (entries ++ []) = rw (append-nil entries) (IsPermutation-refl entries) in
+          let moved = pairs_exchanged arrays side index [] entries empty_bucket within none in
+          let all = homed-permutation hash len index (pairs_of arrays) (own ++ rest) moved in
+          let parts = sum_by-append (λ (q : K × V). cond (home_of len (hash q.0) == index) 1 0) own rest in
+          let here = homed len index entries (homes_on hash arrays side index placed within) in
+          omega (arith, all, parts, here, length-entries_in (bucket_on arrays side index))
+
+      -- a home that has 32 pairs is crowded
+      crowded : (key : K) → IsHome (length (buckets_on arrays side)) (hash key) index
+          → 32 ≤ length (pairs_in (bucket_on arrays side index))
+          → IsCrowded hash key (32 * length (buckets_on arrays side)) (pairs_of arrays)
+      crowded key home many =
+          let len = length (buckets_on arrays side) in
+          let buckets : (32 * len) / 32 ≡ len = omega arith in
+          let most = shared home.within in (
+            omega (arith, home.within),
+            subst (λ (m : ℕ). 32 ≤ homed_len hash m (home_of m (hash key)) (pairs_of arrays)) (sym buckets)
+                (rw (home_of-interval len index (hash key) home.own) (omega (arith, many, most))),
+          )
+
+module _ {K V H : Type 0} (hash_of : H → K → ℕ) (key : K) (n : ℕ) (old new : TableView K V H) (own : n ≡ hash_of new.hasher key)
+    (placed : ArePlaced (hash_of new.hasher) new.arrays) (current : 0 < length new.arrays.current → KeepsHome 83 n new.arrays.current)
+    (linked : 0 < length new.arrays.linked → KeepsHome 83 n new.arrays.linked) where
+  crowded_on : (side : Side) (index : ℕ) → IsHome (length (buckets_on new.arrays side)) n index
+      → 32 ≤ length (pairs_in (bucket_on new.arrays side index)) → LacksRoom hash_of key (map_of new)
+  unfolding LacksRoom
+  crowded_on Current index home many = inr (inl (crowded (hash_of new.hasher) new.arrays Current index placed key
+      (subst (λ (h : ℕ). IsHome (length new.arrays.current) h index) own home) many))
+  crowded_on Old index home many = inr (inr (crowded (hash_of new.hasher) new.arrays Old index placed key
+      (subst (λ (h : ℕ). IsHome (length new.arrays.linked) h index) own home) many))
+
+  laws_on : (side : Side) (index : ℕ) → IsHome (length (buckets_on new.arrays side)) n index
+      → IsBucketOf 83 (bucket_on new.arrays side index)
+  laws_on Current index home =
+      let kept = current (omega (arith, home.within)) in
+      subst (λ (i : ℕ). IsBucketOf 83 (bucket_at new.arrays.current i)) (home.the_one kept.index kept.home.own) kept.laws
+  laws_on Old index home =
+      let kept = linked (omega (arith, home.within)) in
+      subst (λ (i : ℕ). IsBucketOf 83 (bucket_at new.arrays.linked i)) (home.the_one kept.index kept.home.own) kept.laws
+
+  -- a bucket that was found had no free slot
+  pub found_full : (keeps : ℕ → Bool) (side : Side) (index : ℕ) → IsHome (length (buckets_on new.arrays side)) n index
+      → HasNoSlot 83 keeps (bucket_on new.arrays side index) → LacksRoom hash_of key (map_of new)
+  found_full keeps side index home none =
+      crowded_on side index home (held (bucket_on new.arrays side index) (laws_on side index home) none)
+
+  -- where an old array isn't longer, a source of a current home is the old home
+  old_home : (index i : ℕ) → IsHome (length new.arrays.current) n index → i < length new.arrays.linked
+      → Meets (length new.arrays.linked) i (length new.arrays.current) index → length new.arrays.linked ≤ length new.arrays.current
+      → IsHome (length new.arrays.linked) n i
+  old_home index i home within meets longer =
+      let to = length new.arrays.current in
+      let from = length new.arrays.linked in
+      let kept = linked (omega (arith, within)) in
+      let long = (current (omega (arith, home.within))).long in
+      let one = one_source from to (to / from) index (scales from to kept.long.power long.power longer (omega (arith, long.at_most)))
+      home.within in
+      let here : i ≡ one.0 = (one.2 i within).0 meets in
+      let there : kept.index ≡ one.0 = (one.2 kept.index kept.home.within).0 (homes_meet from to kept.index index n kept.home home) in
+      subst (IsHome from n) (there ∙ sym here) kept.home
+
+  -- no bucket was found
+  pub none_found : IsRefused 83 n old new → LacksRoom hash_of key (map_of new)
+  unfolding LacksRoom
+  none_found refused = elim (cases_lt 0 (length new.arrays.current)) [
+    | inr none ↦ inl (inl (omega (arith, none)))
+    | inl stands ↦ elim (cases_lt (length new.arrays.current) (length new.arrays.linked)) [
+      | inl shorter ↦ inl (inr (omega (arith, shorter)))
+      | inr longer ↦ from_source (refused.home stands) longer
+    ]
+  ]
+    where
+      from_source : HomeWantsMemory n old.arrays new.arrays → length new.arrays.linked ≤ length new.arrays.current
+          → LacksRoom hash_of key (map_of new)
+      from_source (index, home, wants) longer =
+          let i = wants.index in
+          let run = refused.prepared.units.stands (omega (arith, wants.within)) in
+          let was = bucket_at old.arrays.linked i in
+          let many : 32 ≤ length (pairs_in was) = elim (cases_lt 32 (length (pairs_in was))) [
+            | inl more ↦ omega (arith, more)
+            | inr less ↦ absurd (wants.needed (record {
+              no_shorter = omega (arith, longer, run.len, refused.prepared.kept.current_len);
+              few = λ j low high.
+                  let same : i ≡ j = omega (arith, low, high) in
+                  subst (λ (k : ℕ). length (pairs_in (bucket_at old.arrays.linked k)) ≤ 32) same less;
+            }))
+          ] in
+          let still : bucket_at new.arrays.linked i ≡ was = elim (run.spent i) [
+            | inl same ↦ same
+            | inr spent ↦ absurd (false≢true (sym wants.alive ∙ spent.0))
+          ] in
+          crowded_on Old i (old_home index i home wants.within wants.one longer) (subst (λ (b : BucketView K V). 32 ≤ length (pairs_in b)) (sym still) many)
+
+module _ {K V H : Type 0} (hash_of : H → K → ℕ) (key : K) (old new : TableView K V H) (placed : ArePlaced (hash_of new.hasher) new.arrays)
+    (current : 0 < length new.arrays.current → KeepsHome 83 (hash_of new.hasher key) new.arrays.current)
+    (linked : 0 < length new.arrays.linked → KeepsHome 83 (hash_of new.hasher key) new.arrays.linked) (keeps : ℕ → Bool) where
+  -- a table in which a bucket was looked for, and that is as it was then
+  refused_by : (answer : Result (Side × ℕ) (Unit {0})) (between : TableView K V H) → KeepsPairs (state_of 83 old) (state_of 83 new)
+      → Finds 83 (hash_of old.hasher key) old answer between → new ≡ between
+      → IfOk answer (λ at. HasNoSlot 83 keeps (bucket_on between.arrays at.0 at.1)) → LacksRoom hash_of key (map_of new)
+  refused_by (Ok at) between kept finds is none =
+      found_full hash_of key (hash_of new.hasher key) old new refl placed current linked keeps at.0 at.1
+      (subst (λ (h : H). IsHome (length (buckets_on new.arrays at.0)) (hash_of h key) at.1) (sym (hasher_kept _ _ kept))
+      (subst (λ (t : TableView K V H). IsHome (length (buckets_on t.arrays at.0)) (hash_of old.hasher key) at.1) (sym is) finds.home))
+      (subst (λ (t : TableView K V H). HasNoSlot 83 keeps (bucket_on t.arrays at.0 at.1)) (sym is) none)
+  refused_by (Err e) between kept refused is none =
+      none_found hash_of key (hash_of new.hasher key) old new refl placed current linked
+      (subst (λ (h : H). IsRefused 83 (hash_of h key) old new) (sym (hasher_kept _ _ kept))
+      (subst (λ (t : TableView K V H). IsRefused 83 (hash_of old.hasher key) old t) (sym is) refused))
+
+  module _ (value : V) where
+    inserted_by : (A : Type 0) (k : K) (v : V) (answer : Result (Side × ℕ) (Unit {0})) (between : TableView K V H)
+        → KeepsPairs (state_of 83 old) (state_of 83 new) → Finds 83 (hash_of old.hasher key) old answer between
+        → InsertsAt {A = A} 83 keeps (key, value) (hash_of old.hasher key % 256) between (Err (Memory k v)) answer new
+        → LacksRoom hash_of key (map_of new)
+    inserted_by A k v (Ok at) between kept found done = refused_by (Ok at) between kept found done.1 done.0
+    inserted_by A k v (Err e) between kept found done = refused_by (Err e) between kept found done tt
+
+    -- a pair that came back from an insertion
+    pub insertion_lacks : {A : Type 0} (eq : K → K → Bool) (result : Result A (NotInserted K V)) (k : K) (v : V)
+        → Inserts eq key value (state_of 83 old) result (state_of 83 new)
+        → FindsThen 83 (hash_of old.hasher key) old
+        (λ answer between. InsertsAt 83 keeps (key, value) (hash_of old.hasher key % 256) between result answer new)
+        → result ≡ Err (Memory k v) → LacksRoom hash_of key (map_of new)
+    insertion_lacks {A} eq result k v map finds is =
+        inserted_by A k v finds.answer finds.between
+        (subst (λ (r : Result A (NotInserted K V)). Inserts eq key value (state_of 83 old) r (state_of 83 new)) is map).1 finds.found
+        (subst (λ (r : Result A (NotInserted K V)).
+        InsertsAt 83 keeps (key, value) (hash_of old.hasher key % 256) finds.between r finds.answer new) is finds.done)
+
+    upserted_by : (eq : K → K → Bool) (back : K × V) (answer : Result (Side × ℕ) (Unit {0})) (between : TableView K V H)
+        → KeepsPairs (state_of 83 old) (state_of 83 new) → Finds 83 (hash_of old.hasher key) old answer between
+        → UpsertsAt eq 83 keeps key value (hash_of old.hasher key % 256) between (Err back) answer new → LacksRoom hash_of key (map_of new)
+    upserted_by eq back (Ok at) between kept found done = refused_by (Ok at) between kept found done.1 done.0
+    upserted_by eq back (Err e) between kept found done = refused_by (Err e) between kept found done tt
+
+    -- and from one that would have written its value beside an equal key
+    pub upsertion_lacks : (eq : K → K → Bool) (back : K × V) → Upserts eq key value (state_of 83 old) (Err back) (state_of 83 new)
+        → FindsThen 83 (hash_of old.hasher key) old
+        (λ answer between. UpsertsAt eq 83 keeps key value (hash_of old.hasher key % 256) between (Err back) answer new)
+        → LacksRoom hash_of key (map_of new)
+    upsertion_lacks eq back map finds = upserted_by eq back finds.answer finds.between map.2 finds.found finds.done

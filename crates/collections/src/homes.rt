@@ -1,0 +1,62 @@
+//! What a proof learns of the buckets that are homes of a hash, where an insertion failed.
+ghost use Rattle.std.specs.Prelude.{◌≡◌, ◌<◌, Err, IfSome, length};
+ghost use Rattle.bucket_table.specs.declared.hash_table.NotInserted.TheVariants.{Memory};
+ghost use Rattle.collections.specs.Crowding.{KeepsHome};
+
+use bucket_slots::bucket_array::BucketArray;
+use bucket_slots::lru::LruList;
+use bucket_table::hash_table::{HashTable, NotInserted};
+use bucket_table::key_hash::KeyHash;
+
+/// Looks at the homes of a key's hash where its pair was refused for memory.
+///
+/// O(1), and nothing where the pair was inserted.
+#[inline(always)]
+pub(crate) fn learn_refused<K: Eq, V, H: KeyHash<K>, L: LruList, const TYPE: u8>(
+    table: &HashTable<K, V, H, L, TYPE>,
+    outcome: &Result<(), NotInserted<K, V>>,
+)
+    ensures current { (key : K) (value : V) → outcome.now ≡ Err (Memory key value)
+        → 0 < length table.now.arrays.current
+        → KeepsHome TYPE (H.hash_of table.now.hasher key) table.now.arrays.current }
+    ensures old { (key : K) (value : V) → outcome.now ≡ Err (Memory key value)
+        → 0 < length table.now.arrays.linked
+        → KeepsHome TYPE (H.hash_of table.now.hasher key) table.now.arrays.linked }
+{
+    match outcome {
+        Ok(_) => {}
+        Err(NotInserted::Present(_, _)) => {}
+        Err(NotInserted::Memory(key, _)) => learn_homes(table, table.hash(key)),
+    }
+}
+
+/// Looks at the homes of a hash, in the current array and in the old one.
+///
+/// O(1).
+#[inline(never)]
+pub(crate) fn learn_homes<K: Eq, V, H: KeyHash<K>, L: LruList, const TYPE: u8>(
+    table: &HashTable<K, V, H, L, TYPE>,
+    hash: u64,
+)
+    ensures current { 0 < length table.now.arrays.current
+        → KeepsHome TYPE hash table.now.arrays.current }
+    ensures old { 0 < length table.now.arrays.linked → KeepsHome TYPE hash table.now.arrays.linked }
+{
+    learn_home(table.array(), hash);
+    learn_home(table.linked_array(), hash);
+}
+
+/// Looks at the home of a hash in an array.
+fn learn_home<K, V, L: LruList, const TYPE: u8>(
+    array: Option<&BucketArray<K, V, L, TYPE>>,
+    hash: u64,
+)
+    ensures { IfSome array.entry (λ array. KeepsHome TYPE hash array.now) }
+{
+    let Some(array) = array else {
+        return;
+    };
+    array.room();
+    let index = array.bucket_index(hash);
+    array.bucket(index).sound();
+}
