@@ -68,8 +68,8 @@ impl<K: Eq, V, H: KeyHash<K>> HashMap<K, V, H> {
         Self::with_capacity(alloc, hasher, 0)
     }
 
-    /// Returns an empty map whose first array has room for this many pairs, or for 2^63. Takes no
-    /// memory: the first insertion makes the array.
+    /// Returns an empty map whose minimum is this number of slots, or 2^63. Takes no memory: the
+    /// first insertion makes an array.
     ///
     /// O(1). scc: `HashMap::with_capacity_and_hasher`.
     pub fn with_capacity(alloc: Global, hasher: H, capacity: usize) -> Self
@@ -264,8 +264,8 @@ impl<K: Eq + Drop, V: Drop, H: KeyHash<K>> HashMap<K, V, H> {
         self.table.sound();
     }
 
-    /// Raises the number of slots that a shrink leaves at least, and makes slots where memory is
-    /// there. Returns by how much it was raised: by nothing where it would pass 2^63.
+    /// Raises the minimum, and returns by how much: by what is asked for, or by nothing where it
+    /// would pass the maximum. The pairs stay. No clause says that slots are made.
     ///
     /// Never refused. O(slots). scc: `HashMap::reserve`.
     pub fn reserve(&mut self, additional: usize) -> usize
@@ -278,7 +278,7 @@ impl<K: Eq + Drop, V: Drop, H: KeyHash<K>> HashMap<K, V, H> {
         raised
     }
 
-    /// Sets the number of slots that a shrink leaves to 0, and gives slots back where few are live.
+    /// Sets the minimum to 0. The pairs stay. No clause says that slots are given back.
     ///
     /// Never refused. O(slots). Own: what ends scc's `Reserve`s.
     pub fn shrink_to_fit(&mut self)

@@ -235,7 +235,8 @@ impl<K: Eq + Drop, H: KeyHash<K>> HashSet<K, H> {
         self.map.retain(&mut keep);
     }
 
-    /// Raises the number of slots that a shrink leaves at least, as `HashMap::reserve` does.
+    /// Raises the minimum, as `HashMap::reserve` does, and returns by how much. The keys stay. No
+    /// clause says that slots are made.
     ///
     /// Never refused. O(slots). scc: `HashSet::reserve`.
     pub fn reserve(&mut self, additional: usize) -> usize
@@ -244,7 +245,7 @@ impl<K: Eq + Drop, H: KeyHash<K>> HashSet<K, H> {
         self.map.reserve(additional)
     }
 
-    /// Sets the number of slots that a shrink leaves to 0, and gives slots back where few are live.
+    /// Sets the minimum to 0. The keys stay. No clause says that slots are given back.
     ///
     /// Never refused. O(slots). Own: what ends scc's `Reserve`s.
     pub fn shrink_to_fit(&mut self)
