@@ -19,3 +19,5 @@ pub mod Upserting
 pub mod Adding
 pub mod Entries
 mod Copying
+pub mod StoredKeys
+pub mod Removals

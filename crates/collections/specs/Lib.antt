@@ -15,3 +15,5 @@ pub mod Orders
 pub mod Marks
 pub mod Entries
 pub mod Copies
+pub mod StoredKeys
+pub mod Removals

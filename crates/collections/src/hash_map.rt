@@ -20,6 +20,8 @@ mod cloning;
 pub mod entry;
 mod iterating;
 mod lending;
+mod reading;
+mod removing;
 
 use crate::default_hash::DefaultHash;
 use crate::homes::{learn_homes, learn_refused};

@@ -31,6 +31,8 @@ enum Step {
     Retains(u64, u64, usize),
     /// The pair that is taken out.
     Removes(u64, Option<(u64, u64)>),
+    /// The pair that is taken out, where its value is above the second number.
+    RemovesAbove(u64, u64, Option<(u64, u64)>),
     /// Keys are taken out, each with itself as its value.
     Drains(u64, u64),
     /// The minimum is to be raised by the first number, and is by the second.
@@ -75,7 +77,9 @@ const STORIES: &[Story] = steps! {
             Updates(1, Some((1, 11))), Updates(2, None), Holds(1, Some(12)), Len(1) } },
     Story { name: "a removal takes a pair out once",
         hasher: ScriptHash::Id, capacity: 0, steps: steps! {
-            Removes(1, None), Inserts(1, 10), Inserts(2, 20), Removes(1, Some((1, 10))),
+            Removes(1, None), RemovesAbove(1, 0, None), Inserts(1, 10), Inserts(2, 20),
+            RemovesAbove(1, 10, None), Len(2), RemovesAbove(1, 9, Some((1, 10))), Inserts(1, 10),
+            Removes(1, Some((1, 10))),
             Removes(1, None), Holds(1, None), Holds(2, Some(20)), Len(1), Inserts(1, 11),
             Removes(1, Some((1, 11))) } },
     Story { name: "pairs are the same before, amid and after a growth",
@@ -195,6 +199,10 @@ fn change(rt: &impl Abort, map: &mut Map, at: At, step: &Step) {
             check_same(rt, retain(map, *divisor, *rest), *asked, at);
         }
         Removes(key, pair) => check_same(rt, map.remove(key), *pair, at),
+        RemovesAbove(key, floor, pair) => {
+            let taken = map.remove_if(key, |_own: &u64, value: &u64| *value > *floor);
+            check_same(rt, taken, *pair, at);
+        }
         Drains(from, to) => {
             for key in *from..*to {
                 check_same(rt, map.remove(&key), Some((key, key)), (at, key));
@@ -245,6 +253,8 @@ fn look(rt: &impl Abort, map: &Map, at: At, step: &Step) {
         Holds(key, value) => {
             let found = (map.get(key).copied(), map.contains(key));
             check_same(rt, found, (*value, value.is_some()), at);
+            let own = map.get_key_value(key).map(|(own, held)| (*own, *held));
+            check_same(rt, own, value.map(|held| (*key, held)), (at, "pair"));
         }
         Len(len) => {
             check_same(rt, (map.len(), map.is_empty()), (*len, *len == 0), at);

@@ -1,0 +1,7 @@
+use Rattle.collections.proofs.Removals.{removes_if}
+use Rattle.collections.proofs.hash_map.HashMap.remove_if.Goals as goal
+
+pub returns-then-asks : goal.returns-then-asks
+returns-then-asks g c = removes_if g.K.PartialEq.eq g.met.K.Eq.laws c.args.key.now (goal.F-post g c.args.condition) c.args.self.now
+    c.remove.new.self c.sound.ensures
+    c.remove.result (rw c.if-asks.true at c.asks.ensures) c.remove.ensures

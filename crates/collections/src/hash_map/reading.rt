@@ -1,0 +1,42 @@
+//! The look-up that lends the map's own key too, and that no two keys of a map are equal.
+ghost use Rattle.std.specs.Prelude.{◌≡◌, IfSome, IsTrue};
+ghost use Rattle.std.specs.Option.{option_map};
+ghost use Rattle.collections.specs.Maps.{IsUnique, get_by};
+ghost use Rattle.collections.specs.StoredKeys.{key_by};
+
+use crate::hash_map::HashMap;
+use crate::key_form::{FormProbe, KeyForm};
+use bucket_table::key_hash::KeyHash;
+
+impl<K: Eq, V, H: KeyHash<K>> HashMap<K, V, H> {
+    /// Returns the pair under a key, or under the keys that a form stands for: the map's own key,
+    /// and its value; `None` where the map hasn't the key.
+    ///
+    /// Moves nothing, and takes no memory. O(1) expected. std: `HashMap::get_key_value`.
+    #[inline(always)]
+    pub fn get_key_value<Q: KeyForm<K, H>>(&self, key: Q) -> Option<(&K, &V)>
+        ensures key { option_map (λ pair. pair.0.now) result ≡ key_by (Q.stands_for key) self.now }
+        ensures same_key { IfSome result (λ pair. IsTrue (Q.stands_for key pair.0.now)) }
+        ensures value { option_map (λ pair. pair.1.now) result
+            ≡ get_by (Q.stands_for key) self.now }
+    {
+        self.room.learn();
+        self.table.sound();
+        let hash = key.hash_by(self.table.hasher());
+        match self
+            .table
+            .peek_entry_by(hash, &mut FormProbe::<Q, H>::new(key))
+        {
+            Some((own, value)) => Some((own, value)),
+            None => None,
+        }
+    }
+
+    /// No work: a proof learns that no two keys are equal.
+    pub(crate) fn sound(&self)
+        ensures { IsUnique K.eq self.now }
+    {
+        self.room.learn();
+        self.table.sound();
+    }
+}
