@@ -20,4 +20,5 @@ pub mod Adding
 pub mod Entries
 mod Copying
 pub mod StoredKeys
+pub mod SetSteps
 pub mod Removals

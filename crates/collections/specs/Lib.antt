@@ -17,3 +17,4 @@ pub mod Entries
 pub mod Copies
 pub mod StoredKeys
 pub mod Removals
+pub mod SetChanges

@@ -15,6 +15,7 @@ ghost use Rattle.collections.specs.Keys.{keys_of_either, keys_of_one, keys_outsi
 ghost use Rattle.collections.specs.Maps.{contains, contains_by, IsEmpty, map_len};
 
 mod iterating;
+mod keeping;
 mod relating;
 
 use crate::default_hash::DefaultHash;

@@ -19,6 +19,10 @@ enum Step {
     Returns(u64),
     /// The key that is taken out.
     Removes(u64, Option<u64>),
+    /// A key is added, or it is there.
+    Adds(u64, bool),
+    /// A key goes, or it isn't there.
+    Discards(u64, bool),
     /// The keys stay that a number divides. So many were asked for.
     Retains(u64, usize),
     /// The minimum is to be raised by the first number, and is by the second.
@@ -36,13 +40,14 @@ enum Step {
 }
 
 const STEPS: &[Step] = steps! {
-    Sees(0, 0), Removes(1, None), Inserts(1), Returns(1), Inserts(2), Sees(2, 64),
+    Sees(0, 0), Removes(1, None), Discards(1, false), Adds(1, true), Adds(1, false), Returns(1), Inserts(2), Sees(2, 64),
     Holds(1, true), Holds(3, false), Removes(1, Some(1)), Removes(1, None), Holds(1, false),
     Holds(2, true), Clears, Sees(0, 0), Holds(2, false), Reserves(200, 200), Inserts(255),
     Sees(1, 256), Shrinks, Sees(1, 64), Holds(255, true), Reserves(1 << 63, 1 << 63),
     Reserves(1, 0), Returns(255), Has(&[(255, 256)]), Retains(5, 1), Has(&[(255, 256)]),
     Inserts(7), Inserts(0), Inserts(14), Has(&[(0, 1), (7, 8), (14, 15), (255, 256)]),
-    Retains(7, 4), Has(&[(0, 1), (7, 8), (14, 15)]), Returns(7), Retains(100, 3), Has(&[(0, 1)]),
+    Retains(7, 4), Has(&[(0, 1), (7, 8), (14, 15)]), Discards(14, true), Discards(14, false),
+    Has(&[(0, 1), (7, 8)]), Adds(14, true), Returns(7), Retains(100, 3), Has(&[(0, 1)]),
     Clears, Has(&[]), Retains(1, 0)
 };
 
@@ -65,6 +70,8 @@ fn take(rt: &impl Abort, alloc: Global, set: &mut Set, at: At, step: &Step) -> R
             _ => check_same(rt, true, false, (at, "inserted")),
         },
         Removes(key, taken) => check_same(rt, set.remove(key), *taken, at),
+        Adds(key, added) => check_same(rt, set.add(*key).ok(), Some(*added), at),
+        Discards(key, gone) => check_same(rt, set.discard(key), *gone, at),
         Retains(divisor, asked) => check_same(rt, retain(set, *divisor), *asked, at),
         Reserves(additional, raised) => check_same(rt, set.reserve(*additional), *raised, at),
         Shrinks => set.shrink_to_fit(),

@@ -76,3 +76,32 @@ fn the_key_that_came_first_stays(rt: HostRuntime) -> Result<(), Fail> {
     check_same(&rt, taken, Some(1), "remove");
     Ok(())
 }
+
+// The tags of the key that a set has, before and after another is added, and after it is replaced;
+// and what was replaced.
+fn tags_of(set: &mut HashSet<Tagged, OneHash>, key: Tagged) -> [Option<u64>; 4] {
+    let before = set.get(&key).map(|own| own.tag);
+    let _ = set.add(key);
+    let added = set.get(&key).map(|own| own.tag);
+    let replaced = match set.replace(key) {
+        Ok(Some(own)) => Some(own.tag),
+        _ => None,
+    };
+    [before, added, set.get(&key).map(|own| own.tag), replaced]
+}
+
+#[test]
+fn a_key_replaces_its_equal(rt: HostRuntime) -> Result<(), Fail> {
+    let mut set: HashSet<Tagged, OneHash> = HashSet::with_hasher(rt.alloc(), OneHash);
+    let found = tags_of(&mut set, FIRST);
+    check_same(&rt, found, [None, Some(1), Some(1), Some(1)], "one key");
+    let found = tags_of(&mut set, SECOND);
+    check_same(
+        &rt,
+        found,
+        [Some(1), Some(1), Some(2), Some(1)],
+        "its equal",
+    );
+    check_same(&rt, set.len(), 1, "len");
+    Ok(())
+}

@@ -1,0 +1,88 @@
+//! The calls of std's `HashSet` that answer with a key of the set, or by a truth value.
+ghost use Rattle.std.specs.Prelude.{◌≡◌, IfSome, IsTrue, is_some};
+ghost use Rattle.std.specs.Option.{option_copied};
+ghost use Rattle.collections.specs.Changes.{TakesOut};
+ghost use Rattle.collections.specs.Maps.{contains_by};
+ghost use Rattle.collections.specs.SetChanges.{SetAdds, SetReplaces};
+ghost use Rattle.collections.specs.StoredKeys.{key_by};
+
+use crate::hash_map::NotInserted;
+use crate::hash_set::HashSet;
+use crate::key_form::KeyForm;
+use bucket_table::key_hash::KeyHash;
+use std::alloc::AllocFailed;
+
+impl<K: Eq, H: KeyHash<K>> HashSet<K, H> {
+    /// Returns the set's own key that is equal, or that a form stands for; `None` where the set has
+    /// none.
+    ///
+    /// Moves nothing, and takes no memory. O(1) expected. std: `HashSet::get`.
+    pub fn get<Q: KeyForm<K, H>>(&self, key: Q) -> Option<&K>
+        ensures key { option_copied result ≡ key_by (Q.stands_for key) self.now }
+        ensures same_key { IfSome result (λ own. IsTrue (Q.stands_for key own.now)) }
+        ensures found { is_some result ≡ contains_by (Q.stands_for key) self.now }
+    {
+        match self.map.get_key_value(key) {
+            Some((own, _)) => Some(own),
+            None => None,
+        }
+    }
+}
+
+impl<K: Eq + Drop, H: KeyHash<K>> HashSet<K, H> {
+    /// Inserts a key where the set hasn't one that is equal, and returns whether it was inserted;
+    /// where an equal key is there that one stays, and the other is dropped.
+    ///
+    /// # Errors
+    ///
+    /// Allocation failure, and the set has no equal key: the key comes back.
+    ///
+    /// O(1) expected, beside a resize. std: `HashSet::insert`.
+    pub fn add(&mut self, key: K) -> Result<bool, AllocFailed<K>>
+        ensures { SetAdds K.eq key self.old result self.new }
+    {
+        match self.map.insert(key, ()) {
+            Ok(()) => Ok(true),
+            Err(NotInserted::Present(_, ())) => Ok(false),
+            Err(NotInserted::Memory(value, ())) => Err(AllocFailed { value }),
+        }
+    }
+
+    /// Drops the key that is equal, and returns whether the set had one.
+    ///
+    /// Never refused. O(1) expected, beside a resize. std: `HashSet::remove`.
+    pub fn discard(&mut self, key: &K) -> bool
+        ensures { TakesOut K.eq key.now self.old result self.new }
+    {
+        let Some(pair) = self.map.remove(key) else {
+            return false;
+        };
+        drop(pair);
+        true
+    }
+
+    /// Inserts a key, in the place of the one that is equal, which it returns; `None` where the set
+    /// had none.
+    ///
+    /// # Errors
+    ///
+    /// Allocation failure: the key comes back, and beside it the equal one, which is taken out, or
+    /// `None` where the set had none.
+    ///
+    /// O(1) expected, beside a resize. std: `HashSet::replace`.
+    pub fn replace(&mut self, key: K) -> Result<Option<K>, AllocFailed<(K, Option<K>)>>
+        ensures { SetReplaces K.eq key self.old result self.new }
+    {
+        let earlier = self.remove(&key);
+        let _held = match self.map.upsert(key, ()) {
+            Ok(held) => held,
+            Err(back) => {
+                let (key, ()) = back.value;
+                return Err(AllocFailed {
+                    value: (key, earlier),
+                });
+            }
+        };
+        Ok(earlier)
+    }
+}
