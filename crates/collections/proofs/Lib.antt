@@ -20,5 +20,7 @@ pub mod Adding
 pub mod Entries
 mod Copying
 pub mod StoredKeys
+pub mod Collecting
+pub mod SetCollecting
 pub mod SetSteps
 pub mod Removals

@@ -18,3 +18,4 @@ pub mod Copies
 pub mod StoredKeys
 pub mod Removals
 pub mod SetChanges
+pub mod Collecting

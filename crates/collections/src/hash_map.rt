@@ -17,6 +17,7 @@ ghost use Rattle.collections.specs.Changes.{Inserts, Removes, Reserves, Retains,
 ghost use Rattle.collections.specs.Changes.{Stays, Upserts};
 
 mod cloning;
+mod collecting;
 pub mod entry;
 mod iterating;
 mod lending;

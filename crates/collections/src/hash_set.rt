@@ -14,6 +14,7 @@ ghost use Rattle.collections.specs.Keys.{CallsEachKey, CallsIf, RetainsKeys};
 ghost use Rattle.collections.specs.Keys.{keys_of_either, keys_of_one, keys_outside, keys_within};
 ghost use Rattle.collections.specs.Maps.{contains, contains_by, IsEmpty, map_len};
 
+mod collecting;
 mod iterating;
 mod keeping;
 mod relating;

@@ -1,0 +1,27 @@
+use Rattle.std.proofs.Common.{◌∙◌}
+use Rattle.std.proofs.iter.Next as it
+use Rattle.collections.proofs.Collecting.{none_put, one_more_put, put_then_stays, upsert_puts}
+use Rattle.collections.proofs.hash_map.HashMap.try_extend.Goals as goal
+
+pub loop-pair-init : goal.loop-pair-init
+loop-pair-init g c = it.begun c.requires.can c.requires.finite (none_put g.K.PartialEq.eq c.args.self.now c.sound.ensures)
+
+pub loop-pair-preserved : goal.loop-pair-preserved
+loop-pair-preserved g c =
+    let eq = g.K.PartialEq.eq in
+    let inv = c.loop-pair.invariant in
+    let pair = c.in-Some.pair in
+    it.again inv pair c.in-Some.is (c.next.ensures.steps, c.next.ensures.goes)
+    (one_more_put eq c.args.self.now c.loop-pair.self c.upsert.new.self inv.seen pair inv.holds
+    (upsert_puts eq c.loop-pair.self c.upsert.new.self pair.0 pair.1 c.in-Ok.earlier c.in-Ok.ensures))
+
+pub returns-in-Err : goal.returns-in-Err
+returns-in-Err g c =
+    let inv = c.loop-pair.invariant in
+    let (back, none, stays) = c.in-Err.ensures in
+    rw back (
+      inv.seen,
+      it.Gave-then inv c.in-Some.is c.next.ensures.steps,
+      put_then_stays g.K.PartialEq.eq c.args.self.now c.loop-pair.self c.upsert.new.self inv.seen inv.holds stays,
+      stays.gets c.in-Some.pair.0 ∙ none,
+    )

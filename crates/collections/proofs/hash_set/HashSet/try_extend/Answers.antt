@@ -1,0 +1,29 @@
+use Rattle.std.proofs.Common.{◌∙◌}
+use Rattle.std.proofs.iter.Next as it
+use Rattle.collections.proofs.SetCollecting.{added_put, keys_then_stay, no_key_put, one_more_key}
+use Rattle.collections.proofs.hash_set.HashSet.try_extend.Goals as goal
+
+pub loop-key-init : goal.loop-key-init
+loop-key-init g c =
+    it.begun c.requires.can c.requires.finite (no_key_put g.K.PartialEq.eq g.met.K.Eq.laws c.args.self.now
+    (rw (← c.self.view_is) c.sound.ensures))
+
+pub loop-key-preserved : goal.loop-key-preserved
+loop-key-preserved g c =
+    let eq = g.K.PartialEq.eq in
+    let inv = c.loop-key.invariant in
+    let key = c.in-Some.key in
+    it.again inv key c.in-Some.is (c.next.ensures.steps, c.next.ensures.goes)
+    (one_more_key eq g.met.K.Eq.laws c.args.self.now c.loop-key.self c.add.new.self inv.seen key inv.holds
+    (added_put eq g.met.K.Eq.laws c.loop-key.self c.add.new.self key c.in-Ok._added c.in-Ok.ensures))
+
+pub returns-in-Err : goal.returns-in-Err
+returns-in-Err g c =
+    let inv = c.loop-key.invariant in
+    let (back, none, stays) = c.in-Err.ensures in
+    rw back (
+      inv.seen,
+      it.Gave-then inv c.in-Some.is c.next.ensures.steps,
+      keys_then_stay g.K.PartialEq.eq g.met.K.Eq.laws c.args.self.now c.loop-key.self c.add.new.self inv.seen inv.holds stays,
+      stays.gets c.in-Some.key ∙ none,
+    )

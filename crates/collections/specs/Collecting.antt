@@ -1,0 +1,51 @@
+-- Many pairs or keys put in turn, as an iterator gives them.
+use Rattle.std.specs.Prelude.{◌≡◌, ◌||◌, ◌^◌, Bool, List, [], Option, Some, None, Result, Ok, Err, MatchBool}
+use Rattle.std.specs.Iterator.{YieldsThen}
+use Rattle.std.specs.List.{FoldsTo, list_any}
+use Rattle.std.specs.Map.{update_all}
+use Rattle.std.specs.declared.alloc.AllocFailed.{AllocFailed}
+use Rattle.collections.specs.Changes.{Adds, Keeps, Stays}
+use Rattle.collections.specs.Loans.{Puts}
+use Rattle.collections.specs.Maps.{MapView, contains, get}
+
+-- a map as it is made: it has no pair and no slot
+abbrev pub empty_map : {K V H : Type 0} → H → MapView K V H
+empty_map hasher = record { entries = []; hasher = hasher; minimum = 0; maximum = 2 ^ 63; slots = 0 }
+
+module _ {K V H : Type 0} (eq : K → K → Bool) where
+  -- each pair is put in turn, or its value beside the key that is there; so each key has the last value that came for it, or what
+  -- it had
+  pub record PutsAll (old : MapView K V H) (pairs : List (K × V)) (new : MapView K V H) : Type 0 where
+    pub between : MapView K V H
+    pub in_turn : FoldsTo (λ before pair after. Puts eq before pair.0 pair.1 after) old pairs between
+    pub stays : Stays eq between new
+    pub gets : (key : K) → get eq new key ≡ update_all eq (get eq old) pairs key
+    pub kept : Keeps eq old new
+
+  -- what an iterator gives is put, all of it; or if allocation fails what came before a pair whose key is absent: that comes back,
+  -- and the iterator has what follows it
+  abbrev pub PutsFrom : {S : Type 0} → (S → Option (K × V) → S → Type 0) → S → MapView K V H → Result (Unit {0}) (AllocFailed (K × V))
+      → MapView K V H → S → Type 0
+  PutsFrom steps first old (Ok done) new last = (pairs : List (K × V)) × YieldsThen steps first pairs None last × PutsAll old pairs new
+  PutsFrom steps first old (Err back) new last = (pairs : List (K × V)) × YieldsThen steps first pairs (Some back.value) last
+      × PutsAll old pairs new × (get eq new back.value.0 ≡ None)
+
+module _ {K H : Type 0} (eq : K → K → Bool) where
+  -- a key is put where it is absent, and else the one that is there stays
+  abbrev pub PutsKey : MapView K (Unit {0}) H → K → MapView K (Unit {0}) H → Type 0
+  PutsKey old key new = MatchBool (contains eq old key) (Stays eq old new) (Adds eq old key tt new)
+
+  -- each key is put in turn, so a set has them and what it had
+  pub record PutsKeys (old : MapView K (Unit {0}) H) (keys : List K) (new : MapView K (Unit {0}) H) : Type 0 where
+    pub between : MapView K (Unit {0}) H
+    pub in_turn : FoldsTo PutsKey old keys between
+    pub stays : Stays eq between new
+    pub has : (key : K) → contains eq new key ≡ (contains eq old key || list_any (eq key) keys)
+    pub kept : Keeps eq old new
+
+  -- what an iterator gives is put, as pairs are into a map
+  abbrev pub PutsKeysFrom : {S : Type 0} → (S → Option K → S → Type 0) → S → MapView K (Unit {0}) H → Result (Unit {0}) (AllocFailed K)
+      → MapView K (Unit {0}) H → S → Type 0
+  PutsKeysFrom steps first old (Ok done) new last = (keys : List K) × YieldsThen steps first keys None last × PutsKeys old keys new
+  PutsKeysFrom steps first old (Err back) new last = (keys : List K) × YieldsThen steps first keys (Some back.value) last
+      × PutsKeys old keys new × (get eq new back.value ≡ None)

@@ -1,0 +1,37 @@
+//! Pairs of an iterator, put into a map.
+ghost use Rattle.std.specs.Iterator.{IsFinite};
+ghost use Rattle.collections.specs.Collecting.{PutsFrom};
+
+use crate::hash_map::HashMap;
+use bucket_table::key_hash::KeyHash;
+use std::alloc::AllocFailed;
+
+impl<K: Eq + Drop, V: Drop, H: KeyHash<K>> HashMap<K, V, H> {
+    /// Puts the pairs that an iterator gives, one after the other, as `upsert` does: where an equal
+    /// key is there it writes the value beside it, and drops the earlier one.
+    ///
+    /// # Errors
+    ///
+    /// Allocation failure: the pair that wasn't put comes back, those before it are in the map, and
+    /// those after it are still in the iterator. The map has no key that is equal to its key.
+    ///
+    /// O(pairs) expected, beside resizes. Own: std's `HashMap::extend`, and nothing is lost.
+    pub fn try_extend<I: Iterator<Item = (K, V)>>(
+        &mut self,
+        pairs: &mut I,
+    ) -> Result<(), AllocFailed<(K, V)>>
+        requires can { I.can_next pairs.old }
+        requires finite { IsFinite (I.remaining pairs.old) }
+        ensures { PutsFrom K.eq I.next_gives pairs.old self.old result self.new pairs.new }
+    {
+        self.sound();
+        while let Some(pair) = pairs.next() {
+            let (key, value) = pair;
+            match self.upsert(key, value) {
+                Ok(earlier) => drop(earlier),
+                Err(back) => return Err(back),
+            }
+        }
+        Ok(())
+    }
+}

@@ -1,0 +1,33 @@
+//! Keys of an iterator, put into a set.
+ghost use Rattle.std.specs.Iterator.{IsFinite};
+ghost use Rattle.collections.specs.Collecting.{PutsKeysFrom};
+
+use crate::hash_set::HashSet;
+use bucket_table::key_hash::KeyHash;
+use std::alloc::AllocFailed;
+
+impl<K: Eq + Drop, H: KeyHash<K>> HashSet<K, H> {
+    /// Puts the keys that an iterator gives, one after the other, as `add` does: where an equal key
+    /// is there that one stays, and the other is dropped.
+    ///
+    /// # Errors
+    ///
+    /// Allocation failure: the key that wasn't put comes back, those before it are in the set, and
+    /// those after it are still in the iterator. The set has no key that is equal to it.
+    ///
+    /// O(keys) expected, beside resizes. Own: std's `HashSet::extend`, and nothing is lost.
+    pub fn try_extend<I: Iterator<Item = K>>(&mut self, keys: &mut I) -> Result<(), AllocFailed<K>>
+        requires can { I.can_next keys.old }
+        requires finite { IsFinite (I.remaining keys.old) }
+        ensures { PutsKeysFrom K.eq I.next_gives keys.old self.old result self.new keys.new }
+    {
+        self.map.sound();
+        while let Some(key) = keys.next() {
+            match self.add(key) {
+                Ok(_added) => {}
+                Err(back) => return Err(back),
+            }
+        }
+        Ok(())
+    }
+}
