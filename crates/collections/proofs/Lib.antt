@@ -24,3 +24,4 @@ pub mod Collecting
 pub mod SetCollecting
 pub mod SetSteps
 pub mod Removals
+pub mod EntryMaking

@@ -16,6 +16,8 @@ enum Step {
     Counts(u64, u64, u64),
     /// The value there is doubled, or the second number is put: this is there then.
     Doubles(u64, u64, u64),
+    /// Twice the key is put where there is no value: this is there then.
+    Makes(u64, u64),
     /// A value is written where one is there, and this was the earlier one.
     Writes(u64, u64, Option<u64>),
     /// The pair that is taken out.
@@ -41,7 +43,7 @@ const STORIES: &[Story] = steps! {
     Story { name: "what is there is modified, and what isn't is put",
         hasher: ScriptHash::Id, steps: steps! {
             Doubles(3, 5, 5), Doubles(3, 6, 10), Doubles(3, 7, 20), Doubles(4, 8, 8),
-            Holds(3, Some(20)), Len(2) } },
+            Makes(3, 20), Makes(5, 10), Holds(3, Some(20)), Len(3) } },
     Story { name: "an occupied place is written and taken, a vacant one stays",
         hasher: ScriptHash::Id, steps: steps! {
             Writes(1, 10, None), Takes(1, None), Len(0), Counts(1, 4, 5), Writes(1, 10, Some(5)),
@@ -80,6 +82,7 @@ fn take(rt: &impl Abort, map: &mut Map, at: At, step: &Step) {
         }
         Counts(key, value, after) => check_same(rt, count(map, key, value), Some(after), at),
         Doubles(key, value, after) => check_same(rt, double(map, key, value), Some(after), at),
+        Makes(key, after) => check_same(rt, make(map, key), Some(after), at),
         Writes(key, value, earlier) => check_same(rt, write(map, key, value), earlier, at),
         Takes(key, pair) => check_same(rt, take_out(map, key), pair, at),
         Holds(key, value) => check_same(rt, map.get(&key).copied(), value, at),
@@ -109,6 +112,12 @@ fn double(map: &mut Map, key: u64, value: u64) -> Option<u64> {
         .entry(key)
         .and_modify(|held| *held = held.wrapping_mul(2));
     let _ = entry.or_insert_with(|| value);
+    map.get(&key).copied()
+}
+
+// Puts twice the key where there is no value, and returns what the map has then.
+fn make(map: &mut Map, key: u64) -> Option<u64> {
+    let _ = map.entry(key).or_insert_with_key(|own| own.wrapping_mul(2));
     map.get(&key).copied()
 }
 

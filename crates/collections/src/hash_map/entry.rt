@@ -5,6 +5,7 @@
 ghost use Rattle.std.specs.Prelude.{◌≡◌, None, IsSome};
 ghost use Rattle.collections.specs.Maps.{get};
 
+mod making;
 mod occupied;
 mod vacant;
 mod whole;

@@ -1,0 +1,42 @@
+-- A value of a map that was lent, or was made and lent.
+use Rattle.std.proofs.Common.{Option, Some, None, Result, Ok, Err, ◌≡◌, refl, sym, ap, subst}
+use Rattle.std.specs.Borrow.{MutBor}
+use Rattle.std.specs.Option.{MatchOption}
+use Rattle.std.specs.Prelude.{IfErr, IfOk}
+use Rattle.std.specs.declared.alloc.AllocFailed.{AllocFailed}
+
+-- what is lent is what was there
+pub same_as_held : {V : Type 0} (Q : Type 0) (held : Option V) (value : V) → Some value ≡ held → MatchOption held Q (λ v. value ≡ v)
+same_as_held {V} Q held value is = subst (λ (o : Option V). MatchOption o Q (λ v. value ≡ v)) is refl
+
+module _ {K V : Type 0} (P : V → Type 0) (value : V) (made : P value) (outcome : Result (MutBor V) (AllocFailed (K × V))) where
+  -- what is lent is what was made
+  pub made_lent : IfOk outcome (λ lent. lent.now ≡ value) → IfOk outcome (λ lent. P lent.now)
+  made_lent is = from outcome is
+    where
+      from : (r : Result (MutBor V) (AllocFailed (K × V))) → IfOk r (λ lent. lent.now ≡ value) → IfOk r (λ lent. P lent.now)
+      from (Ok lent) is = subst P (sym is) made
+      from (Err back) is = tt
+
+  -- and so is what comes back beside the key
+  pub made_back : (key : K) → IfErr outcome (λ back. back.value ≡ (key, value))
+      → IfErr outcome (λ back. (back.value.0 ≡ key) × P back.value.1)
+  made_back key is = from outcome is
+    where
+      from : (r : Result (MutBor V) (AllocFailed (K × V))) → IfErr r (λ back. back.value ≡ (key, value))
+          → IfErr r (λ back. (back.value.0 ≡ key) × P back.value.1)
+      from (Ok lent) is = tt
+      from (Err back) is = (ap (λ p. p.0) is, subst P (sym (ap (λ p. p.1) is)) made)
+
+module _ {K V : Type 0} (P : V → Type 0) (held : Option V) (none : held ≡ None) where
+  -- where nothing was there, what is lent was made
+  pub lent_vacant : (r : Result (MutBor V) (AllocFailed (K × V))) → IfOk r (λ lent. P lent.now)
+      → IfOk r (λ lent. MatchOption held (P lent.now) (λ v. lent.now ≡ v))
+  lent_vacant (Ok lent) made = subst (λ (o : Option V). MatchOption o (P lent.now) (λ v. lent.now ≡ v)) (sym none) made
+  lent_vacant (Err back) made = tt
+
+  -- and what comes back was
+  pub back_vacant : (key : K) (r : Result (MutBor V) (AllocFailed (K × V))) → IfErr r (λ back. (back.value.0 ≡ key) × P back.value.1)
+      → IfErr r (λ back. (back.value.0 ≡ key) × P back.value.1 × (held ≡ None))
+  back_vacant key (Ok lent) back = tt
+  back_vacant key (Err refused) back = (back.0, back.1, none)

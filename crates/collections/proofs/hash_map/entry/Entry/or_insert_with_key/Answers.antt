@@ -1,0 +1,47 @@
+use Rattle.std.proofs.Common.{◌≡◌, None, refl}
+use Rattle.std.specs.Borrow.{Bor}
+use Rattle.collections.specs.Maps.{get}
+use Rattle.collections.proofs.Collecting.{upsert_puts}
+use Rattle.collections.proofs.Entries.{puts_there}
+use Rattle.collections.proofs.EntryMaking.{back_vacant, lent_vacant, same_as_held}
+use Rattle.collections.proofs.hash_map.entry.Entry.or_insert_with_key.Goals as goal
+
+pub returns-in-Some : goal.returns-in-Some
+returns-in-Some g c =
+    let lent = c.into_mut.follows in
+    let place = c.in-Occupied.entry in
+    rw c.in-Occupied.is (
+      (
+        refl,
+        λ value is. puts_there g.K.PartialEq.eq place.map.now (lent.lender value) place.key c.into_mut.result c.in-Some.value value
+            c.in-Some.is (lent.holds value),
+        tt,
+      ),
+      record {
+        writes_back = tt;
+        value = same_as_held _ _ c.in-Some.value.now c.in-Some.ensures.value;
+        refused = tt;
+      },
+    )
+
+pub returns-in-Vacant : goal.returns-in-Vacant
+returns-in-Vacant g c =
+    let eq = g.K.PartialEq.eq in
+    let lent = c.insert_made.follows in
+    let place = c.in-Vacant.entry in
+    let made = c.insert_made.ensures in
+    let Makes : g.row.V.Denot → Type 0 =
+    λ value. (key : Bor g.row.K.Denot) × (key.now ≡ place.key) × goal.F-post g c.args.make key value in
+    let held = get eq place.map.now place.key in
+    rw c.in-Vacant.is (
+      (
+        refl,
+        λ value is. upsert_puts eq place.map.now (lent.lender value) place.key value None (lent.holds value is),
+        lent.holds-at-none,
+      ),
+      record {
+        writes_back = tt;
+        value = lent_vacant Makes held made.absent c.insert_made.result made.value;
+        refused = back_vacant Makes held made.absent place.key c.insert_made.result made.pair_returned;
+      },
+    )

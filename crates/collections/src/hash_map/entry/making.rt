@@ -1,0 +1,69 @@
+//! The call of an entry of either kind that makes a value of the key.
+ghost use Rattle.std.specs.Prelude.{◌≡◌, None, IfErr, IfOk, MatchOption};
+ghost use Rattle.std.specs.Borrow.{Bor, sem};
+ghost use Rattle.collections.specs.Maps.{get};
+
+use crate::hash_map::entry::{Entry, VacantEntry};
+use bucket_table::key_hash::KeyHash;
+use std::alloc::AllocFailed;
+
+impl<'a, K: Eq + Drop, V: Drop, H: KeyHash<K>> Entry<'a, K, V, H> {
+    ghost use Rattle.collections.specs.Entries.{entry_key, entry_map};
+    ghost use Rattle.collections.specs.Loans.{LendsPut};
+
+    /// Lends the value under the key for writing; where the map hasn't the key, it inserts it with
+    /// what the function makes of the key first. Once the loan ends, the key has the value last
+    /// written, and each other key what it had. Where the map has the key the function isn't
+    /// called, and it is never refused.
+    ///
+    /// # Errors
+    ///
+    /// Allocation failure, and the map hasn't the key: the key comes back with what was made, and
+    /// the map has the pairs that it had.
+    ///
+    /// O(1) expected, beside a resize. std: `Entry::or_insert_with_key`.
+    pub fn or_insert_with_key<F: FnOnce(&K) -> V>(
+        self,
+        make: F,
+    ) -> Result<&'a mut V, AllocFailed<(K, V)>>
+        requires callable { (key : Bor K) → key.now ≡ entry_key self → F.pre make key }
+        ensures* writes_back { sem 𝓛
+            (LendsPut K.row V.row H.row K.PartialEq H.KeyHash (entry_map self.entry)
+            (entry_key self.entry) result) }
+        ensures value { IfOk result (λ lent.
+            MatchOption (get K.eq (entry_map self.entry).now (entry_key self.entry))
+            ((key : Bor K) × (key.now ≡ entry_key self.entry) × F.post make key lent.now)
+            (λ held. lent.now ≡ held)) }
+        ensures refused { IfErr result (λ back. (back.value.0 ≡ entry_key self.entry)
+            × ((key : Bor K) × (key.now ≡ entry_key self.entry) × F.post make key back.value.1)
+            × (get K.eq (entry_map self.entry).now (entry_key self.entry) ≡ None)) }
+    {
+        match self {
+            Entry::Occupied(entry) => match entry.into_mut() {
+                Some(value) => Ok(value),
+                None => unreachable!(),
+            },
+            Entry::Vacant(entry) => entry.insert_made(make),
+        }
+    }
+}
+
+impl<'a, K: Eq + Drop, V: Drop, H: KeyHash<K>> VacantEntry<'a, K, V, H> {
+    ghost use Rattle.collections.specs.Loans.{LendsAdded};
+
+    /// Inserts the key with what a function makes of it, and lends that for writing.
+    fn insert_made<F: FnOnce(&K) -> V>(self, make: F) -> Result<&'a mut V, AllocFailed<(K, V)>>
+        requires callable { (key : Bor K) → key.now ≡ self.key → F.pre make key }
+        ensures* writes_back { sem 𝓛
+            (LendsAdded K.row V.row H.row K.PartialEq H.KeyHash self.entry.map self.entry.key
+            result) }
+        ensures absent { get K.eq self.entry.map.now self.entry.key ≡ None }
+        ensures value { IfOk result (λ lent. (key : Bor K) × (key.now ≡ self.entry.key)
+            × F.post make key lent.now) }
+        ensures pair_returned { IfErr result (λ back. (back.value.0 ≡ self.entry.key)
+            × ((key : Bor K) × (key.now ≡ self.entry.key) × F.post make key back.value.1)) }
+    {
+        let value = make(self.key());
+        self.insert(value)
+    }
+}
