@@ -10,7 +10,7 @@ use Rattle.collections.specs.Maps.{MapView, contains, get}
 
 -- a map as it is made: it has no pair and no slot
 abbrev pub empty_map : {K V H : Type 0} → H → MapView K V H
-empty_map hasher = record { entries = []; hasher = hasher; minimum = 0; maximum = 2 ^ 63; slots = 0 }
+empty_map hasher = record { entries = []; hasher = hasher; minimum = 0; maximum = 2 ^ 63; slots = 0; old_slots = 0 }
 
 module _ {K V H : Type 0} (eq : K → K → Bool) where
   -- each pair is put in turn, or its value beside the key that is there; so each key has the last value that came for it, or what

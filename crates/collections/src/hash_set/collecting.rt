@@ -1,6 +1,8 @@
 //! Keys of an iterator, put into a set.
+ghost use Rattle.std.specs.Prelude.{IfErr};
 ghost use Rattle.std.specs.Iterator.{IsFinite};
 ghost use Rattle.collections.specs.Collecting.{PutsKeysFrom};
+ghost use Rattle.collections.specs.Crowding.{LacksRoom};
 
 use crate::hash_set::HashSet;
 use bucket_table::key_hash::KeyHash;
@@ -19,7 +21,8 @@ impl<K: Eq + Drop, H: KeyHash<K>> HashSet<K, H> {
     pub fn try_extend<I: Iterator<Item = K>>(&mut self, keys: &mut I) -> Result<(), AllocFailed<K>>
         requires can { I.can_next keys.old }
         requires finite { IsFinite (I.remaining keys.old) }
-        ensures { PutsKeysFrom K.eq I.next_gives keys.old self.old result self.new keys.new }
+        ensures puts { PutsKeysFrom K.eq I.next_gives keys.old self.old result self.new keys.new }
+        ensures memory { IfErr result (λ back. LacksRoom H.hash_of back.value self.new) }
     {
         self.map.sound();
         while let Some(key) = keys.next() {

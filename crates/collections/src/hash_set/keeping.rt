@@ -1,7 +1,8 @@
 //! The calls of std's `HashSet` that answer with a key of the set, or by a truth value.
-ghost use Rattle.std.specs.Prelude.{◌≡◌, IfSome, IsTrue, is_some};
+ghost use Rattle.std.specs.Prelude.{◌≡◌, IfSome, IsTrue, OnErr, is_some};
 ghost use Rattle.std.specs.Option.{option_copied};
 ghost use Rattle.collections.specs.Changes.{TakesOut};
+ghost use Rattle.collections.specs.Crowding.{LacksRoom};
 ghost use Rattle.collections.specs.Maps.{contains_by};
 ghost use Rattle.collections.specs.SetChanges.{SetAdds, SetReplaces};
 ghost use Rattle.collections.specs.StoredKeys.{key_by};
@@ -39,7 +40,8 @@ impl<K: Eq + Drop, H: KeyHash<K>> HashSet<K, H> {
     ///
     /// O(1) expected, beside a resize. std: `HashSet::insert`.
     pub fn add(&mut self, key: K) -> Result<bool, AllocFailed<K>>
-        ensures { SetAdds K.eq key self.old result self.new }
+        ensures set { SetAdds K.eq key self.old result self.new }
+        ensures memory { OnErr result (LacksRoom H.hash_of key self.new) }
     {
         match self.map.insert(key, ()) {
             Ok(()) => Ok(true),
@@ -71,7 +73,8 @@ impl<K: Eq + Drop, H: KeyHash<K>> HashSet<K, H> {
     ///
     /// O(1) expected, beside a resize. std: `HashSet::replace`.
     pub fn replace(&mut self, key: K) -> Result<Option<K>, AllocFailed<(K, Option<K>)>>
-        ensures { SetReplaces K.eq key self.old result self.new }
+        ensures set { SetReplaces K.eq key self.old result self.new }
+        ensures memory { OnErr result (LacksRoom H.hash_of key self.new) }
     {
         let earlier = self.remove(&key);
         let _held = match self.map.upsert(key, ()) {

@@ -13,15 +13,18 @@ loop-pair-preserved g c =
     let pair = c.in-Some.pair in
     it.again inv pair c.in-Some.is (c.next.ensures.steps, c.next.ensures.goes)
     (one_more_put eq c.args.self.now c.loop-pair.self c.upsert.new.self inv.seen pair inv.holds
-    (upsert_puts eq c.loop-pair.self c.upsert.new.self pair.0 pair.1 c.in-Ok.earlier c.in-Ok.ensures))
+    (upsert_puts eq c.loop-pair.self c.upsert.new.self pair.0 pair.1 c.in-Ok.earlier c.in-Ok.ensures.map))
 
-pub returns-in-Err : goal.returns-in-Err
-returns-in-Err g c =
+pub returns-in-Err-clause-puts : goal.returns-in-Err-clause-puts
+returns-in-Err-clause-puts g c =
     let inv = c.loop-pair.invariant in
-    let (back, none, stays) = c.in-Err.ensures in
+    let (back, none, stays) = c.in-Err.ensures.map in
     rw back (
       inv.seen,
       it.Gave-then inv c.in-Some.is c.next.ensures.steps,
       put_then_stays g.K.PartialEq.eq c.args.self.now c.loop-pair.self c.upsert.new.self inv.seen inv.holds stays,
       stays.gets c.in-Some.pair.0 ∙ none,
     )
+
+pub returns-in-Err-clause-memory : goal.returns-in-Err-clause-memory
+returns-in-Err-clause-memory g c = rw c.in-Err.ensures.map.0 c.in-Err.ensures.memory

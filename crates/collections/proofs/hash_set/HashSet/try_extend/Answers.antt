@@ -15,15 +15,18 @@ loop-key-preserved g c =
     let key = c.in-Some.key in
     it.again inv key c.in-Some.is (c.next.ensures.steps, c.next.ensures.goes)
     (one_more_key eq g.met.K.Eq.laws c.args.self.now c.loop-key.self c.add.new.self inv.seen key inv.holds
-    (added_put eq g.met.K.Eq.laws c.loop-key.self c.add.new.self key c.in-Ok._added c.in-Ok.ensures))
+    (added_put eq g.met.K.Eq.laws c.loop-key.self c.add.new.self key c.in-Ok._added c.in-Ok.ensures.set))
 
-pub returns-in-Err : goal.returns-in-Err
-returns-in-Err g c =
+pub returns-in-Err-clause-puts : goal.returns-in-Err-clause-puts
+returns-in-Err-clause-puts g c =
     let inv = c.loop-key.invariant in
-    let (back, none, stays) = c.in-Err.ensures in
+    let (back, none, stays) = c.in-Err.ensures.set in
     rw back (
       inv.seen,
       it.Gave-then inv c.in-Some.is c.next.ensures.steps,
       keys_then_stay g.K.PartialEq.eq g.met.K.Eq.laws c.args.self.now c.loop-key.self c.add.new.self inv.seen inv.holds stays,
       stays.gets c.in-Some.key ∙ none,
     )
+
+pub returns-in-Err-clause-memory : goal.returns-in-Err-clause-memory
+returns-in-Err-clause-memory g c = rw c.in-Err.ensures.set.0 c.in-Err.ensures.memory
