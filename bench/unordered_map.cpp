@@ -1,0 +1,63 @@
+// Prints what calls take with a million pairs, in nanoseconds a call: of bindings/bucket.h, and of std::unordered_map.
+#include "bucket.h"
+
+#include <chrono>
+#include <cstdio>
+#include <cstdlib>
+#include <map>
+#include <string>
+#include <unordered_map>
+#include <vector>
+
+static std::map<std::string, double> least;
+
+template <class Call> static void add(const std::string &name, const std::vector<uint64_t> &keys, Call call) {
+    auto start = std::chrono::steady_clock::now();
+    uint64_t sum = 0;
+    for (uint64_t key : keys) {
+        sum += call(key);
+    }
+    volatile uint64_t kept = sum;
+    (void)kept;
+    std::chrono::duration<double, std::nano> took = std::chrono::steady_clock::now() - start;
+    double time = took.count() / (double)keys.size();
+    auto earlier = least.find(name);
+    least[name] = earlier == least.end() || time < earlier->second ? time : earlier->second;
+}
+
+static std::vector<uint64_t> words(uint64_t seed) {
+    std::vector<uint64_t> words(1000000);
+    for (uint64_t &word : words) {
+        seed += 0x9e3779b97f4a7c15u;
+        word = (seed ^ (seed >> 30)) * 0xbf58476d1ce4e5b9u;
+        word = (word ^ (word >> 27)) * 0x94d049bb133111ebu;
+        word ^= word >> 31;
+    }
+    return words;
+}
+
+int main(int argc, char **argv) {
+    int rounds = argc > 1 ? std::atoi(argv[1]) : 3;
+    std::vector<uint64_t> there = words(1), others = words(uint64_t(1) << 40);
+    for (int round = 0; round < rounds; round++) {
+        bucket_handle map = BUCKET_HANDLE;
+        uint64_t value = 0;
+        if (bucket_map_new(&map, 0, BUCKET_FIXED_SEED) != BUCKET_OK) {
+            return 1;
+        }
+        add("bucket: 1 insert", there, [&](uint64_t key) { return bucket_map_insert(&map, key, key); });
+        add("bucket: 2 hit", there, [&](uint64_t key) { return bucket_map_get(&map, key, &value); });
+        add("bucket: 3 miss", others, [&](uint64_t key) { return bucket_map_get(&map, key, &value); });
+        add("bucket: 4 remove", there, [&](uint64_t key) { return bucket_map_remove(&map, key, &value); });
+        bucket_free(&map);
+        std::unordered_map<uint64_t, uint64_t> std_map;
+        add("unordered_map: 1 insert", there, [&](uint64_t key) { return std_map.emplace(key, key).second; });
+        add("unordered_map: 2 hit", there, [&](uint64_t key) { return std_map.find(key)->second; });
+        add("unordered_map: 3 miss", others, [&](uint64_t key) { return std_map.count(key); });
+        add("unordered_map: 4 remove", there, [&](uint64_t key) { return std_map.erase(key); });
+    }
+    for (const auto &row : least) {
+        std::printf("C++, %-25s%8.1f ns a call\n", row.first.c_str(), row.second);
+    }
+    return 0;
+}

@@ -1,0 +1,4 @@
+mod Copied
+mod CopiedTexts
+mod Holding
+mod KeysCalled

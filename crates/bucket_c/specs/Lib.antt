@@ -1,0 +1,12 @@
+pub mod Codes
+pub mod Hashing
+pub mod Maps
+pub mod Caches
+pub mod Tables
+pub mod Texts
+pub mod Owning
+pub mod Opening
+pub mod Copying
+pub mod Steps
+pub mod Any
+pub mod Pieces

@@ -1,0 +1,117 @@
+//! Exports that take a handle of any kind.
+ghost use Rattle.std.specs.Prelude.{◌≡◌, ◌-◌, ◌^◌, None, min};
+ghost use Rattle.bucket_c.specs.Any.{Clears, ReservesMore, Shrinks};
+ghost use Rattle.bucket_c.specs.Tables.{len_of};
+
+use crate::codes::{CLOSED, OK, OTHER_KIND};
+use crate::handle::Handle;
+use crate::tables::Table;
+use std::alloc::Global;
+
+/// Frees what the handle holds, and closes it.
+#[unsafe(no_mangle)]
+pub extern "C" fn bucket_free(alloc: Global, handle: &mut Handle)
+    ensures { handle.new.held.table ≡ None }
+{
+    let _ = handle.take(alloc);
+}
+
+/// Returns how many pairs or keys the handle holds; 0 where it is closed.
+#[unsafe(no_mangle)]
+pub extern "C" fn bucket_len(alloc: Global, handle: &mut Handle) -> usize
+    ensures len { result ≡ min (len_of handle.old.held.table) (2 ^ 64 - 1) }
+    ensures same { handle.new.held.table ≡ handle.old.held.table }
+{
+    let Some(table) = handle.take(alloc) else {
+        return 0;
+    };
+    let len = match &*table {
+        Table::Map(map) => map.len(),
+        Table::TextMap(map) => map.len(),
+        Table::TextSet(set) => set.len(),
+        Table::Cache(cache) => cache.len(),
+        Table::TextCache(cache) => cache.len(),
+    };
+    handle.put(table);
+    len
+}
+
+/// Drops all pairs and all slots.
+#[unsafe(no_mangle)]
+pub extern "C" fn bucket_clear(alloc: Global, handle: &mut Handle) -> u32
+    ensures { Clears handle.old.held.table result handle.new.held.table }
+{
+    let Some(mut table) = handle.take(alloc) else {
+        return CLOSED;
+    };
+    match &mut *table {
+        Table::Map(map) => map.clear(),
+        Table::TextMap(map) => map.clear(),
+        Table::TextSet(set) => set.clear(),
+        Table::Cache(cache) => cache.clear(),
+        Table::TextCache(cache) => cache.clear(),
+    }
+    handle.put(table);
+    OK
+}
+
+/// Makes slots for so many more pairs, and writes out by how many the least number of slots was
+/// raised.
+#[unsafe(no_mangle)]
+pub extern "C" fn bucket_reserve(
+    alloc: Global,
+    handle: &mut Handle,
+    additional: usize,
+    raised: &mut usize,
+) -> u32
+    ensures { ReservesMore additional raised.old handle.old.held.table result handle.new.held.table
+        raised.new }
+{
+    let Some(mut table) = handle.take(alloc) else {
+        return CLOSED;
+    };
+    let code = match &mut *table {
+        Table::Map(map) => {
+            *raised = map.reserve(additional);
+            OK
+        }
+        Table::TextMap(map) => {
+            *raised = map.reserve(additional);
+            OK
+        }
+        Table::TextSet(set) => {
+            *raised = set.reserve(additional);
+            OK
+        }
+        _ => OTHER_KIND,
+    };
+    handle.put(table);
+    code
+}
+
+/// Lets slots go that the pairs don't need.
+#[unsafe(no_mangle)]
+pub extern "C" fn bucket_shrink(alloc: Global, handle: &mut Handle) -> u32
+    ensures { Shrinks handle.old.held.table result handle.new.held.table }
+{
+    let Some(mut table) = handle.take(alloc) else {
+        return CLOSED;
+    };
+    let code = match &mut *table {
+        Table::Map(map) => {
+            map.shrink_to_fit();
+            OK
+        }
+        Table::TextMap(map) => {
+            map.shrink_to_fit();
+            OK
+        }
+        Table::TextSet(set) => {
+            set.shrink_to_fit();
+            OK
+        }
+        _ => OTHER_KIND,
+    };
+    handle.put(table);
+    code
+}

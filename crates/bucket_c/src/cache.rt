@@ -1,0 +1,122 @@
+//! Exports: a cache from words to words.
+ghost use Rattle.std.specs.Prelude.{◌≡◌, ℕ, nat_eq, unwrap_or};
+ghost use Rattle.collections.specs.Maps.{get, map_of};
+ghost use Rattle.bucket_c.specs.Caches.{GetsOne, PutsOne, TakesOne, UpsertsInto};
+ghost use Rattle.bucket_c.specs.Codes.{found_code};
+ghost use Rattle.bucket_c.specs.Hashing.{word_hash};
+ghost use Rattle.bucket_c.specs.Maps.{Finds};
+ghost use Rattle.bucket_c.specs.Opening.{IsNewCache};
+ghost use Rattle.bucket_c.specs.Tables.{Caches, OnCache, Opens};
+ghost use Rattle.bucket_c.specs.declared.tables.Table.TheVariants.{Cache};
+
+use crate::caches;
+use crate::codes::{CLOSED, OTHER_KIND};
+use crate::handle::Handle;
+use crate::seed::{Seed, hash_by};
+use crate::tables::Table;
+use collections::hash_cache::HashCache;
+use std::alloc::Global;
+
+/// Opens a closed handle on an empty cache, of at least and at most so many slots.
+#[unsafe(no_mangle)]
+pub extern "C" fn bucket_cache_new(
+    alloc: Global,
+    handle: &mut Handle,
+    minimum: usize,
+    maximum: usize,
+    seed: Seed,
+) -> u32
+    ensures { (cache : Caches ℕ) × IsNewCache minimum maximum seed cache
+        × Opens (Cache cache) handle.old.held.table result handle.new.held.table }
+{
+    let cache = HashCache::with_capacity(alloc, hash_by(seed), minimum, maximum);
+    handle.open(alloc, Table::Cache(cache))
+}
+
+/// Puts a pair whose key the cache hasn't, and writes out the pair that goes for it.
+#[unsafe(no_mangle)]
+pub extern "C" fn bucket_cache_put(
+    alloc: Global,
+    handle: &mut Handle,
+    key: u64,
+    value: u64,
+    gone: &mut u64,
+    before: &mut u64,
+) -> u32
+    ensures { OnCache (λ old code new. PutsOne nat_eq key (word_hash old.hasher key) value
+        (λ went. unwrap_or went gone.old) before.old old code new gone.new before.new)
+        ((gone.new ≡ gone.old) × (before.new ≡ before.old))
+        handle.old.held.table result handle.new.held.table }
+{
+    on_table!(handle, alloc, Cache(cache) => caches::put(cache, key, value, gone, before))
+}
+
+/// Puts a pair, and writes out the pair that goes for it; or writes its value beside the key that is
+/// there, and writes out the earlier one. Either way the pair is touched.
+#[unsafe(no_mangle)]
+pub extern "C" fn bucket_cache_upsert(
+    alloc: Global,
+    handle: &mut Handle,
+    key: u64,
+    value: u64,
+    gone: &mut u64,
+    before: &mut u64,
+) -> u32
+    ensures { OnCache (λ old code new. UpsertsInto nat_eq key (word_hash old.hasher key) value
+        (λ went. unwrap_or went gone.old) before.old old code new gone.new before.new)
+        ((gone.new ≡ gone.old) × (before.new ≡ before.old))
+        handle.old.held.table result handle.new.held.table }
+{
+    on_table!(handle, alloc, Cache(cache) => caches::upsert(cache, key, value, gone, before))
+}
+
+/// Writes out the value under a key, and touches its pair.
+#[unsafe(no_mangle)]
+pub extern "C" fn bucket_cache_get(
+    alloc: Global,
+    handle: &mut Handle,
+    key: u64,
+    value: &mut u64,
+) -> u32
+    ensures { OnCache (λ old code new. GetsOne nat_eq key value.old old code new value.new)
+        (value.new ≡ value.old) handle.old.held.table result handle.new.held.table }
+{
+    on_table!(handle, alloc, Cache(cache) => caches::get(cache, &key, value))
+}
+
+/// Writes out the value under a key, and touches no pair.
+#[unsafe(no_mangle)]
+pub extern "C" fn bucket_cache_peek(
+    alloc: Global,
+    handle: &mut Handle,
+    key: u64,
+    value: &mut u64,
+) -> u32
+    ensures { OnCache (λ old code new. Finds (nat_eq key) (map_of old) value.old code value.new × (new ≡ old))
+        (value.new ≡ value.old) handle.old.held.table result handle.new.held.table }
+{
+    on_table!(handle, alloc, Cache(cache) => caches::peek(cache, &key, value))
+}
+
+/// Tests whether the cache has a key, and touches no pair.
+#[unsafe(no_mangle)]
+pub extern "C" fn bucket_cache_contains(alloc: Global, handle: &mut Handle, key: u64) -> u32
+    ensures { OnCache (λ old code new. (code ≡ found_code (get nat_eq (map_of old) key)) × (new ≡ old))
+        (Unit {0}) handle.old.held.table result handle.new.held.table }
+{
+    on_table!(handle, alloc, Cache(cache) => caches::contains(cache, &key))
+}
+
+/// Takes out the pair whose key is equal, and writes out its value.
+#[unsafe(no_mangle)]
+pub extern "C" fn bucket_cache_remove(
+    alloc: Global,
+    handle: &mut Handle,
+    key: u64,
+    value: &mut u64,
+) -> u32
+    ensures { OnCache (λ old code new. TakesOne nat_eq key value.old old code new value.new)
+        (value.new ≡ value.old) handle.old.held.table result handle.new.held.table }
+{
+    on_table!(handle, alloc, Cache(cache) => caches::remove(cache, &key, value))
+}

@@ -1,0 +1,73 @@
+//! A table on the heap as a pointer that C can carry.
+ghost use Rattle.std.specs.Prelude.{◌≡◌, true, Option, Some, None, is_some};
+ghost use Rattle.bucket_c.specs.declared.tables.Table.{Table};
+ghost use Rattle.bucket_c.specs.Owning.{table_coded};
+
+use crate::parts::Parts;
+use crate::tables::Table;
+use std::alloc::Global;
+use std::marker::Model;
+use std::ptr::null_mut;
+
+/// The pointer of a table's block, or null.
+#[repr(C)]
+#[derive(Drop)]
+pub struct Held {
+    at: *mut u8,
+    alloc: Global,
+    pub ghost table: { Option Table } by { table_coded },
+}
+
+impl Model for Held {
+    ghost use Rattle.bucket_c.specs.Owning.{owned};
+
+    ghost also_owns = { λ h. owned h.alloc h.at h.table };
+}
+
+impl Held {
+    /// Holds nothing.
+    pub fn none(alloc: Global) -> Held
+        ensures { result.table ≡ None }
+    {
+        Held {
+            at: null_mut(),
+            alloc,
+        }
+    }
+
+    /// Holds a boxed table.
+    pub fn of(table: Box<Table>) -> Held
+        ensures { result.table ≡ Some table.value }
+    {
+        Held::of_parts(Parts::of(table))
+    }
+
+    /// Returns the boxed table.
+    pub fn into_box(self) -> Box<Table>
+        requires { is_some self.table ≡ true }
+        ensures { self.table ≡ Some result.value }
+    {
+        self.into_parts().into_box()
+    }
+
+    fn of_parts(parts: Parts<Table, Global>) -> Held
+        ensures { result.table ≡ Some parts.value }
+    {
+        let Parts { ptr, alloc } = parts;
+        Held {
+            at: ptr as *mut u8,
+            alloc,
+        }
+    }
+
+    fn into_parts(self) -> Parts<Table, Global>
+        requires { is_some self.table ≡ true }
+        ensures { self.table ≡ Some result.value }
+    {
+        let Held { at, alloc } = self;
+        Parts {
+            ptr: at as *mut Table,
+            alloc,
+        }
+    }
+}

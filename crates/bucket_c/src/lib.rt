@@ -1,0 +1,41 @@
+//! Maps, a set and caches of the library `collections` for C: a handle that C carries, and a code for
+//! each answer.
+//!
+//! Each call takes the handle, makes one call of the library, and puts the handle back. It requires
+//! nothing of its caller: on a closed handle, and on one of another kind, it answers by a code.
+//!
+//! SPDX-License-Identifier: Apache-2.0
+#![tactic(auto)]
+
+// Makes a call on what a handle holds, where that is of the call's kind, and puts it back.
+macro_rules! on_table {
+    ($handle:ident, $alloc:ident, $kind:ident($held:ident) => $call:expr) => {{
+        let Some(mut table) = $handle.take($alloc) else {
+            return CLOSED;
+        };
+        let code = match &mut *table {
+            Table::$kind($held) => $call,
+            _ => OTHER_KIND,
+        };
+        $handle.put(table);
+        code
+    }};
+}
+
+mod any;
+mod cache;
+mod caches;
+mod codes;
+mod copying;
+mod handle;
+mod held;
+mod map;
+mod maps;
+mod parts;
+mod pieces;
+mod seed;
+mod tables;
+mod text_cache;
+mod text_map;
+mod text_set;
+mod texts;

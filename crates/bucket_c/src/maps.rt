@@ -1,0 +1,121 @@
+//! The library's calls on maps and sets, each of which answers by a code.
+ghost use Rattle.std.specs.Prelude.{◌≡◌};
+ghost use Rattle.collections.specs.Maps.{get_by};
+ghost use Rattle.bucket_c.specs.Codes.{found_code};
+ghost use Rattle.bucket_c.specs.Maps.{Finds, InsertsOne, RemovesKey, RemovesOne, UpsertsOne};
+
+use crate::codes::{ABSENT, NO_MEMORY, OK, PRESENT};
+use bucket_table::key_hash::KeyHash;
+use collections::hash_map::{HashMap, NotInserted};
+use collections::hash_set::HashSet;
+use collections::key_form::KeyForm;
+
+/// Inserts a pair whose key the map hasn't.
+#[inline(always)]
+pub fn insert<K: Eq + Drop, H: KeyHash<K>>(map: &mut HashMap<K, u64, H>, key: K, value: u64) -> u32
+    ensures { InsertsOne K.eq key value map.old result map.new }
+{
+    match map.insert(key, value) {
+        Ok(()) => OK,
+        Err(NotInserted::Present(_key, _value)) => PRESENT,
+        Err(NotInserted::Memory(_key, _value)) => NO_MEMORY,
+    }
+}
+
+/// Inserts a pair, or writes its value beside the key that is there, and writes out the earlier one.
+#[inline(always)]
+pub fn upsert<K: Eq + Drop, H: KeyHash<K>>(
+    map: &mut HashMap<K, u64, H>,
+    key: K,
+    value: u64,
+    earlier: &mut u64,
+) -> u32
+    ensures { UpsertsOne K.eq key value earlier.old map.old result map.new earlier.new }
+{
+    match map.upsert(key, value) {
+        Ok(None) => OK,
+        Ok(Some(own)) => {
+            *earlier = own;
+            PRESENT
+        }
+        Err(_back) => NO_MEMORY,
+    }
+}
+
+/// Writes out the value under the keys that a form stands for.
+#[inline(always)]
+pub fn get<K: Eq, H: KeyHash<K>, Q: KeyForm<K, H>>(
+    map: &HashMap<K, u64, H>,
+    key: Q,
+    value: &mut u64,
+) -> u32
+    ensures { Finds (Q.stands_for key) map.now value.old result value.new }
+{
+    match map.get(key) {
+        Some(own) => {
+            *value = *own;
+            OK
+        }
+        None => ABSENT,
+    }
+}
+
+/// Tests whether the map has a key that a form stands for.
+#[inline(always)]
+pub fn contains<K: Eq, H: KeyHash<K>, Q: KeyForm<K, H>>(map: &HashMap<K, u64, H>, key: Q) -> u32
+    ensures { result ≡ found_code (get_by (Q.stands_for key) map.now) }
+{
+    match map.get(key) {
+        Some(_) => OK,
+        None => ABSENT,
+    }
+}
+
+/// Takes out the pair whose key is equal, and writes out its value.
+#[inline(always)]
+pub fn remove<K: Eq + Drop, H: KeyHash<K>>(
+    map: &mut HashMap<K, u64, H>,
+    key: &K,
+    value: &mut u64,
+) -> u32
+    ensures { RemovesOne K.eq key.now value.old map.old result map.new value.new }
+{
+    match map.remove(key) {
+        Some((_key, own)) => {
+            *value = own;
+            OK
+        }
+        None => ABSENT,
+    }
+}
+
+/// Inserts a key that the set hasn't.
+#[inline(always)]
+pub fn insert_key<K: Eq + Drop, H: KeyHash<K>>(set: &mut HashSet<K, H>, key: K) -> u32
+    ensures { InsertsOne K.eq key tt set.old result set.new }
+{
+    match set.insert(key) {
+        Ok(()) => OK,
+        Err(NotInserted::Present(_own, _)) => PRESENT,
+        Err(NotInserted::Memory(_own, _)) => NO_MEMORY,
+    }
+}
+
+/// Tests whether the set has a key that a form stands for.
+#[inline(always)]
+pub fn contains_key<K: Eq, H: KeyHash<K>, Q: KeyForm<K, H>>(set: &HashSet<K, H>, key: Q) -> u32
+    ensures { result ≡ found_code (get_by (Q.stands_for key) set.now) }
+{
+    if set.contains(key) { OK } else { ABSENT }
+}
+
+/// Takes out the key that is equal.
+#[inline(always)]
+pub fn remove_key<K: Eq + Drop, H: KeyHash<K>>(set: &mut HashSet<K, H>, key: &K) -> u32
+    ensures { RemovesKey K.eq key.now set.old result set.new }
+{
+    match set.remove(key) {
+        Some(_own) => OK,
+        None => ABSENT,
+    }
+}

@@ -1,0 +1,126 @@
+//! Exports: a cache from byte strings to words. `peek` and `contains` copy nothing; each other call
+//! copies its key, and can fail for that.
+ghost use Rattle.std.specs.Prelude.{◌≡◌};
+ghost use Rattle.collections.specs.Maps.{get_by, map_of};
+ghost use Rattle.bucket_c.specs.Codes.{found_code};
+ghost use Rattle.bucket_c.specs.Maps.{Finds};
+ghost use Rattle.bucket_c.specs.Opening.{IsNewCache};
+ghost use Rattle.bucket_c.specs.Tables.{Caches, OnTextCache, Opens, Text, has_bytes};
+ghost use Rattle.bucket_c.specs.Texts.{GetsText, PutsText, TakesText, UpsertsTextInto};
+ghost use Rattle.bucket_c.specs.declared.tables.Table.TheVariants.{TextCache};
+
+use crate::codes::{CLOSED, OTHER_KIND};
+use crate::handle::Handle;
+use crate::seed::{Seed, hash_by};
+use crate::tables::Table;
+use crate::{caches, texts};
+use collections::hash_cache::HashCache;
+use std::alloc::Global;
+
+/// Opens a closed handle on an empty cache, of at least and at most so many slots.
+#[unsafe(no_mangle)]
+pub extern "C" fn bucket_text_cache_new(
+    alloc: Global,
+    handle: &mut Handle,
+    minimum: usize,
+    maximum: usize,
+    seed: Seed,
+) -> u32
+    ensures { (cache : Caches Text) × IsNewCache minimum maximum seed cache
+        × Opens (TextCache cache) handle.old.held.table result handle.new.held.table }
+{
+    let cache = HashCache::with_capacity(alloc, hash_by(seed), minimum, maximum);
+    handle.open(alloc, Table::TextCache(cache))
+}
+
+/// Puts a pair whose key the cache hasn't, and writes out the pair that goes for it.
+#[unsafe(no_mangle)]
+pub extern "C" fn bucket_text_cache_put(
+    alloc: Global,
+    handle: &mut Handle,
+    key: &[u8],
+    value: u64,
+    gone: &mut [u8],
+    len: &mut usize,
+    before: &mut u64,
+) -> u32
+    ensures { OnTextCache (λ old code new. PutsText key.now value gone.old len.old before.old old code new
+        gone.new len.new before.new)
+        ((gone.new ≡ gone.old) × (len.new ≡ len.old) × (before.new ≡ before.old))
+        handle.old.held.table result handle.new.held.table }
+{
+    on_table!(handle, alloc, TextCache(cache) => texts::put(cache, alloc, key, value, gone, len, before))
+}
+
+/// Puts a pair, and writes out the pair that goes for it; or writes its value beside the key that is
+/// there, and writes out the earlier one. Either way the pair is touched.
+#[unsafe(no_mangle)]
+pub extern "C" fn bucket_text_cache_upsert(
+    alloc: Global,
+    handle: &mut Handle,
+    key: &[u8],
+    value: u64,
+    gone: &mut [u8],
+    len: &mut usize,
+    before: &mut u64,
+) -> u32
+    ensures { OnTextCache (λ old code new. UpsertsTextInto key.now value gone.old len.old before.old old code new
+        gone.new len.new before.new)
+        ((gone.new ≡ gone.old) × (len.new ≡ len.old) × (before.new ≡ before.old))
+        handle.old.held.table result handle.new.held.table }
+{
+    on_table!(handle, alloc, TextCache(cache) => texts::upsert_cached(cache, alloc, key, value, gone, len, before))
+}
+
+/// Writes out the value under a key, and touches its pair.
+#[unsafe(no_mangle)]
+pub extern "C" fn bucket_text_cache_get(
+    alloc: Global,
+    handle: &mut Handle,
+    key: &[u8],
+    value: &mut u64,
+) -> u32
+    ensures { OnTextCache (λ old code new. GetsText key.now value.old old code new value.new)
+        (value.new ≡ value.old)
+        handle.old.held.table result handle.new.held.table }
+{
+    on_table!(handle, alloc, TextCache(cache) => texts::get(cache, alloc, key, value))
+}
+
+/// Writes out the value under a key, and touches no pair.
+#[unsafe(no_mangle)]
+pub extern "C" fn bucket_text_cache_peek(
+    alloc: Global,
+    handle: &mut Handle,
+    key: &[u8],
+    value: &mut u64,
+) -> u32
+    ensures { OnTextCache (λ old code new. Finds (has_bytes key.now) (map_of old) value.old code value.new
+        × (new ≡ old)) (value.new ≡ value.old) handle.old.held.table result handle.new.held.table }
+{
+    on_table!(handle, alloc, TextCache(cache) => caches::peek(cache, key, value))
+}
+
+/// Tests whether the cache has a key, and touches no pair.
+#[unsafe(no_mangle)]
+pub extern "C" fn bucket_text_cache_contains(alloc: Global, handle: &mut Handle, key: &[u8]) -> u32
+    ensures { OnTextCache (λ old code new. (code ≡ found_code (get_by (has_bytes key.now) (map_of old)))
+        × (new ≡ old)) (Unit {0}) handle.old.held.table result handle.new.held.table }
+{
+    on_table!(handle, alloc, TextCache(cache) => caches::contains(cache, key))
+}
+
+/// Takes out the pair whose key is equal, and writes out its value.
+#[unsafe(no_mangle)]
+pub extern "C" fn bucket_text_cache_remove(
+    alloc: Global,
+    handle: &mut Handle,
+    key: &[u8],
+    value: &mut u64,
+) -> u32
+    ensures { OnTextCache (λ old code new. TakesText key.now value.old old code new value.new)
+        (value.new ≡ value.old)
+        handle.old.held.table result handle.new.held.table }
+{
+    on_table!(handle, alloc, TextCache(cache) => texts::remove_cached(cache, alloc, key, value))
+}

@@ -1,0 +1,101 @@
+//! Exports: a map from byte strings to words. A look-up copies nothing; a call that changes the map
+//! copies its key, and can fail for that.
+ghost use Rattle.std.specs.Prelude.{◌≡◌, ℕ};
+ghost use Rattle.collections.specs.Maps.{get_by};
+ghost use Rattle.bucket_c.specs.Codes.{found_code};
+ghost use Rattle.bucket_c.specs.Maps.{Finds};
+ghost use Rattle.bucket_c.specs.Opening.{IsNew};
+ghost use Rattle.bucket_c.specs.Tables.{Maps, OnTextMap, Opens, Text, has_bytes};
+ghost use Rattle.bucket_c.specs.Texts.{InsertsText, RemovesText, UpsertsText};
+ghost use Rattle.bucket_c.specs.declared.tables.Table.TheVariants.{TextMap};
+
+use crate::codes::{CLOSED, OTHER_KIND};
+use crate::handle::Handle;
+use crate::seed::{Seed, hash_by};
+use crate::tables::Table;
+use crate::{maps, texts};
+use collections::hash_map::HashMap;
+use std::alloc::Global;
+
+/// Opens a closed handle on an empty map.
+#[unsafe(no_mangle)]
+pub extern "C" fn bucket_text_map_new(
+    alloc: Global,
+    handle: &mut Handle,
+    capacity: usize,
+    seed: Seed,
+) -> u32
+    ensures { (map : Maps Text ℕ) × IsNew capacity seed map
+        × Opens (TextMap map) handle.old.held.table result handle.new.held.table }
+{
+    let map = HashMap::with_capacity(alloc, hash_by(seed), capacity);
+    handle.open(alloc, Table::TextMap(map))
+}
+
+/// Inserts a pair whose key the map hasn't.
+#[unsafe(no_mangle)]
+pub extern "C" fn bucket_text_map_insert(
+    alloc: Global,
+    handle: &mut Handle,
+    key: &[u8],
+    value: u64,
+) -> u32
+    ensures { OnTextMap (InsertsText key.now value) (Unit {0})
+        handle.old.held.table result handle.new.held.table }
+{
+    on_table!(handle, alloc, TextMap(map) => texts::insert(map, alloc, key, value))
+}
+
+/// Inserts a pair, or writes its value beside the key that is there, and writes out the earlier one.
+#[unsafe(no_mangle)]
+pub extern "C" fn bucket_text_map_upsert(
+    alloc: Global,
+    handle: &mut Handle,
+    key: &[u8],
+    value: u64,
+    earlier: &mut u64,
+) -> u32
+    ensures { OnTextMap (λ old code new. UpsertsText key.now value earlier.old old code new earlier.new)
+        (earlier.new ≡ earlier.old)
+        handle.old.held.table result handle.new.held.table }
+{
+    on_table!(handle, alloc, TextMap(map) => texts::upsert(map, alloc, key, value, earlier))
+}
+
+/// Writes out the value under a key.
+#[unsafe(no_mangle)]
+pub extern "C" fn bucket_text_map_get(
+    alloc: Global,
+    handle: &mut Handle,
+    key: &[u8],
+    value: &mut u64,
+) -> u32
+    ensures { OnTextMap (λ old code new. Finds (has_bytes key.now) old value.old code value.new × (new ≡ old))
+        (value.new ≡ value.old) handle.old.held.table result handle.new.held.table }
+{
+    on_table!(handle, alloc, TextMap(map) => maps::get(map, key, value))
+}
+
+/// Tests whether the map has a key.
+#[unsafe(no_mangle)]
+pub extern "C" fn bucket_text_map_contains(alloc: Global, handle: &mut Handle, key: &[u8]) -> u32
+    ensures { OnTextMap (λ old code new. (code ≡ found_code (get_by (has_bytes key.now) old)) × (new ≡ old))
+        (Unit {0}) handle.old.held.table result handle.new.held.table }
+{
+    on_table!(handle, alloc, TextMap(map) => maps::contains(map, key))
+}
+
+/// Takes out the pair whose key is equal, and writes out its value.
+#[unsafe(no_mangle)]
+pub extern "C" fn bucket_text_map_remove(
+    alloc: Global,
+    handle: &mut Handle,
+    key: &[u8],
+    value: &mut u64,
+) -> u32
+    ensures { OnTextMap (λ old code new. RemovesText key.now value.old old code new value.new)
+        (value.new ≡ value.old)
+        handle.old.held.table result handle.new.held.table }
+{
+    on_table!(handle, alloc, TextMap(map) => texts::remove(map, alloc, key, value))
+}

@@ -1,0 +1,54 @@
+//! Exports: a set of byte strings. A look-up copies nothing; an insertion and a removal copy their
+//! key, and can fail for that.
+ghost use Rattle.std.specs.Prelude.{◌≡◌};
+ghost use Rattle.collections.specs.Maps.{get_by};
+ghost use Rattle.bucket_c.specs.Codes.{found_code};
+ghost use Rattle.bucket_c.specs.Opening.{IsNew};
+ghost use Rattle.bucket_c.specs.Tables.{Maps, OnTextSet, Opens, Text, has_bytes};
+ghost use Rattle.bucket_c.specs.Texts.{InsertsKeyText, RemovesKeyText};
+ghost use Rattle.bucket_c.specs.declared.tables.Table.TheVariants.{TextSet};
+
+use crate::codes::{CLOSED, OTHER_KIND};
+use crate::handle::Handle;
+use crate::seed::{Seed, hash_by};
+use crate::tables::Table;
+use crate::{maps, texts};
+use collections::hash_set::HashSet;
+use std::alloc::Global;
+
+/// Opens a closed handle on an empty set.
+#[unsafe(no_mangle)]
+pub extern "C" fn bucket_text_set_new(alloc: Global, handle: &mut Handle, seed: Seed) -> u32
+    ensures { (set : Maps Text (Unit {0})) × IsNew 0 seed set
+        × Opens (TextSet set) handle.old.held.table result handle.new.held.table }
+{
+    let set = HashSet::with_hasher(alloc, hash_by(seed));
+    handle.open(alloc, Table::TextSet(set))
+}
+
+/// Inserts a key that the set hasn't.
+#[unsafe(no_mangle)]
+pub extern "C" fn bucket_text_set_insert(alloc: Global, handle: &mut Handle, key: &[u8]) -> u32
+    ensures { OnTextSet (InsertsKeyText key.now) (Unit {0})
+        handle.old.held.table result handle.new.held.table }
+{
+    on_table!(handle, alloc, TextSet(set) => texts::insert_key(set, alloc, key))
+}
+
+/// Tests whether the set has a key.
+#[unsafe(no_mangle)]
+pub extern "C" fn bucket_text_set_contains(alloc: Global, handle: &mut Handle, key: &[u8]) -> u32
+    ensures { OnTextSet (λ old code new. (code ≡ found_code (get_by (has_bytes key.now) old)) × (new ≡ old))
+        (Unit {0}) handle.old.held.table result handle.new.held.table }
+{
+    on_table!(handle, alloc, TextSet(set) => maps::contains_key(set, key))
+}
+
+/// Takes out the key that is equal.
+#[unsafe(no_mangle)]
+pub extern "C" fn bucket_text_set_remove(alloc: Global, handle: &mut Handle, key: &[u8]) -> u32
+    ensures { OnTextSet (RemovesKeyText key.now) (Unit {0})
+        handle.old.held.table result handle.new.held.table }
+{
+    on_table!(handle, alloc, TextSet(set) => texts::remove_key(set, alloc, key))
+}
