@@ -29,15 +29,20 @@ abbrev Went : ℕ → ℕ → List TextPair → List ℕ → List (Text × ℕ) 
 Went count end rows bytes asked last = (last.0.count ≡ count + length asked) × (last.1 ≡ sets rows count (map text_pair_of asked))
     × (last.2 ≡ paste bytes end (bytes_of asked) (length (bytes_of asked)))
 
-none_went : (skip room count end : ℕ) (rows : List TextPair) (bytes : List ℕ) (last : State) → (place skip room count end, rows, bytes) ≡ last
+none_went : (skip room count end : ℕ) (rows : List TextPair) (bytes : List ℕ) (last : State)
+    → (place skip room count end, rows, bytes) ≡ last
     → Went count end rows bytes [] last
-none_went skip room count end rows bytes last is =
-    (ap (λ (s : State). s.0.count) (sym is) ∙ omega arith, ap (λ (s : State). s.1) (sym is), ap (λ (s : State). s.2) (sym is) ∙ paste_none bytes end [])
+none_went skip room count end rows bytes last is = (
+  omega (arith, ap (λ (s : State). s.0.count) is),
+  ap (λ (s : State). s.1) (sym is),
+  ap (λ (s : State). s.2) (sym is) ∙ paste_none bytes end [],
+)
 
 passes : (skip room count end : ℕ) (rows : List TextPair) (bytes : List ℕ) (pair : Text × ℕ)
     → next_text (place (suc skip) room count end, rows, bytes) pair ≡ (place skip room count end, rows, bytes)
 passes skip room count end rows bytes pair =
-    rw (lt-ltb 0 (suc skip) (omega arith)) (ap (λ k. (place k room count end, rows, bytes)) (omega arith))
+    let less : suc skip - 1 ≡ skip = omega arith in
+    rw (lt-ltb 0 (suc skip) (omega arith)) (λ i. (place (less i) room count end, rows, bytes))
 
 -- nothing is written where there is no room
 idle : (skip count end : ℕ) (rows : List TextPair) (bytes : List ℕ) (pairs : List (Text × ℕ)) (last : State)
@@ -64,8 +69,12 @@ module _ (room count end : ℕ) (rows : List TextPair) (bytes : List ℕ) (pair 
   writes fits =
       let room_is : suc room - 1 ≡ room = omega arith in
       let count_is : count + 1 ≡ suc count = omega arith in
-      rw (lt-ltb 0 (suc room) (omega arith), lt-ltb count (length rows) has_row, le-leb end (length bytes) within,
-        le-leb (length pair.0.items) (length bytes - end) fits)
+      rw (
+        lt-ltb 0 (suc room) (omega arith),
+        lt-ltb count (length rows) has_row,
+        le-leb end (length bytes) within,
+        le-leb (length pair.0.items) (length bytes - end) fits,
+      )
       (λ i. (
         place 0 (room_is i) (count_is i) (end + length pair.0.items),
         slice_set rows count (text_pair_of pair),
@@ -74,14 +83,19 @@ module _ (room count end : ℕ) (rows : List TextPair) (bytes : List ℕ) (pair 
 
   refuses : length bytes - end < length pair.0.items
       → next_text (place 0 (suc room) count end, rows, bytes) pair ≡ (place 0 0 count end, rows, bytes)
-  refuses longer = rw (lt-ltb 0 (suc room) (omega arith), lt-ltb count (length rows) has_row, le-leb end (length bytes) within,
-      lt-leb (length pair.0.items) (length bytes - end) longer) refl
+  refuses longer = rw (
+    lt-ltb 0 (suc room) (omega arith),
+    lt-ltb count (length rows) has_row,
+    le-leb end (length bytes) within,
+    lt-leb (length pair.0.items) (length bytes - end) longer,
+  ) refl
 
 module _ (room spare : ℕ) (pair : Text × ℕ) (pairs : List (Text × ℕ)) where
   first_fits : nat_le (length pair.0.items) spare ≡ true
       → fitting (suc room) spare (pair ∷ pairs) ≡ pair ∷ fitting room (spare - length pair.0.items) pairs
-  first_fits fits = rw (lt-ltb 0 (suc room) (omega arith), fits)
-      (ap (λ r. pair ∷ fitting r (spare - length pair.0.items) pairs) (omega arith))
+  first_fits fits =
+      let less : suc room - 1 ≡ room = omega arith in
+      rw (lt-ltb 0 (suc room) (omega arith), fits) (ap (λ r. pair ∷ fitting r (spare - length pair.0.items) pairs) less)
 
   first_is_longer : nat_le (length pair.0.items) spare ≡ false → fitting (suc room) spare (pair ∷ pairs) ≡ []
   first_is_longer longer = rw (lt-ltb 0 (suc room) (omega arith), longer) refl
@@ -104,19 +118,19 @@ module _ (room count end spare : ℕ) (rows : List TextPair) (bytes : List ℕ) 
       let le : n ≤ spare = leb-true n spare fits in
       let step = went.1 ∙ writes room count end rows bytes pair (omega arith) (omega (arith, is)) (omega (arith, is)) in
       let rest = others (slice_set rows count (text_pair_of pair)) (paste bytes end key n) (spare - n)
-          (omega (arith, length-set rows count (text_pair_of pair)))
-          (omega (arith, is, length-paste bytes end key n (omega (arith, is)) (omega arith)))
-          (subst (λ s. Copies s pairs last) step went.2) in
+      (omega (arith, length-set rows count (text_pair_of pair)))
+      (omega (arith, is, length-paste bytes end key n (omega (arith, is)) (omega arith)))
+      (subst (λ s. Copies s pairs last) step went.2) in
       let after : List ℕ = bytes_of (fitting room (spare - n) pairs) in
       rw (first_fits room spare pair pairs fits) (
         omega (arith, rest.0),
         rest.1,
         rest.2 ∙ paste-paste bytes end key after n (length after) refl refl (omega (arith, is))
-        ∙ ap (λ m. paste bytes end (key ++ after) m) (sym (length-append key after)),
+            ∙ ap (λ m. paste bytes end (key ++ after) m) (sym (length-append key after)),
       )
   first_went others false longer =
       let step = went.1 ∙ refuses room count end rows bytes pair (omega arith) (omega (arith, is))
-          (omega (arith, is, leb-false (length pair.0.items) spare longer)) in
+      (omega (arith, is, leb-false (length pair.0.items) spare longer)) in
       rw (first_is_longer room spare pair pairs longer)
       (idle zero count end rows bytes pairs last (subst (λ s. Copies s pairs last) step went.2))
 
@@ -154,15 +168,19 @@ pub texts_copied : (start : ℕ) (rows : List TextPair) (bytes : List ℕ) (pair
     → CopiesTexts start pairs rows bytes last.0.count last.1 last.2
 texts_copied start rows bytes pairs last went =
     let asked : List (Text × ℕ) = fitting (length rows) (length bytes) (drop start pairs) in
+    let front : List TextPair = map text_pair_of asked in
+    let keys : List ℕ = bytes_of asked in
     let all = texts_went start (length rows) 0 0 (length bytes) rows bytes pairs last (omega arith) (omega arith) went in
-    let fits : 0 + length (map text_pair_of asked) ≤ length rows =
-        omega (arith, length-map asked text_pair_of, length-fitting (length rows) (length bytes) (drop start pairs)) in
+    let fits : 0 + length front ≤ length rows =
+    omega (arith, length-map asked text_pair_of, length-fitting (length rows) (length bytes) (drop start pairs)) in
+    let rows_from_zero : 0 + length front ≡ length front = omega arith in
+    let bytes_from_zero : 0 + length keys ≡ length keys = omega arith in
     record {
       asked = asked;
       are = refl;
       count_is = omega (arith, all.0);
-      written = all.1 ∙ sets-eq (map text_pair_of asked) rows 0 fits;
-      keys = all.2 ∙ paste_all bytes 0 (bytes_of asked) (length (bytes_of asked)) refl;
+      written = all.1 ∙ sets-eq front rows 0 fits ∙ ap (λ k. front ++ drop k rows) rows_from_zero;
+      keys = all.2 ∙ paste_all bytes 0 keys (length keys) refl ∙ ap (λ k. keys ++ drop k bytes) bytes_from_zero;
     }
 
 -- a copy of a list's items, each in another form, is one of the list of these

@@ -40,7 +40,8 @@ key_copied bytes len (Some key) = (take (length bytes) key.items ++ drop (length
 module _ {K V H : Type 0} (eq : K → K → Bool) (key : K) where
   -- the pair is touched, and its value is written out, if it is there
   abbrev pub GetsOne : V → TableView K V H → ℕ → TableView K V H → V → Type 0
-  GetsOne before old code new after = (code ≡ found_code (get eq (map_of old) key)) × IsTouched eq key (contains eq (map_of old) key) old new
+  GetsOne before old code new after =
+      (code ≡ found_code (get eq (map_of old) key)) × IsTouched eq key (contains eq (map_of old) key) old new
       × (after ≡ unwrap_or (get eq (map_of old) key) before)
 
   -- the value that goes is written out, if there is one
@@ -55,7 +56,8 @@ module _ {K V H : Type 0} (eq : K → K → Bool) (key : K) where
     PutsOne key_out before old code new out after =
         (answer : Result (Option (K × V)) (NotInserted K V)) × (code ≡ put_code answer) × Puts eq key value (map_of old) answer (map_of new)
         × PutsOrKeeps eq (key, value) hash old answer new.arrays
-        × (out ≡ key_out (option_map (λ pair. pair.0) (gone_of answer))) × (after ≡ unwrap_or (option_map (λ pair. pair.1) (gone_of answer)) before)
+        × (out ≡ key_out (option_map (λ pair. pair.0) (gone_of answer)))
+        × (after ≡ unwrap_or (option_map (λ pair. pair.1) (gone_of answer)) before)
 
     -- the same, or the earlier value is written out
     abbrev pub UpsertsInto : {Out : Type 0} → (Option K → Out) → V → TableView K V H → ℕ → TableView K V H → Out → V → Type 0

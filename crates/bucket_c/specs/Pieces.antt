@@ -25,4 +25,5 @@ module _ (start : ℕ) where
 
   abbrev pub CopiesTextsOf : Option Table → List TextPair → List ℕ → ℕ → ℕ → List TextPair → List ℕ → ℕ → Type 0
   CopiesTextsOf None old bytes before code new after count = (code ≡ closed) × (new ≡ old) × (after ≡ bytes) × (count ≡ before)
-  CopiesTextsOf (Some table) old bytes before code new after count = CopiesTextPairs (text_pairs table) old bytes before code new after count
+  CopiesTextsOf (Some table) old bytes before code new after count =
+      CopiesTextPairs (text_pairs table) old bytes before code new after count

@@ -26,7 +26,9 @@ next_text state pair =
     let place : Place = state.0 in
     let key : List ℕ = pair.0.items in
     cond (nat_lt 0 place.skip) (record place { skip = place.skip - 1 }, state.1, state.2)
-    (cond (nat_lt 0 place.room && has_room place state.1 state.2 key)
-    (record { skip = place.skip; room = place.room - 1; count = place.count + 1; end = place.end + length key },
-    slice_set state.1 place.count (text_pair_of pair), paste state.2 place.end key (length key))
+    (cond (nat_lt 0 place.room && has_room place state.1 state.2 key) (
+      record { skip = place.skip; room = place.room - 1; count = place.count + 1; end = place.end + length key },
+      slice_set state.1 place.count (text_pair_of pair),
+      paste state.2 place.end key (length key),
+    )
     (record place { room = 0 }, state.1, state.2))

@@ -40,11 +40,13 @@ module _ (key : List ℕ) where
   unfoldable pub PutsText : ℕ → List ℕ → ℕ → ℕ → Caches Text → ℕ → Caches Text → List ℕ → ℕ → ℕ → Type 0
   PutsText value bytes len before old code new bytes_after len_after after =
       ByCopy key
-      (λ own. PutsOne text_eq own (text_hash old.hasher own.items) value (key_copied bytes len) before old code new (bytes_after, len_after) after)
+      (λ own. PutsOne text_eq own (text_hash old.hasher own.items) value (key_copied bytes len) before old code new
+      (bytes_after, len_after) after)
       ((code ≡ no_memory) × (new ≡ old) × (bytes_after ≡ bytes) × (len_after ≡ len) × (after ≡ before))
 
   unfoldable pub UpsertsTextInto : ℕ → List ℕ → ℕ → ℕ → Caches Text → ℕ → Caches Text → List ℕ → ℕ → ℕ → Type 0
   UpsertsTextInto value bytes len before old code new bytes_after len_after after =
       ByCopy key
-      (λ own. UpsertsInto text_eq own (text_hash old.hasher own.items) value (key_copied bytes len) before old code new (bytes_after, len_after) after)
+      (λ own. UpsertsInto text_eq own (text_hash old.hasher own.items) value (key_copied bytes len) before old code new
+      (bytes_after, len_after) after)
       ((code ≡ no_memory) × (new ≡ old) × (bytes_after ≡ bytes) × (len_after ≡ len) × (after ≡ before))

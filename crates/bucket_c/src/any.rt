@@ -9,6 +9,8 @@ use crate::tables::Table;
 use std::alloc::Global;
 
 /// Frees what the handle holds, and closes it.
+///
+/// O(slots). Own.
 #[unsafe(no_mangle)]
 pub extern "C" fn bucket_free(alloc: Global, handle: &mut Handle)
     ensures { handle.new.held.table ≡ None }
@@ -17,6 +19,8 @@ pub extern "C" fn bucket_free(alloc: Global, handle: &mut Handle)
 }
 
 /// Returns how many pairs or keys the handle holds; 0 where it is closed.
+///
+/// O(slots / 32). `HashMap::len`.
 #[unsafe(no_mangle)]
 pub extern "C" fn bucket_len(alloc: Global, handle: &mut Handle) -> usize
     ensures len { result ≡ min (len_of handle.old.held.table) (2 ^ 64 - 1) }
@@ -37,6 +41,8 @@ pub extern "C" fn bucket_len(alloc: Global, handle: &mut Handle) -> usize
 }
 
 /// Drops all pairs and all slots.
+///
+/// Returns `OK`, `CLOSED`. O(slots). `HashMap::clear`.
 #[unsafe(no_mangle)]
 pub extern "C" fn bucket_clear(alloc: Global, handle: &mut Handle) -> u32
     ensures { Clears handle.old.held.table result handle.new.held.table }
@@ -57,6 +63,9 @@ pub extern "C" fn bucket_clear(alloc: Global, handle: &mut Handle) -> u32
 
 /// Makes slots for so many more pairs, and writes out by how many the least number of slots was
 /// raised.
+///
+/// Returns `OK`, `CLOSED`; `OTHER_KIND` of a cache, which has the capacity that it was made with.
+/// O(slots). `HashMap::reserve`.
 #[unsafe(no_mangle)]
 pub extern "C" fn bucket_reserve(
     alloc: Global,
@@ -90,6 +99,8 @@ pub extern "C" fn bucket_reserve(
 }
 
 /// Lets slots go that the pairs don't need.
+///
+/// Returns `OK`, `CLOSED`; `OTHER_KIND` of a cache. O(slots). `HashMap::shrink_to_fit`.
 #[unsafe(no_mangle)]
 pub extern "C" fn bucket_shrink(alloc: Global, handle: &mut Handle) -> u32
     ensures { Shrinks handle.old.held.table result handle.new.held.table }

@@ -1,4 +1,6 @@
 //! Exports: a cache from words to words.
+//!
+//! Each call but `new` also returns `CLOSED` and `OTHER_KIND`, and then does nothing.
 ghost use Rattle.std.specs.Prelude.{◌≡◌, ℕ, nat_eq, unwrap_or};
 ghost use Rattle.collections.specs.Maps.{get, map_of};
 ghost use Rattle.bucket_c.specs.Caches.{GetsOne, PutsOne, TakesOne, UpsertsInto};
@@ -18,6 +20,9 @@ use collections::hash_cache::HashCache;
 use std::alloc::Global;
 
 /// Opens a closed handle on an empty cache, of at least and at most so many slots.
+///
+/// Returns `OK`; `NO_MEMORY`, and the handle stays closed; `OPEN`, and what it holds stays. O(1).
+/// Own.
 #[unsafe(no_mangle)]
 pub extern "C" fn bucket_cache_new(
     alloc: Global,
@@ -34,6 +39,9 @@ pub extern "C" fn bucket_cache_new(
 }
 
 /// Puts a pair whose key the cache hasn't, and writes out the pair that goes for it.
+///
+/// Returns `OK`; `EVICTED` if a pair went; `PRESENT` if the key is there, `NO_MEMORY` if allocation
+/// fails: all stays. O(1) expected. `HashCache::put`.
 #[unsafe(no_mangle)]
 pub extern "C" fn bucket_cache_put(
     alloc: Global,
@@ -51,8 +59,11 @@ pub extern "C" fn bucket_cache_put(
     on_table!(handle, alloc, Cache(cache) => caches::put(cache, key, value, gone, before))
 }
 
-/// Puts a pair, and writes out the pair that goes for it; or writes its value beside the key that is
-/// there, and writes out the earlier one. Either way the pair is touched.
+/// Puts a pair, and writes out the pair that goes for it; or writes its value beside the key that
+/// is there, and writes out the earlier one. Either way the pair is touched.
+///
+/// Returns `OK`; `EVICTED` if a pair went; `PRESENT` if the key was there; `NO_MEMORY` if
+/// allocation fails, and all stays. O(1) expected. `HashCache::upsert`.
 #[unsafe(no_mangle)]
 pub extern "C" fn bucket_cache_upsert(
     alloc: Global,
@@ -71,6 +82,8 @@ pub extern "C" fn bucket_cache_upsert(
 }
 
 /// Writes out the value under a key, and touches its pair.
+///
+/// Returns `OK`, `ABSENT`. O(1) expected. `HashCache::get`.
 #[unsafe(no_mangle)]
 pub extern "C" fn bucket_cache_get(
     alloc: Global,
@@ -85,6 +98,8 @@ pub extern "C" fn bucket_cache_get(
 }
 
 /// Writes out the value under a key, and touches no pair.
+///
+/// Returns `OK`, `ABSENT`. O(1) expected. `HashCache::peek`.
 #[unsafe(no_mangle)]
 pub extern "C" fn bucket_cache_peek(
     alloc: Global,
@@ -92,22 +107,28 @@ pub extern "C" fn bucket_cache_peek(
     key: u64,
     value: &mut u64,
 ) -> u32
-    ensures { OnCache (λ old code new. Finds (nat_eq key) (map_of old) value.old code value.new × (new ≡ old))
+    ensures { OnCache (λ old code new. Finds (nat_eq key) (map_of old) value.old code value.new ×
+        (new ≡ old))
         (value.new ≡ value.old) handle.old.held.table result handle.new.held.table }
 {
     on_table!(handle, alloc, Cache(cache) => caches::peek(cache, &key, value))
 }
 
 /// Tests whether the cache has a key, and touches no pair.
+///
+/// Returns `OK`, `ABSENT`. O(1) expected. `HashCache::contains`.
 #[unsafe(no_mangle)]
 pub extern "C" fn bucket_cache_contains(alloc: Global, handle: &mut Handle, key: u64) -> u32
-    ensures { OnCache (λ old code new. (code ≡ found_code (get nat_eq (map_of old) key)) × (new ≡ old))
+    ensures { OnCache (λ old code new. (code ≡ found_code (get nat_eq (map_of old) key)) × (new ≡
+        old))
         (Unit {0}) handle.old.held.table result handle.new.held.table }
 {
     on_table!(handle, alloc, Cache(cache) => caches::contains(cache, &key))
 }
 
 /// Takes out the pair whose key is equal, and writes out its value.
+///
+/// Returns `OK`, `ABSENT`. O(1) expected. `HashCache::remove`.
 #[unsafe(no_mangle)]
 pub extern "C" fn bucket_cache_remove(
     alloc: Global,

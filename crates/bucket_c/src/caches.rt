@@ -86,7 +86,8 @@ pub fn put(
     gone: &mut u64,
     before: &mut u64,
 ) -> u32
-    ensures { PutsOne nat_eq key (word_hash cache.old.hasher key) value (λ went. unwrap_or went gone.old)
+    ensures { PutsOne nat_eq key (word_hash cache.old.hasher key) value (λ went. unwrap_or went
+        gone.old)
         before.old cache.old result cache.new gone.new before.new }
 {
     match cache.put(key, value) {
@@ -101,8 +102,8 @@ pub fn put(
     }
 }
 
-/// Puts a pair, and writes out the pair that goes for it; or writes its value beside the key that is
-/// there, and writes out the earlier one. Either way the pair is touched.
+/// Puts a pair, and writes out the pair that goes for it; or writes its value beside the key that
+/// is there, and writes out the earlier one. Either way the pair is touched.
 pub fn upsert(
     cache: &mut HashCache<u64, u64, SeededHash>,
     key: u64,
@@ -110,7 +111,8 @@ pub fn upsert(
     gone: &mut u64,
     before: &mut u64,
 ) -> u32
-    ensures { UpsertsInto nat_eq key (word_hash cache.old.hasher key) value (λ went. unwrap_or went gone.old)
+    ensures { UpsertsInto nat_eq key (word_hash cache.old.hasher key) value (λ went. unwrap_or
+        went gone.old)
         before.old cache.old result cache.new gone.new before.new }
 {
     match cache.upsert(key, value) {
@@ -147,7 +149,8 @@ pub fn put_text(
     len: &mut usize,
     before: &mut u64,
 ) -> u32
-    ensures { PutsOne text_eq key (text_hash cache.old.hasher key.items) value (key_copied bytes.old len.old)
+    ensures { PutsOne text_eq key (text_hash cache.old.hasher key.items) value (key_copied
+        bytes.old len.old)
         before.old cache.old result cache.new (bytes.new, len.new) before.new }
 {
     match cache.put(key, value) {
@@ -171,7 +174,8 @@ pub fn upsert_text(
     len: &mut usize,
     before: &mut u64,
 ) -> u32
-    ensures { UpsertsInto text_eq key (text_hash cache.old.hasher key.items) value (key_copied bytes.old len.old)
+    ensures { UpsertsInto text_eq key (text_hash cache.old.hasher key.items) value (key_copied
+        bytes.old len.old)
         before.old cache.old result cache.new (bytes.new, len.new) before.new }
 {
     match cache.upsert(key, value) {

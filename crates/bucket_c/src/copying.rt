@@ -29,7 +29,10 @@ pub struct TextPair {
 /// Copies a pair to the next place, where none is to be passed over first and there is room.
 #[inline(always)]
 fn copy_next(skip: &mut usize, count: &mut usize, out: &mut [Pair], key: u64, value: u64)
-    ensures { (skip.new, count.new, out.new) ≡ next_copied (skip.old, count.old, out.old) (key, value) }
+    ensures { (skip.new, count.new, out.new) ≡ next_copied (skip.old, count.old, out.old) (
+      key,
+      value,
+    ) }
 {
     if *skip > 0 {
         *skip -= 1;
@@ -54,11 +57,7 @@ pub fn copy_map(map: &HashMap<u64, u64, SeededHash>, start: usize, out: &mut [Pa
 }
 
 /// Copies a cache's pairs from one on, as many as there is room for, and returns how many.
-pub fn copy_cache(
-    cache: &HashCache<u64, u64, SeededHash>,
-    start: usize,
-    out: &mut [Pair],
-) -> usize
+pub fn copy_cache(cache: &HashCache<u64, u64, SeededHash>, start: usize, out: &mut [Pair]) -> usize
     ensures { CopiesPairs start (pairs_of cache.now.arrays) out.old result out.new }
 {
     let mut skip = start;
@@ -83,7 +82,13 @@ struct Place {
 
 /// Copies a pair to the next row, and its key behind the others, where none is to be passed over
 /// first and they fit.
-fn copy_next_text(place: &mut Place, rows: &mut [TextPair], bytes: &mut [u8], key: &Vec<u8>, value: u64)
+fn copy_next_text(
+    place: &mut Place,
+    rows: &mut [TextPair],
+    bytes: &mut [u8],
+    key: &Vec<u8>,
+    value: u64,
+)
     ensures { (place.new, rows.new, bytes.new)
         ≡ next_text (place.old, rows.old, bytes.old) (key.now, value) }
 {
@@ -138,7 +143,8 @@ pub fn copy_text_set(
     rows: &mut [TextPair],
     bytes: &mut [u8],
 ) -> usize
-    ensures { CopiesTexts start (map (λ key. (key, 0)) (keys_of set.now.entries)) rows.old bytes.old result rows.new bytes.new }
+    ensures { CopiesTexts start (map (λ key. (key, 0)) (keys_of set.now.entries)) rows.old
+        bytes.old result rows.new bytes.new }
 {
     let mut place = Place {
         skip: start,
@@ -161,7 +167,8 @@ pub fn copy_text_cache(
     rows: &mut [TextPair],
     bytes: &mut [u8],
 ) -> usize
-    ensures { CopiesTexts start (pairs_of cache.now.arrays) rows.old bytes.old result rows.new bytes.new }
+    ensures { CopiesTexts start (pairs_of cache.now.arrays) rows.old bytes.old result rows.new
+        bytes.new }
 {
     let mut place = Place {
         skip: start,

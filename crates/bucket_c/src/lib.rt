@@ -1,8 +1,13 @@
-//! Maps, a set and caches of the library `collections` for C: a handle that C carries, and a code for
-//! each answer.
+//! Maps, a set and caches of the library `collections` for C: a handle that C carries, and a code
+//! for each answer.
 //!
-//! Each call takes the handle, makes one call of the library, and puts the handle back. It requires
-//! nothing of its caller: on a closed handle, and on one of another kind, it answers by a code.
+//! Each call takes the table out of its handle, makes one call of the library, and puts the table
+//! back. It requires nothing of its caller: on a closed handle, and on one of another kind, it
+//! answers by a code. `specs/Tables.antt` says what a clause means there, and `specs/Codes.antt`
+//! which answer has which code. Keys are hashed by a seed, `seed.rt`.
+//!
+//! `held.rt` keeps the table's block as a pointer, and `parts.rt` takes a box apart: their proofs
+//! alone follow the pointer. `bindings/bucket.h` declares the calls for C.
 //!
 //! SPDX-License-Identifier: Apache-2.0
 #![tactic(auto)]

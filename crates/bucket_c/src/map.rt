@@ -1,4 +1,6 @@
 //! Exports: a map from words to words.
+//!
+//! Each call but `new` also returns `CLOSED` and `OTHER_KIND`, and then does nothing.
 ghost use Rattle.std.specs.Prelude.{◌≡◌, ℕ, nat_eq};
 ghost use Rattle.collections.specs.Maps.{get};
 ghost use Rattle.bucket_c.specs.Codes.{found_code};
@@ -16,6 +18,9 @@ use collections::hash_map::HashMap;
 use std::alloc::Global;
 
 /// Opens a closed handle on an empty map.
+///
+/// Returns `OK`; `NO_MEMORY`, and the handle stays closed; `OPEN`, and what it holds stays. O(1).
+/// Own.
 #[unsafe(no_mangle)]
 pub extern "C" fn bucket_map_new(
     alloc: Global,
@@ -31,6 +36,9 @@ pub extern "C" fn bucket_map_new(
 }
 
 /// Inserts a pair whose key the map hasn't.
+///
+/// Returns `OK`; `PRESENT` if the key is there, `NO_MEMORY` if allocation fails: all stays. O(1)
+/// expected. `HashMap::insert`.
 #[unsafe(no_mangle)]
 pub extern "C" fn bucket_map_insert(alloc: Global, handle: &mut Handle, key: u64, value: u64) -> u32
     ensures { OnMap (InsertsOne nat_eq key value) (Unit {0})
@@ -39,7 +47,11 @@ pub extern "C" fn bucket_map_insert(alloc: Global, handle: &mut Handle, key: u64
     on_table!(handle, alloc, Map(map) => maps::insert(map, key, value))
 }
 
-/// Inserts a pair, or writes its value beside the key that is there, and writes out the earlier one.
+/// Inserts a pair, or writes its value beside the key that is there, and writes out the earlier
+/// one.
+///
+/// Returns `OK` if the key was absent, `PRESENT` if it was there; `NO_MEMORY` if allocation fails,
+/// and all stays. O(1) expected. `HashMap::upsert`.
 #[unsafe(no_mangle)]
 pub extern "C" fn bucket_map_upsert(
     alloc: Global,
@@ -48,13 +60,16 @@ pub extern "C" fn bucket_map_upsert(
     value: u64,
     earlier: &mut u64,
 ) -> u32
-    ensures { OnMap (λ old code new. UpsertsOne nat_eq key value earlier.old old code new earlier.new)
+    ensures { OnMap (λ old code new. UpsertsOne nat_eq key value earlier.old old code new
+        earlier.new)
         (earlier.new ≡ earlier.old) handle.old.held.table result handle.new.held.table }
 {
     on_table!(handle, alloc, Map(map) => maps::upsert(map, key, value, earlier))
 }
 
 /// Writes out the value under a key.
+///
+/// Returns `OK`, `ABSENT`. O(1) expected. `HashMap::get`.
 #[unsafe(no_mangle)]
 pub extern "C" fn bucket_map_get(
     alloc: Global,
@@ -69,15 +84,20 @@ pub extern "C" fn bucket_map_get(
 }
 
 /// Tests whether the map has a key.
+///
+/// Returns `OK`, `ABSENT`. O(1) expected. `HashMap::contains`.
 #[unsafe(no_mangle)]
 pub extern "C" fn bucket_map_contains(alloc: Global, handle: &mut Handle, key: u64) -> u32
-    ensures { OnMap (λ old code new. (code ≡ found_code (get nat_eq old key)) × (new ≡ old)) (Unit {0})
+    ensures { OnMap (λ old code new. (code ≡ found_code (get nat_eq old key)) × (new ≡ old))
+        (Unit {0})
         handle.old.held.table result handle.new.held.table }
 {
     on_table!(handle, alloc, Map(map) => maps::contains(map, &key))
 }
 
 /// Takes out the pair whose key is equal, and writes out its value.
+///
+/// Returns `OK`, `ABSENT`. O(1) expected. `HashMap::remove`.
 #[unsafe(no_mangle)]
 pub extern "C" fn bucket_map_remove(
     alloc: Global,

@@ -22,7 +22,8 @@ pub fn insert<K: Eq + Drop, H: KeyHash<K>>(map: &mut HashMap<K, u64, H>, key: K,
     }
 }
 
-/// Inserts a pair, or writes its value beside the key that is there, and writes out the earlier one.
+/// Inserts a pair, or writes its value beside the key that is there, and writes out the earlier
+/// one.
 #[inline(always)]
 pub fn upsert<K: Eq + Drop, H: KeyHash<K>>(
     map: &mut HashMap<K, u64, H>,

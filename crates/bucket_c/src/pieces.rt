@@ -3,14 +3,16 @@ ghost use Rattle.std.specs.Prelude.{◌≡◌};
 ghost use Rattle.bucket_c.specs.Pieces.{CopiesTextsOf, CopiesWordsOf};
 
 use crate::codes::{CLOSED, OK, OTHER_KIND};
+use crate::copying;
 use crate::copying::{Pair, TextPair};
 use crate::handle::Handle;
 use crate::tables::Table;
-use crate::copying;
 use std::alloc::Global;
 
 /// Copies pairs of a map or a cache of words, from one on, as many as there is room for, and writes
 /// out how many.
+///
+/// Returns `OK`, `CLOSED`, `OTHER_KIND`. O(slots). `HashMap::for_each`.
 #[unsafe(no_mangle)]
 pub extern "C" fn bucket_pairs(
     alloc: Global,
@@ -19,7 +21,8 @@ pub extern "C" fn bucket_pairs(
     out: &mut [Pair],
     count: &mut usize,
 ) -> u32
-    ensures copied { CopiesWordsOf start handle.old.held.table out.old count.old result out.new count.new }
+    ensures copied { CopiesWordsOf start handle.old.held.table out.old count.old result out.new
+        count.new }
     ensures same { handle.new.held.table ≡ handle.old.held.table }
 {
     let Some(table) = handle.take(alloc) else {
@@ -40,8 +43,10 @@ pub extern "C" fn bucket_pairs(
     code
 }
 
-/// Copies pairs under byte strings, from one on, as many as fit: the lengths of their keys and their
-/// values, and their keys one after another. The keys of a set are beside 0.
+/// Copies pairs under byte strings, from one on, as many as fit: the lengths of their keys and
+/// their values, and their keys one after another. The keys of a set are beside 0.
+///
+/// Returns `OK`, `CLOSED`, `OTHER_KIND`. O(slots). `HashMap::for_each`.
 #[unsafe(no_mangle)]
 pub extern "C" fn bucket_texts(
     alloc: Global,
@@ -51,7 +56,8 @@ pub extern "C" fn bucket_texts(
     bytes: &mut [u8],
     count: &mut usize,
 ) -> u32
-    ensures copied { CopiesTextsOf start handle.old.held.table rows.old bytes.old count.old result rows.new
+    ensures copied { CopiesTextsOf start handle.old.held.table rows.old bytes.old count.old
+        result rows.new
         bytes.new count.new }
     ensures same { handle.new.held.table ≡ handle.old.held.table }
 {

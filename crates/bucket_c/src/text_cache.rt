@@ -1,5 +1,7 @@
 //! Exports: a cache from byte strings to words. `peek` and `contains` copy nothing; each other call
 //! copies its key, and can fail for that.
+//!
+//! Each call but `new` also returns `CLOSED` and `OTHER_KIND`, and then does nothing.
 ghost use Rattle.std.specs.Prelude.{◌≡◌};
 ghost use Rattle.collections.specs.Maps.{get_by, map_of};
 ghost use Rattle.bucket_c.specs.Codes.{found_code};
@@ -18,6 +20,9 @@ use collections::hash_cache::HashCache;
 use std::alloc::Global;
 
 /// Opens a closed handle on an empty cache, of at least and at most so many slots.
+///
+/// Returns `OK`; `NO_MEMORY`, and the handle stays closed; `OPEN`, and what it holds stays. O(1).
+/// Own.
 #[unsafe(no_mangle)]
 pub extern "C" fn bucket_text_cache_new(
     alloc: Global,
@@ -34,6 +39,9 @@ pub extern "C" fn bucket_text_cache_new(
 }
 
 /// Puts a pair whose key the cache hasn't, and writes out the pair that goes for it.
+///
+/// Returns `OK`; `EVICTED` if a pair went; `PRESENT` if the key is there, `NO_MEMORY` if allocation
+/// fails: all stays. O(1) expected. `HashCache::put`.
 #[unsafe(no_mangle)]
 pub extern "C" fn bucket_text_cache_put(
     alloc: Global,
@@ -44,16 +52,20 @@ pub extern "C" fn bucket_text_cache_put(
     len: &mut usize,
     before: &mut u64,
 ) -> u32
-    ensures { OnTextCache (λ old code new. PutsText key.now value gone.old len.old before.old old code new
-        gone.new len.new before.new)
+    ensures { OnTextCache (λ old code new. PutsText key.now value gone.old len.old before.old old
+        code new gone.new len.new before.new)
         ((gone.new ≡ gone.old) × (len.new ≡ len.old) × (before.new ≡ before.old))
         handle.old.held.table result handle.new.held.table }
 {
-    on_table!(handle, alloc, TextCache(cache) => texts::put(cache, alloc, key, value, gone, len, before))
+    on_table!(handle, alloc, TextCache(cache) =>
+        texts::put(cache, alloc, key, value, gone, len, before))
 }
 
-/// Puts a pair, and writes out the pair that goes for it; or writes its value beside the key that is
-/// there, and writes out the earlier one. Either way the pair is touched.
+/// Puts a pair, and writes out the pair that goes for it; or writes its value beside the key that
+/// is there, and writes out the earlier one. Either way the pair is touched.
+///
+/// Returns `OK`; `EVICTED` if a pair went; `PRESENT` if the key was there; `NO_MEMORY` if
+/// allocation fails, and all stays. O(1) expected. `HashCache::upsert`.
 #[unsafe(no_mangle)]
 pub extern "C" fn bucket_text_cache_upsert(
     alloc: Global,
@@ -64,15 +76,19 @@ pub extern "C" fn bucket_text_cache_upsert(
     len: &mut usize,
     before: &mut u64,
 ) -> u32
-    ensures { OnTextCache (λ old code new. UpsertsTextInto key.now value gone.old len.old before.old old code new
-        gone.new len.new before.new)
+    ensures { OnTextCache (λ old code new. UpsertsTextInto key.now value gone.old len.old
+        before.old old code new gone.new len.new before.new)
         ((gone.new ≡ gone.old) × (len.new ≡ len.old) × (before.new ≡ before.old))
         handle.old.held.table result handle.new.held.table }
 {
-    on_table!(handle, alloc, TextCache(cache) => texts::upsert_cached(cache, alloc, key, value, gone, len, before))
+    on_table!(handle, alloc, TextCache(cache) =>
+        texts::upsert_cached(cache, alloc, key, value, gone, len, before))
 }
 
 /// Writes out the value under a key, and touches its pair.
+///
+/// Returns `OK`, `ABSENT`; `NO_MEMORY` if the key can't be copied, and all stays. O(1) expected.
+/// `HashCache::get`.
 #[unsafe(no_mangle)]
 pub extern "C" fn bucket_text_cache_get(
     alloc: Global,
@@ -88,6 +104,8 @@ pub extern "C" fn bucket_text_cache_get(
 }
 
 /// Writes out the value under a key, and touches no pair.
+///
+/// Returns `OK`, `ABSENT`. O(1) expected. `HashCache::peek`.
 #[unsafe(no_mangle)]
 pub extern "C" fn bucket_text_cache_peek(
     alloc: Global,
@@ -95,22 +113,29 @@ pub extern "C" fn bucket_text_cache_peek(
     key: &[u8],
     value: &mut u64,
 ) -> u32
-    ensures { OnTextCache (λ old code new. Finds (has_bytes key.now) (map_of old) value.old code value.new
+    ensures { OnTextCache (λ old code new. Finds (has_bytes key.now) (map_of old) value.old code
+        value.new
         × (new ≡ old)) (value.new ≡ value.old) handle.old.held.table result handle.new.held.table }
 {
     on_table!(handle, alloc, TextCache(cache) => caches::peek(cache, key, value))
 }
 
 /// Tests whether the cache has a key, and touches no pair.
+///
+/// Returns `OK`, `ABSENT`. O(1) expected. `HashCache::contains`.
 #[unsafe(no_mangle)]
 pub extern "C" fn bucket_text_cache_contains(alloc: Global, handle: &mut Handle, key: &[u8]) -> u32
-    ensures { OnTextCache (λ old code new. (code ≡ found_code (get_by (has_bytes key.now) (map_of old)))
+    ensures { OnTextCache (λ old code new. (code ≡ found_code (get_by (has_bytes key.now) (map_of
+        old)))
         × (new ≡ old)) (Unit {0}) handle.old.held.table result handle.new.held.table }
 {
     on_table!(handle, alloc, TextCache(cache) => caches::contains(cache, key))
 }
 
 /// Takes out the pair whose key is equal, and writes out its value.
+///
+/// Returns `OK`, `ABSENT`; `NO_MEMORY` if the key can't be copied, and all stays. O(1) expected.
+/// `HashCache::remove`.
 #[unsafe(no_mangle)]
 pub extern "C" fn bucket_text_cache_remove(
     alloc: Global,

@@ -1,5 +1,7 @@
 //! Exports: a map from byte strings to words. A look-up copies nothing; a call that changes the map
 //! copies its key, and can fail for that.
+//!
+//! Each call but `new` also returns `CLOSED` and `OTHER_KIND`, and then does nothing.
 ghost use Rattle.std.specs.Prelude.{◌≡◌, ℕ};
 ghost use Rattle.collections.specs.Maps.{get_by};
 ghost use Rattle.bucket_c.specs.Codes.{found_code};
@@ -18,6 +20,9 @@ use collections::hash_map::HashMap;
 use std::alloc::Global;
 
 /// Opens a closed handle on an empty map.
+///
+/// Returns `OK`; `NO_MEMORY`, and the handle stays closed; `OPEN`, and what it holds stays. O(1).
+/// Own.
 #[unsafe(no_mangle)]
 pub extern "C" fn bucket_text_map_new(
     alloc: Global,
@@ -33,6 +38,9 @@ pub extern "C" fn bucket_text_map_new(
 }
 
 /// Inserts a pair whose key the map hasn't.
+///
+/// Returns `OK`; `PRESENT` if the key is there, `NO_MEMORY` if allocation fails: all stays. O(1)
+/// expected. `HashMap::insert`.
 #[unsafe(no_mangle)]
 pub extern "C" fn bucket_text_map_insert(
     alloc: Global,
@@ -46,7 +54,11 @@ pub extern "C" fn bucket_text_map_insert(
     on_table!(handle, alloc, TextMap(map) => texts::insert(map, alloc, key, value))
 }
 
-/// Inserts a pair, or writes its value beside the key that is there, and writes out the earlier one.
+/// Inserts a pair, or writes its value beside the key that is there, and writes out the earlier
+/// one.
+///
+/// Returns `OK` if the key was absent, `PRESENT` if it was there; `NO_MEMORY` if allocation fails,
+/// and all stays. O(1) expected. `HashMap::upsert`.
 #[unsafe(no_mangle)]
 pub extern "C" fn bucket_text_map_upsert(
     alloc: Global,
@@ -55,7 +67,8 @@ pub extern "C" fn bucket_text_map_upsert(
     value: u64,
     earlier: &mut u64,
 ) -> u32
-    ensures { OnTextMap (λ old code new. UpsertsText key.now value earlier.old old code new earlier.new)
+    ensures { OnTextMap (λ old code new. UpsertsText key.now value earlier.old old code new
+        earlier.new)
         (earlier.new ≡ earlier.old)
         handle.old.held.table result handle.new.held.table }
 {
@@ -63,6 +76,8 @@ pub extern "C" fn bucket_text_map_upsert(
 }
 
 /// Writes out the value under a key.
+///
+/// Returns `OK`, `ABSENT`. O(1) expected. `HashMap::get`.
 #[unsafe(no_mangle)]
 pub extern "C" fn bucket_text_map_get(
     alloc: Global,
@@ -70,22 +85,29 @@ pub extern "C" fn bucket_text_map_get(
     key: &[u8],
     value: &mut u64,
 ) -> u32
-    ensures { OnTextMap (λ old code new. Finds (has_bytes key.now) old value.old code value.new × (new ≡ old))
+    ensures { OnTextMap (λ old code new. Finds (has_bytes key.now) old value.old code value.new ×
+        (new ≡ old))
         (value.new ≡ value.old) handle.old.held.table result handle.new.held.table }
 {
     on_table!(handle, alloc, TextMap(map) => maps::get(map, key, value))
 }
 
 /// Tests whether the map has a key.
+///
+/// Returns `OK`, `ABSENT`. O(1) expected. `HashMap::contains`.
 #[unsafe(no_mangle)]
 pub extern "C" fn bucket_text_map_contains(alloc: Global, handle: &mut Handle, key: &[u8]) -> u32
-    ensures { OnTextMap (λ old code new. (code ≡ found_code (get_by (has_bytes key.now) old)) × (new ≡ old))
+    ensures { OnTextMap (λ old code new. (code ≡ found_code (get_by (has_bytes key.now) old)) ×
+        (new ≡ old))
         (Unit {0}) handle.old.held.table result handle.new.held.table }
 {
     on_table!(handle, alloc, TextMap(map) => maps::contains(map, key))
 }
 
 /// Takes out the pair whose key is equal, and writes out its value.
+///
+/// Returns `OK`, `ABSENT`; `NO_MEMORY` if the key can't be copied, and all stays. O(1) expected.
+/// `HashMap::remove`.
 #[unsafe(no_mangle)]
 pub extern "C" fn bucket_text_map_remove(
     alloc: Global,

@@ -1,5 +1,7 @@
 //! Exports: a set of byte strings. A look-up copies nothing; an insertion and a removal copy their
 //! key, and can fail for that.
+//!
+//! Each call but `new` also returns `CLOSED` and `OTHER_KIND`, and then does nothing.
 ghost use Rattle.std.specs.Prelude.{◌≡◌};
 ghost use Rattle.collections.specs.Maps.{get_by};
 ghost use Rattle.bucket_c.specs.Codes.{found_code};
@@ -17,6 +19,9 @@ use collections::hash_set::HashSet;
 use std::alloc::Global;
 
 /// Opens a closed handle on an empty set.
+///
+/// Returns `OK`; `NO_MEMORY`, and the handle stays closed; `OPEN`, and what it holds stays. O(1).
+/// Own.
 #[unsafe(no_mangle)]
 pub extern "C" fn bucket_text_set_new(alloc: Global, handle: &mut Handle, seed: Seed) -> u32
     ensures { (set : Maps Text (Unit {0})) × IsNew 0 seed set
@@ -27,6 +32,9 @@ pub extern "C" fn bucket_text_set_new(alloc: Global, handle: &mut Handle, seed: 
 }
 
 /// Inserts a key that the set hasn't.
+///
+/// Returns `OK`; `PRESENT` if the key is there, `NO_MEMORY` if allocation fails: all stays. O(1)
+/// expected. `HashSet::insert`.
 #[unsafe(no_mangle)]
 pub extern "C" fn bucket_text_set_insert(alloc: Global, handle: &mut Handle, key: &[u8]) -> u32
     ensures { OnTextSet (InsertsKeyText key.now) (Unit {0})
@@ -36,15 +44,21 @@ pub extern "C" fn bucket_text_set_insert(alloc: Global, handle: &mut Handle, key
 }
 
 /// Tests whether the set has a key.
+///
+/// Returns `OK`, `ABSENT`. O(1) expected. `HashSet::contains`.
 #[unsafe(no_mangle)]
 pub extern "C" fn bucket_text_set_contains(alloc: Global, handle: &mut Handle, key: &[u8]) -> u32
-    ensures { OnTextSet (λ old code new. (code ≡ found_code (get_by (has_bytes key.now) old)) × (new ≡ old))
+    ensures { OnTextSet (λ old code new. (code ≡ found_code (get_by (has_bytes key.now) old)) ×
+        (new ≡ old))
         (Unit {0}) handle.old.held.table result handle.new.held.table }
 {
     on_table!(handle, alloc, TextSet(set) => maps::contains_key(set, key))
 }
 
 /// Takes out the key that is equal.
+///
+/// Returns `OK`, `ABSENT`; `NO_MEMORY` if the key can't be copied, and all stays. O(1) expected.
+/// `HashSet::remove`.
 #[unsafe(no_mangle)]
 pub extern "C" fn bucket_text_set_remove(alloc: Global, handle: &mut Handle, key: &[u8]) -> u32
     ensures { OnTextSet (RemovesKeyText key.now) (Unit {0})

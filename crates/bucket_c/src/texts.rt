@@ -1,6 +1,7 @@
-//! Calls that copy their key: a collection owns the keys that it keeps, and a removal asks for a key
-//! as it keeps it.
-ghost use Rattle.bucket_c.specs.Texts.{GetsText, InsertsKeyText, InsertsText, PutsText, RemovesKeyText};
+//! Calls that copy their key: a collection owns the keys that it keeps, and a removal asks for a
+//! key as it keeps it.
+ghost use Rattle.bucket_c.specs.Texts.{GetsText, InsertsKeyText};
+ghost use Rattle.bucket_c.specs.Texts.{InsertsText, PutsText, RemovesKeyText};
 ghost use Rattle.bucket_c.specs.Texts.{RemovesText, TakesText, UpsertsText, UpsertsTextInto};
 
 use crate::codes::NO_MEMORY;
@@ -27,7 +28,8 @@ pub fn insert(
     }
 }
 
-/// Inserts a pair, or writes its value beside the key that is there, and writes out the earlier one.
+/// Inserts a pair, or writes its value beside the key that is there, and writes out the earlier
+/// one.
 #[tactic(auto, unfolding(crate::specs::Texts::UpsertsText))]
 pub fn upsert(
     map: &mut HashMap<Vec<u8>, u64, SeededHash>,
@@ -93,7 +95,8 @@ pub fn put(
     len: &mut usize,
     before: &mut u64,
 ) -> u32
-    ensures { PutsText key.now value bytes.old len.old before.old cache.old result cache.new bytes.new len.new
+    ensures { PutsText key.now value bytes.old len.old before.old cache.old result cache.new
+        bytes.new len.new
         before.new }
 {
     match Vec::from_slice(alloc, key) {
@@ -102,8 +105,8 @@ pub fn put(
     }
 }
 
-/// Puts a pair, and writes out the pair that goes for it; or writes its value beside the key that is
-/// there, and writes out the earlier one.
+/// Puts a pair, and writes out the pair that goes for it; or writes its value beside the key that
+/// is there, and writes out the earlier one.
 #[tactic(auto, unfolding(crate::specs::Texts::UpsertsTextInto))]
 pub fn upsert_cached(
     cache: &mut HashCache<Vec<u8>, u64, SeededHash>,
@@ -114,7 +117,8 @@ pub fn upsert_cached(
     len: &mut usize,
     before: &mut u64,
 ) -> u32
-    ensures { UpsertsTextInto key.now value bytes.old len.old before.old cache.old result cache.new bytes.new
+    ensures { UpsertsTextInto key.now value bytes.old len.old before.old cache.old result
+        cache.new bytes.new
         len.new before.new }
 {
     match Vec::from_slice(alloc, key) {

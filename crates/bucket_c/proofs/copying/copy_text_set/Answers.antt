@@ -1,4 +1,4 @@
-use Rattle.std.proofs.Common.{ℕ, ◌≡◌, ◌∙◌, ap, map, refl, sym}
+use Rattle.std.proofs.Common.{ℕ, ◌≡◌, ◌∙◌, ap, map, sym}
 use Rattle.std.specs.Map.{keys_of}
 use Rattle.bucket_c.specs.Steps.{next_text}
 use Rattle.bucket_c.specs.Tables.{Text}
@@ -13,10 +13,10 @@ beside_zero key = (key, 0)
 pub returns : goal.returns
 returns c =
     let went = keys_called {A = ℕ × ℕ × ℕ} _ (λ s. (s.0.now, s.1.now, s.2.now)) (λ s. (s.0.ghost_name, s.1.ghost_name, s.2.ghost_name))
-        (λ before key after. after ≡ next_text before (beside_zero key)) _ _ _ _ c.for_each.ensures.calls
-        (λ s own t kept e. ((λ i. (e.met.0.0 i, e.met.0.1 i, e.met.0.2 i)), e.met.1)) refl in
+    (λ before key after. after ≡ next_text before (beside_zero key)) _ _ _ c.for_each.ensures.calls
+    (λ s own t kept e. ((λ i. (e.met.0.0 i, e.met.0.1 i, e.met.0.2 i)), e.met.1)) in
     let all = texts_copied c.args.start c.args.rows.now c.args.bytes.now (map beside_zero (keys_of c.args.set.now.entries)) _
-        (copies-map beside_zero _ (keys_of c.args.set.now.entries) _ went.1) in
+    (copies-map beside_zero _ (keys_of c.args.set.now.entries) _ went.1) in
     let place = c.place-2-1.given.1 (λ i. (sym went.0 i).0) in
     let rows = c.rows-1.given.1.1 (λ i. (sym went.0 i).1) in
     let bytes = c.bytes-1.given.1.1 (λ i. (sym went.0 i).2) in
