@@ -20,9 +20,9 @@ __all__ = ["Cache", "Map", "TextCache", "TextMap", "TextSet", "FIXED_SEED", "ran
 OK, ABSENT, PRESENT, NO_MEMORY, CLOSED, OPEN, OTHER_KIND, EVICTED = range(8)
 FIXED_SEED = bytes(16)
 
-# A piece of an iteration walks the whole table, so there are at most sixteen of them.
+# A piece of an iteration walks the whole table, so there are at most four of them.
 LEAST_PIECE = 256
-MOST_PIECES = 16
+MOST_PIECES = 4
 
 
 class Handle(ctypes.Structure):

@@ -4,9 +4,9 @@ use crate::ffi::{bucket_pairs, bucket_texts, Handle, Pair, TextPair};
 use std::vec::IntoIter;
 
 /// The least number of pairs that a piece has room for. A piece walks the whole table, so there are at
-/// most sixteen of them.
+/// most four of them.
 const LEAST_PIECE: usize = 256;
-const MOST_PIECES: usize = 16;
+const MOST_PIECES: usize = 4;
 
 fn room_for(len: usize) -> usize {
     LEAST_PIECE.max(len.div_ceil(MOST_PIECES))
