@@ -4,14 +4,14 @@ use Rattle.bucket_c.specs.Codes.{insert_code}
 use Rattle.bucket_c.proofs.maps.insert_key.Goals as goal
 
 pub returns-in-Ok : goal.returns-in-Ok
-returns-in-Ok g c = (Ok tt, refl, c.in-Ok.ensures)
+returns-in-Ok g c = (Ok tt, refl, c.in-Ok.ensures.map)
 
 pub returns-in-Err-Present : goal.returns-in-Err-Present
 returns-in-Err-Present g c =
     let code : NotInserted g.row.K.Denot (Unit {0}) → ℕ = λ why. insert_code {A = Unit {0}} (Err why) in
-    (Err c.in-Err-Present.field-0, sym (ap code c.in-Err-Present.field-0-is), c.in-Err-Present.ensures)
+    (Err c.in-Err-Present.field-0, sym (ap code c.in-Err-Present.field-0-is), c.in-Err-Present.ensures.map)
 
 pub returns-in-Err-Memory : goal.returns-in-Err-Memory
 returns-in-Err-Memory g c =
     let code : NotInserted g.row.K.Denot (Unit {0}) → ℕ = λ why. insert_code {A = Unit {0}} (Err why) in
-    (Err c.in-Err-Memory.field-0, sym (ap code c.in-Err-Memory.field-0-is), c.in-Err-Memory.ensures)
+    (Err c.in-Err-Memory.field-0, sym (ap code c.in-Err-Memory.field-0-is), c.in-Err-Memory.ensures.map)
