@@ -1,8 +1,8 @@
 //! Collections over one bucketed hash table: a map, a set, an index whose removed pairs wait for
 //! their epoch, and a cache that forgets.
 //!
-//! A user sees keys, values and allocation failures; no array, no rehash. `CALLING.md` has the
-//! contracts and proved callers.
+//! A user sees keys, values and allocation failures; no array, no rehash. `CALLING.md` says what
+//! each call does, and `PROVING.md` has the contracts and a proved caller.
 //!
 //! Ports the surface of scc 3.8.8's `HashMap`, `HashSet`, `HashIndex` and `HashCache` to owned
 //! collections: a borrow stands where scc locks. SPDX-License-Identifier: Apache-2.0
