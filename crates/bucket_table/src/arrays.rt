@@ -45,7 +45,7 @@ use std::marker::Model;
 pub enum Missing {
     /// There is nothing to lock: no array, or no live pair further on.
     Nothing,
-    /// Want of memory.
+    /// Allocation failure.
     Memory,
 }
 

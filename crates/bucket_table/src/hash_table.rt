@@ -57,7 +57,7 @@ const _: () = prove!(MAXIMUM_CAPACITY_LIMIT == 9223372036854775808);
 pub enum NotInserted<K, V> {
     /// An equal key is in the map.
     Present(K, V),
-    /// Want of memory.
+    /// Allocation failure.
     Memory(K, V),
 }
 

@@ -272,7 +272,7 @@ impl<K: Eq + Copy, H: KeyHash<K> + Copy> HashSet<K, H> {
     ///
     /// # Errors
     ///
-    /// Want of memory.
+    /// Allocation failure.
     ///
     /// O(slots) expected. scc: `HashSet::clone`.
     pub fn try_clone(&self, alloc: Global) -> Result<Self, AllocError>

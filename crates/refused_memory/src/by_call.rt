@@ -23,7 +23,7 @@ pub(crate) enum Answer {
     Unresized,
     /// What is seen where a unit was given up, or an old bucket stayed.
     Unmoved,
-    /// Want of memory, and what must be seen of it in the call's own result.
+    /// Allocation failure, and what must be seen of it in the call's own result.
     Refused,
     /// Anything else.
     Wrong,

@@ -29,7 +29,7 @@ impl<'a> Hash for Line<'a> {
 ///
 /// # Errors
 ///
-/// Want of memory.
+/// Allocation failure.
 pub(crate) fn lines_of(alloc: Global, text: &[u8]) -> Result<Vec<Line<'_>>, AllocError>
     ensures { IfOk result (λ lines. map (λ line. line.bytes.now) lines.items ≡ lines_of text.now) }
 {

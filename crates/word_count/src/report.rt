@@ -33,7 +33,7 @@ pub(crate) struct Counted<'a> {
 ///
 /// # Errors
 ///
-/// Want of memory.
+/// Allocation failure.
 pub(crate) fn report_of<'a>(
     alloc: Global,
     lines: &[Line<'a>],

@@ -190,7 +190,7 @@ impl<K: Drop, V: Drop, L: LruList, const TYPE: u8> Part<K, V, L, TYPE> {
 ///
 /// # Errors
 ///
-/// Want of memory.
+/// Allocation failure.
 pub(crate) fn spare_buckets<K, V, L: LruList, const TYPE: u8>(
     alloc: Global,
 ) -> Result<Vec<Bucket<K, V, L, TYPE>>, AllocError>

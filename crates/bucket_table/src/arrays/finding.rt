@@ -23,7 +23,7 @@ impl<K: Eq + Drop, V: Drop, L: LruList + Drop, const TYPE: u8> Arrays<K, V, L, T
     ///
     /// # Errors
     ///
-    /// Want of memory for a first array, or a source isn't killed.
+    /// Allocation failure for a first array, or a source isn't killed.
     #[inline(always)]
     pub(crate) fn find<H: KeyHash<K>>(
         &mut self,

@@ -17,7 +17,7 @@ use bucket_slots::lru::LruList;
 impl<K: Drop, V: Drop, L: LruList + Drop, const TYPE: u8> Arrays<K, V, L, TYPE> {
     /// Resizes where the buckets near this index have few live slots.
     ///
-    /// Want of memory leaves all as it was.
+    /// An allocation failure leaves all as it was.
     #[inline(never)]
     pub(crate) fn try_shrink(&mut self, index: usize)
         ensures asked { ResizesIf (AsksShrinking self.old index) self.old self.new }

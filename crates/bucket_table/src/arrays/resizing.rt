@@ -86,7 +86,7 @@ impl<K: Drop, V: Drop, L: LruList + Drop, const TYPE: u8> Arrays<K, V, L, TYPE> 
     /// Raises the minimum by a number of slots, and resizes. Returns by how much it was raised: by
     /// nothing where it would pass the maximum.
     ///
-    /// Want of memory leaves the arrays.
+    /// An allocation failure leaves the arrays.
     pub(crate) fn reserve_capacity(&mut self, additional: usize) -> usize
         ensures reserved { Reserves additional self.old result self.new }
         ensures kept { Keeps (with_minimum self.old (self.old.minimum + result)) self.new }
@@ -103,7 +103,7 @@ impl<K: Drop, V: Drop, L: LruList + Drop, const TYPE: u8> Arrays<K, V, L, TYPE> 
     /// Lowers the minimum by a number of slots, and resizes. Returns by how much it was lowered: by
     /// nothing where that exceeds it.
     ///
-    /// Want of memory leaves the arrays.
+    /// An allocation failure leaves the arrays.
     pub(crate) fn release_capacity(&mut self, released: usize) -> usize
         ensures released { Releases released self.old result self.new }
         ensures kept { Keeps (with_minimum self.old (self.old.minimum - result)) self.new }

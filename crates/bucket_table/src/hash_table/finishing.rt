@@ -22,10 +22,10 @@ impl<K: Eq + Drop, V: Drop, H: KeyHash<K>, L: LruList + Drop, const TYPE: u8> Ha
     ///
     /// # Errors
     ///
-    /// Want of memory beside an old array: it stands, its pairs are in both arrays, and no ticket is
-    /// open. The first old bucket that isn't killed had more than 32 live pairs, or the current
-    /// array is shorter than the old one. The rehash stands at its unit: the old buckets of the
-    /// units behind that one are as they were.
+    /// Allocation failure beside an old array: it stands, its pairs are in both arrays, and no
+    /// ticket is open. The first old bucket that isn't killed had more than 32 live pairs, or the
+    /// current array is shorter than the old one. The rehash stands at its unit: the old buckets of
+    /// the units behind that one are as they were.
     ///
     /// O(old buckets from the position on, and their pairs). Own.
     pub fn finish_rehash(&mut self) -> Result<usize, AllocError>

@@ -28,8 +28,8 @@ impl<K: Eq + Drop, V: Drop, H: KeyHash<K>, L: LruList + Drop, const TYPE: u8> Ha
     ///
     /// # Errors
     ///
-    /// Want of memory for a first array: there is still none, and the table is as it was. A current
-    /// array rules it out.
+    /// Allocation failure for a first array: there is still none, and the table is as it was. A
+    /// current array rules it out.
     ///
     /// O(slots of the array that is made). scc: `HashTable::get_or_create_array`.
     pub fn get_or_create_array(&mut self) -> Result<&BucketArray<K, V, L, TYPE>, AllocError>
@@ -54,7 +54,7 @@ impl<K: Eq + Drop, V: Drop, H: KeyHash<K>, L: LruList + Drop, const TYPE: u8> Ha
     ///
     /// # Errors
     ///
-    /// Want of memory for the array that the plan asks for: the table is as it was.
+    /// Allocation failure for the array that the plan asks for: the table is as it was.
     ///
     /// O(buckets of the current array and of the one that is made). scc: `HashTable::try_resize`.
     pub fn try_resize(&mut self) -> Result<bool, AllocError>

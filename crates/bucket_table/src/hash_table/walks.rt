@@ -41,8 +41,8 @@ impl<K: Eq + Drop, V: Drop, H: KeyHash<K>, L: LruList + Drop, const TYPE: u8> Ha
     ///
     /// # Errors
     ///
-    /// Want of memory beside an old array, and then a source of the next bucket isn't killed: the
-    /// walk ends there, the earlier visits stand, and nothing is resized.
+    /// Allocation failure beside an old array, and then a source of the next bucket isn't killed:
+    /// the walk ends there, the earlier visits stand, and nothing is resized.
     ///
     /// O(buckets from `start` on, and pairs that move), and the visitor's calls. scc:
     /// `HashTable::for_each_writer_sync`.
@@ -86,8 +86,8 @@ impl<K: Eq + Drop, V: Drop, H: KeyHash<K>, L: LruList + Drop, const TYPE: u8> Ha
     ///
     /// # Errors
     ///
-    /// Want of memory beside an old array, and then a source of the next bucket isn't killed: the
-    /// walk ends there, and the earlier visits stand.
+    /// Allocation failure beside an old array, and then a source of the next bucket isn't killed:
+    /// the walk ends there, and the earlier visits stand.
     ///
     /// O(buckets, and pairs that move), and the reader's calls. scc:
     /// `HashTable::for_each_reader_sync`.

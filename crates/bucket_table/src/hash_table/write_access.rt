@@ -63,8 +63,8 @@ impl<K: Eq + Drop, V: Drop, H: KeyHash<K>, L: LruList + Drop, const TYPE: u8> Ha
     ///
     /// # Errors
     ///
-    /// Want of memory for a first array; or beside an old one, and then a source of the home isn't
-    /// killed.
+    /// Allocation failure for a first array; or beside an old one, and then a source of the home
+    /// isn't killed.
     ///
     /// O(slots of a unit, of the sources and of their targets; buckets that a resize makes). Own.
     #[inline(always)]
@@ -115,8 +115,8 @@ impl<K: Eq + Drop, V: Drop, H: KeyHash<K>, L: LruList + Drop, const TYPE: u8> Ha
     ///
     /// # Errors
     ///
-    /// Want of memory for a first array; or beside an old one, and then a source of the home isn't
-    /// killed. A current array without an old one rules it out.
+    /// Allocation failure for a first array; or beside an old one, and then a source of the home
+    /// isn't killed. A current array without an old one rules it out.
     ///
     /// O(slots of a unit, of the sources and of their targets; buckets that a resize makes). scc:
     /// `HashTable::writer_sync`.

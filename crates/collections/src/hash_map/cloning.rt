@@ -41,7 +41,7 @@ impl<K: Eq + Copy, V: Copy, H: KeyHash<K> + Copy> HashMap<K, V, H> {
     ///
     /// # Errors
     ///
-    /// Want of memory.
+    /// Allocation failure.
     ///
     /// O(slots) expected. scc: `HashMap::clone`.
     pub fn try_clone(&self, alloc: Global) -> Result<Self, AllocError>

@@ -24,7 +24,7 @@ impl<K: Drop, V: Drop> Chain<K, V> {
     ///
     /// # Errors
     ///
-    /// Want of memory, or the chain has its most blocks: it is as it was.
+    /// Allocation failure, or the chain has its most blocks: it is as it was.
     pub(crate) fn push_front(&mut self) -> Result<(), AllocError>
         ensures blocks { OnOk result (self.new ≡ free_block ∷ self.old) }
         ensures unchanged { OnErr result (self.new ≡ self.old) }
@@ -43,7 +43,7 @@ impl<K: Drop, V: Drop> Chain<K, V> {
     ///
     /// # Errors
     ///
-    /// Want of memory, or the chain has its most blocks: fewer blocks were put there.
+    /// Allocation failure, or the chain has its most blocks: fewer blocks were put there.
     pub(crate) fn append(&mut self, count: usize) -> Result<(), AllocError>
         ensures blocks { OnOk result (self.new ≡ self.old ++ replicate count free_block) }
         ensures fewer { OnErr result

@@ -34,8 +34,8 @@ impl<K: Eq + Drop, V: Drop, H: KeyHash<K>, L: LruList + Drop, const TYPE: u8> Ha
     ///
     /// # Errors
     ///
-    /// Want of memory beside an old array, and then a source of the home isn't killed: nothing is
-    /// evicted.
+    /// Allocation failure beside an old array, and then a source of the home isn't killed: nothing
+    /// is evicted.
     ///
     /// O(slots of a unit, of the sources and of their targets). Own.
     pub fn evict(&mut self, key: &K) -> Result<Option<(K, V)>, AllocError>

@@ -61,8 +61,8 @@ impl<K: Eq + Drop, V: Drop, H: KeyHash<K>, L: LruList + Drop, const TYPE: u8> Ha
     ///
     /// # Errors
     ///
-    /// Want of memory, and the map has no such key: the pair comes back. A free slot in the bucket
-    /// that is found rules it out.
+    /// Allocation failure, and the map has no such key: the pair comes back. A free slot in the
+    /// bucket that is found rules it out.
     ///
     /// O(slots of a unit, of the sources and of their targets; buckets that a resize makes). Own.
     #[inline(always)]

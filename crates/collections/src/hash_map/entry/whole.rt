@@ -75,8 +75,8 @@ impl<'a, K: Eq + Drop, V: Drop, H: KeyHash<K>> Entry<'a, K, V, H> {
     ///
     /// # Errors
     ///
-    /// Want of memory, and the map hasn't the key: the pair comes back, and the map has the pairs
-    /// that it had.
+    /// Allocation failure, and the map hasn't the key: the pair comes back, and the map has the
+    /// pairs that it had.
     ///
     /// O(1) expected, beside a resize. std: `Entry::or_insert`.
     pub fn or_insert(self, default: V) -> Result<&'a mut V, AllocFailed<(K, V)>>
@@ -104,8 +104,8 @@ impl<'a, K: Eq + Drop, V: Drop, H: KeyHash<K>> Entry<'a, K, V, H> {
     ///
     /// # Errors
     ///
-    /// Want of memory, and the map hasn't the key: the key comes back with what was made, and the
-    /// map has the pairs that it had.
+    /// Allocation failure, and the map hasn't the key: the key comes back with what was made, and
+    /// the map has the pairs that it had.
     ///
     /// O(1) expected, beside a resize. std: `Entry::or_insert_with`.
     pub fn or_insert_with<F: FnOnce() -> V>(self, make: F) -> Result<&'a mut V, AllocFailed<(K, V)>>
@@ -135,8 +135,8 @@ impl<'a, K: Eq + Drop, V: Drop, H: KeyHash<K>> Entry<'a, K, V, H> {
     ///
     /// # Errors
     ///
-    /// Want of memory, and the map hasn't the key: the key comes back with the default, and the map
-    /// has the pairs that it had.
+    /// Allocation failure, and the map hasn't the key: the key comes back with the default, and the
+    /// map has the pairs that it had.
     ///
     /// O(1) expected, beside a resize. std: `Entry::or_default`.
     pub fn or_default(self) -> Result<&'a mut V, AllocFailed<(K, V)>>
