@@ -42,8 +42,8 @@ module _ {K V H : Type 0} where
   -- a pair that comes back where the map was the same before
   pub handed_back : (eq : K → K → Bool) (key : K) (value : V) (old between : MapState K V H) (why : NotInserted K V)
       → KeepsPairs old between → HandsBack eq key value between.pairs why → HandsBack eq key value old.pairs why
-  handed_back eq key value old between (Present k v) keeps x = (x.0, x.1, (x.2.0, there_before eq key old between x.2.0 keeps x.2.1))
-  handed_back eq key value old between (Memory k v) keeps x = (x.0, x.1, absent_before eq key old between keeps x.2)
+  handed_back eq key value old between (Present k v) keeps x = (x.0, x.1, (x.2.0, there_before (λ own. eq own key) old between x.2.0 keeps x.2.1))
+  handed_back eq key value old between (Memory k v) keeps x = (x.0, x.1, absent_before (λ own. eq own key) old between keeps x.2)
 
   -- and nothing else changes where no bucket is found for it
   pub unfound : (eq : K → K → Bool) (key : K) (value : V) (old new : MapState K V H) (why : NotInserted K V) → KeepsPairs old new
@@ -55,7 +55,7 @@ module _ {K V H A : Type 0} where
   pub then_inserted : (eq : K → K → Bool) (key : K) (value : V) (old between new : MapState K V H) (r : Result A (NotInserted K V))
       → KeepsPairs old between → Inserts eq key value between r new → Inserts eq key value old r new
   then_inserted eq key value old between new (Ok done) keeps x =
-      (absent_before eq key old between keeps x.0, then_added old between new (key, value) keeps x.1)
+      (absent_before (λ own. eq own key) old between keeps x.0, then_added old between new (key, value) keeps x.1)
   then_inserted eq key value old between new (Err why) keeps x =
       (handed_back eq key value old between why keeps x.0, then_kept old between new keeps x.1)
 

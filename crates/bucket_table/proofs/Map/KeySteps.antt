@@ -1,5 +1,5 @@
 -- What a call by key finds in a table, and which marks it brings.
-use Rattle.bucket_table.proofs.Words.{ArraysView, Bool, BucketView, HasNoNewMark, IfNone, IsAbsent, IsHome, IsOneMap, List, MarksBy, None}
+use Rattle.bucket_table.proofs.Words.{ArePlaced, ArraysView, Bool, BucketView, HasNoNewMark, IfNone, IsAbsent, IsHome, List, MarksBy, None}
 use Rattle.bucket_table.proofs.Words.{Option, Place, Side, Some, ap, arrays_with, bucket_at, bucket_on, buckets_on, by-no_new, by-trans}
 use Rattle.bucket_table.proofs.Words.{length, marks_in, marks_of, pairs_of, subst, true, ℕ, ◌%◌, ◌<◌, ◌∙◌, ◌≡◌}
 use Rattle.bucket_slots.specs.BucketView.{pair_at}
@@ -11,12 +11,12 @@ use Rattle.bucket_table.proofs.Views.MarksKept.{by-bucket}
 
 module _ {K V : Type 0} where
   -- what a search of one side's home finds
-  pub stands_found : (eq : K → K → Bool) (key : K) (arrays : ArraysView K V) (side : Side) (array : List (BucketView K V))
+  pub stands_found : (wants : K → Bool) (arrays : ArraysView K V) (side : Side) (array : List (BucketView K V))
       (b : BucketView K V) (byte index : ℕ) (at : Place)
       → array ≡ buckets_on arrays side → b ≡ bucket_at array index → index < length array
-      → place_wanted (λ own. eq own key) byte b ≡ Some at → StandsAt eq key arrays side index at
-  stands_found eq key arrays side array b byte index at is lent within found =
-      let r = searched_found (λ own. eq own key) arrays side b byte index at
+      → place_wanted wants byte b ≡ Some at → StandsAt wants arrays side index at
+  stands_found wants arrays side array b byte index at is lent within found =
+      let r = searched_found wants arrays side b byte index at
       (lent ∙ ap (λ (bs : List (BucketView K V)). bucket_at bs index) is) found in
       record { pair = r.0; within = subst (λ (bs : List (BucketView K V)). index < length bs) is within; slot = r.1; there = r.2 }
 
@@ -30,15 +30,14 @@ module _ {K V : Type 0} where
       subst (λ (bs : List (BucketView K V)). pair_wanted wants (n % 256) (home_bucket n bs) ≡ None) is
       (rw (← at_home, ← lent) (ap (λ at. pair_at b at) none))
 
-module _ {K V : Type 0} (eq : K → K → Bool) (hash : K → ℕ) where
-  -- neither home has the key, so the map hasn't
-  pub absent_searched : {S : Type 0} (key : K) (n : ℕ) (arrays : ArraysView K V) (r : Option S) → IsOneMap eq hash arrays
-      → ((own : K) → eq own key ≡ true → hash own ≡ n) → pair_wanted (λ own. eq own key) (n % 256) (home_bucket n arrays.linked) ≡ None
-      → IfNone r (pair_wanted (λ own. eq own key) (n % 256) (home_bucket n arrays.current) ≡ None)
-      → IfNone r (IsAbsent eq key (pairs_of arrays))
-  absent_searched key n arrays (Some x) one own in_old in_current = tt
-  absent_searched key n arrays None one own in_old in_current = unwanted_from_homes (λ own. eq own key) n hash own arrays one.placed in_old
-      in_current
+module _ {K V : Type 0} (wants : K → Bool) (hash : K → ℕ) where
+  -- neither home has a wanted key, so the map hasn't
+  pub absent_searched : {S : Type 0} (n : ℕ) (arrays : ArraysView K V) (r : Option S) (later : K → Bool) → ArePlaced hash arrays
+      → ((own : K) → wants own ≡ true → hash own ≡ n) → later ≡ wants → pair_wanted wants (n % 256) (home_bucket n arrays.linked) ≡ None
+      → IfNone r (pair_wanted later (n % 256) (home_bucket n arrays.current) ≡ None) → IfNone r (IsAbsent wants (pairs_of arrays))
+  absent_searched n arrays (Some x) later placed own same in_old in_current = tt
+  absent_searched n arrays None later placed own same in_old in_current = unwanted_from_homes wants n hash own arrays placed in_old
+      (subst (λ (test : K → Bool). pair_wanted test (n % 256) (home_bucket n arrays.current) ≡ None) same in_current)
 
 module _ {K V : Type 0} (epoch : ℕ) where
   -- a bucket brought only marks of an epoch, and what came after brought none

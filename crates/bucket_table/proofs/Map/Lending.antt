@@ -1,4 +1,4 @@
--- A value under a key was lent, after its slot was found.
+-- A value beside a wanted key was lent, after its slot was found.
 use Rattle.bucket_table.proofs.Words.{Bool, List, Place, Side, Slot, Some, TableView, live_pair, pairs_of, refl, same_Some, slot_in, subst}
 use Rattle.bucket_table.proofs.Words.{sym, ℕ, ◌∙◌, ◌≡◌}
 use Rattle.bucket_table.specs.Map.ByKey.{StandsAt}
@@ -10,27 +10,27 @@ use Rattle.bucket_table.specs.Views.Sides.{bucket_on}
 use Rattle.bucket_table.proofs.Scripts.CallSteps.{then_changed, there_before}
 
 -- the pair in the slot is the one that the search found
-same_there : {K V : Type 0} (eq : K → K → Bool) (key : K) (pairs : List (K × V)) (slot : Slot K V) (p q : K × V)
-    → live_pair slot ≡ Some p → IsThere eq key pairs p → live_pair slot ≡ Some q → IsThere eq key pairs q
-same_there {K} {V} eq key pairs slot p q found there lent =
-    subst (λ (r : K × V). IsThere eq key pairs r) (same_Some p q (sym found ∙ lent)) there
+same_there : {K V : Type 0} (wants : K → Bool) (pairs : List (K × V)) (slot : Slot K V) (p q : K × V) → live_pair slot ≡ Some p
+    → IsThere wants pairs p → live_pair slot ≡ Some q → IsThere wants pairs q
+same_there {K} {V} wants pairs slot p q found there lent =
+    subst (λ (r : K × V). IsThere wants pairs r) (same_Some p q (sym found ∙ lent)) there
 
-module _ {K V H : Type 0} (eq : K → K → Bool) (key : K) (kind hash : ℕ) (old between : TableView K V H)
+module _ {K V H : Type 0} (wants : K → Bool) (kind hash : ℕ) (old between : TableView K V H)
     (prepared : IsPrepared kind hash old between)
-    (side : Side) (i : ℕ) (at : Place) (stands : StandsAt eq key between.arrays side i at) (own : K) (before : V)
+    (side : Side) (i : ℕ) (at : Place) (stands : StandsAt wants between.arrays side i at) (own : K) (before : V)
     (lent : live_pair (slot_in (bucket_on between.arrays side i) at) ≡ Some (own, before)) where
-  there : IsThere eq key (pairs_of between.arrays) (own, before)
-  there = same_there eq key (pairs_of between.arrays) (slot_in (bucket_on between.arrays side i) at) stands.pair (own, before) stands.slot
+  there : IsThere wants (pairs_of between.arrays) (own, before)
+  there = same_there wants (pairs_of between.arrays) (slot_in (bucket_on between.arrays side i) at) stands.pair (own, before) stands.slot
       stands.there lent
 
   -- what is lent was in the map before the unit was worked
-  pub lent_there : IsThere eq key (pairs_of old.arrays) (own, before)
-  lent_there = there_before eq key (state_of kind old) (state_of kind between) (own, before) prepared.map there
+  pub lent_there : IsThere wants (pairs_of old.arrays) (own, before)
+  lent_there = there_before wants (state_of kind old) (state_of kind between) (own, before) prepared.map there
 
   -- and another value is written there
   pub lent_writes : (value : V) → ChangesValue (state_of kind between) (own, before) value
       (state_of kind (with_value between side i at value))
-      → WritesUnder eq key kind hash old before value (with_value between side i at value)
+      → WritesUnder wants kind hash old before value (with_value between side i at value)
   lent_writes value wrote = record {
     map = (
       own,

@@ -16,7 +16,7 @@ use Rattle.bucket_slots.specs.BucketView.{pair_at}
 use Rattle.bucket_slots.specs.Places.{pair_lent}
 use Rattle.bucket_slots.specs.Searching.{pair_wanted, place_wanted}
 use Rattle.bucket_slots.specs.declared.bucket.TheConstants.{BUCKET_LEN}
-use Rattle.bucket_table.specs.Map.LookingUp.{home_bucket, lent_buckets, pair_looked_up, pairs_in_all}
+use Rattle.bucket_table.specs.Map.LookingUp.{IsAbsent, IsThere, home_bucket, lent_buckets, pair_looked_up, pairs_in_all}
 use Rattle.bucket_table.proofs.Moves.HomesByDivision.{home_of-interval}
 
 -- a pointer that isn't valid is a null pointer
@@ -58,37 +58,29 @@ module _ {K V : Type 0} where
   pub home_bucket-is : (bs : List (BucketView K V)) (n i : ℕ) → IsHome (length bs) n i → bucket_at bs i ≡ home_bucket n bs
   home_bucket-is bs n i at = ap (λ j. bucket_at bs j) (sym (home_of-interval (length bs) i n at.own))
 
--- no pair's key is wanted
-abbrev pub AreUnwanted : {K V : Type 0} → (K → Bool) → List (K × V) → Type 0
-AreUnwanted wants pairs = All (λ pair. wants pair.0 ≡ false) pairs
-
--- the pair is one of the pairs, and its key is wanted
-abbrev pub IsWantedOf : {K V : Type 0} → (K → Bool) → List (K × V) → K × V → Type 0
-IsWantedOf wants pairs pair = Contains pairs pair × (wants pair.0 ≡ true)
-
 module _ {K V : Type 0} (wants : K → Bool) where
   -- a wanted pair of one side is one of the map
-  wanted_on : (arrays : ArraysView K V) (side : Side) (p : K × V) → IsWantedOf wants (pairs_in_all (buckets_on arrays side)) p
-      → IsWantedOf wants (pairs_of arrays) p
+  wanted_on : (arrays : ArraysView K V) (side : Side) (p : K × V) → IsThere wants (pairs_in_all (buckets_on arrays side)) p
+      → IsThere wants (pairs_of arrays) p
   wanted_on arrays Old p (there, is) = (rw (pairs_are arrays) (Contains-append_right (pairs_in_all arrays.current) _ p there), is)
   wanted_on arrays Current p (there, is) = (rw (pairs_are arrays) (Contains-append_left _ (pairs_in_all arrays.linked) p there), is)
 
   -- where neither side has one, the map has none
-  unwanted_on_both : (arrays : ArraysView K V) → AreUnwanted wants (pairs_in_all arrays.current)
-      → AreUnwanted wants (pairs_in_all arrays.linked) → AreUnwanted wants (pairs_of arrays)
+  unwanted_on_both : (arrays : ArraysView K V) → IsAbsent wants (pairs_in_all arrays.current)
+      → IsAbsent wants (pairs_in_all arrays.linked) → IsAbsent wants (pairs_of arrays)
   unwanted_on_both arrays current old = rw (pairs_are arrays) (All-append (λ (p : K × V). wants p.0 ≡ false) _ _ current old)
 
-  unwanted_entries : (b : BucketView K V) → All (λ (e : (K × V) × ℕ). wants e.0.0 ≡ false) (entries_in b) → AreUnwanted wants (pairs_in b)
+  unwanted_entries : (b : BucketView K V) → All (λ (e : (K × V) × ℕ). wants e.0.0 ≡ false) (entries_in b) → IsAbsent wants (pairs_in b)
   unwanted_entries b each = rw (← map-entries_in b) (All-map (λ (p : K × V). wants p.0 ≡ false) (λ (e : (K × V) × ℕ). e.0)
       (entries_in b) each)
 
-  none_unwanted : (b : BucketView K V) → pairs_in b ≡ [] → AreUnwanted wants (pairs_in b)
+  none_unwanted : (b : BucketView K V) → pairs_in b ≡ [] → IsAbsent wants (pairs_in b)
   none_unwanted b none = rw none (All-nil (λ (p : K × V). wants p.0 ≡ false))
 
   -- what a search of a bucket of one side finds
   pub searched_found : (arrays : ArraysView K V) (side : Side) (b : BucketView K V) (byte index : ℕ) (at : Place)
       → b ≡ bucket_on arrays side index → place_wanted wants byte b ≡ Some at
-      → (p : K × V) × (live_pair (slot_in (bucket_on arrays side index) at) ≡ Some p) × IsWantedOf wants (pairs_of arrays) p
+      → (p : K × V) × (live_pair (slot_in (bucket_on arrays side index) at) ≡ Some p) × IsThere wants (pairs_of arrays) p
   searched_found arrays side b byte index at lent found = rw (← lent) (
       let (p, is) = found_pair wants byte b at found in
       let there = Contains-pairs_in_all (buckets_on arrays side) index p (rw (← lent) is.contained) in
@@ -96,7 +88,7 @@ module _ {K V : Type 0} (wants : K → Bool) where
 
   -- what a search of one side's home finds
   found_at_home : (n : ℕ) (arrays : ArraysView K V) (side : Side) (p : K × V)
-      → pair_wanted wants (n % 256) (home_bucket n (buckets_on arrays side)) ≡ Some p → IsWantedOf wants (pairs_of arrays) p
+      → pair_wanted wants (n % 256) (home_bucket n (buckets_on arrays side)) ≡ Some p → IsThere wants (pairs_of arrays) p
   found_at_home n arrays side p found =
       let (there, is) = wanted_is wants (n % 256) (home_bucket n (buckets_on arrays side)) p found in
       wanted_on arrays side p (Contains-pairs_in_all (buckets_on arrays side) _ p there, is)
@@ -126,7 +118,7 @@ module _ {K V : Type 0} (wants : K → Bool) (n : ℕ) (hash : K → ℕ) (own :
 
   -- where a hash's home has no wanted pair, no bucket of the array has one
   unwanted_from_home : (bs : List (BucketView K V)) → AreHome hash bs → pair_wanted wants (n % 256) (home_bucket n bs) ≡ None
-      → AreUnwanted wants (pairs_in_all bs)
+      → IsAbsent wants (pairs_in_all bs)
   unwanted_from_home bs all none = All-pairs_in_all (λ (p : K × V). wants p.0 ≡ false) bs
       (λ i below. unwanted_entries wants (bucket_at bs i) (λ j d less.
       let e : (K × V) × ℕ = get_or (entries_in (bucket_at bs i)) j d in
@@ -137,7 +129,7 @@ module _ {K V : Type 0} (wants : K → Bool) (n : ℕ) (hash : K → ℕ) (own :
   -- where neither home has a wanted pair, the map has none
   pub unwanted_from_homes : (arrays : ArraysView K V) → ArePlaced hash arrays
       → pair_wanted wants (n % 256) (home_bucket n arrays.linked) ≡ None → pair_wanted wants (n % 256) (home_bucket n arrays.current) ≡ None
-      → AreUnwanted wants (pairs_of arrays)
+      → IsAbsent wants (pairs_of arrays)
   unwanted_from_homes arrays law in_old in_current =
       unwanted_on_both wants arrays (unwanted_from_home arrays.current law.homes.current_home in_current)
       (unwanted_from_home arrays.linked law.homes.linked_home in_old)
@@ -145,7 +137,7 @@ module _ {K V : Type 0} (wants : K → Bool) (n : ℕ) (hash : K → ℕ) (own :
   looked_up_by : (arrays : ArraysView K V) (r : Option (Bor K × Bor V)) (old current : Option (K × V)) → ArePlaced hash arrays
       → pair_wanted wants (n % 256) (home_bucket n arrays.linked) ≡ old
       → pair_wanted wants (n % 256) (home_bucket n arrays.current) ≡ current → pair_lent r ≡ option_or old current
-      → IfSome r (λ pair. IsWantedOf wants (pairs_of arrays) (pair.0.now, pair.1.now)) × IfNone r (AreUnwanted wants (pairs_of arrays))
+      → IfSome r (λ pair. IsThere wants (pairs_of arrays) (pair.0.now, pair.1.now)) × IfNone r (IsAbsent wants (pairs_of arrays))
   looked_up_by arrays None None None law in_old in_current found = (tt, unwanted_from_homes arrays law in_old in_current)
   looked_up_by arrays None None (Some p) law in_old in_current found = cc
   looked_up_by arrays None (Some p) current law in_old in_current found = cc
@@ -161,7 +153,7 @@ module _ {K V : Type 0} (wants : K → Bool) (n : ℕ) (hash : K → ℕ) (own :
 
   none_in : (l : List (BucketView K V)) (i c index : ℕ) (killed : Bool) → (bucket_at l i).killed ≡ killed → i < length l → AreHome hash l
       → IsHome c n index → ((bucket_at l i).killed ≡ true → pairs_in (bucket_at l i) ≡ [])
-      → (Meets (length l) i c index → (bucket_at l i).killed ≡ true) → AreUnwanted wants (pairs_in (bucket_at l i))
+      → (Meets (length l) i c index → (bucket_at l i).killed ≡ true) → IsAbsent wants (pairs_in (bucket_at l i))
   none_in l i c index true is below all at empty dead = none_unwanted wants (bucket_at l i) (empty is)
   none_in l i c index false is below all at empty dead = unwanted_entries wants (bucket_at l i) (λ j d less.
       let e : (K × V) × ℕ = get_or (entries_in (bucket_at l i)) j d in
@@ -169,14 +161,14 @@ module _ {K V : Type 0} (wants : K → Bool) (n : ℕ) (hash : K → ℕ) (own :
 
   -- where each source of a current home is killed, the old array has no pair of the hash
   pub unwanted_from_sources : (c l : List (BucketView K V)) (index : ℕ) → AreTwoArrays hash c l → IsHome (length c) n index
-      → ((i : ℕ) → i < length l → Meets (length l) i (length c) index → (bucket_at l i).killed ≡ true) → AreUnwanted wants (pairs_in_all l)
+      → ((i : ℕ) → i < length l → Meets (length l) i (length c) index → (bucket_at l i).killed ≡ true) → IsAbsent wants (pairs_in_all l)
   unwanted_from_sources c l index law at dead = All-pairs_in_all (λ (p : K × V). wants p.0 ≡ false) l (λ i below.
       none_in l i (length c) index (bucket_at l i).killed refl below law.linked_home at (law.killed_empty i below) (dead i below))
 
   -- where the home of a locked bucket's side has no wanted pair, the map has none
   absent_on : (arrays : ArraysView K V) (side : Side) (index : ℕ) → ArePlaced hash arrays → IsLocked arrays side index
       → IsHome (length (buckets_on arrays side)) n index → pair_wanted wants (n % 256) (home_bucket n (buckets_on arrays side)) ≡ None
-      → AreUnwanted wants (pairs_of arrays)
+      → IsAbsent wants (pairs_of arrays)
   absent_on arrays Old index law locked home none = unwanted_on_both wants arrays
       (All-pairs_in_all (λ (p : K × V). wants p.0 ≡ false) arrays.current (λ i below.
       let b = bucket_at arrays.current i in none_unwanted wants b (pairs_in-vacant b (locked.vacant refl i below))))
@@ -188,7 +180,7 @@ module _ {K V : Type 0} (wants : K → Bool) (n : ℕ) (hash : K → ℕ) (own :
   -- what a search of a locked bucket says where it finds nothing
   pub searched_absent : (arrays : ArraysView K V) (side : Side) (b : BucketView K V) (index : ℕ) → ArePlaced hash arrays
       → IsLocked arrays side index → IsHome (length (buckets_on arrays side)) n index → b ≡ bucket_on arrays side index
-      → place_wanted wants (n % 256) b ≡ None → AreUnwanted wants (pairs_of arrays)
+      → place_wanted wants (n % 256) b ≡ None → IsAbsent wants (pairs_of arrays)
   searched_absent arrays side b index law locked home lent none =
       let at_home = home_bucket-is (buckets_on arrays side) n index home in
       absent_on arrays side index law locked home (rw (← at_home, ← lent) (ap (λ at. pair_at b at) none))
@@ -197,5 +189,5 @@ module _ {K V : Type 0} where
   -- what a look-up in both homes says of the map
   pub looked_up : (eq : K → K → Bool) (hash : K → ℕ) (wants : K → Bool) (n : ℕ) (r : Option (Bor K × Bor V)) (a : ArraysView K V)
       → IsOneMap eq hash a → ((key : K) → wants key ≡ true → hash key ≡ n) → pair_lent r ≡ pair_looked_up wants n a.linked a.current
-      → IfSome r (λ pair. IsWantedOf wants (pairs_of a) (pair.0.now, pair.1.now)) × IfNone r (AreUnwanted wants (pairs_of a))
+      → IfSome r (λ pair. IsThere wants (pairs_of a) (pair.0.now, pair.1.now)) × IfNone r (IsAbsent wants (pairs_of a))
   looked_up eq hash wants n r a one own found = looked_up_by wants n hash own a r _ _ one.placed refl refl found

@@ -23,7 +23,7 @@ use Rattle.bucket_table.proofs.Views.SideChanges.{pairs_exchanged, placed_after}
 
 module _ {K V : Type 0} (eq : K → K → Bool) (laws : IsEquivalence eq) where
   -- distinct keys, and one more
-  pub distinct_added : (m n : List (K × V)) (p : K × V) → IsDistinct eq (map (λ (q : K × V). q.0) m) → IsAbsent eq p.0 m
+  pub distinct_added : (m n : List (K × V)) (p : K × V) → IsDistinct eq (map (λ (q : K × V). q.0) m) → IsAbsent (λ own. eq own p.0) m
       → IsPermutation (p ∷ m) n → IsDistinct eq (map (λ (q : K × V). q.0) n)
   distinct_added m n p one none moved =
       let other : All (λ (q : K × V). eq p.0 q.0 ≡ false) m = λ k d below. laws.symm p.0 (get_or m k d).0 ∙ none k d below in
@@ -162,7 +162,7 @@ module _ {K V H : Type 0} {eq : K → K → Bool} (laws : IsEquivalence eq) (has
 
   -- one entry more
   pub inserted : (keeps : ℕ → Bool) (p : K × V) (h : ℕ) → h ≡ hash hasher p.0 → IsHome (length (buckets_on a side)) h i
-      → IsAbsent eq p.0 (pairs_of a) → Leaves (AddsPair (state a) p) (slots_after_insertion kind keeps was p (h % 256))
+      → IsAbsent (λ own. eq own p.0) (pairs_of a) → Leaves (AddsPair (state a) p) (slots_after_insertion kind keeps was p (h % 256))
   inserted keeps p h own home none =
       let x = inserts a side i held.within kind keeps p (h % 256) in
       let b = slots_after_insertion kind keeps was p (h % 256) in
@@ -205,7 +205,7 @@ module _ {K V H : Type 0} {eq : K → K → Bool} (laws : IsEquivalence eq) (has
   evicted (Some p) b here gone same = let x = evicts a side i held.within p here in rw gone (taken p x.0 _ x.1)
 
   pub inserted_or : {A E : Type 0} (r : Result A E) (b : BucketView K V) (keeps : ℕ → Bool) (p : K × V) (h : ℕ) → h ≡ hash hasher p.0
-      → IsHome (length (buckets_on a side)) h i → IsAbsent eq p.0 (pairs_of a)
+      → IsHome (length (buckets_on a side)) h i → IsAbsent (λ own. eq own p.0) (pairs_of a)
       → OnOk r (b ≡ slots_after_insertion kind keeps was p (h % 256))
       → OnErr r (b ≡ was) → Leaves (λ new. OnOk r (AddsPair (state a) p new)) b
   inserted_or (Ok place) b keeps p h own home none placed same = rw placed (inserted keeps p h own home none)

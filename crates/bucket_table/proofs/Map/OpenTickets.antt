@@ -67,14 +67,14 @@ module _ {K V H : Type 0} where
   bag_then kind hash old new Then p after =
       bag_both old.arrays.tickets p.between.arrays.tickets new.arrays.tickets p.prepared.kept.keeps.open_tickets (after p.between p.done)
 
-  module _ (eq : K → K → Bool) (key : K) where
+  module _ (wants : K → Bool) where
     changed_at : (change : BucketView K V → Place → BucketView K V) (found : Bool) (old new : TableView K V H)
-        → ChangesAt eq key change found old new → KeepsOpenTickets old.arrays.tickets new.arrays.tickets
+        → ChangesAt wants change found old new → KeepsOpenTickets old.arrays.tickets new.arrays.tickets
     changed_at change true old new (side, i, at, stands, is) = bag_set old new side i _ is
     changed_at change false old new same = rw same (bag_same old.arrays.tickets)
 
     shrunk_at : (change : BucketView K V → Place → BucketView K V) (found : Bool) (old new : TableView K V H)
-        → ShrinksAt eq key change found old new → KeepsOpenTickets old.arrays.tickets new.arrays.tickets
+        → ShrinksAt wants change found old new → KeepsOpenTickets old.arrays.tickets new.arrays.tickets
     shrunk_at change true old new (side, i, at, stands, is) = bag_shrunk old.arrays side i _ new.arrays is
     shrunk_at change false old new same = rw same (bag_same old.arrays.tickets)
 
@@ -85,17 +85,17 @@ module _ {K V H : Type 0} where
   evicted_from hash old (Err e) new (unready, same) = rw same (bag_same old.arrays.tickets)
 
   module _ (kind hash : ℕ) (old new : TableView K V H) where
-    pub bag_changed : (eq : K → K → Bool) (key : K) (change : BucketView K V → Place → BucketView K V) (found : Bool)
-        → PreparesThen kind hash old (λ between. ChangesAt eq key change found between new)
+    pub bag_changed : (wants : K → Bool) (change : BucketView K V → Place → BucketView K V) (found : Bool)
+        → PreparesThen kind hash old (λ between. ChangesAt wants change found between new)
         → KeepsOpenTickets old.arrays.tickets new.arrays.tickets
-    bag_changed eq key change found p =
-        bag_then kind hash old new _ p (λ between is. changed_at eq key change found between new is)
+    bag_changed wants change found p =
+        bag_then kind hash old new _ p (λ between is. changed_at wants change found between new is)
 
     -- also where the arrays may shrink then
-    pub bag_taken : (eq : K → K → Bool) (key : K) (change : BucketView K V → Place → BucketView K V) (found : Bool)
-        → PreparesThen kind hash old (λ between. ShrinksAt eq key change found between new)
+    pub bag_taken : (wants : K → Bool) (change : BucketView K V → Place → BucketView K V) (found : Bool)
+        → PreparesThen kind hash old (λ between. ShrinksAt wants change found between new)
         → KeepsOpenTickets old.arrays.tickets new.arrays.tickets
-    bag_taken eq key change found p = bag_then kind hash old new _ p (λ between is. shrunk_at eq key change found between new is)
+    bag_taken wants change found p = bag_then kind hash old new _ p (λ between is. shrunk_at wants change found between new is)
 
     pub bag_evicted : {E : Type 0} (r : Result (Option (K × V)) E) → PreparesThen kind hash old (λ between. EvictsAt hash between r new)
         → KeepsOpenTickets old.arrays.tickets new.arrays.tickets

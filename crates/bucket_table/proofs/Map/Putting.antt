@@ -35,7 +35,7 @@ module _ {K V H : Type 0} where
 
   -- a key that is absent is so once a pair is out
   absent_left : (eq : K → K → Bool) (key : K) (old left : MapState K V H) (gone : Option (K × V)) → Evicts {E = ℕ} old (Ok gone) left
-      → IsAbsent eq key old.pairs → IsAbsent eq key left.pairs
+      → IsAbsent (λ own. eq own key) old.pairs → IsAbsent (λ own. eq own key) left.pairs
   absent_left eq key old left None keeps absent =
       All-permutation (λ (p : K × V). eq p.0 key ≡ false) old.pairs left.pairs keeps.pairs absent
   absent_left eq key old left (Some pair) takes absent =
@@ -44,7 +44,7 @@ module _ {K V H : Type 0} where
 
   -- what goes, then a pair more, then another order
   put_over : (eq : K → K → Bool) (key : K) (value : V) (old left added new : MapState K V H) (gone : Option (K × V))
-      → Evicts {E = ℕ} old (Ok gone) left → AddsPair left (key, value) added → KeepsPairs added new → IsAbsent eq key old.pairs
+      → Evicts {E = ℕ} old (Ok gone) left → AddsPair left (key, value) added → KeepsPairs added new → IsAbsent (λ own. eq own key) old.pairs
       → Puts eq key value old (Ok gone) new
   put_over eq key value old left added new None keeps adds moved absent =
       let more = then_added old left added (key, value) keeps adds in (
@@ -102,7 +102,7 @@ module _ {K V H : Type 0} {eq : K → K → Bool} (laws : IsEquivalence eq) (has
       evicted laws hash kind side i one (changeable_locked a side i locked) (Some pair) (slots_evicted was) went.1 refl tt
 
   puts : (gone : Option (K × V)) (keeps : Bool) (key : K) (value : V) (h : ℕ) → h ≡ hash hasher key
-      → IsHome (length (buckets_on a side)) h i → IsAbsent eq key (pairs_of a) → kind ≡ CACHE → Goes was gone
+      → IsHome (length (buckets_on a side)) h i → IsAbsent (λ own. eq own key) (pairs_of a) → kind ≡ CACHE → Goes was gone
       → LeavesWith (Puts eq key value (state a) (Ok gone)) (slots_put keeps (slots_left was gone) (key, value) (h % 256))
   puts gone keeps key value h own home absent cache went =
       let b = slots_left was gone in
@@ -146,9 +146,9 @@ module _ {K V H : Type 0} where
       (r : Result (Option (K × V)) (NotInserted K V)) → KeepsPairs old between → Puts eq key value between r new
       → Puts eq key value old r new
   then_put eq key value old between new (Ok None) keeps x =
-      (absent_before eq key old between keeps x.0, then_added old between new (key, value) keeps x.1)
+      (absent_before (λ own. eq own key) old between keeps x.0, then_added old between new (key, value) keeps x.1)
   then_put eq key value old between new (Ok (Some gone)) keeps x = (
-    absent_before eq key old between keeps x.0,
+    absent_before (λ own. eq own key) old between keeps x.0,
     record {
       rest = x.1.rest;
       before = IsPermutation-trans old.pairs between.pairs (gone ∷ x.1.rest) keeps.pairs x.1.before;

@@ -19,26 +19,25 @@ module _ {K V H : Type 0} where
     }) keeps.others;
   }
 
--- the pair that a search found is the one that was taken
-pub same_taken : {K V : Type 0} (eq : K → K → Bool) (k : K) (pairs : List (K × V)) (slot : Slot K V)
-    (p q : K × V) → live_pair slot ≡ Some p → IsThere eq k pairs p → live_pair slot ≡ Some q → eq q.0 k ≡ true
-same_taken {K} {V} eq k pairs slot p q found there taken = subst (λ (r : K × V). eq r.0 k ≡ true)
-    (same_Some p q (sym found ∙ taken)) there.1
+module _ {K V : Type 0} (wants : K → Bool) where
+  -- the pair that a search found is the one that was taken
+  pub same_taken : (pairs : List (K × V)) (slot : Slot K V) (p q : K × V) → live_pair slot ≡ Some p → IsThere wants pairs p
+      → live_pair slot ≡ Some q → wants q.0 ≡ true
+  same_taken pairs slot p q found there taken = subst (λ (r : K × V). wants r.0 ≡ true) (same_Some p q (sym found ∙ taken)) there.1
 
--- a key that is absent was absent in another order
-pub absent_before : {K V H : Type 0} (eq : K → K → Bool) (k : K) (a b : MapState K V H)
-    → KeepsPairs a b → IsAbsent eq k b.pairs → IsAbsent eq k a.pairs
-absent_before {K} {V} eq k a b keeps none = All-permutation (λ (p : K × V). eq p.0 k ≡ false)
-    b.pairs a.pairs (IsPermutation-sym a.pairs b.pairs keeps.pairs) none
+  module _ {H : Type 0} (a b : MapState K V H) where
+    -- where no key is wanted, none was in another order
+    pub absent_before : KeepsPairs a b → IsAbsent wants b.pairs → IsAbsent wants a.pairs
+    absent_before keeps none = All-permutation (λ (p : K × V). wants p.0 ≡ false) b.pairs a.pairs
+        (IsPermutation-sym a.pairs b.pairs keeps.pairs) none
 
--- nor is the pair that a search found another one than was there before, in another order
-pub there_before : {K V H : Type 0} (eq : K → K → Bool) (k : K) (a b : MapState K V H) (p : K × V)
-    → KeepsPairs a b → IsThere eq k b.pairs p → IsThere eq k a.pairs p
-there_before eq k a b p keeps (there, own) =
-    (Contains-permutation b.pairs a.pairs p (IsPermutation-sym a.pairs b.pairs keeps.pairs) there, own)
+    -- nor is the pair that a search found another one than was there before, in another order
+    pub there_before : (p : K × V) → KeepsPairs a b → IsThere wants b.pairs p → IsThere wants a.pairs p
+    there_before p keeps (there, is) =
+        (Contains-permutation b.pairs a.pairs p (IsPermutation-sym a.pairs b.pairs keeps.pairs) there, is)
 
--- and it is what a slot shows
-pub shown_before : {K V H : Type 0} (eq : K → K → Bool) (k : K) (a b : MapState K V H) (slot : Slot K V) (p q : K × V) → KeepsPairs a b
-    → live_pair slot ≡ Some p → IsThere eq k b.pairs p → live_pair slot ≡ Some q → IsThere eq k a.pairs q
-shown_before {K} {V} eq k a b slot p q keeps found there shown =
-    there_before eq k a b q keeps (subst (λ (r : K × V). IsThere eq k b.pairs r) (same_Some p q (sym found ∙ shown)) there)
+    -- and it is what a slot shows
+    pub shown_before : (slot : Slot K V) (p q : K × V) → KeepsPairs a b → live_pair slot ≡ Some p → IsThere wants b.pairs p
+        → live_pair slot ≡ Some q → IsThere wants a.pairs q
+    shown_before slot p q keeps found there shown =
+        there_before q keeps (subst (λ (r : K × V). IsThere wants b.pairs r) (same_Some p q (sym found ∙ shown)) there)

@@ -26,7 +26,7 @@ module _ {K V H : Type 0} {eq : K → K → Bool} (laws : IsEquivalence eq) (has
       inserted_where_absent laws hash kind side i one locked (Ok true) b keeps key value h alike own home x.0 x.1 tt
   upserted (Ok (Some earlier)) b keeps key value h alike own home x =
       let found = searched_found (λ k. eq k key) a side _ (h % 256) i x.0 refl x.2 in
-      let equal = same_taken eq key (pairs_of a) _ found.0 (x.1, earlier) found.1 found.2 x.3 in
+      let equal = same_taken (λ own. eq own key) (pairs_of a) _ found.0 (x.1, earlier) found.1 found.2 x.3 in
       rw x.4 (
       let y = wrote laws hash kind side i one (changeable_locked a side i locked) (x.1, earlier) value x.0 x.3 in
       record { one_map = y.one_map; map = (x.1, equal, y.map); within = y.within; locked = y.locked })
@@ -40,11 +40,11 @@ module _ {K V H : Type 0} where
   pub then_upserted : (eq : K → K → Bool) (key : K) (value : V) (old between new : MapState K V H) (r : Result (Option V) (K × V))
       → KeepsPairs old between → Upserts eq key value between r new → Upserts eq key value old r new
   then_upserted eq key value old between new (Ok None) keeps x =
-      (absent_before eq key old between keeps x.0, then_added old between new (key, value) keeps x.1)
+      (absent_before (λ own. eq own key) old between keeps x.0, then_added old between new (key, value) keeps x.1)
   then_upserted eq key value old between new (Ok (Some earlier)) keeps x =
       (x.0, x.1, then_changed old between new (x.0, earlier) value keeps x.2)
   then_upserted eq key value old between new (Err back) keeps x =
-      (x.0, absent_before eq key old between keeps x.1, then_kept old between new keeps x.2)
+      (x.0, absent_before (λ own. eq own key) old between keeps x.1, then_kept old between new keeps x.2)
 
   -- a bucket found for the hash of a key, and the pair put there or its value written
   pub found_upserted : (eq : K → K → Bool) (kind h n : ℕ) (keeps : ℕ → Bool) (key : K) (value : V) (old between new : TableView K V H)
@@ -55,7 +55,7 @@ module _ {K V H : Type 0} where
       let put = is ∙ ap (λ (b : BucketView K V). with_bucket between side i b) x.1 in
       rw (← own) (record { answer = Ok (side, i); between = between; found = found; done = put })
   found_upserted eq kind h n keeps key value old between new side i (Ok (Some earlier)) left own found x is =
-      let stands = stands_found eq key between.arrays side _ (bucket_on between.arrays side i) (h % 256) i x.0 refl refl found.home.within
+      let stands = stands_found (λ own. eq own key) between.arrays side _ (bucket_on between.arrays side i) (h % 256) i x.0 refl refl found.home.within
       x.2 in
       let wrote = is ∙ ap (λ (b : BucketView K V). with_bucket between side i b) x.4 in
       rw (← own) (record { answer = Ok (side, i); between = between; found = found; done = (side, i, x.0, stands, wrote) })

@@ -46,9 +46,9 @@ module _ {K V H : Type 0} where
     after = record { pairs = changes.after.pairs; others = others_after a b d keeps changes.after.others };
   }
 
-  pub there_before : (eq : K → K → Bool) (k : K) (a b : MapState K V H) (p : K × V) → KeepsPairs a b
-      → IsThere eq k b.pairs p → IsThere eq k a.pairs p
-  there_before eq k a b p keeps there = (
+  pub there_before : (wants : K → Bool) (a b : MapState K V H) (p : K × V) → KeepsPairs a b
+      → IsThere wants b.pairs p → IsThere wants a.pairs p
+  there_before wants a b p keeps there = (
     Contains-permutation b.pairs a.pairs p (IsPermutation-sym a.pairs b.pairs keeps.pairs) there.0,
     there.1,
   )

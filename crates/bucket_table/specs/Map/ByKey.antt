@@ -15,58 +15,59 @@ use Rattle.bucket_table.specs.declared.hash_table.NotInserted.{NotInserted}
 use Rattle.bucket_table.specs.declared.hash_table.NotInserted.TheVariants.{Present, Memory}
 use Rattle.bucket_table.specs.declared.arrays.side.Side.{Side}
 
--- a live slot of a bucket of one side has a pair whose key is equal to the key
-pub record StandsAt {K V : Type 0} (eq : K → K → Bool) (key : K) (arrays : ArraysView K V) (side : Side) (index : ℕ) (at : Place) : Type 0 where
+-- a live slot of a bucket of one side has a pair whose key is wanted
+pub record StandsAt {K V : Type 0} (wants : K → Bool) (arrays : ArraysView K V) (side : Side) (index : ℕ) (at : Place) : Type 0 where
   pub pair : K × V
   pub within : index < length (buckets_on arrays side)
   pub slot : live_pair (slot_in (bucket_on arrays side index) at) ≡ Some pair
-  pub there : IsThere eq key (pairs_of arrays) pair
+  pub there : IsThere wants (pairs_of arrays) pair
 
 -- why a pair comes back that wasn't put: an equal key is there, or allocation failed, and then none is
 abbrev pub HandsBack : {K V : Type 0} → (K → K → Bool) → K → V → List (K × V) → NotInserted K V → Type 0
-HandsBack {K} {V} eq key value pairs (Present k v) = (k ≡ key) × (v ≡ value) × ((pair : K × V) × IsThere eq key pairs pair)
-HandsBack eq key value pairs (Memory k v) = (k ≡ key) × (v ≡ value) × IsAbsent eq key pairs
+HandsBack {K} {V} eq key value pairs (Present k v) = (k ≡ key) × (v ≡ value) × ((pair : K × V) × IsThere (λ own. eq own key) pairs pair)
+HandsBack eq key value pairs (Memory k v) = (k ≡ key) × (v ≡ value) × IsAbsent (λ own. eq own key) pairs
 
-module _ {K V H : Type 0} (eq : K → K → Bool) (key : K) where
-  -- the pair under the key is taken out, and there is none exactly where the key is absent
+module _ {K V H : Type 0} (wants : K → Bool) where
+  -- a pair that is wanted is taken out, and there is none exactly where no key is wanted
   abbrev pub Takes : MapState K V H → Option (K × V) → MapState K V H → Type 0
-  Takes old (Some pair) new = (eq pair.0 key ≡ true) × TakesPair old pair new
-  Takes old None new = IsAbsent eq key old.pairs × KeepsPairs old new
+  Takes old (Some pair) new = (wants pair.0 ≡ true) × TakesPair old pair new
+  Takes old None new = IsAbsent wants old.pairs × KeepsPairs old new
 
-  -- the value under the key is another one now, and the earlier one comes back; where the key is absent, the value does
+  -- the value beside a key that is wanted is another one now, and the earlier one comes back; where no key is wanted, the value does
   abbrev pub Swaps : V → MapState K V H → Result V V → MapState K V H → Type 0
-  Swaps value old (Ok earlier) new = (found : K) × (eq found key ≡ true) × ChangesValue old (found, earlier) value new
-  Swaps value old (Err back) new = (back ≡ value) × IsAbsent eq key old.pairs × KeepsPairs old new
+  Swaps value old (Ok earlier) new = (found : K) × (wants found ≡ true) × ChangesValue old (found, earlier) value new
+  Swaps value old (Err back) new = (back ≡ value) × IsAbsent wants old.pairs × KeepsPairs old new
 
-  -- a pair is put where its key is absent; else, and if allocation fails, it comes back
-  abbrev pub Inserts : {A : Type 0} → V → MapState K V H → Result A (NotInserted K V) → MapState K V H → Type 0
-  Inserts value old (Ok done) new = IsAbsent eq key old.pairs × AddsPair old (key, value) new
-  Inserts value old (Err why) new = HandsBack eq key value old.pairs why × KeepsPairs old new
-
-  -- the pair under the key is read and marked, and the map is without it; there is no answer exactly where the key is absent
+  -- a pair that is wanted is read and marked, and the map is without it; there is no answer exactly where no key is wanted
   abbrev pub Marks : {R : Type 0} → (Bor K → Bor V → R → Type 0) → MapState K V H → Option R → MapState K V H → Type 0
   Marks reads old (Some answer) new =
-      (own : Bor K) × (value : Bor V) × reads own value answer × (eq own.now key ≡ true) × TakesPair old (own.now, value.now) new
-  Marks reads old None new = IsAbsent eq key old.pairs × KeepsPairs old new
+      (own : Bor K) × (value : Bor V) × reads own value answer × (wants own.now ≡ true) × TakesPair old (own.now, value.now) new
+  Marks reads old None new = IsAbsent wants old.pairs × KeepsPairs old new
 
-  -- the pair under the key is touched: the map stays, and the answer is whether there is one
+  -- a pair that is wanted is touched: the map stays, and the answer is whether there is one
   abbrev pub Touches : MapState K V H → Bool → MapState K V H → Type 0
-  Touches old true new = ((pair : K × V) × IsThere eq key old.pairs pair) × KeepsPairs old new
-  Touches old false new = IsAbsent eq key old.pairs × KeepsPairs old new
+  Touches old true new = ((pair : K × V) × IsThere wants old.pairs pair) × KeepsPairs old new
+  Touches old false new = IsAbsent wants old.pairs × KeepsPairs old new
 
-  -- the pair under the key is handed out, and its value is what was written; there is no answer exactly where the key is absent
+  -- a pair that is wanted is handed out, and its value is what was written; there is no answer exactly where no key is wanted
   abbrev pub Rewrites : {R : Type 0} → (Bor K → MutBor V → R → MutBor V → Type 0) → MapState K V H → Option R → MapState K V H
       → Type 0
   Rewrites changes old (Some answer) new =
-      (own : Bor K) × (before after : MutBor V) × changes own before answer after × (eq own.now key ≡ true)
+      (own : Bor K) × (before after : MutBor V) × changes own before answer after × (wants own.now ≡ true)
       × ChangesValue old (own.now, before.now) after.now new
-  Rewrites changes old None new = IsAbsent eq key old.pairs × KeepsPairs old new
+  Rewrites changes old None new = IsAbsent wants old.pairs × KeepsPairs old new
+
+module _ {K V H : Type 0} (eq : K → K → Bool) (key : K) where
+  -- a pair is put where its key is absent; else, and if allocation fails, it comes back
+  abbrev pub Inserts : {A : Type 0} → V → MapState K V H → Result A (NotInserted K V) → MapState K V H → Type 0
+  Inserts value old (Ok done) new = IsAbsent (λ own. eq own key) old.pairs × AddsPair old (key, value) new
+  Inserts value old (Err why) new = HandsBack eq key value old.pairs why × KeepsPairs old new
 
   -- a pair is put where its key is absent, and else its value is written and the earlier one comes back; what isn't put comes back too
   abbrev pub Upserts : V → MapState K V H → Result (Option V) (K × V) → MapState K V H → Type 0
-  Upserts value old (Ok None) new = IsAbsent eq key old.pairs × AddsPair old (key, value) new
+  Upserts value old (Ok None) new = IsAbsent (λ own. eq own key) old.pairs × AddsPair old (key, value) new
   Upserts value old (Ok (Some earlier)) new = (found : K) × (eq found key ≡ true) × ChangesValue old (found, earlier) value new
-  Upserts value old (Err back) new = (back ≡ (key, value)) × IsAbsent eq key old.pairs × KeepsPairs old new
+  Upserts value old (Err back) new = (back ≡ (key, value)) × IsAbsent (λ own. eq own key) old.pairs × KeepsPairs old new
 
 -- a pair is taken out, or the map stays
 abbrev pub Evicts : {K V H E : Type 0} → MapState K V H → Result (Option (K × V)) E → MapState K V H → Type 0
@@ -106,24 +107,24 @@ pub record PreparesThen {K V H : Type 0} (kind hash : ℕ) (old : TableView K V 
   pub prepared : IsPrepared kind hash old between
   pub done : Then between
 
-module _ {K V H : Type 0} (eq : K → K → Bool) (key : K) (change : BucketView K V → Place → BucketView K V) where
-  -- where the key was found its pair's place is changed, and nothing else is; else all stays
+module _ {K V H : Type 0} (wants : K → Bool) (change : BucketView K V → Place → BucketView K V) where
+  -- where a wanted pair was found its place is changed, and nothing else is; else all stays
   abbrev pub ChangesAt : Bool → TableView K V H → TableView K V H → Type 0
-  ChangesAt true old new = (side : Side) × (index : ℕ) × (at : Place) × StandsAt eq key old.arrays side index at
+  ChangesAt true old new = (side : Side) × (index : ℕ) × (at : Place) × StandsAt wants old.arrays side index at
       × (new ≡ with_bucket old side index (change (bucket_on old.arrays side index) at))
   ChangesAt false old new = new ≡ old
 
-  -- where the key was found its pair's place is changed, and where the bucket has no live pair then the arrays may shrink by the plan;
+  -- where a wanted pair was found its place is changed, and where the bucket has no live pair then the arrays may shrink by the plan;
   -- else all stays
   abbrev pub ShrinksAt : Bool → TableView K V H → TableView K V H → Type 0
-  ShrinksAt true old new = (side : Side) × (index : ℕ) × (at : Place) × StandsAt eq key old.arrays side index at
+  ShrinksAt true old new = (side : Side) × (index : ℕ) × (at : Place) × StandsAt wants old.arrays side index at
       × RemovesAndShrinks old.arrays side index (change (bucket_on old.arrays side index) at) new.arrays
   ShrinksAt false old new = new ≡ old
 
--- where the key was found its value is another one, and nothing else is; else all stays
-abbrev pub WritesAt : {K V H : Type 0} → (K → K → Bool) → K → Bool → TableView K V H → TableView K V H → Type 0
-WritesAt {K} {V} eq key true old new = (value : V) × ChangesAt eq key (λ bucket at. bucket_with_value bucket at value) true old new
-WritesAt eq key false old new = new ≡ old
+-- where a wanted pair was found its value is another one, and nothing else is; else all stays
+abbrev pub WritesAt : {K V H : Type 0} → (K → Bool) → Bool → TableView K V H → TableView K V H → Type 0
+WritesAt {K} {V} wants true old new = (value : V) × ChangesAt wants (λ bucket at. bucket_with_value bucket at value) true old new
+WritesAt wants false old new = new ≡ old
 
 -- the pair is put into the bucket that was found, and none was put where none was found; else all stays, and allocation fails only where
 -- none was found, or one without a free slot
@@ -143,6 +144,6 @@ UpsertsAt eq kind keeps key value byte old (Ok None) (Ok found) new =
     new ≡ with_bucket old found.0 found.1 (slots_after_insertion kind keeps (bucket_on old.arrays found.0 found.1) (key, value) byte)
 UpsertsAt eq kind keeps key value byte old (Ok None) (Err refused) new = ⊥
 UpsertsAt eq kind keeps key value byte old (Ok (Some earlier)) answer new =
-    ChangesAt eq key (λ bucket at. bucket_with_value bucket at value) true old new
+    ChangesAt (λ own. eq own key) (λ bucket at. bucket_with_value bucket at value) true old new
 UpsertsAt eq kind keeps key value byte old (Err back) (Ok found) new = HasNoSlot kind keeps (bucket_on old.arrays found.0 found.1) × (new ≡ old)
 UpsertsAt eq kind keeps key value byte old (Err back) (Err refused) new = new ≡ old

@@ -19,12 +19,12 @@ use Rattle.bucket_table.specs.declared.arrays.side.Side.{Side}
 abbrev pub with_value : {K V H : Type 0} → TableView K V H → Side → ℕ → Place → V → TableView K V H
 with_value table side index at value = with_bucket table side index (bucket_with_value (bucket_on table.arrays side index) at value)
 
--- the value under the key was this one and is that one; for it a unit was worked and the sources of a hash's home moved, and then one
+-- the value beside a wanted key was this one and is that one; for it a unit was worked and the sources of a hash's home moved, and then one
 -- slot was written
-pub record WritesUnder {K V H : Type 0} (eq : K → K → Bool) (key : K) (kind hash : ℕ) (old : TableView K V H) (before value : V)
+pub record WritesUnder {K V H : Type 0} (wants : K → Bool) (kind hash : ℕ) (old : TableView K V H) (before value : V)
     (new : TableView K V H) : Type 0 where
-  pub map : Swaps eq key value (state_of kind old) (Ok before) (state_of kind new)
-  pub arrays : PreparesThen kind hash old (λ between. ChangesAt eq key (λ bucket at. bucket_with_value bucket at value) true between new)
+  pub map : Swaps wants value (state_of kind old) (Ok before) (state_of kind new)
+  pub arrays : PreparesThen kind hash old (λ between. ChangesAt wants (λ bucket at. bucket_with_value bucket at value) true between new)
 
 module _ (K V H L : RattleType) (TYPE : ℕ) (equal : equals.Ghosts K.Denot) (hashing : key_hash.Ghosts H.Denot K.Denot)
     (listing : list.Ghosts L.Denot) (fresh : default.Ghosts L.Denot) (table : MutBor (TableView K.Denot V.Denot H.Denot)) where
@@ -33,9 +33,10 @@ module _ (K V H L : RattleType) (TYPE : ℕ) (equal : equals.Ghosts K.Denot) (ha
   LendsSlot side index at loan =
       Lends (table_row K V H L (number TYPE) equal hashing listing fresh) V table loan (with_value table.now side index at)
 
-  -- the value under the key was what the loan showed, and is the last one written through it; where there is no loan a unit was worked
-  abbrev pub LendsUnder : K.Denot → Option (MutBor V.Denot) → Fml
-  LendsUnder key loan =
+  -- the value beside a wanted key was what the loan showed, and is the last one written through it; where there is no loan a unit was
+  -- worked
+  abbrev pub LendsUnder : (K.Denot → Bool) → ℕ → Option (MutBor V.Denot) → Fml
+  LendsUnder wants hash loan =
       LendsSo (table_row K V H L (number TYPE) equal hashing listing fresh) V table loan
-      (λ new value. IfSome loan (λ lent. WritesUnder equal.eq key TYPE (hashing.hash_of table.now.hasher key) table.now lent.now value new))
-      (λ new. IfNone loan (IsPrepared TYPE (hashing.hash_of table.now.hasher key) table.now new))
+      (λ new value. IfSome loan (λ lent. WritesUnder wants TYPE hash table.now lent.now value new))
+      (λ new. IfNone loan (IsPrepared TYPE hash table.now new))

@@ -13,13 +13,13 @@ abbrev pub pairs_in_all : {K V : Type 0} → List (BucketView K V) → List (K �
 pairs_in_all [] = []
 pairs_in_all (bucket ∷ buckets) = pairs_in bucket ++ pairs_in_all buckets
 
--- no pair's key is equal to the key
-abbrev pub IsAbsent : {K V : Type 0} → (K → K → Bool) → K → List (K × V) → Type 0
-IsAbsent eq key pairs = All (λ pair. eq pair.0 key ≡ false) pairs
+-- no pair's key is wanted
+abbrev pub IsAbsent : {K V : Type 0} → (K → Bool) → List (K × V) → Type 0
+IsAbsent wants pairs = All (λ pair. wants pair.0 ≡ false) pairs
 
--- the pair is one of the pairs, and its key is equal to the key
-abbrev pub IsThere : {K V : Type 0} → (K → K → Bool) → K → List (K × V) → K × V → Type 0
-IsThere eq key pairs pair = Contains pairs pair × (eq pair.0 key ≡ true)
+-- the pair is one of the pairs, and its key is wanted
+abbrev pub IsThere : {K V : Type 0} → (K → Bool) → List (K × V) → K × V → Type 0
+IsThere wants pairs pair = Contains pairs pair × (wants pair.0 ≡ true)
 
 -- the bucket that is a hash's home; an empty one where there are no buckets
 abbrev pub home_bucket : {K V : Type 0} → ℕ → List (BucketView K V) → BucketView K V

@@ -28,8 +28,8 @@ pub record ReplacesPair {K V H : Type 0} (old : MapState K V H) (gone pair : K �
 -- a pair is put where its key is absent, and a pair that goes for it comes back; what isn't put comes back too, and then all stays
 abbrev pub Puts : {K V H : Type 0} → (K → K → Bool) → K → V → MapState K V H → Result (Option (K × V)) (NotInserted K V) → MapState K V H
     → Type 0
-Puts eq key value old (Ok None) new = IsAbsent eq key old.pairs × AddsPair old (key, value) new
-Puts eq key value old (Ok (Some gone)) new = IsAbsent eq key old.pairs × ReplacesPair old gone (key, value) new
+Puts eq key value old (Ok None) new = IsAbsent (λ own. eq own key) old.pairs × AddsPair old (key, value) new
+Puts eq key value old (Ok (Some gone)) new = IsAbsent (λ own. eq own key) old.pairs × ReplacesPair old gone (key, value) new
 Puts eq key value old (Err why) new = HandsBack eq key value old.pairs why × KeepsPairs old new
 
 module _ {K V : Type 0} where

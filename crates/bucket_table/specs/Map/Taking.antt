@@ -12,18 +12,18 @@ use Rattle.bucket_table.specs.Views.Keeping.{Keeps}
 use Rattle.bucket_table.specs.Views.Sides.{arrays_with, bucket_on, buckets_on}
 use Rattle.bucket_table.specs.declared.arrays.side.Side.{Side}
 
--- the pair of a live slot, whose key is equal, is taken out, and where no live pair is left in the bucket the arrays may shrink
-pub record TakesFrom {K V : Type 0} (eq : K → K → Bool) (key : K) (side : Side) (old : ArraysView K V) (pair : K × V) (new : ArraysView K V) : Type 0 where
+-- the pair of a live slot, whose key is wanted, is taken out, and where no live pair is left in the bucket the arrays may shrink
+pub record TakesFrom {K V : Type 0} (wants : K → Bool) (side : Side) (old : ArraysView K V) (pair : K × V) (new : ArraysView K V) : Type 0 where
   pub index : ℕ
   pub at : Place
-  pub stands : StandsAt eq key old side index at
+  pub stands : StandsAt wants old side index at
   pub taken : live_pair (slot_in (bucket_on old side index) at) ≡ Some pair
   pub asked : RemovesAndShrinks old side index (slots_without (bucket_on old side index) at) new
   pub kept : Keeps (arrays_with old side index (slots_without (bucket_on old side index) at)) new
   pub placed : (hash : K → ℕ) → ArePlaced hash (arrays_with old side index (slots_without (bucket_on old side index) at)) → ArePlaced hash new
 
--- the pair with an equal key is taken out of the home on one side; there is no answer exactly where that home has none, and all stays
-abbrev pub TakesOn : {K V : Type 0} → (K → K → Bool) → K → ℕ → Side → ArraysView K V → Option (K × V) → ArraysView K V → Type 0
-TakesOn eq key hash side old (Some pair) new = TakesFrom eq key side old pair new
-TakesOn eq key hash side old None new =
-    (new ≡ old) × (pair_wanted (λ own. eq own key) (hash % 256) (home_bucket hash (buckets_on old side)) ≡ None)
+-- a wanted pair is taken out of the home on one side; there is no answer exactly where that home has none, and all stays
+abbrev pub TakesOn : {K V : Type 0} → (K → Bool) → ℕ → Side → ArraysView K V → Option (K × V) → ArraysView K V → Type 0
+TakesOn wants hash side old (Some pair) new = TakesFrom wants side old pair new
+TakesOn wants hash side old None new =
+    (new ≡ old) × (pair_wanted wants (hash % 256) (home_bucket hash (buckets_on old side)) ≡ None)

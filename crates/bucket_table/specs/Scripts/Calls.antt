@@ -15,19 +15,19 @@ use Rattle.bucket_table.specs.declared.script.reply.Reply.TheVariants.{Refused, 
 module _ {K V H : Type 0} (eq : K → K → Bool) (hash : H → K → ℕ) where
   -- from the map `old` the call may have this reply, and `new` is the map after it
   abbrev pub Step : MapState K V H → Call K V → Reply K V → MapState K V H → Type 0
-  Step old (Put key value) Done new = IsAbsent eq key old.pairs × AddsPair old (key, value) new
-  Step old (Put key value) Present new = ((pair : K × V) × IsThere eq key old.pairs pair) × KeepsPairs old new
-  Step old (Put key value) Refused new = IsAbsent eq key old.pairs × KeepsPairs old new
+  Step old (Put key value) Done new = IsAbsent (λ own. eq own key) old.pairs × AddsPair old (key, value) new
+  Step old (Put key value) Present new = ((pair : K × V) × IsThere (λ own. eq own key) old.pairs pair) × KeepsPairs old new
+  Step old (Put key value) Refused new = IsAbsent (λ own. eq own key) old.pairs × KeepsPairs old new
   Step old (Write key value) (Old earlier) new = (found : K) × (eq found key ≡ true) × ChangesValue old (found, earlier) value new
-  Step old (Write key value) Absent new = IsAbsent eq key old.pairs × KeepsPairs old new
-  Step old (Read key) (Value value) new = ((found : K) × IsThere eq key old.pairs (found, value)) × KeepsPairs old new
-  Step old (Read key) Absent new = IsAbsent eq key old.pairs × KeepsPairs old new
-  Step old (Peek key) (Value value) new = ((found : K) × IsThere eq key old.pairs (found, value)) × KeepsPairs old new
-  Step old (Peek key) Absent new = IsAbsent eq key old.pairs × KeepsPairs old new
+  Step old (Write key value) Absent new = IsAbsent (λ own. eq own key) old.pairs × KeepsPairs old new
+  Step old (Read key) (Value value) new = ((found : K) × IsThere (λ own. eq own key) old.pairs (found, value)) × KeepsPairs old new
+  Step old (Read key) Absent new = IsAbsent (λ own. eq own key) old.pairs × KeepsPairs old new
+  Step old (Peek key) (Value value) new = ((found : K) × IsThere (λ own. eq own key) old.pairs (found, value)) × KeepsPairs old new
+  Step old (Peek key) Absent new = IsAbsent (λ own. eq own key) old.pairs × KeepsPairs old new
   Step old (Remove key) (Pair found value) new = (eq found key ≡ true) × TakesPair old (found, value) new
-  Step old (Remove key) Absent new = IsAbsent eq key old.pairs × KeepsPairs old new
-  Step old (Touch key) Done new = (old.kind ≡ CACHE) × ((pair : K × V) × IsThere eq key old.pairs pair) × KeepsPairs old new
-  Step old (Touch key) Absent new = (old.kind ≡ CACHE) × IsAbsent eq key old.pairs × KeepsPairs old new
+  Step old (Remove key) Absent new = IsAbsent (λ own. eq own key) old.pairs × KeepsPairs old new
+  Step old (Touch key) Done new = (old.kind ≡ CACHE) × ((pair : K × V) × IsThere (λ own. eq own key) old.pairs pair) × KeepsPairs old new
+  Step old (Touch key) Absent new = (old.kind ≡ CACHE) × IsAbsent (λ own. eq own key) old.pairs × KeepsPairs old new
   Step old (Touch key) WrongKind new = (old.kind ≢ CACHE) × KeepsPairs old new
   Step old (Evict key) (Pair found value) new = (old.kind ≡ CACHE) × TakesPair old (found, value) new
   Step old (Evict key) Nothing new = (old.kind ≡ CACHE) × KeepsPairs old new

@@ -1,4 +1,4 @@
-//! A key searched in its home in one of the arrays.
+//! A wanted key searched in the home of a hash in one of the arrays.
 ghost use Rattle.std.specs.Prelude.{◌≡◌, ◌%◌, None, IfSome, IfNone};
 ghost use Rattle.bucket_slots.specs.Searching.{pair_wanted};
 ghost use Rattle.bucket_table.specs.Map.ByKey.{StandsAt};
@@ -6,7 +6,7 @@ ghost use Rattle.bucket_table.specs.Map.LookingUp.{home_bucket};
 ghost use Rattle.bucket_table.specs.Views.Sides.{buckets_on};
 
 use super::{Arrays, Side};
-use bucket_slots::bucket::EntryPtr;
+use bucket_slots::bucket::{EntryPtr, KeyProbe};
 use bucket_slots::lru::LruList;
 
 /// A slot of a bucket of one side.
@@ -17,15 +17,21 @@ pub(crate) struct Spot<K, V, const TYPE: u8> {
     pub(crate) at: EntryPtr<K, V, TYPE>,
 }
 
-impl<K: Eq, V, L: LruList, const TYPE: u8> Arrays<K, V, L, TYPE> {
-    /// Returns the live slot with an equal key in the home of a hash on one side; `None` where that
-    /// home has none.
+impl<K, V, L: LruList, const TYPE: u8> Arrays<K, V, L, TYPE> {
+    /// Returns the first live slot with a wanted key in the home of a hash on one side; `None` where
+    /// that home has none.
     #[inline(always)]
-    pub(crate) fn search_on(&self, side: Side, key: &K, hash: u64) -> Option<Spot<K, V, TYPE>>
+    pub(crate) fn search_on<P: KeyProbe<K>>(
+        &self,
+        side: Side,
+        hash: u64,
+        probe: &mut P,
+    ) -> Option<Spot<K, V, TYPE>>
         ensures found { IfSome result (λ spot.
-            StandsAt K.eq key.now self.now spot.side spot.index spot.at) }
-        ensures absent { IfNone result (pair_wanted (λ own. K.eq own key.now) (hash % 256)
+            StandsAt (P.wants probe.old) self.now spot.side spot.index spot.at) }
+        ensures absent { IfNone result (pair_wanted (P.wants probe.old) (hash % 256)
             (home_bucket hash (buckets_on self.now side)) ≡ None) }
+        ensures fixed { P.wants probe.new ≡ P.wants probe.old }
     {
         if self.len_on(side) == 0 {
             return None;
@@ -33,7 +39,7 @@ impl<K: Eq, V, L: LruList, const TYPE: u8> Arrays<K, V, L, TYPE> {
         self.room_of(side);
         let array = self.array_of(side);
         let index = array.bucket_index(hash);
-        let at = array.bucket(index).get_entry_ptr(key, hash);
+        let at = array.bucket(index).get_entry_ptr_by(hash, probe);
         if !at.is_valid() {
             return None;
         }

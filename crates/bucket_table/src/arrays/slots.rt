@@ -14,7 +14,7 @@ ghost use Rattle.bucket_table.specs.Views.Sides.{arrays_with, bucket_on, buckets
 ghost use Rattle.bucket_table.specs.Views.Keeping.{Keeps};
 
 use super::{Arrays, Side};
-use bucket_slots::bucket::{CACHE, EntryPtr, Generation, INDEX};
+use bucket_slots::bucket::{CACHE, EntryPtr, Generation, INDEX, KeyProbe};
 use bucket_slots::lru::LruList;
 use std::mem;
 
@@ -170,15 +170,19 @@ impl<K: Drop, V: Drop, L: LruList + Drop, const TYPE: u8> Arrays<K, V, L, TYPE> 
         self.shrink_left(side, index, left);
         pair
     }
-}
 
-impl<K: Eq + Drop, V: Drop, L: LruList + Drop, const TYPE: u8> Arrays<K, V, L, TYPE> {
-    /// Takes the pair with an equal key out of the home of a hash on one side, and where no live
-    /// pair is left in the bucket shrinks the arrays where few slots near it are live.
+    /// Takes the first pair that a probe wants out of the home of a hash on one side, and where no
+    /// live pair is left in the bucket shrinks the arrays where few slots near it are live.
     #[inline(always)]
-    pub(crate) fn take_on(&mut self, side: Side, key: &K, hash: u64) -> Option<(K, V)>
+    pub(crate) fn take_on<P: KeyProbe<K>>(
+        &mut self,
+        side: Side,
+        hash: u64,
+        probe: &mut P,
+    ) -> Option<(K, V)>
         requires not_index { TYPE ≢ INDEX }
-        ensures { TakesOn K.eq key.now hash side self.old result self.new }
+        ensures taken { TakesOn (P.wants probe.old) hash side self.old result self.new }
+        ensures fixed { P.wants probe.new ≡ P.wants probe.old }
     {
         if self.len_on(side) == 0 {
             return None;
@@ -186,7 +190,7 @@ impl<K: Eq + Drop, V: Drop, L: LruList + Drop, const TYPE: u8> Arrays<K, V, L, T
         self.room_of(side);
         let index = self.array_of(side).bucket_index(hash);
         let bucket = self.bucket_of_mut(side, index);
-        let mut at = bucket.get_entry_ptr(key, hash);
+        let mut at = bucket.get_entry_ptr_by(hash, probe);
         if !at.is_valid() {
             return None;
         }

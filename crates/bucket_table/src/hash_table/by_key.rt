@@ -1,5 +1,5 @@
 //! Calls by key. What changes a pair that is there is never refused: it finds its pair on either
-//! side, so the pairs needn't have moved.
+//! side, so the pairs needn't have moved. Each has a twin by a probe, in `by_probe`.
 //!
 //! Own.
 ghost use Rattle.std.specs.Prelude.{◌≡◌, ◌≢◌, ◌%◌, ◌<◌, IfSome, IfNone, IsTrue, OnErr, OnOk, Some, is_ok, is_some, length};
@@ -16,11 +16,11 @@ ghost use Rattle.bucket_table.specs.Map.ByKey.{AnswersInsertion, ChangesAt, Hand
 ghost use Rattle.bucket_table.specs.Map.Finding.{FindsThen};
 ghost use Rattle.bucket_table.specs.Map.ByKey.{Inserts, Marks, ShrinksAt, StandsAt, Swaps, Takes, Touches};
 ghost use Rattle.bucket_table.specs.Map.LookingUp.{IsAbsent, IsThere};
-ghost use Rattle.bucket_table.specs.Map.Preparing.{IsPrepared, IsReady};
 ghost use Rattle.bucket_table.specs.Map.MapState.{ChangesValue, state_of};
 ghost use Rattle.bucket_table.specs.Views.Sides.{bucket_on, buckets_on, with_bucket};
 ghost use Rattle.bucket_table.specs.Views.Locking.{IsLocked};
 
+mod by_probe;
 mod evicting;
 mod lending;
 mod updating;
@@ -28,7 +28,7 @@ mod updating;
 use crate::arrays::{Side, Spot};
 use crate::hash_table::{HashTable, NotInserted};
 use crate::key_hash::KeyHash;
-use bucket_slots::bucket::{BUCKET_LEN, Bucket, CACHE, Generation, INDEX};
+use bucket_slots::bucket::{BUCKET_LEN, Bucket, CACHE, EqProbe, Generation, INDEX};
 use bucket_slots::lru::LruList;
 pub use evicting::puts_keep_chains;
 
@@ -50,16 +50,13 @@ impl<K: Eq + Drop, V: Drop, H: KeyHash<K>, L: LruList + Drop, const TYPE: u8> Ha
     #[inline(always)]
     pub fn take(&mut self, key: &K) -> Option<(K, V)>
         requires not_index { TYPE ≢ INDEX }
-        ensures map { Takes K.eq key.now (state_of TYPE self.old) result (state_of TYPE self.new) }
+        ensures map { Takes (λ own. K.eq own key.now) (state_of TYPE self.old) result
+            (state_of TYPE self.new) }
         ensures arrays { PreparesThen TYPE (H.hash_of self.old.hasher key.now) self.old (λ between.
-            ShrinksAt K.eq key.now slots_without (is_some result) between self.new) }
+            ShrinksAt (λ own. K.eq own key.now) slots_without (is_some result) between self.new) }
     {
         let hash = self.hash(key);
-        let _ready = self.fetch_home(hash);
-        if let Some(pair) = self.arrays.take_on(Side::Old, key, hash) {
-            return Some(pair);
-        }
-        self.arrays.take_on(Side::Current, key, hash)
+        self.take_by(hash, &mut EqProbe::new(key))
     }
 
     /// Hands the pair of an index whose key is equal to `reader`, leaves a tombstone, and returns
@@ -79,26 +76,20 @@ impl<K: Eq + Drop, V: Drop, H: KeyHash<K>, L: LruList + Drop, const TYPE: u8> Ha
     ) -> Option<R>
         requires index { TYPE ≡ INDEX }
         requires callable { (own : Bor K) (value : Bor V)
-            → IsThere K.eq key.now (pairs_of self.old.arrays) (own.now, value.now)
+            → IsThere (λ own. K.eq own key.now) (pairs_of self.old.arrays) (own.now, value.now)
             → F.pre reader own value }
-        ensures map { Marks K.eq key.now (λ own value answer. F.post reader own value answer)
+        ensures map { Marks (λ own. K.eq own key.now)
+            (λ own value answer. F.post reader own value answer)
             (state_of TYPE self.old) result (state_of TYPE self.new) }
         ensures arrays { PreparesThen TYPE (H.hash_of self.old.hasher key.now) self.old (λ between.
-            ShrinksAt K.eq key.now
+            ShrinksAt (λ own. K.eq own key.now)
             (λ bucket at. slots_marked bucket at (G.epoch_of generation.now)) (is_some result)
             between self.new) }
         ensures marks { MarksBy (G.epoch_of generation.now) (marks_of self.old.arrays)
             (marks_of self.new.arrays) }
     {
-        match self.fetch_spot(key) {
-            Some(mut spot) => {
-                let answer = self.read_at(&spot, reader);
-                self.arrays
-                    .mark_at(spot.side, spot.index, &mut spot.at, generation);
-                Some(answer)
-            }
-            None => None,
-        }
+        let hash = self.hash(key);
+        self.mark_by(hash, &mut EqProbe::new(key), generation, reader)
     }
 
     /// Makes the pair of a cache whose key is equal the one of its bucket touched last; a slot of the
@@ -111,18 +102,13 @@ impl<K: Eq + Drop, V: Drop, H: KeyHash<K>, L: LruList + Drop, const TYPE: u8> Ha
     #[inline(always)]
     pub fn touch(&mut self, key: &K) -> bool
         requires cache { TYPE ≡ CACHE }
-        ensures map { Touches K.eq key.now (state_of TYPE self.old) result
+        ensures map { Touches (λ own. K.eq own key.now) (state_of TYPE self.old) result
             (state_of TYPE self.new) }
         ensures arrays { PreparesThen TYPE (H.hash_of self.old.hasher key.now) self.old (λ between.
-            ChangesAt K.eq key.now (slots_touched L.KEEPS) result between self.new) }
+            ChangesAt (λ own. K.eq own key.now) (slots_touched L.KEEPS) result between self.new) }
     {
-        match self.fetch_spot(key) {
-            Some(spot) => {
-                self.arrays.touch_slot(spot.side, spot.index, &spot.at);
-                true
-            }
-            None => false,
-        }
+        let hash = self.hash(key);
+        self.touch_by(hash, &mut EqProbe::new(key))
     }
 
     /// Writes the value beside the key that is equal, and returns the earlier one.
@@ -137,13 +123,14 @@ impl<K: Eq + Drop, V: Drop, H: KeyHash<K>, L: LruList + Drop, const TYPE: u8> Ha
     /// O(slots of a unit, of the sources and of their targets). Own.
     #[inline(always)]
     pub fn swap(&mut self, key: &K, value: V) -> Result<V, V>
-        ensures map { Swaps K.eq key.now value (state_of TYPE self.old) result
+        ensures map { Swaps (λ own. K.eq own key.now) value (state_of TYPE self.old) result
             (state_of TYPE self.new) }
         ensures arrays { PreparesThen TYPE (H.hash_of self.old.hasher key.now) self.old (λ between.
-            ChangesAt K.eq key.now (λ bucket at. bucket_with_value bucket at value)
+            ChangesAt (λ own. K.eq own key.now) (λ bucket at. bucket_with_value bucket at value)
             (is_ok result) between self.new) }
     {
-        match self.fetch_spot(key) {
+        let hash = self.hash(key);
+        match self.fetch_spot(hash, &mut EqProbe::new(key)) {
             Some(spot) => Ok(self.swap_at(&spot, value)),
             None => Err(value),
         }
@@ -228,22 +215,6 @@ impl<K: Eq + Drop, V: Drop, H: KeyHash<K>, L: LruList + Drop, const TYPE: u8> Ha
         self.insert_at(side, index, hash, key, value, generation)
     }
 
-    /// Works a unit, moves the sources of the key's home, and returns the live slot with an equal
-    /// key, on either side; `None` where the map has none.
-    #[inline(always)]
-    fn fetch_spot(&mut self, key: &K) -> Option<Spot<K, V, TYPE>>
-        ensures prepared { IsPrepared TYPE (H.hash_of self.old.hasher key.now) self.old self.new }
-        ensures found { IfSome result (λ spot.
-            StandsAt K.eq key.now self.new.arrays spot.side spot.index spot.at) }
-        ensures absent { IfNone result (IsAbsent K.eq key.now (pairs_of self.old.arrays)) }
-    {
-        let hash = self.hash(key);
-        match self.fetch_home(hash) {
-            Ok(()) => self.spot_at_home(key, hash),
-            Err(_) => self.spot_of(key, hash),
-        }
-    }
-
     /// Puts a pair into a locked bucket where its key is nowhere.
     #[inline(always)]
     fn insert_at<G: Generation>(
@@ -296,37 +267,11 @@ impl<K: Eq, V, H: KeyHash<K>, L: LruList, const TYPE: u8> HashTable<K, V, H, L, 
     fn spot_of(&self, key: &K, hash: u64) -> Option<Spot<K, V, TYPE>>
         requires own_hash { hash ≡ H.hash_of self.now.hasher key.now }
         ensures found { IfSome result (λ spot.
-            StandsAt K.eq key.now self.now.arrays spot.side spot.index spot.at) }
-        ensures absent { IfNone result (IsAbsent K.eq key.now (pairs_of self.now.arrays)) }
+            StandsAt (λ own. K.eq own key.now) self.now.arrays spot.side spot.index spot.at) }
+        ensures absent { IfNone result
+            (IsAbsent (λ own. K.eq own key.now) (pairs_of self.now.arrays)) }
     {
-        match self.arrays.search_on(Side::Old, key, hash) {
-            Some(spot) => Some(spot),
-            None => self.arrays.search_on(Side::Current, key, hash),
-        }
-    }
-
-    /// Returns the live slot with an equal key, where each source of the key's home is killed; `None`
-    /// where the map has none.
-    #[inline(always)]
-    fn spot_at_home(&self, key: &K, hash: u64) -> Option<Spot<K, V, TYPE>>
-        requires own_hash { hash ≡ H.hash_of self.now.hasher key.now }
-        requires ready { IsReady self.now.arrays hash }
-        ensures found { IfSome result (λ spot.
-            StandsAt K.eq key.now self.now.arrays spot.side spot.index spot.at) }
-        ensures absent { IfNone result (IsAbsent K.eq key.now (pairs_of self.now.arrays)) }
-    {
-        self.arrays.room_of(Side::Current);
-        let index = self.arrays.home(hash);
-        let bucket = self.arrays.bucket_of(Side::Current, index);
-        let at = bucket.get_entry_ptr(key, hash);
-        if !at.is_valid() {
-            return None;
-        }
-        Some(Spot {
-            side: Side::Current,
-            index,
-            at,
-        })
+        self.spot_by(hash, &mut EqProbe::new(key))
     }
 
     /// Gives a pair back for which no bucket was found: an equal key is there, or allocation

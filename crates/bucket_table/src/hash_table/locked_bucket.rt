@@ -84,8 +84,8 @@ impl<'a, K: Eq, V, H: KeyHash<K>, L: LruList, const TYPE: u8> LockedBucket<'a, K
             × (live_pair
             (slot_in (bucket_in self.now) result)
             ≡ Some pair)
-            × IsThere K.eq key.now (pairs_of self.now.table.now.arrays) pair }
-        ensures absent { result.pos ≡ 32 → IsAbsent K.eq key.now
+            × IsThere (λ own. K.eq own key.now) (pairs_of self.now.table.now.arrays) pair }
+        ensures absent { result.pos ≡ 32 → IsAbsent (λ own. K.eq own key.now)
             (pairs_of self.now.table.now.arrays) }
         ensures null { result.pos ≡ 32 → result ≡ null_place }
     {
@@ -220,7 +220,8 @@ impl<'a, K: Eq + Drop, V: Drop, H: KeyHash<K>, L: LruList, const TYPE: u8> Locke
         requires own_hash { hash ≡ H.hash_of self.old.table.now.hasher pair.0 }
         requires home { IsHome
             (length (buckets_on self.old.table.now.arrays self.old.side)) hash self.old.index }
-        requires key_absent { IsAbsent K.eq pair.0 (pairs_of self.old.table.now.arrays) }
+        requires key_absent { IsAbsent (λ own. K.eq own pair.0)
+            (pairs_of self.old.table.now.arrays) }
         ensures changed { Changes self.old self.new (λ bucket. if is_ok result
             then slots_after_insertion TYPE (G.keeps generation.now) bucket pair (hash % 256)
             else bucket) }

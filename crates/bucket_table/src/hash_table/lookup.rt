@@ -1,7 +1,6 @@
 //! Look-ups: by key, and by a probe in code that knows no equality of keys.
-ghost use Rattle.std.specs.Prelude.{◌≡◌, ◌+◌, ◌≤◌, false, true, IfSome, IfNone};
+ghost use Rattle.std.specs.Prelude.{◌≡◌, ◌+◌, ◌≤◌, true, IfSome, IfNone};
 ghost use Rattle.std.specs.Borrow.{Bor};
-ghost use Rattle.std.specs.List.{All, Contains};
 ghost use Rattle.bucket_table.specs.Views.ArraysView.{pairs_of};
 ghost use Rattle.bucket_table.specs.Map.LookingUp.{IsAbsent, IsThere, looked_up_len};
 ghost use Rattle.bucket_table.specs.Map.Preparing.{IsPrepared};
@@ -17,9 +16,10 @@ impl<K: Eq, V, H: KeyHash<K>, L: LruList, const TYPE: u8> HashTable<K, V, H, L, 
     /// Moves nothing, and takes no memory. O(blocks in two chains). scc: `HashTable::peek_entry`.
     #[inline(always)]
     pub fn peek_entry(&self, key: &K) -> Option<(&K, &V)>
-        ensures found { IfSome result
-            (λ pair. IsThere K.eq key.now (pairs_of self.now.arrays) (pair.0.now, pair.1.now)) }
-        ensures absent { IfNone result (IsAbsent K.eq key.now (pairs_of self.now.arrays)) }
+        ensures found { IfSome result (λ pair.
+            IsThere (λ own. K.eq own key.now) (pairs_of self.now.arrays) (pair.0.now, pair.1.now)) }
+        ensures absent { IfNone result
+            (IsAbsent (λ own. K.eq own key.now) (pairs_of self.now.arrays)) }
     {
         self.peek_hashed(key, self.hasher.hash_one(key))
     }
@@ -28,9 +28,10 @@ impl<K: Eq, V, H: KeyHash<K>, L: LruList, const TYPE: u8> HashTable<K, V, H, L, 
     #[inline(always)]
     fn peek_hashed(&self, key: &K, hash: u64) -> Option<(&K, &V)>
         requires own_hash { hash ≡ H.hash_of self.now.hasher key.now }
-        ensures found { IfSome result
-            (λ pair. IsThere K.eq key.now (pairs_of self.now.arrays) (pair.0.now, pair.1.now)) }
-        ensures absent { IfNone result (IsAbsent K.eq key.now (pairs_of self.now.arrays)) }
+        ensures found { IfSome result (λ pair.
+            IsThere (λ own. K.eq own key.now) (pairs_of self.now.arrays) (pair.0.now, pair.1.now)) }
+        ensures absent { IfNone result
+            (IsAbsent (λ own. K.eq own key.now) (pairs_of self.now.arrays)) }
     {
         self.peek_entry_by(hash, &mut EqProbe::new(key))
     }
@@ -46,10 +47,9 @@ impl<K: Eq, V, H: KeyHash<K>, L: LruList, const TYPE: u8> HashTable<K, V, H, L, 
             → P.wants probe.old key ≡ true
             → H.hash_of self.now.hasher key ≡ hash }
         ensures found { IfSome result (λ pair.
-            Contains (pairs_of self.now.arrays) (pair.0.now, pair.1.now)
-            × (P.wants probe.old pair.0.now ≡ true)) }
+            IsThere (P.wants probe.old) (pairs_of self.now.arrays) (pair.0.now, pair.1.now)) }
         ensures absent { IfNone result
-            (All (λ pair. P.wants probe.old pair.0 ≡ false) (pairs_of self.now.arrays)) }
+            (IsAbsent (P.wants probe.old) (pairs_of self.now.arrays)) }
         ensures few { P.asked probe.new ≤ P.asked probe.old
             + looked_up_len hash
             self.now.arrays.linked self.now.arrays.current }
@@ -75,12 +75,13 @@ impl<K: Eq + Drop, V: Drop, H: KeyHash<K>, L: LruList + Drop, const TYPE: u8> Ha
     /// O(slots of a unit, of the sources and of their targets). scc: `HashTable::reader_sync`.
     pub fn reader_sync<R, F: FnOnce(&K, &V) -> R>(&mut self, key: &K, reader: F) -> Option<R>
         requires callable { (own : Bor K) (value : Bor V)
-            → IsThere K.eq key.now (pairs_of self.old.arrays) (own.now, value.now)
+            → IsThere (λ own. K.eq own key.now) (pairs_of self.old.arrays) (own.now, value.now)
             → F.pre reader own value }
         ensures found { IfSome result (λ answer. (own : Bor K) × (value : Bor V)
-            × IsThere K.eq key.now (pairs_of self.new.arrays) (own.now, value.now)
+            × IsThere (λ own. K.eq own key.now) (pairs_of self.new.arrays) (own.now, value.now)
             × F.post reader own value answer) }
-        ensures absent { IfNone result (IsAbsent K.eq key.now (pairs_of self.new.arrays)) }
+        ensures absent { IfNone result
+            (IsAbsent (λ own. K.eq own key.now) (pairs_of self.new.arrays)) }
         ensures prepared { IsPrepared TYPE (H.hash_of self.old.hasher key.now) self.old self.new }
     {
         let hash = self.hasher.hash_one(key);

@@ -9,11 +9,11 @@ pub returns-in-Some-clause-step : goal.returns-in-Some-clause-step
 returns-in-Some-clause-step g c =
     let found = c.in-Some.ensures.found in
     let answer : c.in-Some.value ≡ found.1.now = search (rules, found.3) in
-    let there = there_before g.K.PartialEq.eq c.args.key (state_of g.row.TYPE c.args.table.now) (state_of g.row.TYPE c.reader_sync.new.self)
+    let there = there_before (λ own. g.K.PartialEq.eq own c.args.key) (state_of g.row.TYPE c.args.table.now) (state_of g.row.TYPE c.reader_sync.new.self)
     (found.0.now, found.1.now) c.reader_sync.ensures.prepared.map found.2 in (
       (
         found.0.now,
-        subst (λ (v : g.row.V.Denot). IsThere g.K.PartialEq.eq c.args.key
+        subst (λ (v : g.row.V.Denot). IsThere (λ own. g.K.PartialEq.eq own c.args.key)
             (pairs_of c.args.table.now.arrays) (found.0.now, v)) (sym answer) there,
       ),
       c.reader_sync.ensures.prepared.map,
@@ -24,7 +24,7 @@ returns-in-Some-clause-tickets g c = c.reader_sync.ensures.prepared.kept.keeps.o
 
 pub returns-in-None-clause-step : goal.returns-in-None-clause-step
 returns-in-None-clause-step g c = (
-  absent_before g.K.PartialEq.eq c.args.key (state_of g.row.TYPE c.args.table.now) (state_of g.row.TYPE c.reader_sync.new.self)
+  absent_before (λ own. g.K.PartialEq.eq own c.args.key) (state_of g.row.TYPE c.args.table.now) (state_of g.row.TYPE c.reader_sync.new.self)
       c.reader_sync.ensures.prepared.map c.in-None.ensures.absent,
   c.reader_sync.ensures.prepared.map,
 )

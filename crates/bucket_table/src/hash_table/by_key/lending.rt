@@ -1,13 +1,14 @@
-//! The call by key that lends a value for writing.
+//! The calls that lend a value for writing, by key and by a probe.
 //!
 //! Own.
-ghost use Rattle.std.specs.Prelude.{IfNone, IfSome};
+ghost use Rattle.std.specs.Prelude.{◌≡◌, IfNone, IfSome, true};
 ghost use Rattle.std.specs.Borrow.{sem};
 ghost use Rattle.bucket_table.specs.Map.LookingUp.{IsAbsent, IsThere};
 ghost use Rattle.bucket_table.specs.Views.ArraysView.{pairs_of};
 
 use crate::hash_table::HashTable;
 use crate::key_hash::KeyHash;
+use bucket_slots::bucket::{EqProbe, KeyProbe};
 use bucket_slots::lru::LruList;
 
 impl<K: Eq + Drop, V: Drop, H: KeyHash<K>, L: LruList + Drop, const TYPE: u8> HashTable<
@@ -32,12 +33,40 @@ impl<K: Eq + Drop, V: Drop, H: KeyHash<K>, L: LruList + Drop, const TYPE: u8> Ha
         ensures* writes_back { sem 𝓛
             (LendsUnder K.row V.row H.row L.row TYPE K.PartialEq H.KeyHash
             (record { KEEPS = L.KEEPS; listed = L.listed; IsTail = L.IsTail }) L.Default
-            self.entry key.now result) }
+            self.entry (λ own. K.eq own key.now) (H.hash_of self.entry.now.hasher key.now)
+            result) }
         ensures found { IfSome result (λ loan.
-            (own : K) × IsThere K.eq key.now (pairs_of self.old.arrays) (own, loan.now)) }
-        ensures absent { IfNone result (IsAbsent K.eq key.now (pairs_of self.old.arrays)) }
+            (own : K) × IsThere (λ own. K.eq own key.now) (pairs_of self.old.arrays) (own, loan.now)) }
+        ensures absent { IfNone result
+            (IsAbsent (λ own. K.eq own key.now) (pairs_of self.old.arrays)) }
     {
-        match self.fetch_spot(key) {
+        let hash = self.hash(key);
+        self.get_mut_by(hash, &mut EqProbe::new(key))
+    }
+
+    /// Lends the value of the first pair that a probe wants, for writing. `None` exactly where the
+    /// map has none. The probe wants keys of this hash alone.
+    ///
+    /// Once the loan ends, the pair has the value last written, and no other pair has changed.
+    /// Beside an old array it works one unit first, and moves the sources of the hash's home. May
+    /// take memory, and is never refused: without it a value of the old array is lent.
+    ///
+    /// O(slots of a unit, of the sources and of their targets). Own.
+    #[inline(always)]
+    pub fn get_mut_by<P: KeyProbe<K>>(&mut self, hash: u64, probe: &mut P) -> Option<&mut V>
+        requires own_hash { (key : K)
+            → P.wants probe.old key ≡ true
+            → H.hash_of self.old.hasher key ≡ hash }
+        ensures* writes_back { sem 𝓛
+            (LendsUnder K.row V.row H.row L.row TYPE K.PartialEq H.KeyHash
+            (record { KEEPS = L.KEEPS; listed = L.listed; IsTail = L.IsTail }) L.Default
+            self.entry (P.wants probe.old) hash result) }
+        ensures found { IfSome result (λ loan.
+            (own : K) × IsThere (P.wants probe.old) (pairs_of self.old.arrays) (own, loan.now)) }
+        ensures absent { IfNone result (IsAbsent (P.wants probe.old) (pairs_of self.old.arrays)) }
+        ensures fixed { P.wants probe.new ≡ P.wants probe.old }
+    {
+        match self.fetch_spot(hash, probe) {
             Some(spot) => Some(self.entry_mut_at(spot.side, spot.index, &spot.at).1),
             None => None,
         }

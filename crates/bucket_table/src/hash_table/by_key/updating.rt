@@ -1,7 +1,7 @@
 //! Calls by key that write a value where a pair is there: such a call is never refused.
 //!
 //! Own.
-ghost use Rattle.std.specs.Prelude.{◌≡◌, ◌%◌, ◌<◌, IsTrue, Some, is_some, length};
+ghost use Rattle.std.specs.Prelude.{◌≡◌, ◌%◌, ◌<◌, IsTrue, Some, is_some, length, true};
 ghost use Rattle.std.specs.Borrow.{Bor, MutBor};
 ghost use Rattle.bucket_slots.specs.BucketView.{BucketView, bucket_with_value, slot_in};
 ghost use Rattle.bucket_slots.specs.Homes.{IsHome};
@@ -18,7 +18,7 @@ ghost use Rattle.bucket_table.specs.Views.Sides.{bucket_on, buckets_on, with_buc
 use crate::arrays::{Side, Spot};
 use crate::hash_table::HashTable;
 use crate::key_hash::KeyHash;
-use bucket_slots::bucket::{Bucket, Generation};
+use bucket_slots::bucket::{Bucket, EqProbe, Generation, KeyProbe};
 use bucket_slots::lru::LruList;
 use std::mem;
 
@@ -39,15 +39,47 @@ impl<K: Eq + Drop, V: Drop, H: KeyHash<K>, L: LruList + Drop, const TYPE: u8> Ha
     #[inline(always)]
     pub fn update<R, F: FnOnce(&K, &mut V) -> R>(&mut self, key: &K, change: F) -> Option<R>
         requires callable { (own : Bor K) (value : MutBor V)
-            → IsThere K.eq key.now (pairs_of self.old.arrays) (own.now, value.now)
+            → IsThere (λ own. K.eq own key.now) (pairs_of self.old.arrays) (own.now, value.now)
             → F.pre change own value }
-        ensures map { Rewrites K.eq key.now
+        ensures map { Rewrites (λ own. K.eq own key.now)
             (λ own before answer after. F.post change own before answer after)
             (state_of TYPE self.old) result (state_of TYPE self.new) }
         ensures arrays { PreparesThen TYPE (H.hash_of self.old.hasher key.now) self.old (λ between.
-            WritesAt K.eq key.now (is_some result) between self.new) }
+            WritesAt (λ own. K.eq own key.now) (is_some result) between self.new) }
     {
-        match self.fetch_spot(key) {
+        let hash = self.hash(key);
+        self.update_by(hash, &mut EqProbe::new(key), change)
+    }
+
+    /// Hands the first pair that a probe wants to `change`, its value for writing, and returns what
+    /// that answers. `None` exactly where the map has none: `change` isn't called then. The probe
+    /// wants keys of this hash alone.
+    ///
+    /// Beside an old array it works one unit first, and moves the sources of the hash's home. May
+    /// take memory, and is never refused: without it a value is written in the old array.
+    ///
+    /// O(slots of a unit, of the sources and of their targets). Own.
+    #[inline(always)]
+    pub fn update_by<R, F: FnOnce(&K, &mut V) -> R, P: KeyProbe<K>>(
+        &mut self,
+        hash: u64,
+        probe: &mut P,
+        change: F,
+    ) -> Option<R>
+        requires own_hash { (key : K)
+            → P.wants probe.old key ≡ true
+            → H.hash_of self.old.hasher key ≡ hash }
+        requires callable { (own : Bor K) (value : MutBor V)
+            → IsThere (P.wants probe.old) (pairs_of self.old.arrays) (own.now, value.now)
+            → F.pre change own value }
+        ensures map { Rewrites (P.wants probe.old)
+            (λ own before answer after. F.post change own before answer after)
+            (state_of TYPE self.old) result (state_of TYPE self.new) }
+        ensures arrays { PreparesThen TYPE hash self.old (λ between.
+            WritesAt (P.wants probe.old) (is_some result) between self.new) }
+        ensures fixed { P.wants probe.new ≡ P.wants probe.old }
+    {
+        match self.fetch_spot(hash, probe) {
             Some(spot) => Some(self.update_at(&spot, change)),
             None => None,
         }

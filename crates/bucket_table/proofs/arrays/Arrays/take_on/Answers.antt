@@ -6,20 +6,20 @@ use Rattle.bucket_table.proofs.Map.LookUps.{null_is}
 use Rattle.bucket_table.proofs.Views.SideChanges.{arrays_with-same, buckets_on-arrays_with}
 use Rattle.bucket_table.proofs.arrays.Arrays.take_on.Goals as goal
 
-pub returns-then-not-is_valid : goal.returns-then-not-is_valid
-returns-then-not-is_valid g c =
+pub returns-then-not-is_valid-clause-taken : goal.returns-then-not-is_valid-clause-taken
+returns-then-not-is_valid-clause-taken g c =
     let lent = c.bucket_of_mut-bucket.ensures.bucket in
     let home = rw c.array_of.ensures at c.bucket_index-index.ensures in
-    let absent = c.get_entry_ptr-at.ensures.absent (null_is _ _ c.is_valid.ensures.1 c.if-not-is_valid.true) in (
+    let absent = c.get_entry_ptr_by-at.ensures.absent (null_is _ _ c.is_valid.ensures.1 c.if-not-is_valid.true) in (
       rw lent (arrays_with-same c.args.self.now c.args.side c.bucket_index-index.result),
-      none_at_home (λ own. g.K.PartialEq.eq own c.args.key.now) c.args.self.now c.args.side (buckets_on c.args.self.now c.args.side) _
-          c.args.hash c.bucket_index-index.result refl lent home absent,
+      none_at_home (g.P.KeyProbe.wants c.args.probe.now) c.args.self.now c.args.side
+          (buckets_on c.args.self.now c.args.side) _ c.args.hash c.bucket_index-index.result refl lent home absent,
     )
 
 pub remove-pair-requires : goal.remove-pair-requires
 remove-pair-requires g c =
-    let found = c.get_entry_ptr-at.ensures.found (c.is_valid.ensures.0 c.if-not-is_valid.false) in
-    let (pair, is) = found_pair (λ own. g.K.PartialEq.eq own c.args.key.now) (c.args.hash % 256) c.bucket_of_mut-bucket.result.now _ found in
+    let found = c.get_entry_ptr_by-at.ensures.found (c.is_valid.ensures.0 c.if-not-is_valid.false) in
+    let (pair, is) = found_pair (g.P.KeyProbe.wants c.args.probe.now) (c.args.hash % 256) c.bucket_of_mut-bucket.result.now _ found in
     let live = live_from_pair _ pair is.slot in
     search rules
 
@@ -34,18 +34,18 @@ shrink_left-requires g c =
       ),
     )
 
-pub returns : goal.returns
-returns g c =
+pub returns-clause-taken : goal.returns-clause-taken
+returns-clause-taken g c =
     let lent = c.bucket_of_mut-bucket.ensures.bucket in
     let within = (rw c.array_of.ensures at c.bucket_index-index.ensures).within in
-    let found = c.get_entry_ptr-at.ensures.found (c.is_valid.ensures.0 c.if-not-is_valid.false) in
+    let found = c.get_entry_ptr_by-at.ensures.found (c.is_valid.ensures.0 c.if-not-is_valid.false) in
     let removed = rw lent at c.remove-pair.ensures in
     let asked = rw removed.slots at c.shrink_left.ensures in
     record {
       index = c.bucket_index-index.result;
-      at = c.get_entry_ptr-at.result;
-      stands = stands_found g.K.PartialEq.eq c.args.key.now c.args.self.now c.args.side (buckets_on c.args.self.now c.args.side) _
-          (c.args.hash % 256) c.bucket_index-index.result _ refl lent within found;
+      at = c.get_entry_ptr_by-at.result;
+      stands = stands_found (g.P.KeyProbe.wants c.args.probe.now) c.args.self.now c.args.side
+          (buckets_on c.args.self.now c.args.side) _ (c.args.hash % 256) c.bucket_index-index.result _ refl lent within found;
       taken = removed.pair;
       asked = shrinks_after c.args.self.now c.args.side c.bucket_index-index.result _ c.shrink_left.new.self within asked.asked;
       kept = asked.kept;

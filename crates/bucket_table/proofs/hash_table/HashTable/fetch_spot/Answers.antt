@@ -5,10 +5,10 @@ use Rattle.bucket_table.proofs.hash_table.HashTable.fetch_spot.Goals as goal
 
 pub returns-in-Ok-clause-absent : goal.returns-in-Ok-clause-absent
 returns-in-Ok-clause-absent g c =
-    if_none c.spot_at_home.result (absent_before g.K.PartialEq.eq c.args.key.now (state_of g.row.TYPE c.args.self.now)
+    if_none c.spot_at_home.result (absent_before (g.P.KeyProbe.wants c.args.probe.now) (state_of g.row.TYPE c.args.self.now)
     (state_of g.row.TYPE c.fetch_home.new.self) c.fetch_home.ensures.prepared.map) c.spot_at_home.ensures.absent
 
 pub returns-in-Err-clause-absent : goal.returns-in-Err-clause-absent
 returns-in-Err-clause-absent g c =
-    if_none c.spot_of.result (absent_before g.K.PartialEq.eq c.args.key.now (state_of g.row.TYPE c.args.self.now)
-    (state_of g.row.TYPE c.fetch_home.new.self) c.fetch_home.ensures.prepared.map) c.spot_of.ensures.absent
+    if_none c.spot_by.result (absent_before (g.P.KeyProbe.wants c.args.probe.now) (state_of g.row.TYPE c.args.self.now)
+    (state_of g.row.TYPE c.fetch_home.new.self) c.fetch_home.ensures.prepared.map) c.spot_by.ensures.absent

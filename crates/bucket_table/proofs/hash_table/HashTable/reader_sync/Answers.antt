@@ -4,5 +4,5 @@ use Rattle.bucket_table.proofs.hash_table.HashTable.reader_sync.Goals as goal
 
 pub reader-requires : goal.reader-requires
 reader-requires g c =
-    c.requires.callable _ _ (there_before g.K.PartialEq.eq c.args.key.now (state_of g.row.TYPE c.args.self.now)
+    c.requires.callable _ _ (there_before (λ own. g.K.PartialEq.eq own c.args.key.now) (state_of g.row.TYPE c.args.self.now)
     (state_of g.row.TYPE c.fetch_home.new.self) _ c.fetch_home.ensures.prepared.map c.in-Some.ensures.found)

@@ -1,9 +1,8 @@
-use Rattle.bucket_table.proofs.Words.{sym, ◌∙◌}
-use Rattle.bucket_table.proofs.Map.KeySteps.{absent_searched}
+use Rattle.bucket_table.proofs.Words.{IfSome, subst}
+use Rattle.bucket_table.specs.Map.ByKey.{StandsAt}
 use Rattle.bucket_table.proofs.hash_table.HashTable.spot_of.Goals as goal
 
-pub returns-in-None-clause-absent : goal.returns-in-None-clause-absent
-returns-in-None-clause-absent g c =
-    rw (← c.self.view_is) (absent_searched g.K.PartialEq.eq _ c.args.key.now c.args.hash _ c.search_on-in-None.result c.self.invariant
-    (λ own equal. g.met.H.KeyHash.alike c.self.inside.hasher own c.args.key.now equal ∙ sym (rw (← c.self.view_is) at c.requires.own_hash))
-    c.in-None.ensures.absent c.search_on-in-None.ensures.absent)
+pub returns-clause-found : goal.returns-clause-found
+returns-clause-found g c =
+    subst (λ (key : g.row.K.Denot). IfSome c.spot_by.result (λ spot.
+    StandsAt (λ own. g.K.PartialEq.eq own key) c.args.self.now.arrays spot.side spot.index spot.at)) c.new.ensures.key c.spot_by.ensures.found

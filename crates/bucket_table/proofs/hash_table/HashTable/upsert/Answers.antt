@@ -22,7 +22,7 @@ returns-in-Some-clause-map g c =
     let stands = c.in-Some.ensures.found in
     let wrote = c.swap_at.ensures.map in (
       wrote.0,
-      same_taken g.K.PartialEq.eq c.args.key _ _ stands.pair (wrote.0, c.swap_at.result) stands.slot stands.there wrote.1,
+      same_taken (λ own. g.K.PartialEq.eq own c.args.key) _ _ stands.pair (wrote.0, c.swap_at.result) stands.slot stands.there wrote.1,
       then_changed (state_of g.row.TYPE c.args.self.now) (state_of g.row.TYPE c.find.new.self)
           (state_of g.row.TYPE c.swap_at.new.self) (wrote.0, c.swap_at.result) c.args.value c.in-Err.ensures.prepared.map wrote.2,
     )
@@ -38,7 +38,7 @@ returns-in-Some-clause-arrays g c = record {
 pub returns-in-None-clause-map : goal.returns-in-None-clause-map
 returns-in-None-clause-map g c =
     let keeps = c.in-Err.ensures.prepared.map in
-    (refl, absent_before g.K.PartialEq.eq c.args.key _ _ keeps c.in-None.ensures.absent, keeps)
+    (refl, absent_before (λ own. g.K.PartialEq.eq own c.args.key) _ _ keeps c.in-None.ensures.absent, keeps)
 
 pub returns-in-None-clause-arrays : goal.returns-in-None-clause-arrays
 returns-in-None-clause-arrays g c =

@@ -1,0 +1,84 @@
+use Rattle.bucket_table.proofs.Words.{bucket_on, by-no_new, by-trans, marks_in, marks_of, refl, rules}
+use Rattle.bucket_slots.proofs.MarkCallerLemmas.{by-one, marks_in-slots_marked}
+use Rattle.bucket_table.proofs.Map.KeySteps.{marks_through}
+use Rattle.bucket_table.proofs.Map.SlotSteps.{marks}
+use Rattle.bucket_table.specs.Map.MapState.{state_of}
+use Rattle.bucket_slots.proofs.CallerLemmas.{live_from_pair}
+use Rattle.bucket_table.proofs.Map.TakeSteps.{same_taken, shown_before, then_taken}
+use Rattle.bucket_table.proofs.hash_table.HashTable.mark_by.Goals as goal
+
+pub invariant_of-self : goal.invariant_of-self
+invariant_of-self g c =
+    let o = c.in-Some.spot in
+    let stands = rw (← c.self.view_is) at c.in-Some.ensures.found in
+    let e = c.mark_at.ensures in
+    (marks g.met.K.Eq.laws g.H.KeyHash.hash_of g.row.TYPE o.side o.index c.self.invariant stands.within o.at stands.pair stands.slot _ _
+    e.kept e.placed).one_map
+
+pub returns-in-Some-clause-map : goal.returns-in-Some-clause-map
+returns-in-Some-clause-map g c =
+    let o = c.in-Some.spot in
+    let stands = rw (← c.self.view_is) at c.in-Some.ensures.found in
+    let keeps = rw (← c.self.view_is) at c.fetch_spot.ensures.prepared.map in
+    let (own, value, there, reads) = rw (← c.self.view_is) at c.read_at-answer.ensures in
+    let e = c.mark_at.ensures in (
+      own,
+      value,
+      reads,
+      same_taken (g.P.KeyProbe.wants c.args.probe.now) _ _ stands.pair (own.now, value.now) stands.slot stands.there there,
+      then_taken _ _ _ (own.now, value.now) keeps (marks g.met.K.Eq.laws g.H.KeyHash.hash_of g.row.TYPE o.side o.index c.self.invariant
+          stands.within o.at (own.now, value.now) there _ _ e.kept e.placed).map,
+    )
+
+pub returns-in-Some-clause-arrays : goal.returns-in-Some-clause-arrays
+returns-in-Some-clause-arrays g c = record {
+  between = c.fetch_spot.new.self;
+  prepared = c.fetch_spot.ensures.prepared;
+  done = (
+    c.in-Some.spot.side,
+    c.in-Some.spot.index,
+    c.in-Some.spot.at,
+    c.in-Some.ensures.found,
+    rw (← c.self.view_is) c.mark_at.ensures.asked,
+  );
+}
+
+pub returns-in-Some-clause-marks : goal.returns-in-Some-clause-marks
+returns-in-Some-clause-marks g c =
+    let o = c.in-Some.spot in
+    let epoch = g.G.Generation.epoch_of c.args.generation.now in
+    let stands = rw (← c.self.view_is) at c.in-Some.ensures.found in
+    let none = rw (← c.self.view_is) at c.fetch_spot.ensures.prepared.kept.keeps.marks in
+    by-trans epoch (marks_of c.args.self.now.arrays) (marks_of c.self.inside.arrays) (marks_of c.mark_at.new.self)
+    (by-no_new epoch _ _ none)
+    (marks_through epoch _ o.side o.index _ c.mark_at.new.self (by-one epoch stands.pair
+    (marks_in (bucket_on c.self.inside.arrays o.side o.index)) _ (marks_in-slots_marked _ o.at epoch stands.pair stands.slot))
+    c.mark_at.ensures.kept.marks)
+
+pub returns-in-None-clause-map : goal.returns-in-None-clause-map
+returns-in-None-clause-map g c = (c.in-None.ensures.absent, c.fetch_spot.ensures.prepared.map)
+
+pub returns-in-None-clause-arrays : goal.returns-in-None-clause-arrays
+returns-in-None-clause-arrays g c = record { between = c.fetch_spot.new.self; prepared = c.fetch_spot.ensures.prepared; done = refl }
+
+pub returns-in-None-clause-marks : goal.returns-in-None-clause-marks
+returns-in-None-clause-marks g c = by-no_new _ _ _ c.fetch_spot.ensures.prepared.kept.keeps.marks
+
+pub read_at-answer-requires : goal.read_at-answer-requires
+read_at-answer-requires g c =
+    let stands = c.in-Some.ensures.found in
+    let live = live_from_pair _ stands.pair stands.slot in (
+      search rules,
+      (
+        search rules,
+        (
+          stands.within,
+          (
+            live,
+            λ own value shown. c.requires.callable own value (shown_before (g.P.KeyProbe.wants c.args.probe.now)
+                (state_of g.row.TYPE c.args.self.now) (state_of g.row.TYPE c.fetch_spot.new.self) _ stands.pair (own.now, value.now)
+                c.fetch_spot.ensures.prepared.map stands.slot stands.there shown),
+          ),
+        ),
+      ),
+    )

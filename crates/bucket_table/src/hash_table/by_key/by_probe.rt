@@ -1,0 +1,201 @@
+//! Calls by a probe, which wants keys of one hash alone: what they change is the pair that it wants.
+//!
+//! Own.
+ghost use Rattle.std.specs.Prelude.{◌≡◌, ◌≢◌, IfNone, IfSome, is_some, true};
+ghost use Rattle.std.specs.Borrow.{Bor};
+ghost use Rattle.bucket_slots.specs.Evicting.{slots_touched};
+ghost use Rattle.bucket_slots.specs.Marking.{MarksBy, slots_marked};
+ghost use Rattle.bucket_slots.specs.Removing.{slots_without};
+ghost use Rattle.bucket_table.specs.Map.ByKey.{ChangesAt, Marks, PreparesThen, ShrinksAt};
+ghost use Rattle.bucket_table.specs.Map.ByKey.{StandsAt, Takes, Touches};
+ghost use Rattle.bucket_table.specs.Map.LookingUp.{IsAbsent, IsThere};
+ghost use Rattle.bucket_table.specs.Map.MapState.{state_of};
+ghost use Rattle.bucket_table.specs.Map.Preparing.{IsPrepared, IsReady};
+ghost use Rattle.bucket_table.specs.Views.ArraysView.{marks_of, pairs_of};
+
+use crate::arrays::{Side, Spot};
+use crate::hash_table::HashTable;
+use crate::key_hash::KeyHash;
+use bucket_slots::bucket::{CACHE, Generation, INDEX, KeyProbe};
+use bucket_slots::lru::LruList;
+
+impl<K: Eq + Drop, V: Drop, H: KeyHash<K>, L: LruList + Drop, const TYPE: u8> HashTable<
+    K,
+    V,
+    H,
+    L,
+    TYPE,
+> {
+    /// Takes out the first pair that a probe wants, and returns it. `None` exactly where the map
+    /// has none. The probe wants keys of this hash alone.
+    ///
+    /// Beside an old array it works one unit first, and moves the sources of the hash's home. May
+    /// take memory, and is never refused: without it a pair is taken from the old array. Where no
+    /// live pair is left in the bucket, the table may shrink.
+    ///
+    /// O(slots of a unit, of the sources and of their targets; buckets where it shrinks). Own.
+    #[inline(always)]
+    pub fn take_by<P: KeyProbe<K>>(&mut self, hash: u64, probe: &mut P) -> Option<(K, V)>
+        requires not_index { TYPE ≢ INDEX }
+        requires own_hash { (key : K)
+            → P.wants probe.old key ≡ true
+            → H.hash_of self.old.hasher key ≡ hash }
+        ensures map { Takes (P.wants probe.old) (state_of TYPE self.old) result
+            (state_of TYPE self.new) }
+        ensures arrays { PreparesThen TYPE hash self.old (λ between.
+            ShrinksAt (P.wants probe.old) slots_without (is_some result) between self.new) }
+        ensures fixed { P.wants probe.new ≡ P.wants probe.old }
+    {
+        let _ready = self.fetch_home(hash);
+        if let Some(pair) = self.arrays.take_on(Side::Old, hash, probe) {
+            return Some(pair);
+        }
+        self.arrays.take_on(Side::Current, hash, probe)
+    }
+
+    /// Hands the first pair of an index that a probe wants to `reader`, leaves a tombstone, and
+    /// returns the reader's answer: the map is without it. `None` exactly where the map has none:
+    /// the reader isn't called then. The probe wants keys of this hash alone.
+    ///
+    /// Beside an old array it works one unit first, and moves the sources of the hash's home. May
+    /// take memory, and is never refused: without it the tombstone is left in the old array. Where
+    /// no live pair is left in the bucket, the table may shrink.
+    ///
+    /// O(slots of a unit, of the sources and of their targets; buckets where it shrinks). Own.
+    pub fn mark_by<R, F: FnOnce(&K, &V) -> R, G: Generation, P: KeyProbe<K>>(
+        &mut self,
+        hash: u64,
+        probe: &mut P,
+        generation: &G,
+        reader: F,
+    ) -> Option<R>
+        requires index { TYPE ≡ INDEX }
+        requires own_hash { (key : K)
+            → P.wants probe.old key ≡ true
+            → H.hash_of self.old.hasher key ≡ hash }
+        requires callable { (own : Bor K) (value : Bor V)
+            → IsThere (P.wants probe.old) (pairs_of self.old.arrays) (own.now, value.now)
+            → F.pre reader own value }
+        ensures map { Marks (P.wants probe.old) (λ own value answer. F.post reader own value answer)
+            (state_of TYPE self.old) result (state_of TYPE self.new) }
+        ensures arrays { PreparesThen TYPE hash self.old (λ between. ShrinksAt (P.wants probe.old)
+            (λ bucket at. slots_marked bucket at (G.epoch_of generation.now)) (is_some result)
+            between self.new) }
+        ensures marks { MarksBy (G.epoch_of generation.now) (marks_of self.old.arrays)
+            (marks_of self.new.arrays) }
+        ensures fixed { P.wants probe.new ≡ P.wants probe.old }
+    {
+        match self.fetch_spot(hash, probe) {
+            Some(mut spot) => {
+                let answer = self.read_at(&spot, reader);
+                self.arrays
+                    .mark_at(spot.side, spot.index, &mut spot.at, generation);
+                Some(answer)
+            }
+            None => None,
+        }
+    }
+
+    /// Makes the first pair of a cache that a probe wants the one of its bucket touched last; a slot
+    /// of the chain isn't listed. Returns whether there is one. The probe wants keys of this hash
+    /// alone.
+    ///
+    /// Beside an old array it works one unit first, and moves the sources of the hash's home. May
+    /// take memory, and is never refused: without it a pair is touched in the old array.
+    ///
+    /// O(slots of a unit, of the sources and of their targets). Own.
+    #[inline(always)]
+    pub fn touch_by<P: KeyProbe<K>>(&mut self, hash: u64, probe: &mut P) -> bool
+        requires cache { TYPE ≡ CACHE }
+        requires own_hash { (key : K)
+            → P.wants probe.old key ≡ true
+            → H.hash_of self.old.hasher key ≡ hash }
+        ensures map { Touches (P.wants probe.old) (state_of TYPE self.old) result
+            (state_of TYPE self.new) }
+        ensures arrays { PreparesThen TYPE hash self.old (λ between.
+            ChangesAt (P.wants probe.old) (slots_touched L.KEEPS) result between self.new) }
+        ensures fixed { P.wants probe.new ≡ P.wants probe.old }
+    {
+        match self.fetch_spot(hash, probe) {
+            Some(spot) => {
+                self.arrays.touch_slot(spot.side, spot.index, &spot.at);
+                true
+            }
+            None => false,
+        }
+    }
+
+    /// Works a unit, moves the sources of a hash's home, and returns the first live slot that a
+    /// probe wants, on either side; `None` where the map has none.
+    #[inline(always)]
+    pub(super) fn fetch_spot<P: KeyProbe<K>>(
+        &mut self,
+        hash: u64,
+        probe: &mut P,
+    ) -> Option<Spot<K, V, TYPE>>
+        requires own_hash { (key : K)
+            → P.wants probe.old key ≡ true
+            → H.hash_of self.old.hasher key ≡ hash }
+        ensures prepared { IsPrepared TYPE hash self.old self.new }
+        ensures found { IfSome result (λ spot.
+            StandsAt (P.wants probe.old) self.new.arrays spot.side spot.index spot.at) }
+        ensures absent { IfNone result (IsAbsent (P.wants probe.old) (pairs_of self.old.arrays)) }
+        ensures fixed { P.wants probe.new ≡ P.wants probe.old }
+    {
+        match self.fetch_home(hash) {
+            Ok(()) => self.spot_at_home(hash, probe),
+            Err(_) => self.spot_by(hash, probe),
+        }
+    }
+}
+
+impl<K: Eq, V, H: KeyHash<K>, L: LruList, const TYPE: u8> HashTable<K, V, H, L, TYPE> {
+    /// Returns the first live slot that a probe wants, on either side; `None` where the map has
+    /// none.
+    #[inline(always)]
+    pub(super) fn spot_by<P: KeyProbe<K>>(
+        &self,
+        hash: u64,
+        probe: &mut P,
+    ) -> Option<Spot<K, V, TYPE>>
+        requires own_hash { (key : K)
+            → P.wants probe.old key ≡ true
+            → H.hash_of self.now.hasher key ≡ hash }
+        ensures found { IfSome result (λ spot.
+            StandsAt (P.wants probe.old) self.now.arrays spot.side spot.index spot.at) }
+        ensures absent { IfNone result (IsAbsent (P.wants probe.old) (pairs_of self.now.arrays)) }
+        ensures fixed { P.wants probe.new ≡ P.wants probe.old }
+    {
+        match self.arrays.search_on(Side::Old, hash, probe) {
+            Some(spot) => Some(spot),
+            None => self.arrays.search_on(Side::Current, hash, probe),
+        }
+    }
+
+    /// Returns the first live slot that a probe wants, where each source of the hash's home is
+    /// killed; `None` where the map has none.
+    #[inline(always)]
+    fn spot_at_home<P: KeyProbe<K>>(&self, hash: u64, probe: &mut P) -> Option<Spot<K, V, TYPE>>
+        requires own_hash { (key : K)
+            → P.wants probe.old key ≡ true
+            → H.hash_of self.now.hasher key ≡ hash }
+        requires ready { IsReady self.now.arrays hash }
+        ensures found { IfSome result (λ spot.
+            StandsAt (P.wants probe.old) self.now.arrays spot.side spot.index spot.at) }
+        ensures absent { IfNone result (IsAbsent (P.wants probe.old) (pairs_of self.now.arrays)) }
+        ensures fixed { P.wants probe.new ≡ P.wants probe.old }
+    {
+        self.arrays.room_of(Side::Current);
+        let index = self.arrays.home(hash);
+        let bucket = self.arrays.bucket_of(Side::Current, index);
+        let at = bucket.get_entry_ptr_by(hash, probe);
+        if !at.is_valid() {
+            return None;
+        }
+        Some(Spot {
+            side: Side::Current,
+            index,
+            at,
+        })
+    }
+}
