@@ -60,4 +60,15 @@ ran $? 1 "$folder/nothing" "--prove has no limit"
 "$copy/bhtable" --quickly <"$folder/lines" >"$folder/output" 2>"$folder/log"
 ran $? 1 "$folder/nothing" "usage"
 
+# The built program in the copy: a newer list of crates or another crate leaves it built, a newer source
+# of its own doesn't.
+mkdir -p "$copy/crates/bhtable/out"
+cp "$root/crates/bhtable/out/bhtable" "$copy/crates/bhtable/out/bhtable"
+touch "$copy/crates.txt" "$copy/crates/collections/src/lib.rt"
+"$copy/bhtable" <"$folder/lines" >"$folder/output" 2>"$folder/log"
+ran $? 0 "$folder/replies" ""
+touch "$copy/crates/line_io/src/lib.rt"
+"$copy/bhtable" <"$folder/lines" >"$folder/output" 2>"$folder/log"
+ran $? 0 "$folder/replies" "$unproved"
+
 echo "$count runs of the command: replies, status and messages are right"
