@@ -32,6 +32,11 @@ module _ {K V : Type 0} where
       rw (← same) (ap (λ (x : K). (x, own.1)) first)
   key_taken (marked own byte) k pair here read = cc
 
+-- a difference that wraps is the true one, where it is below a bound that the upper number can take
+pub offset_is : (number start len : ℕ) → number < 2 ^ 64 → start < 2 ^ 64 → start + len ≤ 2 ^ 64
+    → (number + (2 ^ 64 - start)) % 2 ^ 64 < len → number ≡ start + (number + (2 ^ 64 - start)) % 2 ^ 64
+offset_is number start len fits begins bounded below = omega arith
+
 -- elements put over others
 pub put_over : {A : Type 0} (xs ws : List A) (i : ℕ) → i + length ws ≤ length xs
     → take (length xs) ((take i xs ++ (ws ++ drop (length ws) (drop i xs)))

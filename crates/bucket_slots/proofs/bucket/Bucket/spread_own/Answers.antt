@@ -1,11 +1,11 @@
 use Rattle.bucket_slots.proofs.Words.{IsMaskOf, Some, ap, arith, free, is_live, length, refl, rules, set, set-get_or, slot_in, slots_with}
-use Rattle.bucket_slots.proofs.Words.{subst, suc, sym, ℕ, ◌%◌, ◌+◌, ◌-◌, ◌/◌, ◌<◌, ◌^◌, ◌∙◌, ◌≡◌}
+use Rattle.bucket_slots.proofs.Words.{subst, suc, sym, ℕ, ◌%◌, ◌+◌, ◌-◌, ◌/◌, ◌<◌, ◌^◌, ◌∙◌}
 use Rattle.bucket_slots.specs.ArrayView.{bucket_at}
 use Rattle.bucket_slots.proofs.BucketPlacing.{free_at}
 use Rattle.bucket_slots.proofs.FirstPlaces.{live_occupied}
 use Rattle.bucket_slots.proofs.Masks.{IsMaskOf-set, lowest_passes, position-lowest, within}
 use Rattle.bucket_slots.proofs.NextPlaces.{moves_first}
-use Rattle.bucket_slots.proofs.Spreading.{key_taken, put_in_own}
+use Rattle.bucket_slots.proofs.Spreading.{key_taken, offset_is, put_in_own}
 use Rattle.bucket_slots.proofs.bucket.Bucket.spread_own.Goals as goal
 
 pub loop-left-init : goal.loop-left-init
@@ -43,9 +43,10 @@ loop-left-preserved g c =
     let number = c.hash_of-hash.result in
     let pair = c.vacate-pair.result in
     let target = c.target_at-target.result.now in
-    let i : ℕ = number / 2 ^ c.args.shift - c.args.start in
-    let within_targets : i < length c.loop-left.targets = omega (arith, c.if-home-start-2.false) in
-    let named : number / 2 ^ c.args.shift ≡ c.args.start + i = omega (arith, c.if-home-start.false) in
+    let i : ℕ = (number / 2 ^ c.args.shift + (2 ^ 64 - c.args.start)) % 2 ^ 64 in
+    let within_targets : i < length c.loop-left.targets = omega arith in
+    let named = offset_is (number / 2 ^ c.args.shift) c.args.start (length c.loop-left.targets) (search rules) (omega arith) (omega arith)
+    within_targets in
     let same = key_taken (slot_in c.loop-left.self at) c.key.result.now pair c.vacate-pair.ensures.pair c.key.ensures in
     let vacant = sym c.free_own.ensures ∙ c.in-Some.is in
     let filled = (rw c.at.ensures at c.fill.ensures) ∙ sym (put_in_own target c.in-Some.free pair (number % 256) vacant) in
