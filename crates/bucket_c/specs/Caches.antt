@@ -41,14 +41,14 @@ module _ {K V H : Type 0} (eq : K → K → Bool) (key : K) where
   -- the pair is touched, and its value is written out, if it is there
   abbrev pub GetsOne : V → TableView K V H → ℕ → TableView K V H → V → Type 0
   GetsOne before old code new after =
-      (code ≡ found_code (get eq (map_of old) key)) × IsTouched eq key (contains eq (map_of old) key) old new
+      (code ≡ found_code (get eq (map_of old) key)) × IsTouched eq (eq key) (contains eq (map_of old) key) old new
       × (after ≡ unwrap_or (get eq (map_of old) key) before)
 
   -- the value that goes is written out, if there is one
   abbrev pub TakesOne : V → TableView K V H → ℕ → TableView K V H → V → Type 0
   TakesOne before old code new after =
-      (answer : Option (K × V)) × (code ≡ found_code answer) × Removes eq key (map_of old) answer (map_of new)
-      × LeavesPlace eq key (is_some answer) old.arrays new.arrays × (after ≡ unwrap_or (get eq (map_of old) key) before)
+      (answer : Option (K × V)) × (code ≡ found_code answer) × Removes eq (eq key) (map_of old) answer (map_of new)
+      × LeavesPlace (eq key) (is_some answer) old.arrays new.arrays × (after ≡ unwrap_or (get eq (map_of old) key) before)
 
   module _ (hash : ℕ) (value : V) where
     -- the pair that goes for it is written out, if there is one: its key in some form, and its value

@@ -26,8 +26,8 @@ module _ {K H : Type 0} (eq : K → K → Bool) (key : K) where
   -- the value that goes is written out, if there is one
   abbrev pub RemovesOne : {V : Type 0} → V → MapView K V H → ℕ → MapView K V H → V → Type 0
   RemovesOne {V} before old code new after =
-      (answer : Option (K × V)) × (code ≡ found_code answer) × Removes eq key old answer new
+      (answer : Option (K × V)) × (code ≡ found_code answer) × Removes eq (eq key) old answer new
       × (after ≡ unwrap_or (get eq old key) before)
 
   abbrev pub RemovesKey : MapView K (Unit {0}) H → ℕ → MapView K (Unit {0}) H → Type 0
-  RemovesKey old code new = (answer : Option K) × (code ≡ found_code answer) × SetRemoves eq key old answer new
+  RemovesKey old code new = (answer : Option K) × (code ≡ found_code answer) × SetRemoves eq (eq key) old answer new

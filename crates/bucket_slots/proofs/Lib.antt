@@ -48,5 +48,6 @@ pub mod Sampled
 pub mod Capacities
 pub mod ArrayParts
 pub mod Spreading
+pub mod OwnSpreading
 pub mod ArrayCallerLemmas
 pub mod WrittenValues

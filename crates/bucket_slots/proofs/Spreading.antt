@@ -1,8 +1,8 @@
 -- Pairs that spread from a bucket's own slots over some buckets.
-use Rattle.bucket_slots.proofs.Words.{AreParts, Bool, Bor, BucketView, List, Slot, Some, ap, append-nil, append_assoc, arith}
-use Rattle.bucket_slots.proofs.Words.{div-add-mod, drop, drop-drop, drop_all, empty_bucket, first_place, flattened, free, is_free, length}
-use Rattle.bucket_slots.proofs.Words.{length-append, length-drop, length-set, length-take-le, live, live_pair, marked, mod-lt, mul_comm}
-use Rattle.bucket_slots.proofs.Words.{option_map, pair_of, part_at, position, pow_pos, refl, replicate, set}
+use Rattle.bucket_slots.proofs.Words.{AreParts, Bool, Bor, BucketView, List, Some, ap, append-nil, append_assoc, arith}
+use Rattle.bucket_slots.proofs.Words.{div-add-mod, drop, drop-drop, drop_all, empty_bucket, first_place, flattened, is_free, length}
+use Rattle.bucket_slots.proofs.Words.{length-append, length-drop, length-set, length-take-le, live, mod-lt, mul_comm}
+use Rattle.bucket_slots.proofs.Words.{part_at, position, pow_pos, refl, replicate, set}
 use Rattle.bucket_slots.proofs.Words.{slots_with, subst, suc, sym, take, take_all, unmade_bucket, with_slot, with_unmade}
 use Rattle.bucket_slots.proofs.Words.{zero, ℕ, ◌%◌, ◌*◌, ◌++◌, ◌+◌, ◌-◌, ◌/◌, ◌<◌, ◌^◌, ◌∙◌, ◌≡◌, ◌≤◌}
 use Rattle.std.proofs.lemmas.List.{get_or-append_right, get_or_append_left, set-append_left, set-append_right, take-append-drop}
@@ -22,15 +22,10 @@ module _ {K V : Type 0} where
       let first : first_place is_free b ≡ Some (record { block = 0; pos = pos }) = rw at refl in
       rw first refl
 
-  -- the key that was read is that of the pair which is taken
-  pub key_taken : (slot : Slot K V) (k : K) (pair : K × V) → live_pair slot ≡ Some pair
-      → option_map (λ (p : K × V). p.0) (pair_of slot) ≡ Some k → pair ≡ (k, pair.1)
-  key_taken free k pair here read = cc
-  key_taken (live own byte) k pair here read =
-      let same : own ≡ pair = cc in
-      let first : own.0 ≡ k = cc in
-      rw (← same) (ap (λ (x : K). (x, own.1)) first)
-  key_taken (marked own byte) k pair here read = cc
+-- a difference that wraps is the true one, where it is below a bound that the upper number can take
+pub offset_is : (number start len : ℕ) → number < 2 ^ 64 → start < 2 ^ 64 → start + len ≤ 2 ^ 64
+    → (number + (2 ^ 64 - start)) % 2 ^ 64 < len → number ≡ start + (number + (2 ^ 64 - start)) % 2 ^ 64
+offset_is number start len fits begins bounded below = omega arith
 
 -- elements put over others
 pub put_over : {A : Type 0} (xs ws : List A) (i : ℕ) → i + length ws ≤ length xs

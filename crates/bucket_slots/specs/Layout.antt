@@ -15,3 +15,4 @@ pub mod ArrayFields
 pub mod ArrayParts
 pub mod PartLoans
 pub mod TargetLoans
+pub mod OwnSpreading

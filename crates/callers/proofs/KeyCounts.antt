@@ -35,7 +35,7 @@ module _ {K H : Type 0} (eq : K → K → Bool) (laws : IsEquivalence eq) where
   -- the key at a place is counted once more
   pub counts_more : (keys : List K) (place : ℕ) (key : K) (old new : MapView K ℕ H) → place < length keys
       → key ≡ get_or keys place key → Counts eq (take place keys) old
-      → Updates eq old key (Some (count_by (eq key) (take place keys) + 1)) new → Counts eq (take (place + 1) keys) new
+      → Updates eq old (eq key) (Some (count_by (eq key) (take place keys) + 1)) new → Counts eq (take (place + 1) keys) new
   counts_more keys place key old new below item counts updates q =
       let so_far = count_by (eq key) (take place keys) in
       let value = updates q in
@@ -62,7 +62,7 @@ module _ {K H : Type 0} (eq : K → K → Bool) (laws : IsEquivalence eq) where
     -- a key that is there is counted once more
     pub counts_raised : length keys < 2 ^ 64
         → ((own : Bor K) (before after : MutBor ℕ) → changes own before tt after → after.now ≡ min (before.now + 1) (2 ^ 64 - 1))
-        → (raised : Option (Unit {0})) (new : MapView K ℕ H) → is_some raised ≡ true → Rewrites eq key changes old raised new
+        → (raised : Option (Unit {0})) (new : MapView K ℕ H) → is_some raised ≡ true → Rewrites eq (eq key) changes old raised new
         → Counts eq (take (place + 1) keys) new × IsUnique eq new
     counts_raised fits more None new some done = absurd cc
     counts_raised fits more (Some answer) new some done =
@@ -79,7 +79,7 @@ module _ {K H : Type 0} (eq : K → K → Bool) (laws : IsEquivalence eq) where
 
     -- a key that is absent is put with the count 1
     pub counts_put : {A : Type 0} (raised : Option (Unit {0})) (between new : MapView K ℕ H) (put : Result A (NotInserted K ℕ))
-        → is_some raised ≡ false → is_err put ≡ false → Rewrites eq key changes old raised between → Inserts eq key 1 between put new
+        → is_some raised ≡ false → is_err put ≡ false → Rewrites eq (eq key) changes old raised between → Inserts eq key 1 between put new
         → Counts eq (take (place + 1) keys) new × IsUnique eq new
     counts_put (Some answer) between new put none ok done added = absurd cc
     counts_put None between new (Err why) none ok done added = absurd cc

@@ -20,8 +20,8 @@ or_none false false value = refl
 
 module _ {K V H : Type 0} (eq : K → K → Bool) (laws : IsEquivalence eq) where
   -- a key that is taken out, or that isn't there, has no value
-  pub updates_out : (key : K) (old : MapView K V H) (removed : Bool) (new : MapView K V H) → TakesOut eq key old removed new
-      → Updates eq old key None new
+  pub updates_out : (key : K) (old : MapView K V H) (removed : Bool) (new : MapView K V H) → TakesOut eq (eq key) old removed new
+      → Updates eq old (eq key) None new
   updates_out key old true new done q = done.1.updates q
   updates_out key old false new done q = elim (cases_Bool (eq key q)) [
     | inl hit ↦ rw hit (done.1.gets q ∙ lookup_congr eq laws.congr old.entries q key (laws.symm q key ∙ hit) ∙ done.0)
@@ -30,7 +30,7 @@ module _ {K V H : Type 0} (eq : K → K → Bool) (laws : IsEquivalence eq) wher
 
   -- the key at a place is out too
   pub without_more : (keys : List K) (place : ℕ) (key : K) (first old new : MapView K V H) → place < length keys
-      → key ≡ get_or keys place key → IsWithout eq (take place keys) first old → Updates eq old key None new
+      → key ≡ get_or keys place key → IsWithout eq (take place keys) first old → Updates eq old (eq key) None new
       → IsWithout eq (take (place + 1) keys) first new
   without_more keys place key first old new below item out updates q =
       updates q ∙ ap (cond (eq key q) None) (out q)

@@ -24,7 +24,7 @@ pub fn session_for<U: Eq + Drop, S: Drop, H: KeyHash<U>>(
     ensures session { IfOk result (λ gone. HasSession U.eq user fresh gone (map_of cache.old)
         (map_of cache.new)) }
     ensures touched { IsSome (get U.eq (map_of cache.old) user)
-        → IsTouched U.eq user true cache.old cache.new }
+        → IsTouched U.eq (U.eq user) true cache.old cache.new }
 
     // A refusal gives the fresh session back and changes nothing; a user who has one meets none.
     ensures session_returned { IfErr result (λ back. back ≡ fresh) }

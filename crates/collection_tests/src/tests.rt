@@ -7,6 +7,7 @@ mod copies;
 mod drops;
 mod entries;
 mod equality;
+mod forms;
 mod indexes;
 mod maps;
 mod marks;

@@ -43,7 +43,7 @@ module _ {K V : Type 0} (eq : K → K → Bool) (laws : IsEquivalence eq) where
       rw (not_first p xs distinct, not_first p ys (distinct_permuted eq laws (p ∷ xs) (p ∷ ys) moved distinct)) at less
 
   -- what a look-up doesn't find, another order hasn't either
-  pub absent_permuted : (k : K) (xs ys : List (K × V)) → lookup (eq k) xs ≡ None → IsPermutation xs ys → IsAbsent eq k ys
+  pub absent_permuted : (k : K) (xs ys : List (K × V)) → lookup (eq k) xs ≡ None → IsPermutation xs ys → IsAbsent (λ own. eq own k) ys
   absent_permuted k xs ys none moved = λ i d below.
       laws.symm _ k ∙ All-permutation (λ (o : K × V). eq k o.0 ≡ false) xs ys moved (absent_from_lookup eq laws k xs none) i d below
 

@@ -44,12 +44,12 @@ module _ {K V H : Type 0} (eq : K → K → Bool) where
 
   module _ (old new : MapView K V H) (key : K) (value : V) where
     put_cases : {A : Type 0} (held : Option V) → (Adds eq old key value new → A)
-        → ((own : K) (before : V) → Replaces eq old key (own, before) value new → A) → MatchOption held (Adds eq old key value new) (λ before. (own : K) × Replaces eq old key (own, before) value new) → A
+        → ((own : K) (before : V) → Replaces eq old (eq key) (own, before) value new → A) → MatchOption held (Adds eq old key value new) (λ before. (own : K) × Replaces eq old (eq key) (own, before) value new) → A
     put_cases None adds replaces put = adds put
     put_cases (Some before) adds replaces put = replaces put.0 before put.1
 
     -- a value that is put is the one that a look-up finds
-    pub put_updates : Puts eq old key value new → Updates eq old key (Some value) new
+    pub put_updates : Puts eq old key value new → Updates eq old (eq key) (Some value) new
     put_updates put = put_cases (get eq old key) (λ a. a.updates) (λ own before r. r.updates) put
 
     pub put_keeps : Puts eq old key value new → Keeps eq old new
@@ -59,11 +59,11 @@ module _ {K V H : Type 0} (eq : K → K → Bool) where
     pub upsert_puts : (earlier : Option V) → Upserts eq key value old (Ok earlier) new → Puts eq old key value new
     upsert_puts None added =
         subst (λ (o : Option V). MatchOption o (Adds eq old key value new)
-        (λ before. (own : K) × Replaces eq old key (own, before) value new))
+        (λ before. (own : K) × Replaces eq old (eq key) (own, before) value new))
         (sym added.absent) added
     upsert_puts (Some earlier) replaced =
         subst (λ (o : Option V). MatchOption o (Adds eq old key value new)
-        (λ before. (own : K) × Replaces eq old key (own, before) value new))
+        (λ before. (own : K) × Replaces eq old (eq key) (own, before) value new))
         (sym replaced.1.value) replaced
 
   -- after a map moved its pairs
@@ -72,14 +72,14 @@ module _ {K V H : Type 0} (eq : K → K → Bool) where
   put_after old between new stays key value put = from (get eq between key) (stays.gets key) put
     where
       from : (held : Option V) → held ≡ get eq old key
-          → MatchOption held (Adds eq between key value new) (λ before. (own : K) × Replaces eq between key (own, before) value new)
+          → MatchOption held (Adds eq between key value new) (λ before. (own : K) × Replaces eq between (eq key) (own, before) value new)
           → Puts eq old key value new
       from None is added = subst (λ (o : Option V). MatchOption o (Adds eq old key value new)
-          (λ before. (own : K) × Replaces eq old key (own, before) value new)) is
+          (λ before. (own : K) × Replaces eq old (eq key) (own, before) value new)) is
           (adds_after eq old between new stays key value added)
       from (Some before) is replaced = subst (λ (o : Option V). MatchOption o (Adds eq old key value new)
-          (λ held. (own : K) × Replaces eq old key (own, held) value new)) is
-          (replaced.0, replaces_after eq old between new stays key (replaced.0, before) value replaced.1)
+          (λ held. (own : K) × Replaces eq old (eq key) (own, held) value new)) is
+          (replaced.0, replaces_after eq old between new stays (eq key) (stays.gets key) (replaced.0, before) value replaced.1)
 
   -- none is put yet
   pub none_put : (m : MapView K V H) → IsUnique eq m → PutsAll eq m [] m

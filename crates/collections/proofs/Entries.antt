@@ -13,16 +13,16 @@ pub same_as_lent : {V : Type 0} (P : V → Type 0) (held : Option V) (value : V)
 same_as_lent P held value is = subst (λ (o : Option _). MatchOption o (P value) (λ v. value ≡ v)) is refl
 
 module _ {K V H : Type 0} (eq : K → K → Bool) (map new : MapView K V H) (key : K) (loan : Option (MutBor V)) (lent : MutBor V) (value : V)
-    (is : loan ≡ Some lent) (holds : IfSome loan (λ l. (own : K) × Replaces eq map key (own, l.now) value new)) where
+    (is : loan ≡ Some lent) (holds : IfSome loan (λ l. (own : K) × Replaces eq map (eq key) (own, l.now) value new)) where
   -- a loan that is there replaces
-  pub replaces_there : (own : K) × Replaces eq map key (own, lent.now) value new
+  pub replaces_there : (own : K) × Replaces eq map (eq key) (own, lent.now) value new
   replaces_there = rw is at holds
 
   -- and so the value is put
   pub puts_there : Puts eq map key value new
   puts_there =
       subst (λ (held : Option V). MatchOption held (Adds eq map key value new)
-      (λ before. (own : K) × Replaces eq map key (own, before) value new)) (sym replaces_there.1.value) replaces_there
+      (λ before. (own : K) × Replaces eq map (eq key) (own, before) value new)) (sym replaces_there.1.value) replaces_there
 
   -- and the map has the key still
   pub still_there : IsEquivalence eq → IsSome (get eq new key)

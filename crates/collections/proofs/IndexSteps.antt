@@ -9,20 +9,21 @@ use Rattle.bucket_table.specs.Map.MapState.{state_of}
 use Rattle.bucket_table.specs.Views.ArraysView.{TableView, pairs_of}
 use Rattle.collections.specs.Changes.{ReadsOut, TakesOut}
 use Rattle.collections.specs.Maps.{MapView, map_of}
-use Rattle.collections.proofs.Steps.{absent, stays, takes}
+use Rattle.collections.proofs.Lookups.{IsForm, form_absent}
+use Rattle.collections.proofs.Steps.{stays, takes}
 
 module _ {K V H : Type 0} (eq : K → K → Bool) where
   module _ (laws : IsEquivalence eq) (kind : ℕ) (t s : TableView K V H) (distinct : IsDistinct eq (keys_of (pairs_of t.arrays)))
       (after : IsDistinct eq (keys_of (pairs_of s.arrays))) where
     -- a pair that is read is marked, and so it is out
-    pub reads_out : {R : Type 0} (reads : Bor K → Bor V → R → Type 0) (k : K) (r : Option R)
-        → Marks eq k reads (state_of kind t) r (state_of kind s) → ReadsOut eq k reads (map_of t) r (map_of s)
-    reads_out reads k (Some answer) done =
-        (done.0, done.1, done.2, takes eq laws kind t s distinct after k (done.0.now, done.1.now) done.3 done.4)
-    reads_out reads k None done = (absent eq laws kind t s distinct after k done.0, stays eq laws kind t s distinct after done.1)
+    pub reads_out : {R : Type 0} (reads : Bor K → Bor V → R → Type 0) (wants : K → Bool) → IsForm eq wants → (r : Option R)
+        → Marks wants reads (state_of kind t) r (state_of kind s) → ReadsOut eq wants reads (map_of t) r (map_of s)
+    reads_out reads wants alike (Some answer) done =
+        (done.0, done.1, done.2, takes eq laws kind t s distinct after wants alike (done.0.now, done.1.now) done.3 done.4)
+    reads_out reads wants alike None done = (form_absent wants (pairs_of t.arrays) done.0, stays eq laws kind t s distinct after done.1)
 
   -- whatever is read of it
-  pub takes_out : {R : Type 0} (reads : Bor K → Bor V → R → Type 0) (k : K) (old new : MapView K V H) (r : Option R)
-      → ReadsOut eq k reads old r new → TakesOut eq k old (is_some r) new
-  takes_out reads k old new (Some answer) done = ((done.0.now, done.1.now), done.3)
-  takes_out reads k old new None done = done
+  pub takes_out : {R : Type 0} (reads : Bor K → Bor V → R → Type 0) (wants : K → Bool) (old new : MapView K V H) (r : Option R)
+      → ReadsOut eq wants reads old r new → TakesOut eq wants old (is_some r) new
+  takes_out reads wants old new (Some answer) done = ((done.0.now, done.1.now), done.3)
+  takes_out reads wants old new None done = done

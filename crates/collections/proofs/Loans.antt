@@ -1,4 +1,4 @@
--- A value of a map was lent: what is written through the loan stands under the key.
+-- A value of a map was lent: what is written through the loan stands beside the key.
 use Rattle.std.proofs.Common.{ℕ, Bool, ◌∷◌, Option, Some, None, ◌≡◌, sym}
 use Rattle.std.specs.Borrow.{MutBor}
 use Rattle.std.specs.Cmp.{IsEquivalence}
@@ -11,12 +11,12 @@ use Rattle.bucket_table.specs.Map.MapState.{ChangesValue, state_of}
 use Rattle.bucket_table.specs.Map.Preparing.{IsPrepared}
 use Rattle.bucket_table.specs.Views.ArraysView.{TableView, pairs_of}
 use Rattle.collections.specs.Changes.{Replaces, Stays}
-use Rattle.collections.specs.Maps.{get, map_of}
-use Rattle.collections.proofs.Lookups.{distinct_permuted, distinct_with, get_absent, get_there}
+use Rattle.collections.specs.Maps.{get_by, map_of}
+use Rattle.collections.proofs.Lookups.{IsForm, distinct_permuted, distinct_with, form_absent, form_there}
 use Rattle.collections.proofs.Steps.{replaces, stays}
 
 module _ {K V H : Type 0} (eq : K → K → Bool) (laws : IsEquivalence eq) (kind : ℕ) (t : TableView K V H)
-    (distinct : IsDistinct eq (keys_of (pairs_of t.arrays))) (key : K) where
+    (distinct : IsDistinct eq (keys_of (pairs_of t.arrays))) (wants : K → Bool) (alike : IsForm eq wants) where
   -- another value beside a key leaves the keys distinct
   distinct_changed : (s : TableView K V H) (p : K × V) (v : V) → ChangesValue (state_of kind t) p v (state_of kind s)
       → IsDistinct eq (keys_of (pairs_of s.arrays))
@@ -27,26 +27,28 @@ module _ {K V H : Type 0} (eq : K → K → Bool) (laws : IsEquivalence eq) (kin
 
   -- what is written through the loan
   pub lent_replaces : (hash : ℕ) (loan : Option (MutBor V)) (s : TableView K V H) (v : V)
-      → IfSome loan (λ lent. WritesUnder eq key kind hash t lent.now v s)
-      → IfSome loan (λ lent. (own : K) × Replaces eq (map_of t) key (own, lent.now) v (map_of s))
+      → IfSome loan (λ lent. WritesUnder wants kind hash t lent.now v s)
+      → IfSome loan (λ lent. (own : K) × Replaces eq (map_of t) wants (own, lent.now) v (map_of s))
   lent_replaces hash None s v wrote = tt
   lent_replaces hash (Some lent) s v wrote =
       let own = wrote.map.0 in
       let changed = wrote.map.2 in
-      (own, replaces eq laws kind t s distinct (distinct_changed s (own, lent.now) v changed) key (own, lent.now) v wrote.map.1 changed)
+      let after = distinct_changed s (own, lent.now) v changed in
+      (own, replaces eq laws kind t s distinct after wants alike (own, lent.now) v wrote.map.1 changed)
 
   -- what is lent
-  pub lent_value : (loan : Option (MutBor V)) → IfSome loan (λ lent. (own : K) × IsThere eq key (pairs_of t.arrays) (own, lent.now))
-      → IfNone loan (IsAbsent eq key (pairs_of t.arrays)) → option_copied_mut loan ≡ get eq (map_of t) key
-  lent_value None found absent = sym (get_absent eq laws key (pairs_of t.arrays) absent)
-  lent_value (Some lent) found absent = sym (get_there eq laws key (pairs_of t.arrays) (found.0, lent.now) distinct found.1)
+  pub lent_value : (loan : Option (MutBor V)) → IfSome loan (λ lent. (own : K) × IsThere wants (pairs_of t.arrays) (own, lent.now))
+      → IfNone loan (IsAbsent wants (pairs_of t.arrays)) → option_copied_mut loan ≡ get_by wants (map_of t)
+  lent_value None found absent = sym (form_absent wants (pairs_of t.arrays) absent)
+  lent_value (Some lent) found absent =
+      sym (form_there eq laws wants alike (pairs_of t.arrays) (found.0, lent.now) distinct found.1.0 found.1.1)
 
   -- where nothing is lent
   pub lent_none : (hash : ℕ) (loan : Option (MutBor V)) (s : TableView K V H) → IfNone loan (IsPrepared kind hash t s)
-      → IfNone loan (IsAbsent eq key (pairs_of t.arrays))
-      → IfNone loan ((get eq (map_of t) key ≡ None) × Stays eq (map_of t) (map_of s))
+      → IfNone loan (IsAbsent wants (pairs_of t.arrays))
+      → IfNone loan ((get_by wants (map_of t) ≡ None) × Stays eq (map_of t) (map_of s))
   lent_none hash None s prepared absent = (
-    get_absent eq laws key (pairs_of t.arrays) absent,
+    form_absent wants (pairs_of t.arrays) absent,
     stays eq laws kind t s distinct
         (distinct_permuted eq laws (pairs_of t.arrays) (pairs_of s.arrays) prepared.map.pairs distinct) prepared.map,
   )

@@ -84,10 +84,10 @@ module _ {K V : Type 0} (eq : K → K → Bool) (laws : IsEquivalence eq) where
           (Contains-permutation xs ys (found.0, v) moved found.1) found.2 ∙ sym e
 
   -- in the words of a table
-  pub get_absent : (k : K) (ps : List (K × V)) → IsAbsent eq k ps → lookup (eq k) ps ≡ None
+  pub get_absent : (k : K) (ps : List (K × V)) → IsAbsent (λ own. eq own k) ps → lookup (eq k) ps ≡ None
   get_absent k ps none = lookup_absent k ps (λ i d below. laws.symm k _ ∙ none i d below)
 
-  pub get_there : (k : K) (ps : List (K × V)) (p : K × V) → IsDistinct eq (keys_of ps) → IsThere eq k ps p
+  pub get_there : (k : K) (ps : List (K × V)) (p : K × V) → IsDistinct eq (keys_of ps) → IsThere (λ own. eq own k) ps p
       → lookup (eq k) ps ≡ Some p.1
   get_there k ps p distinct there = lookup_there k ps p distinct there.0 (laws.symm k p.0 ∙ there.1)
 
@@ -134,16 +134,59 @@ module _ {K V : Type 0} (eq : K → K → Bool) (laws : IsEquivalence eq) where
             ∙ ap (λ (b : Bool). cond b (Some v) (lookup (eq q) xs)) (sym miss)
       ]
 
-module _ {K V : Type 0} (eq : K → K → Bool) (laws : IsEquivalence eq) (test : K → Bool) where
-  -- a test that passes the equals of one key finds its pair
-  pub form_there : ((key other : K) → test key ≡ true → test other ≡ eq key other) → (ps : List (K × V)) (p : K × V)
-      → IsDistinct eq (keys_of ps) → Contains ps p → test p.0 ≡ true → lookup test ps ≡ Some p.1
-  form_there alike ps p distinct there passes =
-      (λ i. lookup (λ (other : K). alike p.0 other passes i) ps) ∙ lookup_there eq laws p.0 ps p distinct there (laws.refl p.0)
-
 module _ {K V : Type 0} (test : K → Bool) where
   -- no key passes: nothing is found
   pub form_absent : (ps : List (K × V)) → All (λ (o : K × V). test o.0 ≡ false) ps → lookup test ps ≡ None
   form_absent [] none = refl
   form_absent (p ∷ ps) none =
       lookup_tail test p ps (none 0 p (omega arith)) ∙ form_absent ps (λ i d below. none (suc i) d (omega arith))
+
+  one_more : (p : K × V) (ps : List (K × V)) → test p.0 ≡ false → All (λ (o : K × V). test o.0 ≡ false) ps
+      → All (λ (o : K × V). test o.0 ≡ false) (p ∷ ps)
+  one_more p ps is all zero d below = is
+  one_more p ps is all (suc i) d below = all i d (omega arith)
+
+  -- the other way
+  pub none_from_lookup : (ps : List (K × V)) → lookup test ps ≡ None → All (λ (o : K × V). test o.0 ≡ false) ps
+  none_from_lookup [] none = λ i d below. absurd (omega arith)
+  none_from_lookup (p ∷ ps) none = elim (cases_Bool (test p.0)) [
+    | inl hit ↦ let found : Some p.1 ≡ None = sym (lookup_head test p ps hit) ∙ none in absurd cc
+    | inr miss ↦ one_more p ps miss (none_from_lookup ps (sym (lookup_tail test p ps miss) ∙ none))
+  ]
+
+-- a test passes the equals of each key that it passes, and no other
+abbrev pub IsForm : {K : Type 0} → (K → K → Bool) → (K → Bool) → Type 0
+IsForm {K} eq test = (key other : K) → test key ≡ true → test other ≡ eq key other
+
+module _ {K V : Type 0} (eq : K → K → Bool) (laws : IsEquivalence eq) (test : K → Bool) (alike : IsForm eq test) where
+  -- such a test finds the pair of a key that it passes
+  pub form_there : (ps : List (K × V)) (p : K × V) → IsDistinct eq (keys_of ps) → Contains ps p → test p.0 ≡ true
+      → lookup test ps ≡ Some p.1
+  form_there ps p distinct there passes =
+      (λ i. lookup (λ (other : K). alike p.0 other passes i) ps) ∙ lookup_there eq laws p.0 ps p distinct there (laws.refl p.0)
+
+  -- another order finds the same
+  pub form_permuted : (xs ys : List (K × V)) → IsDistinct eq (keys_of xs) → IsPermutation xs ys → lookup test ys ≡ lookup test xs
+  form_permuted xs ys distinct moved = from (lookup test xs) refl
+    where
+      from : (o : Option V) → lookup test xs ≡ o → lookup test ys ≡ lookup test xs
+      from None e = form_absent test ys (All-permutation (λ (o : K × V). test o.0 ≡ false) xs ys moved (none_from_lookup test xs e)) ∙ sym e
+      from (Some v) e =
+          let place = place_from_lookup test xs v e in
+          let pair : K × V = (place.1, v) in
+          let there : Contains xs pair =
+          (place.0, slice_get_within xs place.0 pair place.2, get_or_from_slice_get xs place.0 pair pair place.2) in
+          form_there ys pair (distinct_permuted eq laws xs ys moved distinct) (Contains-permutation xs ys pair moved there) place.3 ∙ sym e
+
+  -- the pair that it passes is out
+  pub form_taken : (q : K) (p : K × V) (xs ys : List (K × V)) → IsDistinct eq (keys_of xs) → IsPermutation xs (p ∷ ys)
+      → test p.0 ≡ true → lookup (eq q) ys ≡ cond (test q) None (lookup (eq q) xs)
+  form_taken q p xs ys distinct moved passes = lookup_taken eq laws p.0 q p xs ys distinct moved (laws.refl p.0)
+      ∙ ap (λ (b : Bool). cond b None (lookup (eq q) xs)) (sym (alike p.0 q passes))
+
+  -- its value is another one
+  pub form_changed : (q : K) (p : K × V) (v : V) (rest xs ys : List (K × V)) → IsDistinct eq (keys_of xs) → IsPermutation xs (p ∷ rest)
+      → IsPermutation ((p.0, v) ∷ rest) ys → test p.0 ≡ true → lookup (eq q) ys ≡ cond (test q) (Some v) (lookup (eq q) xs)
+  form_changed q p v rest xs ys distinct before after passes =
+      lookup_changed eq laws p.0 q p v rest xs ys distinct before after (laws.refl p.0)
+      ∙ ap (λ (b : Bool). cond b (Some v) (lookup (eq q) xs)) (sym (alike p.0 q passes))

@@ -34,8 +34,8 @@ module _ {K V : Type 0} where
   replaced Old index bucket ready between new (capacity, pushed) is = inr (rw (is, pushed.new_is) refl)
   replaced Current index bucket ready between new same is = inl (rw same at is)
 
-module _ {K V H : Type 0} (eq : K → K → Bool) (hash : ℕ) (old new : TableView K V H) where
-  module _ (laws : IsEquivalence eq) (distinct : IsDistinct eq (keys_of (pairs_of old.arrays))) where
+module _ {K V H : Type 0} (hash : ℕ) (old new : TableView K V H) where
+  module _ (eq : K → K → Bool) (laws : IsEquivalence eq) (distinct : IsDistinct eq (keys_of (pairs_of old.arrays))) where
     ready_stays : (index : ℕ) (ready : ArraysView K V) → MakesReady old.arrays index ready
         → Stays eq (map_of old) (map_of (record old { arrays = ready }))
     ready_stays index ready makes =
@@ -72,8 +72,8 @@ module _ {K V H : Type 0} (eq : K → K → Bool) (hash : ℕ) (old new : TableV
     puts_home pair (Err (Memory k v)) (Ok at) between finds none = absurd none
     puts_home pair (Err (Memory k v)) (Err e) between finds same = λ none stands. absurd (omega (arith, finds.alone none, stands))
 
-  module _ (key : K) where
-    left : length old.arrays.linked ≡ 0 → ShrinksAt eq key slots_without true old new → LeavesPlace eq key true old.arrays new.arrays
+  module _ (wants : K → Bool) where
+    left : length old.arrays.linked ≡ 0 → ShrinksAt wants slots_without true old new → LeavesPlace wants true old.arrays new.arrays
     left none (Old, index, at, stands, shrinks) = absurd (omega (arith, stands.within, none))
     left none (Current, index, at, stands, shrinks) = λ _. elim (removed_ends old.arrays Current index _ new.arrays shrinks) [
       | inl is ↦ inr (index, at, stands, inl is)
@@ -82,8 +82,8 @@ module _ {K V H : Type 0} (eq : K → K → Bool) (hash : ℕ) (old new : TableV
     ]
 
     -- what the table takes
-    pub leaves_place : (removed : Bool) → PreparesThen 67 hash old (λ between. ShrinksAt eq key slots_without removed between new)
-        → LeavesPlace eq key removed old.arrays new.arrays
+    pub leaves_place : (removed : Bool) → PreparesThen 67 hash old (λ between. ShrinksAt wants slots_without removed between new)
+        → LeavesPlace wants removed old.arrays new.arrays
     leaves_place true p = λ none.
-        left none (subst (λ between. ShrinksAt eq key slots_without true between new) (p.prepared.alone none) p.done) none
+        left none (subst (λ between. ShrinksAt wants slots_without true between new) (p.prepared.alone none) p.done) none
     leaves_place false p = λ none. ap (λ (t : TableView K V H). t.arrays) (p.done ∙ p.prepared.alone none)

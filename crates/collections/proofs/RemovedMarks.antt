@@ -75,13 +75,13 @@ module _ {K V : Type 0} where
     append-nil (marks_among old.current),
   ) refl
 
-module _ {K V H : Type 0} (eq : K → K → Bool) (key : K) (epoch hash : ℕ) (old between new : TableView K V H)
+module _ {K V H : Type 0} (wants : K → Bool) (epoch hash : ℕ) (old between new : TableView K V H)
     (prepared : IsPrepared 79 hash old between) where
   earlier : AreEarlierMarks old.arrays (marks_of between.arrays)
   earlier =
       record { earlier = prepared.kept.keeps.marks; all = λ none. ap (λ (t : TableView K V H). marks_of t.arrays) (prepared.alone none) }
 
-  stood : (pair : K × V) → IsThere eq key (pairs_of between.arrays) pair → IsThere eq key (pairs_of old.arrays) pair
+  stood : (pair : K × V) → IsThere wants (pairs_of between.arrays) pair → IsThere wants (pairs_of old.arrays) pair
   stood pair there = (
     Contains-permutation (pairs_of between.arrays) (pairs_of old.arrays) pair
         (IsPermutation-sym (pairs_of old.arrays) (pairs_of between.arrays) prepared.map.pairs) there.0,
@@ -89,14 +89,14 @@ module _ {K V H : Type 0} (eq : K → K → Bool) (key : K) (epoch hash : ℕ) (
   )
 
   -- the table's removal, that may shrink it
-  pub marks_removed : (removed : Bool) → ShrinksAt eq key (λ bucket at. slots_marked bucket at epoch) removed between new
-      → MarksRemoved eq key epoch removed old.arrays new.arrays
+  pub marks_removed : (removed : Bool) → ShrinksAt wants (λ bucket at. slots_marked bucket at epoch) removed between new
+      → MarksRemoved wants epoch removed old.arrays new.arrays
   marks_removed false same = rw same earlier
   marks_removed true (side, index, at, stands, shrinks) =
       let bucket = slots_marked (bucket_on between.arrays side index) at epoch in
       let mid = arrays_with between.arrays side index bucket in
       let marks = marks_of-marked between.arrays side index at epoch stands.pair stands.within stands.slot in
-      let adds : marks_of new.arrays ≡ marks_of mid → AddsMark eq key epoch old.arrays new.arrays = λ same. record {
+      let adds : marks_of new.arrays ≡ marks_of mid → AddsMark wants epoch old.arrays new.arrays = λ same. record {
         pair = stands.pair;
         there = stood stands.pair stands.there;
         earlier = marks_of between.arrays;

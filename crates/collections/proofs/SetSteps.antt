@@ -10,7 +10,7 @@ use Rattle.collections.proofs.StoredKeys.{replaced_key}
 
 module _ {K V H : Type 0} (eq : K → K → Bool) (old between new : MapView K V H) (key : K) (pair : K × V) where
   -- a pair is taken, and then the map may move its pairs
-  pub takes_then : Takes eq old key pair between → Stays eq between new → Takes eq old key pair new
+  pub takes_then : Takes eq old (eq key) pair between → Stays eq between new → Takes eq old (eq key) pair new
   takes_then taken stays = record {
     same = taken.same;
     value = taken.value;
@@ -27,12 +27,12 @@ module _ {K V H : Type 0} (eq : K → K → Bool) (old between new : MapView K V
   }
 
   -- and a look-up finds none
-  pub none_after : IsEquivalence eq → Takes eq old key pair between → get eq between key ≡ None
+  pub none_after : IsEquivalence eq → Takes eq old (eq key) pair between → get eq between key ≡ None
   none_after laws taken = rw (laws.refl key) at (taken.updates key)
 
 module _ {K H : Type 0} (eq : K → K → Bool) (laws : IsEquivalence eq) (key : K) (old between new : MapView K (Unit {0}) H) where
   -- what was there is out, and the key is put
-  pub replaced : (earlier : Option K) (held : Option (Unit {0})) → SetRemoves eq key old earlier between
+  pub replaced : (earlier : Option K) (held : Option (Unit {0})) → SetRemoves eq (eq key) old earlier between
       → Upserts eq key tt between (Ok held) new → SetReplaces eq key old (Ok earlier) new
   replaced None None none added = adds_after eq old between new none.1 key tt added
   replaced None (Some held) none put =
@@ -44,7 +44,7 @@ module _ {K H : Type 0} (eq : K → K → Bool) (laws : IsEquivalence eq) (key :
       absurd cc
 
   -- it isn't put
-  pub not_replaced : (earlier : Option K) → SetRemoves eq key old earlier between → Stays eq between new
-      → SetRemoves eq key old earlier new
+  pub not_replaced : (earlier : Option K) → SetRemoves eq (eq key) old earlier between → Stays eq between new
+      → SetRemoves eq (eq key) old earlier new
   not_replaced None none stays = (none.0, stays_after eq old between new none.1 stays)
   not_replaced (Some own) taken stays = takes_then eq old between new key (own, tt) taken stays

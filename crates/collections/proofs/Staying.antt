@@ -1,8 +1,10 @@
 -- The map stays, and then a call does something to it: so it does that to the map of before.
-use Rattle.std.proofs.Common.{Bool, cond, Option, Some, None, ◌∷◌, sym, ap, ◌+◌, ◌∙◌}
-use Rattle.std.proofs.lemmas.List.Sorted.{IsPermutation-cons, IsPermutation-trans}
+use Rattle.std.proofs.Common.{Bool, cond, Option, Some, None, ◌∷◌, ◌≡◌, sym, ap, ◌+◌, ◌∙◌}
+use Rattle.std.specs.Cmp.{IsEquivalence}
+use Rattle.std.proofs.lemmas.List.Sorted.{IsPermutation-cons, IsPermutation-sym, IsPermutation-trans}
 use Rattle.collections.specs.Changes.{Adds, Displaces, Keeps, Replaces, Stays}
-use Rattle.collections.specs.Maps.{MapView}
+use Rattle.collections.specs.Maps.{MapView, get_by}
+use Rattle.collections.proofs.Lookups.{IsForm, distinct_permuted, form_permuted}
 
 module _ {K V H : Type 0} (eq : K → K → Bool) (old between new : MapView K V H) (first : Stays eq old between) where
   keeps_after : Keeps eq between new → Keeps eq old new
@@ -31,15 +33,16 @@ module _ {K V H : Type 0} (eq : K → K → Bool) (old between new : MapView K V
     kept = keeps_after added.kept;
   }
 
-  pub replaces_after : (k : K) (p : K × V) (v : V) → Replaces eq between k p v new → Replaces eq old k p v new
-  replaces_after k p v replaced = record {
+  pub replaces_after : (wants : K → Bool) → get_by wants between ≡ get_by wants old → (p : K × V) (v : V)
+      → Replaces eq between wants p v new → Replaces eq old wants p v new
+  replaces_after wants gets p v replaced = record {
     same = replaced.same;
-    value = sym (first.gets k) ∙ replaced.value;
+    value = sym gets ∙ replaced.value;
     rest = replaced.rest;
     before = IsPermutation-trans old.entries between.entries (p ∷ replaced.rest) first.entries replaced.before;
     after = replaced.after;
     len = replaced.len ∙ first.len;
-    updates = λ q. replaced.updates q ∙ ap (λ (o : Option V). cond (eq k q) (Some v) o) (first.gets q);
+    updates = λ q. replaced.updates q ∙ ap (λ (o : Option V). cond (wants q) (Some v) o) (first.gets q);
     kept = keeps_after replaced.kept;
   }
 
@@ -55,3 +58,11 @@ module _ {K V H : Type 0} (eq : K → K → Bool) (old between new : MapView K V
         ∙ ap (λ (o : Option V). cond (eq k q) (Some v) (cond (eq gone.0 q) None o)) (first.gets q);
     kept = keeps_after displaced.kept;
   }
+
+-- what stands for keys finds the same once the map has stayed
+pub gets_by : {K V H : Type 0} (eq : K → K → Bool) (laws : IsEquivalence eq) (wants : K → Bool) → IsForm eq wants
+    → (old new : MapView K V H) → Stays eq old new → get_by wants new ≡ get_by wants old
+gets_by eq laws wants alike old new stays =
+    let distinct = distinct_permuted eq laws new.entries old.entries (IsPermutation-sym old.entries new.entries stays.entries)
+    stays.kept.unique in
+    form_permuted eq laws wants alike old.entries new.entries distinct stays.entries

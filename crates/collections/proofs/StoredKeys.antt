@@ -12,7 +12,7 @@ use Rattle.bucket_table.specs.Map.LookingUp.{IsThere}
 use Rattle.collections.specs.Changes.{Adds, Takes}
 use Rattle.collections.specs.Maps.{IsUnique, MapView, get}
 use Rattle.collections.specs.StoredKeys.{ReplacesKey}
-use Rattle.collections.proofs.Lookups.{form_there, lookup_same, lookup_there}
+use Rattle.collections.proofs.Lookups.{IsForm, form_there, lookup_same}
 
 module _ {K V : Type 0} where
   -- each key, beside itself
@@ -35,8 +35,7 @@ module _ {K V : Type 0} where
       (suc rest.0, omega (arith, rest.1), rest.2)
 
   -- a test that passes the equals of one key finds its key
-  pub key_there : (eq : K → K → Bool) → IsEquivalence eq → (test : K → Bool)
-      → ((key other : K) → test key ≡ true → test other ≡ eq key other) → (ps : List (K × V)) (p : K × V)
+  pub key_there : (eq : K → K → Bool) → IsEquivalence eq → (test : K → Bool) → IsForm eq test → (ps : List (K × V)) (p : K × V)
       → IsDistinct eq (keys_of ps) → Contains ps p → test p.0 ≡ true → lookup_key test ps ≡ Some p.0
   key_there eq laws test alike ps p distinct there passes = sym (lookup-doubled test ps)
       ∙ form_there eq laws test alike (doubled ps) (p.0, p.0) (rw (keys_of-doubled ps) distinct) (Contains-doubled ps p there) passes
@@ -48,51 +47,52 @@ module _ {K V : Type 0} where
       ap (λ b. cond b (Some p.0) (lookup_key test ps)) (none 0 p (omega arith))
       ∙ key_absent test ps (λ i d below. none (suc i) d (omega arith))
 
-module _ {K V : Type 0} (eq : K → K → Bool) (laws : IsEquivalence eq) (key : K) where
-  -- pairs of distinct keys that are there under one key are one pair
-  pub same_pair : (ps : List (K × V)) (p q : K × V) → IsDistinct eq (keys_of ps) → Contains ps p → Contains ps q → eq key p.0 ≡ true
-      → eq key q.0 ≡ true → p ≡ q
+module _ {K V : Type 0} (eq : K → K → Bool) (laws : IsEquivalence eq) (wants : K → Bool) (alike : IsForm eq wants) where
+  -- wanted pairs of distinct keys are one pair
+  pub same_pair : (ps : List (K × V)) (p q : K × V) → IsDistinct eq (keys_of ps) → Contains ps p → Contains ps q → wants p.0 ≡ true
+      → wants q.0 ≡ true → p ≡ q
   same_pair ps p q distinct has_p has_q at_p at_q =
-      let found = λ (o : K × V) (has : Contains ps o) (at : eq key o.0 ≡ true).
-      key_there eq laws (eq key) (λ k other same. laws.congr key k other same) ps o distinct has at in
-      let keys : Some p.0 ≡ Some q.0 = sym (found p has_p at_p) ∙ found q has_q at_q in
-      let values : Some p.1 ≡ Some q.1 =
-      sym (lookup_there eq laws key ps p distinct has_p at_p) ∙ lookup_there eq laws key ps q distinct has_q at_q in
+      let found = key_there eq laws wants alike ps in
+      let keys : Some p.0 ≡ Some q.0 = sym (found p distinct has_p at_p) ∙ found q distinct has_q at_q in
+      let shows = form_there eq laws wants alike ps in
+      let values : Some p.1 ≡ Some q.1 = sym (shows p distinct has_p at_p) ∙ shows q distinct has_q at_q in
       let own : p.0 ≡ q.0 = cc in
       let value : p.1 ≡ q.1 = cc in
       λ i. (own i, value i)
 
-  module _ {H : Type 0} (old new : MapView K V H) (pair : K × V) (taken : Takes eq old key pair new) where
-    -- the pair that is taken is the one that was there
-    pub taken_there : (p : K × V) → IsUnique eq old → IsThere eq key old.entries p → p ≡ pair
-    taken_there p unique there =
-        let has = Contains-permutation (pair ∷ new.entries) old.entries pair
-        (IsPermutation-sym old.entries (pair ∷ new.entries) taken.entries) (0, omega arith, refl) in
-        same_pair old.entries p pair unique there.0 has (laws.symm key p.0 ∙ there.1) (laws.symm key pair.0 ∙ taken.same)
+  -- the pair that is taken is the one that was there
+  pub taken_there : {H : Type 0} (old new : MapView K V H) (pair : K × V) → Takes eq old wants pair new → (p : K × V) → IsUnique eq old
+      → IsThere wants old.entries p → p ≡ pair
+  taken_there old new pair taken p unique there =
+      let has = Contains-permutation (pair ∷ new.entries) old.entries pair
+      (IsPermutation-sym old.entries (pair ∷ new.entries) taken.entries) (0, omega arith, refl) in
+      same_pair old.entries p pair unique there.0 has there.1 taken.same
 
-    -- a pair is taken, and then another stands in its place, whose key is equal, beside the same value
-    pub replaced_key : (later : MapView K V H) → Adds eq new key pair.1 later → ReplacesKey eq old pair key later
-    replaced_key later added = record {
-      same = taken.same;
-      value = taken.value;
-      rest = new.entries;
-      before = taken.entries;
-      after = added.entries;
-      len = omega (arith, added.len, taken.len);
-      gets = λ q. elim (cases_Bool (eq key q)) [
-        | inl hit ↦
-            let now = rw hit at (added.updates q) in
-            let was = sym (lookup_same eq laws key q old.entries hit) ∙ taken.value in
-            now ∙ sym was
-        | inr miss ↦
-            let now = rw miss at (added.updates q) in
-            let was = rw miss at (taken.updates q) in
-            now ∙ was
-      ];
-      kept = record {
-        unique = added.kept.unique;
-        hasher = added.kept.hasher ∙ taken.kept.hasher;
-        minimum = added.kept.minimum ∙ taken.kept.minimum;
-        maximum = added.kept.maximum ∙ taken.kept.maximum;
-      };
-    }
+module _ {K V H : Type 0} (eq : K → K → Bool) (laws : IsEquivalence eq) (key : K) (old new : MapView K V H) (pair : K × V)
+    (taken : Takes eq old (eq key) pair new) where
+  -- a pair is taken, and then another stands in its place, whose key is equal, beside the same value
+  pub replaced_key : (later : MapView K V H) → Adds eq new key pair.1 later → ReplacesKey eq old pair key later
+  replaced_key later added = record {
+    same = laws.symm pair.0 key ∙ taken.same;
+    value = taken.value;
+    rest = new.entries;
+    before = taken.entries;
+    after = added.entries;
+    len = omega (arith, added.len, taken.len);
+    gets = λ q. elim (cases_Bool (eq key q)) [
+      | inl hit ↦
+          let now = rw hit at (added.updates q) in
+          let was = sym (lookup_same eq laws key q old.entries hit) ∙ taken.value in
+          now ∙ sym was
+      | inr miss ↦
+          let now = rw miss at (added.updates q) in
+          let was = rw miss at (taken.updates q) in
+          now ∙ was
+    ];
+    kept = record {
+      unique = added.kept.unique;
+      hasher = added.kept.hasher ∙ taken.kept.hasher;
+      minimum = added.kept.minimum ∙ taken.kept.minimum;
+      maximum = added.kept.maximum ∙ taken.kept.maximum;
+    };
+  }

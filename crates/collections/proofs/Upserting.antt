@@ -12,7 +12,7 @@ use Rattle.collections.specs.Maps.{get, map_of}
 use Rattle.collections.specs.Orders.{IsTouched, PutsInHome, PutsOrKeeps}
 use Rattle.collections.proofs.Staying.{adds_after, displaces_after, stays_after}
 
-module _ {K V H : Type 0} (eq : K → K → Bool) (k : K) (t b : TableView K V H) (touched : IsTouched eq k false t b) where
+module _ {K V H : Type 0} (eq : K → K → Bool) (k : K) (t b : TableView K V H) (touched : IsTouched eq (eq k) false t b) where
   moved : KeepsArrays t.arrays b.arrays
   moved = rw touched.touched touched.carried
 

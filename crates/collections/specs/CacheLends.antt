@@ -5,18 +5,18 @@ use Rattle.std.specs.declared.cmp.PartialEq as equals
 use Rattle.bucket_table.specs.declared.key_hash.KeyHash as key_hash
 use Rattle.bucket_table.specs.Views.ArraysView.{TableView}
 use Rattle.collections.specs.Changes.{Replaces, Stays}
-use Rattle.collections.specs.Maps.{get, map_of}
+use Rattle.collections.specs.Maps.{get_by, map_of}
 use Rattle.collections.specs.contracts.hash_cache.HashCache.{the_row}
 
 module _ (K V H : RattleType) (equal : equals.Ghosts K.Denot) (hashing : key_hash.Ghosts H.Denot K.Denot)
     (cache : MutBor (TableView K.Denot V.Denot H.Denot)) where
-  -- the value under the key is the last one written through the loan; where there is none the key is absent, and the map stays; and
-  -- the table becomes so, by whether the key is there
-  abbrev pub LendsValue : K.Denot → Option (MutBor V.Denot)
+  -- the value beside the key that is wanted is the last one written through the loan; where there is none no key is wanted, and the map
+  -- stays; and the table becomes so, by whether the key is there
+  abbrev pub LendsValue : (K.Denot → Bool) → Option (MutBor V.Denot)
       → (Bool → TableView K.Denot V.Denot H.Denot → TableView K.Denot V.Denot H.Denot → Type 0) → Fml
-  LendsValue key loan Becomes =
+  LendsValue wants loan Becomes =
       LendsSo (the_row K V H (record {}) equal hashing) V cache loan
-      (λ new value. IfSome loan (λ lent. ((own : K.Denot) × Replaces equal.eq (map_of cache.now) key (own, lent.now) value (map_of new))
+      (λ new value. IfSome loan (λ lent. ((own : K.Denot) × Replaces equal.eq (map_of cache.now) wants (own, lent.now) value (map_of new))
       × Becomes true cache.now new))
-      (λ new. IfNone loan ((get equal.eq (map_of cache.now) key ≡ None) × Stays equal.eq (map_of cache.now) (map_of new)
+      (λ new. IfNone loan ((get_by wants (map_of cache.now) ≡ None) × Stays equal.eq (map_of cache.now) (map_of new)
       × Becomes false cache.now new))

@@ -20,7 +20,7 @@ module _ {K V H : Type 0} (eq : K → K → Bool) where
   abbrev pub UpsertsOrEvicts : K → V → MapView K V H → Result (Upserted K V) (AllocFailed (K × V)) → MapView K V H → Type 0
   UpsertsOrEvicts key value old (Ok Added) new = Adds eq old key value new
   UpsertsOrEvicts key value old (Ok (Evicted k v)) new = Displaces eq old (k, v) key value new
-  UpsertsOrEvicts key value old (Ok (Replaced earlier)) new = (own : K) × Replaces eq old key (own, earlier) value new
+  UpsertsOrEvicts key value old (Ok (Replaced earlier)) new = (own : K) × Replaces eq old (eq key) (own, earlier) value new
   UpsertsOrEvicts key value old (Err back) new = (back.value ≡ (key, value)) × (get eq old key ≡ None) × Stays eq old new
 
   -- a pair is put into its home, as the one touched last, after what goes for it; or the pair that is there is touched, and written;
@@ -28,7 +28,7 @@ module _ {K V H : Type 0} (eq : K → K → Bool) where
   abbrev pub UpsertsInOrder : K × V → ℕ → TableView K V H → Result (Upserted K V) (AllocFailed (K × V)) → TableView K V H → Type 0
   UpsertsInOrder pair hash old (Ok Added) new = PutsInHome eq pair hash None old new.arrays
   UpsertsInOrder pair hash old (Ok (Evicted k v)) new = PutsInHome eq pair hash (Some (k, v)) old new.arrays
-  UpsertsInOrder pair hash old (Ok (Replaced earlier)) new = IsTouchedAndWritten eq pair.0 true old new
+  UpsertsInOrder pair hash old (Ok (Replaced earlier)) new = IsTouchedAndWritten eq (eq pair.0) true old new
   UpsertsInOrder pair hash old (Err back) new = LeavesArray old.arrays new.arrays
 
   -- the pair under the key is touched, and its value is read; or a value is made, read and put, after what goes for it; at allocation
@@ -36,7 +36,7 @@ module _ {K V H : Type 0} (eq : K → K → Bool) where
   abbrev pub GetsOrInserts : {R : Type 0} → K → ℕ → (V → Type 0) → (Bor V → R → Type 0) → TableView K V H
       → Result (R × Option (K × V)) (AllocFailed (K × V)) → TableView K V H → Type 0
   GetsOrInserts key hash makes reads old (Ok done) new = (value : Bor V) × reads value done.0
-      × (((get eq (map_of old) key ≡ Some value.now) × (done.1 ≡ None) × IsTouched eq key true old new)
+      × (((get eq (map_of old) key ≡ Some value.now) × (done.1 ≡ None) × IsTouched eq (eq key) true old new)
       ⊎ (makes value.now × Puts eq key value.now (map_of old) (Ok done.1) (map_of new)
       × PutsInHome eq (key, value.now) hash done.1 old new.arrays))
   GetsOrInserts key hash makes reads old (Err back) new = (back.value.0 ≡ key) × makes back.value.1 × (get eq (map_of old) key ≡ None)

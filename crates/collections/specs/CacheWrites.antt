@@ -8,21 +8,21 @@ use Rattle.collections.specs.Changes.{Stays}
 use Rattle.collections.specs.Maps.{map_of}
 use Rattle.collections.specs.Orders.{IsTouched}
 
--- old pairs may move on with their LRU order, and none does where no old array stands; then the value under the key, if it is there, is
--- another one where it stands, and nothing else changes: the pair isn't touched
-pub record IsWritten {K V H : Type 0} (eq : K → K → Bool) (key : K) (is_there : Bool) (old new : TableView K V H) : Type 0 where
+-- old pairs may move on with their LRU order, and none does where no old array stands; then the value beside the wanted key, if one is
+-- there, is another one where it stands, and nothing else changes: the pair isn't touched
+pub record IsWritten {K V H : Type 0} (eq : K → K → Bool) (wants : K → Bool) (is_there : Bool) (old new : TableView K V H) : Type 0 where
   pub between : TableView K V H
   pub map : Stays eq (map_of old) (map_of between)
   pub carried : KeepsArrays old.arrays between.arrays
   pub alone : length old.arrays.linked ≡ 0 → between ≡ old
-  pub written : WritesAt eq key is_there between new
+  pub written : WritesAt wants is_there between new
 
--- the pair under the key, if it is there, is touched as by a look-up, and then its value is another one; no old array comes
-pub record IsTouchedAndWritten {K V H : Type 0} (eq : K → K → Bool) (key : K) (is_there : Bool) (old new : TableView K V H) : Type 0 where
+-- the pair whose key is wanted, if one is there, is touched as by a look-up, and then its value is another one; no old array comes
+pub record IsTouchedAndWritten {K V H : Type 0} (eq : K → K → Bool) (wants : K → Bool) (is_there : Bool) (old new : TableView K V H) : Type 0 where
   pub between : TableView K V H
-  pub touched : IsTouched eq key is_there old between
+  pub touched : IsTouched eq wants is_there old between
   pub alone : length old.arrays.linked ≡ 0 → length between.arrays.linked ≡ 0
-  pub written : IsWritten eq key is_there between new
+  pub written : IsWritten eq wants is_there between new
 
 -- each bucket of both arrays is left as it was, but for values that were written and pairs that were taken out: the LRU order of the
 -- others stays; and the incremental rehash goes on from where it was

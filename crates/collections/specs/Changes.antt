@@ -3,7 +3,7 @@ use Rattle.std.specs.Prelude.{ℕ, ◌≡◌, ◌+◌, ◌-◌, Bool, true, fals
 use Rattle.std.specs.Borrow.{Bor, MutBor}
 use Rattle.std.specs.List.Sorted.{IsPermutation}
 use Rattle.std.specs.declared.alloc.AllocFailed.{AllocFailed}
-use Rattle.collections.specs.Maps.{MapView, IsUnique, get, map_len}
+use Rattle.collections.specs.Maps.{MapView, IsUnique, get, get_by, map_len}
 use Rattle.bucket_table.specs.Walking.Retains.{RetainsEach}
 use Rattle.bucket_table.specs.declared.hash_table.NotInserted.{NotInserted}
 use Rattle.bucket_table.specs.declared.hash_table.NotInserted.TheVariants.{Present, Memory}
@@ -16,9 +16,9 @@ module _ {K V H : Type 0} (eq : K → K → Bool) where
     pub minimum : new.minimum ≡ old.minimum
     pub maximum : new.maximum ≡ old.maximum
 
-  -- each key that is equal to the key has the value (none: the map hasn't it), and each other key what it had
-  abbrev pub Updates : MapView K V H → K → Option V → MapView K V H → Type 0
-  Updates old key value new = (other : K) → get eq new other ≡ cond (eq key other) value (get eq old other)
+  -- each key that is wanted has the value (none: the map hasn't it), and each other key what it had
+  abbrev pub Updates : MapView K V H → (K → Bool) → Option V → MapView K V H → Type 0
+  Updates old wants value new = (other : K) → get eq new other ≡ cond (wants other) value (get eq old other)
 
   -- the pairs stay, in some order, and so each key has the value that it had
   pub record Stays (old new : MapView K V H) : Type 0 where
@@ -32,27 +32,27 @@ module _ {K V H : Type 0} (eq : K → K → Bool) where
     pub absent : get eq old key ≡ None
     pub entries : IsPermutation ((key, value) ∷ old.entries) new.entries
     pub len : map_len new ≡ map_len old + 1
-    pub updates : Updates old key (Some value) new
+    pub updates : Updates old (eq key) (Some value) new
     pub kept : Keeps old new
 
-  -- the pair under the key is gone
-  pub record Takes (old : MapView K V H) (key : K) (pair : K × V) (new : MapView K V H) : Type 0 where
-    pub same : eq pair.0 key ≡ true
-    pub value : get eq old key ≡ Some pair.1
+  -- the pair whose key is wanted is gone
+  pub record Takes (old : MapView K V H) (wants : K → Bool) (pair : K × V) (new : MapView K V H) : Type 0 where
+    pub same : wants pair.0 ≡ true
+    pub value : get_by wants old ≡ Some pair.1
     pub entries : IsPermutation old.entries (pair ∷ new.entries)
     pub len : map_len new + 1 ≡ map_len old
-    pub updates : Updates old key None new
+    pub updates : Updates old wants None new
     pub kept : Keeps old new
 
-  -- the value under the key is another one, and its own key stays
-  pub record Replaces (old : MapView K V H) (key : K) (pair : K × V) (later : V) (new : MapView K V H) : Type 0 where
-    pub same : eq pair.0 key ≡ true
-    pub value : get eq old key ≡ Some pair.1
+  -- the value beside the key that is wanted is another one, and that key stays
+  pub record Replaces (old : MapView K V H) (wants : K → Bool) (pair : K × V) (later : V) (new : MapView K V H) : Type 0 where
+    pub same : wants pair.0 ≡ true
+    pub value : get_by wants old ≡ Some pair.1
     pub rest : List (K × V)
     pub before : IsPermutation old.entries (pair ∷ rest)
     pub after : IsPermutation ((pair.0, later) ∷ rest) new.entries
     pub len : map_len new ≡ map_len old
-    pub updates : Updates old key (Some later) new
+    pub updates : Updates old wants (Some later) new
     pub kept : Keeps old new
 
   -- a pair is in, whose key was absent, and another is out
@@ -84,39 +84,40 @@ module _ {K V H : Type 0} (eq : K → K → Bool) (key : K) where
   Puts value old (Ok (Some gone)) new = Displaces eq old gone key value new
   Puts value old (Err why) new = HandsBack value old why × Stays eq old new
 
-  -- the pair under the key is taken out, and none is exactly where the key is absent
-  abbrev pub Removes : MapView K V H → Option (K × V) → MapView K V H → Type 0
-  Removes old (Some pair) new = Takes eq old key pair new
-  Removes old None new = (get eq old key ≡ None) × Stays eq old new
-
-  -- the pair under the key is gone, and the answer is whether there was one
-  abbrev pub TakesOut : MapView K V H → Bool → MapView K V H → Type 0
-  TakesOut old true new = (pair : K × V) × Takes eq old key pair new
-  TakesOut old false new = (get eq old key ≡ None) × Stays eq old new
-
-  -- the pair under the key is read and then gone; there is no answer exactly where the key is absent
-  abbrev pub ReadsOut : {R : Type 0} → (Bor K → Bor V → R → Type 0) → MapView K V H → Option R → MapView K V H → Type 0
-  ReadsOut reads old (Some answer) new =
-      (own : Bor K) × (value : Bor V) × reads own value answer × Takes eq old key (own.now, value.now) new
-  ReadsOut reads old None new = (get eq old key ≡ None) × Stays eq old new
-
   -- a pair is put, or its value stands beside the key that is there, and the earlier value is the answer; if allocation fails
   -- the pair comes back, and then its key is absent
   abbrev pub Upserts : V → MapView K V H → Result (Option V) (AllocFailed (K × V)) → MapView K V H → Type 0
   Upserts value old (Ok None) new = Adds eq old key value new
-  Upserts value old (Ok (Some earlier)) new = (own : K) × Replaces eq old key (own, earlier) value new
+  Upserts value old (Ok (Some earlier)) new = (own : K) × Replaces eq old (eq key) (own, earlier) value new
   Upserts value old (Err back) new = (back.value ≡ (key, value)) × (get eq old key ≡ None) × Stays eq old new
 
-  -- the value under the key is lent to a call, and is what that leaves; there is no answer exactly where the key is absent
+module _ {K V H : Type 0} (eq : K → K → Bool) (wants : K → Bool) where
+  -- the pair whose key is wanted is taken out, and none is exactly where no key is wanted
+  abbrev pub Removes : MapView K V H → Option (K × V) → MapView K V H → Type 0
+  Removes old (Some pair) new = Takes eq old wants pair new
+  Removes old None new = (get_by wants old ≡ None) × Stays eq old new
+
+  -- the pair whose key is wanted is gone, and the answer is whether there was one
+  abbrev pub TakesOut : MapView K V H → Bool → MapView K V H → Type 0
+  TakesOut old true new = (pair : K × V) × Takes eq old wants pair new
+  TakesOut old false new = (get_by wants old ≡ None) × Stays eq old new
+
+  -- the pair whose key is wanted is read and then gone; there is no answer exactly where no key is wanted
+  abbrev pub ReadsOut : {R : Type 0} → (Bor K → Bor V → R → Type 0) → MapView K V H → Option R → MapView K V H → Type 0
+  ReadsOut reads old (Some answer) new =
+      (own : Bor K) × (value : Bor V) × reads own value answer × Takes eq old wants (own.now, value.now) new
+  ReadsOut reads old None new = (get_by wants old ≡ None) × Stays eq old new
+
+  -- the value beside the key that is wanted is lent to a call, and is what that leaves; there is no answer exactly where no key is wanted
   abbrev pub Rewrites : {R : Type 0} → (Bor K → MutBor V → R → MutBor V → Type 0) → MapView K V H → Option R → MapView K V H → Type 0
   Rewrites changes old (Some answer) new = (own : Bor K) × (before : MutBor V) × (after : MutBor V) × changes own before answer after
-      × Replaces eq old key (own.now, before.now) after.now new
-  Rewrites changes old None new = (get eq old key ≡ None) × Stays eq old new
+      × Replaces eq old wants (own.now, before.now) after.now new
+  Rewrites changes old None new = (get_by wants old ≡ None) × Stays eq old new
 
--- the key of a set is taken out, and none is exactly where it is absent
-abbrev pub SetRemoves : {K H : Type 0} → (K → K → Bool) → K → MapView K (Unit {0}) H → Option K → MapView K (Unit {0}) H → Type 0
-SetRemoves eq key old (Some own) new = Takes eq old key (own, tt) new
-SetRemoves eq key old None new = (get eq old key ≡ None) × Stays eq old new
+-- the key of a set that is wanted is taken out, and none is exactly where none is wanted
+abbrev pub SetRemoves : {K H : Type 0} → (K → K → Bool) → (K → Bool) → MapView K (Unit {0}) H → Option K → MapView K (Unit {0}) H → Type 0
+SetRemoves eq wants old (Some own) new = Takes eq old wants (own, tt) new
+SetRemoves eq wants old None new = (get_by wants old ≡ None) × Stays eq old new
 
 module _ {K V H : Type 0} (eq : K → K → Bool) where
   -- the minimum is raised by the answer: what was asked for, or nothing where it would pass the maximum

@@ -3,7 +3,7 @@ use Rattle.std.specs.Prelude.{◌≡◌, Bool, Option, None, Result, IfNone, IfS
 use Rattle.std.specs.Borrow.{Fml, LendsSo, LendsSoOk, MutBor, RattleType}
 use Rattle.std.specs.declared.cmp.PartialEq as equals
 use Rattle.bucket_table.specs.declared.key_hash.KeyHash as key_hash
-use Rattle.collections.specs.Maps.{MapView, get}
+use Rattle.collections.specs.Maps.{MapView, get, get_by}
 use Rattle.collections.specs.Changes.{Adds, Replaces, Stays}
 use Rattle.collections.specs.Crowding.{LacksRoom}
 use Rattle.collections.specs.contracts.hash_map.HashMap.{the_row}
@@ -11,16 +11,16 @@ use Rattle.collections.specs.contracts.hash_map.HashMap.{the_row}
 -- the value stands under the key: a pair more, or beside the key that is there
 abbrev pub Puts : {K V H : Type 0} → (K → K → Bool) → MapView K V H → K → V → MapView K V H → Type 0
 Puts {K} {V} {H} eq old key value new =
-    MatchOption (get eq old key) (Adds eq old key value new) (λ before. (own : K) × Replaces eq old key (own, before) value new)
+    MatchOption (get eq old key) (Adds eq old key value new) (λ before. (own : K) × Replaces eq old (eq key) (own, before) value new)
 
 module _ (K V H : RattleType) (equal : equals.Ghosts K.Denot) (hashing : key_hash.Ghosts H.Denot K.Denot)
     (map : MutBor (MapView K.Denot V.Denot H.Denot)) where
-  -- the value under the key is the last one written through the loan; where there is none the key is absent, and all stays
-  abbrev pub LendsValue : K.Denot → Option (MutBor V.Denot) → Fml
-  LendsValue key loan =
+  -- the value beside the key that is wanted is the last one written through the loan; where there is none no key is wanted, and all stays
+  abbrev pub LendsValue : (K.Denot → Bool) → Option (MutBor V.Denot) → Fml
+  LendsValue wants loan =
       LendsSo (the_row K V H (record {}) equal hashing) V map loan
-      (λ new value. IfSome loan (λ lent. (own : K.Denot) × Replaces equal.eq map.now key (own, lent.now) value new))
-      (λ new. IfNone loan ((get equal.eq map.now key ≡ None) × Stays equal.eq map.now new))
+      (λ new value. IfSome loan (λ lent. (own : K.Denot) × Replaces equal.eq map.now wants (own, lent.now) value new))
+      (λ new. IfNone loan ((get_by wants map.now ≡ None) × Stays equal.eq map.now new))
 
   -- a pair more, which has the last value written through the loan; where nothing is lent all stays, and room is lacking
   abbrev pub LendsAdded : {E : Type 0} → K.Denot → Result (MutBor V.Denot) E → Fml

@@ -11,20 +11,20 @@ pub record AreEarlierMarks {K V : Type 0} (old : ArraysView K V) (marks : List (
   pub earlier : HasNoNewMark (marks_of old) marks
   pub all : length old.linked ≡ 0 → marks ≡ marks_of old
 
--- the pair under the key is marked with the epoch, beside earlier marks
-pub record AddsMark {K V : Type 0} (eq : K → K → Bool) (key : K) (epoch : ℕ) (old new : ArraysView K V) : Type 0 where
+-- the pair whose key is wanted is marked with the epoch, beside earlier marks
+pub record AddsMark {K V : Type 0} (wants : K → Bool) (epoch : ℕ) (old new : ArraysView K V) : Type 0 where
   pub pair : K × V
-  pub there : IsThere eq key (pairs_of old) pair
+  pub there : IsThere wants (pairs_of old) pair
   pub earlier : List ((K × V) × ℕ)
   pub kept : AreEarlierMarks old earlier
   pub marks : IsPermutation ((pair, epoch) ∷ earlier) (marks_of new)
 
 module _ {K V : Type 0} where
   -- a pair that is removed is marked, or no array is left, where the minimum is 0; where none is removed, the marks are earlier ones
-  abbrev pub MarksRemoved : (K → K → Bool) → K → ℕ → Bool → ArraysView K V → ArraysView K V → Type 0
-  MarksRemoved eq key epoch true old new =
-      AddsMark eq key epoch old new ⊎ ((new.minimum ≡ 0) × (new.current ++ new.linked ≡ []))
-  MarksRemoved eq key epoch false old new = AreEarlierMarks old (marks_of new)
+  abbrev pub MarksRemoved : (K → Bool) → ℕ → Bool → ArraysView K V → ArraysView K V → Type 0
+  MarksRemoved wants epoch true old new =
+      AddsMark wants epoch old new ⊎ ((new.minimum ≡ 0) × (new.current ++ new.linked ≡ []))
+  MarksRemoved wants epoch false old new = AreEarlierMarks old (marks_of new)
 
   -- where no old array stands, no mark goes whose epoch the generation keeps
   abbrev pub LosesNoKeptMark : (ℕ → Bool) → ArraysView K V → ArraysView K V → Type 0

@@ -15,14 +15,14 @@ use Rattle.bucket_table.specs.declared.hash_table.NotInserted.{NotInserted}
 use Rattle.collections.specs.Changes.{Stays}
 use Rattle.collections.specs.Maps.{map_of}
 
--- the map stays; old pairs may move on with their order of use, and none does where no old array stands; then the pair under
--- the key, if it is there, is touched where it stands, and nothing else changes
-pub record IsTouched {K V H : Type 0} (eq : K → K → Bool) (key : K) (is_there : Bool) (old new : TableView K V H) : Type 0 where
+-- the map stays; old pairs may move on with their order of use, and none does where no old array stands; then the pair
+-- whose key is wanted, if one is there, is touched where it stands, and nothing else changes
+pub record IsTouched {K V H : Type 0} (eq : K → K → Bool) (wants : K → Bool) (is_there : Bool) (old new : TableView K V H) : Type 0 where
   pub map : Stays eq (map_of old) (map_of new)
   pub between : TableView K V H
   pub carried : KeepsArrays old.arrays between.arrays
   pub alone : length old.arrays.linked ≡ 0 → between ≡ old
-  pub touched : ChangesAt eq key (slots_touched true) is_there between new
+  pub touched : ChangesAt wants (slots_touched true) is_there between new
 
 -- a current bucket is another one now and nothing else changes, or its array is the old one now
 abbrev pub ReplacesBucket : {K V : Type 0} → ℕ → BucketView K V → ArraysView K V → ArraysView K V → Type 0
@@ -48,10 +48,10 @@ PutsOrKeeps eq pair hash old (Ok gone) new = PutsInHome eq pair hash gone old ne
 PutsOrKeeps eq pair hash old (Err why) new =
     length old.arrays.linked ≡ 0 → 0 < length old.arrays.current → (new ≡ old.arrays) ⊎ (new.linked ≡ old.arrays.current)
 
--- where no old array stands, the pair under the key leaves its place, if it is there, and nothing else of its array changes, or no
--- array is left, where the minimum is 0
-abbrev pub LeavesPlace : {K V : Type 0} → (K → K → Bool) → K → Bool → ArraysView K V → ArraysView K V → Type 0
-LeavesPlace eq key true old new = length old.linked ≡ 0 → ((new.minimum ≡ 0) × (new.current ++ new.linked ≡ []))
-    ⊎ ((index : ℕ) × (at : Place) × StandsAt eq key old Current index at
+-- where no old array stands, the pair whose key is wanted leaves its place, if one is there, and nothing else of its array changes, or
+-- no array is left, where the minimum is 0
+abbrev pub LeavesPlace : {K V : Type 0} → (K → Bool) → Bool → ArraysView K V → ArraysView K V → Type 0
+LeavesPlace wants true old new = length old.linked ≡ 0 → ((new.minimum ≡ 0) × (new.current ++ new.linked ≡ []))
+    ⊎ ((index : ℕ) × (at : Place) × StandsAt wants old Current index at
     × ReplacesBucket index (slots_without (bucket_at old.current index) at) old new)
-LeavesPlace eq key false old new = length old.linked ≡ 0 → new ≡ old
+LeavesPlace wants false old new = length old.linked ≡ 0 → new ≡ old

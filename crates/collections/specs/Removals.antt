@@ -3,16 +3,16 @@ use Rattle.std.specs.Prelude.{◌≡◌, ◌⊎◌, Bool, true, false, Option, S
 use Rattle.std.specs.Borrow.{Bor}
 use Rattle.bucket_table.specs.Map.LookingUp.{IsThere}
 use Rattle.collections.specs.Changes.{Takes}
-use Rattle.collections.specs.Maps.{MapView, get}
+use Rattle.collections.specs.Maps.{MapView, get_by}
 
-module _ {K V H : Type 0} (eq : K → K → Bool) (key : K) (asks : Bor K → Bor V → Bool → Type 0) where
-  -- a function was asked of the pair under the key, and this is its answer; or the key is absent, and the answer is false
+module _ {K V H : Type 0} (eq : K → K → Bool) (wants : K → Bool) (asks : Bor K → Bor V → Bool → Type 0) where
+  -- a function was asked of the pair whose key is wanted, and this is its answer; or no key is wanted, and the answer is false
   abbrev pub AsksThere : MapView K V H → Bool → Type 0
-  AsksThere map answer = ((get eq map key ≡ None) × (answer ≡ false))
-      ⊎ ((own : Bor K) × (value : Bor V) × IsThere eq key map.entries (own.now, value.now) × asks own value answer)
+  AsksThere map answer = ((get_by wants map ≡ None) × (answer ≡ false))
+      ⊎ ((own : Bor K) × (value : Bor V) × IsThere wants map.entries (own.now, value.now) × asks own value answer)
 
-  -- the pair under the key is taken out where a function answers true of it; else all stays
+  -- the pair whose key is wanted is taken out where a function answers true of it; else all stays
   abbrev pub RemovesIf : MapView K V H → Option (K × V) → MapView K V H → Type 0
   RemovesIf old (Some pair) new =
-      (own : Bor K) × (value : Bor V) × ((own.now, value.now) ≡ pair) × asks own value true × Takes eq old key pair new
+      (own : Bor K) × (value : Bor V) × ((own.now, value.now) ≡ pair) × asks own value true × Takes eq old wants pair new
   RemovesIf old None new = AsksThere old false × (new ≡ old)

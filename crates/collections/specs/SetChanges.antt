@@ -17,4 +17,4 @@ module _ {K H : Type 0} (eq : K → K → Bool) (key : K) where
   abbrev pub SetReplaces : MapView K (Unit {0}) H → Result (Option K) (AllocFailed (K × Option K)) → MapView K (Unit {0}) H → Type 0
   SetReplaces old (Ok None) new = Adds eq old key tt new
   SetReplaces old (Ok (Some own)) new = ReplacesKey eq old (own, tt) key new
-  SetReplaces old (Err back) new = (back.value.0 ≡ key) × SetRemoves eq key old back.value.1 new
+  SetReplaces old (Err back) new = (back.value.0 ≡ key) × SetRemoves eq (eq key) old back.value.1 new

@@ -13,14 +13,14 @@ ghost use Rattle.bucket_table.specs.Map.Counting.{IsHeldBy};
 ghost use Rattle.bucket_table.specs.Rehash.State.{first_tickets};
 ghost use Rattle.bucket_table.specs.Views.ArraysView.{pairs_of};
 ghost use Rattle.collections.specs.Changes.{Puts, Removes};
-ghost use Rattle.collections.specs.Maps.{contains_by, get, get_by, IsEmpty, map_len, map_of};
+ghost use Rattle.collections.specs.Maps.{contains_by, get_by, IsEmpty, map_len, map_of};
 
 mod changing;
 mod printing;
 mod putting;
 
 use crate::default_hash::DefaultHash;
-use crate::key_form::{KeyForm, value_by};
+use crate::key_form::{FormProbe, KeyForm, value_by};
 use crate::room::{Fits, TableRoom};
 use bucket_slots::bucket::CACHE;
 use bucket_slots::lru::DoublyLinkedList;
@@ -183,27 +183,21 @@ impl<K: Eq + Drop, V: Drop, H: KeyHash<K>> HashCache<K, V, H> {
     ghost use Rattle.collections.specs.CacheLoans.{EndsSo};
     ghost use Rattle.collections.specs.Orders.{IsTouched, LeavesPlace, PutsOrKeeps};
 
-    /// Returns the value under a key, whose pair is now the one of its bucket touched last; a pair
-    /// that doesn't stand in an own slot of its bucket isn't listed. `None` where the cache hasn't
-    /// the key.
+    /// Returns the value under a key, or under the keys that a form stands for, whose pair is now the
+    /// one of its bucket touched last; a pair that doesn't stand in an own slot of its bucket isn't
+    /// listed. `None` where the cache hasn't the key.
     ///
     /// `HashTable::touch` says where the incremental rehash happens.
     ///
     /// Never refused. O(1) expected. scc: `HashCache::get_sync`.
     #[inline(always)]
-    pub fn get(&mut self, key: &K) -> Option<&V>
-        ensures value { option_copied result ≡ get K.eq (map_of self.old) key.now }
+    pub fn get<Q: KeyForm<K, H>>(&mut self, key: Q) -> Option<&V>
+        ensures value { option_copied result ≡ get_by (Q.stands_for key) (map_of self.old) }
         ensures* ends { sem 𝓛 (EndsSo K.row V.row H.row K.PartialEq H.KeyHash self.entry
-            (IsTouched K.eq key.now (is_some result) self.old)) }
+            (IsTouched K.eq (Q.stands_for key) (is_some result) self.old)) }
     {
-        self.room.learn();
-        self.table.sound();
-        let _there = self.table.touch(key);
-        self.table.sound();
-        match self.table.peek_entry(key) {
-            Some((_, value)) => Some(value),
-            None => None,
-        }
+        let _there = self.touch(key);
+        self.peek(key)
     }
 
     /// Puts a pair whose key the cache hasn't, as the one of its bucket touched last. Where no own
@@ -231,20 +225,22 @@ impl<K: Eq + Drop, V: Drop, H: KeyHash<K>> HashCache<K, V, H> {
         outcome
     }
 
-    /// Takes out the pair whose key is equal, and returns it; `None` where the cache hasn't the
-    /// key.
+    /// Takes out the pair under a key, or under the keys that a form stands for, and returns it;
+    /// `None` where the cache hasn't the key.
     ///
     /// `HashTable::take` says where shrinking and the incremental rehash happen.
     ///
     /// Never refused. O(1) expected, beside a resize. scc: `HashCache::remove_sync`.
     #[inline(always)]
-    pub fn remove(&mut self, key: &K) -> Option<(K, V)>
-        ensures map { Removes K.eq key.now (map_of self.old) result (map_of self.new) }
-        ensures place { LeavesPlace K.eq key.now (is_some result) self.old.arrays self.new.arrays }
+    pub fn remove<Q: KeyForm<K, H>>(&mut self, key: Q) -> Option<(K, V)>
+        ensures map { Removes K.eq (Q.stands_for key) (map_of self.old) result (map_of self.new) }
+        ensures place { LeavesPlace (Q.stands_for key) (is_some result) self.old.arrays
+            self.new.arrays }
     {
         self.room.learn();
         self.table.sound();
-        let taken = self.table.take(key);
+        let hash = key.hash_by(self.table.hasher());
+        let taken = self.table.take_by(hash, &mut FormProbe::<Q, H>::new(key));
         self.table.sound();
         taken
     }

@@ -25,7 +25,7 @@ mod printing;
 
 use crate::default_hash::DefaultHash;
 use crate::hash_map::NotInserted;
-use crate::key_form::{KeyForm, value_by};
+use crate::key_form::{FormProbe, KeyForm, value_by};
 use crate::room::{Fits, TableRoom};
 use bucket_slots::bucket::{Generation, INDEX};
 use bucket_table::hash_table::{HashTable, MAXIMUM_CAPACITY_LIMIT};
@@ -194,51 +194,55 @@ impl<K: Eq + Drop, V: Drop, H: KeyHash<K>> HashIndex<K, V, H> {
         outcome
     }
 
-    /// Removes the pair whose key is equal, and leaves a tombstone with the generation's epoch: the
-    /// index is without it. Returns whether there was one.
+    /// Removes the pair under a key, or under the keys that a form stands for, and leaves a tombstone
+    /// with the generation's epoch: the index is without it. Returns whether there was one.
     ///
     /// `HashTable::mark` says where shrinking and the incremental rehash happen.
     ///
     /// Never refused. O(1) expected, beside a resize. scc: `HashIndex::remove_sync`.
     #[inline(always)]
-    pub fn remove<G: Generation>(&mut self, key: &K, generation: &G) -> bool
-        ensures map { TakesOut K.eq key.now (map_of self.old) result (map_of self.new) }
+    pub fn remove<Q: KeyForm<K, H>, G: Generation>(&mut self, key: Q, generation: &G) -> bool
+        ensures map { TakesOut K.eq (Q.stands_for key) (map_of self.old) result (map_of self.new) }
         ensures marks { MarksBy (G.epoch_of generation.now) (marks_of self.old.arrays)
             (marks_of self.new.arrays) }
-        ensures marked { MarksRemoved K.eq key.now (G.epoch_of generation.now) result
+        ensures marked { MarksRemoved (Q.stands_for key) (G.epoch_of generation.now) result
             self.old.arrays self.new.arrays }
     {
         let removed = self.remove_with(key, generation, |_own: &K, _value: &V| ());
         removed.is_some()
     }
 
-    /// Hands the pair whose key is equal to a function, leaves a tombstone as `remove` does, and
-    /// returns what the function answers; `None` where the index hasn't the key, and then it isn't
-    /// called.
+    /// Hands the pair under a key, or under the keys that a form stands for, to a function, leaves a
+    /// tombstone as `remove` does, and returns what the function answers; `None` where the index
+    /// hasn't the key, and then it isn't called.
     ///
     /// `HashTable::mark` says where shrinking and the incremental rehash happen.
     ///
     /// Never refused. O(1) expected, beside a resize. Own.
     #[inline(always)]
-    pub fn remove_with<R, F: FnOnce(&K, &V) -> R, G: Generation>(
+    pub fn remove_with<Q: KeyForm<K, H>, R, F: FnOnce(&K, &V) -> R, G: Generation>(
         &mut self,
-        key: &K,
+        key: Q,
         generation: &G,
         reader: F,
     ) -> Option<R>
         requires callable { (own : Bor K) (value : Bor V)
-            → IsThere K.eq key.now (pairs_of self.old.arrays) (own.now, value.now)
+            → IsThere (Q.stands_for key) (pairs_of self.old.arrays) (own.now, value.now)
             → F.pre reader own value }
-        ensures map { ReadsOut K.eq key.now (λ own value answer. F.post reader own value answer)
-            (map_of self.old) result (map_of self.new) }
+        ensures map { ReadsOut K.eq (Q.stands_for key)
+            (λ own value answer. F.post reader own value answer) (map_of self.old) result
+            (map_of self.new) }
         ensures marks { MarksBy (G.epoch_of generation.now) (marks_of self.old.arrays)
             (marks_of self.new.arrays) }
-        ensures marked { MarksRemoved K.eq key.now (G.epoch_of generation.now) (is_some result)
+        ensures marked { MarksRemoved (Q.stands_for key) (G.epoch_of generation.now) (is_some result)
             self.old.arrays self.new.arrays }
     {
         self.room.learn();
         self.table.sound();
-        let outcome = self.table.mark(key, generation, reader);
+        let hash = key.hash_by(self.table.hasher());
+        let outcome = self
+            .table
+            .mark_by(hash, &mut FormProbe::<Q, H>::new(key), generation, reader);
         self.table.sound();
         outcome
     }

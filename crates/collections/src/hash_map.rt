@@ -26,7 +26,7 @@ mod removing;
 
 use crate::default_hash::DefaultHash;
 use crate::homes::{learn_homes, learn_refused};
-use crate::key_form::{KeyForm, value_by};
+use crate::key_form::{FormProbe, KeyForm, value_by};
 use crate::room::{Fits, TableRoom};
 use bucket_slots::bucket::MAP;
 pub use bucket_table::hash_table::NotInserted;
@@ -190,16 +190,18 @@ impl<K: Eq + Drop, V: Drop, H: KeyHash<K>> HashMap<K, V, H> {
         outcome
     }
 
-    /// Takes out the pair whose key is equal, and returns it; `None` where the map hasn't the key.
+    /// Takes out the pair under a key, or under the keys that a form stands for, and returns it;
+    /// `None` where the map hasn't the key.
     ///
     /// Never refused. O(1) expected, beside a resize. scc: `HashMap::remove_sync`.
     #[inline(always)]
-    pub fn remove(&mut self, key: &K) -> Option<(K, V)>
-        ensures { Removes K.eq key.now self.old result self.new }
+    pub fn remove<Q: KeyForm<K, H>>(&mut self, key: Q) -> Option<(K, V)>
+        ensures { Removes K.eq (Q.stands_for key) self.old result self.new }
     {
         self.room.learn();
         self.table.sound();
-        let taken = self.table.take(key);
+        let hash = key.hash_by(self.table.hasher());
+        let taken = self.table.take_by(hash, &mut FormProbe::<Q, H>::new(key));
         self.table.sound();
         taken
     }
@@ -231,20 +233,30 @@ impl<K: Eq + Drop, V: Drop, H: KeyHash<K>> HashMap<K, V, H> {
         Ok(earlier)
     }
 
-    /// Hands the pair whose key is equal to a function, its value for writing, and returns what
-    /// that answers; `None` where the map hasn't the key, and then it isn't called.
+    /// Hands the pair under a key, or under the keys that a form stands for, to a function, its
+    /// value for writing, and returns what that answers; `None` where the map hasn't the key, and
+    /// then it isn't called.
     ///
     /// Never refused. O(1) expected. scc: `HashMap::update_sync`.
     #[inline(always)]
-    pub fn update<R, F: FnOnce(&K, &mut V) -> R>(&mut self, key: &K, change: F) -> Option<R>
+    pub fn update<Q: KeyForm<K, H>, R, F: FnOnce(&K, &mut V) -> R>(
+        &mut self,
+        key: Q,
+        change: F,
+    ) -> Option<R>
         requires callable { (own : Bor K) (value : MutBor V)
-            → IsThere K.eq key.now self.old.entries (own.now, value.now) → F.pre change own value }
-        ensures { Rewrites K.eq key.now (λ own before answer after. F.post change own before answer after)
+            → IsThere (Q.stands_for key) self.old.entries (own.now, value.now)
+            → F.pre change own value }
+        ensures { Rewrites K.eq (Q.stands_for key)
+            (λ own before answer after. F.post change own before answer after)
             self.old result self.new }
     {
         self.room.learn();
         self.table.sound();
-        let outcome = self.table.update(key, change);
+        let hash = key.hash_by(self.table.hasher());
+        let outcome = self
+            .table
+            .update_by(hash, &mut FormProbe::<Q, H>::new(key), change);
         self.table.sound();
         outcome
     }

@@ -209,11 +209,12 @@ impl<K: Eq + Drop, H: KeyHash<K>> HashSet<K, H> {
         self.map.insert(key, ())
     }
 
-    /// Takes out the key that is equal, and returns it; `None` where the set hasn't one.
+    /// Takes out the key that is equal, or that a form stands for, and returns it; `None` where the
+    /// set hasn't one.
     ///
     /// Never refused. O(1) expected, beside a resize. scc: `HashSet::remove_sync`.
-    pub fn remove(&mut self, key: &K) -> Option<K>
-        ensures { SetRemoves K.eq key.now self.old result self.new }
+    pub fn remove<Q: KeyForm<K, H>>(&mut self, key: Q) -> Option<K>
+        ensures { SetRemoves K.eq (Q.stands_for key) self.old result self.new }
     {
         match self.map.remove(key) {
             Some((own, _)) => Some(own),

@@ -5,7 +5,7 @@
 //! nothing is released: its buckets go, and those that aren't made are killed ones from then on.
 //!
 //! Own.
-ghost use Rattle.std.specs.Prelude.{◌≡◌, ℕ, ◌+◌, ◌<◌, ◌≤◌, ◌∷◌, [], List, true, false, IfOk, length, replicate, slice_set};
+ghost use Rattle.std.specs.Prelude.{◌≡◌, ℕ, ◌+◌, ◌<◌, ◌≤◌, ◌^◌, ◌∷◌, [], List, true, false, IfOk, length, replicate, slice_set};
 ghost use Rattle.std.specs.Prelude.{vec_capacity, vec_len};
 ghost use Rattle.std.specs.Borrow.{sem};
 ghost use Rattle.bucket_slots.specs.ArrayRoom.{BucketFits};
@@ -169,6 +169,7 @@ impl<K: Drop, V: Drop, L: LruList, const TYPE: u8> Part<K, V, L, TYPE> {
         requires callable { F.IsAlwaysCallable hash_of.now }
         requires within { offset < length self.old }
         requires shift { shift < 64 }
+        requires bounded { start + len ≤ 2 ^ 64 }
         ensures { (first : ℕ) → start ≡ first + offset
             → SpreadsSome TYPE (λ key answer. F.post hash_of.now key answer) (IsShifted shift) first
             source.old self.old source.new self.new }
@@ -315,6 +316,7 @@ pub(crate) fn spread_in<K: Drop, V: Drop, L: LruList, F: Fn(&K) -> u64, const TY
     requires within { part < vec_len parts.old }
     requires offset { offset < length (part_at parts.old.items part) }
     requires shift { shift < 64 }
+    requires bounded { start + len ≤ 2 ^ 64 }
     ensures { (left : List (BucketView K V)) × (parts.new.items ≡ slice_set parts.old.items part left)
         × ((first : ℕ) → start ≡ first + offset
         → SpreadsSome TYPE (λ key answer. F.post hash_of.now key answer) (IsShifted shift) first

@@ -1,5 +1,5 @@
 //! Calls by key. What changes a pair that is there is never refused: it finds its pair on either
-//! side, so the pairs needn't have moved. Each has a twin by a probe, in `by_probe`.
+//! side, so the pairs needn't have moved. Such a call asks by a probe that wants the key's equals.
 //!
 //! Own.
 ghost use Rattle.std.specs.Prelude.{◌≡◌, ◌≢◌, ◌%◌, ◌<◌, IfSome, IfNone, IsTrue, OnErr, OnOk, Some, is_ok, is_some, length};

@@ -4,66 +4,76 @@ ghost use Rattle.std.specs.Borrow.{Bor, MutBor, sem};
 ghost use Rattle.std.specs.Option.{option_copied_mut};
 ghost use Rattle.collections.specs.CacheWrites.{IsTouchedAndWritten, IsWritten, LeavesBuckets};
 ghost use Rattle.collections.specs.Changes.{Retains, Rewrites};
-ghost use Rattle.collections.specs.Maps.{contains, get, map_of};
+ghost use Rattle.collections.specs.Maps.{contains_by, get_by, map_of};
 ghost use Rattle.collections.specs.Orders.{IsTouched};
 
 use crate::hash_cache::HashCache;
+use crate::key_form::{FormProbe, KeyForm};
 use bucket_table::key_hash::KeyHash;
 
 impl<K: Eq + Drop, V: Drop, H: KeyHash<K>> HashCache<K, V, H> {
     ghost use Rattle.collections.specs.CacheLends.{LendsValue};
 
-    /// Hands the pair whose key is equal to a function, its value for writing, and returns what
-    /// that answers; `None` where the cache hasn't the key. The pair isn't touched: its place in
-    /// the LRU order stays.
+    /// Hands the pair under a key, or under the keys that a form stands for, to a function, its
+    /// value for writing, and returns what that answers; `None` where the cache hasn't the key. The
+    /// pair isn't touched: its place in the LRU order stays.
     ///
     /// Never refused. O(1) expected. Own.
     #[inline(always)]
-    pub fn update<R, F: FnOnce(&K, &mut V) -> R>(&mut self, key: &K, change: F) -> Option<R>
+    pub fn update<Q: KeyForm<K, H>, R, F: FnOnce(&K, &mut V) -> R>(
+        &mut self,
+        key: Q,
+        change: F,
+    ) -> Option<R>
         requires callable { (own : Bor K) (value : MutBor V) → F.pre change own value }
-        ensures map { Rewrites K.eq key.now
+        ensures map { Rewrites K.eq (Q.stands_for key)
             (λ own before answer after. F.post change own before answer after) (map_of self.old)
             result (map_of self.new) }
-        ensures place { IsWritten K.eq key.now (is_some result) self.old self.new }
+        ensures place { IsWritten K.eq (Q.stands_for key) (is_some result) self.old self.new }
     {
         self.room.learn();
         self.table.sound();
-        let outcome = self.table.update(key, change);
+        let hash = key.hash_by(self.table.hasher());
+        let outcome = self
+            .table
+            .update_by(hash, &mut FormProbe::<Q, H>::new(key), change);
         self.table.sound();
         outcome
     }
 
-    /// Lends the value under a key for writing, whose pair is now the one of its bucket touched
-    /// last, as after `get`; `None` where the cache hasn't the key. Once the loan ends, the key has
-    /// the value last written, and each other key what it had.
+    /// Lends the value under a key, or under the keys that a form stands for, for writing, whose pair
+    /// is now the one of its bucket touched last, as after `get`; `None` where the cache hasn't the
+    /// key. Once the loan ends, the key has the value last written, and each other key what it had.
     ///
     /// Never refused. O(1) expected. Own.
     #[inline(always)]
-    pub fn get_mut(&mut self, key: &K) -> Option<&mut V>
+    pub fn get_mut<Q: KeyForm<K, H>>(&mut self, key: Q) -> Option<&mut V>
         ensures* writes_back { sem 𝓛
-            (LendsValue K.row V.row H.row K.PartialEq H.KeyHash self.entry key.now result
-            (IsTouchedAndWritten K.eq key.now)) }
-        ensures value { option_copied_mut result ≡ get K.eq (map_of self.old) key.now }
+            (LendsValue K.row V.row H.row K.PartialEq H.KeyHash self.entry (Q.stands_for key) result
+            (IsTouchedAndWritten K.eq (Q.stands_for key))) }
+        ensures value { option_copied_mut result ≡ get_by (Q.stands_for key) (map_of self.old) }
     {
         let _there = self.touch(key);
         self.peek_mut(key)
     }
 
-    /// Lends the value under a key for writing, and doesn't touch its pair; `None` where the cache
-    /// hasn't the key. Once the loan ends, the key has the value last written, and each other key
-    /// what it had.
+    /// Lends the value under a key, or under the keys that a form stands for, for writing, and
+    /// doesn't touch its pair; `None` where the cache hasn't the key. Once the loan ends, the key has
+    /// the value last written, and each other key what it had.
     ///
     /// Never refused. O(1) expected. Own.
     #[inline(always)]
-    pub fn peek_mut(&mut self, key: &K) -> Option<&mut V>
+    pub fn peek_mut<Q: KeyForm<K, H>>(&mut self, key: Q) -> Option<&mut V>
         ensures* writes_back { sem 𝓛
-            (LendsValue K.row V.row H.row K.PartialEq H.KeyHash self.entry key.now result
-            (IsWritten K.eq key.now)) }
-        ensures value { option_copied_mut result ≡ get K.eq (map_of self.old) key.now }
+            (LendsValue K.row V.row H.row K.PartialEq H.KeyHash self.entry (Q.stands_for key) result
+            (IsWritten K.eq (Q.stands_for key))) }
+        ensures value { option_copied_mut result ≡ get_by (Q.stands_for key) (map_of self.old) }
     {
         self.room.learn();
         self.table.sound();
-        self.table.get_mut(key)
+        let hash = key.hash_by(self.table.hasher());
+        self.table
+            .get_mut_by(hash, &mut FormProbe::<Q, H>::new(key))
     }
 
     /// Asks a function of each pair once, its value lent for writing, and drops each pair for which
@@ -86,17 +96,18 @@ impl<K: Eq + Drop, V: Drop, H: KeyHash<K>> HashCache<K, V, H> {
         self.table.sound();
     }
 
-    /// Makes the pair whose key is equal the one of its bucket touched last. Returns whether there
-    /// is one.
+    /// Makes the pair under the keys that a form stands for the one of its bucket touched last.
+    /// Returns whether there is one.
     #[inline(always)]
-    pub(super) fn touch(&mut self, key: &K) -> bool
-        ensures there { result ≡ contains K.eq (map_of self.old) key.now }
-        ensures touched { IsTouched K.eq key.now result self.old self.new }
+    pub(super) fn touch<Q: KeyForm<K, H>>(&mut self, key: Q) -> bool
+        ensures there { result ≡ contains_by (Q.stands_for key) (map_of self.old) }
+        ensures touched { IsTouched K.eq (Q.stands_for key) result self.old self.new }
         ensures beside { 0 < length self.old.arrays.linked → 0 < length self.old.arrays.current }
     {
         self.room.learn();
         self.table.sound();
-        let is_there = self.table.touch(key);
+        let hash = key.hash_by(self.table.hasher());
+        let is_there = self.table.touch_by(hash, &mut FormProbe::<Q, H>::new(key));
         self.table.sound();
         is_there
     }

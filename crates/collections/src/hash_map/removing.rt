@@ -4,21 +4,26 @@ ghost use Rattle.bucket_table.specs.Map.LookingUp.{IsThere};
 ghost use Rattle.collections.specs.Removals.{AsksThere, RemovesIf};
 
 use crate::hash_map::HashMap;
+use crate::key_form::{FormProbe, KeyForm};
 use bucket_table::key_hash::KeyHash;
 
 impl<K: Eq + Drop, V: Drop, H: KeyHash<K>> HashMap<K, V, H> {
-    /// Asks a function of the pair whose key is equal, and where it answers `true` takes the pair
-    /// out, and returns it. `None` where it answers `false`, or the map hasn't the key, and then it
-    /// isn't called: the map is as it was.
+    /// Asks a function of the pair under a key, or under the keys that a form stands for, and where
+    /// it answers `true` takes the pair out, and returns it. `None` where it answers `false`, or the
+    /// map hasn't the key, and then it isn't called: the map is as it was.
     ///
     /// Never refused. O(1) expected, beside a resize. scc: `HashMap::remove_if_sync`, whose function
     /// may write the value.
-    pub fn remove_if<F: FnOnce(&K, &V) -> bool>(&mut self, key: &K, condition: F) -> Option<(K, V)>
+    pub fn remove_if<Q: KeyForm<K, H>, F: FnOnce(&K, &V) -> bool>(
+        &mut self,
+        key: Q,
+        condition: F,
+    ) -> Option<(K, V)>
         requires callable { (own : Bor K) (value : Bor V)
-            → IsThere K.eq key.now self.old.entries (own.now, value.now)
+            → IsThere (Q.stands_for key) self.old.entries (own.now, value.now)
             → F.pre condition own value }
-        ensures { RemovesIf K.eq key.now (λ own value answer. F.post condition own value answer)
-            self.old result self.new }
+        ensures { RemovesIf K.eq (Q.stands_for key)
+            (λ own value answer. F.post condition own value answer) self.old result self.new }
     {
         self.sound();
         if self.asks(key, condition) {
@@ -28,18 +33,22 @@ impl<K: Eq + Drop, V: Drop, H: KeyHash<K>> HashMap<K, V, H> {
         }
     }
 
-    /// Returns what a function answers on the pair whose key is equal; `false` where the map hasn't
-    /// the key, and then it isn't called.
-    fn asks<F: FnOnce(&K, &V) -> bool>(&self, key: &K, condition: F) -> bool
+    /// Returns what a function answers on the pair under the keys that a form stands for; `false`
+    /// where the map has none, and then it isn't called.
+    fn asks<Q: KeyForm<K, H>, F: FnOnce(&K, &V) -> bool>(&self, key: Q, condition: F) -> bool
         requires callable { (own : Bor K) (value : Bor V)
-            → IsThere K.eq key.now self.now.entries (own.now, value.now)
+            → IsThere (Q.stands_for key) self.now.entries (own.now, value.now)
             → F.pre condition own value }
-        ensures { AsksThere K.eq key.now (λ own value answer. F.post condition own value answer)
-            self.now result }
+        ensures { AsksThere K.eq (Q.stands_for key)
+            (λ own value answer. F.post condition own value answer) self.now result }
     {
         self.room.learn();
         self.table.sound();
-        match self.table.peek_entry(key) {
+        let hash = key.hash_by(self.table.hasher());
+        match self
+            .table
+            .peek_entry_by(hash, &mut FormProbe::<Q, H>::new(key))
+        {
             Some((own, value)) => condition(own, value),
             None => false,
         }

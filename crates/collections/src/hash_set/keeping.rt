@@ -50,11 +50,11 @@ impl<K: Eq + Drop, H: KeyHash<K>> HashSet<K, H> {
         }
     }
 
-    /// Drops the key that is equal, and returns whether the set had one.
+    /// Drops the key that is equal, or that a form stands for, and returns whether the set had one.
     ///
     /// Never refused. O(1) expected, beside a resize. std: `HashSet::remove`.
-    pub fn discard(&mut self, key: &K) -> bool
-        ensures { TakesOut K.eq key.now self.old result self.new }
+    pub fn discard<Q: KeyForm<K, H>>(&mut self, key: Q) -> bool
+        ensures { TakesOut K.eq (Q.stands_for key) self.old result self.new }
     {
         let Some(pair) = self.map.remove(key) else {
             return false;

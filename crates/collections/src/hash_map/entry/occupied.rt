@@ -40,7 +40,7 @@ impl<'a, K: Eq + Drop, V: Drop, H: KeyHash<K>> OccupiedEntry<'a, K, V, H> {
         ensures same_map { self.new.map.ghost_name ≡ self.old.map.ghost_name }
         ensures same_key { self.new.key ≡ self.old.key }
         ensures updated { (own : K) × (before after : MutBor V) × F.post change before result after
-            × Replaces K.eq self.old.map.now self.old.key (own, before.now) after.now
+            × Replaces K.eq self.old.map.now (K.eq self.old.key) (own, before.now) after.now
             self.new.map.now }
     {
         match self.map.get_mut(&self.key) {
@@ -55,8 +55,8 @@ impl<'a, K: Eq + Drop, V: Drop, H: KeyHash<K>> OccupiedEntry<'a, K, V, H> {
     /// Never refused. O(1) expected. std: `OccupiedEntry::into_mut`.
     pub fn into_mut(self) -> Option<&'a mut V>
         ensures* writes_back { sem 𝓛
-            (LendsValue K.row V.row H.row K.PartialEq H.KeyHash self.entry.map self.entry.key
-            result) }
+            (LendsValue K.row V.row H.row K.PartialEq H.KeyHash self.entry.map
+            (K.eq self.entry.key) result) }
         ensures value { option_copied_mut result ≡ get K.eq self.entry.map.now self.entry.key }
         ensures there { IsSome result }
     {
@@ -71,7 +71,8 @@ impl<'a, K: Eq + Drop, V: Drop, H: KeyHash<K>> OccupiedEntry<'a, K, V, H> {
         ensures same_map { self.new.map.ghost_name ≡ self.old.map.ghost_name }
         ensures same_key { self.new.key ≡ self.old.key }
         ensures replaced { (own : K)
-            × Replaces K.eq self.old.map.now self.old.key (own, result) value self.new.map.now }
+            × Replaces K.eq self.old.map.now (K.eq self.old.key) (own, result) value
+            self.new.map.now }
     {
         self.map
             .update(&self.key, |_own, held| mem::replace(held, value))
@@ -82,7 +83,7 @@ impl<'a, K: Eq + Drop, V: Drop, H: KeyHash<K>> OccupiedEntry<'a, K, V, H> {
     ///
     /// Never refused. O(1) expected, beside a resize. std: `OccupiedEntry::remove_entry`.
     pub fn remove_entry(self) -> (K, V)
-        ensures { Takes K.eq self.entry.map.now self.entry.key result self.exit.0.now }
+        ensures { Takes K.eq self.entry.map.now (K.eq self.entry.key) result self.exit.0.now }
     {
         let key = self.key;
         self.map.remove(&key).unwrap()
@@ -93,7 +94,7 @@ impl<'a, K: Eq + Drop, V: Drop, H: KeyHash<K>> OccupiedEntry<'a, K, V, H> {
     /// Never refused. O(1) expected, beside a resize. std: `OccupiedEntry::remove`.
     pub fn remove(self) -> V
         ensures { (own : K)
-            × Takes K.eq self.entry.map.now self.entry.key (own, result) self.exit.0.now }
+            × Takes K.eq self.entry.map.now (K.eq self.entry.key) (own, result) self.exit.0.now }
     {
         let (_own, value) = self.remove_entry();
         value

@@ -15,7 +15,7 @@ spread_in-requires g c =
           c.room.ensures.fits,
           (
             c.requires.callable,
-            (omega (arith, c.self.inside.parts.ok.0, place.within), (place.inside, c.self.invariant.0.offset_in_range)),
+            (omega (arith, c.self.inside.parts.ok.0, place.within), (place.inside, (c.self.invariant.0.offset_in_range, omega arith))),
           ),
         ),
       ),

@@ -1,19 +1,19 @@
-use Rattle.std.proofs.Common.{refl}
-use Rattle.collections.proofs.Touching.{found_touched, missed_touched}
+use Rattle.std.proofs.Common.{refl, ◌∙◌}
+use Rattle.std.specs.Option.{option_copied}
+use Rattle.collections.specs.Maps.{map_of}
+use Rattle.collections.proofs.Staying.{gets_by}
+use Rattle.collections.proofs.Writing.{is_some-copied, shown_before}
 use Rattle.collections.proofs.hash_cache.HashCache.get.Goals as goal
 
-pub returns-in-Some : goal.returns-in-Some
-returns-in-Some g c =
-    let touch = c.touch-there.ensures in
-    let (ends, value) = found_touched g.K.PartialEq.eq g.met.K.Eq.laws c.self.inside.table c.touch-there.new.self
-    c.sound.ensures.one_map.distinct c.sound-2.ensures.one_map.distinct c.args.key.now _ c.touch-there.result
-    (c.in-Some.field-0-0.now, c.in-Some.value.now) touch.map touch.arrays c.in-Some.ensures.found in
-    rw (← c.self.view_is) ((refl, λ _. tt, ends), record { ends = tt; value = value })
-
-pub returns-in-None : goal.returns-in-None
-returns-in-None g c =
-    let touch = c.touch-there.ensures in
-    let (ends, value) = missed_touched g.K.PartialEq.eq g.met.K.Eq.laws c.self.inside.table c.touch-there.new.self
-    c.sound.ensures.one_map.distinct c.sound-2.ensures.one_map.distinct c.args.key.now _ c.touch-there.result touch.map touch.arrays
-    c.in-None.ensures.absent in
-    rw (← c.self.view_is) ((refl, λ _. tt, ends), record { ends = tt; value = value })
+pub returns : goal.returns
+returns g c =
+    let wants = g.Q.KeyForm.stands_for c.args.key in
+    let t = c.args.self.now in
+    let b = c.touch-there.new.self in
+    let tells = c.touch-there.ensures.there in
+    let touched = c.touch-there.ensures.touched in
+    let same = gets_by g.K.PartialEq.eq g.met.K.Eq.laws wants (g.met.Q.KeyForm.alike c.args.key) (map_of t) (map_of b) touched.map in
+    let is = c.peek.ensures in
+    let there = shown_before g.K.PartialEq.eq wants t b b _ tells touched same (option_copied c.peek.result) is
+    ∙ is_some-copied c.peek.result in
+    ((refl, λ _. tt, rw there at touched), record { ends = tt; value = is ∙ same })

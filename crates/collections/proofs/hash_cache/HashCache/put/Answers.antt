@@ -10,5 +10,5 @@ returns-clause-map g c = rw (← c.self.view_is) (puts g.K.PartialEq.eq g.met.K.
 pub returns-clause-home : goal.returns-clause-home
 returns-clause-home g c =
     let puts = c.put-outcome.ensures.arrays in
-    rw (← c.self.view_is) (puts_home g.K.PartialEq.eq _ c.self.inside.table c.put-outcome.new.self g.met.K.Eq.laws
+    rw (← c.self.view_is) (puts_home _ c.self.inside.table c.put-outcome.new.self g.K.PartialEq.eq g.met.K.Eq.laws
     c.sound.ensures.one_map.distinct (c.args.key, c.args.value) c.put-outcome.result puts.answer puts.between puts.found puts.done)

@@ -7,16 +7,18 @@ pub returns-then-touch-clause-map : goal.returns-then-touch-clause-map
 returns-then-touch-clause-map g c =
     let later = c.replace.new.dest in
     let lent = c.peek_mut.follows in
-    let done = lent_touched g.K.PartialEq.eq c.args.key c.args.self.now c.touch.new.self (lent.lender later) _ c.touch.ensures.there
-    c.touch.ensures.touched (Some c.in-Some.held) later c.in-Some.ensures.value (rw c.in-Some.is at (lent.holds later)) in
+    let done = lent_touched g.K.PartialEq.eq (g.K.PartialEq.eq c.args.key) c.args.self.now c.touch.new.self (lent.lender later) _
+    c.touch.ensures.there c.touch.ensures.touched (c.touch.ensures.touched.map.gets c.args.key) (Some c.in-Some.held) later
+    c.in-Some.ensures.value (rw c.in-Some.is at (lent.holds later)) in
     rw (c.replace.ensures.value, ← c.replace.ensures.after) done.0
 
 pub returns-then-touch-clause-order : goal.returns-then-touch-clause-order
 returns-then-touch-clause-order g c =
     let later = c.replace.new.dest in
     let lent = c.peek_mut.follows in
-    let done = lent_touched g.K.PartialEq.eq c.args.key c.args.self.now c.touch.new.self (lent.lender later) _ c.touch.ensures.there
-    c.touch.ensures.touched (Some c.in-Some.held) later c.in-Some.ensures.value (rw c.in-Some.is at (lent.holds later)) in
+    let done = lent_touched g.K.PartialEq.eq (g.K.PartialEq.eq c.args.key) c.args.self.now c.touch.new.self (lent.lender later) _
+    c.touch.ensures.there c.touch.ensures.touched (c.touch.ensures.touched.map.gets c.args.key) (Some c.in-Some.held) later
+    c.in-Some.ensures.value (rw c.in-Some.is at (lent.holds later)) in
     done.1
 
 pub returns-in-Ok-None-clause-map : goal.returns-in-Ok-None-clause-map

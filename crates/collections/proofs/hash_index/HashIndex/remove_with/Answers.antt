@@ -3,14 +3,16 @@ use Rattle.collections.proofs.RemovedMarks.{marks_removed}
 use Rattle.collections.proofs.hash_index.HashIndex.remove_with.Goals as goal
 
 pub returns-clause-map : goal.returns-clause-map
-returns-clause-map g c = rw (← c.self.view_is) (reads_out g.K.PartialEq.eq g.met.K.Eq.laws 79 c.self.inside.table c.mark-outcome.new.self
-    c.sound.ensures.one_map.distinct c.sound-2.ensures.one_map.distinct _ c.args.key.now c.mark-outcome.result c.mark-outcome.ensures.map)
+returns-clause-map g c = rw (← c.self.view_is, ← c.new.ensures.form) (reads_out g.K.PartialEq.eq g.met.K.Eq.laws 79 c.self.inside.table
+    c.mark_by-outcome.new.self c.sound.ensures.one_map.distinct c.sound-2.ensures.one_map.distinct _
+    (g.Q.KeyForm.stands_for c.new.result.form) (g.met.Q.KeyForm.alike c.new.result.form) c.mark_by-outcome.result
+    c.mark_by-outcome.ensures.map)
 
 pub returns-clause-marks : goal.returns-clause-marks
-returns-clause-marks g c = rw (← c.self.view_is) c.mark-outcome.ensures.marks
+returns-clause-marks g c = rw (← c.self.view_is) c.mark_by-outcome.ensures.marks
 
 pub returns-clause-marked : goal.returns-clause-marked
 returns-clause-marked g c =
-    let marks = c.mark-outcome.ensures.arrays in
-    rw (← c.self.view_is) (marks_removed g.K.PartialEq.eq c.args.key.now _ _ c.self.inside.table marks.between c.mark-outcome.new.self
-    marks.prepared _ marks.done)
+    let marks = c.mark_by-outcome.ensures.arrays in
+    rw (← c.self.view_is, ← c.new.ensures.form) (marks_removed (g.Q.KeyForm.stands_for c.new.result.form) _ _ c.self.inside.table
+    marks.between c.mark_by-outcome.new.self marks.prepared _ marks.done)

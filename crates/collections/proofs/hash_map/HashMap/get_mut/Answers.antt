@@ -8,14 +8,16 @@ returns g c =
     let laws = g.met.K.Eq.laws in
     let t = c.self.inside.table in
     let distinct = c.sound.ensures.one_map.distinct in
-    let key = c.args.key.now in
-    let loan = c.get_mut.result in
-    let lent = c.get_mut.follows in
-    rw (← c.self.view_is) (
+    let wants = g.Q.KeyForm.stands_for c.new.result.form in
+    let alike = g.met.Q.KeyForm.alike c.new.result.form in
+    let loan = c.get_mut_by.result in
+    let lent = c.get_mut_by.follows in
+    let found = c.get_mut_by.ensures in
+    rw (← c.self.view_is, ← c.new.ensures.form) (
       (
         refl,
-        λ value. lent_replaces eq laws 83 t distinct key _ loan (lent.lender value) value (lent.holds value),
-        lent_none eq laws 83 t distinct key _ loan lent.lender-at-none lent.holds-at-none c.get_mut.ensures.absent,
+        λ value. lent_replaces eq laws 83 t distinct wants alike _ loan (lent.lender value) value (lent.holds value),
+        lent_none eq laws 83 t distinct wants alike _ loan lent.lender-at-none lent.holds-at-none found.absent,
       ),
-      record { writes_back = tt; value = lent_value eq laws 83 t distinct key loan c.get_mut.ensures.found c.get_mut.ensures.absent },
+      record { writes_back = tt; value = lent_value eq laws 83 t distinct wants alike loan found.found found.absent },
     )

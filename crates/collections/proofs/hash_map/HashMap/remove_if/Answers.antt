@@ -2,6 +2,6 @@ use Rattle.collections.proofs.Removals.{removes_if}
 use Rattle.collections.proofs.hash_map.HashMap.remove_if.Goals as goal
 
 pub returns-then-asks : goal.returns-then-asks
-returns-then-asks g c = removes_if g.K.PartialEq.eq g.met.K.Eq.laws c.args.key.now (goal.F-post g c.args.condition) c.args.self.now
-    c.remove.new.self c.sound.ensures
-    c.remove.result (rw c.if-asks.true at c.asks.ensures) c.remove.ensures
+returns-then-asks g c =
+    removes_if g.K.PartialEq.eq g.met.K.Eq.laws (g.Q.KeyForm.stands_for c.args.key) (g.met.Q.KeyForm.alike c.args.key)
+    (goal.F-post g c.args.condition) c.args.self.now c.remove.new.self c.sound.ensures c.remove.result (rw c.if-asks.true at c.asks.ensures) c.remove.ensures
