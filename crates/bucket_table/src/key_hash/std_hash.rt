@@ -6,7 +6,7 @@ use std::hash::{BuildHasher, Hash};
 
 /// Hashes a key as std's maps do: a builder makes a hasher anew for each key, and the key writes
 /// itself into it. Own.
-#[derive(Drop)]
+#[derive(Clone, Drop)]
 pub struct StdHash<S> {
     /// What makes the hashers.
     pub builder: S,

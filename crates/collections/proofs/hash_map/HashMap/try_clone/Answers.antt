@@ -1,16 +1,14 @@
-use Rattle.std.proofs.Common.{◌≡◌, ◌∙◌, ap}
+use Rattle.std.proofs.Common.{◌≡◌, ◌∙◌, ap, subst, sym}
 use Rattle.std.specs.Prelude.{◌^◌, min}
 use Rattle.collections.specs.Maps.{IsUnique}
-use Rattle.collections.proofs.Copying.{copied}
+use Rattle.collections.proofs.Cloning.{IsCloning, cloned, none_cloned, one_more_cloned}
+use Rattle.collections.proofs.Collecting.{upsert_puts}
 use Rattle.collections.proofs.hash_map.HashMap.try_clone.Goals as goal
 
-pub returns-in-Some : goal.returns-in-Some
-returns-in-Some g c =
+pub loop-pair-init : goal.loop-pair-init
+loop-pair-init g c =
     let own = c.args.self.now in
-    let made = c.with_capacity in
-    let unique : IsUnique g.K.PartialEq.eq own = rw (← c.self.view_is) c.sound.ensures.one_map.distinct in
-    let hasher : made.result.hasher ≡ own.hasher = rw (← c.self.view_is) (made.ensures.hasher ∙ c.hasher.ensures) in
-    let minimum : made.result.minimum ≡ min own.minimum (2 ^ 63) =
-    rw (← c.self.view_is) (made.ensures.minimum ∙ ap (λ m. min m (2 ^ 63)) c.minimum_capacity-minimum.ensures) in
-    copied g.K.PartialEq.eq g.met.K.Eq.laws own made.result c.in-Some.own unique made.ensures.empty hasher minimum
-    made.ensures.maximum (rw c.in-Some.is at c.pour.ensures)
+    let first = c.with_capacity-copy in
+    subst (λ left. IsCloning g.K.PartialEq.eq g.K.Clone.is_clone g.V.Clone.is_clone own first.result first.result left)
+    (sym c.iter-pairs.ensures.rest)
+    (none_cloned g.K.PartialEq.eq g.K.Clone.is_clone g.V.Clone.is_clone own first.result first.ensures.empty)

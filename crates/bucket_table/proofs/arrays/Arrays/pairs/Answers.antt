@@ -1,7 +1,7 @@
 use Rattle.bucket_table.proofs.Words.{ArraysView, ap, sym, ◌++◌, ◌∙◌}
 use Rattle.bucket_table.specs.Map.LookingUp.{pairs_in_all}
 use Rattle.bucket_table.proofs.Map.LookUps.{pairs_are}
-use Rattle.bucket_table.proofs.arrays.pairs.Arrays+K+V+L+MAP.pairs.Goals as goal
+use Rattle.bucket_table.proofs.arrays.Arrays.pairs.Goals as goal
 
 pub returns : goal.returns
 returns g c =
