@@ -31,7 +31,7 @@ mod unit;
 use crate::tickets::Tickets;
 use bucket_slots::bucket_array::BucketArray;
 use bucket_slots::lru::LruList;
-pub use pairs::{ArraysPairs, TablePairs};
+pub use pairs::{ArraysPairs, Kind, TablePairs};
 pub use peeking::peek_arrays;
 pub(crate) use searching::Spot;
 pub use side::Side;

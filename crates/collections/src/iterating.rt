@@ -1,14 +1,14 @@
 //! The iterators over the keys and the values of each collection: a table's pairs, of which one
 //! half is given.
 //!
-//! As of the table's own iterator, the last parameter stands for a loan of a bucket. No iterator
-//! has a `size_hint`: the pairs would have to be counted first, bucket by bucket, and no clause
-//! bounds their number by 2^64. `len` of the collection counts them where a caller wants to.
+//! The last parameter is as that of the table's own iterator: a loan of the kind of table, which no
+//! field holds. No iterator has a `size_hint`: the pairs would have to be counted first, bucket by
+//! bucket, and no clause bounds their number by 2^64. `len` of the collection counts them where a
+//! caller wants to.
 ghost use Rattle.std.specs.Iterator.{YieldsFirstRef, item_count};
 
-use bucket_slots::bucket::Bucket;
 use bucket_slots::lru::LruList;
-use bucket_table::hash_table::{ArraysPairs, TablePairs};
+use bucket_table::hash_table::{ArraysPairs, Kind};
 use std::iter::FusedIterator;
 use std::marker::Model;
 
@@ -19,14 +19,7 @@ pub struct PairKeys<'a, K, V, L: LruList, const TYPE: u8, R> {
 }
 
 /// The keys of a table that are left.
-pub type TableKeys<'a, K, V, L, const TYPE: u8> = PairKeys<
-    'a,
-    K,
-    V,
-    L,
-    TYPE,
-    &'a Bucket<K, V, L, TYPE>,
->;
+pub type TableKeys<'a, K, V, L, const TYPE: u8> = PairKeys<'a, K, V, L, TYPE, &'a Kind<TYPE>>;
 
 impl<'a, K, V, L: LruList, const TYPE: u8, R> Model for PairKeys<'a, K, V, L, TYPE, R> {
     ghost use Rattle.std.specs.Prelude.{List};
@@ -38,7 +31,7 @@ impl<'a, K, V, L: LruList, const TYPE: u8, R> Model for PairKeys<'a, K, V, L, TY
 }
 
 impl<'a, K, V, L: LruList, const TYPE: u8> Iterator
-    for PairKeys<'a, K, V, L, TYPE, &'a Bucket<K, V, L, TYPE>> {
+    for PairKeys<'a, K, V, L, TYPE, &'a Kind<TYPE>> {
     type Item = &'a K;
 
     ghost next_gives = { YieldsFirstRef (λ left. left) };
@@ -54,7 +47,7 @@ impl<'a, K, V, L: LruList, const TYPE: u8> Iterator
 }
 
 impl<'a, K, V, L: LruList, const TYPE: u8> FusedIterator
-    for PairKeys<'a, K, V, L, TYPE, &'a Bucket<K, V, L, TYPE>> {}
+    for PairKeys<'a, K, V, L, TYPE, &'a Kind<TYPE>> {}
 
 /// The values of a collection that are left.
 #[derive(Drop)]
@@ -63,14 +56,7 @@ pub struct PairValues<'a, K, V, L: LruList, const TYPE: u8, R> {
 }
 
 /// The values of a table that are left.
-pub type TableValues<'a, K, V, L, const TYPE: u8> = PairValues<
-    'a,
-    K,
-    V,
-    L,
-    TYPE,
-    &'a Bucket<K, V, L, TYPE>,
->;
+pub type TableValues<'a, K, V, L, const TYPE: u8> = PairValues<'a, K, V, L, TYPE, &'a Kind<TYPE>>;
 
 impl<'a, K, V, L: LruList, const TYPE: u8, R> Model for PairValues<'a, K, V, L, TYPE, R> {
     ghost use Rattle.std.specs.Prelude.{List};
@@ -82,7 +68,7 @@ impl<'a, K, V, L: LruList, const TYPE: u8, R> Model for PairValues<'a, K, V, L, 
 }
 
 impl<'a, K, V, L: LruList, const TYPE: u8> Iterator
-    for PairValues<'a, K, V, L, TYPE, &'a Bucket<K, V, L, TYPE>> {
+    for PairValues<'a, K, V, L, TYPE, &'a Kind<TYPE>> {
     type Item = &'a V;
 
     ghost next_gives = { YieldsFirstRef (λ left. left) };
@@ -98,4 +84,4 @@ impl<'a, K, V, L: LruList, const TYPE: u8> Iterator
 }
 
 impl<'a, K, V, L: LruList, const TYPE: u8> FusedIterator
-    for PairValues<'a, K, V, L, TYPE, &'a Bucket<K, V, L, TYPE>> {}
+    for PairValues<'a, K, V, L, TYPE, &'a Kind<TYPE>> {}

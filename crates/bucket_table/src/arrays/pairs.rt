@@ -1,7 +1,7 @@
 //! An iterator over the pairs of the arrays, in the order of their view.
 //!
-//! The types end in a parameter that stands for a loan of a bucket, as `PairsOf` has it. No field
-//! holds it. Where `next` is, it tells the borrow checker that TYPE lives as long as the loan.
+//! The types end in a parameter that no field holds. Where `next` is, it is a loan of the kind of
+//! table, and tells the borrow checker that TYPE lives as long as the buckets.
 ghost use Rattle.std.specs.Prelude.{◌≡◌, ◌∷◌, MatchOption};
 ghost use Rattle.std.specs.Iterator.{YieldsFirstBy, item_count};
 ghost use Rattle.bucket_slots.specs.Walking.{IsEnd, pairs_ahead};
@@ -15,6 +15,9 @@ use bucket_slots::bucket_array::BucketArray;
 use bucket_slots::lru::LruList;
 use std::iter::FusedIterator;
 use std::marker::{Model, PhantomData};
+
+/// Stands for a kind of table in a type.
+pub struct Kind<const TYPE: u8> {}
 
 /// The pairs of an array that are left: of a bucket past a place, and of the buckets from an index
 /// on.
@@ -37,7 +40,7 @@ impl<'a, K, V, L: LruList, const TYPE: u8, R> Model for ArrayPairs<'a, K, V, L, 
 }
 
 impl<'a, K, V, L: LruList, const TYPE: u8> Iterator
-    for ArrayPairs<'a, K, V, L, TYPE, &'a Bucket<K, V, L, TYPE>> {
+    for ArrayPairs<'a, K, V, L, TYPE, &'a Kind<TYPE>> {
     type Item = (&'a K, &'a V);
 
     ghost next_gives = { YieldsFirstBy (λ pair. (pair.0.now, pair.1.now)) (λ left. left) };
@@ -102,14 +105,7 @@ pub struct ArraysPairs<'a, K, V, L: LruList, const TYPE: u8, R> {
 }
 
 /// The pairs of a table that are left.
-pub type TablePairs<'a, K, V, L, const TYPE: u8> = ArraysPairs<
-    'a,
-    K,
-    V,
-    L,
-    TYPE,
-    &'a Bucket<K, V, L, TYPE>,
->;
+pub type TablePairs<'a, K, V, L, const TYPE: u8> = ArraysPairs<'a, K, V, L, TYPE, &'a Kind<TYPE>>;
 
 impl<'a, K, V, L: LruList, const TYPE: u8, R> Model for ArraysPairs<'a, K, V, L, TYPE, R> {
     ghost use Rattle.std.specs.Prelude.{List, ◌++◌};
@@ -121,7 +117,7 @@ impl<'a, K, V, L: LruList, const TYPE: u8, R> Model for ArraysPairs<'a, K, V, L,
 }
 
 impl<'a, K, V, L: LruList, const TYPE: u8> Iterator
-    for ArraysPairs<'a, K, V, L, TYPE, &'a Bucket<K, V, L, TYPE>> {
+    for ArraysPairs<'a, K, V, L, TYPE, &'a Kind<TYPE>> {
     type Item = (&'a K, &'a V);
 
     ghost next_gives = { YieldsFirstBy (λ pair. (pair.0.now, pair.1.now)) (λ left. left) };
@@ -137,11 +133,11 @@ impl<'a, K, V, L: LruList, const TYPE: u8> Iterator
 }
 
 impl<'a, K, V, L: LruList, const TYPE: u8> FusedIterator
-    for ArraysPairs<'a, K, V, L, TYPE, &'a Bucket<K, V, L, TYPE>> {}
+    for ArraysPairs<'a, K, V, L, TYPE, &'a Kind<TYPE>> {}
 
 /// Gives the next pair of an array.
 fn next_of<'a, K, V, L: LruList, const TYPE: u8>(
-    pairs: &mut Option<ArrayPairs<'a, K, V, L, TYPE, &'a Bucket<K, V, L, TYPE>>>,
+    pairs: &mut Option<ArrayPairs<'a, K, V, L, TYPE, &'a Kind<TYPE>>>,
 ) -> Option<(&'a K, &'a V)>
     ensures { YieldsFirstBy (λ pair. (pair.0.now, pair.1.now)) left_of pairs.old result pairs.new }
 {
@@ -154,7 +150,7 @@ fn next_of<'a, K, V, L: LruList, const TYPE: u8>(
 /// Begins with the pairs of an array.
 fn pairs_on<'a, K, V, L: LruList, const TYPE: u8>(
     side: &'a Option<BucketArray<K, V, L, TYPE>>,
-) -> Option<ArrayPairs<'a, K, V, L, TYPE, &'a Bucket<K, V, L, TYPE>>>
+) -> Option<ArrayPairs<'a, K, V, L, TYPE, &'a Kind<TYPE>>>
     ensures { left_of result ≡ pairs_in_all (list_of side.now) }
 {
     match side {

@@ -43,7 +43,7 @@ impl<K: Eq + Hash + Drop, V: Drop> HashMap<K, V, DefaultHash> {
         alloc: Global,
         pairs: [(K, V); N],
     ) -> Result<Self, AllocError>
-        ensures { IfOk result (λ map. PutsAll K.eq (empty_map map.hasher) pairs.entry map) }
+        ensures { IfOk result (λ map. PutsAll K.eq (empty_map map.hasher) pairs map) }
     {
         match Vec::from_array(alloc, pairs) {
             Ok(all) => HashMap::from_iter(alloc, all),

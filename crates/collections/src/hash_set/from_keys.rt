@@ -40,7 +40,7 @@ impl<K: Eq + Hash + Drop> HashSet<K, DefaultHash> {
     ///
     /// O(keys) expected. std: `From<[K; N]>` of `HashSet`.
     pub fn from_array<const N: usize>(alloc: Global, keys: [K; N]) -> Result<Self, AllocError>
-        ensures { IfOk result (λ set. PutsKeys K.eq (empty_map set.hasher) keys.entry set) }
+        ensures { IfOk result (λ set. PutsKeys K.eq (empty_map set.hasher) keys set) }
     {
         match Vec::from_array(alloc, keys) {
             Ok(all) => HashSet::from_iter(alloc, all),

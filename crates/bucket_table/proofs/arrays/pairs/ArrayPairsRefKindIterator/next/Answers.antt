@@ -1,6 +1,6 @@
 use Rattle.bucket_table.proofs.Words.{ap, arith, length, rules, ◌∙◌}
 use Rattle.bucket_table.proofs.Walking.Left.{gives_first, gives_none, gives_on}
-use Rattle.bucket_table.proofs.arrays.pairs.ArrayPairsRefBucketIterator.next.Goals as goal
+use Rattle.bucket_table.proofs.arrays.pairs.ArrayPairsRefKindIterator.next.Goals as goal
 
 pub buckets-preserved : goal.buckets-preserved
 buckets-preserved g c =

@@ -1,6 +1,6 @@
 use Rattle.bucket_table.proofs.Words.{length, ◌-◌, ◌≡◌}
 use Rattle.bucket_table.specs.Walking.Left.{pairs_left}
-use Rattle.bucket_table.proofs.arrays.pairs.ArrayPairsRefBucketIterator.next.Given as goal
+use Rattle.bucket_table.proofs.arrays.pairs.ArrayPairsRefKindIterator.next.Given as goal
 
 -- what is left is what was left
 abbrev pub invariant-buckets : goal.invariant-buckets
