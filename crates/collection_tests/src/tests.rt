@@ -3,12 +3,15 @@
 mod by_chance;
 mod cache_changes;
 mod caches;
+mod clones;
 mod copies;
 mod drops;
 mod entries;
 mod equality;
+mod extending;
 mod forms;
 mod indexes;
+mod iterating;
 mod maps;
 mod marks;
 mod printing;

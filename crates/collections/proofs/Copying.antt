@@ -25,7 +25,7 @@ module _ {K V H : Type 0} (eq : K → K → Bool) where
   abbrev PutsPair : K × V → MapView K V H → MapView K V H → Type 0
   PutsPair pair old new = get eq old pair.0 ≡ None → Adds eq old pair.0 pair.1 new
 
-  abbrev PutsOn : Option (MapView K V H) → K × V → Option (MapView K V H) → Type 0
+  abbrev pub PutsOn : Option (MapView K V H) → K × V → Option (MapView K V H) → Type 0
   PutsOn before pair after = BecomesOrGoes (PutsPair pair) before after
 
   -- no map comes where there is none
@@ -79,7 +79,7 @@ module _ {K V H : Type 0} (eq : K → K → Bool) where
             )
 
     -- so they are all that a map has that was empty
-    stays_filled : (pairs : List (K × V)) (old new : MapView K V H) → IsDistinct eq (keys_of pairs) → IsEmpty old
+    pub stays_filled : (pairs : List (K × V)) (old new : MapView K V H) → IsDistinct eq (keys_of pairs) → IsEmpty old
         → FoldsTo PutsOn (Some old) pairs (Some new) → Stays eq (record old { entries = pairs }) new
     stays_filled pairs old new distinct empty went =
         let all = filled pairs [] old new (rw (append-nil pairs) distinct) (rw empty (IsPermutation-refl [])) went in

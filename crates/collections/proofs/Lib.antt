@@ -19,6 +19,7 @@ pub mod Upserting
 pub mod Adding
 pub mod Entries
 mod Copying
+mod Cloning
 pub mod StoredKeys
 pub mod Collecting
 pub mod SetCollecting

@@ -15,6 +15,7 @@ pub mod Orders
 pub mod Marks
 pub mod Entries
 pub mod Copies
+pub mod Clones
 pub mod StoredKeys
 pub mod Removals
 pub mod SetChanges

@@ -21,6 +21,7 @@ ghost use Rattle.collections.specs.Changes.{Inserts, ReadsOut, Reserves, Stays, 
 ghost use Rattle.collections.specs.Maps.{contains_by, get_by, IsEmpty, map_len, map_of};
 ghost use Rattle.collections.specs.Marks.{LosesNoKeptMark, MarksRemoved};
 
+mod iterating;
 mod printing;
 
 use crate::default_hash::DefaultHash;
@@ -30,6 +31,7 @@ use crate::room::{Fits, TableRoom};
 use bucket_slots::bucket::{Generation, INDEX};
 use bucket_table::hash_table::{HashTable, MAXIMUM_CAPACITY_LIMIT};
 use bucket_table::key_hash::{KeyHash, StdHash};
+pub use iterating::{Iter, Keys, Values};
 use std::alloc::Global;
 use std::hash::{BuildHasherDefault, Hash, RandomState};
 use std::marker::Model;

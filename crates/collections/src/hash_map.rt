@@ -18,7 +18,9 @@ ghost use Rattle.collections.specs.Changes.{Stays, Upserts};
 
 mod cloning;
 mod collecting;
+mod copying;
 pub mod entry;
+mod from_pairs;
 mod iterating;
 mod lending;
 mod reading;

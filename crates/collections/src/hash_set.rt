@@ -14,7 +14,9 @@ ghost use Rattle.collections.specs.Keys.{CallsEachKey, CallsIf, RetainsKeys};
 ghost use Rattle.collections.specs.Keys.{keys_of_either, keys_of_one, keys_outside, keys_within};
 ghost use Rattle.collections.specs.Maps.{contains, contains_by, IsEmpty, map_len};
 
+mod cloning;
 mod collecting;
+mod from_keys;
 mod iterating;
 mod keeping;
 mod relating;
@@ -275,11 +277,11 @@ impl<K: Eq + Copy, H: KeyHash<K> + Copy> HashSet<K, H> {
     ///
     /// Allocation failure.
     ///
-    /// O(slots) expected. scc: `HashSet::clone`.
-    pub fn try_clone(&self, alloc: Global) -> Result<Self, AllocError>
+    /// O(slots) expected. Own: `try_clone` of what can be copied, which says more.
+    pub fn try_copy(&self, alloc: Global) -> Result<Self, AllocError>
         ensures { IfOk result (λ copy. IsCopy K.eq self.now copy) }
     {
-        let map = self.map.try_clone(alloc)?;
+        let map = self.map.try_copy(alloc)?;
         Ok(HashSet { map })
     }
 }

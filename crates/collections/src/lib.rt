@@ -14,6 +14,7 @@ pub mod hash_index;
 pub mod hash_map;
 pub mod hash_set;
 mod homes;
+mod iterating;
 pub mod key_form;
 mod room;
 

@@ -1,5 +1,7 @@
 //! A collection and what it must have, and calls on both. Pairs come and go like tides, so that the
 //! collection gets longer arrays and shorter ones again.
+mod extending;
+
 use crate::chance::Chance;
 use crate::collection::Collection;
 use collections::hash_map::NotInserted;
@@ -155,7 +157,7 @@ impl Course {
         }
     }
 
-    /// Clears the collection, or raises the minimum or gives it back.
+    /// Clears the collection, raises the minimum, extends it, or gives the minimum back.
     fn call_on_all(&mut self) -> bool {
         match self.chance.next() % 8 {
             0 => {
@@ -163,6 +165,7 @@ impl Course {
                 self.collection.clear()
             }
             1..=3 => self.collection.reserve(256),
+            4..=5 => self.extend(),
             _ => {
                 self.collection.shrink_to_fit();
                 true

@@ -1,5 +1,6 @@
 //! Stories of a cache of numbers: which pair goes for another, and what is seen of the cache then.
 //! And values that are counted: each is dropped once.
+use super::iterating::gone_over;
 use super::{At, check_same, steps};
 use Step::*;
 use bucket_table::script::ScriptHash;
@@ -156,6 +157,7 @@ fn look(rt: &impl Abort, cache: &Cache, at: At, step: &Step) {
         Len(len) => {
             check_same(rt, (cache.len(), cache.is_empty()), (*len, *len == 0), at);
             check_same(rt, met(cache), Some(*len), (at, "for_each"));
+            check_same(rt, gone_over!(cache), Some(*len), (at, "iter"));
         }
         Slots(slots) => check_same(rt, cache.capacity(), *slots, at),
         _ => check_same(rt, true, false, (at, "no step")),

@@ -1,4 +1,5 @@
 //! Stories of an index of numbers: what each call answers, and which pairs are seen then.
+use super::iterating::gone_over;
 use super::{At, check_same, steps};
 use Step::*;
 use bucket_table::script::{FixedGeneration, ScriptHash};
@@ -179,6 +180,7 @@ fn look(rt: &impl Abort, index: &Index, at: At, step: &Step) {
         Len(len) => {
             check_same(rt, (index.len(), index.is_empty()), (*len, *len == 0), at);
             check_same(rt, met(index), Some(*len), (at, "for_each"));
+            check_same(rt, gone_over!(index), Some(*len), (at, "iter"));
         }
         Slots(slots) => check_same(rt, index.capacity(), *slots, at),
         _ => check_same(rt, true, false, (at, "no step")),

@@ -1,5 +1,6 @@
 //! Stories of a map of numbers: what each call answers, how many slots there are then, and which
 //! pairs `for_each` hands over and the iterators give.
+use super::iterating::gone_over;
 use super::{At, check_same, steps};
 use Step::*;
 use bucket_table::script::ScriptHash;
@@ -259,7 +260,7 @@ fn look(rt: &impl Abort, map: &Map, at: At, step: &Step) {
         Len(len) => {
             check_same(rt, (map.len(), map.is_empty()), (*len, *len == 0), at);
             check_same(rt, met(map), Some(*len), (at, "for_each"));
-            check_same(rt, gone_over(map), Some(*len), (at, "iter"));
+            check_same(rt, gone_over!(map), Some(*len), (at, "iter"));
         }
         Slots(slots) => check_same(rt, map.capacity(), *slots, at),
         _ => check_same(rt, true, false, (at, "no step")),
@@ -282,24 +283,6 @@ fn met(map: &Map) -> Option<usize> {
     };
     map.for_each(&mut meet);
     came
-}
-
-// How many pairs the iterators give: those that `for_each` hands over, in its order, or else none.
-fn gone_over(map: &Map) -> Option<usize> {
-    let (mut pairs, mut keys, mut values) = (map.into_iter(), map.keys(), map.values());
-    let mut came = Some(0usize);
-    map.for_each(&mut |key: &u64, value: &u64| {
-        let next = (pairs.next(), keys.next().copied(), values.next().copied());
-        came = match (came, next) {
-            (Some(before), (Some((own, held)), Some(key_met), Some(value_met)))
-                if (own, held) == (key, value) && (key_met, value_met) == (*key, *value) => {
-                Some(before.saturating_add(1))
-            }
-            _ => None,
-        };
-    });
-    let is_over = pairs.next().is_none() && keys.next().is_none() && values.next().is_none();
-    if is_over { came } else { None }
 }
 
 #[test]

@@ -1,73 +1,41 @@
-//! A copy of a map, which can be refused.
-ghost use Rattle.std.specs.Prelude.{◌≡◌, IfOk, None};
-ghost use Rattle.std.specs.List.{FoldsTo};
-ghost use Rattle.collections.specs.Changes.{Adds};
-ghost use Rattle.collections.specs.Copies.{BecomesOrGoes, IsCopy};
-ghost use Rattle.collections.specs.Maps.{get};
+//! A copy of a map whose keys and values are clones, which can be refused.
+ghost use Rattle.std.specs.Prelude.{IfOk};
+ghost use Rattle.collections.specs.Clones.{IsClone};
 
 use crate::hash_map::HashMap;
 use bucket_table::key_hash::KeyHash;
 use std::alloc::{AllocError, Global};
 
-/// What takes pairs.
-trait TakesPairs<K, V> {
-    /// What a pair makes of it.
-    ghost Takes: { Self → K → V → Self → Type 0 };
-
-    /// Takes a pair.
-    fn take_pair(&mut self, key: K, value: V)
-        ensures { Self.Takes self.old key value self.new };
-}
-
-/// A copy that isn't whole yet; `None` once a pair was refused.
-impl<K: Eq + Copy, V: Copy, H: KeyHash<K> + Copy> TakesPairs<K, V> for Option<HashMap<K, V, H>> {
-    ghost Takes = { λ before key value after. BecomesOrGoes (λ old new. get K.eq old key ≡ None
-        → Adds K.eq old key value new) before after };
-
-    fn take_pair(&mut self, key: K, value: V) {
-        let refused = match self {
-            Some(own) => own.upsert(key, value).is_err(),
-            None => false,
-        };
-        if refused {
-            *self = None;
-        }
-    }
-}
-
-impl<K: Eq + Copy, V: Copy, H: KeyHash<K> + Copy> HashMap<K, V, H> {
-    /// Returns another map with the same pairs, hasher and capacities, whose memory comes from the
-    /// allocator.
+impl<K: Eq + Clone, V: Clone, H: KeyHash<K> + Clone> HashMap<K, V, H> {
+    /// Returns another map with clones of the pairs and of the hasher, and the same capacities,
+    /// whose slots come from the allocator.
     ///
     /// # Errors
     ///
-    /// Allocation failure.
+    /// Allocation failure; or a key's clone isn't equal to it, since no law of `Clone` says that it
+    /// is.
     ///
     /// O(slots) expected. scc: `HashMap::clone`.
     pub fn try_clone(&self, alloc: Global) -> Result<Self, AllocError>
-        ensures { IfOk result (λ copy. IsCopy K.eq self.now copy) }
+        ensures { IfOk result (λ copy. IsClone K.eq K.is_clone V.is_clone H.is_clone self.now copy) }
     {
         self.room.learn();
-        self.table.sound();
         let minimum = self.table.minimum_capacity();
-        let mut copy = Some(HashMap::with_capacity(alloc, *self.table.hasher(), minimum));
-        self.pour(&mut copy);
-        match copy {
-            Some(own) => Ok(own),
-            None => Err(AllocError),
+        let hasher = self.table.hasher().clone()?;
+        let mut copy = HashMap::with_capacity(alloc, hasher, minimum);
+        let mut pairs = self.iter();
+        while let Some(pair) = pairs.next() {
+            let (key, value) = pair;
+            let own = key.clone()?;
+            if !key.eq(&own) {
+                return Err(AllocError);
+            }
+            let held = value.clone()?;
+            match copy.upsert(own, held) {
+                Ok(earlier) => drop(earlier),
+                Err(_) => return Err(AllocError),
+            }
         }
-    }
-
-    /// Hands each pair over once, in the order of the view.
-    fn pour<M: TakesPairs<K, V>>(&self, into: &mut M)
-        ensures { FoldsTo (λ before pair after. M.Takes before pair.0 pair.1 after) into.old
-            self.now.entries into.new }
-    {
-        let mut put = |key: &K, value: &V|
-            ensures { M.Takes into.entry.now key.now value.now into.exit.now }
-        {
-            into.take_pair(*key, *value);
-        };
-        self.for_each(&mut put);
+        Ok(copy)
     }
 }

@@ -1,16 +1,36 @@
-use Rattle.std.proofs.Common.{◌≡◌, ◌∙◌, ap}
+use Rattle.std.proofs.Common.{◌≡◌, ◌∙◌, ap, subst, sym, true}
 use Rattle.std.specs.Prelude.{◌^◌, min}
-use Rattle.collections.specs.Maps.{IsUnique}
-use Rattle.collections.proofs.Copying.{copied}
+use Rattle.collections.proofs.Cloning.{IsCloning, cloned, none_cloned, one_more_cloned}
+use Rattle.collections.proofs.Collecting.{upsert_puts}
 use Rattle.collections.proofs.hash_map.HashMap.try_clone.Goals as goal
 
-pub returns-in-Some : goal.returns-in-Some
-returns-in-Some g c =
+pub loop-pair-init : goal.loop-pair-init
+loop-pair-init g c =
     let own = c.args.self.now in
-    let made = c.with_capacity in
-    let unique : IsUnique g.K.PartialEq.eq own = rw (← c.self.view_is) c.sound.ensures.one_map.distinct in
-    let hasher : made.result.hasher ≡ own.hasher = rw (← c.self.view_is) (made.ensures.hasher ∙ c.hasher.ensures) in
+    let first = c.with_capacity-copy in
+    subst (λ left. IsCloning g.K.PartialEq.eq g.K.Clone.is_clone g.V.Clone.is_clone own first.result first.result left)
+    (sym c.iter-pairs.ensures.rest)
+    (none_cloned g.K.PartialEq.eq g.K.Clone.is_clone g.V.Clone.is_clone own first.result first.ensures.empty)
+
+pub loop-pair-preserved : goal.loop-pair-preserved
+loop-pair-preserved g c =
+    let eq = g.K.PartialEq.eq in
+    let pair = c.in-Some.pair in
+    let mid = c.loop-pair.copy in
+    let new = c.upsert.new.self in
+    let same : eq pair.0.now c.in_ok-own.own ≡ true = sym c.eq.ensures ∙ c.if-not-eq.false in
+    let put = upsert_puts eq mid new c.in_ok-own.own c.in_ok-held.held c.in-Ok.earlier c.in-Ok.ensures.map in
+    one_more_cloned eq g.K.Clone.is_clone g.V.Clone.is_clone c.args.self.now c.with_capacity-copy.result mid new c.loop-pair.pairs
+    c.next.new.self (pair.0.now, pair.1.now) (c.in_ok-own.own, c.in_ok-held.held) c.loop-pair.invariant c.in-Some.ensures.steps
+    ((c.in_ok-own.ensures.cases, same), c.in_ok-held.ensures.cases) put
+
+pub returns : goal.returns
+returns g c =
+    let own = c.args.self.now in
+    let made = c.with_capacity-copy in
+    let hasher : c.hasher.result.now ≡ own.hasher = rw (← c.self.view_is) c.hasher.ensures in
     let minimum : made.result.minimum ≡ min own.minimum (2 ^ 63) =
     rw (← c.self.view_is) (made.ensures.minimum ∙ ap (λ m. min m (2 ^ 63)) c.minimum_capacity-minimum.ensures) in
-    copied g.K.PartialEq.eq g.met.K.Eq.laws own made.result c.in-Some.own unique made.ensures.empty hasher minimum
-    made.ensures.maximum (rw c.in-Some.is at c.pour.ensures)
+    cloned g.K.PartialEq.eq g.K.Clone.is_clone g.V.Clone.is_clone g.met.K.Eq.laws g.H.Clone.is_clone own made.result c.loop-pair.copy
+    c.loop-pair.pairs c.hasher.result.now c.in_ok-hasher.hasher c.loop-pair.invariant c.in_default.ensures.steps.0
+    c.iter-pairs.ensures.unique made.ensures.empty hasher c.in_ok-hasher.ensures.cases made.ensures.hasher minimum made.ensures.maximum

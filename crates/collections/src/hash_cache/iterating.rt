@@ -1,0 +1,76 @@
+//! The iterators over a cache's pairs, its keys and its values. None touches a pair.
+ghost use Rattle.std.specs.Prelude.{◌≡◌};
+ghost use Rattle.std.specs.Map.{keys_of, values_of};
+ghost use Rattle.bucket_table.specs.Views.ArraysView.{pairs_of};
+ghost use Rattle.collections.specs.Maps.{IsUnique, map_of};
+
+use crate::hash_cache::HashCache;
+use crate::iterating::{PairKeys, PairValues, TableKeys, TableValues};
+use bucket_slots::bucket::CACHE;
+use bucket_slots::lru::DoublyLinkedList;
+use bucket_table::hash_table::TablePairs;
+use bucket_table::key_hash::KeyHash;
+use std::iter::IntoIterator;
+
+/// The pairs of a cache that are left, each as `(&K, &V)`.
+pub type Iter<'a, K, V> = TablePairs<'a, K, V, DoublyLinkedList, CACHE>;
+
+/// The keys of a cache that are left.
+pub type Keys<'a, K, V> = TableKeys<'a, K, V, DoublyLinkedList, CACHE>;
+
+/// The values of a cache that are left.
+pub type Values<'a, K, V> = TableValues<'a, K, V, DoublyLinkedList, CACHE>;
+
+impl<K: Eq, V, H: KeyHash<K>> HashCache<K, V, H> {
+    /// Lends the pairs one after the other, in the order of the view, which isn't the LRU order.
+    /// None is touched.
+    ///
+    /// Takes no memory. O(1); all steps together O(slots, and the square of the number of blocks of
+    /// each chain). Own.
+    pub fn iter(&self) -> Iter<'_, K, V>
+        ensures rest { result ≡ pairs_of self.now.arrays }
+        ensures unique { IsUnique K.eq (map_of self.now) }
+    {
+        self.room.learn();
+        self.table.sound();
+        self.table.pairs()
+    }
+
+    /// Lends the keys one after the other, in the order of the view. None is touched.
+    ///
+    /// Takes no memory. As `iter`. Own.
+    pub fn keys(&self) -> Keys<'_, K, V>
+        ensures rest { result ≡ keys_of (pairs_of self.now.arrays) }
+        ensures unique { IsUnique K.eq (map_of self.now) }
+    {
+        self.room.learn();
+        self.table.sound();
+        PairKeys {
+            inner: self.table.pairs(),
+        }
+    }
+
+    /// Lends the values one after the other, in the order of the view. No pair is touched.
+    ///
+    /// Takes no memory. As `iter`. Own.
+    pub fn values(&self) -> Values<'_, K, V>
+        ensures { result ≡ values_of (pairs_of self.now.arrays) }
+    {
+        self.room.learn();
+        PairValues {
+            inner: self.table.pairs(),
+        }
+    }
+}
+
+impl<'a, K: Eq, V, H: KeyHash<K>> IntoIterator for &'a HashCache<K, V, H> {
+    type Item = (&'a K, &'a V);
+
+    type IntoIter = Iter<'a, K, V>;
+
+    ghost into_iter_gives = { λ cache pairs. pairs ≡ pairs_of cache.now.arrays };
+
+    fn into_iter(self) -> Iter<'a, K, V> {
+        self.iter()
+    }
+}

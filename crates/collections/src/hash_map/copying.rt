@@ -1,0 +1,73 @@
+//! A copy of a map whose keys, values and hasher are copied, which can be refused.
+ghost use Rattle.std.specs.Prelude.{◌≡◌, IfOk, None};
+ghost use Rattle.std.specs.List.{FoldsTo};
+ghost use Rattle.collections.specs.Changes.{Adds};
+ghost use Rattle.collections.specs.Copies.{BecomesOrGoes, IsCopy};
+ghost use Rattle.collections.specs.Maps.{get};
+
+use crate::hash_map::HashMap;
+use bucket_table::key_hash::KeyHash;
+use std::alloc::{AllocError, Global};
+
+/// What takes pairs.
+trait TakesPairs<K, V> {
+    /// What a pair makes of it.
+    ghost Takes: { Self → K → V → Self → Type 0 };
+
+    /// Takes a pair.
+    fn take_pair(&mut self, key: K, value: V)
+        ensures { Self.Takes self.old key value self.new };
+}
+
+/// A copy that isn't whole yet; `None` once a pair was refused.
+impl<K: Eq + Copy, V: Copy, H: KeyHash<K> + Copy> TakesPairs<K, V> for Option<HashMap<K, V, H>> {
+    ghost Takes = { λ before key value after. BecomesOrGoes (λ old new. get K.eq old key ≡ None
+        → Adds K.eq old key value new) before after };
+
+    fn take_pair(&mut self, key: K, value: V) {
+        let refused = match self {
+            Some(own) => own.upsert(key, value).is_err(),
+            None => false,
+        };
+        if refused {
+            *self = None;
+        }
+    }
+}
+
+impl<K: Eq + Copy, V: Copy, H: KeyHash<K> + Copy> HashMap<K, V, H> {
+    /// Returns another map with the same pairs, hasher and capacities, whose memory comes from the
+    /// allocator.
+    ///
+    /// # Errors
+    ///
+    /// Allocation failure.
+    ///
+    /// O(slots) expected. Own: `try_clone` of what can be copied, which says more.
+    pub fn try_copy(&self, alloc: Global) -> Result<Self, AllocError>
+        ensures { IfOk result (λ copy. IsCopy K.eq self.now copy) }
+    {
+        self.room.learn();
+        self.table.sound();
+        let minimum = self.table.minimum_capacity();
+        let mut copy = Some(HashMap::with_capacity(alloc, *self.table.hasher(), minimum));
+        self.pour(&mut copy);
+        match copy {
+            Some(own) => Ok(own),
+            None => Err(AllocError),
+        }
+    }
+
+    /// Hands each pair over once, in the order of the view.
+    fn pour<M: TakesPairs<K, V>>(&self, into: &mut M)
+        ensures { FoldsTo (λ before pair after. M.Takes before pair.0 pair.1 after) into.old
+            self.now.entries into.new }
+    {
+        let mut put = |key: &K, value: &V|
+            ensures { M.Takes into.entry.now key.now value.now into.exit.now }
+        {
+            into.take_pair(*key, *value);
+        };
+        self.for_each(&mut put);
+    }
+}

@@ -1,0 +1,28 @@
+//! A copy of a set whose keys are clones, which can be refused.
+ghost use Rattle.std.specs.Prelude.{◌≡◌, IfOk};
+ghost use Rattle.collections.specs.Clones.{IsClone};
+
+use crate::hash_set::HashSet;
+use bucket_table::key_hash::KeyHash;
+use std::alloc::{AllocError, Global};
+
+impl<K: Eq + Clone, H: KeyHash<K> + Clone> HashSet<K, H> {
+    /// Returns another set with clones of the keys and of the hasher, and the same capacities,
+    /// whose slots come from the allocator.
+    ///
+    /// # Errors
+    ///
+    /// Allocation failure; or a key's clone isn't equal to it, since no law of `Clone` says that it
+    /// is.
+    ///
+    /// O(slots) expected. scc: `HashSet::clone`.
+    pub fn try_clone(&self, alloc: Global) -> Result<Self, AllocError>
+        ensures { IfOk result (λ copy. IsClone K.eq K.is_clone (λ own held. held ≡ own) H.is_clone
+            self.now copy) }
+    {
+        match self.map.try_clone(alloc) {
+            Ok(map) => Ok(HashSet { map }),
+            Err(refused) => Err(refused),
+        }
+    }
+}

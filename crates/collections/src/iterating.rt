@@ -1,0 +1,87 @@
+//! The iterators over the keys and the values of each collection: a table's pairs, of which one
+//! half is given.
+//!
+//! The last parameter is as that of the table's own iterator: a loan of the kind of table, which no
+//! field holds. No iterator has a `size_hint`: the pairs would have to be counted first, bucket by
+//! bucket, and no clause bounds their number by 2^64. `len` of the collection counts them where a
+//! caller wants to.
+ghost use Rattle.std.specs.Iterator.{YieldsFirstRef, item_count};
+
+use bucket_slots::lru::LruList;
+use bucket_table::hash_table::{ArraysPairs, Kind};
+use std::iter::FusedIterator;
+use std::marker::Model;
+
+/// The keys of a collection that are left.
+#[derive(Drop)]
+pub struct PairKeys<'a, K, V, L: LruList, const TYPE: u8, R> {
+    pub(crate) inner: ArraysPairs<'a, K, V, L, TYPE, R>,
+}
+
+/// The keys of a table that are left.
+pub type TableKeys<'a, K, V, L, const TYPE: u8> = PairKeys<'a, K, V, L, TYPE, &'a Kind<TYPE>>;
+
+impl<'a, K, V, L: LruList, const TYPE: u8, R> Model for PairKeys<'a, K, V, L, TYPE, R> {
+    ghost use Rattle.std.specs.Prelude.{List};
+    ghost use Rattle.std.specs.Map.{keys_of};
+
+    ghost Value = { List K };
+
+    ghost view = { λ keys. keys_of keys.inner };
+}
+
+impl<'a, K, V, L: LruList, const TYPE: u8> Iterator
+    for PairKeys<'a, K, V, L, TYPE, &'a Kind<TYPE>> {
+    type Item = &'a K;
+
+    ghost next_gives = { YieldsFirstRef (λ left. left) };
+
+    ghost remaining = { item_count (λ left. left) };
+
+    fn next(&mut self) -> Option<&'a K> {
+        match self.inner.next() {
+            Some((key, _)) => Some(key),
+            None => None,
+        }
+    }
+}
+
+impl<'a, K, V, L: LruList, const TYPE: u8> FusedIterator
+    for PairKeys<'a, K, V, L, TYPE, &'a Kind<TYPE>> {}
+
+/// The values of a collection that are left.
+#[derive(Drop)]
+pub struct PairValues<'a, K, V, L: LruList, const TYPE: u8, R> {
+    pub(crate) inner: ArraysPairs<'a, K, V, L, TYPE, R>,
+}
+
+/// The values of a table that are left.
+pub type TableValues<'a, K, V, L, const TYPE: u8> = PairValues<'a, K, V, L, TYPE, &'a Kind<TYPE>>;
+
+impl<'a, K, V, L: LruList, const TYPE: u8, R> Model for PairValues<'a, K, V, L, TYPE, R> {
+    ghost use Rattle.std.specs.Prelude.{List};
+    ghost use Rattle.std.specs.Map.{values_of};
+
+    ghost Value = { List V };
+
+    ghost view = { λ values. values_of values.inner };
+}
+
+impl<'a, K, V, L: LruList, const TYPE: u8> Iterator
+    for PairValues<'a, K, V, L, TYPE, &'a Kind<TYPE>> {
+    type Item = &'a V;
+
+    ghost next_gives = { YieldsFirstRef (λ left. left) };
+
+    ghost remaining = { item_count (λ left. left) };
+
+    fn next(&mut self) -> Option<&'a V> {
+        match self.inner.next() {
+            Some((_, value)) => Some(value),
+            None => None,
+        }
+    }
+}
+
+impl<'a, K, V, L: LruList, const TYPE: u8> FusedIterator
+    for PairValues<'a, K, V, L, TYPE, &'a Kind<TYPE>> {}

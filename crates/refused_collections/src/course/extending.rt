@@ -1,0 +1,57 @@
+//! Pairs that come to a map or to a set in one call, some of them there already.
+use super::{Course, GATHERING, key_of};
+use crate::collection::Collection;
+
+// How many pairs come: those of the first numbers.
+const MANY: u64 = 64;
+
+impl Course {
+    /// Extends a map or a set, and returns whether it answers rightly.
+    pub(super) fn extend(&mut self) -> bool {
+        match &mut self.collection {
+            Collection::Map(map) => {
+                let mut pairs = (0..MANY).map(|number: u64| (key_of(number), number));
+                let refused = match map.try_extend(&mut pairs) {
+                    Ok(()) => None,
+                    Err(back) => Some(back.value.0),
+                };
+                let left = pairs.next().map(|pair: (u64, u64)| pair.0);
+                self.extends(true, refused, left)
+            }
+            Collection::Set(set) => {
+                let mut keys = (0..MANY).map(key_of);
+                let refused = match set.try_extend(&mut keys) {
+                    Ok(()) => None,
+                    Err(back) => Some(back.value),
+                };
+                let left = keys.next();
+                self.extends(false, refused, left)
+            }
+            _ => true,
+        }
+    }
+
+    /// Notes what came before the key that was refused, and returns whether that one wasn't there,
+    /// and the first that is left comes after it.
+    fn extends(&mut self, has_values: bool, refused: Option<u64>, left: Option<u64>) -> bool {
+        let end = match refused {
+            Some(key) => key.wrapping_mul(GATHERING),
+            None => MANY,
+        };
+        for number in 0..end.min(MANY) {
+            let value = number.wrapping_mul(u64::from(has_values));
+            if self.beside.value(number).is_none() {
+                self.puts(number, value);
+            } else {
+                self.beside.set(number, Some(value));
+            }
+        }
+        if refused.is_none() {
+            return left.is_none();
+        }
+        self.refused = self.refused.saturating_add(1);
+        let next = end.saturating_add(1);
+        let wanted = (next < MANY).then_some(key_of(next));
+        end < MANY && self.beside.value(end).is_none() && left == wanted
+    }
+}
