@@ -123,8 +123,8 @@ uint32_t bucket_map_contains(bucket_handle *handle, uint64_t key);
 /* Removes a pair, and writes its value out. OK, ABSENT. */
 uint32_t bucket_map_remove(bucket_handle *handle, uint64_t key, uint64_t *value);
 
-/* ---- A map from byte strings to uint64_t: the same. The map keeps copies of its keys. A call that changes it copies its key, and
- * may answer NO_MEMORY for that, a removal too; get and contains copy nothing. ---- */
+/* ---- A map from byte strings to uint64_t: the same. The map keeps copies of its keys. insert and upsert copy their key, and may
+ * answer NO_MEMORY for that; no other call copies it. ---- */
 
 uint32_t bucket_text_map_new(bucket_handle *handle, size_t capacity, bucket_seed seed);
 uint32_t bucket_text_map_insert(bucket_handle *handle, const uint8_t *key, size_t len, uint64_t value);
@@ -163,8 +163,8 @@ uint32_t bucket_cache_contains(bucket_handle *handle, uint64_t key);
 /* Removes a pair, and writes its value out. OK, ABSENT. */
 uint32_t bucket_cache_remove(bucket_handle *handle, uint64_t key, uint64_t *value);
 
-/* ---- A cache from byte strings to uint64_t: the same. put, upsert, get and remove copy their key, and may answer NO_MEMORY for
- * that; peek and contains copy nothing. Of a key that goes, `gone_len` is the length, and `gone` gets as many bytes as it has room
+/* ---- A cache from byte strings to uint64_t: the same. put and upsert copy their key, and may answer NO_MEMORY for that; no other
+ * call copies it. Of a key that goes, `gone_len` is the length, and `gone` gets as many bytes as it has room
  * for. ---- */
 
 uint32_t bucket_text_cache_new(bucket_handle *handle, size_t minimum, size_t maximum, bucket_seed seed);

@@ -299,10 +299,7 @@ class TextSet(_Texts, _Table, MutableSet):
 
     def discard(self, key):
         """Removes a key, and returns whether it was there."""
-        code = _lib.bucket_text_set_remove(self._ref, *self._key(key))
-        if code == NO_MEMORY:
-            raise MemoryError
-        return code == OK
+        return _lib.bucket_text_set_remove(self._ref, *self._key(key)) == OK
 
     def __repr__(self):
         return f"TextSet({set(self)!r})"

@@ -185,17 +185,6 @@ pub(crate) fn found(call: impl FnOnce(&mut u64) -> u32) -> Option<u64> {
     (call(&mut value) == OK).then_some(value)
 }
 
-/// The same of a call that copies its key.
-#[inline(always)]
-pub(crate) fn found_by_copy(call: impl FnOnce(&mut u64) -> u32) -> Result<Option<u64>, NoMemory> {
-    let mut value = 0;
-    match call(&mut value) {
-        OK => Ok(Some(value)),
-        ABSENT => Ok(None),
-        _ => Err(NoMemory),
-    }
-}
-
 /// The answer of an insertion.
 #[inline(always)]
 pub(crate) fn inserted(code: u32) -> Result<(), NotInserted> {

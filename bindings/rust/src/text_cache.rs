@@ -70,11 +70,10 @@ impl TextCache {
         pairs.into_iter().try_for_each(|(key, value)| self.upsert(key, value).map(|_| ()))
     }
 
-    /// The value at a key, whose pair is touched. Copies the key, and fails if there is no memory for
-    /// that.
-    pub fn get(&mut self, key: impl AsRef<[u8]>) -> Result<Option<u64>, NoMemory> {
+    /// The value at a key, whose pair is touched.
+    pub fn get(&mut self, key: impl AsRef<[u8]>) -> Option<u64> {
         let key = key.as_ref();
-        found_by_copy(|value| unsafe { bucket_text_cache_get(self.handle.raw(), key.as_ptr(), key.len(), value) })
+        found(|value| unsafe { bucket_text_cache_get(self.handle.raw(), key.as_ptr(), key.len(), value) })
     }
 
     /// The value at a key; no pair is touched.
@@ -89,10 +88,10 @@ impl TextCache {
         unsafe { bucket_text_cache_contains(self.handle.raw(), key.as_ptr(), key.len()) == OK }
     }
 
-    /// Removes a pair, and returns its value. Copies the key, and fails if there is no memory for that.
-    pub fn remove(&mut self, key: impl AsRef<[u8]>) -> Result<Option<u64>, NoMemory> {
+    /// Removes a pair, and returns its value.
+    pub fn remove(&mut self, key: impl AsRef<[u8]>) -> Option<u64> {
         let key = key.as_ref();
-        found_by_copy(|value| unsafe { bucket_text_cache_remove(self.handle.raw(), key.as_ptr(), key.len(), value) })
+        found(|value| unsafe { bucket_text_cache_remove(self.handle.raw(), key.as_ptr(), key.len(), value) })
     }
 
     /// How many pairs. O(slots / 32).

@@ -63,11 +63,11 @@ impl TextMap {
         unsafe { bucket_text_map_contains(self.0.raw(), key.as_ptr(), key.len()) == OK }
     }
 
-    /// Removes a pair, and returns its value. Copies the key, and fails if there is no memory for that.
+    /// Removes a pair, and returns its value.
     #[inline]
-    pub fn remove(&mut self, key: impl AsRef<[u8]>) -> Result<Option<u64>, NoMemory> {
+    pub fn remove(&mut self, key: impl AsRef<[u8]>) -> Option<u64> {
         let key = key.as_ref();
-        found_by_copy(|value| unsafe { bucket_text_map_remove(self.0.raw(), key.as_ptr(), key.len(), value) })
+        found(|value| unsafe { bucket_text_map_remove(self.0.raw(), key.as_ptr(), key.len(), value) })
     }
 
     /// How many pairs. O(slots / 32).

@@ -53,16 +53,11 @@ impl TextSet {
         unsafe { bucket_text_set_contains(self.0.raw(), key.as_ptr(), key.len()) == OK }
     }
 
-    /// Removes a key, and returns whether it was there. Copies the key, and fails if there is no memory
-    /// for that.
+    /// Removes a key, and returns whether it was there.
     #[inline]
-    pub fn remove(&mut self, key: impl AsRef<[u8]>) -> Result<bool, NoMemory> {
+    pub fn remove(&mut self, key: impl AsRef<[u8]>) -> bool {
         let key = key.as_ref();
-        match unsafe { bucket_text_set_remove(self.0.raw(), key.as_ptr(), key.len()) } {
-            OK => Ok(true),
-            ABSENT => Ok(false),
-            _ => Err(NoMemory),
-        }
+        unsafe { bucket_text_set_remove(self.0.raw(), key.as_ptr(), key.len()) == OK }
     }
 
     /// How many keys. O(slots / 32).

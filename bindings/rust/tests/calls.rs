@@ -77,7 +77,7 @@ fn a_text_map_answers_as_std_does() {
                     std.entry(key).or_insert(value);
                 }
                 1 => assert_eq!(map.upsert(&key, value), Ok(std.insert(key, value))),
-                2 | 3 => assert_eq!(map.remove(&key), Ok(std.remove(&key))),
+                2 | 3 => assert_eq!(map.remove(&key), std.remove(&key)),
                 4 => assert_eq!(map.get(&key), std.get(&key).copied()),
                 _ => assert_eq!(map.contains_key(&key), std.contains_key(&key)),
             }
@@ -98,7 +98,7 @@ fn a_set_answers_as_std_does() {
         let key = chance.text();
         match chance.below(3) {
             0 => assert_eq!(set.insert(&key), Ok(std.insert(key))),
-            1 => assert_eq!(set.remove(&key), Ok(std.remove(&key))),
+            1 => assert_eq!(set.remove(&key), std.remove(&key)),
             _ => assert_eq!(set.contains(&key), std.contains(&key)),
         }
     }
@@ -164,8 +164,8 @@ fn a_text_cache_is_a_map_less_what_it_evicts() {
                     evicted += 1;
                 }
             },
-            3 => assert_eq!(cache.remove(&key), Ok(std.remove(&key))),
-            4 => assert_eq!(cache.get(&key), Ok(std.get(&key).copied())),
+            3 => assert_eq!(cache.remove(&key), std.remove(&key)),
+            4 => assert_eq!(cache.get(&key), std.get(&key).copied()),
             _ => assert_eq!((cache.peek(&key), cache.contains_key(&key)), (std.get(&key).copied(), std.contains_key(&key))),
         }
     }

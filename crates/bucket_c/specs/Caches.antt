@@ -6,7 +6,7 @@ use Rattle.bucket_table.specs.Views.ArraysView.{TableView}
 use Rattle.bucket_table.specs.declared.hash_table.NotInserted.{NotInserted}
 use Rattle.collections.specs.CacheUpserts.{UpsertsInOrder, UpsertsOrEvicts}
 use Rattle.collections.specs.Changes.{Puts, Removes}
-use Rattle.collections.specs.Maps.{contains, get, map_of}
+use Rattle.collections.specs.Maps.{contains_by, get_by, map_of}
 use Rattle.collections.specs.Orders.{IsTouched, LeavesPlace, PutsOrKeeps}
 use Rattle.collections.specs.declared.hash_cache.putting.Upserted.{Upserted}
 use Rattle.collections.specs.declared.hash_cache.putting.Upserted.TheVariants.{Added, Evicted, Replaced}
@@ -37,19 +37,20 @@ abbrev pub key_copied : List ℕ → ℕ → Option Text → List ℕ × ℕ
 key_copied bytes len None = (bytes, len)
 key_copied bytes len (Some key) = (take (length bytes) key.items ++ drop (length key.items) bytes, length key.items)
 
-module _ {K V H : Type 0} (eq : K → K → Bool) (key : K) where
-  -- the pair is touched, and its value is written out, if it is there
+module _ {K V H : Type 0} (eq : K → K → Bool) (test : K → Bool) where
+  -- the pair under a key that passes a test is touched, and its value is written out, if it is there
   abbrev pub GetsOne : V → TableView K V H → ℕ → TableView K V H → V → Type 0
   GetsOne before old code new after =
-      (code ≡ found_code (get eq (map_of old) key)) × IsTouched eq (eq key) (contains eq (map_of old) key) old new
-      × (after ≡ unwrap_or (get eq (map_of old) key) before)
+      (code ≡ found_code (get_by test (map_of old))) × IsTouched eq test (contains_by test (map_of old)) old new
+      × (after ≡ unwrap_or (get_by test (map_of old)) before)
 
   -- the value that goes is written out, if there is one
   abbrev pub TakesOne : V → TableView K V H → ℕ → TableView K V H → V → Type 0
   TakesOne before old code new after =
-      (answer : Option (K × V)) × (code ≡ found_code answer) × Removes eq (eq key) (map_of old) answer (map_of new)
-      × LeavesPlace (eq key) (is_some answer) old.arrays new.arrays × (after ≡ unwrap_or (get eq (map_of old) key) before)
+      (answer : Option (K × V)) × (code ≡ found_code answer) × Removes eq test (map_of old) answer (map_of new)
+      × LeavesPlace test (is_some answer) old.arrays new.arrays × (after ≡ unwrap_or (get_by test (map_of old)) before)
 
+module _ {K V H : Type 0} (eq : K → K → Bool) (key : K) where
   module _ (hash : ℕ) (value : V) where
     -- the pair that goes for it is written out, if there is one: its key in some form, and its value
     abbrev pub PutsOne : {Out : Type 0} → (Option K → Out) → V → TableView K V H → ℕ → TableView K V H → Out → V → Type 0

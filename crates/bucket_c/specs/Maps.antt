@@ -23,11 +23,12 @@ module _ {K H : Type 0} (eq : K → K → Bool) (key : K) where
       (answer : Result (Option V) (AllocFailed (K × V))) × (code ≡ upsert_code answer) × Upserts eq key value old answer new
       × (after ≡ unwrap_or (get eq old key) before)
 
-  -- the value that goes is written out, if there is one
+module _ {K H : Type 0} (eq : K → K → Bool) (test : K → Bool) where
+  -- the value that goes under a key that passes a test is written out, if there is one
   abbrev pub RemovesOne : {V : Type 0} → V → MapView K V H → ℕ → MapView K V H → V → Type 0
   RemovesOne {V} before old code new after =
-      (answer : Option (K × V)) × (code ≡ found_code answer) × Removes eq (eq key) old answer new
-      × (after ≡ unwrap_or (get eq old key) before)
+      (answer : Option (K × V)) × (code ≡ found_code answer) × Removes eq test old answer new
+      × (after ≡ unwrap_or (get_by test old) before)
 
   abbrev pub RemovesKey : MapView K (Unit {0}) H → ℕ → MapView K (Unit {0}) H → Type 0
-  RemovesKey old code new = (answer : Option K) × (code ≡ found_code answer) × SetRemoves eq (eq key) old answer new
+  RemovesKey old code new = (answer : Option K) × (code ≡ found_code answer) × SetRemoves eq test old answer new

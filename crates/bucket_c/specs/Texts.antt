@@ -1,9 +1,9 @@
 -- What the calls do that copy their key before they hand it on.
 use Rattle.std.specs.Prelude.{ℕ, ◌≡◌, ◌⊎◌, List}
-use Rattle.bucket_c.specs.Caches.{GetsOne, PutsOne, TakesOne, UpsertsInto, key_copied}
+use Rattle.bucket_c.specs.Caches.{PutsOne, UpsertsInto, key_copied}
 use Rattle.bucket_c.specs.Codes.{no_memory}
 use Rattle.bucket_c.specs.Hashing.{text_hash}
-use Rattle.bucket_c.specs.Maps.{InsertsOne, RemovesKey, RemovesOne, UpsertsOne}
+use Rattle.bucket_c.specs.Maps.{InsertsOne, UpsertsOne}
 use Rattle.bucket_c.specs.Tables.{Caches, Maps, Text, text_eq}
 
 -- it does this by a copy of the key, or no memory was to be had for one, and all stays
@@ -18,23 +18,8 @@ module _ (key : List ℕ) where
   UpsertsText value before old code new after =
       ByCopy key (λ own. UpsertsOne text_eq own value before old code new after) ((code ≡ no_memory) × (new ≡ old) × (after ≡ before))
 
-  unfoldable pub RemovesText : ℕ → Maps Text ℕ → ℕ → Maps Text ℕ → ℕ → Type 0
-  RemovesText before old code new after =
-      ByCopy key (λ own. RemovesOne text_eq own before old code new after) ((code ≡ no_memory) × (new ≡ old) × (after ≡ before))
-
   unfoldable pub InsertsKeyText : Maps Text (Unit {0}) → ℕ → Maps Text (Unit {0}) → Type 0
   InsertsKeyText old code new = ByCopy key (λ own. InsertsOne text_eq own tt old code new) ((code ≡ no_memory) × (new ≡ old))
-
-  unfoldable pub RemovesKeyText : Maps Text (Unit {0}) → ℕ → Maps Text (Unit {0}) → Type 0
-  RemovesKeyText old code new = ByCopy key (λ own. RemovesKey text_eq own old code new) ((code ≡ no_memory) × (new ≡ old))
-
-  unfoldable pub GetsText : ℕ → Caches Text → ℕ → Caches Text → ℕ → Type 0
-  GetsText before old code new after =
-      ByCopy key (λ own. GetsOne text_eq own before old code new after) ((code ≡ no_memory) × (new ≡ old) × (after ≡ before))
-
-  unfoldable pub TakesText : ℕ → Caches Text → ℕ → Caches Text → ℕ → Type 0
-  TakesText before old code new after =
-      ByCopy key (λ own. TakesOne text_eq own before old code new after) ((code ≡ no_memory) × (new ≡ old) × (after ≡ before))
 
   -- the bytes and the length of a key that goes are written out too
   unfoldable pub PutsText : ℕ → List ℕ → ℕ → ℕ → Caches Text → ℕ → Caches Text → List ℕ → ℕ → ℕ → Type 0

@@ -13,14 +13,14 @@ use bucket_table::key_hash::KeyHash;
 use collections::hash_cache::{HashCache, NotInserted, Upserted};
 use collections::key_form::KeyForm;
 
-/// Writes out the value under a key, and touches its pair.
+/// Writes out the value under the keys that a form stands for, and touches its pair.
 #[inline(always)]
-pub fn get<K: Eq + Drop, H: KeyHash<K>>(
+pub fn get<K: Eq + Drop, H: KeyHash<K>, Q: KeyForm<K, H>>(
     cache: &mut HashCache<K, u64, H>,
-    key: &K,
+    key: Q,
     value: &mut u64,
 ) -> u32
-    ensures { GetsOne K.eq key.now value.old cache.old result cache.new value.new }
+    ensures { GetsOne K.eq (Q.stands_for key) value.old cache.old result cache.new value.new }
 {
     match cache.get(key) {
         Some(own) => {
@@ -60,14 +60,14 @@ pub fn contains<K: Eq, H: KeyHash<K>, Q: KeyForm<K, H>>(cache: &HashCache<K, u64
     }
 }
 
-/// Takes out the pair whose key is equal, and writes out its value.
+/// Takes out the pair under the keys that a form stands for, and writes out its value.
 #[inline(always)]
-pub fn remove<K: Eq + Drop, H: KeyHash<K>>(
+pub fn remove<K: Eq + Drop, H: KeyHash<K>, Q: KeyForm<K, H>>(
     cache: &mut HashCache<K, u64, H>,
-    key: &K,
+    key: Q,
     value: &mut u64,
 ) -> u32
-    ensures { TakesOne K.eq key.now value.old cache.old result cache.new value.new }
+    ensures { TakesOne K.eq (Q.stands_for key) value.old cache.old result cache.new value.new }
 {
     match cache.remove(key) {
         Some((_key, own)) => {

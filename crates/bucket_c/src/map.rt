@@ -105,7 +105,7 @@ pub extern "C" fn bucket_map_remove(
     key: u64,
     value: &mut u64,
 ) -> u32
-    ensures { OnMap (λ old code new. RemovesOne nat_eq key value.old old code new value.new)
+    ensures { OnMap (λ old code new. RemovesOne nat_eq (nat_eq key) value.old old code new value.new)
         (value.new ≡ value.old) handle.old.held.table result handle.new.held.table }
 {
     on_table!(handle, alloc, Map(map) => maps::remove(map, &key, value))

@@ -72,14 +72,14 @@ pub fn contains<K: Eq, H: KeyHash<K>, Q: KeyForm<K, H>>(map: &HashMap<K, u64, H>
     }
 }
 
-/// Takes out the pair whose key is equal, and writes out its value.
+/// Takes out the pair under the keys that a form stands for, and writes out its value.
 #[inline(always)]
-pub fn remove<K: Eq + Drop, H: KeyHash<K>>(
+pub fn remove<K: Eq + Drop, H: KeyHash<K>, Q: KeyForm<K, H>>(
     map: &mut HashMap<K, u64, H>,
-    key: &K,
+    key: Q,
     value: &mut u64,
 ) -> u32
-    ensures { RemovesOne K.eq key.now value.old map.old result map.new value.new }
+    ensures { RemovesOne K.eq (Q.stands_for key) value.old map.old result map.new value.new }
 {
     match map.remove(key) {
         Some((_key, own)) => {
@@ -110,10 +110,13 @@ pub fn contains_key<K: Eq, H: KeyHash<K>, Q: KeyForm<K, H>>(set: &HashSet<K, H>,
     if set.contains(key) { OK } else { ABSENT }
 }
 
-/// Takes out the key that is equal.
+/// Takes out the key that a form stands for.
 #[inline(always)]
-pub fn remove_key<K: Eq + Drop, H: KeyHash<K>>(set: &mut HashSet<K, H>, key: &K) -> u32
-    ensures { RemovesKey K.eq key.now set.old result set.new }
+pub fn remove_key<K: Eq + Drop, H: KeyHash<K>, Q: KeyForm<K, H>>(
+    set: &mut HashSet<K, H>,
+    key: Q,
+) -> u32
+    ensures { RemovesKey K.eq (Q.stands_for key) set.old result set.new }
 {
     match set.remove(key) {
         Some(_own) => OK,

@@ -1,14 +1,15 @@
-//! Exports: a cache from byte strings to words. `peek` and `contains` copy nothing; each other call
-//! copies its key, and can fail for that.
+//! Exports: a cache from byte strings to words. `put` and `upsert` copy their key, and can fail for
+//! that; no other call copies it.
 //!
 //! Each call but `new` also returns `CLOSED` and `OTHER_KIND`, and then does nothing.
 ghost use Rattle.std.specs.Prelude.{◌≡◌};
 ghost use Rattle.collections.specs.Maps.{get_by, map_of};
+ghost use Rattle.bucket_c.specs.Caches.{GetsOne, TakesOne};
 ghost use Rattle.bucket_c.specs.Codes.{found_code};
 ghost use Rattle.bucket_c.specs.Maps.{Finds};
 ghost use Rattle.bucket_c.specs.Opening.{IsNewCache};
-ghost use Rattle.bucket_c.specs.Tables.{Caches, OnTextCache, Opens, Text, has_bytes};
-ghost use Rattle.bucket_c.specs.Texts.{GetsText, PutsText, TakesText, UpsertsTextInto};
+ghost use Rattle.bucket_c.specs.Tables.{Caches, OnTextCache, Opens, Text, has_bytes, text_eq};
+ghost use Rattle.bucket_c.specs.Texts.{PutsText, UpsertsTextInto};
 ghost use Rattle.bucket_c.specs.declared.tables.Table.TheVariants.{TextCache};
 
 use crate::codes::{CLOSED, OTHER_KIND};
@@ -87,8 +88,7 @@ pub extern "C" fn bucket_text_cache_upsert(
 
 /// Writes out the value under a key, and touches its pair.
 ///
-/// Returns `OK`, `ABSENT`; `NO_MEMORY` if the key can't be copied, and all stays. O(1) expected.
-/// `HashCache::get`.
+/// Returns `OK`, `ABSENT`. O(1) expected. `HashCache::get`.
 #[unsafe(no_mangle)]
 pub extern "C" fn bucket_text_cache_get(
     alloc: Global,
@@ -96,11 +96,11 @@ pub extern "C" fn bucket_text_cache_get(
     key: &[u8],
     value: &mut u64,
 ) -> u32
-    ensures { OnTextCache (λ old code new. GetsText key.now value.old old code new value.new)
-        (value.new ≡ value.old)
+    ensures { OnTextCache (λ old code new. GetsOne text_eq (has_bytes key.now) value.old old code
+        new value.new) (value.new ≡ value.old)
         handle.old.held.table result handle.new.held.table }
 {
-    on_table!(handle, alloc, TextCache(cache) => texts::get(cache, alloc, key, value))
+    on_table!(handle, alloc, TextCache(cache) => caches::get(cache, key, value))
 }
 
 /// Writes out the value under a key, and touches no pair.
@@ -134,8 +134,7 @@ pub extern "C" fn bucket_text_cache_contains(alloc: Global, handle: &mut Handle,
 
 /// Takes out the pair whose key is equal, and writes out its value.
 ///
-/// Returns `OK`, `ABSENT`; `NO_MEMORY` if the key can't be copied, and all stays. O(1) expected.
-/// `HashCache::remove`.
+/// Returns `OK`, `ABSENT`. O(1) expected. `HashCache::remove`.
 #[unsafe(no_mangle)]
 pub extern "C" fn bucket_text_cache_remove(
     alloc: Global,
@@ -143,9 +142,9 @@ pub extern "C" fn bucket_text_cache_remove(
     key: &[u8],
     value: &mut u64,
 ) -> u32
-    ensures { OnTextCache (λ old code new. TakesText key.now value.old old code new value.new)
-        (value.new ≡ value.old)
+    ensures { OnTextCache (λ old code new. TakesOne text_eq (has_bytes key.now) value.old old code
+        new value.new) (value.new ≡ value.old)
         handle.old.held.table result handle.new.held.table }
 {
-    on_table!(handle, alloc, TextCache(cache) => texts::remove_cached(cache, alloc, key, value))
+    on_table!(handle, alloc, TextCache(cache) => caches::remove(cache, key, value))
 }

@@ -1,14 +1,14 @@
-//! Exports: a map from byte strings to words. A look-up copies nothing; a call that changes the map
-//! copies its key, and can fail for that.
+//! Exports: a map from byte strings to words. An insertion copies its key, and can fail for that; no
+//! other call copies it.
 //!
 //! Each call but `new` also returns `CLOSED` and `OTHER_KIND`, and then does nothing.
 ghost use Rattle.std.specs.Prelude.{◌≡◌, ℕ};
 ghost use Rattle.collections.specs.Maps.{get_by};
 ghost use Rattle.bucket_c.specs.Codes.{found_code};
-ghost use Rattle.bucket_c.specs.Maps.{Finds};
+ghost use Rattle.bucket_c.specs.Maps.{Finds, RemovesOne};
 ghost use Rattle.bucket_c.specs.Opening.{IsNew};
-ghost use Rattle.bucket_c.specs.Tables.{Maps, OnTextMap, Opens, Text, has_bytes};
-ghost use Rattle.bucket_c.specs.Texts.{InsertsText, RemovesText, UpsertsText};
+ghost use Rattle.bucket_c.specs.Tables.{Maps, OnTextMap, Opens, Text, has_bytes, text_eq};
+ghost use Rattle.bucket_c.specs.Texts.{InsertsText, UpsertsText};
 ghost use Rattle.bucket_c.specs.declared.tables.Table.TheVariants.{TextMap};
 
 use crate::codes::{CLOSED, OTHER_KIND};
@@ -106,8 +106,7 @@ pub extern "C" fn bucket_text_map_contains(alloc: Global, handle: &mut Handle, k
 
 /// Takes out the pair whose key is equal, and writes out its value.
 ///
-/// Returns `OK`, `ABSENT`; `NO_MEMORY` if the key can't be copied, and all stays. O(1) expected.
-/// `HashMap::remove`.
+/// Returns `OK`, `ABSENT`. O(1) expected. `HashMap::remove`.
 #[unsafe(no_mangle)]
 pub extern "C" fn bucket_text_map_remove(
     alloc: Global,
@@ -115,9 +114,9 @@ pub extern "C" fn bucket_text_map_remove(
     key: &[u8],
     value: &mut u64,
 ) -> u32
-    ensures { OnTextMap (λ old code new. RemovesText key.now value.old old code new value.new)
-        (value.new ≡ value.old)
+    ensures { OnTextMap (λ old code new. RemovesOne text_eq (has_bytes key.now) value.old old code
+        new value.new) (value.new ≡ value.old)
         handle.old.held.table result handle.new.held.table }
 {
-    on_table!(handle, alloc, TextMap(map) => texts::remove(map, alloc, key, value))
+    on_table!(handle, alloc, TextMap(map) => maps::remove(map, key, value))
 }

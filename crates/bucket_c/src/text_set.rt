@@ -5,9 +5,10 @@
 ghost use Rattle.std.specs.Prelude.{◌≡◌};
 ghost use Rattle.collections.specs.Maps.{get_by};
 ghost use Rattle.bucket_c.specs.Codes.{found_code};
+ghost use Rattle.bucket_c.specs.Maps.{RemovesKey};
 ghost use Rattle.bucket_c.specs.Opening.{IsNew};
-ghost use Rattle.bucket_c.specs.Tables.{Maps, OnTextSet, Opens, Text, has_bytes};
-ghost use Rattle.bucket_c.specs.Texts.{InsertsKeyText, RemovesKeyText};
+ghost use Rattle.bucket_c.specs.Tables.{Maps, OnTextSet, Opens, Text, has_bytes, text_eq};
+ghost use Rattle.bucket_c.specs.Texts.{InsertsKeyText};
 ghost use Rattle.bucket_c.specs.declared.tables.Table.TheVariants.{TextSet};
 
 use crate::codes::{CLOSED, OTHER_KIND};
@@ -57,12 +58,11 @@ pub extern "C" fn bucket_text_set_contains(alloc: Global, handle: &mut Handle, k
 
 /// Takes out the key that is equal.
 ///
-/// Returns `OK`, `ABSENT`; `NO_MEMORY` if the key can't be copied, and all stays. O(1) expected.
-/// `HashSet::remove`.
+/// Returns `OK`, `ABSENT`. O(1) expected. `HashSet::remove`.
 #[unsafe(no_mangle)]
 pub extern "C" fn bucket_text_set_remove(alloc: Global, handle: &mut Handle, key: &[u8]) -> u32
-    ensures { OnTextSet (RemovesKeyText key.now) (Unit {0})
+    ensures { OnTextSet (RemovesKey text_eq (has_bytes key.now)) (Unit {0})
         handle.old.held.table result handle.new.held.table }
 {
-    on_table!(handle, alloc, TextSet(set) => texts::remove_key(set, alloc, key))
+    on_table!(handle, alloc, TextSet(set) => maps::remove_key(set, key))
 }

@@ -1,8 +1,6 @@
-//! Calls that copy their key: a collection owns the keys that it keeps, and a removal asks for a
-//! key as it keeps it.
-ghost use Rattle.bucket_c.specs.Texts.{GetsText, InsertsKeyText};
-ghost use Rattle.bucket_c.specs.Texts.{InsertsText, PutsText, RemovesKeyText};
-ghost use Rattle.bucket_c.specs.Texts.{RemovesText, TakesText, UpsertsText, UpsertsTextInto};
+//! Calls that copy their key, since a collection owns the keys that it keeps.
+ghost use Rattle.bucket_c.specs.Texts.{InsertsKeyText, InsertsText, PutsText};
+ghost use Rattle.bucket_c.specs.Texts.{UpsertsText, UpsertsTextInto};
 
 use crate::codes::NO_MEMORY;
 use crate::seed::SeededHash;
@@ -46,22 +44,6 @@ pub fn upsert(
     }
 }
 
-/// Takes out the pair whose key is equal, and writes out its value.
-#[tactic(auto, unfolding(crate::specs::Texts::RemovesText))]
-pub fn remove(
-    map: &mut HashMap<Vec<u8>, u64, SeededHash>,
-    alloc: Global,
-    key: &[u8],
-    value: &mut u64,
-) -> u32
-    ensures { RemovesText key.now value.old map.old result map.new value.new }
-{
-    match Vec::from_slice(alloc, key) {
-        Ok(own) => maps::remove(map, &own, value),
-        Err(_) => NO_MEMORY,
-    }
-}
-
 /// Inserts a key that the set hasn't.
 #[tactic(auto, unfolding(crate::specs::Texts::InsertsKeyText))]
 pub fn insert_key(set: &mut HashSet<Vec<u8>, SeededHash>, alloc: Global, key: &[u8]) -> u32
@@ -69,17 +51,6 @@ pub fn insert_key(set: &mut HashSet<Vec<u8>, SeededHash>, alloc: Global, key: &[
 {
     match Vec::from_slice(alloc, key) {
         Ok(own) => maps::insert_key(set, own),
-        Err(_) => NO_MEMORY,
-    }
-}
-
-/// Takes out the key that is equal.
-#[tactic(auto, unfolding(crate::specs::Texts::RemovesKeyText))]
-pub fn remove_key(set: &mut HashSet<Vec<u8>, SeededHash>, alloc: Global, key: &[u8]) -> u32
-    ensures { RemovesKeyText key.now set.old result set.new }
-{
-    match Vec::from_slice(alloc, key) {
-        Ok(own) => maps::remove_key(set, &own),
         Err(_) => NO_MEMORY,
     }
 }
@@ -123,38 +94,6 @@ pub fn upsert_cached(
 {
     match Vec::from_slice(alloc, key) {
         Ok(own) => caches::upsert_text(cache, own, value, bytes, len, before),
-        Err(_) => NO_MEMORY,
-    }
-}
-
-/// Writes out the value under a key, and touches its pair.
-#[tactic(auto, unfolding(crate::specs::Texts::GetsText))]
-pub fn get(
-    cache: &mut HashCache<Vec<u8>, u64, SeededHash>,
-    alloc: Global,
-    key: &[u8],
-    value: &mut u64,
-) -> u32
-    ensures { GetsText key.now value.old cache.old result cache.new value.new }
-{
-    match Vec::from_slice(alloc, key) {
-        Ok(own) => caches::get(cache, &own, value),
-        Err(_) => NO_MEMORY,
-    }
-}
-
-/// Takes out the pair whose key is equal, and writes out its value.
-#[tactic(auto, unfolding(crate::specs::Texts::TakesText))]
-pub fn remove_cached(
-    cache: &mut HashCache<Vec<u8>, u64, SeededHash>,
-    alloc: Global,
-    key: &[u8],
-    value: &mut u64,
-) -> u32
-    ensures { TakesText key.now value.old cache.old result cache.new value.new }
-{
-    match Vec::from_slice(alloc, key) {
-        Ok(own) => caches::remove(cache, &own, value),
         Err(_) => NO_MEMORY,
     }
 }

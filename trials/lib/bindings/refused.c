@@ -96,9 +96,6 @@ static uint32_t take(enum kind kind, bucket_handle *handle, uint64_t key) {
     }
 }
 
-// Whether a call that copies its key is refused for want of it, and nothing else.
-static bool copies(enum kind kind) { return kind == TEXT_MAP || kind == TEXT_SET || kind == TEXT_CACHE; }
-
 // Puts keys with the allocation at `at` and all after it refused. Returns 1 where one was, 0 where none was, -1 if wrong.
 static int run(enum kind kind, size_t at) {
     static bool is_in[ENTRIES];
@@ -132,18 +129,16 @@ static int run(enum kind kind, size_t at) {
     if (bucket_len(&handle) + evicted != in) {
         return -1;
     }
-    // Removals go on without memory, but for the copy of a key; then memory is back.
+    // Removals go on without memory; then memory is back.
     for (uint64_t key = 0; key < ENTRIES; key++) {
         uint32_t code = take(kind, &handle, key);
-        bool lacked_copy = copies(kind) && left == 0 && code == BUCKET_NO_MEMORY;
-        if (!lacked_copy && evicted == 0 && code != (is_in[key] ? BUCKET_OK : BUCKET_ABSENT)) {
+        if (evicted == 0 && code != (is_in[key] ? BUCKET_OK : BUCKET_ABSENT)) {
             return -1;
         }
-        is_in[key] = is_in[key] && lacked_copy;
     }
     left = SIZE_MAX;
     for (uint64_t key = 0; evicted == 0 && key < ENTRIES; key++) {
-        if (take(kind, &handle, key) != (is_in[key] ? BUCKET_OK : BUCKET_ABSENT)) {
+        if (take(kind, &handle, key) != BUCKET_ABSENT) {
             return -1;
         }
     }
