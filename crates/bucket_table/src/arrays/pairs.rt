@@ -88,7 +88,7 @@ fn pair_past<'b, K, V, L: LruList, const TYPE: u8>(
 ) -> Option<(&'b K, &'b V)>
     ensures { MatchOption result (IsEnd bucket.now at.old at.new)
         (λ pair. pairs_ahead bucket.now at.old
-            ≡ (pair.0.now, pair.1.now) ∷ pairs_ahead bucket.now at.new) }
+        ≡ (pair.0.now, pair.1.now) ∷ pairs_ahead bucket.now at.new) }
 {
     if at.find_next(bucket) {
         Some(bucket.entry(at))

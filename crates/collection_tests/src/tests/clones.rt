@@ -22,9 +22,17 @@ fn a_copy_has_words_of_its_own(rt: HostRuntime) -> Result<(), Fail> {
     check_same(&rt, (copy == ages, copied == names), (true, true), "equal");
     ages.clear();
     names.clear();
-    let found = (copy.get("Ann").copied(), copy.get("Bob").copied(), copy.get("").copied());
+    let found = (
+        copy.get("Ann").copied(),
+        copy.get("Bob").copied(),
+        copy.get("").copied(),
+    );
     check_same(&rt, found, (Some(30), Some(40), Some(0)), "ages");
-    let found = (copied.contains("Ann"), copied.contains("Bob"), copied.contains("Ben"));
+    let found = (
+        copied.contains("Ann"),
+        copied.contains("Bob"),
+        copied.contains("Ben"),
+    );
     check_same(&rt, found, (true, true, false), "names");
     check_same(&rt, (copy.len(), copied.len()), (3, 3), "len");
     Ok(())
@@ -41,6 +49,11 @@ fn numbers_are_copied(rt: HostRuntime) -> Result<(), Fail> {
     let (copy, copied) = (map.try_copy(rt.alloc())?, set.try_copy(rt.alloc())?);
     check_same(&rt, (copy == map, copied == set), (true, true), "equal");
     drop(map.remove(&7));
-    check_same(&rt, (copy.get(&7).copied(), copy.len()), (Some(7), 100), "copy");
+    check_same(
+        &rt,
+        (copy.get(&7).copied(), copy.len()),
+        (Some(7), 100),
+        "copy",
+    );
     Ok(())
 }

@@ -49,19 +49,39 @@ fn take(rt: &impl Abort, map: &mut Map, set: &mut Set, at: At, step: &Step) {
         Comes(pairs) => {
             let mut keys = pairs.iter().map(|pair: &(u64, u64)| pair.0);
             let is_in = map.try_extend(&mut pairs.iter().copied()).is_ok();
-            check_same(rt, (is_in, set.try_extend(&mut keys).is_ok()), (true, true), at);
+            check_same(
+                rt,
+                (is_in, set.try_extend(&mut keys).is_ok()),
+                (true, true),
+                at,
+            );
         }
         Fills(from, to) => {
             let is_in = map.try_extend(&mut (*from..*to).zip(*from..*to)).is_ok();
-            check_same(rt, (is_in, set.try_extend(&mut (*from..*to)).is_ok()), (true, true), at);
+            check_same(
+                rt,
+                (is_in, set.try_extend(&mut (*from..*to)).is_ok()),
+                (true, true),
+                at,
+            );
         }
         Holds(key, value) => {
             let found = (map.get(key).copied(), set.contains(key));
             check_same(rt, found, (*value, value.is_some()), at);
         }
         Sees(pairs, slots) => {
-            check_same(rt, (map.len(), map.capacity()), (*pairs, *slots), (at, "map"));
-            check_same(rt, (set.len(), set.capacity()), (*pairs, *slots), (at, "set"));
+            check_same(
+                rt,
+                (map.len(), map.capacity()),
+                (*pairs, *slots),
+                (at, "map"),
+            );
+            check_same(
+                rt,
+                (set.len(), set.capacity()),
+                (*pairs, *slots),
+                (at, "set"),
+            );
         }
     }
 }
@@ -69,16 +89,29 @@ fn take(rt: &impl Abort, map: &mut Map, set: &mut Set, at: At, step: &Step) {
 #[test]
 fn a_map_and_a_set_are_made_of_pairs_and_keys(rt: HostRuntime) -> Result<(), Fail> {
     let counts = HashMap::from_array(rt.alloc(), [(5u64, 50u64), (3, 30), (5, 51)])?;
-    let found = (counts.get(&5).copied(), counts.get(&3).copied(), counts.len());
+    let found = (
+        counts.get(&5).copied(),
+        counts.get(&3).copied(),
+        counts.len(),
+    );
     check_same(&rt, found, (Some(51), Some(30), 2), "array of pairs");
     let keys = HashSet::from_array(rt.alloc(), [5u64, 3, 5])?;
     let found = (keys.contains(&5), keys.contains(&4), keys.len());
     check_same(&rt, found, (true, false, 2), "array of keys");
     let counts: HashMap<u64, u64> = (0..100).zip(100..200).collect(rt.alloc())?;
-    let found = (counts.get(&99).copied(), counts.get(&100).copied(), counts.len());
+    let found = (
+        counts.get(&99).copied(),
+        counts.get(&100).copied(),
+        counts.len(),
+    );
     check_same(&rt, found, (Some(199), None, 100), "collected pairs");
     let keys: HashSet<u64> = (7..9u64).collect(rt.alloc())?;
-    let found = (keys.contains(&7), keys.contains(&8), keys.contains(&9), keys.len());
+    let found = (
+        keys.contains(&7),
+        keys.contains(&8),
+        keys.contains(&9),
+        keys.len(),
+    );
     check_same(&rt, found, (true, true, false, 2), "collected keys");
     Ok(())
 }

@@ -39,10 +39,7 @@ impl<K: Eq + Hash + Drop, V: Drop> HashMap<K, V, DefaultHash> {
     /// Allocation failure; the pairs are dropped.
     ///
     /// O(pairs) expected. std: `From<[(K, V); N]>` of `HashMap`.
-    pub fn from_array<const N: usize>(
-        alloc: Global,
-        pairs: [(K, V); N],
-    ) -> Result<Self, AllocError>
+    pub fn from_array<const N: usize>(alloc: Global, pairs: [(K, V); N]) -> Result<Self, AllocError>
         ensures { IfOk result (λ map. PutsAll K.eq (empty_map map.hasher) pairs map) }
     {
         match Vec::from_array(alloc, pairs) {
