@@ -91,7 +91,7 @@ module _ {K V H : Type 0} (eq : K → K → Bool) (IsKey : K → K → Type 0) (
       → IsCloning own first now left → left ≡ [] → IsUnique eq own → IsEmpty first → hasher ≡ own.hasher → IsHasher hasher clone
       → first.hasher ≡ clone → first.minimum ≡ min own.minimum (2 ^ 63) → first.maximum ≡ 2 ^ 63
       → IsClone eq IsKey IsValue IsHasher own now
-  cloned laws IsHasher own first now left hasher clone so_far over unique empty hasher_is cloned made minimum maximum =
+  cloned laws IsHasher own first now left hasher clone so_far over unique empty hasher_is copied made minimum maximum =
       let pairs = so_far.pairs in
       let whole : so_far.seen ≡ own.entries =
       sym (so_far.all ∙ ap (λ (l : List (K × V)). so_far.seen ++ l) over ∙ append-nil so_far.seen) in
@@ -112,7 +112,7 @@ module _ {K V H : Type 0} (eq : K → K → Bool) (IsKey : K → K → Type 0) (
             (λ x y same. laws.symm key y ∙ sym (laws.congr x y key same.1) ∙ laws.symm x key) own.entries pairs clones);
         unique = stays.kept.unique;
         hasher = subst (λ (h : H). IsHasher h now.hasher) hasher_is
-            (subst (λ (h : H). IsHasher hasher h) (sym (stays.kept.hasher ∙ made)) cloned);
+            (subst (λ (h : H). IsHasher hasher h) (sym (stays.kept.hasher ∙ made)) copied);
         minimum = stays.kept.minimum ∙ minimum;
         maximum = stays.kept.maximum ∙ maximum;
       }

@@ -10,5 +10,5 @@ returns-in-Ok g c =
     IfOk-weaker c.from_iter.result _ _ (λ map ran.
     let ended = ran.3.2 tt in
     subst (λ (l : List (g.row.K.Denot × g.row.V.Denot)). PutsAll eq (empty_map map.hasher) l map)
-    (All-taken ran.0 ran.1 (ended.0, (ran.3.0, (ran.3.1, ended.1))) ∙ (ran.2.0 ∙ c.in-Ok.ensures.items)) ran.4)
+    (All-taken ran.0 ran.1 (ended.0, (ran.3.0, ran.3.1, ended.1)) ∙ (ran.2.0 ∙ c.in-Ok.ensures.items)) ran.4)
     c.from_iter.ensures.ran

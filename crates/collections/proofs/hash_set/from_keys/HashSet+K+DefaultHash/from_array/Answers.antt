@@ -10,5 +10,5 @@ returns-in-Ok g c =
     IfOk-weaker c.from_iter.result _ _ (λ set ran.
     let ended = ran.3.2 tt in
     subst (λ (l : List g.row.K.Denot). PutsKeys eq (empty_map set.hasher) l set)
-    (All-taken ran.0 ran.1 (ended.0, (ran.3.0, (ran.3.1, ended.1))) ∙ (ran.2.0 ∙ c.in-Ok.ensures.items)) ran.4)
+    (All-taken ran.0 ran.1 (ended.0, (ran.3.0, ran.3.1, ended.1)) ∙ (ran.2.0 ∙ c.in-Ok.ensures.items)) ran.4)
     c.from_iter.ensures.ran
