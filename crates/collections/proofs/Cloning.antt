@@ -1,5 +1,5 @@
 -- A map that was empty, and into which clones of the pairs of another are put one after the other.
-use Rattle.std.proofs.Common.{ℕ, ◌≡◌, ◌∙◌, Bool, true, false, Option, Some, None, List, [], ◌∷◌, ◌++◌, ap, sym, subst, refl, length}
+use Rattle.std.proofs.Common.{◌≡◌, ◌∙◌, Bool, true, false, Option, Some, None, List, [], ◌∷◌, ◌++◌, ap, sym, subst, refl}
 use Rattle.std.specs.Prelude.{◌^◌, min}
 use Rattle.std.specs.Cmp.{IsEquivalence}
 use Rattle.std.specs.List.{AllByRecursion, AllZip, FoldsTo, IsDistinct}

@@ -1,8 +1,8 @@
 -- A key of a set is taken out, and another is put.
-use Rattle.std.proofs.Common.{◌≡◌, Bool, true, false, cond, Option, Some, None, Ok, ◌∷◌, refl, sym, ap, ◌∙◌, arith, ◌+◌}
+use Rattle.std.proofs.Common.{◌≡◌, Bool, Option, Some, None, Ok, ◌∷◌, sym, ◌∙◌, arith}
 use Rattle.std.specs.Cmp.{IsEquivalence}
 use Rattle.std.proofs.lemmas.List.Sorted.{IsPermutation-cons, IsPermutation-trans}
-use Rattle.collections.specs.Changes.{Adds, SetRemoves, Stays, Takes, Upserts}
+use Rattle.collections.specs.Changes.{SetRemoves, Stays, Takes, Upserts}
 use Rattle.collections.specs.Maps.{MapView, get}
 use Rattle.collections.specs.SetChanges.{SetReplaces}
 use Rattle.collections.proofs.Staying.{adds_after, stays_after}

@@ -1,16 +1,15 @@
 -- Look-ups of a map's own keys.
-use Rattle.std.proofs.Common.{zero, suc, ◌≡◌, ◌<◌, inl, inr, Bool, true, false, cond, Option, Some, None, List, [], ◌∷◌, length, map}
+use Rattle.std.proofs.Common.{zero, suc, ◌≡◌, inl, inr, Bool, true, false, cond, Option, Some, None, List, [], ◌∷◌, map}
 use Rattle.std.proofs.Common.{refl, sym, ap, ◌∙◌, arith}
 use Rattle.std.specs.Cmp.{IsEquivalence}
 use Rattle.std.specs.List.{All, Contains, IsDistinct}
-use Rattle.std.specs.List.Sorted.{IsPermutation}
 use Rattle.std.specs.Map.{keys_of, lookup, lookup_key}
 use Rattle.std.proofs.lemmas.Bool.{cases_Bool}
-use Rattle.std.proofs.lemmas.List.Sorted.{Contains-permutation, IsPermutation-cons}
-use Rattle.std.proofs.lemmas.List.Sorted.{IsPermutation-refl, IsPermutation-sym, IsPermutation-trans}
+use Rattle.std.proofs.lemmas.List.Sorted.{Contains-permutation}
+use Rattle.std.proofs.lemmas.List.Sorted.{IsPermutation-sym}
 use Rattle.bucket_table.specs.Map.LookingUp.{IsThere}
 use Rattle.collections.specs.Changes.{Adds, Takes}
-use Rattle.collections.specs.Maps.{IsUnique, MapView, get}
+use Rattle.collections.specs.Maps.{IsUnique, MapView}
 use Rattle.collections.specs.StoredKeys.{ReplacesKey}
 use Rattle.collections.proofs.Lookups.{IsForm, form_there, lookup_same}
 

@@ -11,7 +11,6 @@ use Rattle.bucket_slots.specs.Evicting.{slots_touched}
 use Rattle.bucket_table.specs.Map.ByKey.{ChangesAt, PreparesThen, WritesAt}
 use Rattle.bucket_table.specs.Map.Lending.{WritesUnder}
 use Rattle.bucket_table.specs.Map.LookingUp.{IsAbsent}
-use Rattle.bucket_table.specs.Map.MapState.{state_of}
 use Rattle.bucket_table.specs.Map.Preparing.{IsPrepared}
 use Rattle.bucket_table.specs.Views.ArraysView.{TableView, pairs_of}
 use Rattle.collections.specs.CacheWrites.{IsTouchedAndWritten, IsWritten}

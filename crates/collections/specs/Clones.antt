@@ -1,5 +1,5 @@
 -- What a copy of a map has whose keys and values are clones.
-use Rattle.std.specs.Prelude.{ℕ, ◌≡◌, ◌^◌, Bool, true, min, List, None}
+use Rattle.std.specs.Prelude.{◌≡◌, ◌^◌, Bool, true, min, List, None}
 use Rattle.std.specs.List.{AllZip}
 use Rattle.std.specs.List.Sorted.{IsPermutation}
 use Rattle.std.specs.Option.{IsSomeAnd, MatchOption}
