@@ -4,7 +4,7 @@ use Rattle.std.proofs.lemmas.Bool.{le-ltb, lt-ltb}
 use Rattle.std.proofs.lemmas.List.{drop_all, length-map, take_all}
 use Rattle.std.proofs.lemmas.List.Edits.{sets, sets-eq}
 use Rattle.std.specs.List.{FoldsTo}
-use Rattle.std.specs.Prelude.{cond, slice_set}
+use Rattle.std.specs.Prelude.{slice_set}
 use Rattle.bucket_c.specs.Copying.{CopiesPairs, pair_of}
 use Rattle.bucket_c.specs.Steps.{next_copied}
 use Rattle.bucket_c.specs.declared.copying.Pair.{Pair}

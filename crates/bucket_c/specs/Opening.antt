@@ -1,7 +1,7 @@
 -- What a `new` opens a handle on.
 use Rattle.std.specs.Prelude.{ℕ, ◌≡◌, ◌^◌, max, min}
 use Rattle.bucket_slots.specs.Sizing.{IsLeastPowerOfTwo}
-use Rattle.collections.specs.Maps.{MapView, IsEmpty, map_of}
+use Rattle.collections.specs.Maps.{IsEmpty, map_of}
 use Rattle.bucket_c.specs.Hashing.{initial_hasher}
 use Rattle.bucket_c.specs.Tables.{Caches, Maps}
 use Rattle.bucket_c.specs.declared.seed.Seed.{Seed}
