@@ -4,8 +4,7 @@ use crate::ffi::*;
 use crate::{NoMemory, NotInserted, TextIter, Upserted};
 use std::fmt;
 
-/// A cache from byte strings to `u64`. It keeps copies of its keys; `peek` and `contains_key` copy
-/// nothing, and each other call copies its key.
+/// A cache from byte strings to `u64`. It keeps copies of its keys; only `put` and `upsert` copy one.
 pub struct TextCache {
     handle: Handle,
     /// Where a key that goes is written: as long as the longest key that was put.

@@ -4,8 +4,7 @@ use crate::ffi::*;
 use crate::{NoMemory, NotInserted, TextIter};
 use std::fmt;
 
-/// A map from byte strings to `u64`. It keeps copies of its keys; a look-up copies nothing, and a call
-/// that changes the map copies its key.
+/// A map from byte strings to `u64`. It keeps copies of its keys; only `insert` and `upsert` copy one.
 pub struct TextMap(Handle);
 
 impl TextMap {

@@ -4,8 +4,7 @@ use crate::ffi::*;
 use crate::{NoMemory, TextIter};
 use std::fmt;
 
-/// A set of byte strings. It keeps copies of its keys; a look-up copies nothing, and an insertion and a
-/// removal copy their key.
+/// A set of byte strings. It keeps copies of its keys; only an insertion copies one.
 pub struct TextSet(Handle);
 
 impl TextSet {

@@ -1,5 +1,5 @@
-//! Exports: a set of byte strings. A look-up copies nothing; an insertion and a removal copy their
-//! key, and can fail for that.
+//! Exports: a set of byte strings. An insertion copies its key, and can fail for that; no other call
+//! copies it.
 //!
 //! Each call but `new` also returns `CLOSED` and `OTHER_KIND`, and then does nothing.
 ghost use Rattle.std.specs.Prelude.{◌≡◌};
