@@ -54,7 +54,6 @@ pub(crate) struct TextPair {
 }
 
 pub(crate) const OK: u32 = 0;
-pub(crate) const ABSENT: u32 = 1;
 pub(crate) const PRESENT: u32 = 2;
 pub(crate) const EVICTED: u32 = 7;
 
