@@ -8,7 +8,7 @@ pub returns-then-not-is_valid : goal.returns-then-not-is_valid
 returns-then-not-is_valid g c =
     let none = c.search-at.ensures.absent (null_is _ _ c.is_valid.ensures.1 c.if-not-is_valid.true) in
     let keeps = c.in-Ok.ensures.found.map in (
-      absent_before g.K.PartialEq.eq c.args.key.now _ _ keeps none,
+      absent_before (λ own. g.K.PartialEq.eq own c.args.key.now) _ _ keeps none,
       rw (c.table-then-not-is_valid-1.given.1 (sym c.in-Ok.ensures.same_table)) keeps,
     )
 
@@ -22,6 +22,6 @@ pub returns : goal.returns
 returns g c =
     let found = c.search-at.ensures.found (c.is_valid.ensures.0 c.if-not-is_valid.false) in
     let takes = then_taken _ _ _ c.remove-pair.result.0 c.in-Ok.ensures.found.map c.remove-pair.ensures.map in (
-      same_taken g.K.PartialEq.eq c.args.key.now _ _ found.0 c.remove-pair.result.0 found.1 found.2 c.remove-pair.ensures.pair,
+      same_taken (λ own. g.K.PartialEq.eq own c.args.key.now) _ _ found.0 c.remove-pair.result.0 found.1 found.2 c.remove-pair.ensures.pair,
       rw (c.table-2-1.given.1 (sym (c.remove-pair.ensures.changed.same_table ∙ c.in-Ok.ensures.same_table))) takes,
     )
