@@ -51,3 +51,4 @@ pub mod Spreading
 pub mod OwnSpreading
 pub mod ArrayCallerLemmas
 pub mod WrittenValues
+pub mod Crosses
