@@ -8,3 +8,4 @@ pub mod Following
 pub mod Asked
 pub mod Settling
 pub mod Growing
+pub mod Remaking

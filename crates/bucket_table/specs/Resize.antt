@@ -5,3 +5,4 @@ pub mod Resizing
 pub mod Asking
 pub mod Growing
 pub mod TableCapacity
+pub mod Remaking

@@ -21,6 +21,7 @@ mod plan;
 mod preparing;
 mod rehashing;
 mod relocating;
+mod remaking;
 mod resizing;
 mod sampling;
 mod searching;

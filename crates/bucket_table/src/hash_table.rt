@@ -24,6 +24,7 @@ mod locked_bucket;
 mod lookup;
 mod not_inserted;
 mod pairs;
+mod remaking;
 mod resize;
 mod retaining;
 mod shrinking;

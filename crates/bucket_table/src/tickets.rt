@@ -108,6 +108,14 @@ impl Tickets {
         Some(unit * TICKET_STEP)
     }
 
+    /// Ends every ticket, and hands no unit out: each is to be worked again.
+    pub fn reset(&mut self)
+        ensures { self.new ≡ first_tickets self.old.len }
+    {
+        self.open_units.clear();
+        self.position = 0;
+    }
+
     /// Ends a ticket, and returns whether the old array goes.
     pub fn end(
         &mut self,

@@ -4,6 +4,7 @@ ghost use Rattle.bucket_table.specs.Views.ArraysView.{LosesNoUnit, entries_of, k
 ghost use Rattle.bucket_table.specs.Rehash.Covered.{IsUnitKilled};
 ghost use Rattle.bucket_table.specs.Rehash.Rehashing.{EndsRehash};
 ghost use Rattle.bucket_table.specs.Rehash.Steps.{Starts};
+ghost use Rattle.bucket_table.specs.Resize.Remaking.{unopened};
 
 use super::Arrays;
 use crate::tickets::{REHASHING_UNIT_LEN, TICKET_STEP, TicketError, Tickets};
@@ -17,6 +18,14 @@ impl<K, V, L: LruList, const TYPE: u8> Arrays<K, V, L, TYPE> {
         ensures others { self.new ≡ record self.old { tickets = self.new.tickets } }
     {
         self.tickets.start()
+    }
+
+    /// Ends every ticket, and hands no unit out. What is killed has no pair left, so none is lost.
+    pub(crate) fn reset_tickets(&mut self)
+        ensures { self.new ≡ unopened self.old }
+    {
+        self.sound();
+        self.tickets.reset();
     }
 }
 

@@ -1,9 +1,10 @@
 //! A resize: by its plan the current array becomes the old one, or is given up.
 ghost use Rattle.std.specs.Prelude.{◌≡◌, ◌<◌, ◌≤◌, ◌+◌, ◌-◌, ℕ, [], length, OnOk, OnErr};
+ghost use Rattle.bucket_slots.specs.ArrayView.{IsNewArray};
 ghost use Rattle.bucket_table.specs.Views.ArraysView.{ArePlaced};
 ghost use Rattle.bucket_table.specs.Views.Keeping.{Keeps};
 ghost use Rattle.bucket_table.specs.Resize.ResizePlan.{IsCapacityWithin};
-ghost use Rattle.bucket_table.specs.Resize.Resizing.{IsMade, IsPlanOf, IsPushed, MakesArray, Releases, Reserves, Resizes, TriesResize};
+ghost use Rattle.bucket_table.specs.Resize.Resizing.{IsPlanOf, IsPushed, MakesArray, Releases, Reserves, Resizes, TriesResize};
 ghost use Rattle.bucket_table.specs.Resize.Resizing.{with_minimum};
 
 use super::plan::{Plan, plan_of};
@@ -64,23 +65,45 @@ impl<K: Drop, V: Drop, L: LruList + Drop, const TYPE: u8> Arrays<K, V, L, TYPE> 
         if self.has_current() {
             return Ok(());
         }
-        self.make_first_array()
+        self.sound();
+        self.make_first_array(self.minimum)
     }
 
-    /// Makes an empty array for the minimum.
+    /// Makes an empty array for a capacity.
     ///
     /// # Errors
     ///
     /// Allocation failed: there is still none.
     #[inline(never)]
-    fn make_first_array(&mut self) -> Result<(), AllocError>
-        requires { length self.old.current ≡ 0 }
-        ensures made { OnOk result (IsMade self.old self.new) }
+    fn make_first_array(&mut self, capacity: usize) -> Result<(), AllocError>
+        requires none { length self.old.current ≡ 0 }
+        requires capacity { capacity ≤ self.old.maximum }
+        ensures fresh { OnOk result (IsNewArray capacity self.new.current) }
+        ensures others { OnOk result (self.new ≡ record self.old { current = self.new.current }) }
         ensures unchanged { OnErr result (self.new ≡ self.old) }
     {
-        let fresh = BucketArray::alloc(self.alloc, self.minimum)?;
+        let fresh = BucketArray::alloc(self.alloc, capacity)?;
         self.current = Some(fresh);
         Ok(())
+    }
+
+    /// Makes an empty array for a capacity the current one, and the one that stood the old one.
+    ///
+    /// # Errors
+    ///
+    /// Allocation failed: all is as it was.
+    pub(crate) fn remake_array(&mut self, capacity: usize) -> Result<(), AllocError>
+        requires alone { length self.old.linked ≡ 0 }
+        requires capacity { capacity ≤ self.old.maximum }
+        ensures pushed { OnOk result (IsPushed capacity self.old self.new) }
+        ensures unchanged { OnErr result (self.new ≡ self.old) }
+    {
+        self.sound();
+        if self.has_current() {
+            self.push_array(capacity)
+        } else {
+            self.make_first_array(capacity)
+        }
     }
 
     /// Raises the minimum by a number of slots, and resizes. Returns by how much it was raised: by
@@ -126,6 +149,14 @@ impl<K: Drop, V: Drop, L: LruList + Drop, const TYPE: u8> Arrays<K, V, L, TYPE> 
     {
         self.minimum = minimum;
         let _ = self.try_resize();
+    }
+
+    /// Sets the minimum, and resizes nothing.
+    pub(crate) fn set_minimum(&mut self, minimum: usize)
+        requires { minimum ≤ self.old.maximum }
+        ensures { self.new ≡ with_minimum self.old minimum }
+    {
+        self.minimum = minimum;
     }
 
     /// Gives the current array up.

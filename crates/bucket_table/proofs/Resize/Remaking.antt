@@ -1,0 +1,138 @@
+-- All pairs in one array of another length: what the moves on the way leave.
+use Rattle.bucket_table.proofs.Words.{AreArrays, ArePlaced, ArraysView, Bool, Err, IsEquivalence, IsOneMap, KeepsArrays, KeepsPairs, List, Ok, OnOk}
+use Rattle.bucket_table.proofs.Words.{Result, TicketState, [], ap, arith, first_tickets, inl, inr, length, refl, subst, sym, true, ℕ, ◌/◌, ◌∙◌, ◌≡◌}
+use Rattle.std.proofs.Common.{max}
+use Rattle.std.specs.Prelude.{IsErr}
+use Rattle.bucket_slots.specs.Sizing.{IsLengthFor}
+use Rattle.bucket_slots.proofs.ArrayCallerLemmas.{least_is_one}
+use Rattle.bucket_table.specs.Map.MapState.{state_of}
+use Rattle.bucket_table.specs.Rehash.Carrying.{CarriesOrder}
+use Rattle.bucket_table.specs.Rehash.State.{IsTicketState}
+use Rattle.bucket_table.specs.Resize.Remaking.{CarriesOrderTo, IsSettledAt, RehashesTo, unopened}
+use Rattle.bucket_table.specs.Resize.Resizing.{IsPushed}
+use Rattle.bucket_table.proofs.Map.MapKept.{one_map_kept, state_found}
+use Rattle.bucket_table.proofs.Resize.Following.{pushed_keeps}
+use Rattle.bucket_table.proofs.Views.Keeping.{keeps_both}
+use Rattle.bucket_table.proofs.Views.Killed.{length-killed_flags}
+use Rattle.bucket_table.proofs.Views.Laws.{none_open}
+
+-- of what is refused nothing need be shown
+pub refused : {A E : Type 0} (P : Type 0) (answer : Result A E) → IsErr answer → OnOk answer P
+refused P (Ok x) is = absurd cc
+refused P (Err e) is = tt
+
+no_error : {A E : Type 0} (x : A) (e : E) → Ok x ≡ Err e → ⊥
+no_error x e same = absurd cc
+
+-- there is one length for a capacity
+pub len_is_one : (capacity len other : ℕ) → IsLengthFor capacity len → IsLengthFor capacity other → len ≡ other
+len_is_one capacity len other (power, least, is) (again, again_least, again_is) =
+    is ∙ ap (λ (n : ℕ). max 64 n / 32) (least_is_one _ power again least again_least) ∙ sym again_is
+
+same_tickets : (position : ℕ) (units : List ℕ) (len : ℕ) → position ≡ 0 → units ≡ [] → len ≡ 0
+    → record { position = position; open_units = units; len = len } ≡ first_tickets 0
+same_tickets position units len at none empty = rw (at, none, empty) refl
+
+-- the tickets of no bucket
+pub tickets_none : (tickets : TicketState) → IsTicketState tickets → tickets.len ≡ 0 → tickets ≡ first_tickets 0
+tickets_none tickets is none =
+    let at = is.position_in_range in
+    same_tickets tickets.position tickets.open_units tickets.len (omega (arith, at, none)) (none_open tickets is none) none
+
+module _ {K V : Type 0} where
+  -- where no old array stands no ticket is open
+  pub unopened_alone : (arrays : ArraysView K V) → IsTicketState arrays.tickets → arrays.tickets.len ≡ length arrays.linked
+      → length arrays.linked ≡ 0 → unopened arrays ≡ arrays
+  unopened_alone arrays is same none =
+      ap (λ (t : TicketState). record arrays { tickets = t })
+      (ap (λ (n : ℕ). first_tickets n) none ∙ sym (tickets_none arrays.tickets is (same ∙ none)))
+
+  -- the units of an old array may be worked again from the first on: what is killed has no pair left
+  pub unopened_placed : (hash : K → ℕ) (arrays : ArraysView K V) → ArePlaced hash arrays → ArePlaced hash (unopened arrays)
+  unopened_placed hash arrays law = record {
+    homes = law.homes;
+    rehashed = record {
+      covered = record {
+        same_len = length-killed_flags arrays.linked;
+        units_in_range = λ i d below. absurd (omega arith);
+        done_or_open = λ unit below. absurd (omega arith);
+      };
+      going_on = λ some. inl (omega arith);
+      emptied = law.rehashed.emptied;
+    };
+  }
+
+  -- no unit of the array that is the old one now was handed out
+  pub pushed_unopened : (capacity : ℕ) (old new : ArraysView K V) → IsPushed capacity old new → new.tickets.open_units ≡ []
+  pushed_unopened capacity old new is = ap (λ (a : ArraysView K V). a.tickets.open_units) is.new_is
+
+  carries_unopened : (old new : ArraysView K V) → CarriesOrder (unopened old) new → CarriesOrder old new
+  carries_unopened old new c =
+      record { moved = c.moved; left = c.left; stay = c.stay; arrived = c.arrived; carried = c.carried }
+
+  pub begun_keeps : (old begun second : ArraysView K V) → begun ≡ unopened old → KeepsArrays begun second
+      → KeepsArrays (unopened old) second
+  begun_keeps old begun second is kept = subst (λ (a : ArraysView K V). KeepsArrays a second) is kept
+
+-- the rehash that is on is finished, no ticket of it being open
+module _ {K V A E : Type 0} (capacity : ℕ) (old begun second : ArraysView K V) (is : begun ≡ unopened old) (tickets : IsTicketState old.tickets)
+    (law : AreArrays old) (answer : Result A E) (done : A)
+    (alone : length begun.linked ≡ 0 → (answer ≡ Ok done) × (second ≡ begun)) where
+  nothing_on : IsSettledAt capacity old → (answer ≡ Ok done) × (second ≡ begun)
+  nothing_on there = alone (ap (λ (a : ArraysView K V). length a.linked) is ∙ there.alone)
+
+  pub still : IsSettledAt capacity old → second ≡ old
+  still there = (nothing_on there).1 ∙ is ∙ unopened_alone old tickets law.tickets_len there.alone
+
+  pub not_refused : (error : E) → answer ≡ Err error → IsSettledAt capacity old → ⊥
+  not_refused error was there = no_error done error (sym (nothing_on there).0 ∙ was)
+
+  -- another length is wanted
+  pub elsewhere : (len wanted : ℕ) → len ≡ length second.current → IsLengthFor capacity wanted → (len ≡ wanted → ⊥)
+      → IsSettledAt capacity old → ⊥
+  elsewhere len wanted len_is for apart there =
+      let same = ap (λ (a : ArraysView K V). length a.current) (still there) in
+      apart (len_is ∙ same ∙ len_is_one capacity _ wanted there.len for)
+
+module _ {K V E : Type 0} (capacity : ℕ) (old second : ArraysView K V) (first : KeepsArrays (unopened old) second) where
+  -- the rehash that was on has ended, or was refused
+  pub stands : (answer : Result (Unit {0}) E) → second.tickets.open_units ≡ [] → OnOk answer (IsSettledAt capacity second)
+      → (IsSettledAt capacity old → (answer ≡ Ok tt) × (second ≡ old)) → RehashesTo capacity old answer second
+  stands answer none settled there = record {
+    kept = first.keeps;
+    none_open = none;
+    order = record { between = second; first = carries_unopened old second first.order; again = inl refl };
+    settled = settled;
+    there = there;
+  }
+
+  -- an array was made, and all pairs have moved there, or were refused on the way
+  pub moved_all : (answer : Result (Unit {0}) E) (pushed third : ArraysView K V) → IsPushed capacity second pushed
+      → KeepsArrays pushed third → third.tickets.open_units ≡ [] → OnOk answer (length third.linked ≡ 0) → (IsSettledAt capacity old → ⊥)
+      → RehashesTo capacity old answer third
+  moved_all answer pushed third is then none gone elsewhere = record {
+    kept = keeps_both _ second third first.keeps (keeps_both second pushed third (pushed_keeps capacity second pushed is) then.keeps);
+    none_open = none;
+    order = record { between = second; first = carries_unopened old second first.order; again = inr (pushed, is, then.order) };
+    settled = settled answer gone;
+    there = λ there. absurd (elsewhere there);
+  }
+    where
+      length_is : IsLengthFor capacity (length third.current)
+      length_is = rw (then.current_len, ap (λ (a : ArraysView K V). length a.current) is.new_is) is.fresh_is.len
+
+      settled : (answer : Result (Unit {0}) E) → OnOk answer (length third.linked ≡ 0) → OnOk answer (IsSettledAt capacity third)
+      settled (Ok done) gone = record { alone = gone; len = length_is }
+      settled (Err refused) gone = tt
+
+module _ {K V E : Type 0} (capacity : ℕ) (old : ArraysView K V) (answer : Result (Unit {0}) E) (new : ArraysView K V)
+    (done : RehashesTo capacity old answer new) where
+  -- the arrays are one map still
+  pub one_map_remade : (eq : K → K → Bool) → IsEquivalence eq → (hash : K → ℕ) → IsOneMap eq hash old → ArePlaced hash new
+      → IsOneMap eq hash new
+  one_map_remade eq laws hash one placed = one_map_kept eq laws hash (unopened old) new
+      (record { distinct = one.distinct; placed = unopened_placed hash old one.placed }) done.kept placed
+
+  pub map_remade : {H : Type 0} (kind : ℕ) (hasher : H)
+      → KeepsPairs (state_of kind (record { hasher = hasher; arrays = old })) (state_of kind (record { hasher = hasher; arrays = new }))
+  map_remade kind hasher = state_found kind hasher (unopened old) new done.kept

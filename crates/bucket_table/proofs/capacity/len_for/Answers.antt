@@ -1,0 +1,13 @@
+use Rattle.bucket_table.proofs.Words.{IsLeastPowerOfTwo, min, rules, subst, ℕ, ◌^◌, ◌≡◌}
+use Rattle.bucket_slots.proofs.ArrayCallerLemmas.{least_from_half}
+use Rattle.bucket_table.proofs.capacity.len_for.Goals as goal
+
+pub returns : goal.returns
+returns c =
+    let found = c.next_power_of_two-slots.ensures in
+    let least = least_from_half _ c.next_power_of_two-slots.result found.power found.lower_bound found.upper_bound in
+    let cut : c.min.result ≡ min c.args.capacity (2 ^ 62) = search rules in (
+      c.next_power_of_two-slots.result,
+      subst (λ (n : ℕ). IsLeastPowerOfTwo n c.next_power_of_two-slots.result) cut least,
+      search rules,
+    )
