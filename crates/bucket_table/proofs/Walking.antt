@@ -22,3 +22,4 @@ pub mod ReadSteps
 pub mod LentPairs
 pub mod WalkCounts
 pub mod Left
+pub mod Draining

@@ -5,3 +5,4 @@ pub mod Cursors
 pub mod Left
 pub mod Sweeps
 pub mod Retains
+pub mod Drains

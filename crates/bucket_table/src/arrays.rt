@@ -9,6 +9,7 @@ ghost use Rattle.bucket_table.specs.Rehash.State.{IsTicketState, first_tickets, 
 mod clearing;
 mod counting;
 mod cursor;
+mod draining;
 mod each_pair;
 mod finding;
 mod finishing;
@@ -32,6 +33,7 @@ mod unit;
 use crate::tickets::Tickets;
 use bucket_slots::bucket_array::BucketArray;
 use bucket_slots::lru::LruList;
+pub use draining::{ArrayDrain, TableDrain};
 pub use pairs::{ArraysPairs, Kind, TablePairs};
 pub use peeking::peek_arrays;
 pub(crate) use searching::Spot;

@@ -17,6 +17,7 @@ mod by_key;
 mod clearing;
 mod counting;
 mod cursor;
+mod draining;
 mod each_pair;
 mod entries;
 mod finishing;
@@ -33,7 +34,9 @@ mod walks;
 mod write_access;
 
 use crate::arrays::Arrays;
-pub use crate::arrays::{ArraysPairs, Kind, Missing, Side, TablePairs, peek_arrays};
+pub use crate::arrays::{
+    ArrayDrain, ArraysPairs, Kind, Missing, Side, TableDrain, TablePairs, peek_arrays,
+};
 pub use crate::capacity::{
     from_index_to_range, num_entries_from_hint, ranges_part_the_indices,
     table_capacity_from_num_entries,

@@ -1,0 +1,7 @@
+-- Of which kinds of table pairs are taken out of their slots.
+use Rattle.std.specs.Prelude.{ℕ, ◌≢◌}
+use Rattle.bucket_slots.specs.declared.bucket.TheConstants.{INDEX}
+
+-- the kind isn't an index, whose removed pairs keep their slots
+abbrev pub FreesSlots : ℕ → Type 0
+FreesSlots kind = kind ≢ INDEX
