@@ -29,6 +29,7 @@ impl<K, V, L: LruList, const TYPE: u8> Arrays<K, V, L, TYPE> {
     ) -> Option<Spot<K, V, TYPE>>
         ensures found { IfSome result (λ spot.
             StandsAt (P.wants probe.old) self.now spot.side spot.index spot.at) }
+        ensures side { IfSome result (λ spot. spot.side ≡ side) }
         ensures absent { IfNone result (pair_wanted (P.wants probe.old) (hash % 256)
             (home_bucket hash (buckets_on self.now side)) ≡ None) }
         ensures fixed { P.wants probe.new ≡ P.wants probe.old }

@@ -199,4 +199,23 @@ impl<K: Drop, V: Drop, L: LruList + Drop, const TYPE: u8> Arrays<K, V, L, TYPE> 
         self.shrink_left(side, index, left);
         Some(pair)
     }
+
+    /// Takes the pair that `take_on` takes, and lends the bucket only where there is one. A loan
+    /// makes the buckets of a part, and those of an old array that are all killed are given back.
+    #[inline(always)]
+    pub(crate) fn search_and_take<P: KeyProbe<K>>(
+        &mut self,
+        side: Side,
+        hash: u64,
+        probe: &mut P,
+    ) -> Option<(K, V)>
+        requires not_index { TYPE ≢ INDEX }
+        ensures taken { TakesOn (P.wants probe.old) hash side self.old result self.new }
+        ensures fixed { P.wants probe.new ≡ P.wants probe.old }
+    {
+        match self.search_on(side, hash, probe) {
+            Some(mut spot) => Some(self.take_at(spot.side, spot.index, &mut spot.at)),
+            None => None,
+        }
+    }
 }

@@ -47,7 +47,7 @@ impl<K: Eq + Drop, V: Drop, H: KeyHash<K>, L: LruList + Drop, const TYPE: u8> Ha
         ensures fixed { P.wants probe.new ≡ P.wants probe.old }
     {
         let _ready = self.fetch_home(hash);
-        if let Some(pair) = self.arrays.take_on(Side::Old, hash, probe) {
+        if let Some(pair) = self.arrays.search_and_take(Side::Old, hash, probe) {
             return Some(pair);
         }
         self.arrays.take_on(Side::Current, hash, probe)
