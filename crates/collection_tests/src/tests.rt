@@ -5,6 +5,7 @@ mod cache_changes;
 mod caches;
 mod clones;
 mod copies;
+mod draining;
 mod drops;
 mod entries;
 mod equality;

@@ -16,6 +16,7 @@ ghost use Rattle.collections.specs.Changes.{Puts, Removes};
 ghost use Rattle.collections.specs.Maps.{contains_by, get_by, IsEmpty, map_len, map_of};
 
 mod changing;
+mod draining;
 mod iterating;
 mod printing;
 mod putting;
@@ -28,6 +29,7 @@ use bucket_slots::lru::DoublyLinkedList;
 pub use bucket_table::hash_table::NotInserted;
 use bucket_table::hash_table::{HashTable, MAXIMUM_CAPACITY_LIMIT};
 use bucket_table::key_hash::{KeyHash, StdHash};
+pub use draining::Drain;
 pub use iterating::{Iter, Keys, Values};
 pub use putting::Upserted;
 use std::alloc::Global;

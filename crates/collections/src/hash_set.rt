@@ -16,6 +16,7 @@ ghost use Rattle.collections.specs.Maps.{contains, contains_by, IsEmpty, map_len
 
 mod cloning;
 mod collecting;
+mod draining;
 mod from_keys;
 mod iterating;
 mod keeping;
@@ -25,6 +26,7 @@ use crate::default_hash::DefaultHash;
 use crate::hash_map::{HashMap, NotInserted};
 use crate::key_form::KeyForm;
 use bucket_table::key_hash::{KeyHash, StdHash};
+pub use draining::{Drain, IntoIter};
 pub use iterating::Iter;
 use std::alloc::{AllocError, Global};
 use std::fmt::{self, Debug, Formatter, Write};

@@ -9,6 +9,7 @@
 #![tactic(auto)]
 
 mod default_hash;
+mod draining;
 pub mod hash_cache;
 pub mod hash_index;
 pub mod hash_map;

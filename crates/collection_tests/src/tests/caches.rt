@@ -9,7 +9,7 @@ use std::process::Abort;
 use std::rc::Rc;
 use std::test::Fail;
 
-type Cache = HashCache<u64, u64, ScriptHash>;
+pub(super) type Cache = HashCache<u64, u64, ScriptHash>;
 
 /// A call on a cache with what it answers, or what is seen of the cache. Of two keys the second is
 /// the first that is not meant.

@@ -67,7 +67,7 @@ fn two_sets_are_joined_and_parted(rt: HostRuntime) -> Result<(), Fail> {
 }
 
 // A set of keys.
-fn set_of(alloc: Global, hasher: ScriptHash, ranges: Ranges) -> Result<Set, Fail> {
+pub(super) fn set_of(alloc: Global, hasher: ScriptHash, ranges: Ranges) -> Result<Set, Fail> {
     let mut set = HashSet::with_hasher(alloc, hasher);
     for (from, to) in ranges {
         for key in *from..*to {
