@@ -23,6 +23,11 @@ none_equal : {K : Type 0} (eq : K → K → Bool) → IsDistinct eq []
 unfolding IsDistinct
 none_equal eq = tt
 
+-- a list with an item in it isn't empty
+has_pair : {A : Type 0} (front rest : List A) (x : A) → front ++ x ∷ rest ≡ [] → ⊥
+has_pair [] rest x e = absurd cc
+has_pair (y ∷ front) rest x e = absurd cc
+
 -- two keys are apart where equal ones are
 apart_too : {K : Type 0} (eq : K → K → Bool) → IsEquivalence eq → (own key other clone : K) → eq own key ≡ true
     → eq other clone ≡ true → eq own other ≡ false → eq key clone ≡ false
@@ -74,6 +79,12 @@ module _ {K V H : Type 0} (eq : K → K → Bool) (IsKey : K → K → Type 0) (
   none_cloned own first empty =
       let unique : IsUnique eq first = subst (λ (es : List (K × V)). IsDistinct eq (keys_of es)) (sym empty) (none_equal eq) in
       record { seen = []; pairs = []; all = refl; clones = tt; puts = none_put eq first unique }
+
+  -- a map of which a pair is left isn't empty
+  pub some_left : (own first now : MapView K V H) (left rest : List (K × V)) (pair : K × V) → IsCloning own first now left
+      → left ≡ pair ∷ rest → IsEmpty own → ⊥
+  some_left own first now left rest pair so_far is empty =
+      has_pair so_far.seen rest pair (sym (so_far.all ∙ ap (λ (l : List (K × V)). so_far.seen ++ l) is) ∙ empty)
 
   pub one_more_cloned : (own first mid new : MapView K V H) (left rest : List (K × V)) (pair clone : K × V)
       → IsCloning own first mid left → left ≡ pair ∷ rest → IsClonedPair eq IsKey IsValue pair clone

@@ -3,7 +3,7 @@
 //! Model: `MapView`, whose pairs are the keys beside `()`.
 //!
 //! Ports scc's `src/hash_set.rs` to an owned set.
-ghost use Rattle.std.specs.Prelude.{◌≡◌, ◌↔◌, ◌-◌, ◌^◌, [], Err, IfOk, IsTrue, min, not, true};
+ghost use Rattle.std.specs.Prelude.{◌≡◌, ◌↔◌, ◌-◌, ◌^◌, [], Err, IfOk, IsOk, IsTrue, min, not, true};
 ghost use Rattle.std.specs.Fn.{CalledAt};
 ghost use Rattle.std.specs.Map.{keys_of};
 ghost use Rattle.bucket_table.specs.declared.hash_table.NotInserted.TheVariants.{Memory};
@@ -277,11 +277,12 @@ impl<K: Eq + Copy, H: KeyHash<K> + Copy> HashSet<K, H> {
     ///
     /// # Errors
     ///
-    /// Allocation failure.
+    /// Allocation failure. An empty set takes no memory.
     ///
     /// O(slots) expected. Own: `try_clone` of what can be copied, which says more.
     pub fn try_copy(&self, alloc: Global) -> Result<Self, AllocError>
-        ensures { IfOk result (λ copy. IsCopy K.eq self.now copy) }
+        ensures copy { IfOk result (λ copy. IsCopy K.eq self.now copy) }
+        ensures succeeds { IsEmpty self.now → IsOk result }
     {
         let map = self.map.try_copy(alloc)?;
         Ok(HashSet { map })

@@ -1,9 +1,9 @@
 //! A copy of a map whose keys, values and hasher are copied, which can be refused.
-ghost use Rattle.std.specs.Prelude.{◌≡◌, IfOk, None};
+ghost use Rattle.std.specs.Prelude.{◌≡◌, IfOk, IsOk, None};
 ghost use Rattle.std.specs.List.{FoldsTo};
 ghost use Rattle.collections.specs.Changes.{Adds};
 ghost use Rattle.collections.specs.Copies.{BecomesOrGoes, IsCopy};
-ghost use Rattle.collections.specs.Maps.{get};
+ghost use Rattle.collections.specs.Maps.{IsEmpty, get};
 
 use crate::hash_map::HashMap;
 use bucket_table::key_hash::KeyHash;
@@ -41,11 +41,12 @@ impl<K: Eq + Copy, V: Copy, H: KeyHash<K> + Copy> HashMap<K, V, H> {
     ///
     /// # Errors
     ///
-    /// Allocation failure.
+    /// Allocation failure. An empty map takes no memory.
     ///
     /// O(slots) expected. Own: `try_clone` of what can be copied, which says more.
     pub fn try_copy(&self, alloc: Global) -> Result<Self, AllocError>
-        ensures { IfOk result (λ copy. IsCopy K.eq self.now copy) }
+        ensures copy { IfOk result (λ copy. IsCopy K.eq self.now copy) }
+        ensures succeeds { IsEmpty self.now → IsOk result }
     {
         self.room.learn();
         self.table.sound();

@@ -1,6 +1,7 @@
 //! A copy of a set whose keys are clones, which can be refused.
-ghost use Rattle.std.specs.Prelude.{◌≡◌, IfOk};
+ghost use Rattle.std.specs.Prelude.{◌≡◌, IfOk, IsOk};
 ghost use Rattle.collections.specs.Clones.{IsClone};
+ghost use Rattle.collections.specs.Maps.{IsEmpty};
 
 use crate::hash_set::HashSet;
 use bucket_table::key_hash::KeyHash;
@@ -13,12 +14,13 @@ impl<K: Eq + Clone, H: KeyHash<K> + Clone> HashSet<K, H> {
     /// # Errors
     ///
     /// Allocation failure; or a key's clone isn't equal to it, since no law of `Clone` says that it
-    /// is.
+    /// is. An empty set takes no memory but for its hasher's clone.
     ///
     /// O(slots) expected. scc: `HashSet::clone`.
     pub fn try_clone(&self, alloc: Global) -> Result<Self, AllocError>
-        ensures { IfOk result (λ copy. IsClone K.eq K.is_clone (λ own held. held ≡ own) H.is_clone
-            self.now copy) }
+        ensures copy { IfOk result (λ copy. IsClone K.eq K.is_clone (λ own held. held ≡ own)
+            H.is_clone self.now copy) }
+        ensures succeeds { IsEmpty self.now → H.is_infallible self.now.hasher → IsOk result }
     {
         match self.map.try_clone(alloc) {
             Ok(map) => Ok(HashSet { map }),

@@ -1,6 +1,6 @@
 use Rattle.std.proofs.Common.{◌≡◌, ◌∙◌, ap, subst, sym, true}
 use Rattle.std.specs.Prelude.{◌^◌, min}
-use Rattle.collections.proofs.Cloning.{IsCloning, cloned, none_cloned, one_more_cloned}
+use Rattle.collections.proofs.Cloning.{IsCloning, cloned, none_cloned, one_more_cloned, some_left}
 use Rattle.collections.proofs.Collecting.{upsert_puts}
 use Rattle.collections.proofs.hash_map.HashMap.try_clone.Goals as goal
 
@@ -24,8 +24,8 @@ loop-pair-preserved g c =
     c.next.new.self (pair.0.now, pair.1.now) (c.in_ok-own.own, c.in_ok-held.held) c.loop-pair.invariant c.in-Some.ensures.steps
     ((c.in_ok-own.ensures.cases, same), c.in_ok-held.ensures.cases) put
 
-pub returns : goal.returns
-returns g c =
+pub returns-clause-copy : goal.returns-clause-copy
+returns-clause-copy g c =
     let own = c.args.self.now in
     let made = c.with_capacity-copy in
     let hasher : c.hasher.result.now ≡ own.hasher = rw (← c.self.view_is) c.hasher.ensures in
@@ -34,3 +34,32 @@ returns g c =
     cloned g.K.PartialEq.eq g.K.Clone.is_clone g.V.Clone.is_clone g.met.K.Eq.laws g.H.Clone.is_clone own made.result c.loop-pair.copy
     c.loop-pair.pairs c.hasher.result.now c.in_ok-hasher.hasher c.loop-pair.invariant c.in_default.ensures.steps.0
     c.iter-pairs.ensures.unique made.ensures.empty hasher c.in_ok-hasher.ensures.cases made.ensures.hasher minimum made.ensures.maximum
+
+pub returns-in_err-hasher-clause-succeeds : goal.returns-in_err-hasher-clause-succeeds
+returns-in_err-hasher-clause-succeeds g c =
+    let hasher : c.hasher.result.now ≡ c.args.self.now.hasher = rw (← c.self.view_is) c.hasher.ensures in
+    λ empty sure. absurd (c.in_err-hasher.ensures.cases (rw hasher sure))
+
+pub returns-in_err-own-clause-succeeds : goal.returns-in_err-own-clause-succeeds
+returns-in_err-own-clause-succeeds g c =
+    let pair = c.in-Some.pair in
+    λ empty sure. absurd (some_left g.K.PartialEq.eq g.K.Clone.is_clone g.V.Clone.is_clone c.args.self.now c.with_capacity-copy.result
+    c.loop-pair.copy c.loop-pair.pairs c.next.new.self (pair.0.now, pair.1.now) c.loop-pair.invariant c.in-Some.ensures.steps empty)
+
+pub returns-then-not-eq-clause-succeeds : goal.returns-then-not-eq-clause-succeeds
+returns-then-not-eq-clause-succeeds g c =
+    let pair = c.in-Some.pair in
+    λ empty sure. absurd (some_left g.K.PartialEq.eq g.K.Clone.is_clone g.V.Clone.is_clone c.args.self.now c.with_capacity-copy.result
+    c.loop-pair.copy c.loop-pair.pairs c.next.new.self (pair.0.now, pair.1.now) c.loop-pair.invariant c.in-Some.ensures.steps empty)
+
+pub returns-in_err-held-clause-succeeds : goal.returns-in_err-held-clause-succeeds
+returns-in_err-held-clause-succeeds g c =
+    let pair = c.in-Some.pair in
+    λ empty sure. absurd (some_left g.K.PartialEq.eq g.K.Clone.is_clone g.V.Clone.is_clone c.args.self.now c.with_capacity-copy.result
+    c.loop-pair.copy c.loop-pair.pairs c.next.new.self (pair.0.now, pair.1.now) c.loop-pair.invariant c.in-Some.ensures.steps empty)
+
+pub returns-in-Err-clause-succeeds : goal.returns-in-Err-clause-succeeds
+returns-in-Err-clause-succeeds g c =
+    let pair = c.in-Some.pair in
+    λ empty sure. absurd (some_left g.K.PartialEq.eq g.K.Clone.is_clone g.V.Clone.is_clone c.args.self.now c.with_capacity-copy.result
+    c.loop-pair.copy c.loop-pair.pairs c.next.new.self (pair.0.now, pair.1.now) c.loop-pair.invariant c.in-Some.ensures.steps empty)

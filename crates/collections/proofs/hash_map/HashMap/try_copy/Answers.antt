@@ -4,8 +4,8 @@ use Rattle.collections.specs.Maps.{IsUnique}
 use Rattle.collections.proofs.Copying.{copied}
 use Rattle.collections.proofs.hash_map.HashMap.try_copy.Goals as goal
 
-pub returns-in-Some : goal.returns-in-Some
-returns-in-Some g c =
+pub returns-in-Some-clause-copy : goal.returns-in-Some-clause-copy
+returns-in-Some-clause-copy g c =
     let own = c.args.self.now in
     let made = c.with_capacity in
     let unique : IsUnique g.K.PartialEq.eq own = rw (← c.self.view_is) c.sound.ensures.one_map.distinct in
@@ -14,3 +14,6 @@ returns-in-Some g c =
     rw (← c.self.view_is) (made.ensures.minimum ∙ ap (λ m. min m (2 ^ 63)) c.minimum_capacity-minimum.ensures) in
     copied g.K.PartialEq.eq g.met.K.Eq.laws own made.result c.in-Some.own unique made.ensures.empty hasher minimum
     made.ensures.maximum (rw c.in-Some.is at c.pour.ensures)
+
+pub returns-in-None-clause-succeeds : goal.returns-in-None-clause-succeeds
+returns-in-None-clause-succeeds g c = λ empty. absurd (cc (rw empty at (rw c.in-None.is at c.pour.ensures)))
