@@ -2,12 +2,13 @@
 use Rattle.bucket_table.proofs.Words.{AreArrays, ArePlaced, ArraysView, Bool, Err, IsEquivalence, IsOneMap, KeepsArrays, KeepsPairs, List, Ok, OnOk}
 use Rattle.bucket_table.proofs.Words.{Result, TicketState, [], ap, arith, first_tickets, inl, inr, length, refl, subst, sym, true, ℕ, ◌/◌, ◌∙◌, ◌≡◌}
 use Rattle.std.proofs.Common.{max}
-use Rattle.std.specs.Prelude.{IsErr}
+use Rattle.std.specs.Prelude.{IsErr, OnErr}
 use Rattle.bucket_slots.specs.Sizing.{IsLengthFor}
 use Rattle.bucket_slots.proofs.ArrayCallerLemmas.{least_is_one}
 use Rattle.bucket_table.specs.Map.MapState.{state_of}
 use Rattle.bucket_table.specs.Rehash.Carrying.{CarriesOrder}
 use Rattle.bucket_table.specs.Rehash.State.{IsTicketState}
+use Rattle.bucket_table.specs.Rehash.Units.{WantsMemory}
 use Rattle.bucket_table.specs.Resize.Remaking.{CarriesOrderTo, IsSettledAt, RehashesTo, unopened}
 use Rattle.bucket_table.specs.Resize.Resizing.{IsPushed}
 use Rattle.bucket_table.proofs.Map.MapKept.{one_map_kept, state_found}
@@ -20,6 +21,11 @@ use Rattle.bucket_table.proofs.Views.Laws.{none_open}
 pub refused : {A E : Type 0} (P : Type 0) (answer : Result A E) → IsErr answer → OnOk answer P
 refused P (Ok x) is = absurd cc
 refused P (Err e) is = tt
+
+-- what is always so is so at an error
+pub at_error : {A E : Type 0} (P : Type 0) (answer : Result A E) → P → OnErr answer P
+at_error P (Ok x) is = tt
+at_error P (Err e) is = is
 
 no_error : {A E : Type 0} (x : A) (e : E) → Ok x ≡ Err e → ⊥
 no_error x e same = absurd cc
@@ -70,6 +76,13 @@ module _ {K V : Type 0} where
   carries_unopened old new c =
       record { moved = c.moved; left = c.left; stay = c.stay; arrived = c.arrived; carried = c.carried }
 
+  -- an old bucket wanted memory in the rehash that was on
+  pub begun_wants : {A E : Type 0} (old begun second : ArraysView K V) → begun ≡ unopened old → (answer : Result A E) (error : E)
+      → OnErr answer (WantsMemory (λ i. Unit {0}) begun second) → answer ≡ Err error → WantsMemory (λ i. Unit {0}) (unopened old) second
+  begun_wants {A} {E} old begun second is answer error wants was =
+      subst (λ (a : ArraysView K V). WantsMemory (λ i. Unit {0}) a second) is
+      (subst (λ (r : Result A E). OnErr r (WantsMemory (λ i. Unit {0}) begun second)) was wants)
+
   pub begun_keeps : (old begun second : ArraysView K V) → begun ≡ unopened old → KeepsArrays begun second
       → KeepsArrays (unopened old) second
   begun_keeps old begun second is kept = subst (λ (a : ArraysView K V). KeepsArrays a second) is kept
@@ -87,35 +100,38 @@ module _ {K V A E : Type 0} (capacity : ℕ) (old begun second : ArraysView K V)
   pub not_refused : (error : E) → answer ≡ Err error → IsSettledAt capacity old → ⊥
   not_refused error was there = no_error done error (sym (nothing_on there).0 ∙ was)
 
+module _ {K V : Type 0} (capacity : ℕ) (old second : ArraysView K V) (first : KeepsArrays (unopened old) second) where
   -- another length is wanted
   pub elsewhere : (len wanted : ℕ) → len ≡ length second.current → IsLengthFor capacity wanted → (len ≡ wanted → ⊥)
-      → IsSettledAt capacity old → ⊥
-  elsewhere len wanted len_is for apart there =
-      let same = ap (λ (a : ArraysView K V). length a.current) (still there) in
-      apart (len_is ∙ same ∙ len_is_one capacity _ wanted there.len for)
+      → IsLengthFor capacity (length old.current) → ⊥
+  elsewhere len wanted len_is for apart there = apart (len_is ∙ first.current_len ∙ len_is_one capacity _ wanted there for)
 
 module _ {K V E : Type 0} (capacity : ℕ) (old second : ArraysView K V) (first : KeepsArrays (unopened old) second) where
   -- the rehash that was on has ended, or was refused
   pub stands : (answer : Result (Unit {0}) E) → second.tickets.open_units ≡ [] → OnOk answer (IsSettledAt capacity second)
-      → (IsSettledAt capacity old → (answer ≡ Ok tt) × (second ≡ old)) → RehashesTo capacity old answer second
-  stands answer none settled there = record {
+      → (IsSettledAt capacity old → (answer ≡ Ok tt) × (second ≡ old))
+      → OnErr answer (IsLengthFor capacity (length old.current) → WantsMemory (λ i. Unit {0}) (unopened old) second)
+      → RehashesTo capacity old answer second
+  stands answer none settled there wanted = record {
     kept = first.keeps;
     none_open = none;
     order = record { between = second; first = carries_unopened old second first.order; again = inl refl };
     settled = settled;
     there = there;
+    refused = wanted;
   }
 
   -- an array was made, and all pairs have moved there, or were refused on the way
   pub moved_all : (answer : Result (Unit {0}) E) (pushed third : ArraysView K V) → IsPushed capacity second pushed
-      → KeepsArrays pushed third → third.tickets.open_units ≡ [] → OnOk answer (length third.linked ≡ 0) → (IsSettledAt capacity old → ⊥)
-      → RehashesTo capacity old answer third
-  moved_all answer pushed third is then none gone elsewhere = record {
+      → KeepsArrays pushed third → third.tickets.open_units ≡ [] → OnOk answer (length third.linked ≡ 0)
+      → (IsLengthFor capacity (length old.current) → ⊥) → RehashesTo capacity old answer third
+  moved_all answer pushed third is then none gone apart = record {
     kept = keeps_both _ second third first.keeps (keeps_both second pushed third (pushed_keeps capacity second pushed is) then.keeps);
     none_open = none;
     order = record { between = second; first = carries_unopened old second first.order; again = inr (pushed, is, then.order) };
     settled = settled answer gone;
-    there = λ there. absurd (elsewhere there);
+    there = λ there. absurd (apart there.len);
+    refused = at_error _ answer (λ len. absurd (apart len));
   }
     where
       length_is : IsLengthFor capacity (length third.current)
