@@ -1,3 +1,4 @@
+pub mod Crosses
 pub mod Equal
 pub mod Lookups
 pub mod Steps
