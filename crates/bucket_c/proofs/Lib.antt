@@ -1,4 +1,5 @@
 mod Copied
+mod Crosses
 mod CopiedTexts
 mod Holding
 mod KeysCalled

@@ -6,6 +6,7 @@ use crate::codes::{NO_MEMORY, OK, OPEN};
 use crate::held::Held;
 use crate::tables::Table;
 use std::alloc::Global;
+use std::marker::Send;
 use std::mem::replace;
 
 /// A handle of a table, which C only carries: all zero bytes are a closed one.
@@ -62,3 +63,10 @@ impl Handle {
         }
     }
 }
+
+/// No work: it is proved here that a handle may go to another thread.
+pub fn handles_cross(handle: &Handle) {
+    crosses(handle);
+}
+
+fn crosses<T: Send>(_value: &T) {}

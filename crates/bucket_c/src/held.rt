@@ -6,7 +6,7 @@ ghost use Rattle.bucket_c.specs.Owning.{table_coded};
 use crate::parts::Parts;
 use crate::tables::Table;
 use std::alloc::Global;
-use std::marker::Model;
+use std::marker::{Model, Send};
 use std::ptr::null_mut;
 
 /// The pointer of a table's block, or null.
@@ -23,6 +23,9 @@ impl Model for Held {
 
     ghost also_owns = { λ h. owned h.alloc h.at h.table };
 }
+
+/// It alone owns its table, and each kind of table may go to another thread.
+unsafe impl Send for Held {}
 
 impl Held {
     /// Holds nothing.
