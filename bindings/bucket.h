@@ -11,7 +11,7 @@
  *   - no pointer is null, also where a length beside it is 0, and each points to as much as its length says;
  *   - buffers, outputs and the handle don't overlap;
  *   - a handle begins as BUCKET_HANDLE, and C neither reads nor writes its fields, nor uses a copy beside the original;
- *   - one call at a time on a handle, in the thread that opened it;
+ *   - one call at a time on a handle, in any thread: a lock, or a thread's start or join, orders the calls of two threads;
  *   - no call in a signal handler, or in the forked child of a process with threads;
  *   - `malloc` and `free` are of one allocator, whose blocks are aligned to 16, or to each lesser power of two that divides their size.
  * Else a call has no other condition: whatever was called before, it answers by a code.

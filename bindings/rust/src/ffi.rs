@@ -3,7 +3,6 @@
 use std::cell::UnsafeCell;
 use std::collections::hash_map::RandomState;
 use std::hash::{BuildHasher, Hasher};
-use std::marker::PhantomData;
 use std::ptr::null_mut;
 
 use crate::{NoMemory, NotInserted};
@@ -35,8 +34,6 @@ impl Seed {
 pub(crate) struct Raw {
     held: *mut u8,
     live: bool,
-    // No `Send` and no `Sync`.
-    here: PhantomData<*mut ()>,
 }
 
 #[repr(C)]
@@ -130,14 +127,19 @@ unsafe extern "C" {
 
 /// An open handle, which is freed as it is dropped.
 ///
-/// An export takes the handle by `&mut` even where it only reads, so it stands in a cell. It is in no
-/// thread but one, and no export calls anything of the caller's, so no two calls overlap.
+/// An export takes the handle by `&mut` even where it only reads, so it stands in a cell, which isn't
+/// `Sync`. So it is in one thread at a time, and no export calls anything of the caller's: no two calls
+/// overlap.
 pub(crate) struct Handle(UnsafeCell<Raw>);
+
+// SAFETY: it is proved that a handle may go to another thread, by `handles_cross` in
+// crates/bucket_c/src/handle.rt, and the cell keeps it from two threads at a time.
+unsafe impl Send for Handle {}
 
 impl Handle {
     /// Opens a handle by a `new` of `bucket.h`.
     pub fn open(new: impl FnOnce(*mut Raw) -> u32) -> Result<Handle, NoMemory> {
-        let handle = Handle(UnsafeCell::new(Raw { held: null_mut(), live: false, here: PhantomData }));
+        let handle = Handle(UnsafeCell::new(Raw { held: null_mut(), live: false }));
         match new(handle.raw()) {
             OK => Ok(handle),
             _ => Err(NoMemory),

@@ -6,7 +6,7 @@
 //! The declarations below and the `unsafe` round them are not proved. The calls ask nothing of their
 //! caller but what the types say, and a handle that only they change.
 //!
-//! No type is `Send` or `Sync`: the kit proves neither of the handle.
+//! A collection is `Send`, which is proved of the handle, and not `Sync`.
 #![warn(missing_docs)]
 
 mod cache;

@@ -189,3 +189,24 @@ fn collections_are_made_of_iterators_and_printed() {
     let long = TextMap::try_from_iter([(vec![7; 1_000_000], 1), (vec![8; 3], 2)]).unwrap();
     assert_eq!(long.into_iter().map(|(key, value)| key.len() as u64 * value).max(), Some(1_000_000));
 }
+
+#[test]
+fn collections_go_to_another_thread_and_back() {
+    let mut map = Map::try_from_iter((0..5000).map(|key| (key, key))).unwrap();
+    let mut texts = TextMap::try_from_iter([("Ann", 30)]).unwrap();
+    let mut set = TextSet::try_from_iter(["a"]).unwrap();
+    let mut cache = Cache::with_capacity_and_seed(64, 128, Seed::random()).unwrap();
+    let mut text_cache = TextCache::with_capacity_and_seed(64, 128, Seed::FIXED).unwrap();
+    let there = std::thread::spawn(move || {
+        assert_eq!(map.upsert(70, 1), Ok(Some(70)));
+        assert_eq!(texts.upsert("Ann", 31), Ok(Some(30)));
+        assert_eq!(set.insert("b"), Ok(true));
+        cache.put(1, 2).unwrap();
+        text_cache.put("Bob", 27).unwrap();
+        (map, texts, set, cache, text_cache)
+    });
+    let (mut map, texts, set, mut cache, mut text_cache) = there.join().unwrap();
+    assert_eq!((map.len(), map.get(70), map.remove(71)), (5000, Some(1), Some(71)));
+    assert_eq!((texts.get("Ann"), set.len()), (Some(31), 2));
+    assert_eq!((cache.get(1), text_cache.get("Bob")), (Some(2), Some(27)));
+}
