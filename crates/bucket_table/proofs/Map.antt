@@ -14,7 +14,6 @@ pub mod Evicting
 pub mod PutSlots
 pub mod Putting
 pub mod Finding
-pub mod HomeInserting
 pub mod Preparing
 pub mod SlotSteps
 pub mod TakingOn

@@ -28,7 +28,7 @@ mod updating;
 use crate::arrays::{Side, Spot};
 use crate::hash_table::{HashTable, NotInserted};
 use crate::key_hash::KeyHash;
-use bucket_slots::bucket::{BUCKET_LEN, Bucket, CACHE, EqProbe, Generation, INDEX};
+use bucket_slots::bucket::{Bucket, CACHE, EqProbe, Generation, INDEX};
 use bucket_slots::lru::LruList;
 pub use evicting::puts_keep_chains;
 
@@ -158,43 +158,11 @@ impl<K: Eq + Drop, V: Drop, H: KeyHash<K>, L: LruList + Drop, const TYPE: u8> Ha
             (H.hash_of self.old.hasher key % 256) between result answer self.new) }
     {
         let hash = self.hash(&key);
-        if self.arrays.has_old() || !self.arrays.has_current() {
-            return self.insert_found(hash, key, value, generation);
-        }
-        let index = self.arrays.home(hash);
-        self.insert_home(index, hash, key, value, generation)
-    }
-
-    /// Puts a pair into its home, where no old array stands. A home that is nearly full is found as
-    /// any other, since the table may have to grow.
-    #[inline(always)]
-    fn insert_home<G: Generation>(
-        &mut self,
-        index: usize,
-        hash: u64,
-        key: K,
-        value: V,
-        generation: &G,
-    ) -> Result<(), NotInserted<K, V>>
-        requires own_hash { hash ≡ H.hash_of self.old.hasher key }
-        requires alone { length self.old.arrays.linked ≡ 0 }
-        requires home { IsHome (length self.old.arrays.current) hash index }
-        ensures map { Inserts K.eq key value (state_of TYPE self.old) result
-            (state_of TYPE self.new) }
-        ensures arrays { FindsThen TYPE (H.hash_of self.old.hasher key) self.old (λ answer between.
-            InsertsAt TYPE (G.keeps generation.now) (key, value)
-            (H.hash_of self.old.hasher key % 256) between result answer self.new) }
-    {
-        self.arrays.room_of(Side::Current);
-        let bucket = self.arrays.bucket_of_mut(Side::Current, index);
-        if bucket.len() >= BUCKET_LEN - 1 {
-            return self.insert_found(hash, key, value, generation);
-        }
-        insert_absent(bucket, hash, key, value, generation)
+        self.insert_found(hash, key, value, generation)
     }
 
     /// Finds a bucket for a pair, and puts it there.
-    #[inline(never)]
+    #[inline(always)]
     fn insert_found<G: Generation>(
         &mut self,
         hash: u64,

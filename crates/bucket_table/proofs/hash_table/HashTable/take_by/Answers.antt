@@ -6,19 +6,22 @@ pub invariant_of-self : goal.invariant_of-self
 invariant_of-self g c =
     let prepared = rw (← c.self.view_is) at c.fetch_home-ready.ensures.prepared in
     (taken_from g.met.K.Eq.laws g.H.KeyHash.hash_of g.row.TYPE (g.P.KeyProbe.wants c.args.probe.now) c.args.hash c.self.inside.hasher
-    c.args.self.now c.self.inside.arrays c.self.invariant prepared Old c.in-Some.pair c.search_and_take.new.self c.in-Some.ensures.taken).one_map
+    c.args.self.now c.self.inside.arrays c.self.invariant prepared Old c.in-Some.pair c.search_and_take.new.self
+    c.in-Some.ensures.taken).one_map
 
 pub returns-in-Some-clause-map : goal.returns-in-Some-clause-map
 returns-in-Some-clause-map g c =
     let prepared = rw (← c.self.view_is) at c.fetch_home-ready.ensures.prepared in
     (taken_from g.met.K.Eq.laws g.H.KeyHash.hash_of g.row.TYPE (g.P.KeyProbe.wants c.args.probe.now) c.args.hash c.self.inside.hasher
-    c.args.self.now c.self.inside.arrays c.self.invariant prepared Old c.in-Some.pair c.search_and_take.new.self c.in-Some.ensures.taken).map
+    c.args.self.now c.self.inside.arrays c.self.invariant prepared Old c.in-Some.pair c.search_and_take.new.self
+    c.in-Some.ensures.taken).map
 
 pub returns-in-Some-clause-arrays : goal.returns-in-Some-clause-arrays
 returns-in-Some-clause-arrays g c =
     let prepared = rw (← c.self.view_is) at c.fetch_home-ready.ensures.prepared in
     (taken_from g.met.K.Eq.laws g.H.KeyHash.hash_of g.row.TYPE (g.P.KeyProbe.wants c.args.probe.now) c.args.hash c.self.inside.hasher
-    c.args.self.now c.self.inside.arrays c.self.invariant prepared Old c.in-Some.pair c.search_and_take.new.self c.in-Some.ensures.taken).arrays
+    c.args.self.now c.self.inside.arrays c.self.invariant prepared Old c.in-Some.pair c.search_and_take.new.self
+    c.in-Some.ensures.taken).arrays
 
 pub invariant_of-self-2 : goal.invariant_of-self-2
 invariant_of-self-2 g c =
