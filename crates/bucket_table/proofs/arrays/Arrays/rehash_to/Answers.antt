@@ -23,8 +23,11 @@ returns-then-len-len_for-clause-rehashed g c =
     stands c.args.capacity c.args.self.now c.finish_rehash.new.self
     (begun_keeps c.args.self.now _ c.finish_rehash.new.self c.reset_tickets.ensures e.kept) _ e.none_open
     (record { alone = c.in_ok-finish_rehash.ensures.gone; len = len })
-    (λ there. (refl, still c.args.capacity c.args.self.now _ c.finish_rehash.new.self c.reset_tickets.ensures
-    c.sound.ensures.tickets c.sound.ensures.arrays c.finish_rehash.result 0 e.alone there)) tt
+    (λ there. (
+      refl,
+      still c.args.capacity c.args.self.now _ c.finish_rehash.new.self c.reset_tickets.ensures
+          c.sound.ensures.tickets c.sound.ensures.arrays c.finish_rehash.result 0 e.alone there,
+    )) tt
 
 pub returns-in_err-remake_array-clause-rehashed : goal.returns-in_err-remake_array-clause-rehashed
 returns-in_err-remake_array-clause-rehashed g c =
