@@ -1,32 +1,46 @@
 -- A key's place in a map whose value was lent.
-use Rattle.std.proofs.Common.{Bool, Option, Some, ◌≡◌, ◌∙◌, cond, refl, sym, subst, ap}
+use Rattle.std.proofs.Common.{ℕ, Bool, Option, Some, ◌≡◌, ◌∙◌, cond, refl, sym, subst, ap}
 use Rattle.std.specs.Borrow.{MutBor}
 use Rattle.std.specs.Cmp.{IsEquivalence}
 use Rattle.std.specs.Option.{IfSome, IsSome, MatchOption}
-use Rattle.collections.specs.Changes.{Adds, Replaces}
-use Rattle.collections.specs.Loans.{Puts}
-use Rattle.collections.specs.Maps.{MapView, get}
+use Rattle.collections.specs.Changes.{Keeps, Replaces}
+use Rattle.collections.specs.Hashes.{HaveHash}
+use Rattle.collections.specs.Maps.{MapView, get, get_by}
+use Rattle.collections.proofs.Lookups.{IsForm, form_of_key}
+
+-- a hash that is known of keys stays so, where the hasher stays
+pub hash_stays : {K V H : Type 0} (eq : K → K → Bool) (hash_of : H → K → ℕ) (key : K) (hash : ℕ) (old new : MapView K V H) → Keeps eq old new
+    → hash ≡ hash_of old.hasher key → hash ≡ hash_of new.hasher key
+hash_stays eq hash_of key hash old new keeps is = is ∙ ap (λ h. hash_of h key) (sym keeps.hasher)
+
+pub hashes_stay : {K V H : Type 0} (eq : K → K → Bool) (hash_of : H → K → ℕ) (wants : K → Bool) (hash : ℕ) (old new : MapView K V H)
+    → Keeps eq old new → HaveHash wants (hash_of old.hasher) hash → HaveHash wants (hash_of new.hasher) hash
+hashes_stay eq hash_of wants hash old new keeps have = λ key wanted. ap (λ h. hash_of h key) keeps.hasher ∙ have key wanted
 
 -- what is lent is what was there
 pub same_as_lent : {V : Type 0} (P : V → Type 0) (held : Option V) (value : V) → Some value ≡ held
     → MatchOption held (P value) (λ v. value ≡ v)
 same_as_lent P held value is = subst (λ (o : Option _). MatchOption o (P value) (λ v. value ≡ v)) is refl
 
-module _ {K V H : Type 0} (eq : K → K → Bool) (map new : MapView K V H) (key : K) (loan : Option (MutBor V)) (lent : MutBor V) (value : V)
-    (is : loan ≡ Some lent) (holds : IfSome loan (λ l. (own : K) × Replaces eq map (eq key) (own, l.now) value new)) where
+module _ {K V H : Type 0} (eq : K → K → Bool) (map new : MapView K V H) (wants : K → Bool) (loan : Option (MutBor V)) (lent : MutBor V)
+    (value : V) (is : loan ≡ Some lent) (holds : IfSome loan (λ l. (own : K) × Replaces eq map wants (own, l.now) value new)) where
   -- a loan that is there replaces
-  pub replaces_there : (own : K) × Replaces eq map (eq key) (own, lent.now) value new
+  pub replaces_there : (own : K) × Replaces eq map wants (own, lent.now) value new
   replaces_there = rw is at holds
 
-  -- and so the value is put
-  pub puts_there : Puts eq map key value new
-  puts_there =
-      subst (λ (held : Option V). MatchOption held (Adds eq map key value new)
-      (λ before. (own : K) × Replaces eq map (eq key) (own, before) value new)) (sym replaces_there.1.value) replaces_there
+  -- and so the value is put, whatever puts it where no key is wanted
+  pub puts_there : (P : Type 0)
+      → MatchOption (get_by wants map) P (λ before. (own : K) × Replaces eq map wants (own, before) value new)
+  puts_there P =
+      subst (λ (held : Option V). MatchOption held P
+      (λ before. (own : K) × Replaces eq map wants (own, before) value new)) (sym replaces_there.1.value) replaces_there
 
   -- and the map has the key still
-  pub still_there : IsEquivalence eq → IsSome (get eq new key)
-  still_there laws =
-      let found : get eq new key ≡ Some value =
-      replaces_there.1.updates key ∙ ap (λ b. cond b (Some value) (get eq map key)) (laws.refl key) in
+  pub still_there : IsEquivalence eq → IsForm eq wants → IsSome (get_by wants new)
+  still_there laws alike =
+      let own = replaces_there.0 in
+      let with_value = replaces_there.1 in
+      let found : get_by wants new ≡ Some value =
+      form_of_key eq laws wants alike own new.entries with_value.same ∙ with_value.updates own
+      ∙ ap (λ b. cond b (Some value) (get eq map own)) with_value.same in
       subst IsSome (sym found) refl

@@ -165,6 +165,10 @@ module _ {K V : Type 0} (eq : K → K → Bool) (laws : IsEquivalence eq) (test 
   form_there ps p distinct there passes =
       (λ i. lookup (λ (other : K). alike p.0 other passes i) ps) ∙ lookup_there eq laws p.0 ps p distinct there (laws.refl p.0)
 
+  -- such a test finds what a key that it passes finds
+  pub form_of_key : (key : K) (ps : List (K × V)) → test key ≡ true → lookup test ps ≡ lookup (eq key) ps
+  form_of_key key ps passes = λ i. lookup (λ (other : K). alike key other passes i) ps
+
   -- another order finds the same
   pub form_permuted : (xs ys : List (K × V)) → IsDistinct eq (keys_of xs) → IsPermutation xs ys → lookup test ys ≡ lookup test xs
   form_permuted xs ys distinct moved = from (lookup test xs) refl

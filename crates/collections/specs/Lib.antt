@@ -4,6 +4,7 @@ pub mod Changes
 pub mod Crowding
 pub mod Equality
 pub mod EqualityLaws
+pub mod Hashes
 pub mod Keys
 pub mod Room
 pub mod Loans

@@ -22,6 +22,8 @@ mod copying;
 mod draining;
 pub mod entry;
 mod from_pairs;
+mod hashed;
+mod indexing;
 mod iterating;
 mod lending;
 mod reading;
@@ -202,12 +204,8 @@ impl<K: Eq + Drop, V: Drop, H: KeyHash<K>> HashMap<K, V, H> {
     pub fn remove<Q: KeyForm<K, H>>(&mut self, key: Q) -> Option<(K, V)>
         ensures { Removes K.eq (Q.stands_for key) self.old result self.new }
     {
-        self.room.learn();
-        self.table.sound();
-        let hash = key.hash_by(self.table.hasher());
-        let taken = self.table.take_by(hash, &mut FormProbe::<Q, H>::new(key));
-        self.table.sound();
-        taken
+        let hash = key.hash_by(self.hasher());
+        self.remove_hashed(hash, key)
     }
 
     /// Inserts a pair, or writes its value beside the key that is equal, and returns the earlier

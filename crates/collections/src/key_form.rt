@@ -2,6 +2,7 @@
 ghost use Rattle.std.specs.Prelude.{◌≡◌, Bool, true, string_bytes};
 ghost use Rattle.std.specs.Option.{option_copied};
 ghost use Rattle.std.specs.Str.{bytes_eq};
+ghost use Rattle.collections.specs.Hashes.{HaveHash};
 ghost use Rattle.collections.specs.Maps.{get_by, map_of};
 
 use bucket_slots::bucket::KeyProbe;
@@ -124,8 +125,24 @@ pub(crate) fn value_by<K: Eq, V, H: KeyHash<K>, L: LruList, Q: KeyForm<K, H>, co
 ) -> Option<&V>
     ensures { option_copied result ≡ get_by (Q.stands_for form) (map_of table.now) }
 {
-    table.sound();
     let hash = form.hash_by(table.hasher());
+    value_hashed(table, hash, form)
+}
+
+/// Returns the value under the keys that a form stands for, which have this hash; `None` where a
+/// table has none of them.
+///
+/// Moves nothing, and takes no memory. O(1) expected.
+#[inline(always)]
+pub(crate) fn value_hashed<K: Eq, V, H: KeyHash<K>, L: LruList, Q: KeyForm<K, H>, const TYPE: u8>(
+    table: &HashTable<K, V, H, L, TYPE>,
+    hash: u64,
+    form: Q,
+) -> Option<&V>
+    requires hashed { HaveHash (Q.stands_for form) (H.hash_of table.now.hasher) hash }
+    ensures { option_copied result ≡ get_by (Q.stands_for form) (map_of table.now) }
+{
+    table.sound();
     match table.peek_entry_by(hash, &mut FormProbe::<Q, H>::new(form)) {
         Some((_, value)) => Some(value),
         None => None,

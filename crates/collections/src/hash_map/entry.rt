@@ -1,7 +1,8 @@
 //! A key's place in a map, in the words of std's `Entry`: occupied where the map has the key, and
 //! else vacant.
 //!
-//! An entry holds the map and the key that was asked for, and moves nothing until it is written.
+//! An entry holds the map, the key that was asked for and its hash, and moves nothing until it is
+//! written. The key is hashed once.
 ghost use Rattle.std.specs.Prelude.{◌≡◌, None, IsSome};
 ghost use Rattle.collections.specs.Maps.{get};
 
@@ -28,6 +29,8 @@ pub enum Entry<'a, K: Eq, V, H: KeyHash<K> = DefaultHash> {
 pub struct OccupiedEntry<'a, K: Eq, V, H: KeyHash<K> = DefaultHash> {
     map: &'a mut HashMap<K, V, H>,
     key: K,
+    hash: u64,
+    ghost hashed: { hash ≡ H.hash_of map.now.hasher key },
     ghost there: { IsSome (get K.eq map.now key) },
 }
 
@@ -36,5 +39,7 @@ pub struct OccupiedEntry<'a, K: Eq, V, H: KeyHash<K> = DefaultHash> {
 pub struct VacantEntry<'a, K: Eq, V, H: KeyHash<K> = DefaultHash> {
     map: &'a mut HashMap<K, V, H>,
     key: K,
+    hash: u64,
+    ghost hashed: { hash ≡ H.hash_of map.now.hasher key },
     ghost absent: { get K.eq map.now key ≡ None },
 }

@@ -5,7 +5,7 @@ ghost use Rattle.std.specs.Option.{option_copied_mut};
 ghost use Rattle.collections.specs.Maps.{get_by};
 
 use crate::hash_map::HashMap;
-use crate::key_form::{FormProbe, KeyForm};
+use crate::key_form::KeyForm;
 use bucket_table::key_hash::KeyHash;
 
 impl<K: Eq + Drop, V: Drop, H: KeyHash<K>> HashMap<K, V, H> {
@@ -23,10 +23,7 @@ impl<K: Eq + Drop, V: Drop, H: KeyHash<K>> HashMap<K, V, H> {
             result) }
         ensures value { option_copied_mut result ≡ get_by (Q.stands_for key) self.old }
     {
-        self.room.learn();
-        self.table.sound();
-        let hash = key.hash_by(self.table.hasher());
-        self.table
-            .get_mut_by(hash, &mut FormProbe::<Q, H>::new(key))
+        let hash = key.hash_by(self.hasher());
+        self.get_mut_hashed(hash, key)
     }
 }

@@ -25,7 +25,7 @@ impl<'a, K: Eq, V, H: KeyHash<K>> OccupiedEntry<'a, K, V, H> {
     pub fn get(&self) -> &V
         ensures { get K.eq self.now.map.now self.now.key ≡ Some result.now }
     {
-        self.map.get(&self.key).unwrap()
+        self.map.get_hashed(self.hash, &self.key).unwrap()
     }
 }
 
@@ -43,7 +43,7 @@ impl<'a, K: Eq + Drop, V: Drop, H: KeyHash<K>> OccupiedEntry<'a, K, V, H> {
             × Replaces K.eq self.old.map.now (K.eq self.old.key) (own, before.now) after.now
             self.new.map.now }
     {
-        match self.map.get_mut(&self.key) {
+        match self.map.get_mut_hashed(self.hash, &self.key) {
             Some(value) => change(value),
             None => unreachable!(),
         }
@@ -60,8 +60,8 @@ impl<'a, K: Eq + Drop, V: Drop, H: KeyHash<K>> OccupiedEntry<'a, K, V, H> {
         ensures value { option_copied_mut result ≡ get K.eq self.entry.map.now self.entry.key }
         ensures there { IsSome result }
     {
-        let OccupiedEntry { map, key } = self;
-        map.get_mut(&key)
+        let OccupiedEntry { map, key, hash } = self;
+        map.get_mut_hashed(hash, &key)
     }
 
     /// Writes the value under the key, and returns the earlier one; the map's own key stays.
@@ -74,9 +74,7 @@ impl<'a, K: Eq + Drop, V: Drop, H: KeyHash<K>> OccupiedEntry<'a, K, V, H> {
             × Replaces K.eq self.old.map.now (K.eq self.old.key) (own, result) value
             self.new.map.now }
     {
-        self.map
-            .update(&self.key, |_own, held| mem::replace(held, value))
-            .unwrap()
+        self.update(|held| mem::replace(held, value))
     }
 
     /// Takes the pair out of the map, and returns it: the map's own key, and its value.
@@ -85,8 +83,9 @@ impl<'a, K: Eq + Drop, V: Drop, H: KeyHash<K>> OccupiedEntry<'a, K, V, H> {
     pub fn remove_entry(self) -> (K, V)
         ensures { Takes K.eq self.entry.map.now (K.eq self.entry.key) result self.exit.0.now }
     {
+        let hash = self.hash;
         let key = self.key;
-        self.map.remove(&key).unwrap()
+        self.map.remove_hashed(hash, &key).unwrap()
     }
 
     /// Takes the pair out of the map, and returns its value.

@@ -26,7 +26,11 @@ impl<'a, K: Eq, V, H: KeyHash<K>> VacantEntry<'a, K, V, H> {
         ensures key { result ≡ self.entry.key }
         ensures unchanged { self.exit.0.now ≡ self.entry.map.now }
     {
-        let VacantEntry { map: _map, key } = self;
+        let VacantEntry {
+            map: _map,
+            key,
+            hash: _hash,
+        } = self;
         key
     }
 }
@@ -50,16 +54,22 @@ impl<'a, K: Eq + Drop, V: Drop, H: KeyHash<K>> VacantEntry<'a, K, V, H> {
         ensures value { IfOk result (λ lent. lent.now ≡ value) }
         ensures pair_returned { IfErr result (λ back. back.value ≡ (self.entry.key, value)) }
     {
-        let VacantEntry { map, key } = self;
-        map.add(key, value)
+        let VacantEntry { map, key, hash } = self;
+        map.add(hash, key, value)
     }
 }
 
 impl<K: Eq + Drop, V: Drop, H: KeyHash<K>> HashMap<K, V, H> {
     ghost use Rattle.collections.specs.Loans.{LendsAdded};
 
-    /// Inserts a pair whose key the map hasn't, and lends its value for writing.
-    fn add(&mut self, key: K, value: V) -> Result<&mut V, AllocFailed<(K, V)>>
+    /// Inserts a pair whose key has this hash, and isn't in the map, and lends its value for writing.
+    pub(super) fn add(
+        &mut self,
+        hash: u64,
+        key: K,
+        value: V,
+    ) -> Result<&mut V, AllocFailed<(K, V)>>
+        requires hashed { hash ≡ H.hash_of self.old.hasher key }
         requires absent { get K.eq self.old key ≡ None }
         ensures* writes_back { sem 𝓛
             (LendsAdded K.row V.row H.row K.PartialEq H.KeyHash self.entry key result) }
@@ -68,7 +78,6 @@ impl<K: Eq + Drop, V: Drop, H: KeyHash<K>> HashMap<K, V, H> {
     {
         self.room.learn();
         self.table.sound();
-        let hash = self.table.hash(&key);
         let Ok((side, index)) = self.table.find(hash) else {
             learn_homes(&self.table, hash);
             self.table.sound();

@@ -20,10 +20,11 @@ impl<K: Eq, V, H: KeyHash<K>> HashMap<K, V, H> {
         ensures same_map { (entry_map result).ghost_name ≡ self.entry.ghost_name }
         ensures unchanged { (entry_map result).now ≡ self.old }
     {
-        if self.contains(&key) {
-            Entry::Occupied(OccupiedEntry { map: self, key })
+        let hash = self.hasher().hash_one(&key);
+        if self.get_hashed(hash, &key).is_some() {
+            Entry::Occupied(OccupiedEntry { map: self, key, hash })
         } else {
-            Entry::Vacant(VacantEntry { map: self, key })
+            Entry::Vacant(VacantEntry { map: self, key, hash })
         }
     }
 }

@@ -10,7 +10,7 @@ pub insert-requires : goal.insert-requires
 insert-requires g c =
     let t = c.self.inside.table in
     let found = c.in-Ok.ensures in
-    let own = c.hash-hash.ensures ∙ ap (λ h. g.H.KeyHash.hash_of h c.args.key) (sym (ap (λ z. z.hasher) found.map.others)) in
+    let own = (rw (← c.self.view_is) at c.requires.hashed) ∙ ap (λ h. g.H.KeyHash.hash_of h c.args.key) (sym (ap (λ z. z.hasher) found.map.others)) in
     let none = absent_permuted g.K.PartialEq.eq g.met.K.Eq.laws c.args.key (pairs_of t.arrays) (pairs_of c.find.new.self.arrays)
     (rw (← c.self.view_is) at c.requires.absent) found.map.pairs in
     rw (c.lock.ensures.unchanged, c.lock.ensures.side, c.lock.ensures.index) (omega arith, (omega arith, (own, (found.home, none))))
@@ -19,7 +19,7 @@ pub returns-in_default : goal.returns-in_default
 returns-in_default g c =
     let kept = kept_stays g.K.PartialEq.eq g.met.K.Eq.laws 83 c.self.inside.table c.sound.ensures.one_map.distinct c.find.new.self
     c.in_default.ensures.prepared.map in
-    let own = c.hash-hash.ensures ∙ ap (λ h. g.H.KeyHash.hash_of h c.args.key)
+    let own = (rw (← c.self.view_is) at c.requires.hashed) ∙ ap (λ h. g.H.KeyHash.hash_of h c.args.key)
     (sym (ap (λ z. z.hasher) c.in_default.ensures.prepared.map.others)) in
     let lacks = none_found g.H.KeyHash.hash_of c.args.key _ c.self.inside.table c.find.new.self own c.sound-in_default.ensures.one_map.placed
     c.learn_homes.ensures.current c.learn_homes.ensures.old c.in_default.ensures in
@@ -31,7 +31,7 @@ returns-in-Err g c =
     c.in-Ok.ensures.map in
     let found = c.in-Ok.ensures in
     let same = table_same c.lock.result c.insert.new.self _ c.in-Err.ensures.changed refl ∙ c.lock.ensures.unchanged in
-    let own = c.hash-hash.ensures ∙ ap (λ h. g.H.KeyHash.hash_of h c.args.key) (sym (ap (λ z. z.hasher) found.map.others)) in
+    let own = (rw (← c.self.view_is) at c.requires.hashed) ∙ ap (λ h. g.H.KeyHash.hash_of h c.args.key) (sym (ap (λ z. z.hasher) found.map.others)) in
     let homes = rw same at c.learn_homes-in-Err.ensures in
     let placed = rw same at c.sound-in-Err.ensures.one_map.placed in
     let none = full_there (λ mark. true) c.lock.result.table.now c.find.new.self c.lock.result.side c.in-Ok.side c.lock.result.index

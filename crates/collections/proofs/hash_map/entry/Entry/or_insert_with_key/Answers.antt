@@ -13,8 +13,8 @@ returns-in-Some g c =
     rw c.in-Occupied.is (
       (
         refl,
-        λ value is. puts_there g.K.PartialEq.eq place.map.now (lent.lender value) place.key c.into_mut.result c.in-Some.value value
-            c.in-Some.is (lent.holds value),
+        λ value is. puts_there g.K.PartialEq.eq place.map.now (lent.lender value) (g.K.PartialEq.eq place.key) c.into_mut.result
+            c.in-Some.value value c.in-Some.is (lent.holds value) _,
         tt,
       ),
       record {

@@ -1,7 +1,7 @@
 use Rattle.std.proofs.Common.{sym}
 use Rattle.bucket_table.specs.Views.ArraysView.{pairs_of}
 use Rattle.collections.proofs.Lookups.{form_absent, form_there}
-use Rattle.collections.proofs.key_form.value_by.Goals as goal
+use Rattle.collections.proofs.key_form.value_hashed.Goals as goal
 
 pub returns-in-Some : goal.returns-in-Some
 returns-in-Some g c = sym (form_there g.K.PartialEq.eq g.met.K.Eq.laws (g.Q.KeyForm.stands_for c.args.form)

@@ -1,5 +1,5 @@
 use Rattle.collections.proofs.Steps.{removes}
-use Rattle.collections.proofs.hash_map.HashMap.remove.Goals as goal
+use Rattle.collections.proofs.hash_map.HashMap.remove_hashed.Goals as goal
 
 pub returns : goal.returns
 returns g c = rw (← c.self.view_is, ← c.new.ensures.form) (removes g.K.PartialEq.eq g.met.K.Eq.laws 83 c.self.inside.table

@@ -1,6 +1,6 @@
 use Rattle.std.proofs.Common.{refl}
 use Rattle.collections.proofs.Loans.{lent_none, lent_replaces, lent_value}
-use Rattle.collections.proofs.hash_map.HashMap.get_mut.Goals as goal
+use Rattle.collections.proofs.hash_map.HashMap.get_mut_hashed.Goals as goal
 
 pub returns : goal.returns
 returns g c =

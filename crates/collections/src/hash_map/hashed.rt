@@ -1,0 +1,66 @@
+//! The calls by a hash that is known, for an entry: it hashes its key once.
+ghost use Rattle.std.specs.Prelude.{◌≡◌};
+ghost use Rattle.std.specs.Borrow.{sem};
+ghost use Rattle.std.specs.Option.{option_copied, option_copied_mut};
+ghost use Rattle.collections.specs.Changes.{Removes};
+ghost use Rattle.collections.specs.Hashes.{HaveHash};
+ghost use Rattle.collections.specs.Maps.{get_by};
+
+use crate::hash_map::HashMap;
+use crate::key_form::{FormProbe, KeyForm, value_hashed};
+use bucket_table::key_hash::KeyHash;
+
+impl<K: Eq, V, H: KeyHash<K>> HashMap<K, V, H> {
+    /// Returns the value under the keys that a form stands for, which have this hash; `None` where
+    /// the map has none of them.
+    ///
+    /// Moves nothing, and takes no memory. O(1) expected.
+    #[inline(always)]
+    pub(super) fn get_hashed<Q: KeyForm<K, H>>(&self, hash: u64, key: Q) -> Option<&V>
+        requires hashed { HaveHash (Q.stands_for key) (H.hash_of self.now.hasher) hash }
+        ensures { option_copied result ≡ get_by (Q.stands_for key) self.now }
+    {
+        self.room.learn();
+        value_hashed(&self.table, hash, key)
+    }
+}
+
+impl<K: Eq + Drop, V: Drop, H: KeyHash<K>> HashMap<K, V, H> {
+    ghost use Rattle.collections.specs.Loans.{LendsValue};
+
+    /// Lends the value under the keys that a form stands for, which have this hash, for writing;
+    /// `None` where the map has none of them.
+    ///
+    /// Never refused. O(1) expected.
+    #[inline(always)]
+    pub(super) fn get_mut_hashed<Q: KeyForm<K, H>>(&mut self, hash: u64, key: Q) -> Option<&mut V>
+        requires hashed { HaveHash (Q.stands_for key) (H.hash_of self.old.hasher) hash }
+        ensures* writes_back { sem 𝓛
+            (LendsValue K.row V.row H.row K.PartialEq H.KeyHash self.entry (Q.stands_for key)
+            result) }
+        ensures value { option_copied_mut result ≡ get_by (Q.stands_for key) self.old }
+    {
+        self.room.learn();
+        self.table.sound();
+        self.table
+            .get_mut_by(hash, &mut FormProbe::<Q, H>::new(key))
+    }
+
+    /// Takes out the pair under the keys that a form stands for, which have this hash, and returns
+    /// it; `None` where the map has none of them.
+    ///
+    /// Never refused. O(1) expected, beside a resize.
+    #[inline(always)]
+    pub(super) fn remove_hashed<Q: KeyForm<K, H>>(&mut self, hash: u64, key: Q) -> Option<(K, V)>
+        requires hashed { HaveHash (Q.stands_for key) (H.hash_of self.old.hasher) hash }
+        ensures { Removes K.eq (Q.stands_for key) self.old result self.new }
+    {
+        self.room.learn();
+        self.table.sound();
+        let taken = self
+            .table
+            .take_by(hash, &mut FormProbe::<Q, H>::new(key));
+        self.table.sound();
+        taken
+    }
+}
