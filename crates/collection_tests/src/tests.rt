@@ -8,6 +8,7 @@ mod copies;
 mod draining;
 mod drops;
 mod entries;
+mod entries_by_text;
 mod equality;
 mod extending;
 mod forms;

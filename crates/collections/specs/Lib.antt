@@ -15,6 +15,7 @@ pub mod CacheUpserts
 pub mod Orders
 pub mod Marks
 pub mod Entries
+pub mod EntryRefs
 pub mod Copies
 pub mod Clones
 pub mod StoredKeys

@@ -6,6 +6,7 @@
 ghost use Rattle.std.specs.Prelude.{◌≡◌, None, IsSome};
 ghost use Rattle.collections.specs.Maps.{get};
 
+mod by_form;
 mod making;
 mod occupied;
 mod vacant;
@@ -14,6 +15,7 @@ mod whole;
 use crate::default_hash::DefaultHash;
 use crate::hash_map::HashMap;
 use bucket_table::key_hash::KeyHash;
+pub use by_form::{EntryRef, OccupiedEntryRef, VacantEntryRef};
 
 /// A key's place in a map. std: `hash_map::Entry`.
 #[derive(Drop)]

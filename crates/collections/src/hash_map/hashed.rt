@@ -57,9 +57,7 @@ impl<K: Eq + Drop, V: Drop, H: KeyHash<K>> HashMap<K, V, H> {
     {
         self.room.learn();
         self.table.sound();
-        let taken = self
-            .table
-            .take_by(hash, &mut FormProbe::<Q, H>::new(key));
+        let taken = self.table.take_by(hash, &mut FormProbe::<Q, H>::new(key));
         self.table.sound();
         taken
     }

@@ -63,12 +63,7 @@ impl<K: Eq + Drop, V: Drop, H: KeyHash<K>> HashMap<K, V, H> {
     ghost use Rattle.collections.specs.Loans.{LendsAdded};
 
     /// Inserts a pair whose key has this hash, and isn't in the map, and lends its value for writing.
-    pub(super) fn add(
-        &mut self,
-        hash: u64,
-        key: K,
-        value: V,
-    ) -> Result<&mut V, AllocFailed<(K, V)>>
+    pub(super) fn add(&mut self, hash: u64, key: K, value: V) -> Result<&mut V, AllocFailed<(K, V)>>
         requires hashed { hash ≡ H.hash_of self.old.hasher key }
         requires absent { get K.eq self.old key ≡ None }
         ensures* writes_back { sem 𝓛

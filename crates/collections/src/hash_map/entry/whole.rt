@@ -22,9 +22,17 @@ impl<K: Eq, V, H: KeyHash<K>> HashMap<K, V, H> {
     {
         let hash = self.hasher().hash_one(&key);
         if self.get_hashed(hash, &key).is_some() {
-            Entry::Occupied(OccupiedEntry { map: self, key, hash })
+            Entry::Occupied(OccupiedEntry {
+                map: self,
+                key,
+                hash,
+            })
         } else {
-            Entry::Vacant(VacantEntry { map: self, key, hash })
+            Entry::Vacant(VacantEntry {
+                map: self,
+                key,
+                hash,
+            })
         }
     }
 }

@@ -1,0 +1,26 @@
+use Rattle.collections.proofs.Entries.{hashes_stay, replaces_there, still_there}
+use Rattle.collections.proofs.hash_map.entry.by_form.OccupiedEntryRef.update.Goals as goal
+
+pub invariant_of-self : goal.invariant_of-self
+invariant_of-self g c =
+    let eq = g.K.PartialEq.eq in
+    let place = c.args.self.now in
+    let wants = g.Q.KeyForm.stands_for place.form in
+    let after = c.change.new.arg2 in
+    let lent = c.get_mut_hashed.follows in
+    let found = replaces_there eq place.map.now (lent.lender after) wants c.get_mut_hashed.result c.in-Some.value after c.in-Some.is
+    (lent.holds after) in
+    record {
+      hashed = hashes_stay eq g.H.KeyHash.hash_of wants place.hash place.map.now (lent.lender after) found.1.kept place.hashed;
+      there = still_there eq place.map.now (lent.lender after) wants c.get_mut_hashed.result c.in-Some.value after c.in-Some.is
+          (lent.holds after) g.met.K.Eq.laws (g.met.Q.KeyForm.alike place.form);
+    }
+
+pub returns-clause-updated : goal.returns-clause-updated
+returns-clause-updated g c =
+    let place = c.args.self.now in
+    let after = c.change.new.arg2 in
+    let lent = c.get_mut_hashed.follows in
+    let found = replaces_there g.K.PartialEq.eq place.map.now (lent.lender after) (g.Q.KeyForm.stands_for place.form) c.get_mut_hashed.result c.in-Some.value
+    after c.in-Some.is (lent.holds after) in
+    (found.0, c.in-Some.value, _, c.change.ensures, found.1)

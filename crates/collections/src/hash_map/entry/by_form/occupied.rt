@@ -1,0 +1,72 @@
+//! The calls of an occupied entry by a form.
+ghost use Rattle.std.specs.Prelude.{◌≡◌, IsSome, Some};
+ghost use Rattle.std.specs.Borrow.{MutBor, sem};
+ghost use Rattle.std.specs.Option.{option_copied_mut};
+ghost use Rattle.collections.specs.Maps.{get_by};
+ghost use Rattle.collections.specs.Changes.{Replaces};
+
+use crate::hash_map::entry::by_form::OccupiedEntryRef;
+use crate::key_form::KeyForm;
+use bucket_table::key_hash::KeyHash;
+use std::mem;
+
+impl<'a, K: Eq, V, H: KeyHash<K>, Q: KeyForm<K, H>> OccupiedEntryRef<'a, K, V, H, Q> {
+    /// Returns the value under the key.
+    ///
+    /// Moves nothing. O(1) expected. std: `OccupiedEntry::get`.
+    pub fn get(&self) -> &V
+        ensures { get_by (Q.stands_for self.now.form) self.now.map.now ≡ Some result.now }
+    {
+        self.map.get_hashed(self.hash, self.form).unwrap()
+    }
+}
+
+impl<'a, K: Eq + Drop, V: Drop, H: KeyHash<K>, Q: KeyForm<K, H>> OccupiedEntryRef<'a, K, V, H, Q> {
+    ghost use Rattle.collections.specs.Loans.{LendsValue};
+
+    /// Hands the value under the key to a function, for writing, and returns what that answers.
+    ///
+    /// Never refused. O(1) expected. Own.
+    pub fn update<R, F: FnOnce(&mut V) -> R>(&mut self, change: F) -> R
+        requires callable { (value : MutBor V) → F.pre change value }
+        ensures same_map { self.new.map.ghost_name ≡ self.old.map.ghost_name }
+        ensures same_form { self.new.form ≡ self.old.form }
+        ensures updated { (own : K) × (before after : MutBor V) × F.post change before result after
+            × Replaces K.eq self.old.map.now (Q.stands_for self.old.form) (own, before.now)
+            after.now self.new.map.now }
+    {
+        match self.map.get_mut_hashed(self.hash, self.form) {
+            Some(value) => change(value),
+            None => unreachable!(),
+        }
+    }
+
+    /// Lends the value under the key for writing: always `Some`. Once the loan ends, the key has
+    /// the value last written, and each other key what it had.
+    ///
+    /// Never refused. O(1) expected. std: `OccupiedEntry::into_mut`.
+    pub fn into_mut(self) -> Option<&'a mut V>
+        ensures* writes_back { sem 𝓛
+            (LendsValue K.row V.row H.row K.PartialEq H.KeyHash self.entry.map
+            (Q.stands_for self.entry.form) result) }
+        ensures value { option_copied_mut result
+            ≡ get_by (Q.stands_for self.entry.form) self.entry.map.now }
+        ensures there { IsSome result }
+    {
+        let OccupiedEntryRef { map, form, hash } = self;
+        map.get_mut_hashed(hash, form)
+    }
+
+    /// Writes the value under the key, and returns the earlier one; the map's own key stays.
+    ///
+    /// Never refused. O(1) expected. std: `OccupiedEntry::insert`.
+    pub fn insert(&mut self, value: V) -> V
+        ensures same_map { self.new.map.ghost_name ≡ self.old.map.ghost_name }
+        ensures same_form { self.new.form ≡ self.old.form }
+        ensures replaced { (own : K)
+            × Replaces K.eq self.old.map.now (Q.stands_for self.old.form) (own, result) value
+            self.new.map.now }
+    {
+        self.update(|held| mem::replace(held, value))
+    }
+}
