@@ -83,11 +83,11 @@ size_t bucket_len(bucket_handle *handle);
 /* Drops all pairs and slots; the seed and the capacity stay. OK, CLOSED. O(n). */
 uint32_t bucket_clear(bucket_handle *handle);
 
-/* Makes slots for so many more pairs, if memory is there; they stay until bucket_shrink. `raised` is `additional`, or 0 if there
- * would be more than 2^63. OK, CLOSED, OTHER_KIND: a cache has the capacity that it was made with. O(n). */
-uint32_t bucket_reserve(bucket_handle *handle, size_t additional, size_t *raised);
+/* Makes room for so many more pairs. OK; NO_MEMORY, also if no array has so many slots: all pairs stay. CLOSED, OTHER_KIND: a
+ * cache has the capacity that it was made with. O(n). */
+uint32_t bucket_reserve(bucket_handle *handle, size_t additional);
 
-/* Lets slots go that the pairs don't need. OK, CLOSED, OTHER_KIND. O(n). */
+/* Leaves as few slots as the pairs take. OK; NO_MEMORY, and all pairs stay. CLOSED, OTHER_KIND. O(n). */
 uint32_t bucket_shrink(bucket_handle *handle);
 
 /* Copies pairs of a map or a cache to `out`, as many as there is room for, and `count` is how many: those after the first `start`,

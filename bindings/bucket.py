@@ -251,14 +251,12 @@ class _Map(_Mapping):
         return earlier.value if code == PRESENT else None
 
     def reserve(self, additional):
-        """Makes slots for so many more pairs, if memory is there; they stay until `shrink`."""
-        raised = ctypes.c_size_t()
-        _lib.bucket_reserve(self._ref, additional, ctypes.byref(raised))
-        return raised.value
+        """Makes room for so many more pairs."""
+        self._check(_lib.bucket_reserve(self._ref, additional), additional)
 
     def shrink(self):
-        """Lets slots go that the pairs don't need."""
-        _lib.bucket_shrink(self._ref)
+        """Leaves as few slots as the pairs take."""
+        self._check(_lib.bucket_shrink(self._ref), None)
 
 
 class Map(_Words, _Map):

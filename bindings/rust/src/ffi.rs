@@ -58,7 +58,7 @@ unsafe extern "C" {
     pub(crate) fn bucket_free(handle: *mut Raw);
     pub(crate) fn bucket_len(handle: *mut Raw) -> usize;
     pub(crate) fn bucket_clear(handle: *mut Raw) -> u32;
-    pub(crate) fn bucket_reserve(handle: *mut Raw, additional: usize, raised: &mut usize) -> u32;
+    pub(crate) fn bucket_reserve(handle: *mut Raw, additional: usize) -> u32;
     pub(crate) fn bucket_shrink(handle: *mut Raw) -> u32;
     pub(crate) fn bucket_pairs(handle: *mut Raw, start: usize, out: *mut Pair, room: usize, count: &mut usize) -> u32;
     pub(crate) fn bucket_texts(
@@ -162,14 +162,12 @@ impl Handle {
         unsafe { bucket_clear(self.raw()) };
     }
 
-    pub fn reserve(&mut self, additional: usize) -> usize {
-        let mut raised = 0;
-        unsafe { bucket_reserve(self.raw(), additional, &mut raised) };
-        raised
+    pub fn try_reserve(&mut self, additional: usize) -> Result<(), NoMemory> {
+        done(unsafe { bucket_reserve(self.raw(), additional) })
     }
 
-    pub fn shrink_to_fit(&mut self) {
-        unsafe { bucket_shrink(self.raw()) };
+    pub fn shrink_to_fit(&mut self) -> Result<(), NoMemory> {
+        done(unsafe { bucket_shrink(self.raw()) })
     }
 }
 
@@ -177,6 +175,11 @@ impl Drop for Handle {
     fn drop(&mut self) {
         unsafe { bucket_free(self.raw()) }
     }
+}
+
+/// What a call that makes or gives back slots answered.
+fn done(code: u32) -> Result<(), NoMemory> {
+    if code == OK { Ok(()) } else { Err(NoMemory) }
 }
 
 /// A value that a call wrote out, if the key was there.

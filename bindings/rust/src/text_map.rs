@@ -84,14 +84,13 @@ impl TextMap {
         TextIter::new(&self.0)
     }
 
-    /// Makes slots for so many more pairs, if memory is there; they stay until `shrink_to_fit`. Returns
-    /// `additional`, or 0 if there would be more than 2^63.
-    pub fn reserve(&mut self, additional: usize) -> usize {
-        self.0.reserve(additional)
+    /// Makes room for so many more pairs.
+    pub fn try_reserve(&mut self, additional: usize) -> Result<(), NoMemory> {
+        self.0.try_reserve(additional)
     }
 
-    /// Lets slots go that the pairs don't need.
-    pub fn shrink_to_fit(&mut self) {
+    /// Leaves as few slots as the pairs take.
+    pub fn shrink_to_fit(&mut self) -> Result<(), NoMemory> {
         self.0.shrink_to_fit()
     }
 

@@ -53,12 +53,13 @@ fn a_map_answers_as_std_does() {
                 assert_eq!(map.len(), std.len());
                 assert_eq!(map.iter().collect::<HashMap<_, _>>(), std);
                 assert_eq!(map.iter().count(), std.len());
-                map.shrink_to_fit();
+                assert_eq!(map.shrink_to_fit(), Ok(()));
             }
         }
         map.clear();
         assert!(map.is_empty());
-        assert_eq!(map.reserve(9), 9);
+        assert_eq!(map.try_reserve(9), Ok(()));
+        assert!(map.try_reserve(1 << 60).is_err());
     }
 }
 

@@ -1,8 +1,10 @@
 -- What a call does that handles of several kinds take.
-use Rattle.std.specs.Prelude.{ℕ, ◌≡◌, [], Option, Some, None, nat_eq}
+use Rattle.std.specs.Prelude.{ℕ, ◌≡◌, Bool, [], Option, Some, None, OnOk, Result, nat_eq}
+use Rattle.std.specs.declared.alloc.AllocError.{AllocError}
 use Rattle.bucket_table.specs.Rehash.State.{first_tickets}
-use Rattle.collections.specs.Changes.{Reserves, Stays}
-use Rattle.bucket_c.specs.Codes.{closed, ok, other_kind}
+use Rattle.collections.specs.Capacity.{IsFitted, MakesRoom}
+use Rattle.collections.specs.Changes.{Stays}
+use Rattle.bucket_c.specs.Codes.{closed, ok, other_kind, room_code}
 use Rattle.bucket_c.specs.Tables.{Caches, Maps, Text, text_eq}
 use Rattle.bucket_c.specs.declared.tables.Table.{Table}
 use Rattle.bucket_c.specs.declared.tables.Table.TheVariants.{Map, TextMap, TextSet, Cache, TextCache}
@@ -26,24 +28,30 @@ abbrev pub Clears : Option Table → ℕ → Option Table → Type 0
 Clears None code new = (code ≡ closed) × (new ≡ None)
 Clears (Some table) code new = (code ≡ ok) × (new ≡ Some (cleared table))
 
--- slots for so many more pairs; by how much the minimum was raised is written out; a cache has the capacity that it was made with
-abbrev pub ReservesMore : ℕ → ℕ → Option Table → ℕ → Option Table → ℕ → Type 0
-ReservesMore additional before None code new raised = (code ≡ closed) × (new ≡ None) × (raised ≡ before)
-ReservesMore additional before (Some (Map old)) code new raised =
-    (code ≡ ok) × ((map : Maps ℕ ℕ) × (new ≡ Some (Map map)) × Reserves nat_eq additional old raised map)
-ReservesMore additional before (Some (TextMap old)) code new raised =
-    (code ≡ ok) × ((map : Maps Text ℕ) × (new ≡ Some (TextMap map)) × Reserves text_eq additional old raised map)
-ReservesMore additional before (Some (TextSet old)) code new raised =
-    (code ≡ ok) × ((set : Maps Text (Unit {0})) × (new ≡ Some (TextSet set)) × Reserves text_eq additional old raised set)
-ReservesMore additional before (Some table) code new raised = (code ≡ other_kind) × (new ≡ Some table) × (raised ≡ before)
+-- the library's call has some answer, and its code
+abbrev pub MakesRoomBy : {K V : Type 0} → (K → K → Bool) → ℕ → Maps K V → ℕ → Maps K V → Type 0
+MakesRoomBy eq additional old code new =
+    (answer : Result (Unit {0}) AllocError) × (code ≡ room_code answer) × MakesRoom eq additional old answer new
 
--- the least number of slots is 0 from now on, and slots that aren't needed go
+abbrev pub ShrinksBy : {K V : Type 0} → (K → K → Bool) → Maps K V → ℕ → Maps K V → Type 0
+ShrinksBy eq old code new = (answer : Result (Unit {0}) AllocError) × (code ≡ room_code answer)
+    × Stays eq (record old { minimum = 0 }) new × OnOk answer (IsFitted new)
+
+-- room for so many more pairs; a cache has the capacity that it was made with
+abbrev pub ReservesMore : ℕ → Option Table → ℕ → Option Table → Type 0
+ReservesMore additional None code new = (code ≡ closed) × (new ≡ None)
+ReservesMore additional (Some (Map old)) code new =
+    (map : Maps ℕ ℕ) × (new ≡ Some (Map map)) × MakesRoomBy nat_eq additional old code map
+ReservesMore additional (Some (TextMap old)) code new =
+    (map : Maps Text ℕ) × (new ≡ Some (TextMap map)) × MakesRoomBy text_eq additional old code map
+ReservesMore additional (Some (TextSet old)) code new =
+    (set : Maps Text (Unit {0})) × (new ≡ Some (TextSet set)) × MakesRoomBy text_eq additional old code set
+ReservesMore additional (Some table) code new = (code ≡ other_kind) × (new ≡ Some table)
+
+-- the least number of slots is 0 from now on, and as few slots as the pairs take are left
 abbrev pub Shrinks : Option Table → ℕ → Option Table → Type 0
 Shrinks None code new = (code ≡ closed) × (new ≡ None)
-Shrinks (Some (Map old)) code new =
-    (code ≡ ok) × ((map : Maps ℕ ℕ) × (new ≡ Some (Map map)) × Stays nat_eq (record old { minimum = 0 }) map)
-Shrinks (Some (TextMap old)) code new =
-    (code ≡ ok) × ((map : Maps Text ℕ) × (new ≡ Some (TextMap map)) × Stays text_eq (record old { minimum = 0 }) map)
-Shrinks (Some (TextSet old)) code new =
-    (code ≡ ok) × ((set : Maps Text (Unit {0})) × (new ≡ Some (TextSet set)) × Stays text_eq (record old { minimum = 0 }) set)
+Shrinks (Some (Map old)) code new = (map : Maps ℕ ℕ) × (new ≡ Some (Map map)) × ShrinksBy nat_eq old code map
+Shrinks (Some (TextMap old)) code new = (map : Maps Text ℕ) × (new ≡ Some (TextMap map)) × ShrinksBy text_eq old code map
+Shrinks (Some (TextSet old)) code new = (set : Maps Text (Unit {0})) × (new ≡ Some (TextSet set)) × ShrinksBy text_eq old code set
 Shrinks (Some table) code new = (code ≡ other_kind) × (new ≡ Some table)

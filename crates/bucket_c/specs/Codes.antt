@@ -60,3 +60,8 @@ cache_upsert_code (Ok Added) = ok
 cache_upsert_code (Ok (Evicted key value)) = evicted
 cache_upsert_code (Ok (Replaced earlier)) = present
 cache_upsert_code (Err back) = no_memory
+
+-- of a call that makes room, or gives slots back
+abbrev pub room_code : {A E : Type 0} → Result A E → ℕ
+room_code (Ok done) = ok
+room_code (Err refused) = no_memory

@@ -1,6 +1,7 @@
 -- What a `new` opens a handle on.
 use Rattle.std.specs.Prelude.{ℕ, ◌≡◌, ◌^◌, max, min}
 use Rattle.bucket_slots.specs.Sizing.{IsLeastPowerOfTwo}
+use Rattle.collections.specs.Capacity.{IsMinimumFor}
 use Rattle.collections.specs.Maps.{IsEmpty, map_of}
 use Rattle.bucket_c.specs.Hashing.{initial_hasher}
 use Rattle.bucket_c.specs.Tables.{Caches, Maps}
@@ -10,7 +11,7 @@ use Rattle.bucket_c.specs.declared.seed.Seed.{Seed}
 pub record IsNew {K V : Type 0} (capacity : ℕ) (seed : Seed) (map : Maps K V) : Type 0 where
   pub empty : IsEmpty map
   pub seeded : map.hasher.builder.initial ≡ initial_hasher seed
-  pub minimum : map.minimum ≡ min capacity (2 ^ 63)
+  pub minimum : IsMinimumFor capacity map.minimum
   pub maximum : map.maximum ≡ 2 ^ 63
 
 -- an empty cache that hashes by the seed, of at least and at most so many slots

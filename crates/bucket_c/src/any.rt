@@ -3,7 +3,7 @@ ghost use Rattle.std.specs.Prelude.{◌≡◌, ◌-◌, ◌^◌, None, min};
 ghost use Rattle.bucket_c.specs.Any.{Clears, ReservesMore, Shrinks};
 ghost use Rattle.bucket_c.specs.Tables.{len_of};
 
-use crate::codes::{CLOSED, OK, OTHER_KIND};
+use crate::codes::{CLOSED, OK, OTHER_KIND, code_of};
 use crate::handle::Handle;
 use crate::tables::Table;
 use std::alloc::Global;
@@ -61,46 +61,32 @@ pub extern "C" fn bucket_clear(alloc: Global, handle: &mut Handle) -> u32
     OK
 }
 
-/// Makes slots for so many more pairs, and writes out by how many the least number of slots was
-/// raised.
+/// Makes room for so many pairs more.
 ///
-/// Returns `OK`, `CLOSED`; `OTHER_KIND` of a cache, which has the capacity that it was made with.
-/// O(slots). `HashMap::reserve`.
+/// Returns `OK`; `NO_MEMORY` if allocation fails, or if they are too many for every array: all pairs
+/// stay. `CLOSED`; `OTHER_KIND` of a cache, which has the capacity that it was made with. O(slots).
+/// `HashMap::try_reserve`.
 #[unsafe(no_mangle)]
-pub extern "C" fn bucket_reserve(
-    alloc: Global,
-    handle: &mut Handle,
-    additional: usize,
-    raised: &mut usize,
-) -> u32
-    ensures { ReservesMore additional raised.old handle.old.held.table result handle.new.held.table
-        raised.new }
+pub extern "C" fn bucket_reserve(alloc: Global, handle: &mut Handle, additional: usize) -> u32
+    ensures { ReservesMore additional handle.old.held.table result handle.new.held.table }
 {
     let Some(mut table) = handle.take(alloc) else {
         return CLOSED;
     };
     let code = match &mut *table {
-        Table::Map(map) => {
-            *raised = map.reserve(additional);
-            OK
-        }
-        Table::TextMap(map) => {
-            *raised = map.reserve(additional);
-            OK
-        }
-        Table::TextSet(set) => {
-            *raised = set.reserve(additional);
-            OK
-        }
+        Table::Map(map) => code_of(map.try_reserve(additional)),
+        Table::TextMap(map) => code_of(map.try_reserve(additional)),
+        Table::TextSet(set) => code_of(set.try_reserve(additional)),
         _ => OTHER_KIND,
     };
     handle.put(table);
     code
 }
 
-/// Lets slots go that the pairs don't need.
+/// Leaves as few slots as the pairs take, and none for no pair.
 ///
-/// Returns `OK`, `CLOSED`; `OTHER_KIND` of a cache. O(slots). `HashMap::shrink_to_fit`.
+/// Returns `OK`; `NO_MEMORY` if allocation fails, and all pairs stay. `CLOSED`; `OTHER_KIND` of a
+/// cache. O(slots). `HashMap::shrink_to_fit`.
 #[unsafe(no_mangle)]
 pub extern "C" fn bucket_shrink(alloc: Global, handle: &mut Handle) -> u32
     ensures { Shrinks handle.old.held.table result handle.new.held.table }
@@ -109,18 +95,9 @@ pub extern "C" fn bucket_shrink(alloc: Global, handle: &mut Handle) -> u32
         return CLOSED;
     };
     let code = match &mut *table {
-        Table::Map(map) => {
-            map.shrink_to_fit();
-            OK
-        }
-        Table::TextMap(map) => {
-            map.shrink_to_fit();
-            OK
-        }
-        Table::TextSet(set) => {
-            set.shrink_to_fit();
-            OK
-        }
+        Table::Map(map) => code_of(map.shrink_to_fit()),
+        Table::TextMap(map) => code_of(map.shrink_to_fit()),
+        Table::TextSet(set) => code_of(set.shrink_to_fit()),
         _ => OTHER_KIND,
     };
     handle.put(table);

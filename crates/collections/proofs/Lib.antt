@@ -27,3 +27,4 @@ pub mod SetCollecting
 pub mod SetSteps
 pub mod Removals
 pub mod EntryMaking
+pub mod Capacity

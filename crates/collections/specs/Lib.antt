@@ -22,3 +22,4 @@ pub mod StoredKeys
 pub mod Removals
 pub mod SetChanges
 pub mod Collecting
+pub mod Capacity

@@ -24,6 +24,7 @@ mod putting;
 use crate::default_hash::DefaultHash;
 use crate::key_form::{FormProbe, KeyForm, value_by};
 use crate::room::{Fits, TableRoom};
+use crate::sizing::LEAST_CAPACITY;
 use bucket_slots::bucket::CACHE;
 use bucket_slots::lru::DoublyLinkedList;
 pub use bucket_table::hash_table::NotInserted;
@@ -38,9 +39,6 @@ use std::marker::Model;
 
 /// The greatest number of slots of a cache that isn't told one. scc: `DEFAULT_MAXIMUM_CAPACITY`.
 pub const DEFAULT_MAXIMUM_CAPACITY: usize = 256;
-
-/// The least number of slots that an array has.
-const LEAST_CAPACITY: usize = 64;
 
 /// A cache: a map of bounded size, whose insertions may make an earlier pair go. scc: `HashCache`.
 #[derive(Drop)]
@@ -99,6 +97,29 @@ impl<K: Eq, V, H: KeyHash<K>> HashCache<K, V, H> {
             .next_power_of_two();
         HashCache {
             table: HashTable::new(alloc, hasher, least, greatest),
+            room: Fits::new(),
+        }
+    }
+
+    /// Returns an empty cache whose array has its full size from the first insertion on: the least
+    /// power of two that is at least this number of slots and 64, or 2^63. It never resizes, so a
+    /// pair goes only where 32 pairs stand in a bucket of the full size. Takes no memory.
+    ///
+    /// O(1). Own: scc's `with_capacity_and_hasher`, its two capacities the same.
+    pub fn with_size(alloc: Global, hasher: H, slots: usize) -> Self
+        requires { CacheFits K.row V.row H.row K.PartialEq H.KeyHash }
+        ensures empty { IsEmpty (map_of result) }
+        ensures hasher { result.hasher ≡ hasher }
+        ensures minimum { result.arrays.minimum ≡ result.arrays.maximum }
+        ensures maximum { IsLeastPowerOfTwo (min (max slots 64) (2 ^ 63)) result.arrays.maximum }
+        ensures slots { length result.arrays.current ≡ 0 }
+    {
+        let size = slots
+            .max(LEAST_CAPACITY)
+            .min(MAXIMUM_CAPACITY_LIMIT)
+            .next_power_of_two();
+        HashCache {
+            table: HashTable::new(alloc, hasher, size, size),
             room: Fits::new(),
         }
     }

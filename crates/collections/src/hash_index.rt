@@ -66,23 +66,23 @@ impl<K: Eq, V, H: KeyHash<K>> HashIndex<K, V, H> {
         ensures maximum { result.arrays.maximum ≡ 2 ^ 63 }
         ensures slots { length result.arrays.current ≡ 0 }
     {
-        Self::with_capacity(alloc, hasher, 0)
+        Self::with_minimum(alloc, hasher, 0)
     }
 
     /// Returns an empty index whose minimum is this number of slots, or 2^63. Takes no memory: the
     /// first insertion makes an array.
     ///
     /// O(1). scc: `HashIndex::with_capacity_and_hasher`.
-    pub fn with_capacity(alloc: Global, hasher: H, capacity: usize) -> Self
+    pub fn with_minimum(alloc: Global, hasher: H, slots: usize) -> Self
         requires { IndexFits K.row V.row H.row K.PartialEq H.KeyHash }
         ensures empty { IsEmpty (map_of result) }
         ensures unmarked { marks_of result.arrays ≡ [] }
         ensures hasher { result.hasher ≡ hasher }
-        ensures minimum { result.arrays.minimum ≡ min capacity (2 ^ 63) }
+        ensures minimum { result.arrays.minimum ≡ min slots (2 ^ 63) }
         ensures maximum { result.arrays.maximum ≡ 2 ^ 63 }
         ensures slots { length result.arrays.current ≡ 0 }
     {
-        let minimum = capacity.min(MAXIMUM_CAPACITY_LIMIT);
+        let minimum = slots.min(MAXIMUM_CAPACITY_LIMIT);
         HashIndex {
             table: HashTable::new(alloc, hasher, minimum, MAXIMUM_CAPACITY_LIMIT),
             room: Fits::new(),
@@ -253,7 +253,7 @@ impl<K: Eq + Drop, V: Drop, H: KeyHash<K>> HashIndex<K, V, H> {
     /// would pass the maximum. The pairs stay. No clause says that slots are made.
     ///
     /// Never refused. O(slots). scc: `HashIndex::reserve`.
-    pub fn reserve(&mut self, additional: usize) -> usize
+    pub fn raise_minimum(&mut self, additional: usize) -> usize
         ensures map { Reserves K.eq additional (map_of self.old) result (map_of self.new) }
         ensures marks { HasNoNewMark (marks_of self.old.arrays) (marks_of self.new.arrays) }
     {
@@ -264,7 +264,8 @@ impl<K: Eq + Drop, V: Drop, H: KeyHash<K>> HashIndex<K, V, H> {
         raised
     }
 
-    /// Sets the minimum to 0. The pairs stay. No clause says that slots are given back.
+    /// Sets the minimum to 0. The pairs stay. Slots go by the plan of a resize, and no clause says
+    /// that they do: a map's `shrink_to_fit` leaves as few as the pairs take.
     ///
     /// Never refused. O(slots). Own: what ends scc's `Reserve`s.
     pub fn shrink_to_fit(&mut self)

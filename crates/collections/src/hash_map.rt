@@ -13,8 +13,7 @@ ghost use Rattle.bucket_table.specs.declared.hash_table.NotInserted.TheVariants.
 ghost use Rattle.collections.specs.Crowding.{LacksRoom};
 ghost use Rattle.collections.specs.Equality.{is_within};
 ghost use Rattle.collections.specs.Maps.{contains_by, get, get_by, IsEmpty, map_len};
-ghost use Rattle.collections.specs.Changes.{Inserts, Removes, Reserves, Retains, Rewrites};
-ghost use Rattle.collections.specs.Changes.{Stays, Upserts};
+ghost use Rattle.collections.specs.Changes.{Inserts, Removes, Retains, Rewrites, Upserts};
 
 mod cloning;
 mod collecting;
@@ -28,14 +27,15 @@ mod iterating;
 mod lending;
 mod reading;
 mod removing;
+mod sizing;
 
 use crate::default_hash::DefaultHash;
 use crate::homes::{learn_homes, learn_refused};
 use crate::key_form::{FormProbe, KeyForm, value_by};
 use crate::room::{Fits, TableRoom};
 use bucket_slots::bucket::MAP;
+use bucket_table::hash_table::HashTable;
 pub use bucket_table::hash_table::NotInserted;
-use bucket_table::hash_table::{HashTable, MAXIMUM_CAPACITY_LIMIT};
 use bucket_table::key_hash::{KeyHash, StdHash};
 pub use draining::{Drain, IntoIter, IntoKeys, IntoValues};
 pub use iterating::{Iter, Keys, Values};
@@ -74,26 +74,7 @@ impl<K: Eq, V, H: KeyHash<K>> HashMap<K, V, H> {
         ensures maximum { result.maximum ≡ 2 ^ 63 }
         ensures slots { (result.slots ≡ 0) × (result.old_slots ≡ 0) }
     {
-        Self::with_capacity(alloc, hasher, 0)
-    }
-
-    /// Returns an empty map whose minimum is this number of slots, or 2^63. Takes no memory: the
-    /// first insertion makes an array.
-    ///
-    /// O(1). scc: `HashMap::with_capacity_and_hasher`.
-    pub fn with_capacity(alloc: Global, hasher: H, capacity: usize) -> Self
-        requires { MapFits K.row V.row H.row K.PartialEq H.KeyHash }
-        ensures empty { IsEmpty result }
-        ensures hasher { result.hasher ≡ hasher }
-        ensures minimum { result.minimum ≡ min capacity (2 ^ 63) }
-        ensures maximum { result.maximum ≡ 2 ^ 63 }
-        ensures slots { (result.slots ≡ 0) × (result.old_slots ≡ 0) }
-    {
-        let minimum = capacity.min(MAXIMUM_CAPACITY_LIMIT);
-        HashMap {
-            table: HashTable::new(alloc, hasher, minimum, MAXIMUM_CAPACITY_LIMIT),
-            room: Fits::new(),
-        }
+        Self::with_minimum(alloc, hasher, 0)
     }
 
     /// Returns the hasher.
@@ -278,33 +259,6 @@ impl<K: Eq + Drop, V: Drop, H: KeyHash<K>> HashMap<K, V, H> {
     {
         self.room.learn();
         let _ = self.table.retain(f, &());
-        self.table.sound();
-    }
-
-    /// Raises the minimum, and returns by how much: by what is asked for, or by nothing where it
-    /// would pass the maximum. The pairs stay. No clause says that slots are made.
-    ///
-    /// Never refused. O(slots). scc: `HashMap::reserve`.
-    pub fn reserve(&mut self, additional: usize) -> usize
-        ensures { Reserves K.eq additional self.old result self.new }
-    {
-        self.room.learn();
-        self.table.sound();
-        let raised = self.table.reserve_capacity(additional);
-        self.table.sound();
-        raised
-    }
-
-    /// Sets the minimum to 0. The pairs stay. No clause says that slots are given back.
-    ///
-    /// Never refused. O(slots). Own: what ends scc's `Reserve`s.
-    pub fn shrink_to_fit(&mut self)
-        ensures { Stays K.eq (record self.old { minimum = 0 }) self.new }
-    {
-        self.room.learn();
-        self.table.sound();
-        let minimum = self.table.minimum_capacity();
-        let _ = self.table.release_capacity(minimum);
         self.table.sound();
     }
 

@@ -7,7 +7,7 @@ ghost use Rattle.std.specs.Prelude.{◌≡◌, ◌↔◌, ◌-◌, ◌^◌, [], 
 ghost use Rattle.std.specs.Fn.{CalledAt};
 ghost use Rattle.std.specs.Map.{keys_of};
 ghost use Rattle.bucket_table.specs.declared.hash_table.NotInserted.TheVariants.{Memory};
-ghost use Rattle.collections.specs.Changes.{Inserts, Reserves, SetRemoves, Stays};
+ghost use Rattle.collections.specs.Changes.{Inserts, SetRemoves};
 ghost use Rattle.collections.specs.Copies.{IsCopy};
 ghost use Rattle.collections.specs.Crowding.{LacksRoom};
 ghost use Rattle.collections.specs.Keys.{CallsEachKey, CallsIf, RetainsKeys};
@@ -21,6 +21,7 @@ mod from_keys;
 mod iterating;
 mod keeping;
 mod relating;
+mod sizing;
 
 use crate::default_hash::DefaultHash;
 use crate::hash_map::{HashMap, NotInserted};
@@ -240,25 +241,6 @@ impl<K: Eq + Drop, H: KeyHash<K>> HashSet<K, H> {
             ensures { CalledAt F.FnMut f.entry.now key.now result f.exit.now }
         { f(key) };
         self.map.retain(&mut keep);
-    }
-
-    /// Raises the minimum, as `HashMap::reserve` does, and returns by how much. The keys stay. No
-    /// clause says that slots are made.
-    ///
-    /// Never refused. O(slots). scc: `HashSet::reserve`.
-    pub fn reserve(&mut self, additional: usize) -> usize
-        ensures { Reserves K.eq additional self.old result self.new }
-    {
-        self.map.reserve(additional)
-    }
-
-    /// Sets the minimum to 0. The keys stay. No clause says that slots are given back.
-    ///
-    /// Never refused. O(slots). Own: what ends scc's `Reserve`s.
-    pub fn shrink_to_fit(&mut self)
-        ensures { Stays K.eq (record self.old { minimum = 0 }) self.new }
-    {
-        self.map.shrink_to_fit();
     }
 
     /// Drops all keys and all slots; the hasher and the capacities stay.

@@ -18,6 +18,7 @@ mod homes;
 mod iterating;
 pub mod key_form;
 mod room;
+mod sizing;
 
 pub use default_hash::{
     BuildHasherDefault, DefaultHash, FoldHasher, KeyHash, RandomState, StdHash,

@@ -110,12 +110,30 @@ impl Collection {
     }
 
     /// Raises the minimum, where there is one, and returns whether it did.
-    pub(crate) fn reserve(&mut self, additional: usize) -> bool {
-        on_each!(self, any => any.reserve(additional) == additional, _ => true)
+    pub(crate) fn raise_minimum(&mut self, additional: usize) -> bool {
+        on_each!(self, any => any.raise_minimum(additional) == additional, _ => true)
     }
 
-    /// Gives the minimum back, where there is one.
-    pub(crate) fn shrink_to_fit(&mut self) {
-        on_each!(self, any => any.shrink_to_fit(), _ => {});
+    /// Makes room in a map or a set, and returns whether it has slots then, or memory was refused.
+    pub(crate) fn try_reserve(&mut self, additional: usize) -> bool {
+        match self {
+            Map(map) => map.try_reserve(additional).is_err() || map.capacity() >= additional,
+            Set(set) => set.try_reserve(additional).is_err() || set.capacity() >= additional,
+            _ => true,
+        }
+    }
+
+    /// Gives the minimum back, and a map's or a set's slots that its pairs don't take. Returns
+    /// whether slots are left exactly where there are pairs, or memory was refused.
+    pub(crate) fn shrink_to_fit(&mut self) -> bool {
+        match self {
+            Map(map) => map.shrink_to_fit().is_err() || (map.capacity() == 0) == map.is_empty(),
+            Set(set) => set.shrink_to_fit().is_err() || (set.capacity() == 0) == set.is_empty(),
+            Index(index, _) => {
+                index.shrink_to_fit();
+                true
+            }
+            Cache(_) => true,
+        }
     }
 }

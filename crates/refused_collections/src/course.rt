@@ -157,19 +157,17 @@ impl Course {
         }
     }
 
-    /// Clears the collection, raises the minimum, extends it, or gives the minimum back.
+    /// Clears the collection, raises the minimum, makes room, extends it, or gives slots back.
     fn call_on_all(&mut self) -> bool {
         match self.chance.next() % 8 {
             0 => {
                 self.beside = FewKeys::new();
                 self.collection.clear()
             }
-            1..=3 => self.collection.reserve(256),
+            1..=2 => self.collection.raise_minimum(256),
+            3 => self.collection.try_reserve(256),
             4..=5 => self.extend(),
-            _ => {
-                self.collection.shrink_to_fit();
-                true
-            }
+            _ => self.collection.shrink_to_fit(),
         }
     }
 

@@ -11,7 +11,7 @@ pub(crate) type Collected = HashMap<u64, u64, TableHash>;
 impl Measured for Collected {
     fn with_room(alloc: Global, pairs: u64) -> io::Result<Collected> {
         let minimum = (pairs as usize).saturating_mul(2).min(1 << 40);
-        Ok(HashMap::with_capacity(alloc, TableHash, minimum))
+        Ok(HashMap::with_minimum(alloc, TableHash, minimum))
     }
 
     #[inline(always)]

@@ -48,7 +48,8 @@ def play_map(map, plain, key):
             assert at in plain or raises(KeyError, map.__delitem__, at)
     assert dict(map.items()) == plain and len(map) == len(plain) and set(map) == set(plain)
     assert list(map.items()) == list(zip(map.keys(), map.values()))
-    assert map.reserve(50) == 50
+    map.reserve(50)
+    assert raises(MemoryError, map.reserve, 1 << 60)
     map.shrink()
     assert map == plain
     map.clear()

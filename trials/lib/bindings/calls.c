@@ -69,7 +69,7 @@ static int refuse(bucket_handle *handle, bool is_map, bool is_text_map, bool is_
         CHECK(bucket_texts(handle, 0, &row, 1, bytes, 4, &size) == code);
     }
     if (!is_map && !is_text_map && !is_set) {
-        CHECK(bucket_reserve(handle, 9, &size) == code);
+        CHECK(bucket_reserve(handle, 9) == code);
         CHECK(bucket_shrink(handle) == code);
     }
     CHECK(word == 77 && other == 78 && size == 79 && bytes[0] == 1 && pair.key == 5 && pair.value == 6);
@@ -102,7 +102,7 @@ static int words(bucket_seed seed) {
     static bucket_pair pairs[ENTRIES];
     bucket_handle map = BUCKET_HANDLE;
     uint64_t value = 77;
-    size_t raised = 0, count = 0;
+    size_t count = 0;
 
     CHECK(bucket_map_new(&map, 0, seed) == BUCKET_OK);
     CHECK(bucket_map_get(&map, 1, &value) == BUCKET_ABSENT && value == 77);
@@ -117,8 +117,8 @@ static int words(bucket_seed seed) {
     CHECK(refuse(&map, true, false, false, false, false) == 0 && open_still(&map) == 0);
     CHECK(bucket_map_remove(&map, 1, &value) == BUCKET_OK && value == 5);
     CHECK(bucket_map_remove(&map, 1, &value) == BUCKET_ABSENT && value == 5);
-    CHECK(bucket_reserve(&map, 1000, &raised) == BUCKET_OK && raised == 1000);
-    CHECK(bucket_reserve(&map, SIZE_MAX, &raised) == BUCKET_OK && raised == 0);
+    CHECK(bucket_reserve(&map, 1000) == BUCKET_OK);
+    CHECK(bucket_reserve(&map, SIZE_MAX) == BUCKET_NO_MEMORY);
     CHECK(bucket_shrink(&map) == BUCKET_OK);
     CHECK(bucket_clear(&map) == BUCKET_OK && bucket_len(&map) == 0);
     for (uint64_t key = 0; key < ENTRIES; key++) {
@@ -180,7 +180,6 @@ static int text_pieces(bucket_handle *handle, size_t wanted, bool has_values) {
 static int texts(bucket_seed seed) {
     bucket_handle map = BUCKET_HANDLE;
     uint64_t value = 77;
-    size_t raised = 0;
     uint8_t key[16] = "";
 
     CHECK(bucket_text_map_new(&map, 100, seed) == BUCKET_OK);
@@ -190,7 +189,7 @@ static int texts(bucket_seed seed) {
     CHECK(refuse(&map, false, true, false, false, false) == 0 && open_still(&map) == 0);
     CHECK(bucket_text_map_remove(&map, key, 0, &value) == BUCKET_OK && value == 6);
     CHECK(bucket_text_map_remove(&map, key, 0, &value) == BUCKET_ABSENT && value == 6);
-    CHECK(bucket_reserve(&map, 1000, &raised) == BUCKET_OK && raised == 1000 && bucket_shrink(&map) == BUCKET_OK);
+    CHECK(bucket_reserve(&map, 1000) == BUCKET_OK && bucket_shrink(&map) == BUCKET_OK);
     for (unsigned i = 0; i < TEXTS; i++) {
         size_t len = (size_t)snprintf((char *)key, sizeof key, "key %u", i);
         CHECK(bucket_text_map_insert(&map, key, len, i) == BUCKET_OK);
@@ -210,7 +209,6 @@ static int texts(bucket_seed seed) {
 
 static int sets(bucket_seed seed) {
     bucket_handle set = BUCKET_HANDLE;
-    size_t raised = 0;
     uint8_t key[16] = "";
 
     CHECK(bucket_text_set_new(&set, seed) == BUCKET_OK);
@@ -221,7 +219,7 @@ static int sets(bucket_seed seed) {
     CHECK(refuse(&set, false, false, true, false, false) == 0 && open_still(&set) == 0);
     CHECK(bucket_text_set_remove(&set, text("a"), 1) == BUCKET_OK);
     CHECK(bucket_text_set_remove(&set, text("a"), 1) == BUCKET_ABSENT);
-    CHECK(bucket_reserve(&set, 1000, &raised) == BUCKET_OK && raised == 1000 && bucket_shrink(&set) == BUCKET_OK);
+    CHECK(bucket_reserve(&set, 1000) == BUCKET_OK && bucket_shrink(&set) == BUCKET_OK);
     for (unsigned i = 0; i < TEXTS; i++) {
         size_t len = (size_t)snprintf((char *)key, sizeof key, "key %u", i);
         CHECK(bucket_text_set_insert(&set, key, len) == BUCKET_OK);

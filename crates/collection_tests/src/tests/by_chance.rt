@@ -102,8 +102,9 @@ impl Course {
                 self.map.clear();
                 self.std.clear();
             }
-            1..=3 => check_same(rt, self.map.reserve(256), 256, "reserve"),
-            _ => self.map.shrink_to_fit(),
+            1..=2 => check_same(rt, self.map.raise_minimum(256), 256, "minimum"),
+            3 => check_same(rt, self.map.try_reserve(256).is_ok(), true, "room"),
+            _ => check_same(rt, self.map.shrink_to_fit().is_ok(), true, "shrink"),
         }
     }
 

@@ -108,6 +108,22 @@ fn caches_go_through_their_stories(rt: HostRuntime) -> Result<(), Fail> {
     Ok(())
 }
 
+// Sizes that are asked for, and the slots that there are: the least power of two from 64 on.
+const SIZES: [(usize, usize); 5] = [(0, 64), (64, 64), (65, 128), (1000, 1024), (1024, 1024)];
+
+#[test]
+fn a_cache_has_its_size_from_the_first_pair_on(rt: HostRuntime) -> Result<(), Fail> {
+    for (slots, size) in &SIZES {
+        let mut cache: Cache = HashCache::with_size(rt.alloc(), ScriptHash::Spread, *slots);
+        check_same(&rt, cache.capacity(), 0, ("none yet", *slots));
+        check_same(&rt, put(&mut cache, 1, 1), Some(Ok(None)), ("put", *slots));
+        check_same(&rt, cache.capacity(), *size, ("size", *slots));
+        check_same(&rt, cache.remove(&1), Some((1, 1)), ("removed", *slots));
+        check_same(&rt, cache.capacity(), *size, ("kept", *slots));
+    }
+    Ok(())
+}
+
 // What a put answers: the pair that goes, or the one that comes back since its key is there.
 fn put(cache: &mut Cache, key: u64, value: u64) -> Option<Result<Option<(u64, u64)>, (u64, u64)>> {
     match cache.put(key, value) {

@@ -86,7 +86,7 @@ fn a_change_of_a_set_leaves_its_copy(rt: HostRuntime) -> Result<(), Fail> {
 fn a_copy_is_refused_where_there_is_no_memory_for_it(rt: HostRuntime) -> Result<(), Fail> {
     let mut map: Map = HashMap::with_hasher(rt.alloc(), ScriptHash::Id);
     map.insert(1, 10)?;
-    check_same(&rt, map.reserve(MOST), MOST, "reserve");
+    check_same(&rt, map.raise_minimum(MOST), MOST, "minimum");
     check_same(&rt, map.try_clone(rt.alloc()).is_err(), true, "refused");
     check_same(&rt, (map.get(&1).copied(), map.len()), (Some(10), 1), "map");
     map.clear();

@@ -64,7 +64,7 @@ fn keys_of(alloc: Global, hasher: ScriptHash, pairs: Pairs) -> Result<Set, Fail>
 #[test]
 fn a_map_amid_a_growth_is_equal_to_its_like(rt: HostRuntime) -> Result<(), Fail> {
     let mut one: Map = HashMap::with_hasher(rt.alloc(), ScriptHash::Spread);
-    let mut other: Map = HashMap::with_capacity(rt.alloc(), ScriptHash::Id, 128);
+    let mut other: Map = HashMap::with_minimum(rt.alloc(), ScriptHash::Id, 128);
     for key in 128..159 {
         one.insert(key, key)?;
         other.insert(key, key)?;

@@ -110,7 +110,7 @@ fn indexes_go_through_their_stories(rt: HostRuntime) -> Result<(), Fail> {
                 epoch: (number % 256) as u8,
                 keep,
             };
-            let mut index: Index = HashIndex::with_capacity(
+            let mut index: Index = HashIndex::with_minimum(
                 rt.alloc(),
                 story.hasher,
                 story.capacity,
@@ -163,7 +163,9 @@ fn change(rt: &impl Abort, index: &mut Index, now: &FixedGeneration, at: At, ste
                 check_same(rt, index.remove(&key, now), true, (at, key));
             }
         }
-        Reserves(additional, raised) => check_same(rt, index.reserve(*additional), *raised, at),
+        Reserves(additional, raised) => {
+            check_same(rt, index.raise_minimum(*additional), *raised, at);
+        }
         Shrinks => index.shrink_to_fit(),
         Clears => index.clear(),
         _ => look(rt, index, at, step),

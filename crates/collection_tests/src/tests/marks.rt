@@ -140,7 +140,7 @@ fn change(
     match step {
         Removes(key, there) => check_same(rt, index.remove(key, now), *there, at),
         Reserves(additional) => {
-            let _ = index.reserve(*additional);
+            let _ = index.raise_minimum(*additional);
         }
         Clears => index.clear(),
         Sees(pairs, values) => {

@@ -27,7 +27,9 @@ enum Step {
     Retains(u64, usize),
     /// The minimum is to be raised by the first number, and is by the second.
     Reserves(usize, usize),
-    /// The minimum is given back.
+    /// Whether room is made for so many keys more.
+    MakesRoom(usize, bool),
+    /// The minimum is given back, and the slots that the keys don't take.
     Shrinks,
     /// All keys go.
     Clears,
@@ -48,7 +50,10 @@ const STEPS: &[Step] = steps! {
     Inserts(7), Inserts(0), Inserts(14), Has(&[(0, 1), (7, 8), (14, 15), (255, 256)]),
     Retains(7, 4), Has(&[(0, 1), (7, 8), (14, 15)]), Discards(14, true), Discards(14, false),
     Has(&[(0, 1), (7, 8)]), Adds(14, true), Returns(7), Retains(100, 3), Has(&[(0, 1)]),
-    Clears, Has(&[]), Retains(1, 0)
+    Clears, Has(&[]), Retains(1, 0), Shrinks, MakesRoom(53, true), Sees(0, 128), Inserts(3),
+    MakesRoom(103, true), Sees(1, 128), MakesRoom(104, true), Sees(1, 256),
+    MakesRoom(1 << 60, false), Adds(4, true), Sees(2, 256), Shrinks, Sees(2, 64), Holds(3, true),
+    Clears, Shrinks, Sees(0, 0)
 };
 
 #[test]
@@ -73,8 +78,13 @@ fn take(rt: &impl Abort, alloc: Global, set: &mut Set, at: At, step: &Step) -> R
         Adds(key, added) => check_same(rt, set.add(*key).ok(), Some(*added), at),
         Discards(key, gone) => check_same(rt, set.discard(key), *gone, at),
         Retains(divisor, asked) => check_same(rt, retain(set, *divisor), *asked, at),
-        Reserves(additional, raised) => check_same(rt, set.reserve(*additional), *raised, at),
-        Shrinks => set.shrink_to_fit(),
+        Reserves(additional, raised) => {
+            check_same(rt, set.raise_minimum(*additional), *raised, at);
+        }
+        MakesRoom(additional, made) => {
+            check_same(rt, set.try_reserve(*additional).is_ok(), *made, at);
+        }
+        Shrinks => check_same(rt, set.shrink_to_fit().is_ok(), true, at),
         Clears => set.clear(),
         Holds(key, there) => check_same(rt, set.contains(key), *there, at),
         Has(ranges) => {

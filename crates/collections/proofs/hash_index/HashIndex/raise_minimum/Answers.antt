@@ -1,6 +1,6 @@
 use Rattle.collections.proofs.Marks.{no_new-reserves}
 use Rattle.collections.proofs.Steps.{stays_by}
-use Rattle.collections.proofs.hash_index.HashIndex.reserve.Goals as goal
+use Rattle.collections.proofs.hash_index.HashIndex.raise_minimum.Goals as goal
 
 pub returns-clause-map : goal.returns-clause-map
 returns-clause-map g c = rw (← c.self.view_is) (record {

@@ -1,5 +1,5 @@
 use Rattle.collections.proofs.Steps.{stays_by}
-use Rattle.collections.proofs.hash_map.HashMap.reserve.Goals as goal
+use Rattle.collections.proofs.hash_map.HashMap.raise_minimum.Goals as goal
 
 pub returns : goal.returns
 returns g c = rw (← c.self.view_is) (record {

@@ -7,7 +7,7 @@ use Rattle.collections.proofs.hash_map.HashMap.try_clone.Goals as goal
 pub loop-pair-init : goal.loop-pair-init
 loop-pair-init g c =
     let own = c.args.self.now in
-    let first = c.with_capacity-copy in
+    let first = c.with_minimum-copy in
     subst (λ left. IsCloning g.K.PartialEq.eq g.K.Clone.is_clone g.V.Clone.is_clone own first.result first.result left)
     (sym c.iter-pairs.ensures.rest)
     (none_cloned g.K.PartialEq.eq g.K.Clone.is_clone g.V.Clone.is_clone own first.result first.ensures.empty)
@@ -20,14 +20,14 @@ loop-pair-preserved g c =
     let new = c.upsert.new.self in
     let same : eq pair.0.now c.in_ok-own.own ≡ true = sym c.eq.ensures ∙ c.if-not-eq.false in
     let put = upsert_puts eq mid new c.in_ok-own.own c.in_ok-held.held c.in-Ok.earlier c.in-Ok.ensures.map in
-    one_more_cloned eq g.K.Clone.is_clone g.V.Clone.is_clone c.args.self.now c.with_capacity-copy.result mid new c.loop-pair.pairs
+    one_more_cloned eq g.K.Clone.is_clone g.V.Clone.is_clone c.args.self.now c.with_minimum-copy.result mid new c.loop-pair.pairs
     c.next.new.self (pair.0.now, pair.1.now) (c.in_ok-own.own, c.in_ok-held.held) c.loop-pair.invariant c.in-Some.ensures.steps
     ((c.in_ok-own.ensures.cases, same), c.in_ok-held.ensures.cases) put
 
 pub returns-clause-copy : goal.returns-clause-copy
 returns-clause-copy g c =
     let own = c.args.self.now in
-    let made = c.with_capacity-copy in
+    let made = c.with_minimum-copy in
     let hasher : c.hasher.result.now ≡ own.hasher = rw (← c.self.view_is) c.hasher.ensures in
     let minimum : made.result.minimum ≡ min own.minimum (2 ^ 63) =
     rw (← c.self.view_is) (made.ensures.minimum ∙ ap (λ m. min m (2 ^ 63)) c.minimum_capacity-minimum.ensures) in

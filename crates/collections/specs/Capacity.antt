@@ -1,0 +1,53 @@
+-- How many slots a map takes for some pairs.
+use Rattle.std.specs.Prelude.{ℕ, ◌≡◌, ◌+◌, ◌<◌, ◌≤◌, ◌^◌, Bool, Result, Ok, IsErr, OnOk, max}
+use Rattle.bucket_slots.specs.Sizing.{IsPowerIn, IsTooFull}
+use Rattle.collections.specs.Changes.{Stays}
+use Rattle.collections.specs.Maps.{IsEmpty, MapView, map_len}
+
+-- an array may have so many slots, and some pairs take no more than 13 of 16
+pub record HoldsAll (pairs slots : ℕ) : Type 0 where
+  pub power : IsPowerIn 64 (2 ^ 62) slots
+  pub enough : IsTooFull slots pairs → ⊥
+
+-- the least of these numbers of slots
+pub record IsSlotsFor (pairs slots : ℕ) : Type 0 where
+  pub holds : HoldsAll pairs slots
+  pub least : (other : ℕ) → HoldsAll pairs other → slots ≤ other
+
+-- the pairs are too many for every array
+abbrev pub AreTooMany : ℕ → Type 0
+AreTooMany pairs = (slots : ℕ) → HoldsAll pairs slots → ⊥
+
+-- the minimum of a map whose first array is to have room for some pairs: 0 for none, and 2^63 where they are too many
+pub record IsMinimumFor (pairs minimum : ℕ) : Type 0 where
+  pub none : pairs ≡ 0 → minimum ≡ 0
+  pub some : 0 < pairs → (slots : ℕ) → IsSlotsFor pairs slots → minimum ≡ slots
+  pub beyond : AreTooMany pairs → minimum ≡ 2 ^ 63
+
+module _ {K V H : Type 0} where
+  -- no pair is on its way, and there is room for so many pairs more
+  pub record HasRoomFor (more : ℕ) (map : MapView K V H) : Type 0 where
+    pub alone : map.old_slots ≡ 0
+    pub enough : IsTooFull map.slots (map_len map + more) → ⊥
+
+  -- no pair is on its way, and there are the least number of slots for some pairs, or as many as before
+  pub record TakesSlots (pairs : ℕ) (old new : MapView K V H) : Type 0 where
+    pub alone : new.old_slots ≡ 0
+    pub least : ℕ
+    pub least_is : IsSlotsFor pairs least
+    pub slots_are : new.slots ≡ max least old.slots
+
+  -- no pair is on its way, and there are as few slots as the pairs take, and none for none
+  pub record IsFitted (map : MapView K V H) : Type 0 where
+    pub alone : map.old_slots ≡ 0
+    pub none : IsEmpty map → map.slots ≡ 0
+    pub some : (IsEmpty map → ⊥) → IsSlotsFor (map_len map) map.slots
+
+  -- room is made for so many pairs more, and no slot goes, unless allocation fails; where there is room already, and where they are too
+  -- many, nothing changes
+  pub record MakesRoom {E : Type 0} (eq : K → K → Bool) (more : ℕ) (old : MapView K V H) (answer : Result (Unit {0}) E) (new : MapView K V H) : Type 0 where
+    pub stays : Stays eq old new
+    pub room : OnOk answer (HasRoomFor more new)
+    pub no_fewer : OnOk answer (old.slots ≤ new.slots)
+    pub ready : HasRoomFor more old → (answer ≡ Ok tt) × (new ≡ old)
+    pub too_many : AreTooMany (map_len old + more) → IsErr answer × (new ≡ old)

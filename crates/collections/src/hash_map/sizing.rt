@@ -1,0 +1,166 @@
+//! How many slots a map has: room for pairs that come, and slots that go.
+//!
+//! The minimum, which scc's `reserve` raises, is what the plan of a resize keeps to. `try_reserve`
+//! and `shrink_to_fit` go beside the plan: they move all pairs at once.
+ghost use Rattle.std.specs.Prelude.{◌≡◌, ◌^◌, IsErr, OnOk, min};
+ghost use Rattle.bucket_slots.specs.Sizing.{IsPowerIn};
+ghost use Rattle.collections.specs.Capacity.{AreTooMany, IsFitted, IsMinimumFor, MakesRoom, TakesSlots};
+ghost use Rattle.collections.specs.Changes.{Reserves, Stays};
+ghost use Rattle.collections.specs.Maps.{IsEmpty};
+
+use crate::hash_map::HashMap;
+use crate::room::Fits;
+use crate::sizing::{is_too_full, minimum_for, slots_for};
+use bucket_table::hash_table::{HashTable, MAXIMUM_CAPACITY_LIMIT};
+use bucket_table::key_hash::KeyHash;
+use std::alloc::{AllocError, Global};
+
+impl<K: Eq, V, H: KeyHash<K>> HashMap<K, V, H> {
+    ghost use Rattle.collections.specs.Room.{MapFits};
+
+    /// Returns an empty map, whose first insertion makes room for this number of pairs. Takes no
+    /// memory. The minimum is the least number of slots of which they take no more than 13 of 16: 0
+    /// for no pair, and 2^63, which no array has, where they are too many.
+    ///
+    /// O(1). Own: std's `with_capacity`, which takes memory.
+    pub fn with_capacity(alloc: Global, hasher: H, pairs: usize) -> Self
+        requires { MapFits K.row V.row H.row K.PartialEq H.KeyHash }
+        ensures empty { IsEmpty result }
+        ensures hasher { result.hasher ≡ hasher }
+        ensures minimum { IsMinimumFor pairs result.minimum }
+        ensures maximum { result.maximum ≡ 2 ^ 63 }
+        ensures slots { (result.slots ≡ 0) × (result.old_slots ≡ 0) }
+    {
+        Self::with_minimum(alloc, hasher, minimum_for(pairs))
+    }
+
+    /// Returns an empty map whose minimum is this number of slots, or 2^63. Takes no memory: the
+    /// first insertion makes an array.
+    ///
+    /// O(1). scc: `HashMap::with_capacity_and_hasher`.
+    pub fn with_minimum(alloc: Global, hasher: H, slots: usize) -> Self
+        requires { MapFits K.row V.row H.row K.PartialEq H.KeyHash }
+        ensures empty { IsEmpty result }
+        ensures hasher { result.hasher ≡ hasher }
+        ensures minimum { result.minimum ≡ min slots (2 ^ 63) }
+        ensures maximum { result.maximum ≡ 2 ^ 63 }
+        ensures slots { (result.slots ≡ 0) × (result.old_slots ≡ 0) }
+    {
+        let minimum = slots.min(MAXIMUM_CAPACITY_LIMIT);
+        HashMap {
+            table: HashTable::new(alloc, hasher, minimum, MAXIMUM_CAPACITY_LIMIT),
+            room: Fits::new(),
+        }
+    }
+}
+
+impl<K: Eq + Drop, V: Drop, H: KeyHash<K>> HashMap<K, V, H> {
+    /// Raises the minimum, and returns by how much: by what is asked for, or by nothing where it
+    /// would pass the maximum. The pairs stay. No clause says that slots are made.
+    ///
+    /// Never refused. O(slots). scc: `HashMap::reserve`.
+    pub fn raise_minimum(&mut self, additional: usize) -> usize
+        ensures { Reserves K.eq additional self.old result self.new }
+    {
+        self.room.learn();
+        self.table.sound();
+        let raised = self.table.reserve_capacity(additional);
+        self.table.sound();
+        raised
+    }
+
+    /// Makes room for so many pairs more: all pairs stand in one array, and with those to come they
+    /// take no more than 13 of 16 slots. Where that is so already nothing changes. The minimum
+    /// stays, and so do the pairs.
+    ///
+    /// # Errors
+    ///
+    /// Allocation failure: all pairs are there. Where the pairs are too many for every array nothing
+    /// changes.
+    ///
+    /// O(slots). Own: std's `try_reserve`.
+    pub fn try_reserve(&mut self, additional: usize) -> Result<(), AllocError>
+        ensures { MakesRoom K.eq additional self.old result self.new }
+    {
+        self.room.learn();
+        self.table.sound();
+        let Some(pairs) = self.table.len().checked_add(additional) else {
+            return Err(AllocError);
+        };
+        if is_too_full(self.table.num_slots(), pairs) {
+            return self.make_room(pairs);
+        }
+        if self.table.has_linked_array() {
+            return self.make_room(pairs);
+        }
+        Ok(())
+    }
+
+    /// Moves all pairs into one array in which so many have room, with no fewer slots than now.
+    ///
+    /// # Errors
+    ///
+    /// Allocation failure: all pairs are there. Where so many have room in no array nothing changes.
+    fn make_room(&mut self, pairs: usize) -> Result<(), AllocError>
+        ensures map { Stays K.eq self.old self.new }
+        ensures slots { OnOk result (TakesSlots pairs self.old self.new) }
+        ensures too_many { AreTooMany pairs → IsErr result × (self.new ≡ self.old) }
+    {
+        self.room.learn();
+        self.table.sound();
+        let slots = self.table.num_slots();
+        match slots_for(pairs) {
+            Some(least) => self.rehash_to(least.max(slots)),
+            None => Err(AllocError),
+        }
+    }
+
+    /// Sets the minimum to 0, and leaves as few slots as the pairs take: the least number of which
+    /// they take no more than 13 of 16, and none for no pair. The pairs stay.
+    ///
+    /// # Errors
+    ///
+    /// Allocation failure: all pairs are there, and the minimum is 0.
+    ///
+    /// O(slots). Own: std's `shrink_to_fit`, which can't be refused.
+    pub fn shrink_to_fit(&mut self) -> Result<(), AllocError>
+        ensures map { Stays K.eq (record self.old { minimum = 0 }) self.new }
+        ensures slots { OnOk result (IsFitted self.new) }
+    {
+        self.room.learn();
+        self.table.sound();
+        let pairs = self.table.len();
+        self.table.set_minimum(0);
+        if pairs == 0 {
+            self.table.clear();
+            return Ok(());
+        }
+        match slots_for(pairs) {
+            Some(slots) => self.rehash_to(slots),
+            None => Err(AllocError),
+        }
+    }
+
+    /// Moves all pairs into one array of so many slots.
+    ///
+    /// # Errors
+    ///
+    /// Allocation failure, or the map may not have so many slots: all pairs are there.
+    fn rehash_to(&mut self, slots: usize) -> Result<(), AllocError>
+        requires { IsPowerIn 64 (2 ^ 62) slots }
+        ensures map { Stays K.eq self.old self.new }
+        ensures slots { OnOk result ((self.new.slots ≡ slots) × (self.new.old_slots ≡ 0)) }
+    {
+        self.room.learn();
+        self.table.sound();
+        if slots > self.table.maximum_capacity() {
+            return Err(AllocError);
+        }
+        let outcome = self.table.rehash_to(slots);
+        self.table.sound();
+        match outcome {
+            Ok(()) => Ok(()),
+            Err(_) => Err(AllocError),
+        }
+    }
+}

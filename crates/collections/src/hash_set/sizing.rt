@@ -1,0 +1,90 @@
+//! How many slots a set has, as of a map: room for keys that come, and slots that go.
+ghost use Rattle.std.specs.Prelude.{◌≡◌, ◌^◌, OnOk, min};
+ghost use Rattle.collections.specs.Capacity.{IsFitted, IsMinimumFor, MakesRoom};
+ghost use Rattle.collections.specs.Changes.{Reserves, Stays};
+ghost use Rattle.collections.specs.Maps.{IsEmpty};
+
+use crate::hash_map::HashMap;
+use crate::hash_set::HashSet;
+use bucket_table::key_hash::KeyHash;
+use std::alloc::{AllocError, Global};
+
+impl<K: Eq, H: KeyHash<K>> HashSet<K, H> {
+    ghost use Rattle.collections.specs.Room.{SetFits};
+
+    /// Returns an empty set, whose first insertion makes room for this number of keys, as
+    /// `HashMap::with_capacity` does. Takes no memory.
+    ///
+    /// O(1). Own: std's `with_capacity`, which takes memory.
+    pub fn with_capacity(alloc: Global, hasher: H, keys: usize) -> Self
+        requires { SetFits K.row H.row K.PartialEq H.KeyHash }
+        ensures empty { IsEmpty result }
+        ensures hasher { result.hasher ≡ hasher }
+        ensures minimum { IsMinimumFor keys result.minimum }
+        ensures maximum { result.maximum ≡ 2 ^ 63 }
+        ensures slots { (result.slots ≡ 0) × (result.old_slots ≡ 0) }
+    {
+        HashSet {
+            map: HashMap::with_capacity(alloc, hasher, keys),
+        }
+    }
+
+    /// Returns an empty set whose minimum is this number of slots, or 2^63. Takes no memory: the
+    /// first insertion makes an array.
+    ///
+    /// O(1). scc: `HashSet::with_capacity_and_hasher`.
+    pub fn with_minimum(alloc: Global, hasher: H, slots: usize) -> Self
+        requires { SetFits K.row H.row K.PartialEq H.KeyHash }
+        ensures empty { IsEmpty result }
+        ensures hasher { result.hasher ≡ hasher }
+        ensures minimum { result.minimum ≡ min slots (2 ^ 63) }
+        ensures maximum { result.maximum ≡ 2 ^ 63 }
+        ensures slots { (result.slots ≡ 0) × (result.old_slots ≡ 0) }
+    {
+        HashSet {
+            map: HashMap::with_minimum(alloc, hasher, slots),
+        }
+    }
+}
+
+impl<K: Eq + Drop, H: KeyHash<K>> HashSet<K, H> {
+    /// Raises the minimum, as `HashMap::raise_minimum` does, and returns by how much. The keys stay.
+    /// No clause says that slots are made.
+    ///
+    /// Never refused. O(slots). scc: `HashSet::reserve`.
+    pub fn raise_minimum(&mut self, additional: usize) -> usize
+        ensures { Reserves K.eq additional self.old result self.new }
+    {
+        self.map.raise_minimum(additional)
+    }
+
+    /// Makes room for so many keys more, as `HashMap::try_reserve` does for pairs. The minimum
+    /// stays, and so do the keys.
+    ///
+    /// # Errors
+    ///
+    /// Allocation failure: all keys are there. Where the keys are too many for every array nothing
+    /// changes.
+    ///
+    /// O(slots). Own: std's `try_reserve`.
+    pub fn try_reserve(&mut self, additional: usize) -> Result<(), AllocError>
+        ensures { MakesRoom K.eq additional self.old result self.new }
+    {
+        self.map.try_reserve(additional)
+    }
+
+    /// Sets the minimum to 0, and leaves as few slots as the keys take, as `HashMap::shrink_to_fit`
+    /// does. The keys stay.
+    ///
+    /// # Errors
+    ///
+    /// Allocation failure: all keys are there, and the minimum is 0.
+    ///
+    /// O(slots). Own: std's `shrink_to_fit`, which can't be refused.
+    pub fn shrink_to_fit(&mut self) -> Result<(), AllocError>
+        ensures map { Stays K.eq (record self.old { minimum = 0 }) self.new }
+        ensures slots { OnOk result (IsFitted self.new) }
+    {
+        self.map.shrink_to_fit()
+    }
+}

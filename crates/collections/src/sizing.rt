@@ -1,0 +1,42 @@
+//! How many slots a number of pairs takes: numbers from numbers.
+ghost use Rattle.std.specs.Prelude.{◌↔◌, IsTrue, MatchOption};
+ghost use Rattle.bucket_slots.specs.Sizing.{IsTooFull};
+ghost use Rattle.collections.specs.Capacity.{AreTooMany, IsMinimumFor, IsSlotsFor};
+
+use bucket_slots::bucket_array::MAXIMUM_SLOTS;
+use bucket_table::hash_table::MAXIMUM_CAPACITY_LIMIT;
+
+/// The least number of slots that an array has.
+pub(crate) const LEAST_CAPACITY: usize = 64;
+
+/// Tests whether some pairs take more than 13 of 16 slots.
+pub(crate) fn is_too_full(slots: usize, pairs: usize) -> bool
+    ensures { IsTrue result ↔ IsTooFull slots pairs }
+{
+    pairs > (slots / 16) * 13
+}
+
+/// Returns the least number of slots of an array of which some pairs take no more than 13 of 16;
+/// `None` where they are too many for every array.
+pub(crate) fn slots_for(pairs: usize) -> Option<usize>
+    ensures { MatchOption result (AreTooMany pairs) (IsSlotsFor pairs) }
+{
+    if is_too_full(MAXIMUM_SLOTS, pairs) {
+        return None;
+    }
+    let wanted = (pairs + 12) / 13 * 16;
+    Some(wanted.max(LEAST_CAPACITY).next_power_of_two())
+}
+
+/// Returns the minimum of a map whose first array is to have room for some pairs.
+pub(crate) fn minimum_for(pairs: usize) -> usize
+    ensures { IsMinimumFor pairs result }
+{
+    if pairs == 0 {
+        return 0;
+    }
+    match slots_for(pairs) {
+        Some(slots) => slots,
+        None => MAXIMUM_CAPACITY_LIMIT,
+    }
+}
