@@ -119,6 +119,11 @@ abbrev pub SetRemoves : {K H : Type 0} → (K → K → Bool) → (K → Bool) �
 SetRemoves eq wants old (Some own) new = Takes eq old wants (own, tt) new
 SetRemoves eq wants old None new = (get_by wants old ≡ None) × Stays eq old new
 
+-- a function is called with a key, and with a value lent for writing, which is another one then. No public clause cites it
+abbrev pub Calls : {K V : Type 0} → (Bor K → MutBor V → MutBor V → Type 0) → K → V → V → Type 0
+Calls {K} {V} step key value later = (own : Bor K) × (before : MutBor V) × (after : MutBor V)
+    × (own.now ≡ key) × (before.now ≡ value) × (after.now ≡ later) × step own before after
+
 module _ {K V H : Type 0} (eq : K → K → Bool) where
   -- the minimum is raised by the answer: what was asked for, or nothing where it would pass the maximum
   pub record Reserves (additional : ℕ) (old : MapView K V H) (answer : ℕ) (new : MapView K V H) : Type 0 where

@@ -1,7 +1,8 @@
-//! The call that lends a value for writing.
-ghost use Rattle.std.specs.Prelude.{◌≡◌};
+//! Calls that lend values for writing.
+ghost use Rattle.std.specs.Prelude.{◌≡◌, true};
 ghost use Rattle.std.specs.Borrow.{sem};
 ghost use Rattle.std.specs.Option.{option_copied_mut};
+ghost use Rattle.collections.specs.Changes.{Calls, Retains};
 ghost use Rattle.collections.specs.Maps.{get_by};
 
 use crate::hash_map::HashMap;
@@ -26,4 +27,33 @@ impl<K: Eq + Drop, V: Drop, H: KeyHash<K>> HashMap<K, V, H> {
         let hash = key.hash_by(self.hasher());
         self.get_mut_hashed(hash, key)
     }
+
+    /// Calls a function with each pair once, its value lent for writing, in the order of the view.
+    /// Each pair stays, with the value that the function left.
+    ///
+    /// Never refused, and takes no memory. O(slots), and the function's calls. Own: std's loop over
+    /// `iter_mut`.
+    pub fn for_each_mut<F: FnMut(&K, &mut V)>(&mut self, f: &mut F)
+        requires callable { F.IsAlwaysCallable f.old }
+        ensures again { F.IsAlwaysCallable f.new }
+        ensures written { Retains K.eq (λ state own before answer after last. (answer ≡ true)
+            × F.step state own before tt after last) f.old self.old self.new f.new }
+    {
+        let mut keep = |key: &K, value: &mut V|
+            requires { F.IsAlwaysCallable f.now }
+            ensures { (result ≡ true) × Calls (λ own before after.
+                F.step f.entry.now own before tt after f.exit.now) key.now value.old value.new }
+        { called_with(f, key, value) };
+        self.retain(&mut keep);
+    }
+}
+
+/// Calls a function with a pair, and returns `true`.
+fn called_with<K, V, F: FnMut(&K, &mut V)>(f: &mut F, key: &K, value: &mut V) -> bool
+    requires { F.IsAlwaysCallable f.old }
+    ensures { (result ≡ true) × Calls (λ own before after. F.step f.old own before tt after f.new)
+        key.now value.old value.new }
+{
+    f(key, value);
+    true
 }
