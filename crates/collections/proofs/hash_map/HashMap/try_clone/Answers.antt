@@ -43,23 +43,23 @@ returns-in_err-hasher-clause-succeeds g c =
 pub returns-in_err-own-clause-succeeds : goal.returns-in_err-own-clause-succeeds
 returns-in_err-own-clause-succeeds g c =
     let pair = c.in-Some.pair in
-    λ empty sure. absurd (some_left g.K.PartialEq.eq g.K.Clone.is_clone g.V.Clone.is_clone c.args.self.now c.with_capacity-copy.result
+    λ empty sure. absurd (some_left g.K.PartialEq.eq g.K.Clone.is_clone g.V.Clone.is_clone c.args.self.now c.with_minimum-copy.result
     c.loop-pair.copy c.loop-pair.pairs c.next.new.self (pair.0.now, pair.1.now) c.loop-pair.invariant c.in-Some.ensures.steps empty)
 
 pub returns-then-not-eq-clause-succeeds : goal.returns-then-not-eq-clause-succeeds
 returns-then-not-eq-clause-succeeds g c =
     let pair = c.in-Some.pair in
-    λ empty sure. absurd (some_left g.K.PartialEq.eq g.K.Clone.is_clone g.V.Clone.is_clone c.args.self.now c.with_capacity-copy.result
+    λ empty sure. absurd (some_left g.K.PartialEq.eq g.K.Clone.is_clone g.V.Clone.is_clone c.args.self.now c.with_minimum-copy.result
     c.loop-pair.copy c.loop-pair.pairs c.next.new.self (pair.0.now, pair.1.now) c.loop-pair.invariant c.in-Some.ensures.steps empty)
 
 pub returns-in_err-held-clause-succeeds : goal.returns-in_err-held-clause-succeeds
 returns-in_err-held-clause-succeeds g c =
     let pair = c.in-Some.pair in
-    λ empty sure. absurd (some_left g.K.PartialEq.eq g.K.Clone.is_clone g.V.Clone.is_clone c.args.self.now c.with_capacity-copy.result
+    λ empty sure. absurd (some_left g.K.PartialEq.eq g.K.Clone.is_clone g.V.Clone.is_clone c.args.self.now c.with_minimum-copy.result
     c.loop-pair.copy c.loop-pair.pairs c.next.new.self (pair.0.now, pair.1.now) c.loop-pair.invariant c.in-Some.ensures.steps empty)
 
 pub returns-in-Err-clause-succeeds : goal.returns-in-Err-clause-succeeds
 returns-in-Err-clause-succeeds g c =
     let pair = c.in-Some.pair in
-    λ empty sure. absurd (some_left g.K.PartialEq.eq g.K.Clone.is_clone g.V.Clone.is_clone c.args.self.now c.with_capacity-copy.result
+    λ empty sure. absurd (some_left g.K.PartialEq.eq g.K.Clone.is_clone g.V.Clone.is_clone c.args.self.now c.with_minimum-copy.result
     c.loop-pair.copy c.loop-pair.pairs c.next.new.self (pair.0.now, pair.1.now) c.loop-pair.invariant c.in-Some.ensures.steps empty)
