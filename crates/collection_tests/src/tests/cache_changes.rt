@@ -4,6 +4,7 @@ use super::{At, check_same, steps};
 use Step::*;
 use bucket_table::script::ScriptHash;
 use collections::hash_cache::{HashCache, Upserted};
+use std::alloc::Global;
 use std::mem;
 use std::process::Abort;
 use std::rc::Rc;
@@ -13,7 +14,7 @@ type Cache = HashCache<u64, u64, ScriptHash>;
 
 /// A call on a cache with what it answers, or what is seen of the cache. Of two keys the second is
 /// the first that is not meant.
-enum Step {
+pub(super) enum Step {
     /// Keys are added by upserts, each as its own value, and none goes.
     Fills(u64, u64),
     /// An upsert adds a pair, and this one goes.
@@ -29,10 +30,16 @@ enum Step {
     /// The value that `get_or_insert_with` reads: 1000 more than the key where it is made. This pair
     /// goes then.
     Gets(u64, u64, Option<(u64, u64)>),
+    /// `get` finds each key with its own value, and touches it.
+    Touches(u64, u64),
+    /// What `get` finds.
+    Finds(u64, Option<u64>),
     /// Of each pair 100 is added to the value, and it goes if its key is odd.
     Retains,
     /// The pair that is taken out.
     Removes(u64, Option<(u64, u64)>),
+    /// All pairs go.
+    Clears,
     /// The value that a key has. It isn't touched.
     Holds(u64, Option<u64>),
     /// How many pairs there are.
@@ -42,11 +49,11 @@ enum Step {
 }
 
 /// What happens on a new cache of at most so many slots.
-struct Story {
-    name: &'static str,
-    hasher: ScriptHash,
-    most: usize,
-    steps: &'static [Step],
+pub(super) struct Story {
+    pub(super) name: &'static str,
+    pub(super) hasher: ScriptHash,
+    pub(super) most: usize,
+    pub(super) steps: &'static [Step],
 }
 
 // Under the hash 0 all keys have one bucket, of 32 own slots. Under the hash that spreads low bytes
@@ -97,13 +104,18 @@ const STORIES: &[Story] = steps! {
 
 #[test]
 fn changed_caches_go_through_their_stories(rt: HostRuntime) -> Result<(), Fail> {
-    for story in STORIES {
-        let mut cache: Cache = HashCache::with_capacity(rt.alloc(), story.hasher, 0, story.most);
+    play(&rt, rt.alloc(), STORIES);
+    Ok(())
+}
+
+// Plays stories, each on a new cache.
+pub(super) fn play(rt: &impl Abort, alloc: Global, stories: &[Story]) {
+    for story in stories {
+        let mut cache: Cache = HashCache::with_capacity(alloc, story.hasher, 0, story.most);
         for (row, step) in story.steps.iter().enumerate() {
-            take(&rt, &mut cache, (story.name, row), step);
+            take(rt, &mut cache, (story.name, row), step);
         }
     }
-    Ok(())
 }
 
 // What an upsert answers: the pair that goes, or the earlier value.
@@ -146,6 +158,12 @@ fn take(rt: &impl Abort, cache: &mut Cache, at: At, step: &Step) {
             let found = cache.get_or_insert_with(*key, || key.wrapping_add(1000), |held| *held);
             check_same(rt, found.ok(), Some((*value, *gone)), at);
         }
+        Touches(from, to) => {
+            for key in *from..*to {
+                check_same(rt, cache.get(&key).copied(), Some(key), (at, key));
+            }
+        }
+        Finds(key, value) => check_same(rt, cache.get(key).copied(), *value, at),
         Retains => {
             let mut keep = |key: &u64, value: &mut u64| {
                 *value = value.wrapping_add(100);
@@ -154,6 +172,7 @@ fn take(rt: &impl Abort, cache: &mut Cache, at: At, step: &Step) {
             cache.retain(&mut keep);
         }
         Removes(key, pair) => check_same(rt, cache.remove(key), *pair, at),
+        Clears => cache.clear(),
         _ => look(rt, cache, at, step),
     }
 }
@@ -161,7 +180,10 @@ fn take(rt: &impl Abort, cache: &mut Cache, at: At, step: &Step) {
 // Takes a step that looks.
 fn look(rt: &impl Abort, cache: &Cache, at: At, step: &Step) {
     match step {
-        Holds(key, value) => check_same(rt, cache.peek(key).copied(), *value, at),
+        Holds(key, value) => {
+            check_same(rt, cache.peek(key).copied(), *value, at);
+            check_same(rt, cache.contains(key), value.is_some(), (at, "contains"));
+        }
         Len(len) => check_same(rt, cache.len(), *len, at),
         Slots(slots) => check_same(rt, cache.capacity(), *slots, at),
         _ => check_same(rt, true, false, (at, "no step")),

@@ -5,11 +5,12 @@ use Step::*;
 use bucket_table::script::ScriptHash;
 use collections::hash_map::HashMap;
 use collections::hash_map::entry::Entry;
+use std::alloc::Global;
 use std::process::Abort;
 use std::test::Fail;
 
 /// What is done at a key's place, or what is seen of the map.
-enum Step {
+pub(super) enum Step {
     /// Keys are inserted by vacant entries, each as its own value.
     Fills(u64, u64),
     /// A value is put where there is none, and one is added to what is there then: this comes out.
@@ -20,6 +21,8 @@ enum Step {
     Makes(u64, u64),
     /// A value is written where one is there, and this was the earlier one.
     Writes(u64, u64, Option<u64>),
+    /// The key of the place, vacant or occupied.
+    Keys(u64),
     /// The pair that is taken out.
     Takes(u64, Option<(u64, u64)>),
     /// The value that a key has.
@@ -29,10 +32,10 @@ enum Step {
 }
 
 /// What happens on a new map.
-struct Story {
-    name: &'static str,
-    hasher: ScriptHash,
-    steps: &'static [Step],
+pub(super) struct Story {
+    pub(super) name: &'static str,
+    pub(super) hasher: ScriptHash,
+    pub(super) steps: &'static [Step],
 }
 
 const STORIES: &[Story] = steps! {
@@ -63,13 +66,18 @@ const STORIES: &[Story] = steps! {
 
 #[test]
 fn entries_are_the_places_of_keys(rt: HostRuntime) -> Result<(), Fail> {
-    for story in STORIES {
-        let mut map: Map = HashMap::with_hasher(rt.alloc(), story.hasher);
+    play(&rt, rt.alloc(), STORIES);
+    Ok(())
+}
+
+// Plays stories, each on a new map.
+pub(super) fn play(rt: &impl Abort, alloc: Global, stories: &[Story]) {
+    for story in stories {
+        let mut map: Map = HashMap::with_hasher(alloc, story.hasher);
         for (row, step) in story.steps.iter().enumerate() {
-            take(&rt, &mut map, (story.name, row), step);
+            take(rt, &mut map, (story.name, row), step);
         }
     }
-    Ok(())
 }
 
 // Takes a step, and compares what it answers.
@@ -84,10 +92,16 @@ fn take(rt: &impl Abort, map: &mut Map, at: At, step: &Step) {
         Doubles(key, value, after) => check_same(rt, double(map, key, value), Some(after), at),
         Makes(key, after) => check_same(rt, make(map, key), Some(after), at),
         Writes(key, value, earlier) => check_same(rt, write(map, key, value), earlier, at),
+        Keys(key) => check_same(rt, *map.entry(key).key(), key, at),
         Takes(key, pair) => check_same(rt, take_out(map, key), pair, at),
         Holds(key, value) => check_same(rt, map.get(&key).copied(), value, at),
-        Len(pairs) => check_same(rt, map.len(), pairs, at),
+        Len(pairs) => check_same(rt, (map.len(), has_its_keys(map)), (pairs, true), at),
     }
+}
+
+// Each key that a map gives is there.
+fn has_its_keys(map: &Map) -> bool {
+    map.keys().all(|key: &u64| map.contains(key))
 }
 
 // Puts a key as its own value. Returns whether its place was vacant and it came.

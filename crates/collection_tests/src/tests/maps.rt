@@ -5,6 +5,7 @@ use super::{At, check_same, steps};
 use Step::*;
 use bucket_table::script::ScriptHash;
 use collections::hash_map::{HashMap, NotInserted};
+use std::alloc::Global;
 use std::process::Abort;
 use std::test::Fail;
 
@@ -12,9 +13,11 @@ pub(super) type Map = HashMap<u64, u64, ScriptHash>;
 
 /// A call on a map with what it answers, or what is seen of the map. Of two keys the second is the
 /// first that is not meant.
-enum Step {
+pub(super) enum Step {
     /// Keys are inserted, each as its own value.
     Fills(u64, u64),
+    /// Keys are inserted, each with the third number's multiple of it.
+    Multiplies(u64, u64, u64),
     /// A pair is inserted.
     Inserts(u64, u64),
     /// A pair comes back, since its key is there.
@@ -30,6 +33,8 @@ enum Step {
     /// One is added to each value, and the pairs stay whose keys leave the second number, divided
     /// by the first. So many pairs were asked for.
     Retains(u64, u64, usize),
+    /// The same pairs stay, and no value is written.
+    Keeps(u64, u64, usize),
     /// The pair that is taken out.
     Removes(u64, Option<(u64, u64)>),
     /// The pair that is taken out, where its value is above the second number.
@@ -55,11 +60,11 @@ enum Step {
 }
 
 /// What happens on a new map.
-struct Story {
-    name: &'static str,
-    hasher: ScriptHash,
-    minimum: usize,
-    steps: &'static [Step],
+pub(super) struct Story {
+    pub(super) name: &'static str,
+    pub(super) hasher: ScriptHash,
+    pub(super) minimum: usize,
+    pub(super) steps: &'static [Step],
 }
 
 // The greatest number of slots. There is no memory for so many.
@@ -205,11 +210,16 @@ fn a_first_array_has_room_for_the_pairs(rt: HostRuntime) -> Result<(), Fail> {
 
 #[test]
 fn maps_go_through_their_stories(rt: HostRuntime) -> Result<(), Fail> {
-    for story in STORIES {
-        let mut map: Map = HashMap::with_minimum(rt.alloc(), story.hasher, story.minimum);
+    play(&rt, rt.alloc(), STORIES)
+}
+
+// Plays stories, each on a new map.
+pub(super) fn play(rt: &impl Abort, alloc: Global, stories: &[Story]) -> Result<(), Fail> {
+    for story in stories {
+        let mut map: Map = HashMap::with_minimum(alloc, story.hasher, story.minimum);
         for (row, step) in story.steps.iter().enumerate() {
-            take(&rt, &mut map, (story.name, row), step)?;
-            check_same(&rt, *map.hasher(), story.hasher, (story.name, row));
+            take(rt, &mut map, (story.name, row), step)?;
+            check_same(rt, *map.hasher(), story.hasher, (story.name, row));
         }
     }
     Ok(())
@@ -221,6 +231,11 @@ fn take(rt: &impl Abort, map: &mut Map, at: At, step: &Step) -> Result<(), Fail>
         Fills(from, to) => {
             for key in *from..*to {
                 map.insert(key, key)?;
+            }
+        }
+        Multiplies(from, to, factor) => {
+            for key in *from..*to {
+                map.insert(key, key.wrapping_mul(*factor))?;
             }
         }
         Inserts(key, value) => map.insert(*key, *value)?,
@@ -253,7 +268,10 @@ fn change(rt: &impl Abort, map: &mut Map, at: At, step: &Step) {
         Updates(key, pair) => check_same(rt, map.update(key, add_one), *pair, at),
         Lends(key, value, earlier) => check_same(rt, write(map, key, *value), *earlier, at),
         Retains(divisor, rest, asked) => {
-            check_same(rt, retain(map, *divisor, *rest), *asked, at);
+            check_same(rt, retain(map, *divisor, *rest, 1), *asked, at);
+        }
+        Keeps(divisor, rest, asked) => {
+            check_same(rt, retain(map, *divisor, *rest, 0), *asked, at);
         }
         Removes(key, pair) => check_same(rt, map.remove(key), *pair, at),
         RemovesAbove(key, floor, pair) => {
@@ -296,12 +314,13 @@ fn write(map: &mut Map, key: &u64, value: u64) -> Option<u64> {
     }
 }
 
-// Adds one to each value, and keeps the keys that leave a rest. Returns how many were asked for.
-fn retain(map: &mut Map, divisor: u64, rest: u64) -> usize {
+// Adds a number to each value, and keeps the keys that leave a rest. Returns how many were asked
+// for.
+fn retain(map: &mut Map, divisor: u64, rest: u64, more: u64) -> usize {
     let mut asked: usize = 0;
     let mut keep = |key: &u64, value: &mut u64| -> bool {
         asked = asked.saturating_add(1);
-        *value = value.wrapping_add(1);
+        *value = value.wrapping_add(more);
         divisor != 0 && *key % divisor == rest
     };
     map.retain(&mut keep);

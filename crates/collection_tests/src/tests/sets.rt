@@ -12,11 +12,13 @@ use std::test::Fail;
 pub(super) type Set = HashSet<u64, ScriptHash>;
 
 /// A call on a set with what it answers, or what is seen of the set.
-enum Step {
+pub(super) enum Step {
     /// A key is inserted.
     Inserts(u64),
     /// A key comes back, since it is there.
     Returns(u64),
+    /// These keys come from an iterator.
+    Comes(&'static [u64]),
     /// The key that is taken out.
     Removes(u64, Option<u64>),
     /// A key is added, or it is there.
@@ -58,10 +60,15 @@ const STEPS: &[Step] = steps! {
 
 #[test]
 fn a_set_goes_through_its_story(rt: HostRuntime) -> Result<(), Fail> {
-    let mut set: Set = HashSet::with_hasher(rt.alloc(), ScriptHash::Spread);
-    for (row, step) in STEPS.iter().enumerate() {
-        take(&rt, rt.alloc(), &mut set, ("a set", row), step)?;
-        check_same(&rt, *set.hasher(), ScriptHash::Spread, row);
+    play(&rt, rt.alloc(), STEPS)
+}
+
+// Takes steps on a new set.
+pub(super) fn play(rt: &impl Abort, alloc: Global, steps: &[Step]) -> Result<(), Fail> {
+    let mut set: Set = HashSet::with_hasher(alloc, ScriptHash::Spread);
+    for (row, step) in steps.iter().enumerate() {
+        take(rt, alloc, &mut set, ("a set", row), step)?;
+        check_same(rt, *set.hasher(), ScriptHash::Spread, row);
     }
     Ok(())
 }
@@ -70,6 +77,10 @@ fn a_set_goes_through_its_story(rt: HostRuntime) -> Result<(), Fail> {
 fn take(rt: &impl Abort, alloc: Global, set: &mut Set, at: At, step: &Step) -> Result<(), Fail> {
     match step {
         Inserts(key) => set.insert(*key)?,
+        Comes(keys) => {
+            let is_in = set.try_extend(&mut keys.iter().copied()).is_ok();
+            check_same(rt, is_in, true, at);
+        }
         Returns(key) => match set.insert(*key) {
             Err(NotInserted::Present(own, ())) => check_same(rt, own, *key, at),
             _ => check_same(rt, true, false, (at, "inserted")),

@@ -4,19 +4,20 @@ use super::{check_same, steps};
 use bucket_table::script::ScriptHash;
 use collections::hash_set::HashSet;
 use std::alloc::Global;
+use std::process::Abort;
 use std::test::Fail;
 
 /// Keys in order. Of each two the second is the first that is not meant.
 pub(super) type Ranges = &'static [(u64, u64)];
 
 /// The keys of two sets, and those that four calls hand over.
-struct Row {
-    one: Ranges,
-    other: Ranges,
-    union: Ranges,
-    intersection: Ranges,
-    difference: Ranges,
-    symmetric_difference: Ranges,
+pub(super) struct Row {
+    pub(super) one: Ranges,
+    pub(super) other: Ranges,
+    pub(super) union: Ranges,
+    pub(super) intersection: Ranges,
+    pub(super) difference: Ranges,
+    pub(super) symmetric_difference: Ranges,
 }
 
 /// A call on two sets.
@@ -50,17 +51,22 @@ const ROWS: &[Row] = steps! {
 
 #[test]
 fn two_sets_are_joined_and_parted(rt: HostRuntime) -> Result<(), Fail> {
-    for (number, row) in ROWS.iter().enumerate() {
-        let one = set_of(rt.alloc(), ScriptHash::Spread, row.one)?;
-        let other = set_of(rt.alloc(), ScriptHash::Id, row.other)?;
+    check_rows(&rt, rt.alloc(), ROWS)
+}
+
+// What each call hands over of the sets of each row.
+pub(super) fn check_rows(rt: &impl Abort, alloc: Global, rows: &[Row]) -> Result<(), Fail> {
+    for (number, row) in rows.iter().enumerate() {
+        let one = set_of(alloc, ScriptHash::Spread, row.one)?;
+        let other = set_of(alloc, ScriptHash::Id, row.other)?;
         for (call, ranges) in [
             (Call::Union, row.union),
             (Call::Intersection, row.intersection),
             (Call::Difference, row.difference),
             (Call::SymmetricDifference, row.symmetric_difference),
         ] {
-            let found = handed_over(rt.alloc(), &one, &other, call)?;
-            check_same(&rt, found, listed(rt.alloc(), ranges)?, (number, call));
+            let found = handed_over(alloc, &one, &other, call)?;
+            check_same(rt, found, listed(alloc, ranges)?, (number, call));
         }
     }
     Ok(())
