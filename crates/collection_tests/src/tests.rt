@@ -1,5 +1,6 @@
 //! Tests of what no clause says: that calls succeed where memory is there, that slots come and go,
-//! and that values are dropped once; and calls by chance beside a map of the standard library.
+//! and that values are dropped once; calls by chance beside a map of the standard library; and what
+//! the tests of that library's maps and sets and of the crate `lru` check.
 mod by_chance;
 mod cache_changes;
 mod caches;
@@ -27,6 +28,7 @@ mod two_sets;
 mod words;
 
 use std::fmt::Debug;
+use std::mem;
 use std::process::Abort;
 
 // A step's place: its story, and its number there.
@@ -40,6 +42,14 @@ fn check_same<T: PartialEq + Debug + Drop, R: Debug + Drop>(
     row: R,
 ) {
     assert_eq!(rt; found, wanted, "row {row:?}");
+}
+
+// Writes a number where one is lent, and returns the earlier one.
+fn write(place: Option<&mut u64>, number: u64) -> Option<u64> {
+    match place {
+        Some(own) => Some(mem::replace(own, number)),
+        None => None,
+    }
 }
 
 // Steps, several on a line.

@@ -60,37 +60,54 @@ impl Course {
     // A call by a key: while pairs come few are removed, and while they go none is put.
     fn call(&mut self, rt: &impl Abort, comes: bool) -> Result<(), Fail> {
         let (key, value) = (self.key(), self.step());
-        let there = self.std.get(&key).copied();
         match (self.step() % 16, comes) {
-            (0..=3, true) => {
-                let done = self.map.insert(key, value).is_ok();
-                check_same(rt, done, there.is_none(), ("insert", key));
-                if done {
-                    self.std.insert(key, value)?;
-                }
+            (0..=3, true) => self.insert(rt, key, value)?,
+            (4..=6, true) => self.upsert(rt, key, value)?,
+            (0..=6, false) | (7..=8, _) => self.remove(rt, key),
+            (9..=11, _) => self.update(rt, key, value)?,
+            _ => {
+                let found = self.map.get(&key).copied();
+                check_same(rt, found, self.std.get(&key).copied(), ("get", key));
             }
-            (4..=6, true) => {
-                let earlier = self.map.upsert(key, value).ok();
-                check_same(rt, earlier, Some(there), ("upsert", key));
-                self.std.insert(key, value)?;
-            }
-            (0..=6, false) | (7..=8, _) => {
-                let pair = there.map(|value| (key, value));
-                check_same(rt, self.map.remove(&key), pair, ("remove", key));
-                self.std.remove(&key);
-            }
-            (9..=11, _) => {
-                let earlier = self.map.update(&key, |_own: &u64, own: &mut u64| {
-                    let earlier = *own;
-                    *own = value;
-                    earlier
-                });
-                check_same(rt, earlier, there, ("update", key));
-                if earlier.is_some() {
-                    self.std.insert(key, value)?;
-                }
-            }
-            _ => check_same(rt, self.map.get(&key).copied(), there, ("get", key)),
+        }
+        Ok(())
+    }
+
+    fn insert(&mut self, rt: &impl Abort, key: u64, value: u64) -> Result<(), Fail> {
+        let done = self.map.insert(key, value).is_ok();
+        check_same(rt, done, self.std.get(&key).is_none(), ("insert", key));
+        if done {
+            self.std.insert(key, value)?;
+        }
+        Ok(())
+    }
+
+    fn upsert(&mut self, rt: &impl Abort, key: u64, value: u64) -> Result<(), Fail> {
+        let earlier = self.map.upsert(key, value).ok();
+        check_same(
+            rt,
+            earlier,
+            Some(self.std.get(&key).copied()),
+            ("upsert", key),
+        );
+        self.std.insert(key, value)?;
+        Ok(())
+    }
+
+    fn remove(&mut self, rt: &impl Abort, key: u64) {
+        let pair = self.std.get(&key).map(|value| (key, *value));
+        check_same(rt, self.map.remove(&key), pair, ("remove", key));
+        self.std.remove(&key);
+    }
+
+    fn update(&mut self, rt: &impl Abort, key: u64, value: u64) -> Result<(), Fail> {
+        let earlier = self.map.update(
+            &key,
+            |_own: &u64, own: &mut u64| std::mem::replace(own, value),
+        );
+        check_same(rt, earlier, self.std.get(&key).copied(), ("update", key));
+        if earlier.is_some() {
+            self.std.insert(key, value)?;
         }
         Ok(())
     }

@@ -1,6 +1,6 @@
-//! Stories of a cache whose values are changed: which of the calls touch a pair, and which pair goes
-//! then.
-use super::{At, check_same, steps};
+//! Stories of a cache whose values are changed: which of the calls touch a pair, and which pair
+//! goes then.
+use super::{At, check_same, steps, write};
 use Step::*;
 use bucket_table::script::ScriptHash;
 use collections::hash_cache::{HashCache, Upserted};
@@ -27,8 +27,8 @@ pub(super) enum Step {
     Writes(u64, u64, Option<u64>),
     /// `peek_mut` lends a value, and another is written: this was the earlier one.
     Pokes(u64, u64, Option<u64>),
-    /// The value that `get_or_insert_with` reads: 1000 more than the key where it is made. This pair
-    /// goes then.
+    /// The value that `get_or_insert_with` reads: 1000 more than the key where it is made. This
+    /// pair goes then.
     Gets(u64, u64, Option<(u64, u64)>),
     /// `get` finds each key with its own value, and touches it.
     Touches(u64, u64),
@@ -128,7 +128,7 @@ fn upsert(cache: &mut Cache, key: u64, value: u64) -> Option<Result<Option<(u64,
     }
 }
 
-// Takes a step, and compares what comes of it.
+// Takes a step that may add pairs, and compares what comes of it.
 fn take(rt: &impl Abort, cache: &mut Cache, at: At, step: &Step) {
     match step {
         Fills(from, to) => {
@@ -142,21 +142,31 @@ fn take(rt: &impl Abort, cache: &mut Cache, at: At, step: &Step) {
         Replaces(key, value, earlier) => {
             check_same(rt, upsert(cache, *key, *value), Some(Err(*earlier)), at);
         }
-        Updates(key, value, earlier) => {
-            let found = cache.update(key, |own, held| (*own, mem::replace(held, *value)));
-            check_same(rt, found, earlier.map(|before| (*key, before)), at);
-        }
-        Writes(key, value, earlier) => {
-            let found = cache.get_mut(key).map(|held| mem::replace(held, *value));
-            check_same(rt, found, *earlier, at);
-        }
-        Pokes(key, value, earlier) => {
-            let found = cache.peek_mut(key).map(|held| mem::replace(held, *value));
-            check_same(rt, found, *earlier, at);
-        }
         Gets(key, value, gone) => {
             let found = cache.get_or_insert_with(*key, || key.wrapping_add(1000), |held| *held);
             check_same(rt, found.ok(), Some((*value, *gone)), at);
+        }
+        Removes(key, pair) => check_same(rt, cache.remove(key), *pair, at),
+        Clears => cache.clear(),
+        _ => change(rt, cache, at, step),
+    }
+}
+
+// Takes a step that writes values or touches pairs.
+fn change(rt: &impl Abort, cache: &mut Cache, at: At, step: &Step) {
+    match step {
+        Updates(key, value, earlier) => {
+            let pair = match earlier {
+                Some(before) => Some((*key, *before)),
+                None => None,
+            };
+            check_same(rt, update(cache, key, *value), pair, at);
+        }
+        Writes(key, value, earlier) => {
+            check_same(rt, write(cache.get_mut(key), *value), *earlier, at);
+        }
+        Pokes(key, value, earlier) => {
+            check_same(rt, write(cache.peek_mut(key), *value), *earlier, at);
         }
         Touches(from, to) => {
             for key in *from..*to {
@@ -164,17 +174,23 @@ fn take(rt: &impl Abort, cache: &mut Cache, at: At, step: &Step) {
             }
         }
         Finds(key, value) => check_same(rt, cache.get(key).copied(), *value, at),
-        Retains => {
-            let mut keep = |key: &u64, value: &mut u64| {
-                *value = value.wrapping_add(100);
-                *key % 2 == 0
-            };
-            cache.retain(&mut keep);
-        }
-        Removes(key, pair) => check_same(rt, cache.remove(key), *pair, at),
-        Clears => cache.clear(),
+        Retains => retain(cache),
         _ => look(rt, cache, at, step),
     }
+}
+
+// Writes a value where one is there, and returns the earlier pair.
+fn update(cache: &mut Cache, key: &u64, value: u64) -> Option<(u64, u64)> {
+    cache.update(key, |own, held| (*own, mem::replace(held, value)))
+}
+
+// Adds 100 to each value, and keeps the even keys.
+fn retain(cache: &mut Cache) {
+    let mut keep = |key: &u64, value: &mut u64| {
+        *value = value.wrapping_add(100);
+        *key % 2 == 0
+    };
+    cache.retain(&mut keep);
 }
 
 // Takes a step that looks.
@@ -190,20 +206,14 @@ fn look(rt: &impl Abort, cache: &Cache, at: At, step: &Step) {
     }
 }
 
+type Counted = HashCache<u64, Rc<u64>, ScriptHash>;
+
 #[test]
 fn each_value_of_an_upsert_is_dropped_once(rt: HostRuntime) -> Result<(), Fail> {
     let counted = Rc::new(rt.alloc(), 0)?;
-    let mut cache: HashCache<u64, Rc<u64>, ScriptHash> = HashCache::with_hasher(
-        rt.alloc(),
-        ScriptHash::Zero,
-    );
-    for key in 0..40u64 {
-        let done = cache.upsert(key, counted.clone()?).is_ok();
-        let values = (key as usize).saturating_add(1).min(32);
-        let found = (done, cache.len(), Rc::strong_count(&counted));
-        check_same(&rt, found, (true, values, values.saturating_add(1)), key);
-    }
-    let done = cache.upsert(39, counted.clone()?).is_ok();
+    let mut cache: Counted = HashCache::with_hasher(rt.alloc(), ScriptHash::Zero);
+    check_upserts(&rt, &mut cache, &counted);
+    let done = upsert_clone(&mut cache, &counted, 39);
     let found = (done, cache.len(), Rc::strong_count(&counted));
     check_same(&rt, found, (true, 32, 33), "replaced");
     let mut keep = |key: &u64, _value: &mut Rc<u64>| *key < 16;
@@ -213,4 +223,22 @@ fn each_value_of_an_upsert_is_dropped_once(rt: HostRuntime) -> Result<(), Fail> 
     drop(cache);
     check_same(&rt, Rc::strong_count(&counted), 1, "dropped");
     Ok(())
+}
+
+// Upserts 40 keys into a bucket of 32 own slots: as many values are there as pairs, and the first.
+fn check_upserts(rt: &impl Abort, cache: &mut Counted, counted: &Rc<u64>) {
+    for key in 0..40u64 {
+        let done = upsert_clone(cache, counted, key);
+        let values = (key as usize).saturating_add(1).min(32);
+        let found = (done, cache.len(), Rc::strong_count(counted));
+        check_same(rt, found, (true, values, values.saturating_add(1)), key);
+    }
+}
+
+// Upserts a clone of a value. Whether it is in.
+fn upsert_clone(cache: &mut Counted, counted: &Rc<u64>, key: u64) -> bool {
+    match counted.clone() {
+        Ok(value) => cache.upsert(key, value).is_ok(),
+        Err(_) => false,
+    }
 }

@@ -1,6 +1,6 @@
 //! Stories of a cache of numbers: which pair goes for another, and what is seen of the cache then.
 //! And values that are counted: each is dropped once.
-use super::iterating::gone_over;
+use super::iterating::{Walk, gone_over};
 use super::{At, check_same, steps};
 use Step::*;
 use bucket_table::script::ScriptHash;
@@ -172,32 +172,16 @@ fn look(rt: &impl Abort, cache: &Cache, at: At, step: &Step) {
         }
         Len(len) => {
             check_same(rt, (cache.len(), cache.is_empty()), (*len, *len == 0), at);
-            check_same(rt, met(cache), Some(*len), (at, "for_each"));
-            check_same(rt, gone_over!(cache), Some(*len), (at, "iter"));
+            check_same(rt, met(cache), Some(*len), (at, "met"));
         }
         Slots(slots) => check_same(rt, cache.capacity(), *slots, at),
         _ => check_same(rt, true, false, (at, "no step")),
     }
 }
 
-// How many pairs `for_each` hands over: keys below 256, each once and with its value, or else none.
+// How many pairs each walk over a cache gives.
 fn met(cache: &Cache) -> Option<usize> {
-    let mut is_met = [false; 256];
-    let mut came = Some(0usize);
-    let mut meet = |key: &u64, value: &u64| {
-        let is_new = match is_met.get_mut(*key as usize) {
-            Some(place) => !std::mem::replace(place, true),
-            None => false,
-        };
-        came = match came {
-            Some(before) if is_new && cache.peek(key) == Some(value) => {
-                Some(before.saturating_add(1))
-            }
-            _ => None,
-        };
-    };
-    cache.for_each(&mut meet);
-    came
+    gone_over!(cache, peek)
 }
 
 // An odd number with its bits spread, so that each of eight homes has more than 32 of the keys.
@@ -206,52 +190,67 @@ const SPREADING: u64 = 11400714819323198485;
 #[test]
 fn a_cache_has_at_most_256_slots_unless_told(rt: HostRuntime) -> Result<(), Fail> {
     let mut cache: Cache = HashCache::with_hasher(rt.alloc(), ScriptHash::Id);
+    let gone = put_thousand(&rt, &mut cache);
+    let found = (cache.capacity(), cache.len(), gone);
+    check_same(&rt, found, (256, 256, 744), "slots");
+    Ok(())
+}
+
+// Puts 1000 keys, and each is there then. Returns how many pairs went.
+fn put_thousand(rt: &impl Abort, cache: &mut Cache) -> usize {
     let mut gone: usize = 0;
     for number in 0..1000u64 {
         let key = number.wrapping_mul(SPREADING);
-        match put(&mut cache, key, number) {
+        match put(cache, key, number) {
             Some(Ok(None)) => {}
             Some(Ok(Some(_))) => gone = gone.saturating_add(1),
-            _ => check_same(&rt, true, false, (number, "put")),
+            _ => check_same(rt, true, false, (number, "put")),
         }
-        check_same(&rt, cache.get(&key).copied(), Some(number), number);
+        check_same(rt, cache.get(&key).copied(), Some(number), number);
     }
-    check_same(
-        &rt,
-        (cache.capacity(), cache.len(), gone),
-        (256, 256, 744),
-        "slots",
-    );
-    Ok(())
+    gone
 }
+
+type Counted = HashCache<u64, Rc<u64>, ScriptHash>;
 
 #[test]
 fn each_value_of_a_cache_is_dropped_once(rt: HostRuntime) -> Result<(), Fail> {
     let counted = Rc::new(rt.alloc(), 0)?;
-    let mut cache: HashCache<u64, Rc<u64>, ScriptHash> = HashCache::with_hasher(
-        rt.alloc(),
-        ScriptHash::Zero,
+    let mut cache: Counted = HashCache::with_hasher(rt.alloc(), ScriptHash::Zero);
+    check_puts(&rt, &mut cache, &counted);
+    let found = (
+        put_clone(&mut cache, &counted, 39),
+        Rc::strong_count(&counted),
     );
-    for key in 0..40u64 {
-        let done = cache.put(key, counted.clone()?).is_ok();
-        let values = (key as usize).saturating_add(1).min(32);
-        let found = (done, cache.len(), Rc::strong_count(&counted));
-        check_same(&rt, found, (true, values, values.saturating_add(1)), key);
-    }
-    let done = cache.put(39, counted.clone()?).is_ok();
-    check_same(
-        &rt,
-        (done, Rc::strong_count(&counted)),
-        (false, 33),
-        "present",
-    );
+    check_same(&rt, found, (false, 33), "present");
     drop(cache.remove(&39));
     check_same(&rt, Rc::strong_count(&counted), 32, "remove");
     cache.clear();
     check_same(&rt, Rc::strong_count(&counted), 1, "clear");
-    let done = cache.put(39, counted.clone()?).is_ok();
-    check_same(&rt, (done, Rc::strong_count(&counted)), (true, 2), "put");
+    let found = (
+        put_clone(&mut cache, &counted, 39),
+        Rc::strong_count(&counted),
+    );
+    check_same(&rt, found, (true, 2), "put");
     drop(cache);
     check_same(&rt, Rc::strong_count(&counted), 1, "dropped");
     Ok(())
+}
+
+// Puts 40 keys into a bucket of 32 own slots: as many values are there as pairs, and the first.
+fn check_puts(rt: &impl Abort, cache: &mut Counted, counted: &Rc<u64>) {
+    for key in 0..40u64 {
+        let done = put_clone(cache, counted, key);
+        let values = (key as usize).saturating_add(1).min(32);
+        let found = (done, cache.len(), Rc::strong_count(counted));
+        check_same(rt, found, (true, values, values.saturating_add(1)), key);
+    }
+}
+
+// Puts a clone of a value. Whether it is in.
+fn put_clone(cache: &mut Counted, counted: &Rc<u64>, key: u64) -> bool {
+    match counted.clone() {
+        Ok(value) => cache.put(key, value).is_ok(),
+        Err(_) => false,
+    }
 }

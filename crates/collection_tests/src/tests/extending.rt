@@ -7,6 +7,7 @@ use Step::*;
 use bucket_table::script::ScriptHash;
 use collections::hash_map::HashMap;
 use collections::hash_set::HashSet;
+use std::alloc::Global;
 use std::process::Abort;
 use std::test::Fail;
 
@@ -33,85 +34,103 @@ const STEPS: &[Step] = steps! {
     Fills(192, 200), Sees(71, 128), Holds(199, Some(199)), Holds(200, None), Holds(6, Some(6))
 };
 
+// What test_from_iter of the standard library's map checks.
+const COLLECTED: &[Step] = steps! {
+    Comes(&[(1, 1), (2, 2), (2, 2), (3, 3), (4, 4), (5, 5), (6, 6)]), Sees(6, 64),
+    Holds(1, Some(1)), Holds(2, Some(2)), Holds(3, Some(3)), Holds(4, Some(4)), Holds(5, Some(5)),
+    Holds(6, Some(6))
+};
+
+// What test_extend_ref of the standard library's map checks.
+const EXTENDED: &[Step] = steps! {
+    Comes(&[(1, 10)]), Comes(&[(2, 20), (3, 30)]), Sees(3, 64), Holds(1, Some(10)),
+    Holds(2, Some(20)), Holds(3, Some(30))
+};
+
 #[test]
 fn pairs_come_to_a_map_and_keys_to_a_set(rt: HostRuntime) -> Result<(), Fail> {
-    let mut map: Map = HashMap::with_hasher(rt.alloc(), ScriptHash::Spread);
-    let mut set: Set = HashSet::with_hasher(rt.alloc(), ScriptHash::Spread);
-    for (row, step) in STEPS.iter().enumerate() {
-        take(&rt, &mut map, &mut set, ("both", row), step);
-    }
+    play(&rt, rt.alloc(), STEPS);
+    play(&rt, rt.alloc(), COLLECTED);
+    play(&rt, rt.alloc(), EXTENDED);
     Ok(())
+}
+
+// Takes steps on a new map and a new set.
+fn play(rt: &impl Abort, alloc: Global, steps: &[Step]) {
+    let mut map: Map = HashMap::with_hasher(alloc, ScriptHash::Spread);
+    let mut set: Set = HashSet::with_hasher(alloc, ScriptHash::Spread);
+    for (row, step) in steps.iter().enumerate() {
+        take(rt, &mut map, &mut set, ("both", row), step);
+    }
 }
 
 // Takes a step, and compares what comes of it.
 fn take(rt: &impl Abort, map: &mut Map, set: &mut Set, at: At, step: &Step) {
     match step {
-        Comes(pairs) => {
-            let mut keys = pairs.iter().map(|pair: &(u64, u64)| pair.0);
-            let is_in = map.try_extend(&mut pairs.iter().copied()).is_ok();
-            check_same(
-                rt,
-                (is_in, set.try_extend(&mut keys).is_ok()),
-                (true, true),
-                at,
-            );
-        }
-        Fills(from, to) => {
-            let is_in = map.try_extend(&mut (*from..*to).zip(*from..*to)).is_ok();
-            check_same(
-                rt,
-                (is_in, set.try_extend(&mut (*from..*to)).is_ok()),
-                (true, true),
-                at,
-            );
-        }
+        Comes(pairs) => check_same(rt, come(map, set, pairs), (true, true), at),
+        Fills(from, to) => check_same(rt, come_from(map, set, *from, *to), (true, true), at),
         Holds(key, value) => {
             let found = (map.get(key).copied(), set.contains(key));
             check_same(rt, found, (*value, value.is_some()), at);
         }
         Sees(pairs, slots) => {
-            check_same(
-                rt,
-                (map.len(), map.capacity()),
-                (*pairs, *slots),
-                (at, "map"),
-            );
-            check_same(
-                rt,
-                (set.len(), set.capacity()),
-                (*pairs, *slots),
-                (at, "set"),
-            );
+            let found = (map.len(), map.capacity(), set.len(), set.capacity());
+            check_same(rt, found, (*pairs, *slots, *pairs, *slots), at);
         }
     }
+}
+
+// Pairs come to a map, and their keys to a set. Whether all are in.
+fn come(map: &mut Map, set: &mut Set, pairs: &[(u64, u64)]) -> (bool, bool) {
+    let mut keys = pairs.iter().map(|pair: &(u64, u64)| pair.0);
+    let is_in = map.try_extend(&mut pairs.iter().copied()).is_ok();
+    (is_in, set.try_extend(&mut keys).is_ok())
+}
+
+// Keys come to a map, each as its own value, and to a set. Whether all are in.
+fn come_from(map: &mut Map, set: &mut Set, from: u64, to: u64) -> (bool, bool) {
+    let is_in = map.try_extend(&mut (from..to).zip(from..to)).is_ok();
+    (is_in, set.try_extend(&mut (from..to)).is_ok())
 }
 
 #[test]
 fn a_map_and_a_set_are_made_of_pairs_and_keys(rt: HostRuntime) -> Result<(), Fail> {
     let counts = HashMap::from_array(rt.alloc(), [(5u64, 50u64), (3, 30), (5, 51)])?;
-    let found = (
-        counts.get(&5).copied(),
-        counts.get(&3).copied(),
-        counts.len(),
-    );
-    check_same(&rt, found, (Some(51), Some(30), 2), "array of pairs");
+    check_map(&rt, &counts, &[(5, Some(51)), (3, Some(30))], 2);
     let keys = HashSet::from_array(rt.alloc(), [5u64, 3, 5])?;
-    let found = (keys.contains(&5), keys.contains(&4), keys.len());
-    check_same(&rt, found, (true, false, 2), "array of keys");
-    let counts: HashMap<u64, u64> = (0..100).zip(100..200).collect(rt.alloc())?;
-    let found = (
-        counts.get(&99).copied(),
-        counts.get(&100).copied(),
-        counts.len(),
-    );
-    check_same(&rt, found, (Some(199), None, 100), "collected pairs");
-    let keys: HashSet<u64> = (7..9u64).collect(rt.alloc())?;
-    let found = (
-        keys.contains(&7),
-        keys.contains(&8),
-        keys.contains(&9),
-        keys.len(),
-    );
-    check_same(&rt, found, (true, true, false, 2), "collected keys");
+    check_set(&rt, &keys, &[(5, true), (4, false), (3, true)], 2);
     Ok(())
+}
+
+#[test]
+fn a_map_and_a_set_are_collected(rt: HostRuntime) -> Result<(), Fail> {
+    let counts: HashMap<u64, u64> = (0..100).zip(100..200).collect(rt.alloc())?;
+    check_map(&rt, &counts, &[(99, Some(199)), (100, None)], 100);
+    let keys: HashSet<u64> = (7..9u64).collect(rt.alloc())?;
+    check_set(&rt, &keys, &[(7, true), (8, true), (9, false)], 2);
+    Ok(())
+}
+
+// The values that keys have in a map, and how many there are.
+fn check_map(
+    rt: &impl Abort,
+    map: &HashMap<u64, u64>,
+    wanted: &[(u64, Option<u64>)],
+    pairs: usize,
+) {
+    for (key, value) in wanted {
+        check_same(
+            rt,
+            (map.get(key).copied(), map.len()),
+            (*value, pairs),
+            *key,
+        );
+    }
+}
+
+// Whether keys are in a set, and how many there are.
+fn check_set(rt: &impl Abort, set: &HashSet<u64>, wanted: &[(u64, bool)], keys: usize) {
+    for (key, there) in wanted {
+        check_same(rt, (set.contains(key), set.len()), (*there, keys), *key);
+    }
 }

@@ -1,5 +1,5 @@
 //! Words that are changed and removed by texts, and lists by slices, in a collection of each kind.
-use super::{At, check_same, steps};
+use super::{At, check_same, steps, write};
 use Step::*;
 use collections::hash_cache::HashCache;
 use collections::hash_index::HashIndex;
@@ -37,22 +37,26 @@ const STEPS: &[Step] = steps! {
 
 /// A collection of each kind.
 #[derive(Drop)]
-struct Words {
-    map: HashMap<String, u64>,
-    set: HashSet<String>,
-    index: HashIndex<String, u64>,
-    cache: HashCache<String, u64>,
+pub(super) struct Words {
+    pub(super) map: HashMap<String, u64>,
+    pub(super) set: HashSet<String>,
+    pub(super) index: HashIndex<String, u64>,
+    pub(super) cache: HashCache<String, u64>,
+}
+
+pub(super) fn no_words(alloc: Global) -> Words {
+    Words {
+        map: HashMap::new(alloc),
+        set: HashSet::new(alloc),
+        index: HashIndex::new(alloc),
+        cache: HashCache::new(alloc),
+    }
 }
 
 #[test]
 fn words_are_changed_and_removed_by_texts(rt: HostRuntime) -> Result<(), Fail> {
     let alloc = rt.alloc();
-    let mut words = Words {
-        map: HashMap::new(alloc),
-        set: HashSet::new(alloc),
-        index: HashIndex::new(alloc),
-        cache: HashCache::new(alloc),
-    };
+    let mut words = no_words(alloc);
     for (row, step) in STEPS.iter().enumerate() {
         take(&rt, alloc, &mut words, ("words", row), step)?;
     }
@@ -68,42 +72,23 @@ fn take(
     step: &Step,
 ) -> Result<(), Fail> {
     match step {
-        Puts(word, number) => {
-            words.map.insert(String::from_str(alloc, word)?, *number)?;
-            words.set.insert(String::from_str(alloc, word)?)?;
-            words
-                .index
-                .insert(String::from_str(alloc, word)?, *number, &())?;
-            words.cache.put(String::from_str(alloc, word)?, *number)?;
-        }
+        Puts(word, number) => put(alloc, words, word, *number)?,
         Gets(word, number) => {
-            let there = number.is_some();
             check_same(rt, words.map.get(*word).copied(), *number, (at, "map"));
-            check_same(rt, words.set.contains(*word), there, (at, "set"));
-            check_same(rt, words.index.contains(*word), there, (at, "index"));
             check_same(rt, words.cache.get(*word).copied(), *number, (at, "cache"));
+            let there = (words.set.contains(*word), words.index.contains(*word));
+            check_same(
+                rt,
+                there,
+                (number.is_some(), number.is_some()),
+                (at, "set, index"),
+            );
         }
         Updates(word, later, number) => {
-            let found = words
-                .map
-                .update(*word, |_own, held| mem::replace(held, *later));
-            check_same(rt, found, *number, (at, "map"));
-            let found = words
-                .cache
-                .update(*word, |_own, held| mem::replace(held, *later));
-            check_same(rt, found, *number, (at, "cache"));
+            check_same(rt, update(words, word, *later), (*number, *number), at);
         }
         Writes(word, later, number) => {
-            let found = words
-                .map
-                .get_mut(*word)
-                .map(|held| mem::replace(held, *later));
-            check_same(rt, found, *number, (at, "map"));
-            let found = words
-                .cache
-                .get_mut(*word)
-                .map(|held| mem::replace(held, *later));
-            check_same(rt, found, *number, (at, "cache"));
+            check_same(rt, write_both(words, word, *later), (*number, *number), at);
         }
         RemovesEven(word, number) => {
             let found = words.map.remove_if(*word, |_own, held| *held % 2 == 0);
@@ -121,11 +106,44 @@ fn take(
     Ok(())
 }
 
+// A word comes to each collection with a number.
+pub(super) fn put(alloc: Global, words: &mut Words, word: &str, number: u64) -> Result<(), Fail> {
+    words.map.insert(String::from_str(alloc, word)?, number)?;
+    words.set.insert(String::from_str(alloc, word)?)?;
+    words
+        .index
+        .insert(String::from_str(alloc, word)?, number, &())?;
+    words.cache.put(String::from_str(alloc, word)?, number)?;
+    Ok(())
+}
+
+// Updates the number of a word. Returns the earlier ones, of the map and of the cache.
+fn update(words: &mut Words, word: &str, later: u64) -> (Option<u64>, Option<u64>) {
+    let of_map = words
+        .map
+        .update(word, |_own, held| mem::replace(held, later));
+    let of_cache = words
+        .cache
+        .update(word, |_own, held| mem::replace(held, later));
+    (of_map, of_cache)
+}
+
+// Writes over the number of a word that is lent. Returns the earlier ones, of the map and of the
+// cache.
+fn write_both(words: &mut Words, word: &str, later: u64) -> (Option<u64>, Option<u64>) {
+    let of_map = write(words.map.get_mut(word), later);
+    (of_map, write(words.cache.get_mut(word), later))
+}
+
 // Removes a word from the set, the index and the cache.
 fn remove_elsewhere(rt: &impl Abort, words: &mut Words, at: At, word: &str, number: Option<u64>) {
-    let there = number.is_some();
-    check_same(rt, words.set.discard(word), there, (at, "set"));
-    check_same(rt, words.index.remove(word, &()), there, (at, "index"));
+    let there = (words.set.discard(word), words.index.remove(word, &()));
+    check_same(
+        rt,
+        there,
+        (number.is_some(), number.is_some()),
+        (at, "set, index"),
+    );
     let found = words.cache.remove(word);
     check_same(rt, number_of(found), number, (at, "cache"));
 }
@@ -138,26 +156,49 @@ fn number_of<K: Drop>(pair: Option<(K, u64)>) -> Option<u64> {
     }
 }
 
+type Lists = HashMap<Vec<u8>, u64>;
+
 const LISTS: [(&[u8], u64); 4] = [(b"", 0), (b"x", 1), (b"xy", 2), (b"yx", 3)];
 
 #[test]
 fn lists_are_changed_and_removed_by_slices(rt: HostRuntime) -> Result<(), Fail> {
     let alloc = rt.alloc();
-    let mut map = HashMap::new(alloc);
-    let mut set = HashSet::new(alloc);
+    let mut map: Lists = HashMap::new(alloc);
+    let mut set: HashSet<Vec<u8>> = HashSet::new(alloc);
+    put_lists(alloc, &mut map, &mut set)?;
+    for (row, (list, number)) in LISTS.iter().enumerate() {
+        check_same(
+            &rt,
+            change_list(&mut map, list),
+            (Some(*number), Some(9), None),
+            row,
+        );
+        check_same(&rt, remove_list(&mut set, list), (true, false), row);
+    }
+    check_same(&rt, (map.is_empty(), set.is_empty()), (true, true), "both");
+    Ok(())
+}
+
+// Each list comes to a map with its number, and to a set.
+fn put_lists(alloc: Global, map: &mut Lists, set: &mut HashSet<Vec<u8>>) -> Result<(), Fail> {
     for (list, number) in LISTS.iter() {
         map.insert(Vec::from_slice(alloc, *list)?, *number)?;
         set.insert(Vec::from_slice(alloc, *list)?)?;
     }
-    for (row, (list, number)) in LISTS.iter().enumerate() {
-        let found = map.get_mut(*list).map(|held| mem::replace(held, 9));
-        check_same(&rt, found, Some(*number), (row, "written"));
-        check_same(&rt, number_of(map.remove(*list)), Some(9), (row, "removed"));
-        check_same(&rt, number_of(map.remove(*list)), None, (row, "gone"));
-        check_same(&rt, set.remove(*list).is_some(), true, (row, "set"));
-        check_same(&rt, set.discard(*list), false, (row, "set"));
-    }
-    check_same(&rt, map.is_empty(), true, "map");
-    check_same(&rt, set.is_empty(), true, "set");
     Ok(())
+}
+
+// Writes 9 over the number of a list, and removes the list twice. Returns what was there each time.
+fn change_list(map: &mut Lists, list: &[u8]) -> (Option<u64>, Option<u64>, Option<u64>) {
+    let earlier = write(map.get_mut(list), 9);
+    (
+        earlier,
+        number_of(map.remove(list)),
+        number_of(map.remove(list)),
+    )
+}
+
+// Removes a list twice. Returns whether it was there each time.
+fn remove_list(set: &mut HashSet<Vec<u8>>, list: &[u8]) -> (bool, bool) {
+    (set.remove(list).is_some(), set.discard(list))
 }

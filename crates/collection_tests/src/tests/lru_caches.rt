@@ -23,8 +23,8 @@ const STORIES: &[Story] = steps! {
     // test_get_mut_and_update
     Story { name: "a value that is lent is written", hasher: ScriptHash::Zero, most: 256,
         steps: steps! {
-            Adds(1, 1, None), Adds(2, 3, None), Writes(1, 4, Some(1)), Len(2), Writes(1, 4, Some(4)),
-            Writes(2, 3, Some(3)) } },
+            Adds(1, 1, None), Adds(2, 3, None), Writes(1, 4, Some(1)), Len(2),
+            Writes(1, 4, Some(4)), Writes(2, 3, Some(3)) } },
     // test_put_update
     Story { name: "a second value takes the place of the first", hasher: ScriptHash::Zero,
         most: 256, steps: steps! {

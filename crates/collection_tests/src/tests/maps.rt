@@ -1,7 +1,7 @@
 //! Stories of a map of numbers: what each call answers, how many slots there are then, and which
 //! pairs `for_each` hands over and the iterators give.
-use super::iterating::gone_over;
-use super::{At, check_same, steps};
+use super::iterating::{Walk, gone_over};
+use super::{At, check_same, steps, write};
 use Step::*;
 use bucket_table::script::ScriptHash;
 use collections::hash_map::{HashMap, NotInserted};
@@ -213,14 +213,37 @@ fn maps_go_through_their_stories(rt: HostRuntime) -> Result<(), Fail> {
     play(&rt, rt.alloc(), STORIES)
 }
 
+// Keys from the first to one before the last are inserted, each as its own value. Whether all are.
+pub(super) fn fill(map: &mut Map, first: u64, last: u64) -> bool {
+    let mut are_in = true;
+    for key in first..last {
+        are_in = map.insert(key, key).is_ok() && are_in;
+    }
+    are_in
+}
+
+// A map amid a growth: 63 pairs stand in two arrays. Of two buckets the first has the keys below
+// 128, and is full as the last one comes.
+pub(super) fn grown(alloc: Global) -> Map {
+    let mut map = HashMap::with_hasher(alloc, ScriptHash::Spread);
+    let _ = fill(&mut map, 128, 159) && fill(&mut map, 0, 32);
+    map
+}
+
 // Plays stories, each on a new map.
 pub(super) fn play(rt: &impl Abort, alloc: Global, stories: &[Story]) -> Result<(), Fail> {
     for story in stories {
         let mut map: Map = HashMap::with_minimum(alloc, story.hasher, story.minimum);
-        for (row, step) in story.steps.iter().enumerate() {
-            take(rt, &mut map, (story.name, row), step)?;
-            check_same(rt, *map.hasher(), story.hasher, (story.name, row));
-        }
+        play_one(rt, &mut map, story)?;
+    }
+    Ok(())
+}
+
+// Takes the steps of a story.
+fn play_one(rt: &impl Abort, map: &mut Map, story: &Story) -> Result<(), Fail> {
+    for (row, step) in story.steps.iter().enumerate() {
+        take(rt, map, (story.name, row), step)?;
+        check_same(rt, *map.hasher(), story.hasher, (story.name, row));
     }
     Ok(())
 }
@@ -228,11 +251,7 @@ pub(super) fn play(rt: &impl Abort, alloc: Global, stories: &[Story]) -> Result<
 // Takes a step that puts pairs, and compares what it answers.
 fn take(rt: &impl Abort, map: &mut Map, at: At, step: &Step) -> Result<(), Fail> {
     match step {
-        Fills(from, to) => {
-            for key in *from..*to {
-                map.insert(key, key)?;
-            }
-        }
+        Fills(from, to) => check_same(rt, fill(map, *from, *to), true, at),
         Multiplies(from, to, factor) => {
             for key in *from..*to {
                 map.insert(key, key.wrapping_mul(*factor))?;
@@ -266,7 +285,7 @@ fn take(rt: &impl Abort, map: &mut Map, at: At, step: &Step) -> Result<(), Fail>
 fn change(rt: &impl Abort, map: &mut Map, at: At, step: &Step) {
     match step {
         Updates(key, pair) => check_same(rt, map.update(key, add_one), *pair, at),
-        Lends(key, value, earlier) => check_same(rt, write(map, key, *value), *earlier, at),
+        Lends(key, value, earlier) => check_same(rt, write(map.get_mut(key), *value), *earlier, at),
         Retains(divisor, rest, asked) => {
             check_same(rt, retain(map, *divisor, *rest, 1), *asked, at);
         }
@@ -306,14 +325,6 @@ fn add_one(key: &u64, value: &mut u64) -> (u64, u64) {
     (*key, earlier)
 }
 
-// Writes a value that is lent, and returns the earlier one.
-fn write(map: &mut Map, key: &u64, value: u64) -> Option<u64> {
-    match map.get_mut(key) {
-        Some(own) => Some(std::mem::replace(own, value)),
-        None => None,
-    }
-}
-
 // Adds a number to each value, and keeps the keys that leave a rest. Returns how many were asked
 // for.
 fn retain(map: &mut Map, divisor: u64, rest: u64, more: u64) -> usize {
@@ -333,45 +344,33 @@ fn look(rt: &impl Abort, map: &Map, at: At, step: &Step) {
         Holds(key, value) => {
             let found = (map.get(key).copied(), map.contains(key));
             check_same(rt, found, (*value, value.is_some()), at);
-            let own = map.get_key_value(key).map(|(own, held)| (*own, *held));
-            check_same(rt, own, value.map(|held| (*key, held)), (at, "pair"));
+            let own = match map.get_key_value(key) {
+                Some((own, held)) => *own == *key && Some(*held) == *value,
+                None => value.is_none(),
+            };
+            check_same(rt, own, true, (at, "pair"));
         }
         Len(len) => {
             check_same(rt, (map.len(), map.is_empty()), (*len, *len == 0), at);
-            check_same(rt, met(map), Some(*len), (at, "for_each"));
-            check_same(rt, gone_over!(map), Some(*len), (at, "iter"));
+            check_same(rt, met(map), Some(*len), (at, "met"));
         }
         Slots(slots) => check_same(rt, map.capacity(), *slots, at),
         _ => check_same(rt, true, false, (at, "no step")),
     }
 }
 
-// How many pairs `for_each` hands over: keys below 256, each once and with its value, or else none.
+// How many pairs each walk over a map gives.
 fn met(map: &Map) -> Option<usize> {
-    let mut is_met = [false; 256];
-    let mut came = Some(0usize);
-    let mut meet = |key: &u64, value: &u64| {
-        let is_new = match is_met.get_mut(*key as usize) {
-            Some(place) => !std::mem::replace(place, true),
-            None => false,
-        };
-        came = match came {
-            Some(before) if is_new && map.get(key) == Some(value) => Some(before.saturating_add(1)),
-            _ => None,
-        };
-    };
-    map.for_each(&mut meet);
-    came
+    gone_over!(map, get)
 }
 
 #[test]
 fn a_new_map_takes_words(rt: HostRuntime) -> Result<(), Fail> {
     let mut words = HashMap::new(rt.alloc());
     check_same(&rt, (words.len(), words.capacity()), (0, 0), "new");
-    words.insert("a", 1u64)?;
-    words.insert("b", 2)?;
-    let found = (words.get(&"a").copied(), words.get(&"c").copied());
-    check_same(&rt, found, (Some(1), None), "get");
+    let came = words.insert("a", 1u64).is_ok() && words.insert("b", 2).is_ok();
+    let found = (came, words.get(&"a").copied(), words.get(&"c").copied());
+    check_same(&rt, found, (true, Some(1), None), "get");
     check_same(&rt, words.remove(&"b"), Some(("b", 2)), "remove");
     Ok(())
 }

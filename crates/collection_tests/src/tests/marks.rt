@@ -85,13 +85,21 @@ fn each_marked_value_is_dropped_once(rt: HostRuntime) -> Result<(), Fail> {
                         keep: *keep,
                     };
                 }
-                _ => take(&rt, &mut index, &counted, &now, (*name, row), step)?,
+                _ => take(&rt, &mut index, &counted, &now, (*name, row), step),
             }
         }
         drop(index);
         check_same(&rt, Rc::strong_count(&counted), 1, (*name, "dropped"));
     }
     Ok(())
+}
+
+// Inserts a key with a clone of a value. Whether it is in.
+fn insert_clone(index: &mut Index, counted: &Rc<u64>, key: u64, now: &FixedGeneration) -> bool {
+    match counted.clone() {
+        Ok(value) => index.insert(key, value, now).is_ok(),
+        Err(_) => false,
+    }
 }
 
 // Takes a step, and compares what comes of it.
@@ -102,22 +110,15 @@ fn take(
     now: &FixedGeneration,
     at: At,
     step: &Step,
-) -> Result<(), Fail> {
+) {
     match step {
         Fills(from, to) => {
             for key in *from..*to {
-                let done = index.insert(key, counted.clone()?, now).is_ok();
-                check_same(rt, done, true, (at, key));
+                check_same(rt, insert_clone(index, counted, key, now), true, (at, key));
             }
         }
-        Inserts(key) => {
-            let done = index.insert(*key, counted.clone()?, now).is_ok();
-            check_same(rt, done, true, at);
-        }
-        Returns(key) => {
-            let done = index.insert(*key, counted.clone()?, now).is_ok();
-            check_same(rt, done, false, at);
-        }
+        Inserts(key) => check_same(rt, insert_clone(index, counted, *key, now), true, at),
+        Returns(key) => check_same(rt, insert_clone(index, counted, *key, now), false, at),
         Reads(key, there) => {
             let copied = |_own: &u64, value: &Rc<u64>| value.clone().is_ok();
             let found = index.remove_with(key, now, copied);
@@ -125,7 +126,6 @@ fn take(
         }
         _ => change(rt, index, counted, now, at, step),
     }
-    Ok(())
 }
 
 // Takes a step that marks pairs, raises the minimum, or looks.

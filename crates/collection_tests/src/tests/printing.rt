@@ -7,7 +7,14 @@ use collections::hash_cache::HashCache;
 use collections::hash_index::HashIndex;
 use collections::hash_map::HashMap;
 use collections::hash_set::HashSet;
+use std::alloc::Global;
+use std::fmt::Debug;
+use std::process::Abort;
 use std::test::Fail;
+
+type Cache = HashCache<u64, u64, ScriptHash>;
+
+type Index = HashIndex<u64, u64, ScriptHash>;
 
 /// A pair or none, how the map of it is printed in a line and in several, and how the set of its
 /// key is.
@@ -29,36 +36,28 @@ fn maps_and_sets_are_printed(rt: HostRuntime) -> Result<(), Fail> {
         let mut map: Map = HashMap::with_hasher(rt.alloc(), ScriptHash::Id);
         let mut set: Set = HashSet::with_hasher(rt.alloc(), ScriptHash::Id);
         if let Some((key, value)) = row.pair {
-            map.insert(key, value)?;
-            set.insert(key)?;
+            let are_in = map.insert(key, value).is_ok() && set.insert(key).is_ok();
+            check_same(&rt, are_in, true, number);
         }
-        let [line, lines] = row.map;
-        check_same(
-            &rt,
-            format!(in rt.alloc(); "{map:?}")?.as_str(),
-            line,
-            number,
-        );
-        check_same(
-            &rt,
-            format!(in rt.alloc(); "{map:#?}")?.as_str(),
-            lines,
-            number,
-        );
-        let [line, lines] = row.set;
-        check_same(
-            &rt,
-            format!(in rt.alloc(); "{set:?}")?.as_str(),
-            line,
-            number,
-        );
-        check_same(
-            &rt,
-            format!(in rt.alloc(); "{set:#?}")?.as_str(),
-            lines,
-            number,
-        );
+        check_shown(&rt, rt.alloc(), &map, row.map, number)?;
+        check_shown(&rt, rt.alloc(), &set, row.set, number)?;
     }
+    Ok(())
+}
+
+// How a collection is printed in a line, and in several.
+fn check_shown<T: Debug>(
+    rt: &impl Abort,
+    alloc: Global,
+    collection: &T,
+    wanted: [&str; 2],
+    row: usize,
+) -> Result<(), Fail> {
+    let [line, lines] = wanted;
+    let shown = format!(in alloc; "{collection:?}")?;
+    check_same(rt, shown.as_str(), line, row);
+    let shown = format!(in alloc; "{collection:#?}")?;
+    check_same(rt, shown.as_str(), lines, row);
     Ok(())
 }
 
@@ -75,16 +74,19 @@ fn words_are_printed_in_quotes(rt: HostRuntime) -> Result<(), Fail> {
 #[test]
 fn a_map_amid_a_growth_is_printed_whole(rt: HostRuntime) -> Result<(), Fail> {
     let mut map: Map = HashMap::with_hasher(rt.alloc(), ScriptHash::Spread);
-    for key in 128..159 {
-        map.insert(key, 1000u64.wrapping_sub(key))?;
-    }
-    for key in 0..32 {
-        map.insert(key, 1000u64.wrapping_sub(key))?;
-    }
+    fill_to_1000(&mut map, 128, 159);
+    fill_to_1000(&mut map, 0, 32);
     check_same(&rt, (map.len(), map.capacity()), (63, 128), "slots");
     let shown = format!(in rt.alloc(); "{map:?}")?;
     check_same(&rt, printed(shown.as_str()), Some(63), "pairs");
     Ok(())
+}
+
+// Keys come, each with what is left to 1000.
+fn fill_to_1000(map: &mut Map, first: u64, last: u64) {
+    for key in first..last {
+        let _ = map.insert(key, 1000u64.wrapping_sub(key));
+    }
 }
 
 // How many pairs a map's line has: of the keys 0 to 31 and 128 to 158 each at most once, and beside
@@ -111,27 +113,16 @@ fn printed(line: &str) -> Option<usize> {
 #[test]
 fn caches_and_indexes_are_printed(rt: HostRuntime) -> Result<(), Fail> {
     for (number, row) in ROWS.iter().enumerate() {
-        let mut cache: HashCache<u64, u64, ScriptHash> = HashCache::with_hasher(
-            rt.alloc(),
-            ScriptHash::Id,
-        );
-        let mut index: HashIndex<u64, u64, ScriptHash> = HashIndex::with_hasher(
-            rt.alloc(),
-            ScriptHash::Id,
-        );
-        index.insert(7, 70, &())?;
-        check_same(&rt, index.remove(&7, &()), true, number);
+        let mut cache: Cache = HashCache::with_hasher(rt.alloc(), ScriptHash::Id);
+        let mut index: Index = HashIndex::with_hasher(rt.alloc(), ScriptHash::Id);
+        let is_gone = index.insert(7, 70, &()).is_ok() && index.remove(&7, &());
+        check_same(&rt, is_gone, true, number);
         if let Some((key, value)) = row.pair {
-            check_same(&rt, cache.put(key, value).is_ok(), true, number);
-            index.insert(key, value, &())?;
+            let are_in = cache.put(key, value).is_ok() && index.insert(key, value, &()).is_ok();
+            check_same(&rt, are_in, true, number);
         }
-        let [line, lines] = row.map;
-        let shown = format!(in rt.alloc(); "{cache:?} {index:?}")?;
-        let wanted = format!(in rt.alloc(); "{line} {line}")?;
-        check_same(&rt, shown.as_str(), wanted.as_str(), number);
-        let shown = format!(in rt.alloc(); "{cache:#?} {index:#?}")?;
-        let wanted = format!(in rt.alloc(); "{lines} {lines}")?;
-        check_same(&rt, shown.as_str(), wanted.as_str(), number);
+        check_shown(&rt, rt.alloc(), &cache, row.map, number)?;
+        check_shown(&rt, rt.alloc(), &index, row.map, number)?;
     }
     Ok(())
 }

@@ -44,7 +44,8 @@ pub(super) enum Step {
 }
 
 const STEPS: &[Step] = steps! {
-    Sees(0, 0), Removes(1, None), Discards(1, false), Adds(1, true), Adds(1, false), Returns(1), Inserts(2), Sees(2, 64),
+    Sees(0, 0), Removes(1, None), Discards(1, false), Adds(1, true), Adds(1, false), Returns(1),
+    Inserts(2), Sees(2, 64),
     Holds(1, true), Holds(3, false), Removes(1, Some(1)), Removes(1, None), Holds(1, false),
     Holds(2, true), Clears, Sees(0, 0), Holds(2, false), Reserves(200, 200), Inserts(255),
     Sees(1, 256), Shrinks, Sees(1, 64), Holds(255, true), Reserves(1 << 63, 1 << 63),
@@ -63,6 +64,15 @@ fn a_set_goes_through_its_story(rt: HostRuntime) -> Result<(), Fail> {
     play(&rt, rt.alloc(), STEPS)
 }
 
+// Keys from the first to one before the last are inserted. Whether all are.
+pub(super) fn fill_set(set: &mut Set, first: u64, last: u64) -> bool {
+    let mut are_in = true;
+    for key in first..last {
+        are_in = set.insert(key).is_ok() && are_in;
+    }
+    are_in
+}
+
 // Takes steps on a new set.
 pub(super) fn play(rt: &impl Abort, alloc: Global, steps: &[Step]) -> Result<(), Fail> {
     let mut set: Set = HashSet::with_hasher(alloc, ScriptHash::Spread);
@@ -73,7 +83,7 @@ pub(super) fn play(rt: &impl Abort, alloc: Global, steps: &[Step]) -> Result<(),
     Ok(())
 }
 
-// Takes a step, and compares what comes of it.
+// Takes a step that puts keys or lists them, and compares what comes of it.
 fn take(rt: &impl Abort, alloc: Global, set: &mut Set, at: At, step: &Step) -> Result<(), Fail> {
     match step {
         Inserts(key) => set.insert(*key)?,
@@ -85,8 +95,17 @@ fn take(rt: &impl Abort, alloc: Global, set: &mut Set, at: At, step: &Step) -> R
             Err(NotInserted::Present(own, ())) => check_same(rt, own, *key, at),
             _ => check_same(rt, true, false, (at, "inserted")),
         },
-        Removes(key, taken) => check_same(rt, set.remove(key), *taken, at),
         Adds(key, added) => check_same(rt, set.add(*key).ok(), Some(*added), at),
+        Has(ranges) => check_keys(rt, alloc, set, at, ranges)?,
+        _ => change(rt, set, at, step),
+    }
+    Ok(())
+}
+
+// Takes a step that takes keys out, sets the minimum or looks.
+fn change(rt: &impl Abort, set: &mut Set, at: At, step: &Step) {
+    match step {
+        Removes(key, taken) => check_same(rt, set.remove(key), *taken, at),
         Discards(key, gone) => check_same(rt, set.discard(key), *gone, at),
         Retains(divisor, asked) => check_same(rt, retain(set, *divisor), *asked, at),
         Reserves(additional, raised) => {
@@ -98,20 +117,26 @@ fn take(rt: &impl Abort, alloc: Global, set: &mut Set, at: At, step: &Step) -> R
         Shrinks => check_same(rt, set.shrink_to_fit().is_ok(), true, at),
         Clears => set.clear(),
         Holds(key, there) => check_same(rt, set.contains(key), *there, at),
-        Has(ranges) => {
-            check_same(rt, keys_of(alloc, set)?, listed(alloc, ranges)?, at);
-            check_same(
-                rt,
-                keys_met(alloc, set)?,
-                listed(alloc, ranges)?,
-                (at, "iter"),
-            );
-        }
         Sees(keys, slots) => {
             let found = (set.len(), set.is_empty(), set.capacity());
             check_same(rt, found, (*keys, *keys == 0, *slots), at);
         }
+        _ => check_same(rt, true, false, (at, "no step")),
     }
+}
+
+// The keys that a set has.
+fn check_keys(
+    rt: &impl Abort,
+    alloc: Global,
+    set: &Set,
+    at: At,
+    ranges: Ranges,
+) -> Result<(), Fail> {
+    let found = keys_of(alloc, set)?;
+    check_same(rt, found, listed(alloc, ranges)?, (at, "for_each"));
+    let found = keys_met(alloc, set)?;
+    check_same(rt, found, listed(alloc, ranges)?, (at, "iter"));
     Ok(())
 }
 
@@ -150,8 +175,8 @@ fn keys_met(alloc: Global, set: &Set) -> Result<Vec<u64>, Fail> {
 fn a_new_set_takes_words(rt: HostRuntime) -> Result<(), Fail> {
     let mut words = HashSet::new(rt.alloc());
     check_same(&rt, (words.len(), words.capacity()), (0, 0), "new");
-    words.insert("a")?;
-    let found = (words.contains(&"a"), words.contains(&"b"));
-    check_same(&rt, found, (true, false), "contains");
+    let came = words.insert("a").is_ok();
+    let found = (came, words.contains(&"a"), words.contains(&"b"));
+    check_same(&rt, found, (true, true, false), "contains");
     Ok(())
 }

@@ -1,5 +1,5 @@
 //! What two sets have together, apart, and of one alone.
-use super::sets::Set;
+use super::sets::{Set, fill_set};
 use super::{check_same, steps};
 use bucket_table::script::ScriptHash;
 use collections::hash_set::HashSet;
@@ -57,30 +57,53 @@ fn two_sets_are_joined_and_parted(rt: HostRuntime) -> Result<(), Fail> {
 // What each call hands over of the sets of each row.
 pub(super) fn check_rows(rt: &impl Abort, alloc: Global, rows: &[Row]) -> Result<(), Fail> {
     for (number, row) in rows.iter().enumerate() {
-        let one = set_of(alloc, ScriptHash::Spread, row.one)?;
-        let other = set_of(alloc, ScriptHash::Id, row.other)?;
-        for (call, ranges) in [
-            (Call::Union, row.union),
-            (Call::Intersection, row.intersection),
-            (Call::Difference, row.difference),
-            (Call::SymmetricDifference, row.symmetric_difference),
-        ] {
-            let found = handed_over(alloc, &one, &other, call)?;
-            check_same(rt, found, listed(alloc, ranges)?, (number, call));
+        let one = set_of(alloc, ScriptHash::Spread, row.one);
+        let other = set_of(alloc, ScriptHash::Id, row.other);
+        for call in CALLS.iter() {
+            check_call(rt, alloc, &one, &other, (number, *call), wanted(row, *call))?;
         }
     }
     Ok(())
 }
 
+const CALLS: [Call; 4] = [
+    Call::Union,
+    Call::Intersection,
+    Call::Difference,
+    Call::SymmetricDifference,
+];
+
+// The keys that a call is to hand over.
+fn wanted(row: &Row, call: Call) -> Ranges {
+    match call {
+        Call::Union => row.union,
+        Call::Intersection => row.intersection,
+        Call::Difference => row.difference,
+        Call::SymmetricDifference => row.symmetric_difference,
+    }
+}
+
+// What a call hands over of two sets.
+fn check_call(
+    rt: &impl Abort,
+    alloc: Global,
+    one: &Set,
+    other: &Set,
+    at: (usize, Call),
+    ranges: Ranges,
+) -> Result<(), Fail> {
+    let found = handed_over(alloc, one, other, at.1)?;
+    check_same(rt, found, listed(alloc, ranges)?, at);
+    Ok(())
+}
+
 // A set of keys.
-pub(super) fn set_of(alloc: Global, hasher: ScriptHash, ranges: Ranges) -> Result<Set, Fail> {
+pub(super) fn set_of(alloc: Global, hasher: ScriptHash, ranges: Ranges) -> Set {
     let mut set = HashSet::with_hasher(alloc, hasher);
     for (from, to) in ranges {
-        for key in *from..*to {
-            set.insert(key)?;
-        }
+        let _ = fill_set(&mut set, *from, *to);
     }
-    Ok(set)
+    set
 }
 
 // The keys that a call hands over, in order.

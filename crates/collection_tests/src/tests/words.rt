@@ -1,9 +1,8 @@
 //! Words that are looked up by texts, and lists by slices, in collections that name no hasher; and
 //! the errors that hand a word back.
+use super::forms::{Words, no_words, put};
 use super::{At, check_same, steps};
 use Step::*;
-use collections::hash_cache::HashCache;
-use collections::hash_index::HashIndex;
 use collections::hash_map::{HashMap, NotInserted};
 use collections::hash_set::HashSet;
 use std::alloc::{AllocError, Global};
@@ -25,31 +24,22 @@ const STEPS: &[Step] = steps! {
     Puts("Bob", 3), Finds("Bob", Some(3)), Finds("Ann", Some(1)), Finds("bo", None)
 };
 
-/// A collection of each kind, whose type names no hasher.
-#[derive(Drop)]
-struct Words {
-    map: HashMap<String, u64>,
-    set: HashSet<String>,
-    index: HashIndex<String, u64>,
-    cache: HashCache<String, u64>,
-}
-
 #[test]
 fn words_are_looked_up_by_texts(rt: HostRuntime) -> Result<(), Fail> {
     let alloc = rt.alloc();
-    let mut words = Words {
-        map: HashMap::new(alloc),
-        set: HashSet::new(alloc),
-        index: HashIndex::new(alloc),
-        cache: HashCache::new(alloc),
-    };
+    let mut words = no_words(alloc);
     for (row, step) in STEPS.iter().enumerate() {
         take(&rt, alloc, &mut words, ("words", row), step)?;
     }
+    check_keys(&rt, alloc, &words)
+}
+
+// The words that a map has, in order.
+fn check_keys(rt: &impl Abort, alloc: Global, words: &Words) -> Result<(), Fail> {
     let mut met: Vec<&String> = words.map.keys().collect(alloc)?;
     met.sort()?;
     let shown = format!(in alloc; "{met:?}")?;
-    check_same(&rt, shown.as_str(), "[\"\", \"Ann\", \"Bob\"]", "keys");
+    check_same(rt, shown.as_str(), "[\"\", \"Ann\", \"Bob\"]", "keys");
     Ok(())
 }
 
@@ -62,34 +52,29 @@ fn take(
     step: &Step,
 ) -> Result<(), Fail> {
     match step {
-        Puts(word, number) => {
-            words.map.insert(String::from_str(alloc, word)?, *number)?;
-            words.set.insert(String::from_str(alloc, word)?)?;
-            words
-                .index
-                .insert(String::from_str(alloc, word)?, *number, &())?;
-            words.cache.put(String::from_str(alloc, word)?, *number)?;
-        }
+        Puts(word, number) => put(alloc, words, word, *number)?,
         Finds(word, number) => {
             let key = String::from_str(alloc, word)?;
-            let found = (words.map.get(*word).copied(), words.map.contains(*word));
-            check_same(rt, found, (*number, number.is_some()), (at, "map"));
-            let found = (words.map.get(&key).copied(), words.map.contains(&key));
-            check_same(rt, found, (*number, number.is_some()), (at, "key"));
+            let found = (*number, number.is_some());
+            check_same(rt, by_text(words, word), (found, found, found), at);
             check_same(rt, words.set.contains(*word), number.is_some(), (at, "set"));
-            let found = (
-                words.index.peek(*word).copied(),
-                words.index.contains(*word),
-            );
-            check_same(rt, found, (*number, number.is_some()), (at, "index"));
-            let found = (
-                words.cache.peek(*word).copied(),
-                words.cache.contains(*word),
-            );
-            check_same(rt, found, (*number, number.is_some()), (at, "cache"));
+            let of_map = (words.map.get(&key).copied(), words.map.contains(&key));
+            check_same(rt, of_map, found, (at, "key"));
         }
     }
     Ok(())
+}
+
+/// The number of a word, and whether the word is there.
+type Found = (Option<u64>, bool);
+
+// What is found by a text in the map, the index and the cache.
+fn by_text(words: &Words, word: &str) -> (Found, Found, Found) {
+    (
+        (words.map.get(word).copied(), words.map.contains(word)),
+        (words.index.peek(word).copied(), words.index.contains(word)),
+        (words.cache.peek(word).copied(), words.cache.contains(word)),
+    )
 }
 
 const LISTS: [&[u64]; 4] = [&[], &[1], &[1, 2], &[2, 1]];
