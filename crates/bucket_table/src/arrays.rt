@@ -33,7 +33,7 @@ mod unit;
 use crate::tickets::Tickets;
 use bucket_slots::bucket_array::BucketArray;
 use bucket_slots::lru::LruList;
-pub use draining::{ArrayDrain, TableDrain};
+pub use draining::TableDrain;
 pub use pairs::{ArraysPairs, Kind, TablePairs};
 pub use peeking::peek_arrays;
 pub(crate) use searching::Spot;

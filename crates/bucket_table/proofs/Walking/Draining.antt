@@ -1,7 +1,7 @@
 -- What is left where the first pair is taken out of a bucket, and of an array.
-use Rattle.bucket_table.proofs.Words.{BucketView, IsBucketOf, List, MovesToNext, Place, Some, [], ap, arith, bucket_at, cases_lt}
-use Rattle.bucket_table.proofs.Words.{empty_bucket, inl, inr, length, live_pair, null_place, pairs_ahead, pairs_in, set, slot_in}
-use Rattle.bucket_table.proofs.Words.{slots_without, sym, ℕ, ◌++◌, ◌+◌, ◌<◌, ◌≤◌, ◌∙◌, ◌∷◌, ◌≡◌}
+use Rattle.bucket_table.proofs.Words.{BucketView, IsBucketOf, List, MovesToNext, Place, Some, [], ap, arith, bucket_at, empty_bucket}
+use Rattle.bucket_table.proofs.Words.{length, live_pair, nil_from_length, null_place, pairs_ahead, pairs_in, set, slot_in, slots_without}
+use Rattle.bucket_table.proofs.Words.{sym, ℕ, ◌++◌, ◌+◌, ◌<◌, ◌≤◌, ◌∙◌, ◌∷◌, ◌≡◌}
 use Rattle.std.proofs.Common.{drop}
 use Rattle.std.proofs.lemmas.List.{at_drop_more, drop-set, drop_all}
 use Rattle.bucket_slots.proofs.SlotFronts.{pairs_in-slots_without}
@@ -27,16 +27,6 @@ module _ {K V : Type 0} where
       let count : length (pairs_in bucket) ≡ 0 = ap length none in
       omega (arith, count, some)
 
-  -- a bucket that has been counted has pairs as it is lent
-  pub some_there : (bucket lent : BucketView K V) (len : ℕ) → len ≡ length (pairs_in bucket) → (len ≡ 0 → ⊥) → bucket ≡ lent
-      → 0 < length (pairs_in lent)
-  some_there bucket lent len counted some same = elim (cases_lt 0 (length (pairs_in lent))) [
-    | inl more ↦ more
-    | inr none ↦
-        let is : length (pairs_in lent) ≡ 0 = omega (arith, none) in
-        absurd (some (counted ∙ ap (λ b. length (pairs_in b)) same ∙ is))
-  ]
-
   module _ (buckets : List (BucketView K V)) (next : ℕ) where
     -- a bucket's first pair is the first of those from it on
     pub takes_next : (other : BucketView K V) (pair : K × V) → next < length buckets
@@ -47,10 +37,11 @@ module _ {K V : Type 0} where
         ∙ ap (λ bs. pair ∷ pairs_in_all bs) (sym (drop-set buckets next other within))
 
     -- an empty bucket has none of them
-    pub passes_empty : next < length buckets → pairs_in (bucket_at buckets next) ≡ []
+    pub passes_empty : (bucket : BucketView K V) → next < length buckets → bucket ≡ bucket_at buckets next → length (pairs_in bucket) ≡ 0
         → pairs_in_all (drop (next + 1) buckets) ≡ pairs_in_all (drop next buckets)
-    passes_empty within empty =
-        sym (at_drop_more pairs_in_all buckets next empty_bucket within ∙ ap (λ ps. ps ++ pairs_in_all (drop (next + 1) buckets)) empty)
+    passes_empty bucket within here count =
+        let none : pairs_in (bucket_at buckets next) ≡ [] = ap pairs_in (sym here) ∙ nil_from_length (pairs_in bucket) count in
+        sym (at_drop_more pairs_in_all buckets next empty_bucket within ∙ ap (λ ps. ps ++ pairs_in_all (drop (next + 1) buckets)) none)
 
     -- past the last bucket there is none
     pub none_left : length buckets ≤ next → pairs_in_all (drop next buckets) ≡ []

@@ -2,12 +2,13 @@
 //! left of the collection; and values that are counted, of which some are handed out.
 use super::caches::Cache;
 use super::maps::Map;
+use super::sets::Set;
 use super::two_sets::{Ranges, listed, set_of};
 use super::{At, check_same, steps};
 use Step::*;
 use bucket_table::script::ScriptHash;
 use collections::hash_cache::HashCache;
-use collections::hash_map::HashMap;
+use collections::hash_map::{Drain, HashMap, IntoIter};
 use std::alloc::Global;
 use std::process::Abort;
 use std::rc::Rc;
@@ -64,10 +65,7 @@ fn pairs_come_by_value(rt: HostRuntime) -> Result<(), Fail> {
 fn keys_come_by_value(rt: HostRuntime) -> Result<(), Fail> {
     for row in ROWS {
         let mut set = set_of(rt.alloc(), row.hasher, row.keys)?;
-        let mut keys = Vec::new(rt.alloc());
-        for key in set.drain() {
-            keys.push(key)?;
-        }
+        let mut keys: Vec<u64> = set.drain().collect(rt.alloc())?;
         keys.sort()?;
         check_same(
             &rt,
@@ -76,11 +74,7 @@ fn keys_come_by_value(rt: HostRuntime) -> Result<(), Fail> {
             (row.name, "drain"),
         );
         check_same(&rt, (set.len(), set.capacity()), (0, 0), (row.name, "left"));
-        let mut keys = Vec::new(rt.alloc());
-        for key in set_of(rt.alloc(), row.hasher, row.keys)? {
-            keys.push(key)?;
-        }
-        keys.sort()?;
+        let keys = keys_met(rt.alloc(), set_of(rt.alloc(), row.hasher, row.keys)?)?;
         check_same(
             &rt,
             keys,
@@ -89,6 +83,16 @@ fn keys_come_by_value(rt: HostRuntime) -> Result<(), Fail> {
         );
     }
     Ok(())
+}
+
+// The keys that a loop takes out of a set, in order.
+fn keys_met(alloc: Global, set: Set) -> Result<Vec<u64>, Fail> {
+    let mut keys = Vec::new(alloc);
+    for key in set {
+        keys.push(key)?;
+    }
+    keys.sort()?;
+    Ok(keys)
 }
 
 // A map of keys, each its own value.
@@ -102,35 +106,29 @@ fn map_of(alloc: Global, hasher: ScriptHash, ranges: Ranges) -> Result<Map, Fail
     Ok(map)
 }
 
-// The keys, or the values, that come of a map. A pair whose value isn't its key counts twice.
+// The keys, or the values, that come of a map.
 fn taken(alloc: Global, mut map: Map, way: Way) -> Result<Vec<u64>, Fail> {
-    let mut keys = Vec::new(alloc);
     match way {
-        Way::Drain => {
-            for (key, value) in map.drain() {
-                keys.push(key)?;
-                if key != value {
-                    keys.push(value)?;
-                }
-            }
-        }
-        Way::IntoIter => {
-            for (key, value) in map {
-                keys.push(key)?;
-                if key != value {
-                    keys.push(value)?;
-                }
-            }
-        }
+        Way::Drain => keys_of(alloc, map.drain()),
+        Way::IntoIter => keys_of(alloc, map.into_iter()),
         Way::IntoKeys => {
-            for key in map.into_keys() {
-                keys.push(key)?;
-            }
+            let keys: Vec<u64> = map.into_keys().collect(alloc)?;
+            Ok(keys)
         }
         Way::IntoValues => {
-            for value in map.into_values() {
-                keys.push(value)?;
-            }
+            let values: Vec<u64> = map.into_values().collect(alloc)?;
+            Ok(values)
+        }
+    }
+}
+
+// The keys of pairs. One whose value is another gives both.
+fn keys_of(alloc: Global, pairs: IntoIter<u64, u64>) -> Result<Vec<u64>, Fail> {
+    let mut keys = Vec::new(alloc);
+    for (key, value) in pairs {
+        keys.push(key)?;
+        if key != value {
+            keys.push(value)?;
         }
     }
     Ok(keys)
@@ -193,10 +191,8 @@ fn a_cache_is_drained_and_takes_pairs_again(rt: HostRuntime) -> Result<(), Fail>
         cache.put(key, key)?;
     }
     check_same(&rt, cache.put(32, 320)?, Some((0, 0)), "evicted");
-    let mut keys = Vec::new(rt.alloc());
-    for (key, _) in cache.drain() {
-        keys.push(key)?;
-    }
+    let drained = cache.drain().map(|pair: (u64, u64)| pair.0);
+    let mut keys: Vec<u64> = drained.collect(rt.alloc())?;
     keys.sort()?;
     check_same(&rt, keys, listed(rt.alloc(), &[(1, 33)])?, "drained");
     check_same(&rt, (cache.len(), cache.capacity()), (0, 0), "left");
@@ -210,32 +206,21 @@ fn a_cache_is_drained_and_takes_pairs_again(rt: HostRuntime) -> Result<(), Fail>
     Ok(())
 }
 
+type Counted = HashMap<u64, Rc<u64>, ScriptHash>;
+
 // How many pairs a drain hands out of 63 in two arrays before it is dropped.
 const HANDED_OUT: [usize; 6] = [0, 1, 2, 32, 62, 63];
 
 #[test]
 fn what_is_not_handed_out_is_dropped(rt: HostRuntime) -> Result<(), Fail> {
     let counted = Rc::new(rt.alloc(), 0u64)?;
-    let mut map: HashMap<u64, Rc<u64>, ScriptHash> = HashMap::with_hasher(
-        rt.alloc(),
-        ScriptHash::Spread,
-    );
+    let mut map: Counted = HashMap::with_hasher(rt.alloc(), ScriptHash::Spread);
     for handed_out in HANDED_OUT {
-        for key in (0..31).chain(128..159).chain(31..32) {
-            let _ = map.insert(key, counted.clone()?);
-        }
+        put_all(&mut map, &counted)?;
         check_same(&rt, Rc::strong_count(&counted), 64, (handed_out, "put"));
-        let mut held = Vec::new(rt.alloc());
         let mut left = map.drain();
-        for _ in 0..handed_out {
-            held.push(left.next())?;
-        }
-        check_same(
-            &rt,
-            Rc::strong_count(&counted),
-            64,
-            (handed_out, "handed out"),
-        );
+        let held = first_of(rt.alloc(), &mut left, handed_out)?;
+        check_same(&rt, Rc::strong_count(&counted), 64, (handed_out, "taken"));
         check_same(&rt, map.len(), 0, (handed_out, "amid the drain"));
         drop(left);
         let wanted = handed_out.saturating_add(1);
@@ -251,18 +236,36 @@ fn what_is_not_handed_out_is_dropped(rt: HostRuntime) -> Result<(), Fail> {
     Ok(())
 }
 
+// Puts a clone under each of 63 keys. As the last one comes, a second array stands.
+fn put_all(map: &mut Counted, counted: &Rc<u64>) -> Result<(), Fail> {
+    for key in (0..31).chain(128..159).chain(31..32) {
+        let _ = map.insert(key, counted.clone()?);
+    }
+    Ok(())
+}
+
+// The first pairs that a drain hands out, so many.
+fn first_of(
+    alloc: Global,
+    left: &mut Drain<u64, Rc<u64>>,
+    pairs: usize,
+) -> Result<Vec<Option<(u64, Rc<u64>)>>, Fail> {
+    let mut held = Vec::new(alloc);
+    for _ in 0..pairs {
+        held.push(left.next())?;
+    }
+    Ok(held)
+}
+
 #[test]
 fn the_other_half_of_each_pair_is_dropped(rt: HostRuntime) -> Result<(), Fail> {
     let counted = Rc::new(rt.alloc(), 0u64)?;
-    let mut map: HashMap<u64, Rc<u64>, ScriptHash> = HashMap::with_hasher(
-        rt.alloc(),
-        ScriptHash::Zero,
-    );
+    let mut map: Counted = HashMap::with_hasher(rt.alloc(), ScriptHash::Zero);
     for key in 0..40 {
         let _ = map.insert(key, counted.clone()?);
     }
     let mut keys = map.into_keys();
-    for left in [40, 39, 38] {
+    for left in [40usize, 39, 38] {
         let wanted = left.saturating_add(1);
         check_same(&rt, Rc::strong_count(&counted), wanted, left);
         check_same(&rt, keys.next().is_some(), true, left);

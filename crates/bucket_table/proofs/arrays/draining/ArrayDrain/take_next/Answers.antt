@@ -1,13 +1,11 @@
-use Rattle.bucket_table.proofs.Words.{ap, arith, nil_from_length, pairs_in, sym, ◌∙◌}
+use Rattle.bucket_table.proofs.Words.{ap, arith, pairs_in, sym, ◌∙◌}
 use Rattle.bucket_table.proofs.Walking.Draining.{none_left, passes_empty, takes_next}
 use Rattle.bucket_table.proofs.arrays.draining.ArrayDrain.take_next.Goals as goal
 
 pub buckets-preserved : goal.buckets-preserved
 buckets-preserved g c =
-    let array = c.buckets.self-inside.array in
-    let next = c.buckets.self-inside.next in
-    let none = nil_from_length (pairs_in c.bucket.result.now) (sym c.len-in-buckets.ensures ∙ c.if-len-ne0.false) in
-    passes_empty array next (omega (arith, c.buckets-test.true, c.len.ensures.value)) (sym (ap pairs_in c.bucket.ensures) ∙ none)
+    passes_empty c.buckets.self-inside.array c.buckets.self-inside.next c.bucket.result.now
+    (omega (arith, c.buckets-test.true, c.len.ensures.value)) c.bucket.ensures (sym c.len-in-buckets.ensures ∙ c.if-len-ne0.false)
     ∙ c.buckets.invariant
 
 pub returns-then-len-ne0 : goal.returns-then-len-ne0
