@@ -1,10 +1,8 @@
 -- What a call does that handles of several kinds take.
-use Rattle.std.specs.Prelude.{ℕ, ◌≡◌, Bool, [], Option, Some, None, OnOk, Result, nat_eq}
-use Rattle.std.specs.declared.alloc.AllocError.{AllocError}
+use Rattle.std.specs.Prelude.{ℕ, ◌≡◌, [], Option, Some, None, nat_eq}
 use Rattle.bucket_table.specs.Rehash.State.{first_tickets}
-use Rattle.collections.specs.Capacity.{IsFitted, MakesRoom}
-use Rattle.collections.specs.Changes.{Stays}
-use Rattle.bucket_c.specs.Codes.{closed, ok, other_kind, room_code}
+use Rattle.bucket_c.specs.Codes.{closed, ok, other_kind}
+use Rattle.bucket_c.specs.Sizing.{MakesRoomBy, ShrinksBy}
 use Rattle.bucket_c.specs.Tables.{Caches, Maps, Text, text_eq}
 use Rattle.bucket_c.specs.declared.tables.Table.{Table}
 use Rattle.bucket_c.specs.declared.tables.Table.TheVariants.{Map, TextMap, TextSet, Cache, TextCache}
@@ -27,15 +25,6 @@ cleared (TextCache cache) = TextCache (cache_cleared cache)
 abbrev pub Clears : Option Table → ℕ → Option Table → Type 0
 Clears None code new = (code ≡ closed) × (new ≡ None)
 Clears (Some table) code new = (code ≡ ok) × (new ≡ Some (cleared table))
-
--- the library's call has some answer, and its code
-abbrev pub MakesRoomBy : {K V : Type 0} → (K → K → Bool) → ℕ → Maps K V → ℕ → Maps K V → Type 0
-MakesRoomBy eq additional old code new =
-    (answer : Result (Unit {0}) AllocError) × (code ≡ room_code answer) × MakesRoom eq additional old answer new
-
-abbrev pub ShrinksBy : {K V : Type 0} → (K → K → Bool) → Maps K V → ℕ → Maps K V → Type 0
-ShrinksBy eq old code new = (answer : Result (Unit {0}) AllocError) × (code ≡ room_code answer)
-    × Stays eq (record old { minimum = 0 }) new × OnOk answer (IsFitted new)
 
 -- room for so many more pairs; a cache has the capacity that it was made with
 abbrev pub ReservesMore : ℕ → Option Table → ℕ → Option Table → Type 0

@@ -10,3 +10,4 @@ pub mod Copying
 pub mod Steps
 pub mod Any
 pub mod Pieces
+pub mod Sizing

@@ -3,8 +3,9 @@ ghost use Rattle.std.specs.Prelude.{◌≡◌, ◌-◌, ◌^◌, None, min};
 ghost use Rattle.bucket_c.specs.Any.{Clears, ReservesMore, Shrinks};
 ghost use Rattle.bucket_c.specs.Tables.{len_of};
 
-use crate::codes::{CLOSED, OK, OTHER_KIND, code_of};
+use crate::codes::{CLOSED, OK, OTHER_KIND};
 use crate::handle::Handle;
+use crate::maps;
 use crate::tables::Table;
 use std::alloc::Global;
 
@@ -74,9 +75,9 @@ pub extern "C" fn bucket_reserve(alloc: Global, handle: &mut Handle, additional:
         return CLOSED;
     };
     let code = match &mut *table {
-        Table::Map(map) => code_of(map.try_reserve(additional)),
-        Table::TextMap(map) => code_of(map.try_reserve(additional)),
-        Table::TextSet(set) => code_of(set.try_reserve(additional)),
+        Table::Map(map) => maps::reserve(map, additional),
+        Table::TextMap(map) => maps::reserve(map, additional),
+        Table::TextSet(set) => maps::reserve_keys(set, additional),
         _ => OTHER_KIND,
     };
     handle.put(table);
@@ -95,9 +96,9 @@ pub extern "C" fn bucket_shrink(alloc: Global, handle: &mut Handle) -> u32
         return CLOSED;
     };
     let code = match &mut *table {
-        Table::Map(map) => code_of(map.shrink_to_fit()),
-        Table::TextMap(map) => code_of(map.shrink_to_fit()),
-        Table::TextSet(set) => code_of(set.shrink_to_fit()),
+        Table::Map(map) => maps::shrink(map),
+        Table::TextMap(map) => maps::shrink(map),
+        Table::TextSet(set) => maps::shrink_keys(set),
         _ => OTHER_KIND,
     };
     handle.put(table);

@@ -1,8 +1,4 @@
 //! The codes that calls answer by.
-ghost use Rattle.std.specs.Prelude.{◌≡◌};
-ghost use Rattle.bucket_c.specs.Codes.{room_code};
-
-use std::alloc::AllocError;
 
 /// Done.
 pub const OK: u32 = 0;
@@ -27,13 +23,3 @@ pub const OTHER_KIND: u32 = 6;
 
 /// Done, and a pair went for the one that is in.
 pub const EVICTED: u32 = 7;
-
-/// Returns the code of a call that makes room, or gives slots back.
-pub(crate) fn code_of(outcome: Result<(), AllocError>) -> u32
-    ensures { result ≡ room_code outcome }
-{
-    match outcome {
-        Ok(()) => OK,
-        Err(_) => NO_MEMORY,
-    }
-}

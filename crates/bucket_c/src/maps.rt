@@ -2,6 +2,7 @@
 ghost use Rattle.std.specs.Prelude.{◌≡◌};
 ghost use Rattle.collections.specs.Maps.{get_by};
 ghost use Rattle.bucket_c.specs.Codes.{found_code};
+ghost use Rattle.bucket_c.specs.Sizing.{MakesRoomBy, ShrinksBy};
 ghost use Rattle.bucket_c.specs.Maps.{Finds, InsertsOne, RemovesKey, RemovesOne, UpsertsOne};
 
 use crate::codes::{ABSENT, NO_MEMORY, OK, PRESENT};
@@ -40,6 +41,49 @@ pub fn upsert<K: Eq + Drop, H: KeyHash<K>>(
             PRESENT
         }
         Err(_back) => NO_MEMORY,
+    }
+}
+
+/// Makes room in a map for so many pairs more.
+pub fn reserve<K: Eq + Drop, V: Drop, H: KeyHash<K>>(
+    map: &mut HashMap<K, V, H>,
+    additional: usize,
+) -> u32
+    ensures { MakesRoomBy K.eq additional map.old result map.new }
+{
+    match map.try_reserve(additional) {
+        Ok(()) => OK,
+        Err(_) => NO_MEMORY,
+    }
+}
+
+/// Leaves as few slots as a map's pairs take.
+pub fn shrink<K: Eq + Drop, V: Drop, H: KeyHash<K>>(map: &mut HashMap<K, V, H>) -> u32
+    ensures { ShrinksBy K.eq map.old result map.new }
+{
+    match map.shrink_to_fit() {
+        Ok(()) => OK,
+        Err(_) => NO_MEMORY,
+    }
+}
+
+/// Makes room in a set for so many keys more.
+pub fn reserve_keys<K: Eq + Drop, H: KeyHash<K>>(set: &mut HashSet<K, H>, additional: usize) -> u32
+    ensures { MakesRoomBy K.eq additional set.old result set.new }
+{
+    match set.try_reserve(additional) {
+        Ok(()) => OK,
+        Err(_) => NO_MEMORY,
+    }
+}
+
+/// Leaves as few slots as a set's keys take.
+pub fn shrink_keys<K: Eq + Drop, H: KeyHash<K>>(set: &mut HashSet<K, H>) -> u32
+    ensures { ShrinksBy K.eq set.old result set.new }
+{
+    match set.shrink_to_fit() {
+        Ok(()) => OK,
+        Err(_) => NO_MEMORY,
     }
 }
 
