@@ -20,11 +20,11 @@ went g c =
     (λ s own before after t. Called g.F.FnMut s (own, (before, tt)) (tt, (after, tt)) t)
     (λ s own before answer after t kept e. (e.met.0 ∙ kept, e.met.1.0, e.met.1.1)) _ _ _ _ refl c.retain.ensures.retained.asked in (
       c.f-1.given.1 (sym all.0),
-      rw (← c.self.view_is) (record {
+      record {
         asked = all.1;
         kept = c.retain.ensures.retained.kept;
         slots = c.retain.ensures.retained.slots;
-      }),
+      },
     )
 
 pub returns-clause-again : goal.returns-clause-again
