@@ -64,7 +64,7 @@ fn pairs_come_by_value(rt: HostRuntime) -> Result<(), Fail> {
 #[test]
 fn keys_come_by_value(rt: HostRuntime) -> Result<(), Fail> {
     for row in ROWS {
-        let mut set = set_of(rt.alloc(), row.hasher, row.keys)?;
+        let mut set = set_of(rt.alloc(), row.hasher, row.keys);
         let mut keys: Vec<u64> = set.drain().collect(rt.alloc())?;
         keys.sort()?;
         check_same(
@@ -74,7 +74,7 @@ fn keys_come_by_value(rt: HostRuntime) -> Result<(), Fail> {
             (row.name, "drain"),
         );
         check_same(&rt, (set.len(), set.capacity()), (0, 0), (row.name, "left"));
-        let keys = keys_met(rt.alloc(), set_of(rt.alloc(), row.hasher, row.keys)?)?;
+        let keys = keys_met(rt.alloc(), set_of(rt.alloc(), row.hasher, row.keys))?;
         check_same(
             &rt,
             keys,
