@@ -66,7 +66,12 @@ fn of_seven_and_eight(set: &Set) -> (bool, bool) {
 fn a_copy_is_refused_where_there_is_no_memory_for_it(rt: HostRuntime) -> Result<(), Fail> {
     let mut map: Map = HashMap::with_hasher(rt.alloc(), ScriptHash::Id);
     let came = map.insert(1, 10).is_ok();
-    check_same(&rt, (came, map.raise_minimum(MOST)), (true, MOST), "minimum");
+    check_same(
+        &rt,
+        (came, map.raise_minimum(MOST)),
+        (true, MOST),
+        "minimum",
+    );
     check_same(&rt, map.try_clone(rt.alloc()).is_err(), true, "refused");
     check_same(&rt, (map.get(&1).copied(), map.len()), (Some(10), 1), "map");
     map.clear();

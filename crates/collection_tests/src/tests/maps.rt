@@ -33,6 +33,8 @@ pub(super) enum Step {
     /// One is added to each value, and the pairs stay whose keys leave the second number, divided
     /// by the first. So many pairs were asked for.
     Retains(u64, u64, usize),
+    /// One is added to each value, and so many were lent.
+    Writes(usize),
     /// The same pairs stay, and no value is written.
     Keeps(u64, u64, usize),
     /// The pair that is taken out.
@@ -125,6 +127,11 @@ const STORIES: &[Story] = steps! {
             Holds(0, Some(1)), Holds(30, Some(31)), Holds(31, None), Holds(157, None),
             Holds(158, Some(159)), Inserts(31, 7), Retains(2, 1, 33), Len(1),
             Holds(31, Some(8)) } },
+    Story { name: "each value is written once", hasher: ScriptHash::Spread, minimum: 0,
+        steps: steps! {
+            Writes(0), Len(0), Fills(0, 31), Fills(128, 159), Writes(62), Holds(30, Some(31)),
+            Fills(31, 32), Slots(128), Writes(63), Len(63), Holds(30, Some(32)),
+            Holds(31, Some(32)), Holds(158, Some(160)), Holds(32, None) } },
     Story { name: "keys of one hash make a chain", hasher: ScriptHash::Zero, minimum: 0,
         steps: steps! {
             Fills(0, 100), Slots(64), Len(100), Removes(50, Some((50, 50))), Returns(99, 1),
@@ -292,6 +299,7 @@ fn change(rt: &impl Abort, map: &mut Map, at: At, step: &Step) {
         Keeps(divisor, rest, asked) => {
             check_same(rt, retain(map, *divisor, *rest, 0), *asked, at);
         }
+        Writes(count) => check_same(rt, write_all(map), *count, at),
         Removes(key, pair) => check_same(rt, map.remove(key), *pair, at),
         RemovesAbove(key, floor, pair) => {
             let taken = map.remove_if(key, |_own: &u64, value: &u64| *value > *floor);
@@ -336,6 +344,17 @@ fn retain(map: &mut Map, divisor: u64, rest: u64, more: u64) -> usize {
     };
     map.retain(&mut keep);
     asked
+}
+
+// Adds one to each value. Returns how many were lent.
+fn write_all(map: &mut Map) -> usize {
+    let mut lent: usize = 0;
+    let mut write = |_key: &u64, value: &mut u64| {
+        lent = lent.saturating_add(1);
+        *value = value.wrapping_add(1);
+    };
+    map.for_each_mut(&mut write);
+    lent
 }
 
 // Takes a step that looks.

@@ -8,12 +8,12 @@ returns c = elim c.match-deref_mut.branch [
   | in-Map w ↦ search rules
   | in-TextMap w ↦
       let was : c.args.handle.now.held.table ≡ Some (TextMap w.in-TextMap.map) =
-        c.in-Some.ensures.taken ∙ ap (λ t. Some t) (sym c.deref_mut.ensures.value ∙ w.in-TextMap.is) in
+      c.in-Some.ensures.taken ∙ ap (λ t. Some t) (sym c.deref_mut.ensures.value ∙ w.in-TextMap.is) in
       let now : c.put.new.self.held.table ≡ Some (TextMap w.reserve-code-in-TextMap.new.map) = c.put.ensures ∙ ap (λ b. Some b.value) w.table-is in
       rw (was, now, w.code-is) (w.reserve-code-in-TextMap.new.map, refl, w.reserve-code-in-TextMap.ensures)
   | in-TextSet w ↦
       let was : c.args.handle.now.held.table ≡ Some (TextSet w.in-TextSet.set) =
-        c.in-Some.ensures.taken ∙ ap (λ t. Some t) (sym c.deref_mut.ensures.value ∙ w.in-TextSet.is) in
+      c.in-Some.ensures.taken ∙ ap (λ t. Some t) (sym c.deref_mut.ensures.value ∙ w.in-TextSet.is) in
       let now : c.put.new.self.held.table ≡ Some (TextSet w.reserve_keys-code.new.set) = c.put.ensures ∙ ap (λ b. Some b.value) w.table-is in
       rw (was, now, w.code-is) (w.reserve_keys-code.new.set, refl, w.reserve_keys-code.ensures)
   | in_default-deref_mut w ↦ search rules
