@@ -1,5 +1,5 @@
 -- What a map ends as, where a value of it was lent for writing.
-use Rattle.std.specs.Prelude.{◌≡◌, Bool, Option, None, Result, IfNone, IfSome, MatchOption}
+use Rattle.std.specs.Prelude.{◌≡◌, Bool, true, Option, None, Result, IfNone, IfSome, MatchOption}
 use Rattle.std.specs.Borrow.{Fml, LendsSo, LendsSoOk, MutBor, RattleType}
 use Rattle.std.specs.declared.cmp.PartialEq as equals
 use Rattle.bucket_table.specs.declared.key_hash.KeyHash as key_hash
@@ -28,6 +28,13 @@ module _ (K V H : RattleType) (equal : equals.Ghosts K.Denot) (hashing : key_has
       LendsSoOk (the_row K V H (record {}) equal hashing) V map loan
       (λ new value. Adds equal.eq map.now key value new)
       (λ new. Stays equal.eq map.now new × LacksRoom hashing.hash_of key new)
+
+  -- the same of a key that is wanted; where it isn't nothing is lent, and all stays
+  abbrev pub LendsWanted : {E : Type 0} → (K.Denot → Bool) → K.Denot → Result (MutBor V.Denot) E → Fml
+  LendsWanted wants key loan =
+      LendsSoOk (the_row K V H (record {}) equal hashing) V map loan
+      (λ new value. (wants key ≡ true) × Adds equal.eq map.now key value new)
+      (λ new. Stays equal.eq map.now new × (wants key ≡ true → LacksRoom hashing.hash_of key new))
 
   -- the value under the key is the last one written through the loan, whether the map had the key or not; where nothing is
   -- lent all stays, and room is lacking

@@ -16,6 +16,8 @@ enum Step {
     Counts(&'static str, u64, u64),
     /// The word is made and put with a number where it isn't: whether it was.
     Puts(&'static str, u64, bool),
+    /// The place of the first word takes no other: whether the second came.
+    Swaps(&'static str, &'static str, bool),
     /// A number is written where the word is, and this was the earlier one.
     Writes(&'static str, u64, Option<u64>),
     /// One is added to a number that is there: what it was, and is.
@@ -29,7 +31,7 @@ enum Step {
 }
 
 const STEPS: &[Step] = steps! {
-    Takes("Ann", None), Writes("Ann", 1, None), Raises("Ann", None), Len(0), Counts("Ann", 4, 5),
+    Swaps("Ann", "Bob", false), Len(0), Takes("Ann", None), Writes("Ann", 1, None), Raises("Ann", None), Len(0), Counts("Ann", 4, 5),
     Counts("Ann", 4, 6), Counts("An", 0, 1), Puts("Ann", 9, false), Puts("", 9, true),
     Puts("", 8, false), Len(3), Writes("Ann", 7, Some(6)), Raises("Ann", Some((7, 8))),
     Raises("ann", None), Holds("Ann", Some(8)), Holds("An", Some(1)), Holds("", Some(9)),
@@ -63,6 +65,7 @@ fn take(
             let came = put(alloc, words, word, *number)?;
             check_same(rt, came, *vacant, at);
         }
+        Swaps(word, other, came) => check_same(rt, put_as(alloc, words, word, other)?, *came, at),
         Writes(word, number, earlier) => check_same(rt, write(words, word, *number), *earlier, at),
         Raises(word, numbers) => check_same(rt, raise(words, word), *numbers, at),
         Takes(word, number) => check_same(rt, take_out(words, word), *number, at),
@@ -83,7 +86,7 @@ fn count(
         EntryRef::Occupied(place) => place.into_mut(),
         EntryRef::Vacant(place) => {
             let key = String::from_str(alloc, word)?;
-            place.with_key(key).insert(number).ok()
+            place.insert_with_key(key, number).ok()
         }
     };
     if let Some(held) = lent {
@@ -97,7 +100,18 @@ fn put(alloc: Global, words: &mut Words, word: &str, number: u64) -> Result<bool
     match words.entry_ref(word) {
         EntryRef::Vacant(place) => {
             let key = String::from_str(alloc, word)?;
-            Ok(place.with_key(key).insert(number).is_ok())
+            Ok(place.insert_with_key(key, number).is_ok())
+        }
+        EntryRef::Occupied(_) => Ok(false),
+    }
+}
+
+// Puts another word where the word isn't. Returns whether it came.
+fn put_as(alloc: Global, words: &mut Words, word: &str, other: &str) -> Result<bool, AllocError> {
+    match words.entry_ref(word) {
+        EntryRef::Vacant(place) => {
+            let key = String::from_str(alloc, other)?;
+            Ok(place.insert_with_key(key, 0).is_ok())
         }
         EntryRef::Occupied(_) => Ok(false),
     }
