@@ -54,7 +54,7 @@ def _library():
         "free": [],
         "len": [],
         "clear": [],
-        "reserve": [size, to_size],
+        "reserve": [size],
         "shrink": [],
         "pairs": pieces,
         "texts": text_pieces,
