@@ -15,7 +15,7 @@ use Rattle.bucket_table.specs.Resize.Remaking.{IsSettledAt}
 use Rattle.bucket_table.specs.Rehash.State.{first_tickets}
 use Rattle.bucket_table.specs.Resize.Resizing.{with_minimum}
 use Rattle.bucket_table.specs.Views.ArraysView.{ArraysView, TableView}
-use Rattle.collections.specs.Capacity.{AreTooMany, HasRoomFor, IsFitted, IsMinimumFor, IsSlotsFor, MakesRoom, TakesSlots}
+use Rattle.collections.specs.Capacity.{AreTooMany, HasRoomFor, IsFitted, IsMinimumFor, IsSlotsFor, MakesRoom, ShrinksToFit, TakesSlots}
 use Rattle.collections.specs.Changes.{Stays}
 use Rattle.collections.specs.Maps.{IsUnique, MapView, map_len, map_of}
 use Rattle.collections.proofs.Collecting.{stays_same}
@@ -264,37 +264,81 @@ module _ {K V H : Type 0} where
       → map_of u ≡ record (map_of t) { entries = []; minimum = 0; slots = 0; old_slots = 0 }
   slots_gone t s u is hasher arrays = rw (arrays, hasher, is) refl
 
-module _ {K V H : Type 0} (old : MapView K V H) where
+module _ {K V H : Type 0} (eq : K → K → Bool) (old : MapView K V H) (unique : IsUnique eq old) (len : ℕ)
+    (len_is : len ≡ min (map_len old) (2 ^ 64 - 1)) where
   -- a map without a pair has no slots left
-  pub fitted_none : (new : MapView K V H) → new ≡ record old { entries = []; minimum = 0; slots = 0; old_slots = 0 } → IsFitted new
-  fitted_none new is = rw is (record { alone = refl; none = λ empty. refl; some = λ some. absurd (some refl) })
-
-  pub stays_none : (eq : K → K → Bool) (new : MapView K V H) (len : ℕ) → IsUnique eq old → len ≡ min (map_len old) (2 ^ 64 - 1) → len ≡ 0
-      → new ≡ record old { entries = []; minimum = 0; slots = 0; old_slots = 0 } → Stays eq (record old { minimum = 0 }) new
-  stays_none eq new len unique len_is none is =
+  pub shrinks_none : {E : Type 0} (new : MapView K V H) → len ≡ 0 → new ≡ record old { entries = []; minimum = 0; slots = 0; old_slots = 0 }
+      → ShrinksToFit {E = E} eq old (Ok tt) new
+  shrinks_none new none is =
       let empty = nil_from_length old.entries (omega (arith, len_is, none)) in
-      rw is (record {
-        entries = rw empty (IsPermutation-refl []);
-        len = rw empty refl;
-        gets = λ key. rw empty refl;
-        kept = record {
-          unique = subst (λ (ps : List (K × V)). IsDistinct eq (keys_of ps)) empty unique;
-          hasher = refl;
-          minimum = refl;
-          maximum = refl;
-        };
-      })
-
-  -- as few slots as the pairs take
-  pub fitted : {E : Type 0} (len slots : ℕ) (answer : Result (Unit {0}) E) (new : MapView K V H) → len ≡ min (map_len old) (2 ^ 64 - 1)
-      → (len ≡ 0 → ⊥) → IsSlotsFor len slots → map_len new ≡ map_len old
-      → OnOk answer ((new.slots ≡ slots) × (new.old_slots ≡ 0)) → OnOk answer (IsFitted new)
-  fitted len slots (Ok done) new len_is some for kept (slots_are, alone) =
-      let few = few_in slots len (inr for.holds.power) for.holds.enough in
-      let same : len ≡ map_len new = omega (arith, few, len_is, kept) in
       record {
-        alone = alone;
-        none = λ empty. absurd (some (same ∙ ap (λ (ps : List (K × V)). length ps) empty));
-        some = λ pairs. rw slots_are (subst (λ (n : ℕ). IsSlotsFor n slots) same for);
+        stays = rw is (record {
+          entries = rw empty (IsPermutation-refl []);
+          len = rw empty refl;
+          gets = λ key. rw empty refl;
+          kept = record {
+            unique = subst (λ (ps : List (K × V)). IsDistinct eq (keys_of ps)) empty unique;
+            hasher = refl;
+            minimum = refl;
+            maximum = refl;
+          };
+        });
+        fitted = rw is (record { alone = refl; none = λ gone. refl; some = λ some. absurd (some refl) });
+        ready = λ had. (refl, rw (is, empty, had.none empty, had.alone) refl);
+        none = λ gone. refl;
       }
-  fitted len slots (Err refused) new len_is some for kept none = tt
+
+  module _ (some : len ≡ 0 → ⊥) where
+    -- a map that has a pair
+    has_pairs : old.entries ≡ [] → ⊥
+    has_pairs empty = let none : map_len old ≡ 0 = ap (λ (ps : List (K × V)). length ps) empty in some (omega (arith, len_is, none))
+
+    -- and as few slots as its pairs take
+    had_for : IsFitted old → IsSlotsFor len old.slots
+    had_for had =
+        let for = had.some has_pairs in
+        let few = few_in old.slots (map_len old) (inr for.holds.power) for.holds.enough in
+        let same : map_len old ≡ len = omega (arith, few, len_is) in
+        subst (λ (n : ℕ). IsSlotsFor n old.slots) same for
+
+    -- no array is for so many
+    pub shrinks_refused : {E : Type 0} (error : E) → AreTooMany len → ShrinksToFit eq old (Err error) (record old { minimum = 0 })
+    shrinks_refused error many = record {
+      stays = stays_same eq (record old { minimum = 0 }) unique;
+      fitted = tt;
+      ready = λ had. absurd (many old.slots (had_for had).holds);
+      none = λ empty. absurd (has_pairs empty);
+    }
+
+    module _ {E : Type 0} (slots : ℕ) (for : IsSlotsFor len slots) where
+      fits : (answer : Result (Unit {0}) E) (new : MapView K V H) → map_len new ≡ map_len old
+          → OnOk answer ((new.slots ≡ slots) × (new.old_slots ≡ 0)) → OnOk answer (IsFitted new)
+      fits (Ok done) new kept (slots_are, alone) =
+          let few = few_in slots len (inr for.holds.power) for.holds.enough in
+          let same : len ≡ map_len new = omega (arith, few, len_is, kept) in
+          record {
+            alone = alone;
+            none = λ empty. absurd (some (same ∙ ap (λ (ps : List (K × V)). length ps) empty));
+            some = λ pairs. rw slots_are (subst (λ (n : ℕ). IsSlotsFor n slots) same for);
+          }
+      fits (Err refused) new kept none = tt
+
+      -- all pairs move to as few slots as they take
+      pub shrinks_moved : (answer : Result (Unit {0}) E) (new : MapView K V H) → Stays eq (record old { minimum = 0 }) new
+          → OnOk answer ((new.slots ≡ slots) × (new.old_slots ≡ 0)) → (slots ≡ old.slots → old.old_slots ≡ 0 → ⊥)
+          → ShrinksToFit eq old answer new
+      shrinks_moved answer new stays moved unready = record {
+        stays = stays;
+        fitted = fits answer new stays.len moved;
+        ready = λ had. absurd (unready (slots_are_one len slots old.slots for (had_for had)) had.alone);
+        none = λ empty. absurd (has_pairs empty);
+      }
+
+      -- there are as few already
+      pub shrinks_ready : slots ≡ old.slots → old.old_slots ≡ 0 → ShrinksToFit {E = E} eq old (Ok tt) (record old { minimum = 0 })
+      shrinks_ready same alone = record {
+        stays = stays_same eq (record old { minimum = 0 }) unique;
+        fitted = fits (Ok tt) (record old { minimum = 0 }) refl (sym same, alone);
+        ready = λ had. (refl, refl);
+        none = λ empty. refl;
+      }

@@ -51,3 +51,11 @@ module _ {K V H : Type 0} where
     pub no_fewer : OnOk answer (old.slots ≤ new.slots)
     pub ready : HasRoomFor more old → (answer ≡ Ok tt) × (new ≡ old)
     pub too_many : AreTooMany (map_len old + more) → IsErr answer × (new ≡ old)
+
+  -- the minimum is 0, and as few slots are left as the pairs take, unless allocation fails; where there are as few already nothing else
+  -- changes, and a map without a pair isn't refused
+  pub record ShrinksToFit {E : Type 0} (eq : K → K → Bool) (old : MapView K V H) (answer : Result (Unit {0}) E) (new : MapView K V H) : Type 0 where
+    pub stays : Stays eq (record old { minimum = 0 }) new
+    pub fitted : OnOk answer (IsFitted new)
+    pub ready : IsFitted old → (answer ≡ Ok tt) × (new ≡ record old { minimum = 0 })
+    pub none : IsEmpty old → answer ≡ Ok tt

@@ -4,7 +4,7 @@
 //! and `shrink_to_fit` go beside the plan: they move all pairs at once.
 ghost use Rattle.std.specs.Prelude.{◌≡◌, ◌^◌, IsErr, OnOk, min};
 ghost use Rattle.bucket_slots.specs.Sizing.{IsPowerIn};
-ghost use Rattle.collections.specs.Capacity.{AreTooMany, IsFitted, IsMinimumFor, MakesRoom, TakesSlots};
+ghost use Rattle.collections.specs.Capacity.{AreTooMany, IsMinimumFor, MakesRoom, ShrinksToFit, TakesSlots};
 ghost use Rattle.collections.specs.Changes.{Reserves, Stays};
 ghost use Rattle.collections.specs.Maps.{IsEmpty};
 
@@ -120,12 +120,12 @@ impl<K: Eq + Drop, V: Drop, H: KeyHash<K>> HashMap<K, V, H> {
     ///
     /// # Errors
     ///
-    /// Allocation failure: all pairs are there, and the minimum is 0.
+    /// Allocation failure: all pairs are there, and the minimum is 0. It can't fail where there is no
+    /// pair, nor where the slots are as few already.
     ///
     /// O(slots). Own: std's `shrink_to_fit`, which can't be refused.
     pub fn shrink_to_fit(&mut self) -> Result<(), AllocError>
-        ensures map { Stays K.eq (record self.old { minimum = 0 }) self.new }
-        ensures slots { OnOk result (IsFitted self.new) }
+        ensures { ShrinksToFit K.eq self.old result self.new }
     {
         self.room.learn();
         self.table.sound();
@@ -135,10 +135,16 @@ impl<K: Eq + Drop, V: Drop, H: KeyHash<K>> HashMap<K, V, H> {
             self.table.clear();
             return Ok(());
         }
-        match slots_for(pairs) {
-            Some(slots) => self.rehash_to(slots),
-            None => Err(AllocError),
+        let Some(slots) = slots_for(pairs) else {
+            return Err(AllocError);
+        };
+        if slots != self.table.num_slots() {
+            return self.rehash_to(slots);
         }
+        if self.table.has_linked_array() {
+            return self.rehash_to(slots);
+        }
+        Ok(())
     }
 
     /// Moves all pairs into one array of so many slots.

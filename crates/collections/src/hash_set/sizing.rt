@@ -1,7 +1,7 @@
 //! How many slots a set has, as of a map: room for keys that come, and slots that go.
-ghost use Rattle.std.specs.Prelude.{◌≡◌, ◌^◌, OnOk, min};
-ghost use Rattle.collections.specs.Capacity.{IsFitted, IsMinimumFor, MakesRoom};
-ghost use Rattle.collections.specs.Changes.{Reserves, Stays};
+ghost use Rattle.std.specs.Prelude.{◌≡◌, ◌^◌, min};
+ghost use Rattle.collections.specs.Capacity.{IsMinimumFor, MakesRoom, ShrinksToFit};
+ghost use Rattle.collections.specs.Changes.{Reserves};
 ghost use Rattle.collections.specs.Maps.{IsEmpty};
 
 use crate::hash_map::HashMap;
@@ -78,12 +78,12 @@ impl<K: Eq + Drop, H: KeyHash<K>> HashSet<K, H> {
     ///
     /// # Errors
     ///
-    /// Allocation failure: all keys are there, and the minimum is 0.
+    /// Allocation failure: all keys are there, and the minimum is 0. It can't fail where there is no
+    /// key, nor where the slots are as few already.
     ///
     /// O(slots). Own: std's `shrink_to_fit`, which can't be refused.
     pub fn shrink_to_fit(&mut self) -> Result<(), AllocError>
-        ensures map { Stays K.eq (record self.old { minimum = 0 }) self.new }
-        ensures slots { OnOk result (IsFitted self.new) }
+        ensures { ShrinksToFit K.eq self.old result self.new }
     {
         self.map.shrink_to_fit()
     }
