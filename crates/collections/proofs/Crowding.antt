@@ -1,12 +1,13 @@
 -- An insertion that ran out of memory lacked room.
-use Rattle.std.proofs.Common.{ℕ, suc, ◌≡◌, ◌<◌, ◌≤◌, ◌+◌, ◌*◌, ◌/◌, ◌%◌, ◌++◌, Bool, cond, ◌==◌, None, Result, Ok, Err, IfOk, List}
-use Rattle.std.proofs.Common.{[], ◌∷◌, inl, inr}
+use Rattle.std.proofs.Common.{ℕ, suc, ◌≡◌, ◌≢◌, ◌<◌, ◌≤◌, ◌+◌, ◌*◌, ◌/◌, ◌%◌, ◌++◌, Bool, cond, ◌==◌, None, Option, Result, Ok, Err, IfOk, List}
+use Rattle.std.proofs.Common.{[], ◌∷◌, ◌⊎◌, inl, inr}
 use Rattle.std.proofs.Common.{length, map, refl, sym, subst, ◌∙◌, arith, append-nil, length-append}
 use Rattle.std.specs.List.{All}
 use Rattle.std.proofs.lemmas.Bool.{cases_lt, false≢true}
 use Rattle.std.specs.List.Sorted.{IsPermutation}
 use Rattle.std.proofs.lemmas.List.Sorted.{IsPermutation-refl}
 use Rattle.std.proofs.lemmas.List.Sums.{sum_by-append, sum_by-cons}
+use Rattle.bucket_slots.specs.declared.bucket.TheConstants.{INDEX}
 use Rattle.bucket_slots.specs.ArrayView.{bucket_at}
 use Rattle.bucket_slots.specs.BucketLaws.{IsBucketOf}
 use Rattle.bucket_slots.specs.BucketView.{BucketView, all_slots, empty_bucket, entries_in, first_place, flattened, pairs_in}
@@ -20,6 +21,7 @@ use Rattle.bucket_table.specs.Map.ByKey.{HasNoSlot, Inserts, InsertsAt, Upserts,
 use Rattle.bucket_table.specs.Map.Finding.{Finds, FindsThen}
 use Rattle.bucket_table.specs.Map.MapState.{KeepsPairs, state_of}
 use Rattle.bucket_table.specs.Map.Preparing.{HomeWantsMemory}
+use Rattle.bucket_table.specs.Map.Putting.{Puts, PutsAt}
 use Rattle.bucket_table.specs.Map.Refusing.{IsRefused}
 use Rattle.bucket_table.specs.Rehash.Relocation.{IsEntryHome, home_of, homed_len}
 use Rattle.bucket_table.specs.Views.ArraysView.{ArePlaced, ArraysView, TableView, pairs_of}
@@ -51,12 +53,13 @@ module _ {K V : Type 0} where
       one (live pair byte) = refl
       one (marked pair byte) = refl
 
-  -- a bucket of a map that has no free slot has 32 pairs
-  held : (bucket : BucketView K V) → IsBucketOf 83 bucket → first_place is_free bucket ≡ None → 32 ≤ length (pairs_in bucket)
-  held bucket laws none = omega (
+  -- a bucket without a mark that has no free slot has 32 pairs
+  held : (kind : ℕ) (bucket : BucketView K V) → kind ≢ INDEX → IsBucketOf kind bucket → first_place is_free bucket ≡ None
+      → 32 ≤ length (pairs_in bucket)
+  held kind bucket other laws none = omega (
     arith,
     parted (all_slots bucket),
-    laws.unmarked (λ e. omega arith),
+    laws.unmarked other,
     free_len_in-none bucket none,
     length-append bucket.own (flattened bucket.chain),
     laws.own_long,
@@ -103,9 +106,9 @@ module _ {K V : Type 0} where
                 (rw (home_of-interval len index (hash key) home.own) (omega (arith, many, most))),
           )
 
-module _ {K V H : Type 0} (hash_of : H → K → ℕ) (key : K) (n : ℕ) (old new : TableView K V H) (own : n ≡ hash_of new.hasher key)
-    (placed : ArePlaced (hash_of new.hasher) new.arrays) (current : 0 < length new.arrays.current → KeepsHome 83 n new.arrays.current)
-    (linked : 0 < length new.arrays.linked → KeepsHome 83 n new.arrays.linked) where
+module _ {K V H : Type 0} (kind : ℕ) (hash_of : H → K → ℕ) (key : K) (n : ℕ) (old new : TableView K V H) (own : n ≡ hash_of new.hasher key)
+    (placed : ArePlaced (hash_of new.hasher) new.arrays) (current : 0 < length new.arrays.current → KeepsHome kind n new.arrays.current)
+    (linked : 0 < length new.arrays.linked → KeepsHome kind n new.arrays.linked) where
   crowded_on : (side : Side) (index : ℕ) → IsHome (length (buckets_on new.arrays side)) n index
       → 32 ≤ length (pairs_in (bucket_on new.arrays side index)) → LacksRoom hash_of key (map_of new)
   unfolding LacksRoom
@@ -114,20 +117,20 @@ module _ {K V H : Type 0} (hash_of : H → K → ℕ) (key : K) (n : ℕ) (old n
   crowded_on Old index home many = inr (inr (crowded (hash_of new.hasher) new.arrays Old index placed key
       (subst (λ (h : ℕ). IsHome (length new.arrays.linked) h index) own home) many))
 
-  laws_on : (side : Side) (index : ℕ) → IsHome (length (buckets_on new.arrays side)) n index
-      → IsBucketOf 83 (bucket_on new.arrays side index)
+  pub laws_on : (side : Side) (index : ℕ) → IsHome (length (buckets_on new.arrays side)) n index
+      → IsBucketOf kind (bucket_on new.arrays side index)
   laws_on Current index home =
       let kept = current (omega (arith, home.within)) in
-      subst (λ (i : ℕ). IsBucketOf 83 (bucket_at new.arrays.current i)) (home.the_one kept.index kept.home.own) kept.laws
+      subst (λ (i : ℕ). IsBucketOf kind (bucket_at new.arrays.current i)) (home.the_one kept.index kept.home.own) kept.laws
   laws_on Old index home =
       let kept = linked (omega (arith, home.within)) in
-      subst (λ (i : ℕ). IsBucketOf 83 (bucket_at new.arrays.linked i)) (home.the_one kept.index kept.home.own) kept.laws
+      subst (λ (i : ℕ). IsBucketOf kind (bucket_at new.arrays.linked i)) (home.the_one kept.index kept.home.own) kept.laws
 
   -- a bucket that was found had no free slot
-  pub found_full : (keeps : ℕ → Bool) (side : Side) (index : ℕ) → IsHome (length (buckets_on new.arrays side)) n index
-      → HasNoSlot 83 keeps (bucket_on new.arrays side index) → LacksRoom hash_of key (map_of new)
-  found_full keeps side index home none =
-      crowded_on side index home (held (bucket_on new.arrays side index) (laws_on side index home) none)
+  pub found_full : kind ≢ INDEX → (side : Side) (index : ℕ) → IsHome (length (buckets_on new.arrays side)) n index
+      → first_place is_free (bucket_on new.arrays side index) ≡ None → LacksRoom hash_of key (map_of new)
+  found_full other side index home none =
+      crowded_on side index home (held kind (bucket_on new.arrays side index) other (laws_on side index home) none)
 
   -- where an old array isn't longer, a source of a current home is the old home
   old_home : (index i : ℕ) → IsHome (length new.arrays.current) n index → i < length new.arrays.linked
@@ -144,19 +147,19 @@ module _ {K V H : Type 0} (hash_of : H → K → ℕ) (key : K) (n : ℕ) (old n
       let there : kept.index ≡ one.0 = (one.2 kept.index kept.home.within).0 (homes_meet from to kept.index index n kept.home home) in
       subst (IsHome from n) (there ∙ sym here) kept.home
 
-  -- no bucket was found
-  pub none_found : IsRefused 83 n old new → LacksRoom hash_of key (map_of new)
-  unfolding LacksRoom
-  none_found refused = elim (cases_lt 0 (length new.arrays.current)) [
+  -- where no bucket was found, the old home has 32 pairs if arrays stand and grow
+  pub old_full : IsRefused kind n old new → ((length new.arrays.current ≡ 0) ⊎ (length new.arrays.current < length new.arrays.linked))
+      ⊎ ((i : ℕ) × IsHome (length new.arrays.linked) n i × (32 ≤ length (pairs_in (bucket_at new.arrays.linked i))))
+  old_full refused = elim (cases_lt 0 (length new.arrays.current)) [
     | inr none ↦ inl (inl (omega (arith, none)))
     | inl stands ↦ elim (cases_lt (length new.arrays.current) (length new.arrays.linked)) [
-      | inl shorter ↦ inl (inr (omega (arith, shorter)))
-      | inr longer ↦ from_source (refused.home stands) longer
+      | inl shorter ↦ inl (inr shorter)
+      | inr longer ↦ inr (from_source (refused.home stands) longer)
     ]
   ]
     where
       from_source : HomeWantsMemory n old.arrays new.arrays → length new.arrays.linked ≤ length new.arrays.current
-          → LacksRoom hash_of key (map_of new)
+          → (i : ℕ) × IsHome (length new.arrays.linked) n i × (32 ≤ length (pairs_in (bucket_at new.arrays.linked i)))
       from_source (index, home, wants) longer =
           let i = wants.index in
           let run = refused.prepared.units.stands (omega (arith, wants.within)) in
@@ -174,24 +177,66 @@ module _ {K V H : Type 0} (hash_of : H → K → ℕ) (key : K) (n : ℕ) (old n
             | inl same ↦ same
             | inr spent ↦ absurd (false≢true (sym wants.alive ∙ spent.0))
           ] in
-          crowded_on Old i (old_home index i home wants.within wants.one longer) (subst (λ (b : BucketView K V). 32 ≤ length (pairs_in b)) (sym still) many)
+          (i, old_home index i home wants.within wants.one longer, subst (λ (b : BucketView K V). 32 ≤ length (pairs_in b)) (sym still) many)
+
+  -- no bucket was found
+  pub none_found : IsRefused kind n old new → LacksRoom hash_of key (map_of new)
+  unfolding LacksRoom
+  none_found refused = elim (old_full refused) [
+    | inl (inl none) ↦ inl (inl (omega (arith, none)))
+    | inl (inr shorter) ↦ inl (inr (omega (arith, shorter)))
+    | inr (i, home, many) ↦ crowded_on Old i home many
+  ]
+
+-- a table in which a bucket was looked for, and that is as it was then
+module _ {K V H : Type 0} (kind : ℕ) (hash_of : H → K → ℕ) (key : K) (old between new : TableView K V H)
+    (kept : KeepsPairs (state_of kind old) (state_of kind new)) (is : new ≡ between) where
+  pub home_found : (side : Side) (index : ℕ) → IsHome (length (buckets_on between.arrays side)) (hash_of old.hasher key) index
+      → IsHome (length (buckets_on new.arrays side)) (hash_of new.hasher key) index
+  home_found side index home =
+      subst (λ (h : H). IsHome (length (buckets_on new.arrays side)) (hash_of h key) index) (sym (hasher_kept _ _ kept))
+      (subst (λ (t : TableView K V H). IsHome (length (buckets_on t.arrays side)) (hash_of old.hasher key) index) (sym is) home)
+
+  pub found_none : IsRefused kind (hash_of old.hasher key) old between → IsRefused kind (hash_of new.hasher key) old new
+  found_none refused =
+      subst (λ (h : H). IsRefused kind (hash_of h key) old new) (sym (hasher_kept _ _ kept))
+      (subst (λ (t : TableView K V H). IsRefused kind (hash_of old.hasher key) old t) (sym is) refused)
+
+module _ {K V H : Type 0} (hash_of : H → K → ℕ) (key : K) (old new : TableView K V H) (placed : ArePlaced (hash_of new.hasher) new.arrays)
+    (current : 0 < length new.arrays.current → KeepsHome 67 (hash_of new.hasher key) new.arrays.current)
+    (linked : 0 < length new.arrays.linked → KeepsHome 67 (hash_of new.hasher key) new.arrays.linked) (keeps : Bool) (value : V) where
+  put_by : (k : K) (v : V) (answer : Result (Side × ℕ) (Unit {0})) (between : TableView K V H)
+      → KeepsPairs (state_of 67 old) (state_of 67 new) → Finds 67 (hash_of old.hasher key) old answer between
+      → PutsAt keeps (key, value) (hash_of old.hasher key % 256) between (Err (Memory k v)) answer new → LacksRoom hash_of key (map_of new)
+  put_by k v (Ok at) between kept found none = absurd none
+  put_by k v (Err e) between kept refused is = none_found 67 hash_of key (hash_of new.hasher key) old new refl placed current linked
+      (found_none 67 hash_of key old between new kept is refused)
+
+  -- a pair that a cache didn't take for want of memory
+  pub put_lacks : (eq : K → K → Bool) (result : Result (Option (K × V)) (NotInserted K V)) (k : K) (v : V)
+      → Puts eq key value (state_of 67 old) result (state_of 67 new)
+      → FindsThen 67 (hash_of old.hasher key) old
+      (λ answer between. PutsAt keeps (key, value) (hash_of old.hasher key % 256) between result answer new)
+      → result ≡ Err (Memory k v) → LacksRoom hash_of key (map_of new)
+  put_lacks eq result k v map finds is =
+      put_by k v finds.answer finds.between
+      (subst (λ (r : Result (Option (K × V)) (NotInserted K V)). Puts eq key value (state_of 67 old) r (state_of 67 new)) is map).1 finds.found
+      (subst (λ (r : Result (Option (K × V)) (NotInserted K V)).
+      PutsAt keeps (key, value) (hash_of old.hasher key % 256) finds.between r finds.answer new) is finds.done)
 
 module _ {K V H : Type 0} (hash_of : H → K → ℕ) (key : K) (old new : TableView K V H) (placed : ArePlaced (hash_of new.hasher) new.arrays)
     (current : 0 < length new.arrays.current → KeepsHome 83 (hash_of new.hasher key) new.arrays.current)
     (linked : 0 < length new.arrays.linked → KeepsHome 83 (hash_of new.hasher key) new.arrays.linked) (keeps : ℕ → Bool) where
-  -- a table in which a bucket was looked for, and that is as it was then
   refused_by : (answer : Result (Side × ℕ) (Unit {0})) (between : TableView K V H) → KeepsPairs (state_of 83 old) (state_of 83 new)
       → Finds 83 (hash_of old.hasher key) old answer between → new ≡ between
       → IfOk answer (λ at. HasNoSlot 83 keeps (bucket_on between.arrays at.0 at.1)) → LacksRoom hash_of key (map_of new)
   refused_by (Ok at) between kept finds is none =
-      found_full hash_of key (hash_of new.hasher key) old new refl placed current linked keeps at.0 at.1
-      (subst (λ (h : H). IsHome (length (buckets_on new.arrays at.0)) (hash_of h key) at.1) (sym (hasher_kept _ _ kept))
-      (subst (λ (t : TableView K V H). IsHome (length (buckets_on t.arrays at.0)) (hash_of old.hasher key) at.1) (sym is) finds.home))
+      found_full 83 hash_of key (hash_of new.hasher key) old new refl placed current linked (λ e. omega arith) at.0 at.1
+      (home_found 83 hash_of key old between new kept is at.0 at.1 finds.home)
       (subst (λ (t : TableView K V H). HasNoSlot 83 keeps (bucket_on t.arrays at.0 at.1)) (sym is) none)
   refused_by (Err e) between kept refused is none =
-      none_found hash_of key (hash_of new.hasher key) old new refl placed current linked
-      (subst (λ (h : H). IsRefused 83 (hash_of h key) old new) (sym (hasher_kept _ _ kept))
-      (subst (λ (t : TableView K V H). IsRefused 83 (hash_of old.hasher key) old t) (sym is) refused))
+      none_found 83 hash_of key (hash_of new.hasher key) old new refl placed current linked
+      (found_none 83 hash_of key old between new kept is refused)
 
   module _ (value : V) where
     inserted_by : (A : Type 0) (k : K) (v : V) (answer : Result (Side × ℕ) (Unit {0})) (between : TableView K V H)

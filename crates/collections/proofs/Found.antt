@@ -1,7 +1,7 @@
 -- What the arrays are where a bucket was found for a writer: they were made ready, and may have grown then.
 use Rattle.bucket_table.specs.declared.arrays.side.Side.{Side}
 use Rattle.bucket_table.specs.declared.arrays.side.Side.TheVariants.{Current, Old}
-use Rattle.std.proofs.Common.{ℕ, ◌≡◌, ◌<◌, inl, inr, length, ap, refl, arith, ◌∙◌, ◌⊎◌}
+use Rattle.std.proofs.Common.{ℕ, ◌≡◌, ◌<◌, inl, inr, length, refl, arith}
 use Rattle.std.proofs.lemmas.Bool.{cases_lt}
 use Rattle.bucket_table.specs.Map.Finding.{MakesReady, ReadiesThenGrows}
 use Rattle.bucket_table.specs.Resize.Growing.{Grows}
@@ -39,10 +39,3 @@ module _ {K V : Type 0} where
   pub same_buckets : (side : Side) (ready new : ArraysView K V) → Grows side ready new → buckets_on new side ≡ ready.current
   same_buckets Old ready new (capacity, pushed) = rw pushed.new_is refl
   same_buckets Current ready new same = rw same refl
-
-  -- where no old array stands it is the one that stands
-  pub found_alone : (old : ArraysView K V) (side : Side) (index : ℕ) (new : ArraysView K V) → IsFound old side index new
-      → length old.linked ≡ 0 → 0 < length old.current → (new ≡ old) ⊎ (new.linked ≡ old.current)
-  found_alone old Old index new is none stands =
-      inr (rw (is.grown.1.new_is) (ap (λ (a : ArraysView K V). a.current) ((is.makes.first none).0 stands)))
-  found_alone old Current index new is none stands = inl (is.grown ∙ (is.makes.first none).0 stands)

@@ -9,6 +9,7 @@ pub mod InsertedMarks
 pub mod Marks
 pub mod RemovedMarks
 pub mod KeptMarks
+pub mod Taken
 pub mod Orders
 pub mod IndexSteps
 pub mod Loans

@@ -1,28 +1,30 @@
 -- The order of use in a cache after a put and after a removal.
 use Rattle.bucket_table.specs.declared.arrays.side.Side.{Side}
 use Rattle.bucket_table.specs.declared.arrays.side.Side.TheVariants.{Current, Old}
-use Rattle.std.proofs.Common.{ℕ, ◌≡◌, ◌%◌, inl, inr, Bool, true, false, Option, Result, Ok, Err, length, refl, ap}
-use Rattle.std.proofs.Common.{subst, ◌∙◌, arith}
+use Rattle.std.proofs.Common.{ℕ, ◌≡◌, ◌<◌, ◌⊎◌, ◌%◌, inl, inr, Bool, true, false, Option, Result, Ok, Err, length, refl, ap}
+use Rattle.std.proofs.Common.{subst, arith, length-set}
 use Rattle.std.specs.Cmp.{IsEquivalence}
 use Rattle.std.specs.List.{IsDistinct}
 use Rattle.std.specs.Map.{keys_of}
 use Rattle.bucket_slots.specs.ArrayView.{bucket_at}
-use Rattle.bucket_slots.specs.BucketView.{BucketView}
+use Rattle.bucket_slots.specs.BucketView.{BucketView, Place}
 use Rattle.bucket_slots.specs.Homes.{IsHome}
 use Rattle.bucket_slots.specs.Removing.{slots_without}
 use Rattle.bucket_table.specs.Map.ByKey.{PreparesThen, ShrinksAt}
 use Rattle.bucket_table.specs.Map.Finding.{Finds, MakesReady}
 use Rattle.bucket_table.specs.Map.Putting.{Goes, PutsAt, slots_left, slots_put}
+use Rattle.bucket_table.specs.Map.Refusing.{IsRefused}
 use Rattle.bucket_table.specs.Resize.Growing.{Grows}
+use Rattle.bucket_table.specs.Resize.Resizing.{IsPushed}
 use Rattle.bucket_table.specs.Views.ArraysView.{ArraysView, TableView, pairs_of}
-use Rattle.bucket_table.specs.Views.Sides.{arrays_with, bucket_on}
+use Rattle.bucket_table.specs.Views.Sides.{arrays_with, bucket_on, buckets_on}
 use Rattle.bucket_table.specs.declared.hash_table.NotInserted.{NotInserted}
 use Rattle.bucket_table.specs.declared.hash_table.NotInserted.TheVariants.{Memory, Present}
 use Rattle.bucket_table.proofs.Map.MapKept.{state_found}
 use Rattle.collections.specs.Changes.{Stays}
 use Rattle.collections.specs.Maps.{map_of}
-use Rattle.collections.specs.Orders.{LeavesPlace, PutsOrKeeps, ReplacesBucket}
-use Rattle.collections.proofs.Found.{found, found_alone, ready_keeps, same_buckets}
+use Rattle.collections.specs.Orders.{Leaves, LeavesArray, LeavesPlace, MovesOn, PutsOrKeeps, ReplacesBucket}
+use Rattle.collections.proofs.Found.{IsFound, found, ready_keeps, same_buckets}
 use Rattle.collections.proofs.Lookups.{distinct_permuted}
 use Rattle.collections.proofs.Shrinking.{none_left, removed_ends}
 use Rattle.collections.proofs.Steps.{stays}
@@ -30,9 +32,21 @@ use Rattle.collections.proofs.Steps.{stays}
 module _ {K V : Type 0} where
   -- another bucket on the side that was current
   replaced : (side : Side) (index : ℕ) (bucket : BucketView K V) (ready between new : ArraysView K V) → Grows side ready between
-      → new ≡ arrays_with between side index bucket → ReplacesBucket index bucket ready new
-  replaced Old index bucket ready between new (capacity, pushed) is = inr (rw (is, pushed.new_is) refl)
+      → new ≡ arrays_with between side index bucket → ReplacesBucket Current index bucket ready new
+  replaced Old index bucket ready between new (capacity, pushed) is = inr (pushed.alone, rw (is, pushed.new_is) refl)
   replaced Current index bucket ready between new same is = inl (rw same at is)
+
+  ready_moves : (old : ArraysView K V) (index : ℕ) (ready : ArraysView K V) → MakesReady old index ready → MovesOn old ready
+  ready_moves old index ready makes = record { carried = makes.beside; alone = λ none stands. (makes.first none).0 stands }
+
+  -- a bucket that was found, and in which nothing is done
+  found_leaves : (old : ArraysView K V) (side : Side) (index : ℕ) (new : ArraysView K V) → IsFound old side index new → LeavesArray old new
+  found_leaves old side index new is =
+      record { between = is.ready; moved = ready_moves old index is.ready is.makes; left = grown side is.grown }
+    where
+      grown : (side : Side) → Grows side is.ready new → (new ≡ is.ready) ⊎ ((length is.ready.linked ≡ 0) × (new.linked ≡ is.ready.current))
+      grown Old (capacity, pushed) = inr (pushed.alone, rw pushed.new_is refl)
+      grown Current same = inl same
 
 module _ {K V H : Type 0} (hash : ℕ) (old new : TableView K V H) where
   module _ (eq : K → K → Bool) (laws : IsEquivalence eq) (distinct : IsDistinct eq (keys_of (pairs_of old.arrays))) where
@@ -42,6 +56,16 @@ module _ {K V H : Type 0} (hash : ℕ) (old new : TableView K V H) where
         let keeps = state_found 67 old.hasher old.arrays ready (ready_keeps old.arrays index ready makes) in
         stays eq laws 67 old (record old { arrays = ready }) distinct
         (distinct_permuted eq laws (pairs_of old.arrays) (pairs_of ready) keeps.pairs distinct) keeps
+
+    none_leaves : (between : TableView K V H) → IsRefused 67 hash old between → LeavesArray old.arrays between.arrays
+    none_leaves between refused = record {
+      between = between.arrays;
+      moved = record {
+        carried = λ some. refused.prepared.kept;
+        alone = λ none stands. ap (λ (t : TableView K V H). t.arrays) (refused.prepared.alone none);
+      };
+      left = inl refl;
+    }
 
     -- what the table puts where it found a bucket
     pub puts_home : (pair : K × V) (r : Result (Option (K × V)) (NotInserted K V)) (answer : Result (Side × ℕ) (Unit {0}))
@@ -55,8 +79,7 @@ module _ {K V H : Type 0} (hash : ℕ) (old new : TableView K V H) where
         record {
           between = is.ready;
           map = ready_stays at.1 is.ready is.makes;
-          carried = is.makes.beside;
-          alone = λ none stands. (is.makes.first none).0 stands;
+          moved = ready_moves old.arrays at.1 is.ready is.makes;
           index = at.1;
           home = subst (λ bs. IsHome (length bs) hash at.1) same finds.home;
           goes = subst (λ bucket. Goes bucket went) here puts.0;
@@ -67,23 +90,35 @@ module _ {K V H : Type 0} (hash : ℕ) (old new : TableView K V H) where
     puts_home pair (Ok went) (Err e) between finds none = absurd none
     puts_home pair (Err (Present k v)) (Ok at) between finds same =
         let is = found 67 hash old.arrays at.0 at.1 between.arrays finds.found in
-        rw same (found_alone old.arrays at.0 at.1 between.arrays is)
-    puts_home pair (Err (Present k v)) (Err e) between finds same = λ none stands. absurd (omega (arith, finds.alone none, stands))
+        rw same (found_leaves old.arrays at.0 at.1 between.arrays is)
+    puts_home pair (Err (Present k v)) (Err e) between finds same = rw same (none_leaves between finds)
     puts_home pair (Err (Memory k v)) (Ok at) between finds none = absurd none
-    puts_home pair (Err (Memory k v)) (Err e) between finds same = λ none stands. absurd (omega (arith, finds.alone none, stands))
+    puts_home pair (Err (Memory k v)) (Err e) between finds same = rw same (none_leaves between finds)
 
   module _ (wants : K → Bool) where
-    left : length old.arrays.linked ≡ 0 → ShrinksAt wants slots_without true old new → LeavesPlace wants true old.arrays new.arrays
-    left none (Old, index, at, stands, shrinks) = absurd (omega (arith, stands.within, none))
-    left none (Current, index, at, stands, shrinks) = λ _. elim (removed_ends old.arrays Current index _ new.arrays shrinks) [
-      | inl is ↦ inr (index, at, stands, inl is)
+    left : (removed : Bool) (between : TableView K V H) → ShrinksAt wants slots_without removed between new
+        → Leaves wants removed between.arrays new.arrays
+    left true between (side, index, at, stands, shrinks) = elim (removed_ends between.arrays side index _ new.arrays shrinks) [
+      | inl is ↦ inr (side, index, at, stands, inl is)
       | inr (inl gone) ↦ inl (none_left _ new.arrays gone)
-      | inr (inr (capacity, pushed)) ↦ inr (index, at, stands, inr (rw pushed.new_is refl))
+      | inr (inr (capacity, pushed)) ↦ inr (side, index, at, stands, pushed_from side between.arrays index at stands.within _ capacity pushed)
     ]
+      where
+        pushed_from : (side : Side) (arrays : ArraysView K V) (index : ℕ) (at : Place) → index < length (buckets_on arrays side)
+            → (bucket : BucketView K V) (capacity : ℕ) → IsPushed capacity (arrays_with arrays side index bucket) new.arrays
+            → ReplacesBucket side index bucket arrays new.arrays
+        pushed_from Current arrays index at within bucket capacity pushed = inr (pushed.alone, rw pushed.new_is refl)
+        pushed_from Old arrays index at within bucket capacity pushed =
+            let none = pushed.alone in
+            absurd (omega (arith, within, none, length-set arrays.linked index bucket))
+    left false between same = ap (λ (t : TableView K V H). t.arrays) same
 
     -- what the table takes
     pub leaves_place : (removed : Bool) → PreparesThen 67 hash old (λ between. ShrinksAt wants slots_without removed between new)
         → LeavesPlace wants removed old.arrays new.arrays
-    leaves_place true p = λ none.
-        left none (subst (λ between. ShrinksAt wants slots_without true between new) (p.prepared.alone none) p.done) none
-    leaves_place false p = λ none. ap (λ (t : TableView K V H). t.arrays) (p.done ∙ p.prepared.alone none)
+    leaves_place removed p = record {
+      between = p.between.arrays;
+      carried = p.prepared.kept;
+      alone = λ none. ap (λ (t : TableView K V H). t.arrays) (p.prepared.alone none);
+      left = left removed p.between p.done;
+    }

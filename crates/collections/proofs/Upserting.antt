@@ -1,5 +1,5 @@
 -- A pair is put into a cache after a touch that met none.
-use Rattle.std.proofs.Common.{ℕ, ◌≡◌, ◌<◌, ◌⊎◌, inl, inr, Bool, false, Option, None, Some, Result, Ok, Err, length}
+use Rattle.std.proofs.Common.{ℕ, ◌≡◌, ◌<◌, inl, inr, Bool, false, Option, None, Some, Result, Ok, Err, length}
 use Rattle.std.proofs.Common.{refl, sym, ap, subst, ◌∙◌, arith}
 use Rattle.std.proofs.lemmas.Bool.{cases_lt}
 use Rattle.bucket_table.specs.Views.ArraysView.{ArraysView, TableView}
@@ -9,7 +9,7 @@ use Rattle.bucket_table.specs.declared.hash_table.NotInserted.TheVariants.{Memor
 use Rattle.bucket_table.proofs.Views.Keeping.{kept_both}
 use Rattle.collections.specs.Changes.{Adds, Displaces, Puts, Stays}
 use Rattle.collections.specs.Maps.{get, map_of}
-use Rattle.collections.specs.Orders.{IsTouched, PutsInHome, PutsOrKeeps}
+use Rattle.collections.specs.Orders.{IsTouched, LeavesArray, MovesOn, PutsInHome, PutsOrKeeps}
 use Rattle.collections.proofs.Staying.{adds_after, displaces_after, stays_after}
 
 module _ {K V H : Type 0} (eq : K → K → Bool) (k : K) (t b : TableView K V H) (touched : IsTouched eq (eq k) false t b) where
@@ -19,42 +19,42 @@ module _ {K V H : Type 0} (eq : K → K → Bool) (k : K) (t b : TableView K V H
   unmoved : length t.arrays.linked ≡ 0 → b ≡ t
   unmoved none = touched.touched ∙ touched.alone none
 
-  -- where a pair is put then is where it is put
-  in_home : (hash : ℕ) → (0 < length t.arrays.linked → 0 < length t.arrays.current) → (pair : K × V) (went : Option (K × V))
-      (new : ArraysView K V) → PutsInHome eq pair hash went b new → PutsInHome eq pair hash went t new
-  in_home hash beside pair went new puts = record {
-    between = puts.between;
-    map = subst (λ (h : H). Stays eq (map_of t) (map_of (record t { hasher = h; arrays = puts.between }))) touched.map.kept.hasher
-        (stays_after eq (map_of t) (map_of b) (map_of (record b { arrays = puts.between })) touched.map puts.map);
+  -- what moves on then moves on
+  moves_on : (0 < length t.arrays.linked → 0 < length t.arrays.current) → (new : ArraysView K V) → MovesOn b.arrays new → MovesOn t.arrays new
+  moves_on beside new moves = record {
     carried = λ stands. elim (cases_lt 0 (length b.arrays.linked)) [
-      | inl some ↦ kept_both t.arrays b.arrays puts.between moved (puts.carried some)
+      | inl some ↦ kept_both t.arrays b.arrays new moved (moves.carried some)
       | inr none ↦
-          let same = puts.alone (omega (arith, none)) (omega (arith, moved.current_len, beside stands)) in
+          let same = moves.alone (omega (arith, none)) (omega (arith, moved.current_len, beside stands)) in
           rw same moved
     ];
     alone = λ none stands.
         let is = unmoved none in
-        puts.alone (rw is none) (rw is stands) ∙ ap (λ (z : TableView K V H). z.arrays) is;
-    index = puts.index;
-    home = puts.home;
-    goes = puts.goes;
-    put = puts.put;
+        moves.alone (rw is none) (rw is stands) ∙ ap (λ (z : TableView K V H). z.arrays) is;
   }
 
   module _ (h hash : ℕ) (own : h ≡ hash) (v : V) (new : ArraysView K V) (r : Result (Option (K × V)) (NotInserted K V))
-      (home : PutsOrKeeps eq (k, v) h b r new) where
-    pub went_home : (0 < length t.arrays.linked → 0 < length t.arrays.current) → (went other : Option (K × V)) → r ≡ Ok went → went ≡ other
-        → PutsInHome eq (k, v) hash other t new
-    went_home beside went other is same = in_home hash beside (k, v) other new (rw (own, is, same) at home)
+      (home : PutsOrKeeps eq (k, v) h b r new) (beside : 0 < length t.arrays.linked → 0 < length t.arrays.current) where
+    -- where a pair is put then is where it is put
+    pub went_home : (went other : Option (K × V)) → r ≡ Ok went → went ≡ other → PutsInHome eq (k, v) hash other t new
+    went_home went other is same =
+        let puts : PutsInHome eq (k, v) hash other b new = rw (own, is, same) at home in
+        record {
+          between = puts.between;
+          map = subst (λ (h : H). Stays eq (map_of t) (map_of (record t { hasher = h; arrays = puts.between }))) touched.map.kept.hasher
+              (stays_after eq (map_of t) (map_of b) (map_of (record b { arrays = puts.between })) touched.map puts.map);
+          moved = moves_on beside puts.between puts.moved;
+          index = puts.index;
+          home = puts.home;
+          goes = puts.goes;
+          put = puts.put;
+        }
 
     -- where it comes back
-    pub came_back : (back : NotInserted K V) → r ≡ Err back → length t.arrays.linked ≡ 0 → 0 < length t.arrays.current
-        → (new ≡ t.arrays) ⊎ (new.linked ≡ t.arrays.current)
-    came_back back is none stands =
-        let same = unmoved none in
-        let keeps = rw is at home in
-        subst (λ (z : TableView K V H). (new ≡ z.arrays) ⊎ (new.linked ≡ z.arrays.current)) same
-        (keeps (rw same none) (rw same stands))
+    pub came_back : (back : NotInserted K V) → r ≡ Err back → LeavesArray t.arrays new
+    came_back back is =
+        let leaves : LeavesArray b.arrays new = rw is at home in
+        record { between = leaves.between; moved = moves_on beside leaves.between leaves.moved; left = leaves.left }
 
   module _ (v : V) (s : TableView K V H) (r : Result (Option (K × V)) (NotInserted K V)) (puts : Puts eq k v (map_of b) r (map_of s)) where
     pub added : (went : Option (K × V)) → r ≡ Ok went → went ≡ None → Adds eq (map_of t) k v (map_of s)
@@ -83,3 +83,10 @@ module _ {K V H : Type 0} (eq : K → K → Bool) (k : K) (t b : TableView K V H
         → (◌≡◌ {A = K × V} (own, value) (k, v)) × (get eq (map_of t) k ≡ None) × Stays eq (map_of t) (map_of s)
     refused back own value is wanted =
         let parts = refused_parts back own value is wanted in ((λ i. (parts.0 i, parts.1 i)), parts.2, parts.3)
+
+    -- it came back for want of memory
+    pub for_memory : {L : Type 0} → (r ≡ Err (Memory k v) → L) → (back : NotInserted K V) (own : K) (value : V) → r ≡ Err back
+        → back ≡ Memory own value → L
+    for_memory lacks back own value is wanted =
+        let parts = refused_parts back own value is wanted in
+        lacks (is ∙ ap (λ why. Err why) wanted ∙ rw (parts.0, parts.1) refl)

@@ -1,18 +1,14 @@
 -- What calls do to a cache that put a pair where its key is absent, and something else where it is there.
-use Rattle.std.specs.Prelude.{ℕ, ◌≡◌, ◌<◌, ◌⊎◌, Bool, true, Option, Some, None, Result, Ok, Err, length}
+use Rattle.std.specs.Prelude.{ℕ, ◌≡◌, ◌⊎◌, Bool, true, Option, Some, None, Result, Ok, Err}
 use Rattle.std.specs.Borrow.{Bor}
 use Rattle.std.specs.declared.alloc.AllocFailed.{AllocFailed}
-use Rattle.bucket_table.specs.Views.ArraysView.{ArraysView, TableView}
+use Rattle.bucket_table.specs.Views.ArraysView.{TableView}
 use Rattle.collections.specs.CacheWrites.{IsTouchedAndWritten}
 use Rattle.collections.specs.Changes.{Adds, Displaces, Puts, Replaces, Stays}
 use Rattle.collections.specs.Maps.{MapView, get, map_of}
-use Rattle.collections.specs.Orders.{IsTouched, PutsInHome}
+use Rattle.collections.specs.Orders.{IsTouched, LeavesArray, PutsInHome}
 use Rattle.collections.specs.declared.hash_cache.putting.Upserted.{Upserted}
 use Rattle.collections.specs.declared.hash_cache.putting.Upserted.TheVariants.{Added, Evicted, Replaced}
-
--- where no old array stands, the array that stands is as it was, or it is the old one now
-abbrev pub LeavesArray : {K V : Type 0} → ArraysView K V → ArraysView K V → Type 0
-LeavesArray old new = length old.linked ≡ 0 → 0 < length old.current → (new ≡ old) ⊎ (new.linked ≡ old.current)
 
 module _ {K V H : Type 0} (eq : K → K → Bool) where
   -- a pair is put, and none or one goes for it, which is the answer; or its value stands beside the key that is there, and the earlier
@@ -24,7 +20,7 @@ module _ {K V H : Type 0} (eq : K → K → Bool) where
   UpsertsOrEvicts key value old (Err back) new = (back.value ≡ (key, value)) × (get eq old key ≡ None) × Stays eq old new
 
   -- a pair is put into its home, as the one touched last, after what goes for it; or the pair that is there is touched, and written;
-  -- where it comes back the array stays
+  -- where it comes back nothing else is done
   abbrev pub UpsertsInOrder : K × V → ℕ → TableView K V H → Result (Upserted K V) (AllocFailed (K × V)) → TableView K V H → Type 0
   UpsertsInOrder pair hash old (Ok Added) new = PutsInHome eq pair hash None old new.arrays
   UpsertsInOrder pair hash old (Ok (Evicted k v)) new = PutsInHome eq pair hash (Some (k, v)) old new.arrays

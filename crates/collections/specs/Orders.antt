@@ -1,5 +1,6 @@
 -- What becomes of the order of use in a cache's buckets.
 use Rattle.std.specs.Prelude.{ℕ, ◌≡◌, ◌<◌, ◌%◌, ◌⊎◌, ◌++◌, Bool, true, false, [], Option, Result, Ok, Err, length, slice_set}
+use Rattle.bucket_table.specs.declared.arrays.side.Side.{Side}
 use Rattle.bucket_table.specs.declared.arrays.side.Side.TheVariants.{Current}
 use Rattle.bucket_slots.specs.ArrayView.{bucket_at}
 use Rattle.bucket_slots.specs.BucketView.{BucketView, Place}
@@ -10,7 +11,7 @@ use Rattle.bucket_table.specs.Map.ByKey.{ChangesAt, StandsAt}
 use Rattle.bucket_table.specs.Map.Putting.{Goes, slots_left, slots_put}
 use Rattle.bucket_table.specs.Views.ArraysView.{ArraysView, TableView}
 use Rattle.bucket_table.specs.Views.Keeping.{KeepsArrays}
-use Rattle.bucket_table.specs.Views.Sides.{arrays_with}
+use Rattle.bucket_table.specs.Views.Sides.{arrays_with, bucket_on}
 use Rattle.bucket_table.specs.declared.hash_table.NotInserted.{NotInserted}
 use Rattle.collections.specs.Changes.{Stays}
 use Rattle.collections.specs.Maps.{map_of}
@@ -24,34 +25,51 @@ pub record IsTouched {K V H : Type 0} (eq : K → K → Bool) (wants : K → Boo
   pub alone : length old.arrays.linked ≡ 0 → between ≡ old
   pub touched : ChangesAt wants (slots_touched true) is_there between new
 
--- a current bucket is another one now and nothing else changes, or its array is the old one now
-abbrev pub ReplacesBucket : {K V : Type 0} → ℕ → BucketView K V → ArraysView K V → ArraysView K V → Type 0
-ReplacesBucket index bucket old new = (new ≡ arrays_with old Current index bucket) ⊎ (new.linked ≡ slice_set old.current index bucket)
+-- old pairs may move on with their order of use, and an array that stands alone stays as it is
+pub record MovesOn {K V : Type 0} (old new : ArraysView K V) : Type 0 where
+  pub carried : 0 < length old.linked → KeepsArrays old new
+  pub alone : length old.linked ≡ 0 → 0 < length old.current → new ≡ old
 
--- the map stays; old pairs may move on with their order of use, and none does where no old array stands; then a pair goes into
--- the home of its key's hash, after what goes for it, as the one touched last
+-- a bucket is another one now and nothing else changes, or its array, which stood alone, is the old one now
+abbrev pub ReplacesBucket : {K V : Type 0} → Side → ℕ → BucketView K V → ArraysView K V → ArraysView K V → Type 0
+ReplacesBucket side index bucket old new = (new ≡ arrays_with old side index bucket)
+    ⊎ ((length old.linked ≡ 0) × (new.linked ≡ slice_set old.current index bucket))
+
+-- the map stays, and old pairs may move on; then a pair goes into the home of its key's hash, after what goes for it, as the one touched
+-- last
 pub record PutsInHome {K V H : Type 0} (eq : K → K → Bool) (pair : K × V) (hash : ℕ) (gone : Option (K × V)) (old : TableView K V H)
     (new : ArraysView K V) : Type 0 where
   pub between : ArraysView K V
   pub map : Stays eq (map_of old) (map_of (record old { arrays = between }))
-  pub carried : 0 < length old.arrays.linked → KeepsArrays old.arrays between
-  pub alone : length old.arrays.linked ≡ 0 → 0 < length old.arrays.current → between ≡ old.arrays
+  pub moved : MovesOn old.arrays between
   pub index : ℕ
   pub home : IsHome (length between.current) hash index
   pub goes : Goes (bucket_at between.current index) gone
-  pub put : ReplacesBucket index (slots_put true (slots_left (bucket_at between.current index) gone) pair (hash % 256)) between new
+  pub put : ReplacesBucket Current index (slots_put true (slots_left (bucket_at between.current index) gone) pair (hash % 256)) between new
 
--- a pair is put into its home; where it comes back and no old array stands, the array that stands is as it was
+-- old pairs may move on, and an array that stands alone then may be the old one now
+pub record LeavesArray {K V : Type 0} (old new : ArraysView K V) : Type 0 where
+  pub between : ArraysView K V
+  pub moved : MovesOn old between
+  pub left : (new ≡ between) ⊎ ((length between.linked ≡ 0) × (new.linked ≡ between.current))
+
+-- a pair is put into its home, or it comes back
 abbrev pub PutsOrKeeps : {K V H : Type 0} → (K → K → Bool) → K × V → ℕ → TableView K V H → Result (Option (K × V)) (NotInserted K V)
     → ArraysView K V → Type 0
 PutsOrKeeps eq pair hash old (Ok gone) new = PutsInHome eq pair hash gone old new
-PutsOrKeeps eq pair hash old (Err why) new =
-    length old.arrays.linked ≡ 0 → 0 < length old.arrays.current → (new ≡ old.arrays) ⊎ (new.linked ≡ old.arrays.current)
+PutsOrKeeps eq pair hash old (Err why) new = LeavesArray old.arrays new
 
--- where no old array stands, the pair whose key is wanted leaves its place, if one is there, and nothing else of its array changes, or
--- no array is left, where the minimum is 0
-abbrev pub LeavesPlace : {K V : Type 0} → (K → Bool) → Bool → ArraysView K V → ArraysView K V → Type 0
-LeavesPlace wants true old new = length old.linked ≡ 0 → ((new.minimum ≡ 0) × (new.current ++ new.linked ≡ []))
-    ⊎ ((index : ℕ) × (at : Place) × StandsAt wants old Current index at
-    × ReplacesBucket index (slots_without (bucket_at old.current index) at) old new)
-LeavesPlace wants false old new = length old.linked ≡ 0 → new ≡ old
+-- the pair whose key is wanted leaves its place, if one is there, and nothing else of its array changes, or no array is left, where the
+-- minimum is 0
+abbrev pub Leaves : {K V : Type 0} → (K → Bool) → Bool → ArraysView K V → ArraysView K V → Type 0
+Leaves wants true old new = ((new.minimum ≡ 0) × (new.current ++ new.linked ≡ []))
+    ⊎ ((side : Side) × (index : ℕ) × (at : Place) × StandsAt wants old side index at
+    × ReplacesBucket side index (slots_without (bucket_on old side index) at) old new)
+Leaves wants false old new = new ≡ old
+
+-- old pairs may move on with their order of use, and none does where no old array stands; then the pair leaves its place
+pub record LeavesPlace {K V : Type 0} (wants : K → Bool) (is_there : Bool) (old new : ArraysView K V) : Type 0 where
+  pub between : ArraysView K V
+  pub carried : KeepsArrays old between
+  pub alone : length old.linked ≡ 0 → between ≡ old
+  pub left : Leaves wants is_there between new

@@ -4,7 +4,7 @@
 //! it, and answers as std's `HashMap` does.
 //!
 //! Ports scc's `src/hash_cache.rs` to an owned cache: a borrow stands where scc locks.
-ghost use Rattle.std.specs.Prelude.{◌≡◌, ◌↔◌, ◌^◌, ◌*◌, ◌-◌, ◌++◌, [], IsTrue, is_some, length, max, min};
+ghost use Rattle.std.specs.Prelude.{◌≡◌, ◌↔◌, ◌^◌, ◌*◌, ◌-◌, ◌++◌, [], Err, IsTrue, is_some, length, max, min};
 ghost use Rattle.std.specs.Borrow.{sem};
 ghost use Rattle.std.specs.Option.{option_copied};
 ghost use Rattle.bucket_slots.specs.Sizing.{IsLeastPowerOfTwo};
@@ -12,7 +12,9 @@ ghost use Rattle.bucket_slots.specs.Walking.{CallsEach};
 ghost use Rattle.bucket_table.specs.Map.Counting.{IsHeldBy};
 ghost use Rattle.bucket_table.specs.Rehash.State.{first_tickets};
 ghost use Rattle.bucket_table.specs.Views.ArraysView.{pairs_of};
+ghost use Rattle.bucket_table.specs.declared.hash_table.NotInserted.TheVariants.{Memory};
 ghost use Rattle.collections.specs.Changes.{Puts, Removes};
+ghost use Rattle.collections.specs.Crowding.{LacksRoom};
 ghost use Rattle.collections.specs.Maps.{contains_by, get_by, IsEmpty, map_len, map_of};
 
 mod changing;
@@ -22,6 +24,7 @@ mod printing;
 mod putting;
 
 use crate::default_hash::DefaultHash;
+use crate::homes::learn_refused;
 use crate::key_form::{FormProbe, KeyForm, value_by};
 use crate::room::{Fits, TableRoom};
 use crate::sizing::LEAST_CAPACITY;
@@ -235,17 +238,20 @@ impl<K: Eq + Drop, V: Drop, H: KeyHash<K>> HashCache<K, V, H> {
     /// # Errors
     ///
     /// An equal key is there; or allocation failed, and then none is: the pair comes back, and none
-    /// goes.
+    /// goes. Allocation can't fail where a map's insertion can't.
     ///
     /// O(1) expected, beside a resize. scc: `HashCache::put_sync`.
     pub fn put(&mut self, key: K, value: V) -> Result<Option<(K, V)>, NotInserted<K, V>>
         ensures map { Puts K.eq key value (map_of self.old) result (map_of self.new) }
         ensures home { PutsOrKeeps K.eq (key, value) (H.hash_of self.old.hasher key) self.old result
             self.new.arrays }
+        ensures memory { result ≡ Err (Memory key value)
+            → LacksRoom H.hash_of key (map_of self.new) }
     {
         self.room.learn();
         self.table.sound();
         let outcome = self.table.put(key, value);
+        learn_refused(&self.table, &outcome);
         self.table.sound();
         outcome
     }

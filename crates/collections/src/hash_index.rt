@@ -9,7 +9,7 @@
 //!
 //! Ports scc's `src/hash_index.rs` to an owned index: a generation that the caller hands in stands
 //! where scc asks its collector.
-ghost use Rattle.std.specs.Prelude.{◌≡◌, ◌↔◌, ◌-◌, ◌*◌, ◌^◌, [], IsTrue, is_some, length, min};
+ghost use Rattle.std.specs.Prelude.{◌≡◌, ◌↔◌, ◌-◌, ◌*◌, ◌^◌, [], Err, IsTrue, is_some, length, min};
 ghost use Rattle.std.specs.Option.{option_copied};
 ghost use Rattle.std.specs.Borrow.{Bor};
 ghost use Rattle.bucket_slots.specs.Marking.{HasNoNewMark, MarksBy};
@@ -17,7 +17,9 @@ ghost use Rattle.bucket_slots.specs.Walking.{CallsEach};
 ghost use Rattle.bucket_table.specs.Map.LookingUp.{IsThere};
 ghost use Rattle.bucket_table.specs.Rehash.State.{first_tickets};
 ghost use Rattle.bucket_table.specs.Views.ArraysView.{marks_of, pairs_of};
+ghost use Rattle.bucket_table.specs.declared.hash_table.NotInserted.TheVariants.{Memory};
 ghost use Rattle.collections.specs.Changes.{Inserts, ReadsOut, Reserves, Stays, TakesOut};
+ghost use Rattle.collections.specs.Crowding.{LacksSlots};
 ghost use Rattle.collections.specs.Maps.{contains_by, get_by, IsEmpty, map_len, map_of};
 ghost use Rattle.collections.specs.Marks.{LosesNoKeptMark, MarksRemoved};
 
@@ -26,6 +28,7 @@ mod printing;
 
 use crate::default_hash::DefaultHash;
 use crate::hash_map::NotInserted;
+use crate::homes::learn_refused;
 use crate::key_form::{FormProbe, KeyForm, value_by};
 use crate::room::{Fits, TableRoom};
 use bucket_slots::bucket::{Generation, INDEX};
@@ -175,7 +178,9 @@ impl<K: Eq + Drop, V: Drop, H: KeyHash<K>> HashIndex<K, V, H> {
     ///
     /// # Errors
     ///
-    /// An equal key is there; or allocation failed, and then none is: the pair comes back.
+    /// An equal key is there; or allocation failed, and then none is: the pair comes back. Allocation
+    /// can't fail while the index has slots, no fewer than old ones, and the pairs in the key's
+    /// bucket and the tombstones there that the generation keeps are fewer than 32.
     ///
     /// O(1) expected, beside a resize. scc: `HashIndex::insert_sync`.
     #[inline(always)]
@@ -188,10 +193,13 @@ impl<K: Eq + Drop, V: Drop, H: KeyHash<K>> HashIndex<K, V, H> {
         ensures map { Inserts K.eq key value (map_of self.old) result (map_of self.new) }
         ensures marks { HasNoNewMark (marks_of self.old.arrays) (marks_of self.new.arrays) }
         ensures kept { LosesNoKeptMark (G.keeps generation.now) self.old.arrays self.new.arrays }
+        ensures memory { result ≡ Err (Memory key value)
+            → LacksSlots (G.keeps generation.now) (H.hash_of self.new.hasher key) self.new.arrays }
     {
         self.room.learn();
         self.table.sound();
         let outcome = self.table.insert_pair(key, value, generation);
+        learn_refused(&self.table, &outcome);
         self.table.sound();
         outcome
     }

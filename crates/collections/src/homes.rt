@@ -12,9 +12,9 @@ use bucket_table::key_hash::KeyHash;
 ///
 /// O(1), and nothing where the pair was inserted.
 #[inline(always)]
-pub(crate) fn learn_refused<K: Eq, V, H: KeyHash<K>, L: LruList, const TYPE: u8>(
+pub(crate) fn learn_refused<A, K: Eq, V, H: KeyHash<K>, L: LruList, const TYPE: u8>(
     table: &HashTable<K, V, H, L, TYPE>,
-    outcome: &Result<(), NotInserted<K, V>>,
+    outcome: &Result<A, NotInserted<K, V>>,
 )
     ensures current { (key : K) (value : V) → outcome.now ≡ Err (Memory key value)
         → 0 < length table.now.arrays.current

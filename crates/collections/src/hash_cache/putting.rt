@@ -1,7 +1,8 @@
 //! Calls that put a pair into a cache where its key is absent, and do something else where it is
 //! there.
-ghost use Rattle.std.specs.Prelude.{◌≡◌, false};
+ghost use Rattle.std.specs.Prelude.{◌≡◌, OnErr, false};
 ghost use Rattle.std.specs.Borrow.{Bor};
+ghost use Rattle.collections.specs.Crowding.{LacksRoom};
 ghost use Rattle.collections.specs.Maps.{contains, map_of};
 
 use crate::hash_cache::{HashCache, NotInserted};
@@ -30,7 +31,8 @@ impl<K: Eq + Drop, V: Drop, H: KeyHash<K>> HashCache<K, V, H> {
     ///
     /// # Errors
     ///
-    /// Allocation failure, and the cache has no such key: the pair comes back, and none goes.
+    /// Allocation failure, as in `put`, and the cache has no such key: the pair comes back, and none
+    /// goes.
     ///
     /// O(1) expected, beside a resize. Own: std's `HashMap::insert`, and `put` of other caches.
     #[inline(always)]
@@ -38,6 +40,7 @@ impl<K: Eq + Drop, V: Drop, H: KeyHash<K>> HashCache<K, V, H> {
         ensures map { UpsertsOrEvicts K.eq key value (map_of self.old) result (map_of self.new) }
         ensures order { UpsertsInOrder K.eq (key, value) (H.hash_of self.old.hasher key) self.old
             result self.new }
+        ensures memory { OnErr result (LacksRoom H.hash_of key (map_of self.new)) }
     {
         if self.touch(&key) {
             return match self.peek_mut(&key) {
@@ -63,8 +66,8 @@ impl<K: Eq + Drop, V: Drop, H: KeyHash<K>> HashCache<K, V, H> {
     ///
     /// # Errors
     ///
-    /// Allocation failure, and the cache has no such key: the key comes back with what was made,
-    /// and none goes. The answer is dropped.
+    /// Allocation failure, as in `put`, and the cache has no such key: the key comes back with what
+    /// was made, and none goes. The answer is dropped.
     ///
     /// O(1) expected, beside a resize. Own.
     #[inline(always)]
@@ -76,9 +79,10 @@ impl<K: Eq + Drop, V: Drop, H: KeyHash<K>> HashCache<K, V, H> {
     ) -> Result<(R, Option<(K, V)>), AllocFailed<(K, V)>>
         requires makes { contains K.eq (map_of self.old) key ≡ false → M.pre make }
         requires reads { (value : Bor V) → F.pre reader value }
-        ensures { GetsOrInserts K.eq key (H.hash_of self.old.hasher key)
+        ensures done { GetsOrInserts K.eq key (H.hash_of self.old.hasher key)
             (λ made. M.post make made) (λ value answer. F.post reader value answer) self.old result
             self.new }
+        ensures memory { OnErr result (LacksRoom H.hash_of key (map_of self.new)) }
     {
         if self.touch(&key) {
             return match self.peek(&key) {

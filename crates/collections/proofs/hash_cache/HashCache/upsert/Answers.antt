@@ -1,5 +1,5 @@
 use Rattle.std.proofs.Common.{Some, ap}
-use Rattle.collections.proofs.Upserting.{added, displaced, refused, went_home}
+use Rattle.collections.proofs.Upserting.{added, came_back, displaced, for_memory, refused, went_home}
 use Rattle.collections.proofs.Writing.{lent_touched}
 use Rattle.collections.proofs.hash_cache.HashCache.upsert.Goals as goal
 
@@ -49,3 +49,15 @@ pub returns-in-Err-Memory-clause-map : goal.returns-in-Err-Memory-clause-map
 returns-in-Err-Memory-clause-map g c =
     refused g.K.PartialEq.eq c.args.key c.args.self.now c.touch.new.self c.if-touch.ensures.touched c.args.value c.put.new.self
     c.put.result c.put.ensures.map _ _ _ c.in-Err-Memory.is c.in-Err-Memory.field-0-is
+
+pub returns-in-Err-Memory-clause-order : goal.returns-in-Err-Memory-clause-order
+returns-in-Err-Memory-clause-order g c =
+    let touched = c.if-touch.ensures.touched in
+    came_back g.K.PartialEq.eq c.args.key c.args.self.now c.touch.new.self touched _ _
+    (ap (λ h. g.H.KeyHash.hash_of h c.args.key) touched.map.kept.hasher) c.args.value c.put.new.self.arrays c.put.result c.put.ensures.home
+    c.touch.ensures.beside _ c.in-Err-Memory.is
+
+pub returns-in-Err-Memory-clause-memory : goal.returns-in-Err-Memory-clause-memory
+returns-in-Err-Memory-clause-memory g c =
+    for_memory g.K.PartialEq.eq c.args.key c.args.self.now c.touch.new.self c.if-touch.ensures.touched c.args.value c.put.new.self
+    c.put.result c.put.ensures.map c.put.ensures.memory _ _ _ c.in-Err-Memory.is c.in-Err-Memory.field-0-is

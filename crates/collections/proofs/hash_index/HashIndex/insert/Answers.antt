@@ -2,6 +2,7 @@ use Rattle.std.proofs.Common.{◌%◌}
 use Rattle.collections.proofs.KeptMarks.{inserted_keeps}
 use Rattle.collections.proofs.Marks.{no_new-inserted}
 use Rattle.collections.proofs.Steps.{inserts}
+use Rattle.collections.proofs.Taken.{index_lacks}
 use Rattle.collections.proofs.hash_index.HashIndex.insert.Goals as goal
 
 pub returns-clause-map : goal.returns-clause-map
@@ -21,3 +22,10 @@ returns-clause-kept g c =
     let puts = c.insert_pair-outcome.ensures.arrays in
     rw (← c.self.view_is) (inserted_keeps (g.G.Generation.keeps c.args.generation.now) 79 _ _ (c.args.key, c.args.value)
     c.self.inside.table puts.between c.insert_pair-outcome.new.self c.insert_pair-outcome.result puts.answer puts.found puts.done)
+
+pub returns-clause-memory : goal.returns-clause-memory
+returns-clause-memory g c = λ is. index_lacks g.H.KeyHash.hash_of c.args.key c.self.inside.table c.insert_pair-outcome.new.self
+    c.sound-2.ensures.one_map.placed (c.learn_refused.ensures.current c.args.key c.args.value is)
+    (c.learn_refused.ensures.old c.args.key c.args.value is) (g.G.Generation.keeps c.args.generation.now) c.args.value
+    g.K.PartialEq.eq c.insert_pair-outcome.result c.args.key c.args.value c.insert_pair-outcome.ensures.map
+    c.insert_pair-outcome.ensures.arrays is

@@ -21,7 +21,7 @@ returns-in_default g c =
     c.in_default.ensures.prepared.map in
     let own = (rw (← c.self.view_is) at c.requires.hashed) ∙ ap (λ h. g.H.KeyHash.hash_of h c.args.key)
     (sym (ap (λ z. z.hasher) c.in_default.ensures.prepared.map.others)) in
-    let lacks = none_found g.H.KeyHash.hash_of c.args.key _ c.self.inside.table c.find.new.self own c.sound-in_default.ensures.one_map.placed
+    let lacks = none_found 83 g.H.KeyHash.hash_of c.args.key _ c.self.inside.table c.find.new.self own c.sound-in_default.ensures.one_map.placed
     c.learn_homes.ensures.current c.learn_homes.ensures.old c.in_default.ensures in
     rw (← c.self.view_is) ((refl, λ value is. absurd cc, (kept, lacks)), record { writes_back = tt; value = tt; pair_returned = refl })
 
@@ -36,8 +36,8 @@ returns-in-Err g c =
     let placed = rw same at c.sound-in-Err.ensures.one_map.placed in
     let none = full_there (λ mark. true) c.lock.result.table.now c.find.new.self c.lock.result.side c.in-Ok.side c.lock.result.index
     c.in-Ok.index c.lock.ensures.unchanged c.lock.ensures.side c.lock.ensures.index c.in-Err.ensures.answer.1 in
-    let lacks = found_full g.H.KeyHash.hash_of c.args.key _ c.self.inside.table c.find.new.self own placed homes.current homes.old
-    (λ mark. true) c.in-Ok.side c.in-Ok.index found.home none in
+    let lacks = found_full 83 g.H.KeyHash.hash_of c.args.key _ c.self.inside.table c.find.new.self own placed homes.current homes.old
+    (λ e. omega arith) c.in-Ok.side c.in-Ok.index found.home none in
     rw (← c.self.view_is, same)
     ((refl, λ value is. absurd cc, (kept, lacks)), record { writes_back = tt; value = tt; pair_returned = c.in-Err.ensures.answer.0 })
 

@@ -1,0 +1,155 @@
+-- An insertion into an index that ran out of memory lacked slots.
+use Rattle.std.proofs.Common.{ℕ, ◌≡◌, ◌≤◌, ◌<◌, ◌+◌, ◌%◌, ◌++◌, ◌⊎◌, Bool, true, false, if◌then◌else◌, None, Result, Ok, Err, List, [], ◌∷◌}
+use Rattle.std.proofs.Common.{filter, length, map, inl, inr, refl, sym, subst, ap, ◌∙◌, arith, length-append}
+use Rattle.std.specs.List.{list_any}
+use Rattle.std.proofs.lemmas.Bool.{cases_Bool, true≢false}
+use Rattle.std.proofs.lemmas.List.Elements.{filter-append, filter_map-append}
+use Rattle.std.proofs.lemmas.List.Sums.{sum_by-append, sum_by-cons}
+use Rattle.bucket_slots.specs.ArrayView.{bucket_at}
+use Rattle.bucket_slots.specs.BucketLaws.{IsBucketOf}
+use Rattle.bucket_slots.specs.BucketView.{BucketView, first_place, flattened, marks_in, pairs_in}
+use Rattle.bucket_slots.specs.Clearing.{is_full_with_marks, slot_without_expired, slots_without_expired}
+use Rattle.bucket_slots.specs.Homes.{IsHome}
+use Rattle.bucket_slots.specs.Slots.{Slot, free, free_len, is_free, is_marked, live, live_pairs, marked, marked_entries, marked_entry}
+use Rattle.bucket_slots.proofs.Counting.{length-live_pairs-append, tally}
+use Rattle.bucket_slots.proofs.RoomCallerLemmas.{free_len_in-none}
+use Rattle.bucket_table.specs.Map.ByKey.{HasNoSlot, Inserts, InsertsAt}
+use Rattle.bucket_table.specs.Map.Finding.{Finds, FindsThen}
+use Rattle.bucket_table.specs.Map.MapState.{KeepsPairs, state_of}
+use Rattle.bucket_table.specs.Map.Refusing.{IsRefused}
+use Rattle.bucket_table.specs.Views.ArraysView.{ArePlaced, TableView}
+use Rattle.bucket_table.specs.Views.Sides.{bucket_on, buckets_on}
+use Rattle.bucket_table.specs.declared.arrays.side.Side.{Side}
+use Rattle.bucket_table.specs.declared.arrays.side.Side.TheVariants.{Current, Old}
+use Rattle.bucket_table.specs.declared.hash_table.NotInserted.{NotInserted}
+use Rattle.bucket_table.specs.declared.hash_table.NotInserted.TheVariants.{Memory}
+use Rattle.collections.specs.Crowding.{IsTaken, KeepsHome, LacksSlots}
+use Rattle.collections.proofs.Crowding.{found_none, home_found, laws_on, old_full}
+use Rattle.collections.proofs.InsertedMarks.{kept}
+
+module _ {K V : Type 0} where
+  -- each slot of a row without a free one is live or marked
+  all_live : (slots : List (Slot K V)) → free_len slots ≡ 0 → is_full_with_marks slots ≡ false
+      → length (live_pairs slots) ≡ length slots
+  all_live [] none unmarked = refl
+  all_live (free ∷ slots) none unmarked =
+      let frees = sum_by-cons (λ (y : Slot K V). tally (is_free y)) free slots in
+      absurd (omega (arith, frees, none))
+  all_live (live pair byte ∷ slots) none unmarked =
+      let frees = sum_by-cons (λ (y : Slot K V). tally (is_free y)) (live pair byte) slots in
+      let rest = all_live slots (omega (arith, frees, none)) unmarked in
+      omega (arith, rest)
+  all_live (marked pair epoch ∷ slots) none unmarked =
+      let frees = sum_by-cons (λ (y : Slot K V). tally (is_free y)) (marked pair epoch) slots in
+      absurd (true≢false (sym (full slots (omega (arith, frees, none))) ∙ unmarked))
+    where
+      full : (slots : List (Slot K V)) → free_len slots ≡ 0 → is_full_with_marks (marked pair epoch ∷ slots) ≡ true
+      full [] none = refl
+      full (free ∷ slots) none =
+          let frees = sum_by-cons (λ (y : Slot K V). tally (is_free y)) free slots in
+          absurd (omega (arith, frees, none))
+      full (live p b ∷ slots) none =
+          let frees = sum_by-cons (λ (y : Slot K V). tally (is_free y)) (live p b) slots in
+          full slots (omega (arith, frees, none))
+      full (marked p e ∷ slots) none =
+          let frees = sum_by-cons (λ (y : Slot K V). tally (is_free y)) (marked p e) slots in
+          full slots (omega (arith, frees, none))
+
+  module _ (keeps : ℕ → Bool) where
+    -- each slot is live, or marked and kept, or free once the other marks are let go
+    parted : (slots : List (Slot K V)) → length (live_pairs slots) + length (kept keeps (marked_entries slots))
+        + free_len (map (slot_without_expired keeps) slots) ≡ length slots
+    parted [] = refl
+    parted (free ∷ slots) =
+        let frees = sum_by-cons (λ (y : Slot K V). tally (is_free y)) free (map (slot_without_expired keeps) slots) in
+        let rest = parted slots in
+        omega (arith, frees, rest)
+    parted (live pair byte ∷ slots) =
+        let frees = sum_by-cons (λ (y : Slot K V). tally (is_free y)) (live pair byte) (map (slot_without_expired keeps) slots) in
+        let rest = parted slots in
+        omega (arith, frees, rest)
+    parted (marked pair epoch ∷ slots) = elim (cases_Bool (keeps epoch)) [
+      | inl stays ↦
+          let frees = sum_by-cons (λ (y : Slot K V). tally (is_free y)) (marked pair epoch) (map (slot_without_expired keeps) slots) in
+          let rest = parted slots in
+          rw stays (omega (arith, frees, rest))
+      | inr goes ↦
+          let frees = sum_by-cons (λ (y : Slot K V). tally (is_free y)) free (map (slot_without_expired keeps) slots) in
+          let rest = parted slots in
+          rw goes (omega (arith, frees, rest))
+    ]
+
+    -- the own slots of a bucket that has no slot for an insertion
+    own_taken : (bucket : BucketView K V) (looks : Bool) → is_full_with_marks bucket.own ≡ looks
+        → first_place is_free (if looks then slots_without_expired keeps bucket else bucket) ≡ None
+        → length bucket.own ≤ length (live_pairs bucket.own) + length (kept keeps (marked_entries bucket.own))
+    own_taken bucket true is none =
+        let cleared = slots_without_expired keeps bucket in
+        let frees = sum_by-append (λ (y : Slot K V). tally (is_free y)) cleared.own (flattened cleared.chain) in
+        omega (arith, parted bucket.own, frees, free_len_in-none cleared none)
+    own_taken bucket false is none =
+        let frees = sum_by-append (λ (y : Slot K V). tally (is_free y)) bucket.own (flattened bucket.chain) in
+        let none_own : free_len bucket.own ≡ 0 = omega (arith, frees, free_len_in-none bucket none) in
+        omega (arith, all_live bucket.own none_own is)
+
+    -- its pairs and the marks that are kept take 32 slots
+    taken : (bucket : BucketView K V) → IsBucketOf 79 bucket → HasNoSlot 79 keeps bucket
+        → 32 ≤ length (pairs_in bucket) + length (kept keeps (marks_in bucket))
+    taken bucket laws none =
+        let own = own_taken bucket (is_full_with_marks bucket.own) refl none in
+        let pairs = length-live_pairs-append bucket.own (flattened bucket.chain) in
+        let marks : kept keeps (marks_in bucket) ≡ kept keeps (marked_entries bucket.own) ++ kept keeps (marked_entries (flattened bucket.chain)) =
+        ap (kept keeps) (filter_map-append marked_entry bucket.own (flattened bucket.chain))
+        ∙ filter-append (λ mark. keeps mark.1) (marked_entries bucket.own) (marked_entries (flattened bucket.chain)) in
+        let long = laws.own_long in
+        omega (
+          arith,
+          own,
+          pairs,
+          ap length marks,
+          long,
+          length-append (kept keeps (marked_entries bucket.own)) (kept keeps (marked_entries (flattened bucket.chain))),
+        )
+
+module _ {K V H : Type 0} (hash_of : H → K → ℕ) (key : K) (old new : TableView K V H) (placed : ArePlaced (hash_of new.hasher) new.arrays)
+    (current : 0 < length new.arrays.current → KeepsHome 79 (hash_of new.hasher key) new.arrays.current)
+    (linked : 0 < length new.arrays.linked → KeepsHome 79 (hash_of new.hasher key) new.arrays.linked) (keeps : ℕ → Bool) (value : V) where
+  taken_on : (side : Side) → IsTaken keeps (hash_of new.hasher key) (buckets_on new.arrays side)
+      → LacksSlots keeps (hash_of new.hasher key) new.arrays
+  unfolding LacksSlots
+  taken_on Current is = inr (inl is)
+  taken_on Old is = inr (inr is)
+
+  none_found : IsRefused 79 (hash_of new.hasher key) old new → LacksSlots keeps (hash_of new.hasher key) new.arrays
+  unfolding LacksSlots
+  none_found refused = elim (old_full 79 hash_of key (hash_of new.hasher key) old new refl placed current linked refused) [
+    | inl lacks ↦ inl lacks
+    | inr (i, home, many) ↦ inr (inr (record { index = i; home = home; many = omega (arith, many) }))
+  ]
+
+  inserted_by : (A : Type 0) (k : K) (v : V) (answer : Result (Side × ℕ) (Unit {0})) (between : TableView K V H)
+      → KeepsPairs (state_of 79 old) (state_of 79 new) → Finds 79 (hash_of old.hasher key) old answer between
+      → InsertsAt {A = A} 79 keeps (key, value) (hash_of old.hasher key % 256) between (Err (Memory k v)) answer new
+      → LacksSlots keeps (hash_of new.hasher key) new.arrays
+  inserted_by A k v (Ok at) between holds finds done =
+      let home = home_found 79 hash_of key old between new holds done.1 at.0 at.1 finds.home in
+      taken_on at.0 (record {
+        index = at.1;
+        home = home;
+        many = taken keeps (bucket_on new.arrays at.0 at.1)
+            (laws_on 79 hash_of key (hash_of new.hasher key) old new refl placed current linked at.0 at.1 home)
+            (subst (λ (t : TableView K V H). HasNoSlot 79 keeps (bucket_on t.arrays at.0 at.1)) (sym done.1) done.0);
+      })
+  inserted_by A k v (Err e) between holds refused done = none_found (found_none 79 hash_of key old between new holds done refused)
+
+  -- a pair that came back from an insertion for want of memory
+  pub index_lacks : {A : Type 0} (eq : K → K → Bool) (result : Result A (NotInserted K V)) (k : K) (v : V)
+      → Inserts eq key value (state_of 79 old) result (state_of 79 new)
+      → FindsThen 79 (hash_of old.hasher key) old
+      (λ answer between. InsertsAt 79 keeps (key, value) (hash_of old.hasher key % 256) between result answer new)
+      → result ≡ Err (Memory k v) → LacksSlots keeps (hash_of new.hasher key) new.arrays
+  index_lacks {A} eq result k v map finds is =
+      inserted_by A k v finds.answer finds.between
+      (subst (λ (r : Result A (NotInserted K V)). Inserts eq key value (state_of 79 old) r (state_of 79 new)) is map).1 finds.found
+      (subst (λ (r : Result A (NotInserted K V)).
+      InsertsAt 79 keeps (key, value) (hash_of old.hasher key % 256) finds.between r finds.answer new) is finds.done)
