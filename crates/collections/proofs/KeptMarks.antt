@@ -1,4 +1,4 @@
--- That an insertion into an index without an old array keeps each mark whose epoch its generation keeps.
+-- That an insertion into an index keeps each mark of its current array whose epoch its generation keeps.
 use Rattle.bucket_table.specs.declared.arrays.side.Side.{Side}
 use Rattle.bucket_table.specs.declared.arrays.side.Side.TheVariants.{Current, Old}
 use Rattle.std.proofs.Common.{ℕ, ◌≡◌, ◌++◌, Bool, Result, Ok, Err, List, [], ◌∷◌, filter, flat_map, length, set, inl, inr}
@@ -7,6 +7,8 @@ use Rattle.std.proofs.lemmas.Bool.{cases_lt}
 use Rattle.std.proofs.lemmas.List.Elements.{filter-append}
 use Rattle.bucket_slots.specs.ArrayView.{bucket_at}
 use Rattle.bucket_slots.specs.BucketView.{BucketView, empty_bucket, marks_in}
+use Rattle.bucket_slots.specs.Marking.{HasNoNewMark}
+use Rattle.bucket_slots.proofs.MarkCallerLemmas.{no_new-trans}
 use Rattle.bucket_table.specs.Map.ByKey.{InsertsAt}
 use Rattle.bucket_table.specs.Map.Finding.{Finds}
 use Rattle.bucket_table.specs.Rehash.Relocation.{marks_among}
@@ -19,6 +21,7 @@ use Rattle.collections.specs.Marks.{LosesNoKeptMark}
 use Rattle.collections.proofs.Found.{IsFound, found}
 use Rattle.collections.proofs.InsertedMarks.{flat_map-set, kept, kept_after_insertion}
 use Rattle.collections.proofs.RemovedMarks.{marks_of-made, marks_of-pushed}
+use Rattle.collections.proofs.StayingMarks.{found_side, in_buckets, kept_stand, on_side}
 
 filter-flat_map : {A B : Type 0} (f : A → List B) (test : B → Bool) (items : List A)
     → filter test (flat_map f items) ≡ flat_map (λ a. filter test (f a)) items
@@ -62,7 +65,7 @@ module _ {K V : Type 0} (keeps : ℕ → Bool) where
 
   module _ {H : Type 0} (kind hash byte : ℕ) (pair : K × V) (old between new : TableView K V H) where
     found_kept : {E : Type 0} (answer : Result (Side × ℕ) E) → Finds kind hash old answer between
-        → LosesNoKeptMark keeps old.arrays between.arrays
+        → length old.arrays.linked ≡ 0 → kept keeps (marks_of between.arrays) ≡ kept keeps (marks_of old.arrays)
     found_kept (Ok at) finds none =
         let is = found kind hash old.arrays at.0 at.1 between.arrays finds.found in
         ap (kept keeps) (found_marks old.arrays at.0 at.1 between.arrays is none)
@@ -77,8 +80,20 @@ module _ {K V : Type 0} (keeps : ℕ → Bool) where
     inserted_at (Err (Memory k v)) (Ok at) (full, same) = rw same refl
     inserted_at (Err (Memory k v)) (Err e) same = rw same refl
 
+    found_current : {E : Type 0} (answer : Result (Side × ℕ) E) → Finds kind hash old answer between
+        → HasNoNewMark (marks_of between.arrays) (marks_among old.arrays.current)
+    found_current (Ok at) finds =
+        let is = found kind hash old.arrays at.0 at.1 between.arrays finds.found in
+        no_new-trans _ _ _ (on_side between.arrays at.0) (found_side old.arrays at.0 at.1 is.ready between.arrays is.makes is.grown)
+    found_current (Err e) refused =
+        no_new-trans _ _ _ (on_side between.arrays Current) (in_buckets old.arrays.current between.arrays.current refused.prepared.kept.order.stay)
+
     -- what the table inserts
     pub inserted_keeps : {A : Type 0} (r : Result A (NotInserted K V)) (answer : Result (Side × ℕ) (Unit {0}))
         → Finds kind hash old answer between → InsertsAt kind keeps pair byte between r answer new
         → LosesNoKeptMark keeps old.arrays new.arrays
-    inserted_keeps r answer finds inserts none = inserted_at r answer inserts ∙ found_kept answer finds none
+    inserted_keeps r answer finds inserts = record {
+      current = λ mark has stays. kept_stand keeps (marks_of between.arrays) (marks_of new.arrays) (inserted_at r answer inserts) mark
+          ((found_current answer finds).stood mark has) stays;
+      alone = λ none. inserted_at r answer inserts ∙ found_kept answer finds none;
+    }

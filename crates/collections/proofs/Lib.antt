@@ -7,9 +7,10 @@ pub mod Crowding
 pub mod Found
 pub mod InsertedMarks
 pub mod Marks
+pub mod StayingMarks
 pub mod RemovedMarks
 pub mod KeptMarks
-pub mod Taken
+pub mod IndexRoom
 pub mod Orders
 pub mod IndexSteps
 pub mod Loans

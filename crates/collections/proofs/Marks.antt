@@ -24,7 +24,7 @@ use Rattle.collections.proofs.InsertedMarks.{kept, left_of, marks_in-slots_after
 
 module _ {K V : Type 0} where
   -- marks that are let go
-  no_new-left : (keeps : ℕ → Bool) (looks : Bool) (marks : List ((K × V) × ℕ)) → HasNoNewMark marks (left_of keeps looks marks)
+  pub no_new-left : (keeps : ℕ → Bool) (looks : Bool) (marks : List ((K × V) × ℕ)) → HasNoNewMark marks (left_of keeps looks marks)
   no_new-left keeps true marks = record {
     stood = λ mark there. All-contains (Contains marks) (kept keeps marks) mark
         (All-filter (λ mark. keeps mark.1) (Contains marks) marks (All-contains_itself marks)) there;

@@ -13,6 +13,7 @@ use Rattle.bucket_slots.specs.Slots.{Slot, free, is_live, live_pair, marked, mar
 use Rattle.bucket_slots.proofs.CallerLemmas.{flat_map-exchanged, live_is, regrouped, rotated}
 use Rattle.bucket_slots.proofs.ChangedSlots.{live_inside}
 use Rattle.bucket_slots.proofs.Entries.{rows-exchanged}
+use Rattle.bucket_slots.proofs.MarkCallerLemmas.{no_new-trans}
 use Rattle.bucket_slots.proofs.NoNewMarks.{mark_of}
 use Rattle.bucket_table.specs.Map.ByKey.{ShrinksAt}
 use Rattle.bucket_table.specs.Map.LookingUp.{IsThere}
@@ -23,6 +24,7 @@ use Rattle.bucket_table.specs.Views.ArraysView.{ArraysView, TableView, marks_of,
 use Rattle.bucket_table.specs.Views.Sides.{arrays_with, bucket_on, buckets_on}
 use Rattle.collections.specs.Marks.{AddsMark, AreEarlierMarks, MarksRemoved}
 use Rattle.collections.proofs.Shrinking.{none_left, removed_ends}
+use Rattle.collections.proofs.StayingMarks.{in_buckets, on_side}
 
 module _ {K V : Type 0} where
   -- another slot exchanges its mark for what stands there
@@ -78,8 +80,12 @@ module _ {K V : Type 0} where
 module _ {K V H : Type 0} (wants : K → Bool) (epoch hash : ℕ) (old between new : TableView K V H)
     (prepared : IsPrepared 79 hash old between) where
   earlier : AreEarlierMarks old.arrays (marks_of between.arrays)
-  earlier =
-      record { earlier = prepared.kept.keeps.marks; all = λ none. ap (λ (t : TableView K V H). marks_of t.arrays) (prepared.alone none) }
+  earlier = record {
+    earlier = prepared.kept.keeps.marks;
+    current = (no_new-trans _ _ _ (on_side between.arrays Current)
+        (in_buckets old.arrays.current between.arrays.current prepared.kept.order.stay)).stood;
+    all = λ none. ap (λ (t : TableView K V H). marks_of t.arrays) (prepared.alone none);
+  }
 
   stood : (pair : K × V) → IsThere wants (pairs_of between.arrays) pair → IsThere wants (pairs_of old.arrays) pair
   stood pair there = (

@@ -21,16 +21,16 @@ LacksRoom hash_of key map = ((map.slots ≡ 0) ⊎ (map.slots < map.old_slots))
     ⊎ (IsCrowded (hash_of map.hasher) key map.slots map.entries ⊎ IsCrowded (hash_of map.hasher) key map.old_slots map.entries)
 
 -- in an array of an index, the pairs in the bucket of a hash and the tombstones there that are kept are 32 at least
-pub record IsTaken {K V : Type 0} (keeps : ℕ → Bool) (hash : ℕ) (buckets : List (BucketView K V)) : Type 0 where
+pub record IsFull {K V : Type 0} (keeps : ℕ → Bool) (hash : ℕ) (buckets : List (BucketView K V)) : Type 0 where
   pub index : ℕ
   pub home : IsHome (length buckets) hash index
   pub many : 32 ≤ length (pairs_in (bucket_at buckets index)) + length (filter (λ mark. keeps mark.1) (marks_in (bucket_at buckets index)))
 
 -- an insertion into an index may need memory that isn't there: it has no slots, or moves to fewer slots than it had, or the hash's bucket
--- is taken, in the array or in the old one; a caller that needs it unfolds it
+-- is full, in the array or in the old one; a caller that needs it unfolds it
 unfoldable pub LacksSlots : {K V : Type 0} → (ℕ → Bool) → ℕ → ArraysView K V → Type 0
 LacksSlots keeps hash arrays = ((length arrays.current ≡ 0) ⊎ (length arrays.current < length arrays.linked))
-    ⊎ (IsTaken keeps hash arrays.current ⊎ IsTaken keeps hash arrays.linked)
+    ⊎ (IsFull keeps hash arrays.current ⊎ IsFull keeps hash arrays.linked)
 
 -- what the home of a hash keeps, a bucket of an array. No public clause cites it
 pub record KeepsHome {K V : Type 0} (kind hash : ℕ) (buckets : List (BucketView K V)) : Type 0 where

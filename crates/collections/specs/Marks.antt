@@ -1,14 +1,16 @@
 -- What becomes of the marks of an index.
 use Rattle.std.specs.Prelude.{ℕ, ◌≡◌, ◌⊎◌, ◌++◌, Bool, true, false, List, [], ◌∷◌, length}
-use Rattle.std.specs.List.{filter}
+use Rattle.std.specs.List.{Contains, filter}
 use Rattle.std.specs.List.Sorted.{IsPermutation}
 use Rattle.bucket_slots.specs.Marking.{HasNoNewMark}
 use Rattle.bucket_table.specs.Map.LookingUp.{IsThere}
+use Rattle.bucket_table.specs.Rehash.Relocation.{marks_among}
 use Rattle.bucket_table.specs.Views.ArraysView.{ArraysView, marks_of, pairs_of}
 
--- these marks are earlier ones, and all of them where no old array stands
+-- these marks are earlier ones, each of the current array among them, and all of them where no old array stands
 pub record AreEarlierMarks {K V : Type 0} (old : ArraysView K V) (marks : List ((K × V) × ℕ)) : Type 0 where
   pub earlier : HasNoNewMark (marks_of old) marks
+  pub current : (mark : (K × V) × ℕ) → Contains (marks_among old.current) mark → Contains marks mark
   pub all : length old.linked ≡ 0 → marks ≡ marks_of old
 
 -- the pair whose key is wanted is marked with the epoch, beside earlier marks
@@ -26,7 +28,7 @@ module _ {K V : Type 0} where
       AddsMark wants epoch old new ⊎ ((new.minimum ≡ 0) × (new.current ++ new.linked ≡ []))
   MarksRemoved wants epoch false old new = AreEarlierMarks old (marks_of new)
 
-  -- where no old array stands, no mark goes whose epoch the generation keeps
-  abbrev pub LosesNoKeptMark : (ℕ → Bool) → ArraysView K V → ArraysView K V → Type 0
-  LosesNoKeptMark keeps old new =
-      length old.linked ≡ 0 → filter (λ mark. keeps mark.1) (marks_of new) ≡ filter (λ mark. keeps mark.1) (marks_of old)
+  -- no mark of the current array goes whose epoch the generation keeps, and where no old array stands none goes or comes
+  pub record LosesNoKeptMark (keeps : ℕ → Bool) (old new : ArraysView K V) : Type 0 where
+    pub current : (mark : (K × V) × ℕ) → Contains (marks_among old.current) mark → keeps mark.1 ≡ true → Contains (marks_of new) mark
+    pub alone : length old.linked ≡ 0 → filter (λ mark. keeps mark.1) (marks_of new) ≡ filter (λ mark. keeps mark.1) (marks_of old)

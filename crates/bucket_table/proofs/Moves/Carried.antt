@@ -20,7 +20,7 @@ use Rattle.bucket_table.specs.Rehash.Relocation.{KeepsPlaces}
 use Rattle.bucket_table.specs.declared.arrays.moving.Landing.{Landing}
 use Rattle.bucket_table.proofs.Moves.Arriving.{with_more}
 use Rattle.bucket_table.proofs.Moves.Landings.{none_left}
-use Rattle.bucket_table.proofs.Moves.Staying.{contains_live, place_listed, stay_both, stay_same}
+use Rattle.bucket_table.proofs.Moves.Staying.{contains_at, place_listed, stay_both, stay_same}
 use Rattle.bucket_table.proofs.Views.MarksKept.{marks_alike}
 use Rattle.bucket_table.proofs.Moves.Relocating.{entries_alike}
 
@@ -177,7 +177,7 @@ module _ {K V : Type 0} where
     has_landed slot pair None below said here =
         let chain = landed.in_chain slot pair (omega (arith, below, long)) here said in (chain.0, rw (listed.each chain.0) chain.1)
     has_landed slot pair (Some at) below said here =
-        rw (listed.each at.home) (contains_live (bucket_at d at.home).own at.slot pair (landed.same_pair slot at said ∙ here))
+        rw (listed.each at.home) (contains_at live_pair refl (bucket_at d at.home).own at.slot pair (landed.same_pair slot at said ∙ here))
 
     pub carries_recency : CarriesRecency s c e
     carries_recency = record {

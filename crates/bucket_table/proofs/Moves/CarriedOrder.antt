@@ -14,7 +14,7 @@ use Rattle.bucket_table.specs.Rehash.Carrying.{CarriesOrder, CarriesPairs, has_o
 use Rattle.bucket_table.specs.Rehash.Relocation.{KeepsPlaces}
 use Rattle.bucket_table.proofs.Moves.CarriedPairs.{carries_pairs, in_chain, in_own, landing_tells, pairs_among}
 use Rattle.bucket_table.proofs.Moves.Landings.{none_left}
-use Rattle.bucket_table.proofs.Moves.Staying.{contains_live, each_listed, from_row, in_row, own_or_chain, slot_of, stay_both, stay_same}
+use Rattle.bucket_table.proofs.Moves.Staying.{contains_at, each_listed, from_row, in_row, own_or_chain, slot_of, stay_both, stay_same}
 
 filter_alike : {A : Type 0} (p q : A → Bool) (xs : List A) → All (λ x. p x ≡ q x) xs → filter p xs ≡ filter q xs
 filter_alike p q [] all = refl
@@ -99,14 +99,14 @@ module _ {K V : Type 0} where
   landed_still : (c d : List (BucketView K V)) → KeepsPlaces c d → (p : K × V) (landing : Option ℕ) → HasLanded c p landing
       → HasLanded d p landing
   landed_still c d stay p (Some j) has =
-      let (slot, here) = slot_of (bucket_at c j).own p has in
+      let (slot, here) = slot_of live_pair (bucket_at c j).own p has in
       let occupied = live_not_free (slot_at (bucket_at c j).own slot) (live_from_pair (slot_at (bucket_at c j).own slot) p here) in
-      contains_live (bucket_at d j).own slot p (ap live_pair (stay j (record { block = 0; pos = slot }) occupied) ∙ here)
+      contains_at live_pair refl (bucket_at d j).own slot p (ap live_pair (stay j (record { block = 0; pos = slot }) occupied) ∙ here)
   landed_still c d stay p None (j, has) =
-      let (i, pos, here) = in_row (bucket_at c j).chain p has in
+      let (i, pos, here) = in_row live_pair (bucket_at c j).chain p has in
       let x = slot_at (row_at (bucket_at c j).chain i) pos in
       let occupied = live_not_free x (live_from_pair x p here) in
-      (j, from_row (bucket_at d j).chain i pos p (ap live_pair (stay j (record { block = suc i; pos = pos }) occupied) ∙ here))
+      (j, from_row live_pair refl (bucket_at d j).chain i pos p (ap live_pair (stay j (record { block = suc i; pos = pos }) occupied) ∙ here))
 
   -- no two keys are equal in the one and in the other
   once_after : (eq : K → K → Bool) → IsEquivalence eq → (old new : ArraysView K V) → IsPermutation (entries_of old) (entries_of new)

@@ -7,7 +7,8 @@ use Rattle.bucket_table.proofs.Words.{true, true≢false, zero, ℕ, ◌++◌, �
 use Rattle.std.proofs.lemmas.Bool.{or_left, or_right}
 use Rattle.std.proofs.lemmas.List.{get_or_past}
 use Rattle.std.proofs.lemmas.List.Elements.{Contains-append_cases, filter_map-append}
-use Rattle.std.specs.Prelude.{is_some}
+use Rattle.std.specs.List.{cons_option}
+use Rattle.std.specs.Prelude.{filter_map, is_some}
 use Rattle.bucket_slots.proofs.BucketPlacing.{place_made}
 use Rattle.bucket_slots.specs.BucketView.{block_at, first_place, row_at, rows_with, with_slot, with_slot_at}
 use Rattle.bucket_slots.specs.Placing.{free_block, place_for_next, slots_with, with_place_made}
@@ -96,44 +97,51 @@ module _ {K V : Type 0} where
   place_listed s order zero pos = refl
   place_listed s order (suc i) pos = refl
 
-  -- a pair of a row of slots stands in one of them
-  pub slot_of : (xs : List (Slot K V)) (p : K × V) → Contains (live_pairs xs) p → (slot : ℕ) × (live_pair (slot_at xs slot) ≡ Some p)
-  slot_of [] p has = absurd (omega (arith, has.1))
-  slot_of (free ∷ xs) p has = let (slot, here) = slot_of xs p has in (suc slot, here)
-  slot_of (marked q b ∷ xs) p has = let (slot, here) = slot_of xs p has in (suc slot, here)
-  slot_of (live q b ∷ xs) p (zero, below, here) = (0, ap Some here)
-  slot_of (live q b ∷ xs) p (suc k, below, here) = let (slot, there) = slot_of xs p (k, omega arith, here) in (suc slot, there)
+  -- what some slots of a row have, as their pairs or their marks, one of them has
+  module _ {B : Type 0} (part : Slot K V → Option B) where
+    one_of : (x : Slot K V) (xs : List (Slot K V)) (p : B) (found : Option B) → part x ≡ found
+        → Contains (cons_option found (filter_map part xs)) p
+        → (Contains (filter_map part xs) p → (slot : ℕ) × (part (slot_at xs slot) ≡ Some p))
+        → (slot : ℕ) × (part (slot_at (x ∷ xs) slot) ≡ Some p)
+    one_of x xs p None is has rest = let (slot, there) = rest has in (suc slot, there)
+    one_of x xs p (Some q) is (zero, below, here) rest = (0, is ∙ ap Some here)
+    one_of x xs p (Some q) is (suc k, below, here) rest = let (slot, there) = rest (k, omega arith, here) in (suc slot, there)
 
-  pub contains_live : (xs : List (Slot K V)) (slot : ℕ) (p : K × V) → live_pair (slot_at xs slot) ≡ Some p → Contains (live_pairs xs) p
-  contains_live [] slot p here = cc
-  contains_live (free ∷ xs) zero p here = cc
-  contains_live (live q b ∷ xs) zero p here =
-      let same : q ≡ p = cc in subst (λ (r : K × V). Contains (r ∷ live_pairs xs) p) (sym same) (0, omega arith, refl)
-  contains_live (marked q b ∷ xs) zero p here = cc
-  contains_live (free ∷ xs) (suc i) p here = contains_live xs i p here
-  contains_live (live q b ∷ xs) (suc i) p here = Contains-append_right (q ∷ []) (live_pairs xs) p (contains_live xs i p here)
-  contains_live (marked q b ∷ xs) (suc i) p here = contains_live xs i p here
+    pub slot_of : (xs : List (Slot K V)) (p : B) → Contains (filter_map part xs) p → (slot : ℕ) × (part (slot_at xs slot) ≡ Some p)
+    slot_of [] p has = absurd (omega (arith, has.1))
+    slot_of (x ∷ xs) p has = one_of x xs p (part x) refl has (slot_of xs p)
 
-  -- and so does one of a chain
-  pub in_row : (rows : List (List (Slot K V))) (p : K × V) → Contains (live_pairs (flattened rows)) p
-      → (i pos : ℕ) × (live_pair (slot_at (row_at rows i) pos) ≡ Some p)
-  in_row [] p has = absurd (omega (arith, has.1))
-  in_row (row ∷ rows) p has =
-      let parts = subst (λ (ps : List (K × V)). Contains ps p) (filter_map-append live_pair row (flattened rows)) has in
-      elim (Contains-append_cases (live_pairs row) (live_pairs (flattened rows)) p parts) [
-        | inl here ↦ let (pos, is) = slot_of row p here in (0, pos, is)
-        | inr there ↦ let (i, pos, is) = in_row rows p there in (suc i, pos, is)
-      ]
+    behind : (ps : List B) (p : B) (found : Option B) → Contains ps p → Contains (cons_option found ps) p
+    behind ps p None has = has
+    behind ps p (Some q) has = Contains-append_right (q ∷ []) ps p has
 
-  pub from_row : (rows : List (List (Slot K V))) (i pos : ℕ) (p : K × V) → live_pair (slot_at (row_at rows i) pos) ≡ Some p
-      → Contains (live_pairs (flattened rows)) p
-  from_row [] i pos p here = cc
-  from_row (row ∷ rows) zero pos p here =
-      subst (λ (ps : List (K × V)). Contains ps p) (sym (filter_map-append live_pair row (flattened rows)))
-      (Contains-append_left (live_pairs row) (live_pairs (flattened rows)) p (contains_live row pos p here))
-  from_row (row ∷ rows) (suc i) pos p here =
-      subst (λ (ps : List (K × V)). Contains ps p) (sym (filter_map-append live_pair row (flattened rows)))
-      (Contains-append_right (live_pairs row) (live_pairs (flattened rows)) p (from_row rows i pos p here))
+    pub contains_at : part free ≡ None → (xs : List (Slot K V)) (slot : ℕ) (p : B) → part (slot_at xs slot) ≡ Some p
+        → Contains (filter_map part xs) p
+    contains_at none [] slot p here = cc
+    contains_at none (x ∷ xs) zero p here =
+        subst (λ (found : Option B). Contains (cons_option found (filter_map part xs)) p) (sym here) (0, omega arith, refl)
+    contains_at none (x ∷ xs) (suc i) p here = behind (filter_map part xs) p (part x) (contains_at none xs i p here)
+
+    -- and so of a chain's
+    pub in_row : (rows : List (List (Slot K V))) (p : B) → Contains (filter_map part (flattened rows)) p
+        → (i pos : ℕ) × (part (slot_at (row_at rows i) pos) ≡ Some p)
+    in_row [] p has = absurd (omega (arith, has.1))
+    in_row (row ∷ rows) p has =
+        let parts = subst (λ (ps : List B). Contains ps p) (filter_map-append part row (flattened rows)) has in
+        elim (Contains-append_cases (filter_map part row) (filter_map part (flattened rows)) p parts) [
+          | inl here ↦ let (pos, is) = slot_of row p here in (0, pos, is)
+          | inr there ↦ let (i, pos, is) = in_row rows p there in (suc i, pos, is)
+        ]
+
+    pub from_row : part free ≡ None → (rows : List (List (Slot K V))) (i pos : ℕ) (p : B) → part (slot_at (row_at rows i) pos) ≡ Some p
+        → Contains (filter_map part (flattened rows)) p
+    from_row none [] i pos p here = cc
+    from_row none (row ∷ rows) zero pos p here =
+        subst (λ (ps : List B). Contains ps p) (sym (filter_map-append part row (flattened rows)))
+        (Contains-append_left (filter_map part row) (filter_map part (flattened rows)) p (contains_at none row pos p here))
+    from_row none (row ∷ rows) (suc i) pos p here =
+        subst (λ (ps : List B). Contains ps p) (sym (filter_map-append part row (flattened rows)))
+        (Contains-append_right (filter_map part row) (filter_map part (flattened rows)) p (from_row none rows i pos p here))
 
   -- a pair of a bucket stands in an own slot or in the chain
   pub own_or_chain : (b : BucketView K V) (p : K × V) → Contains (pairs_in b) p → Contains (live_pairs b.own) p ⊎ StandsInChain b p

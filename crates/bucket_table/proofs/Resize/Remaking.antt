@@ -1,6 +1,6 @@
 -- All pairs in one array of another length: what the moves on the way leave.
 use Rattle.bucket_table.proofs.Words.{AreArrays, ArePlaced, ArraysView, Bool, Err, IsEquivalence, IsOneMap, KeepsArrays, KeepsPairs, List, Ok, OnOk}
-use Rattle.bucket_table.proofs.Words.{Result, TicketState, [], ap, arith, first_tickets, inl, inr, length, refl, subst, sym, true, ℕ, ◌/◌, ◌∙◌, ◌≡◌}
+use Rattle.bucket_table.proofs.Words.{Result, TicketState, [], ap, arith, first_tickets, inl, inr, length, refl, subst, sym, ℕ, ◌/◌, ◌∙◌, ◌≡◌}
 use Rattle.std.proofs.Common.{max}
 use Rattle.std.specs.Prelude.{IsErr, OnErr}
 use Rattle.bucket_slots.specs.Sizing.{IsLengthFor}
@@ -9,7 +9,7 @@ use Rattle.bucket_table.specs.Map.MapState.{state_of}
 use Rattle.bucket_table.specs.Rehash.Carrying.{CarriesOrder}
 use Rattle.bucket_table.specs.Rehash.State.{IsTicketState}
 use Rattle.bucket_table.specs.Rehash.Units.{WantsMemory}
-use Rattle.bucket_table.specs.Resize.Remaking.{CarriesOrderTo, IsSettledAt, RehashesTo, unopened}
+use Rattle.bucket_table.specs.Resize.Remaking.{IsSettledAt, RehashesTo, unopened}
 use Rattle.bucket_table.specs.Resize.Resizing.{IsPushed}
 use Rattle.bucket_table.proofs.Map.MapKept.{one_map_kept, state_found}
 use Rattle.bucket_table.proofs.Resize.Following.{pushed_keeps}

@@ -2,7 +2,7 @@ use Rattle.std.proofs.Common.{◌%◌}
 use Rattle.collections.proofs.KeptMarks.{inserted_keeps}
 use Rattle.collections.proofs.Marks.{no_new-inserted}
 use Rattle.collections.proofs.Steps.{inserts}
-use Rattle.collections.proofs.Taken.{index_lacks}
+use Rattle.collections.proofs.IndexRoom.{index_lacks}
 use Rattle.collections.proofs.hash_index.HashIndex.insert.Goals as goal
 
 pub returns-clause-map : goal.returns-clause-map

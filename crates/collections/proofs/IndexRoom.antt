@@ -23,37 +23,31 @@ use Rattle.bucket_table.specs.declared.arrays.side.Side.{Side}
 use Rattle.bucket_table.specs.declared.arrays.side.Side.TheVariants.{Current, Old}
 use Rattle.bucket_table.specs.declared.hash_table.NotInserted.{NotInserted}
 use Rattle.bucket_table.specs.declared.hash_table.NotInserted.TheVariants.{Memory}
-use Rattle.collections.specs.Crowding.{IsTaken, KeepsHome, LacksSlots}
+use Rattle.collections.specs.Crowding.{IsFull, KeepsHome, LacksSlots}
 use Rattle.collections.proofs.Crowding.{found_none, home_found, laws_on, old_full}
 use Rattle.collections.proofs.InsertedMarks.{kept}
 
 module _ {K V : Type 0} where
-  -- each slot of a row without a free one is live or marked
+  frees : (x : Slot K V) (slots : List (Slot K V)) → free_len (x ∷ slots) ≡ tally (is_free x) + free_len slots
+  frees x slots = sum_by-cons (λ (y : Slot K V). tally (is_free y)) x slots
+
+  none_free : (slots : List (Slot K V)) → free_len slots ≡ 0 → list_any is_free slots ≡ false
+  none_free [] none = refl
+  none_free (free ∷ slots) none = absurd (omega (arith, frees free slots, none))
+  none_free (live pair byte ∷ slots) none = none_free slots (omega (arith, frees (live pair byte) slots, none))
+  none_free (marked pair epoch ∷ slots) none = none_free slots (omega (arith, frees (marked pair epoch) slots, none))
+
+  -- in a row without a free slot and a mark each is live
   all_live : (slots : List (Slot K V)) → free_len slots ≡ 0 → is_full_with_marks slots ≡ false
       → length (live_pairs slots) ≡ length slots
   all_live [] none unmarked = refl
-  all_live (free ∷ slots) none unmarked =
-      let frees = sum_by-cons (λ (y : Slot K V). tally (is_free y)) free slots in
-      absurd (omega (arith, frees, none))
+  all_live (free ∷ slots) none unmarked = absurd (omega (arith, frees free slots, none))
   all_live (live pair byte ∷ slots) none unmarked =
-      let frees = sum_by-cons (λ (y : Slot K V). tally (is_free y)) (live pair byte) slots in
-      let rest = all_live slots (omega (arith, frees, none)) unmarked in
+      let rest = all_live slots (omega (arith, frees (live pair byte) slots, none)) unmarked in
       omega (arith, rest)
   all_live (marked pair epoch ∷ slots) none unmarked =
-      let frees = sum_by-cons (λ (y : Slot K V). tally (is_free y)) (marked pair epoch) slots in
-      absurd (true≢false (sym (full slots (omega (arith, frees, none))) ∙ unmarked))
-    where
-      full : (slots : List (Slot K V)) → free_len slots ≡ 0 → is_full_with_marks (marked pair epoch ∷ slots) ≡ true
-      full [] none = refl
-      full (free ∷ slots) none =
-          let frees = sum_by-cons (λ (y : Slot K V). tally (is_free y)) free slots in
-          absurd (omega (arith, frees, none))
-      full (live p b ∷ slots) none =
-          let frees = sum_by-cons (λ (y : Slot K V). tally (is_free y)) (live p b) slots in
-          full slots (omega (arith, frees, none))
-      full (marked p e ∷ slots) none =
-          let frees = sum_by-cons (λ (y : Slot K V). tally (is_free y)) (marked p e) slots in
-          full slots (omega (arith, frees, none))
+      let others = none_free slots (omega (arith, frees (marked pair epoch) slots, none)) in
+      absurd (true≢false (rw others at unmarked))
 
   module _ (keeps : ℕ → Bool) where
     -- each slot is live, or marked and kept, or free once the other marks are let go
@@ -61,42 +55,38 @@ module _ {K V : Type 0} where
         + free_len (map (slot_without_expired keeps) slots) ≡ length slots
     parted [] = refl
     parted (free ∷ slots) =
-        let frees = sum_by-cons (λ (y : Slot K V). tally (is_free y)) free (map (slot_without_expired keeps) slots) in
         let rest = parted slots in
-        omega (arith, frees, rest)
+        omega (arith, frees free (map (slot_without_expired keeps) slots), rest)
     parted (live pair byte ∷ slots) =
-        let frees = sum_by-cons (λ (y : Slot K V). tally (is_free y)) (live pair byte) (map (slot_without_expired keeps) slots) in
         let rest = parted slots in
-        omega (arith, frees, rest)
+        omega (arith, frees (live pair byte) (map (slot_without_expired keeps) slots), rest)
     parted (marked pair epoch ∷ slots) = elim (cases_Bool (keeps epoch)) [
       | inl stays ↦
-          let frees = sum_by-cons (λ (y : Slot K V). tally (is_free y)) (marked pair epoch) (map (slot_without_expired keeps) slots) in
           let rest = parted slots in
-          rw stays (omega (arith, frees, rest))
+          rw stays (omega (arith, frees (marked pair epoch) (map (slot_without_expired keeps) slots), rest))
       | inr goes ↦
-          let frees = sum_by-cons (λ (y : Slot K V). tally (is_free y)) free (map (slot_without_expired keeps) slots) in
           let rest = parted slots in
-          rw goes (omega (arith, frees, rest))
+          rw goes (omega (arith, frees free (map (slot_without_expired keeps) slots), rest))
     ]
 
     -- the own slots of a bucket that has no slot for an insertion
-    own_taken : (bucket : BucketView K V) (looks : Bool) → is_full_with_marks bucket.own ≡ looks
+    own_full : (bucket : BucketView K V) (looks : Bool) → is_full_with_marks bucket.own ≡ looks
         → first_place is_free (if looks then slots_without_expired keeps bucket else bucket) ≡ None
         → length bucket.own ≤ length (live_pairs bucket.own) + length (kept keeps (marked_entries bucket.own))
-    own_taken bucket true is none =
+    own_full bucket true is none =
         let cleared = slots_without_expired keeps bucket in
         let frees = sum_by-append (λ (y : Slot K V). tally (is_free y)) cleared.own (flattened cleared.chain) in
         omega (arith, parted bucket.own, frees, free_len_in-none cleared none)
-    own_taken bucket false is none =
+    own_full bucket false is none =
         let frees = sum_by-append (λ (y : Slot K V). tally (is_free y)) bucket.own (flattened bucket.chain) in
         let none_own : free_len bucket.own ≡ 0 = omega (arith, frees, free_len_in-none bucket none) in
         omega (arith, all_live bucket.own none_own is)
 
     -- its pairs and the marks that are kept take 32 slots
-    taken : (bucket : BucketView K V) → IsBucketOf 79 bucket → HasNoSlot 79 keeps bucket
+    full : (bucket : BucketView K V) → IsBucketOf 79 bucket → HasNoSlot 79 keeps bucket
         → 32 ≤ length (pairs_in bucket) + length (kept keeps (marks_in bucket))
-    taken bucket laws none =
-        let own = own_taken bucket (is_full_with_marks bucket.own) refl none in
+    full bucket laws none =
+        let own = own_full bucket (is_full_with_marks bucket.own) refl none in
         let pairs = length-live_pairs-append bucket.own (flattened bucket.chain) in
         let marks : kept keeps (marks_in bucket) ≡ kept keeps (marked_entries bucket.own) ++ kept keeps (marked_entries (flattened bucket.chain)) =
         ap (kept keeps) (filter_map-append marked_entry bucket.own (flattened bucket.chain))
@@ -114,11 +104,11 @@ module _ {K V : Type 0} where
 module _ {K V H : Type 0} (hash_of : H → K → ℕ) (key : K) (old new : TableView K V H) (placed : ArePlaced (hash_of new.hasher) new.arrays)
     (current : 0 < length new.arrays.current → KeepsHome 79 (hash_of new.hasher key) new.arrays.current)
     (linked : 0 < length new.arrays.linked → KeepsHome 79 (hash_of new.hasher key) new.arrays.linked) (keeps : ℕ → Bool) (value : V) where
-  taken_on : (side : Side) → IsTaken keeps (hash_of new.hasher key) (buckets_on new.arrays side)
+  full_on : (side : Side) → IsFull keeps (hash_of new.hasher key) (buckets_on new.arrays side)
       → LacksSlots keeps (hash_of new.hasher key) new.arrays
   unfolding LacksSlots
-  taken_on Current is = inr (inl is)
-  taken_on Old is = inr (inr is)
+  full_on Current is = inr (inl is)
+  full_on Old is = inr (inr is)
 
   none_found : IsRefused 79 (hash_of new.hasher key) old new → LacksSlots keeps (hash_of new.hasher key) new.arrays
   unfolding LacksSlots
@@ -133,10 +123,10 @@ module _ {K V H : Type 0} (hash_of : H → K → ℕ) (key : K) (old new : Table
       → LacksSlots keeps (hash_of new.hasher key) new.arrays
   inserted_by A k v (Ok at) between holds finds done =
       let home = home_found 79 hash_of key old between new holds done.1 at.0 at.1 finds.home in
-      taken_on at.0 (record {
+      full_on at.0 (record {
         index = at.1;
         home = home;
-        many = taken keeps (bucket_on new.arrays at.0 at.1)
+        many = full keeps (bucket_on new.arrays at.0 at.1)
             (laws_on 79 hash_of key (hash_of new.hasher key) old new refl placed current linked at.0 at.1 home)
             (subst (λ (t : TableView K V H). HasNoSlot 79 keeps (bucket_on t.arrays at.0 at.1)) (sym done.1) done.0);
       })
