@@ -23,7 +23,7 @@ use Rattle.bucket_table.specs.declared.hash_table.NotInserted.TheVariants.{Memor
 use Rattle.bucket_table.proofs.Map.MapKept.{state_found}
 use Rattle.collections.specs.Changes.{Stays}
 use Rattle.collections.specs.Maps.{map_of}
-use Rattle.collections.specs.Orders.{Leaves, LeavesArray, LeavesPlace, MovesOn, PutsOrKeeps, ReplacesBucket}
+use Rattle.collections.specs.Orders.{Leaves, LeavesArray, LeavesPlace, PutsOrKeeps, ReplacesBucket}
 use Rattle.collections.proofs.Found.{IsFound, found, ready_keeps, same_buckets}
 use Rattle.collections.proofs.Lookups.{distinct_permuted}
 use Rattle.collections.proofs.Shrinking.{none_left, removed_ends}
@@ -36,13 +36,15 @@ module _ {K V : Type 0} where
   replaced Old index bucket ready between new (capacity, pushed) is = inr (pushed.alone, rw (is, pushed.new_is) refl)
   replaced Current index bucket ready between new same is = inl (rw same at is)
 
-  ready_moves : (old : ArraysView K V) (index : ℕ) (ready : ArraysView K V) → MakesReady old index ready → MovesOn old ready
-  ready_moves old index ready makes = record { carried = makes.beside; alone = λ none stands. (makes.first none).0 stands }
-
   -- a bucket that was found, and in which nothing is done
   found_leaves : (old : ArraysView K V) (side : Side) (index : ℕ) (new : ArraysView K V) → IsFound old side index new → LeavesArray old new
   found_leaves old side index new is =
-      record { between = is.ready; moved = ready_moves old index is.ready is.makes; left = grown side is.grown }
+      record {
+        between = is.ready;
+        carried = is.makes.beside;
+        alone = λ none stands. (is.makes.first none).0 stands;
+        left = grown side is.grown;
+      }
     where
       grown : (side : Side) → Grows side is.ready new → (new ≡ is.ready) ⊎ ((length is.ready.linked ≡ 0) × (new.linked ≡ is.ready.current))
       grown Old (capacity, pushed) = inr (pushed.alone, rw pushed.new_is refl)
@@ -60,10 +62,8 @@ module _ {K V H : Type 0} (hash : ℕ) (old new : TableView K V H) where
     none_leaves : (between : TableView K V H) → IsRefused 67 hash old between → LeavesArray old.arrays between.arrays
     none_leaves between refused = record {
       between = between.arrays;
-      moved = record {
-        carried = λ some. refused.prepared.kept;
-        alone = λ none stands. ap (λ (t : TableView K V H). t.arrays) (refused.prepared.alone none);
-      };
+      carried = λ some. refused.prepared.kept;
+      alone = λ none stands. ap (λ (t : TableView K V H). t.arrays) (refused.prepared.alone none);
       left = inl refl;
     }
 
@@ -79,7 +79,8 @@ module _ {K V H : Type 0} (hash : ℕ) (old new : TableView K V H) where
         record {
           between = is.ready;
           map = ready_stays at.1 is.ready is.makes;
-          moved = ready_moves old.arrays at.1 is.ready is.makes;
+          carried = is.makes.beside;
+          first = is.makes.first;
           index = at.1;
           home = subst (λ bs. IsHome (length bs) hash at.1) same finds.home;
           goes = subst (λ bucket. Goes bucket went) here puts.0;

@@ -2,6 +2,7 @@
 use Rattle.std.proofs.Common.{ℕ, ◌≡◌, ◌<◌, inl, inr, Bool, false, Option, None, Some, Result, Ok, Err, length}
 use Rattle.std.proofs.Common.{refl, sym, ap, subst, ◌∙◌, arith}
 use Rattle.std.proofs.lemmas.Bool.{cases_lt}
+use Rattle.bucket_table.specs.Resize.Resizing.{MakesArray}
 use Rattle.bucket_table.specs.Views.ArraysView.{ArraysView, TableView}
 use Rattle.bucket_table.specs.Views.Keeping.{KeepsArrays}
 use Rattle.bucket_table.specs.declared.hash_table.NotInserted.{NotInserted}
@@ -9,7 +10,7 @@ use Rattle.bucket_table.specs.declared.hash_table.NotInserted.TheVariants.{Memor
 use Rattle.bucket_table.proofs.Views.Keeping.{kept_both}
 use Rattle.collections.specs.Changes.{Adds, Displaces, Puts, Stays}
 use Rattle.collections.specs.Maps.{get, map_of}
-use Rattle.collections.specs.Orders.{IsTouched, LeavesArray, MovesOn, PutsInHome, PutsOrKeeps}
+use Rattle.collections.specs.Orders.{IsTouched, LeavesArray, PutsInHome, PutsOrKeeps}
 use Rattle.collections.proofs.Staying.{adds_after, displaces_after, stays_after}
 
 module _ {K V H : Type 0} (eq : K → K → Bool) (k : K) (t b : TableView K V H) (touched : IsTouched eq (eq k) false t b) where
@@ -19,19 +20,16 @@ module _ {K V H : Type 0} (eq : K → K → Bool) (k : K) (t b : TableView K V H
   unmoved : length t.arrays.linked ≡ 0 → b ≡ t
   unmoved none = touched.touched ∙ touched.alone none
 
-  -- what moves on then moves on
-  moves_on : (0 < length t.arrays.linked → 0 < length t.arrays.current) → (new : ArraysView K V) → MovesOn b.arrays new → MovesOn t.arrays new
-  moves_on beside new moves = record {
-    carried = λ stands. elim (cases_lt 0 (length b.arrays.linked)) [
-      | inl some ↦ kept_both t.arrays b.arrays new moved (moves.carried some)
-      | inr none ↦
-          let same = moves.alone (omega (arith, none)) (omega (arith, moved.current_len, beside stands)) in
-          rw same moved
-    ];
-    alone = λ none stands.
-        let is = unmoved none in
-        moves.alone (rw is none) (rw is stands) ∙ ap (λ (z : TableView K V H). z.arrays) is;
-  }
+  -- pairs that move on then move on, and an array that stays then, where none is left to move, is the one with which they came
+  carried_on : (0 < length t.arrays.linked → 0 < length t.arrays.current) → (new : ArraysView K V)
+      → (0 < length b.arrays.linked → KeepsArrays b.arrays new) → (length b.arrays.linked ≡ 0 → 0 < length b.arrays.current → new ≡ b.arrays)
+      → 0 < length t.arrays.linked → KeepsArrays t.arrays new
+  carried_on beside new carried alone stands = elim (cases_lt 0 (length b.arrays.linked)) [
+    | inl some ↦ kept_both t.arrays b.arrays new moved (carried some)
+    | inr none ↦
+        let same = alone (omega (arith, none)) (omega (arith, moved.current_len, beside stands)) in
+        rw same moved
+  ]
 
   module _ (h hash : ℕ) (own : h ≡ hash) (v : V) (new : ArraysView K V) (r : Result (Option (K × V)) (NotInserted K V))
       (home : PutsOrKeeps eq (k, v) h b r new) (beside : 0 < length t.arrays.linked → 0 < length t.arrays.current) where
@@ -43,7 +41,10 @@ module _ {K V H : Type 0} (eq : K → K → Bool) (k : K) (t b : TableView K V H
           between = puts.between;
           map = subst (λ (h : H). Stays eq (map_of t) (map_of (record t { hasher = h; arrays = puts.between }))) touched.map.kept.hasher
               (stays_after eq (map_of t) (map_of b) (map_of (record b { arrays = puts.between })) touched.map puts.map);
-          moved = moves_on beside puts.between puts.moved;
+          carried = carried_on beside puts.between puts.carried (λ none stands. (puts.first none).0 stands);
+          first = λ none.
+              let is = unmoved none in
+              subst (λ (z : TableView K V H). MakesArray z.arrays puts.between) is (puts.first (rw is none));
           index = puts.index;
           home = puts.home;
           goes = puts.goes;
@@ -54,7 +55,14 @@ module _ {K V H : Type 0} (eq : K → K → Bool) (k : K) (t b : TableView K V H
     pub came_back : (back : NotInserted K V) → r ≡ Err back → LeavesArray t.arrays new
     came_back back is =
         let leaves : LeavesArray b.arrays new = rw is at home in
-        record { between = leaves.between; moved = moves_on beside leaves.between leaves.moved; left = leaves.left }
+        record {
+          between = leaves.between;
+          carried = carried_on beside leaves.between leaves.carried leaves.alone;
+          alone = λ none stands.
+              let is = unmoved none in
+              leaves.alone (rw is none) (rw is stands) ∙ ap (λ (z : TableView K V H). z.arrays) is;
+          left = leaves.left;
+        }
 
   module _ (v : V) (s : TableView K V H) (r : Result (Option (K × V)) (NotInserted K V)) (puts : Puts eq k v (map_of b) r (map_of s)) where
     pub added : (went : Option (K × V)) → r ≡ Ok went → went ≡ None → Adds eq (map_of t) k v (map_of s)

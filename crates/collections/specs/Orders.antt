@@ -9,6 +9,7 @@ use Rattle.bucket_slots.specs.Homes.{IsHome}
 use Rattle.bucket_slots.specs.Removing.{slots_without}
 use Rattle.bucket_table.specs.Map.ByKey.{ChangesAt, StandsAt}
 use Rattle.bucket_table.specs.Map.Putting.{Goes, slots_left, slots_put}
+use Rattle.bucket_table.specs.Resize.Resizing.{MakesArray}
 use Rattle.bucket_table.specs.Views.ArraysView.{ArraysView, TableView}
 use Rattle.bucket_table.specs.Views.Keeping.{KeepsArrays}
 use Rattle.bucket_table.specs.Views.Sides.{arrays_with, bucket_on}
@@ -25,32 +26,29 @@ pub record IsTouched {K V H : Type 0} (eq : K → K → Bool) (wants : K → Boo
   pub alone : length old.arrays.linked ≡ 0 → between ≡ old
   pub touched : ChangesAt wants (slots_touched true) is_there between new
 
--- old pairs may move on with their order of use, and an array that stands alone stays as it is
-pub record MovesOn {K V : Type 0} (old new : ArraysView K V) : Type 0 where
-  pub carried : 0 < length old.linked → KeepsArrays old new
-  pub alone : length old.linked ≡ 0 → 0 < length old.current → new ≡ old
-
 -- a bucket is another one now and nothing else changes, or its array, which stood alone, is the old one now
 abbrev pub ReplacesBucket : {K V : Type 0} → Side → ℕ → BucketView K V → ArraysView K V → ArraysView K V → Type 0
 ReplacesBucket side index bucket old new = (new ≡ arrays_with old side index bucket)
     ⊎ ((length old.linked ≡ 0) × (new.linked ≡ slice_set old.current index bucket))
 
--- the map stays, and old pairs may move on; then a pair goes into the home of its key's hash, after what goes for it, as the one touched
--- last
+-- the map stays; old pairs may move on with their order of use, and where no old array stands, none does, and a first array is made if none
+-- stands; then a pair goes into the home of its key's hash, after what goes for it, as the one touched last
 pub record PutsInHome {K V H : Type 0} (eq : K → K → Bool) (pair : K × V) (hash : ℕ) (gone : Option (K × V)) (old : TableView K V H)
     (new : ArraysView K V) : Type 0 where
   pub between : ArraysView K V
   pub map : Stays eq (map_of old) (map_of (record old { arrays = between }))
-  pub moved : MovesOn old.arrays between
+  pub carried : 0 < length old.arrays.linked → KeepsArrays old.arrays between
+  pub first : length old.arrays.linked ≡ 0 → MakesArray old.arrays between
   pub index : ℕ
   pub home : IsHome (length between.current) hash index
   pub goes : Goes (bucket_at between.current index) gone
   pub put : ReplacesBucket Current index (slots_put true (slots_left (bucket_at between.current index) gone) pair (hash % 256)) between new
 
--- old pairs may move on, and an array that stands alone then may be the old one now
+-- old pairs may move on, and an array that stands alone stays; then it may be the old one now
 pub record LeavesArray {K V : Type 0} (old new : ArraysView K V) : Type 0 where
   pub between : ArraysView K V
-  pub moved : MovesOn old between
+  pub carried : 0 < length old.linked → KeepsArrays old between
+  pub alone : length old.linked ≡ 0 → 0 < length old.current → between ≡ old
   pub left : (new ≡ between) ⊎ ((length between.linked ≡ 0) × (new.linked ≡ between.current))
 
 -- a pair is put into its home, or it comes back

@@ -70,7 +70,7 @@ impl<K: Eq, V, H: KeyHash<K>> HashCache<K, V, H> {
         ensures hasher { result.hasher ≡ hasher }
         ensures minimum { result.arrays.minimum ≡ 0 }
         ensures maximum { result.arrays.maximum ≡ 256 }
-        ensures slots { length result.arrays.current ≡ 0 }
+        ensures slots { (length result.arrays.current ≡ 0) × (length result.arrays.linked ≡ 0) }
     {
         HashCache {
             table: HashTable::new(alloc, hasher, 0, DEFAULT_MAXIMUM_CAPACITY),
@@ -90,7 +90,7 @@ impl<K: Eq, V, H: KeyHash<K>> HashCache<K, V, H> {
         ensures minimum { result.arrays.minimum ≡ min minimum (2 ^ 63) }
         ensures maximum { IsLeastPowerOfTwo (min (max (max maximum minimum) 64) (2 ^ 63))
             result.arrays.maximum }
-        ensures slots { length result.arrays.current ≡ 0 }
+        ensures slots { (length result.arrays.current ≡ 0) × (length result.arrays.linked ≡ 0) }
     {
         let least = minimum.min(MAXIMUM_CAPACITY_LIMIT);
         let greatest = maximum
@@ -115,7 +115,7 @@ impl<K: Eq, V, H: KeyHash<K>> HashCache<K, V, H> {
         ensures hasher { result.hasher ≡ hasher }
         ensures minimum { result.arrays.minimum ≡ result.arrays.maximum }
         ensures maximum { IsLeastPowerOfTwo (min (max slots 64) (2 ^ 63)) result.arrays.maximum }
-        ensures slots { length result.arrays.current ≡ 0 }
+        ensures slots { (length result.arrays.current ≡ 0) × (length result.arrays.linked ≡ 0) }
     {
         let size = slots
             .max(LEAST_CAPACITY)
@@ -298,7 +298,7 @@ impl<K: Eq + Hash, V> HashCache<K, V, DefaultHash> {
         ensures empty { IsEmpty (map_of result) }
         ensures minimum { result.arrays.minimum ≡ 0 }
         ensures maximum { result.arrays.maximum ≡ 256 }
-        ensures slots { length result.arrays.current ≡ 0 }
+        ensures slots { (length result.arrays.current ≡ 0) × (length result.arrays.linked ≡ 0) }
     {
         Self::with_hasher(alloc, StdHash::new(BuildHasherDefault::new()))
     }
@@ -314,7 +314,7 @@ impl<K: Eq + Hash, V> HashCache<K, V, StdHash<RandomState>> {
         ensures hasher { result.hasher.builder ≡ state }
         ensures minimum { result.arrays.minimum ≡ 0 }
         ensures maximum { result.arrays.maximum ≡ 256 }
-        ensures slots { length result.arrays.current ≡ 0 }
+        ensures slots { (length result.arrays.current ≡ 0) × (length result.arrays.linked ≡ 0) }
     {
         Self::with_hasher(alloc, StdHash::new(state))
     }

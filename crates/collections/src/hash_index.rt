@@ -67,7 +67,7 @@ impl<K: Eq, V, H: KeyHash<K>> HashIndex<K, V, H> {
         ensures hasher { result.hasher ≡ hasher }
         ensures minimum { result.arrays.minimum ≡ 0 }
         ensures maximum { result.arrays.maximum ≡ 2 ^ 63 }
-        ensures slots { length result.arrays.current ≡ 0 }
+        ensures slots { (length result.arrays.current ≡ 0) × (length result.arrays.linked ≡ 0) }
     {
         Self::with_minimum(alloc, hasher, 0)
     }
@@ -83,7 +83,7 @@ impl<K: Eq, V, H: KeyHash<K>> HashIndex<K, V, H> {
         ensures hasher { result.hasher ≡ hasher }
         ensures minimum { result.arrays.minimum ≡ min slots (2 ^ 63) }
         ensures maximum { result.arrays.maximum ≡ 2 ^ 63 }
-        ensures slots { length result.arrays.current ≡ 0 }
+        ensures slots { (length result.arrays.current ≡ 0) × (length result.arrays.linked ≡ 0) }
     {
         let minimum = slots.min(MAXIMUM_CAPACITY_LIMIT);
         HashIndex {
@@ -309,7 +309,7 @@ impl<K: Eq + Hash, V> HashIndex<K, V, DefaultHash> {
         ensures unmarked { marks_of result.arrays ≡ [] }
         ensures minimum { result.arrays.minimum ≡ 0 }
         ensures maximum { result.arrays.maximum ≡ 2 ^ 63 }
-        ensures slots { length result.arrays.current ≡ 0 }
+        ensures slots { (length result.arrays.current ≡ 0) × (length result.arrays.linked ≡ 0) }
     {
         Self::with_hasher(alloc, StdHash::new(BuildHasherDefault::new()))
     }
@@ -326,7 +326,7 @@ impl<K: Eq + Hash, V> HashIndex<K, V, StdHash<RandomState>> {
         ensures hasher { result.hasher.builder ≡ state }
         ensures minimum { result.arrays.minimum ≡ 0 }
         ensures maximum { result.arrays.maximum ≡ 2 ^ 63 }
-        ensures slots { length result.arrays.current ≡ 0 }
+        ensures slots { (length result.arrays.current ≡ 0) × (length result.arrays.linked ≡ 0) }
     {
         Self::with_hasher(alloc, StdHash::new(state))
     }
