@@ -83,8 +83,8 @@ size_t bucket_len(bucket_handle *handle);
 /* Drops all pairs and slots; the seed and the capacity stay. OK, CLOSED. O(n). */
 uint32_t bucket_clear(bucket_handle *handle);
 
-/* Makes room for so many more pairs. OK; NO_MEMORY, also if no array has so many slots: all pairs stay. CLOSED, OTHER_KIND: a
- * cache has the capacity that it was made with. O(n). */
+/* Makes room for so many more pairs. OK; NO_MEMORY, also if no array has so many slots. CLOSED, OTHER_KIND: a cache has the capacity
+ * that it was made with. O(n). */
 uint32_t bucket_reserve(bucket_handle *handle, size_t additional);
 
 /* Leaves as few slots as the pairs take. OK; NO_MEMORY, and all pairs stay. CLOSED, OTHER_KIND. O(n). */
@@ -108,7 +108,7 @@ uint32_t bucket_map_new(bucket_handle *handle, size_t capacity, bucket_seed seed
 
 /* The answers of all calls below: also CLOSED and OTHER_KIND. All O(1). */
 
-/* Inserts a pair. OK, PRESENT, NO_MEMORY. */
+/* Inserts a pair. OK, PRESENT; NO_MEMORY, only if there is no array, it shrinks, or the key's bucket is the home of 32 pairs. */
 uint32_t bucket_map_insert(bucket_handle *handle, uint64_t key, uint64_t value);
 
 /* Inserts a pair: OK; or writes the value over an earlier one, which is written out: PRESENT. NO_MEMORY: the key is absent. */

@@ -3,3 +3,4 @@ mod Crosses
 mod CopiedTexts
 mod Holding
 mod KeysCalled
+mod Refused

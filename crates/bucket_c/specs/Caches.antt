@@ -50,19 +50,19 @@ module _ {K V H : Type 0} (eq : K → K → Bool) (test : K → Bool) where
       (answer : Option (K × V)) × (code ≡ found_code answer) × Removes eq test (map_of old) answer (map_of new)
       × LeavesPlace test (is_some answer) old.arrays new.arrays × (after ≡ unwrap_or (get_by test (map_of old)) before)
 
-module _ {K V H : Type 0} (eq : K → K → Bool) (key : K) where
-  module _ (hash : ℕ) (value : V) where
-    -- the pair that goes for it is written out, if there is one: its key in some form, and its value
-    abbrev pub PutsOne : {Out : Type 0} → (Option K → Out) → V → TableView K V H → ℕ → TableView K V H → Out → V → Type 0
-    PutsOne key_out before old code new out after =
-        (answer : Result (Option (K × V)) (NotInserted K V)) × (code ≡ put_code answer) × Puts eq key value (map_of old) answer (map_of new)
-        × PutsOrKeeps eq (key, value) hash old answer new.arrays
-        × (out ≡ key_out (option_map (λ pair. pair.0) (gone_of answer)))
-        × (after ≡ unwrap_or (option_map (λ pair. pair.1) (gone_of answer)) before)
+module _ {K V H : Type 0} (eq : K → K → Bool) (hash_of : H → K → ℕ) (key : K) (value : V) where
+  -- the pair that goes for it is written out, if there is one: its key in some form, and its value
+  abbrev pub PutsOne : {Out : Type 0} → (Option K → Out) → V → TableView K V H → ℕ → TableView K V H → Out → V → Type 0
+  PutsOne key_out before old code new out after =
+      (answer : Result (Option (K × V)) (NotInserted K V)) × (code ≡ put_code answer) × Puts eq key value (map_of old) answer (map_of new)
+      × PutsOrKeeps eq (key, value) (hash_of old.hasher key) old answer new.arrays
+      × (out ≡ key_out (option_map (λ pair. pair.0) (gone_of answer)))
+      × (after ≡ unwrap_or (option_map (λ pair. pair.1) (gone_of answer)) before)
 
-    -- the same, or the earlier value is written out
-    abbrev pub UpsertsInto : {Out : Type 0} → (Option K → Out) → V → TableView K V H → ℕ → TableView K V H → Out → V → Type 0
-    UpsertsInto key_out before old code new out after =
-        (answer : Result (Upserted K V) (AllocFailed (K × V))) × (code ≡ cache_upsert_code answer)
-        × UpsertsOrEvicts eq key value (map_of old) answer (map_of new) × UpsertsInOrder eq (key, value) hash old answer new
-        × (out ≡ key_out (evicted_key answer)) × (after ≡ unwrap_or (value_before answer) before)
+  -- the same, or the earlier value is written out
+  abbrev pub UpsertsInto : {Out : Type 0} → (Option K → Out) → V → TableView K V H → ℕ → TableView K V H → Out → V → Type 0
+  UpsertsInto key_out before old code new out after =
+      (answer : Result (Upserted K V) (AllocFailed (K × V))) × (code ≡ cache_upsert_code answer)
+      × UpsertsOrEvicts eq key value (map_of old) answer (map_of new)
+      × UpsertsInOrder eq (key, value) (hash_of old.hasher key) old answer new
+      × (out ≡ key_out (evicted_key answer)) × (after ≡ unwrap_or (value_before answer) before)

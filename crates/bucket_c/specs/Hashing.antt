@@ -1,8 +1,9 @@
 -- The hash that a seed stands for.
-use Rattle.std.specs.Prelude.{ℕ, ◌&&◌, List, cond, nat_eq}
+use Rattle.std.specs.Prelude.{ℕ, ◌&&◌, List, Vec, cond, nat_eq}
 use Rattle.std.specs.Hash as fed
 use Rattle.std.specs.Hash.DefaultHasher as sip
 use Rattle.std.specs.Hash.FoldHasher as folding
+use Rattle.std.specs.declared.alloc.Global.{Global}
 use Rattle.bucket_table.specs.Map.StdHashes.{std_hash}
 use Rattle.bucket_table.specs.declared.key_hash.std_hash.StdHash.{StdHash}
 use Rattle.bucket_c.specs.declared.seed.Beginning.{Beginning}
@@ -29,5 +30,5 @@ finished (Sip state) = sip.finish state
 abbrev pub word_hash : StdHash (Beginning SeededHasher) → ℕ → ℕ
 word_hash hasher key = std_hash finished written hasher.builder.initial (fed.u64 key)
 
-abbrev pub text_hash : StdHash (Beginning SeededHasher) → List ℕ → ℕ
-text_hash hasher bytes = std_hash finished written hasher.builder.initial (fed.slice fed.u8 bytes)
+abbrev pub text_hash : StdHash (Beginning SeededHasher) → Vec ℕ Global → ℕ
+text_hash hasher key = std_hash finished written hasher.builder.initial (fed.slice fed.u8 key.items)

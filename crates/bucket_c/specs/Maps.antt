@@ -1,27 +1,29 @@
 -- What a call does to a map or a set, by the code that it answers: some answer of the library's call has this code, and the
--- library's clause holds of that answer.
+-- library's clauses hold of that answer.
 use Rattle.std.specs.Prelude.{ℕ, ◌≡◌, Bool, Option, Result, unwrap_or}
 use Rattle.std.specs.declared.alloc.AllocFailed.{AllocFailed}
 use Rattle.bucket_table.specs.declared.hash_table.NotInserted.{NotInserted}
 use Rattle.collections.specs.Changes.{Inserts, Removes, SetRemoves, Upserts}
+use Rattle.collections.specs.Crowding.{LacksRoom}
 use Rattle.collections.specs.Maps.{MapView, get, get_by}
-use Rattle.bucket_c.specs.Codes.{found_code, insert_code, upsert_code}
+use Rattle.bucket_c.specs.Codes.{found_code, insert_code, no_memory, upsert_code}
 
 module _ {K H : Type 0} where
   -- a value is written out if a key that passes a test is there
   abbrev pub Finds : {V : Type 0} → (K → Bool) → MapView K V H → V → ℕ → V → Type 0
   Finds test map before code after = (code ≡ found_code (get_by test map)) × (after ≡ unwrap_or (get_by test map) before)
 
-module _ {K H : Type 0} (eq : K → K → Bool) (key : K) where
+module _ {K H : Type 0} (eq : K → K → Bool) (hash_of : H → K → ℕ) (key : K) where
   abbrev pub InsertsOne : {V : Type 0} → V → MapView K V H → ℕ → MapView K V H → Type 0
   InsertsOne {V} value old code new =
       (answer : Result (Unit {0}) (NotInserted K V)) × (code ≡ insert_code answer) × Inserts eq key value old answer new
+      × (code ≡ no_memory → LacksRoom hash_of key new)
 
   -- the earlier value is written out, if there is one
   abbrev pub UpsertsOne : {V : Type 0} → V → V → MapView K V H → ℕ → MapView K V H → V → Type 0
   UpsertsOne {V} value before old code new after =
       (answer : Result (Option V) (AllocFailed (K × V))) × (code ≡ upsert_code answer) × Upserts eq key value old answer new
-      × (after ≡ unwrap_or (get eq old key) before)
+      × (code ≡ no_memory → LacksRoom hash_of key new) × (after ≡ unwrap_or (get eq old key) before)
 
 module _ {K H : Type 0} (eq : K → K → Bool) (test : K → Bool) where
   -- the value that goes under a key that passes a test is written out, if there is one

@@ -51,7 +51,7 @@ pub extern "C" fn bucket_cache_put(
     gone: &mut u64,
     before: &mut u64,
 ) -> u32
-    ensures { OnCache (λ old code new. PutsOne nat_eq key (word_hash old.hasher key) value
+    ensures { OnCache (λ old code new. PutsOne nat_eq word_hash key value
         (λ went. unwrap_or went gone.old) before.old old code new gone.new before.new)
         ((gone.new ≡ gone.old) × (before.new ≡ before.old))
         handle.old.held.table result handle.new.held.table }
@@ -73,7 +73,7 @@ pub extern "C" fn bucket_cache_upsert(
     gone: &mut u64,
     before: &mut u64,
 ) -> u32
-    ensures { OnCache (λ old code new. UpsertsInto nat_eq key (word_hash old.hasher key) value
+    ensures { OnCache (λ old code new. UpsertsInto nat_eq word_hash key value
         (λ went. unwrap_or went gone.old) before.old old code new gone.new before.new)
         ((gone.new ≡ gone.old) × (before.new ≡ before.old))
         handle.old.held.table result handle.new.held.table }

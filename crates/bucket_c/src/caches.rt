@@ -86,9 +86,8 @@ pub fn put(
     gone: &mut u64,
     before: &mut u64,
 ) -> u32
-    ensures { PutsOne nat_eq key (word_hash cache.old.hasher key) value (λ went. unwrap_or went
-        gone.old)
-        before.old cache.old result cache.new gone.new before.new }
+    ensures { PutsOne nat_eq word_hash key value (λ went. unwrap_or went gone.old) before.old
+        cache.old result cache.new gone.new before.new }
 {
     match cache.put(key, value) {
         Ok(None) => OK,
@@ -111,9 +110,8 @@ pub fn upsert(
     gone: &mut u64,
     before: &mut u64,
 ) -> u32
-    ensures { UpsertsInto nat_eq key (word_hash cache.old.hasher key) value (λ went. unwrap_or
-        went gone.old)
-        before.old cache.old result cache.new gone.new before.new }
+    ensures { UpsertsInto nat_eq word_hash key value (λ went. unwrap_or went gone.old) before.old
+        cache.old result cache.new gone.new before.new }
 {
     match cache.upsert(key, value) {
         Ok(Upserted::Added) => OK,
@@ -149,9 +147,8 @@ pub fn put_text(
     len: &mut usize,
     before: &mut u64,
 ) -> u32
-    ensures { PutsOne text_eq key (text_hash cache.old.hasher key.items) value (key_copied
-        bytes.old len.old)
-        before.old cache.old result cache.new (bytes.new, len.new) before.new }
+    ensures { PutsOne text_eq text_hash key value (key_copied bytes.old len.old) before.old
+        cache.old result cache.new (bytes.new, len.new) before.new }
 {
     match cache.put(key, value) {
         Ok(None) => OK,
@@ -174,9 +171,8 @@ pub fn upsert_text(
     len: &mut usize,
     before: &mut u64,
 ) -> u32
-    ensures { UpsertsInto text_eq key (text_hash cache.old.hasher key.items) value (key_copied
-        bytes.old len.old)
-        before.old cache.old result cache.new (bytes.new, len.new) before.new }
+    ensures { UpsertsInto text_eq text_hash key value (key_copied bytes.old len.old) before.old
+        cache.old result cache.new (bytes.new, len.new) before.new }
 {
     match cache.upsert(key, value) {
         Ok(Upserted::Added) => OK,

@@ -4,6 +4,7 @@
 ghost use Rattle.std.specs.Prelude.{◌≡◌, ℕ, nat_eq};
 ghost use Rattle.collections.specs.Maps.{get};
 ghost use Rattle.bucket_c.specs.Codes.{found_code};
+ghost use Rattle.bucket_c.specs.Hashing.{word_hash};
 ghost use Rattle.bucket_c.specs.Maps.{Finds, InsertsOne, RemovesOne, UpsertsOne};
 ghost use Rattle.bucket_c.specs.Opening.{IsNew};
 ghost use Rattle.bucket_c.specs.Tables.{Maps, OnMap, Opens};
@@ -41,7 +42,7 @@ pub extern "C" fn bucket_map_new(
 /// expected. `HashMap::insert`.
 #[unsafe(no_mangle)]
 pub extern "C" fn bucket_map_insert(alloc: Global, handle: &mut Handle, key: u64, value: u64) -> u32
-    ensures { OnMap (InsertsOne nat_eq key value) (Unit {0})
+    ensures { OnMap (InsertsOne nat_eq word_hash key value) (Unit {0})
         handle.old.held.table result handle.new.held.table }
 {
     on_table!(handle, alloc, Map(map) => maps::insert(map, key, value))
@@ -60,8 +61,8 @@ pub extern "C" fn bucket_map_upsert(
     value: u64,
     earlier: &mut u64,
 ) -> u32
-    ensures { OnMap (λ old code new. UpsertsOne nat_eq key value earlier.old old code new
-        earlier.new)
+    ensures { OnMap
+        (λ old code new. UpsertsOne nat_eq word_hash key value earlier.old old code new earlier.new)
         (earlier.new ≡ earlier.old) handle.old.held.table result handle.new.held.table }
 {
     on_table!(handle, alloc, Map(map) => maps::upsert(map, key, value, earlier))

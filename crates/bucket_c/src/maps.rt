@@ -14,7 +14,7 @@ use collections::key_form::KeyForm;
 /// Inserts a pair whose key the map hasn't.
 #[inline(always)]
 pub fn insert<K: Eq + Drop, H: KeyHash<K>>(map: &mut HashMap<K, u64, H>, key: K, value: u64) -> u32
-    ensures { InsertsOne K.eq key value map.old result map.new }
+    ensures { InsertsOne K.eq H.hash_of key value map.old result map.new }
 {
     match map.insert(key, value) {
         Ok(()) => OK,
@@ -32,7 +32,7 @@ pub fn upsert<K: Eq + Drop, H: KeyHash<K>>(
     value: u64,
     earlier: &mut u64,
 ) -> u32
-    ensures { UpsertsOne K.eq key value earlier.old map.old result map.new earlier.new }
+    ensures { UpsertsOne K.eq H.hash_of key value earlier.old map.old result map.new earlier.new }
 {
     match map.upsert(key, value) {
         Ok(None) => OK,
@@ -137,7 +137,7 @@ pub fn remove<K: Eq + Drop, H: KeyHash<K>, Q: KeyForm<K, H>>(
 /// Inserts a key that the set hasn't.
 #[inline(always)]
 pub fn insert_key<K: Eq + Drop, H: KeyHash<K>>(set: &mut HashSet<K, H>, key: K) -> u32
-    ensures { InsertsOne K.eq key tt set.old result set.new }
+    ensures { InsertsOne K.eq H.hash_of key tt set.old result set.new }
 {
     match set.insert(key) {
         Ok(()) => OK,

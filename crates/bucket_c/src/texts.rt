@@ -1,4 +1,5 @@
 //! Calls that copy their key, since a collection owns the keys that it keeps.
+ghost use Rattle.std.specs.Prelude.{◌≡◌, ◌<◌, IfOk, OnErr, length};
 ghost use Rattle.bucket_c.specs.Texts.{InsertsKeyText, InsertsText, PutsText};
 ghost use Rattle.bucket_c.specs.Texts.{UpsertsText, UpsertsTextInto};
 
@@ -8,7 +9,22 @@ use crate::{caches, maps};
 use collections::hash_cache::HashCache;
 use collections::hash_map::HashMap;
 use collections::hash_set::HashSet;
-use std::alloc::Global;
+use std::alloc::{AllocError, Global};
+
+/// Copies a key.
+///
+/// # Errors
+///
+/// Allocation failure. An empty key takes no memory.
+fn copy_of(alloc: Global, key: &[u8]) -> Result<Vec<u8>, AllocError>
+    ensures copied { IfOk result (λ own. own.items ≡ key.now) }
+    ensures memory { OnErr result (0 < length key.now) }
+{
+    if key.is_empty() {
+        return Ok(Vec::new(alloc));
+    }
+    Vec::from_slice(alloc, key)
+}
 
 /// Inserts a pair whose key the map hasn't.
 #[tactic(auto, unfolding(crate::specs::Texts::InsertsText))]
@@ -20,7 +36,7 @@ pub fn insert(
 ) -> u32
     ensures { InsertsText key.now value map.old result map.new }
 {
-    match Vec::from_slice(alloc, key) {
+    match copy_of(alloc, key) {
         Ok(own) => maps::insert(map, own, value),
         Err(_) => NO_MEMORY,
     }
@@ -38,7 +54,7 @@ pub fn upsert(
 ) -> u32
     ensures { UpsertsText key.now value earlier.old map.old result map.new earlier.new }
 {
-    match Vec::from_slice(alloc, key) {
+    match copy_of(alloc, key) {
         Ok(own) => maps::upsert(map, own, value, earlier),
         Err(_) => NO_MEMORY,
     }
@@ -49,7 +65,7 @@ pub fn upsert(
 pub fn insert_key(set: &mut HashSet<Vec<u8>, SeededHash>, alloc: Global, key: &[u8]) -> u32
     ensures { InsertsKeyText key.now set.old result set.new }
 {
-    match Vec::from_slice(alloc, key) {
+    match copy_of(alloc, key) {
         Ok(own) => maps::insert_key(set, own),
         Err(_) => NO_MEMORY,
     }
@@ -70,7 +86,7 @@ pub fn put(
         bytes.new len.new
         before.new }
 {
-    match Vec::from_slice(alloc, key) {
+    match copy_of(alloc, key) {
         Ok(own) => caches::put_text(cache, own, value, bytes, len, before),
         Err(_) => NO_MEMORY,
     }
@@ -92,7 +108,7 @@ pub fn upsert_cached(
         cache.new bytes.new
         len.new before.new }
 {
-    match Vec::from_slice(alloc, key) {
+    match copy_of(alloc, key) {
         Ok(own) => caches::upsert_text(cache, own, value, bytes, len, before),
         Err(_) => NO_MEMORY,
     }

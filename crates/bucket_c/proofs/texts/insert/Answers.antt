@@ -4,4 +4,4 @@ use Rattle.bucket_c.proofs.texts.insert.Goals as goal
 
 pub returns-in-Ok : goal.returns-in-Ok
 unfolding InsertsText
-returns-in-Ok c = inl (c.in-Ok.own, c.in-Ok.ensures.items, c.insert.ensures)
+returns-in-Ok c = inl (c.in-Ok.own, c.in-Ok.ensures.copied, c.insert.ensures)

@@ -4,4 +4,4 @@ use Rattle.bucket_c.proofs.texts.put.Goals as goal
 
 pub returns-in-Ok : goal.returns-in-Ok
 unfolding PutsText
-returns-in-Ok c = inl (c.in-Ok.own, c.in-Ok.ensures.items, c.put_text.ensures)
+returns-in-Ok c = inl (c.in-Ok.own, c.in-Ok.ensures.copied, c.put_text.ensures)

@@ -4,4 +4,4 @@ use Rattle.bucket_c.proofs.texts.upsert.Goals as goal
 
 pub returns-in-Ok : goal.returns-in-Ok
 unfolding UpsertsText
-returns-in-Ok c = inl (c.in-Ok.own, c.in-Ok.ensures.items, c.upsert.ensures)
+returns-in-Ok c = inl (c.in-Ok.own, c.in-Ok.ensures.copied, c.upsert.ensures)

@@ -4,4 +4,4 @@ use Rattle.bucket_c.proofs.texts.upsert_cached.Goals as goal
 
 pub returns-in-Ok : goal.returns-in-Ok
 unfolding UpsertsTextInto
-returns-in-Ok c = inl (c.in-Ok.own, c.in-Ok.ensures.items, c.upsert_text.ensures)
+returns-in-Ok c = inl (c.in-Ok.own, c.in-Ok.ensures.copied, c.upsert_text.ensures)
