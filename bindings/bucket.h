@@ -87,7 +87,7 @@ uint32_t bucket_clear(bucket_handle *handle);
  * that it was made with. O(n). */
 uint32_t bucket_reserve(bucket_handle *handle, size_t additional);
 
-/* Leaves as few slots as the pairs take. OK; NO_MEMORY, and all pairs stay. CLOSED, OTHER_KIND. O(n). */
+/* Leaves as few slots as the pairs take. OK; NO_MEMORY, unless there is no pair or they are as few already. CLOSED, OTHER_KIND. O(n). */
 uint32_t bucket_shrink(bucket_handle *handle);
 
 /* Copies pairs of a map or a cache to `out`, as many as there is room for, and `count` is how many: those after the first `start`,

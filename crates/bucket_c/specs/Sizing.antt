@@ -1,8 +1,7 @@
 -- Room that is made, and slots that go, by the code of the library's answer.
-use Rattle.std.specs.Prelude.{ℕ, ◌≡◌, Bool, OnOk, Result}
+use Rattle.std.specs.Prelude.{ℕ, ◌≡◌, Bool, Result}
 use Rattle.std.specs.declared.alloc.AllocError.{AllocError}
-use Rattle.collections.specs.Capacity.{IsFitted, MakesRoom}
-use Rattle.collections.specs.Changes.{Stays}
+use Rattle.collections.specs.Capacity.{MakesRoom, ShrinksToFit}
 use Rattle.collections.specs.Maps.{MapView}
 use Rattle.bucket_c.specs.Codes.{room_code}
 
@@ -16,5 +15,4 @@ pub record MakesRoomBy {K V H : Type 0} (eq : K → K → Bool) (additional : �
 pub record ShrinksBy {K V H : Type 0} (eq : K → K → Bool) (old : MapView K V H) (code : ℕ) (new : MapView K V H) : Type 0 where
   pub answer : Result (Unit {0}) AllocError
   pub code_is : code ≡ room_code answer
-  pub stays : Stays eq (record old { minimum = 0 }) new
-  pub fitted : OnOk answer (IsFitted new)
+  pub shrinks : ShrinksToFit eq old answer new

@@ -86,8 +86,8 @@ pub extern "C" fn bucket_reserve(alloc: Global, handle: &mut Handle, additional:
 
 /// Leaves as few slots as the pairs take, and none for no pair.
 ///
-/// Returns `OK`; `NO_MEMORY` if allocation fails, and all pairs stay. `CLOSED`; `OTHER_KIND` of a
-/// cache. O(slots). `HashMap::shrink_to_fit`.
+/// Returns `OK`; `NO_MEMORY` if allocation fails, unless there is no pair or the slots are as few
+/// already: all pairs stay. `CLOSED`; `OTHER_KIND` of a cache. O(slots). `HashMap::shrink_to_fit`.
 #[unsafe(no_mangle)]
 pub extern "C" fn bucket_shrink(alloc: Global, handle: &mut Handle) -> u32
     ensures { Shrinks handle.old.held.table result handle.new.held.table }

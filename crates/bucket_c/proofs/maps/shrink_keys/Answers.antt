@@ -2,7 +2,7 @@ use Rattle.std.proofs.Common.{Err, Ok, refl}
 use Rattle.bucket_c.proofs.maps.shrink_keys.Goals as goal
 
 pub returns-in-Ok : goal.returns-in-Ok
-returns-in-Ok g c = record { answer = Ok tt; code_is = refl; stays = c.in-Ok.ensures.map; fitted = c.in-Ok.ensures.slots }
+returns-in-Ok g c = record { answer = Ok tt; code_is = refl; shrinks = c.in-Ok.ensures }
 
 pub returns-in-Err : goal.returns-in-Err
-returns-in-Err g c = record { answer = Err c.in-Err.field-0; code_is = refl; stays = c.in-Err.ensures.map; fitted = c.in-Err.ensures.slots }
+returns-in-Err g c = record { answer = Err c.in-Err.field-0; code_is = refl; shrinks = c.in-Err.ensures }
