@@ -111,7 +111,8 @@ uint32_t bucket_map_new(bucket_handle *handle, size_t capacity, bucket_seed seed
 /* Inserts a pair. OK, PRESENT; NO_MEMORY, only if there is no array, it shrinks, or the key's bucket is the home of 32 pairs. */
 uint32_t bucket_map_insert(bucket_handle *handle, uint64_t key, uint64_t value);
 
-/* Inserts a pair: OK; or writes the value over an earlier one, which is written out: PRESENT. NO_MEMORY: the key is absent. */
+/* Inserts a pair: OK; or writes the value over an earlier one, which is written out: PRESENT. NO_MEMORY as of insert: the key is
+ * absent. */
 uint32_t bucket_map_upsert(bucket_handle *handle, uint64_t key, uint64_t value, uint64_t *earlier);
 
 /* Writes the value out. OK, ABSENT. */
@@ -145,7 +146,7 @@ uint32_t bucket_text_set_remove(bucket_handle *handle, const uint8_t *key, size_
 /* At least `minimum` and at most `maximum` slots, or the least power of two that is at least `maximum` and 64. OK, NO_MEMORY, OPEN. */
 uint32_t bucket_cache_new(bucket_handle *handle, size_t minimum, size_t maximum, bucket_seed seed);
 
-/* Puts a pair: OK; or EVICTED: another went for it, and is written out. PRESENT, NO_MEMORY: it isn't put. */
+/* Puts a pair: OK; or EVICTED: another went for it, and is written out. PRESENT, NO_MEMORY as of a map: it isn't put. */
 uint32_t bucket_cache_put(bucket_handle *handle, uint64_t key, uint64_t value, uint64_t *gone_key, uint64_t *gone_value);
 
 /* The same; or PRESENT: it writes the value over an earlier one, which is written out to `before`, and touches the pair. */
