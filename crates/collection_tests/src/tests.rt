@@ -1,6 +1,6 @@
 //! Tests of what no clause says: that calls succeed where memory is there, that slots come and go,
 //! and that values are dropped once; calls by chance beside a map of the standard library; and what
-//! the tests of that library's maps and sets and of the crate `lru` check.
+//! the tests of that library's maps and sets and of the crates `lru` and `hashbrown` check.
 mod by_chance;
 mod cache_changes;
 mod caches;
@@ -13,6 +13,7 @@ mod entries_by_text;
 mod equality;
 mod extending;
 mod forms;
+mod hashers;
 mod indexes;
 mod iterating;
 mod lru_caches;
