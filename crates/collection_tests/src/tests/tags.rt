@@ -3,10 +3,12 @@ ghost use Rattle.std.specs.Prelude.{◌==◌, refl};
 ghost use Rattle.std.specs.Cmp.Rules.{comparing};
 ghost use Rattle.std.proofs.Common.{arith, rules};
 
-use super::check_same;
+use super::{At, check_same, steps};
+use Step::*;
 use bucket_table::key_hash::KeyHash;
 use collections::hash_map::{HashMap, NotInserted};
 use collections::hash_set::HashSet;
+use std::process::Abort;
 use std::test::Fail;
 
 /// A number that is compared, and a tag that isn't.
@@ -50,62 +52,114 @@ const FIRST: Tagged = Tagged { number: 1, tag: 1 };
 
 const SECOND: Tagged = Tagged { number: 1, tag: 2 };
 
-// The tag of a key that comes back since an equal one is there.
-fn returned<V: Drop>(outcome: Result<(), NotInserted<Tagged, V>>) -> Option<u64> {
-    match outcome {
-        Err(NotInserted::Present(key, _)) => Some(key.tag),
-        _ => None,
+type Map = HashMap<Tagged, u64, OneHash>;
+
+type Set = HashSet<Tagged, OneHash>;
+
+/// A call on a map or a set. With it comes the tag of the key that comes back or out, or that is
+/// there.
+enum Step {
+    /// A pair is inserted into the map.
+    Inserts(Tagged, u64, Option<u64>),
+    /// A value is put or written, and this was the earlier one.
+    Upserts(Tagged, u64, Option<u64>),
+    /// The pair is updated.
+    Updates(Tagged, Option<u64>),
+    /// The pair goes, with this value.
+    Removes(Tagged, Option<(u64, u64)>),
+    /// A key is inserted into the set.
+    Comes(Tagged, Option<u64>),
+    /// A key is added to the set, or an equal one is there.
+    Adds(Tagged, bool),
+    /// A key takes the place of its equal.
+    Replaces(Tagged, Option<u64>),
+    /// The key that the set has.
+    Has(Tagged, Option<u64>),
+    /// A key of the set goes.
+    Goes(Tagged, Option<u64>),
+    /// How many keys the set has.
+    Len(usize),
+}
+
+/// What happens on a new map and a new set.
+type Story = (&'static str, &'static [Step]);
+
+const STORIES: &[Story] = steps! {
+    ("the key that came first stays in a map", steps! {
+        Inserts(FIRST, 10, None), Inserts(SECOND, 11, Some(2)), Upserts(SECOND, 12, Some(10)),
+        Updates(SECOND, Some(1)), Removes(SECOND, Some((1, 12))) }),
+    ("the key that came first stays in a set", steps! {
+        Comes(FIRST, None), Comes(SECOND, Some(2)), Goes(SECOND, Some(1)) }),
+    ("a key replaces its equal", steps! {
+        Has(FIRST, None), Adds(FIRST, true), Has(FIRST, Some(1)), Replaces(FIRST, Some(1)),
+        Has(FIRST, Some(1)), Has(SECOND, Some(1)), Adds(SECOND, false), Has(SECOND, Some(1)),
+        Replaces(SECOND, Some(1)), Has(SECOND, Some(2)), Len(1) })
+};
+
+#[test]
+fn of_equal_keys_the_first_stays(rt: HostRuntime) -> Result<(), Fail> {
+    for (name, steps) in STORIES {
+        let mut map: Map = HashMap::with_hasher(rt.alloc(), OneHash);
+        let mut set: Set = HashSet::with_hasher(rt.alloc(), OneHash);
+        for (row, step) in steps.iter().enumerate() {
+            take(&rt, &mut map, &mut set, (*name, row), step);
+        }
+    }
+    Ok(())
+}
+
+// Takes a step, and compares what it answers.
+fn take(rt: &impl Abort, map: &mut Map, set: &mut Set, at: At, step: &Step) {
+    match *step {
+        Inserts(key, value, back) => {
+            check_same(rt, returned(map.insert(key, value)), Some(back), at);
+        }
+        Upserts(key, value, earlier) => {
+            check_same(rt, map.upsert(key, value).ok(), Some(earlier), at);
+        }
+        Updates(key, tag) => check_same(rt, map.update(&key, own_tag), tag, at),
+        Removes(key, pair) => {
+            let found = match map.remove(&key) {
+                Some((own, value)) => Some((own.tag, value)),
+                None => None,
+            };
+            check_same(rt, found, pair, at);
+        }
+        _ => take_on_set(rt, set, at, step),
     }
 }
 
-#[test]
-fn the_key_that_came_first_stays_in_a_map(rt: HostRuntime) -> Result<(), Fail> {
-    let mut map: HashMap<Tagged, u64, OneHash> = HashMap::with_hasher(rt.alloc(), OneHash);
-    check_same(&rt, map.insert(FIRST, 10).is_ok(), true, "first");
-    check_same(&rt, returned(map.insert(SECOND, 11)), Some(2), "insert");
-    check_same(&rt, map.upsert(SECOND, 12).ok(), Some(Some(10)), "upsert");
-    let own = map.update(&SECOND, |own: &Tagged, _value: &mut u64| own.tag);
-    check_same(&rt, own, Some(1), "update");
-    let taken = map.remove(&SECOND).map(|(own, value)| (own.tag, value));
-    check_same(&rt, taken, Some((1, 12)), "remove");
-    Ok(())
+// Takes a step on the set, and compares what it answers.
+fn take_on_set(rt: &impl Abort, set: &mut Set, at: At, step: &Step) {
+    match *step {
+        Comes(key, back) => check_same(rt, returned(set.insert(key)), Some(back), at),
+        Adds(key, added) => check_same(rt, set.add(key).ok(), Some(added), at),
+        Replaces(key, tag) => check_same(rt, tag_in(set.replace(key).ok().flatten()), tag, at),
+        Goes(key, tag) => check_same(rt, tag_in(set.remove(&key)), tag, at),
+        Has(key, tag) => check_same(rt, tag_in(set.get(&key).copied()), tag, at),
+        Len(keys) => check_same(rt, set.len(), keys, at),
+        _ => check_same(rt, true, false, (at, "no step")),
+    }
 }
 
-#[test]
-fn the_key_that_came_first_stays_in_a_set(rt: HostRuntime) -> Result<(), Fail> {
-    let mut set: HashSet<Tagged, OneHash> = HashSet::with_hasher(rt.alloc(), OneHash);
-    check_same(&rt, set.insert(FIRST).is_ok(), true, "first");
-    check_same(&rt, returned(set.insert(SECOND)), Some(2), "insert");
-    let taken = set.remove(&SECOND).map(|own| own.tag);
-    check_same(&rt, taken, Some(1), "remove");
-    Ok(())
+// The tag of a key that comes back since an equal one is there, or none where the key is in.
+fn returned<V: Drop>(outcome: Result<(), NotInserted<Tagged, V>>) -> Option<Option<u64>> {
+    match outcome {
+        Ok(()) => Some(None),
+        Err(NotInserted::Present(key, _)) => Some(Some(key.tag)),
+        Err(NotInserted::Memory(_, _)) => None,
+    }
 }
 
-// The tags of the key that a set has, before and after another is added, and after it is replaced;
-// and what was replaced.
-fn tags_of(set: &mut HashSet<Tagged, OneHash>, key: Tagged) -> [Option<u64>; 4] {
-    let before = set.get(&key).map(|own| own.tag);
-    let _ = set.add(key);
-    let added = set.get(&key).map(|own| own.tag);
-    let replaced = match set.replace(key) {
-        Ok(Some(own)) => Some(own.tag),
-        _ => None,
-    };
-    [before, added, set.get(&key).map(|own| own.tag), replaced]
+// The tag of a key that is there.
+fn own_tag(own: &Tagged, _value: &mut u64) -> u64 {
+    own.tag
 }
 
-#[test]
-fn a_key_replaces_its_equal(rt: HostRuntime) -> Result<(), Fail> {
-    let mut set: HashSet<Tagged, OneHash> = HashSet::with_hasher(rt.alloc(), OneHash);
-    let found = tags_of(&mut set, FIRST);
-    check_same(&rt, found, [None, Some(1), Some(1), Some(1)], "one key");
-    let found = tags_of(&mut set, SECOND);
-    check_same(
-        &rt,
-        found,
-        [Some(1), Some(1), Some(2), Some(1)],
-        "its equal",
-    );
-    check_same(&rt, set.len(), 1, "len");
-    Ok(())
+// The tag of a key, where there is one.
+fn tag_in(key: Option<Tagged>) -> Option<u64> {
+    match key {
+        Some(own) => Some(own.tag),
+        None => None,
+    }
 }
