@@ -1,8 +1,9 @@
 //! Values that are counted, under words as keys: each is dropped once, when its pair goes.
-use super::{At, check_same, steps};
+use super::{check_same, steps};
 use Step::*;
 use bucket_table::key_hash::StdHash;
 use collections::hash_map::HashMap;
+use std::alloc::Global;
 use std::hash::{BuildHasherDefault, FoldHasher};
 use std::process::Abort;
 use std::rc::Rc;
@@ -38,50 +39,54 @@ const STEPS: &[Step] = steps! {
 #[test]
 fn each_value_is_dropped_once(rt: HostRuntime) -> Result<(), Fail> {
     let counted = Rc::new(rt.alloc(), 0)?;
-    let hasher = StdHash::new(BuildHasherDefault::new());
-    let mut words: Words = HashMap::with_hasher(rt.alloc(), hasher);
-    for (row, step) in STEPS.iter().enumerate() {
-        take(&rt, &mut words, &counted, ("values", row), step)?;
-    }
-    drop(words);
+    play(&rt, &mut no_words(rt.alloc()), &counted);
     check_same(&rt, Rc::strong_count(&counted), 1, "dropped");
     Ok(())
 }
 
-// Takes a step, and compares how many values there are beside the first.
-fn take(
-    rt: &impl Abort,
-    words: &mut Words,
-    counted: &Rc<u64>,
-    at: At,
-    step: &Step,
-) -> Result<(), Fail> {
-    let left = match step {
+fn no_words(alloc: Global) -> Words {
+    HashMap::with_hasher(alloc, StdHash::new(BuildHasherDefault::new()))
+}
+
+// Takes the steps, and compares how many values there are beside the first.
+fn play(rt: &impl Abort, words: &mut Words, counted: &Rc<u64>) {
+    for (row, step) in STEPS.iter().enumerate() {
+        let left = match counted.clone() {
+            Ok(value) => take(words, value, step),
+            Err(_) => usize::MAX,
+        };
+        let found = (words.len(), Rc::strong_count(counted));
+        check_same(rt, found, (left, left.saturating_add(1)), row);
+    }
+}
+
+// Takes a step with a value. Returns how many are to be left.
+fn take(words: &mut Words, value: Rc<u64>, step: &Step) -> usize {
+    match *step {
         Insert(word, left) => {
-            let _ = words.insert(*word, counted.clone()?);
-            *left
+            let _ = words.insert(word, value);
+            left
         }
         Upsert(word, left) => {
-            let _ = words.upsert(*word, counted.clone()?);
-            *left
+            let _ = words.upsert(word, value);
+            left
         }
         Update(word, left) => {
-            let value = counted.clone()?;
-            let _ = words.update(word, |_own: &&str, own: &mut Rc<u64>| *own = value);
-            *left
+            update(words, word, value);
+            left
         }
         Lend(word, left) => {
-            let value = counted.clone()?;
-            if let Some(own) = words.get_mut(word) {
+            if let Some(own) = words.get_mut(&word) {
                 *own = value;
             }
-            *left
+            left
         }
         _ => take_words(words, step),
-    };
-    let found = (words.len(), Rc::strong_count(counted));
-    check_same(rt, found, (left, left.saturating_add(1)), at);
-    Ok(())
+    }
+}
+
+fn update(words: &mut Words, word: &'static str, value: Rc<u64>) {
+    let _ = words.update(&word, |_own: &&str, own: &mut Rc<u64>| *own = value);
 }
 
 // Takes a step by which words go. Returns how many are to be left.
