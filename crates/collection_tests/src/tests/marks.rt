@@ -71,27 +71,27 @@ const STORIES: &[Story] = steps! {
 #[test]
 fn each_marked_value_is_dropped_once(rt: HostRuntime) -> Result<(), Fail> {
     let counted = Rc::new(rt.alloc(), 0)?;
-    for (name, hasher, steps) in STORIES {
-        let mut index: Index = HashIndex::with_hasher(rt.alloc(), *hasher);
-        let mut now = FixedGeneration {
-            epoch: 0,
-            keep: true,
-        };
-        for (row, step) in steps.iter().enumerate() {
-            match step {
-                Now(epoch, keep) => {
-                    now = FixedGeneration {
-                        epoch: *epoch,
-                        keep: *keep,
-                    };
-                }
-                _ => take(&rt, &mut index, &counted, &now, (*name, row), step),
-            }
-        }
+    for story in STORIES {
+        let mut index: Index = HashIndex::with_hasher(rt.alloc(), story.1);
+        play(&rt, &mut index, &counted, story);
         drop(index);
-        check_same(&rt, Rc::strong_count(&counted), 1, (*name, "dropped"));
+        check_same(&rt, Rc::strong_count(&counted), 1, (story.0, "dropped"));
     }
     Ok(())
+}
+
+// Takes the steps of a story.
+fn play(rt: &impl Abort, index: &mut Index, counted: &Rc<u64>, story: &Story) {
+    let mut now = FixedGeneration {
+        epoch: 0,
+        keep: true,
+    };
+    for (row, step) in story.2.iter().enumerate() {
+        match *step {
+            Now(epoch, keep) => now = FixedGeneration { epoch, keep },
+            _ => take(rt, index, counted, &now, (story.0, row), step),
+        }
+    }
 }
 
 // Inserts a key with a clone of a value. Whether it is in.
@@ -111,21 +111,33 @@ fn take(
     at: At,
     step: &Step,
 ) {
-    match step {
-        Fills(from, to) => {
-            for key in *from..*to {
-                check_same(rt, insert_clone(index, counted, key, now), true, (at, key));
-            }
-        }
-        Inserts(key) => check_same(rt, insert_clone(index, counted, *key, now), true, at),
-        Returns(key) => check_same(rt, insert_clone(index, counted, *key, now), false, at),
+    match *step {
+        Fills(from, to) => check_same(rt, fill(index, counted, now, from, to), true, at),
+        Inserts(key) => check_same(rt, insert_clone(index, counted, key, now), true, at),
+        Returns(key) => check_same(rt, insert_clone(index, counted, key, now), false, at),
         Reads(key, there) => {
-            let copied = |_own: &u64, value: &Rc<u64>| value.clone().is_ok();
-            let found = index.remove_with(key, now, copied);
-            check_same(rt, found.is_some(), *there, at);
+            check_same(
+                rt,
+                index.remove_with(&key, now, is_cloned).is_some(),
+                there,
+                at,
+            );
         }
         _ => change(rt, index, counted, now, at, step),
     }
+}
+
+// Inserts keys with clones of a value. Whether all are in.
+fn fill(index: &mut Index, counted: &Rc<u64>, now: &FixedGeneration, from: u64, to: u64) -> bool {
+    let mut are_in = true;
+    for key in from..to {
+        are_in = insert_clone(index, counted, key, now) && are_in;
+    }
+    are_in
+}
+
+fn is_cloned(_own: &u64, value: &Rc<u64>) -> bool {
+    value.clone().is_ok()
 }
 
 // Takes a step that marks pairs, raises the minimum, or looks.
