@@ -1,6 +1,6 @@
 //! Stories of entries: the place of a key, occupied or vacant.
 use super::maps::Map;
-use super::{At, check_same, steps};
+use super::{At, check_same, std_entries, steps};
 use Step::*;
 use bucket_table::script::ScriptHash;
 use collections::hash_map::HashMap;
@@ -66,12 +66,14 @@ const STORIES: &[Story] = steps! {
 
 #[test]
 fn entries_are_the_places_of_keys(rt: HostRuntime) -> Result<(), Fail> {
-    play(&rt, rt.alloc(), STORIES);
+    for stories in [STORIES, std_entries::STORIES] {
+        play(&rt, rt.alloc(), stories);
+    }
     Ok(())
 }
 
 // Plays stories, each on a new map.
-pub(super) fn play(rt: &impl Abort, alloc: Global, stories: &[Story]) {
+fn play(rt: &impl Abort, alloc: Global, stories: &[Story]) {
     for story in stories {
         let mut map: Map = HashMap::with_hasher(alloc, story.hasher);
         for (row, step) in story.steps.iter().enumerate() {
@@ -80,28 +82,46 @@ pub(super) fn play(rt: &impl Abort, alloc: Global, stories: &[Story]) {
     }
 }
 
-// Takes a step, and compares what it answers.
+// Takes a step at a place that may be vacant, and compares what it answers.
 fn take(rt: &impl Abort, map: &mut Map, at: At, step: &Step) {
     match *step {
-        Fills(from, to) => {
-            for key in from..to {
-                check_same(rt, put_where_vacant(map, key), true, (at, key));
-            }
-        }
+        Fills(from, to) => check_same(rt, fill_vacant(map, from, to), true, at),
         Counts(key, value, after) => check_same(rt, count(map, key, value), Some(after), at),
         Doubles(key, value, after) => check_same(rt, double(map, key, value), Some(after), at),
         Makes(key, after) => check_same(rt, make(map, key), Some(after), at),
+        _ => look(rt, map, at, step),
+    }
+}
+
+// Takes a step at a place that is to be occupied, or looks.
+fn look(rt: &impl Abort, map: &mut Map, at: At, step: &Step) {
+    match *step {
         Writes(key, value, earlier) => check_same(rt, write(map, key, value), earlier, at),
         Keys(key) => check_same(rt, *map.entry(key).key(), key, at),
         Takes(key, pair) => check_same(rt, take_out(map, key), pair, at),
         Holds(key, value) => check_same(rt, map.get(&key).copied(), value, at),
         Len(pairs) => check_same(rt, (map.len(), has_its_keys(map)), (pairs, true), at),
+        _ => check_same(rt, true, false, (at, "no step")),
     }
+}
+
+// Puts keys, each as its own value. Whether the place of each was vacant, and it came.
+fn fill_vacant(map: &mut Map, from: u64, to: u64) -> bool {
+    let mut are_in = true;
+    for key in from..to {
+        are_in = put_where_vacant(map, key) && are_in;
+    }
+    are_in
 }
 
 // Each key that a map gives is there.
 fn has_its_keys(map: &Map) -> bool {
-    map.keys().all(|key: &u64| map.contains(key))
+    for key in map.keys() {
+        if !map.contains(key) {
+            return false;
+        }
+    }
+    true
 }
 
 // Puts a key as its own value. Returns whether its place was vacant and it came.
@@ -122,17 +142,23 @@ fn count(map: &mut Map, key: u64, value: u64) -> Option<u64> {
 
 // Doubles the value there, or puts one, and returns what the map has then.
 fn double(map: &mut Map, key: u64, value: u64) -> Option<u64> {
-    let entry = map
-        .entry(key)
-        .and_modify(|held| *held = held.wrapping_mul(2));
+    let entry = map.entry(key).and_modify(double_it);
     let _ = entry.or_insert_with(|| value);
     map.get(&key).copied()
 }
 
+fn double_it(held: &mut u64) {
+    *held = held.wrapping_mul(2);
+}
+
 // Puts twice the key where there is no value, and returns what the map has then.
 fn make(map: &mut Map, key: u64) -> Option<u64> {
-    let _ = map.entry(key).or_insert_with_key(|own| own.wrapping_mul(2));
+    let _ = map.entry(key).or_insert_with_key(twice);
     map.get(&key).copied()
+}
+
+fn twice(key: &u64) -> u64 {
+    key.wrapping_mul(2)
 }
 
 // Writes a value where one is there, and returns the earlier one.

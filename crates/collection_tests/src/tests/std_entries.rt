@@ -1,12 +1,11 @@
 //! What the standard library's tests of a map's entries check: the same calls on this map, with the
 //! same answers. A comment names the test.
 use super::entries::Step::*;
-use super::entries::{Story, play};
+use super::entries::Story;
 use super::steps;
 use bucket_table::script::ScriptHash;
-use std::test::Fail;
 
-const STORIES: &[Story] = steps! {
+pub(super) const STORIES: &[Story] = steps! {
     // test_empty_entry
     Story { name: "a place in an empty map is vacant", hasher: ScriptHash::Id, steps: steps! {
         Writes(0, 9, None), Doubles(0, 1, 1), Len(1) } },
@@ -36,9 +35,3 @@ const STORIES: &[Story] = steps! {
             Takes(16, Some((16, 16))), Len(2), Takes(10, Some((10, 10))), Len(1),
             Takes(11, Some((11, 11))), Len(0) } }
 };
-
-#[test]
-fn places_are_those_of_std(rt: HostRuntime) -> Result<(), Fail> {
-    play(&rt, rt.alloc(), STORIES);
-    Ok(())
-}
