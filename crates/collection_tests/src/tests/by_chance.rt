@@ -58,31 +58,34 @@ impl Course {
     }
 
     // A call by a key: while pairs come few are removed, and while they go none is put.
-    fn call(&mut self, rt: &impl Abort, comes: bool) -> Result<(), Fail> {
+    fn call(&mut self, rt: &impl Abort, comes: bool) {
         let (key, value) = (self.key(), self.step());
         match (self.step() % 16, comes) {
-            (0..=3, true) => self.insert(rt, key, value)?,
-            (4..=6, true) => self.upsert(rt, key, value)?,
+            (0..=3, true) => self.insert(rt, key, value),
+            (4..=6, true) => self.upsert(rt, key, value),
             (0..=6, false) | (7..=8, _) => self.remove(rt, key),
-            (9..=11, _) => self.update(rt, key, value)?,
+            (9..=11, _) => self.update(rt, key, value),
             _ => {
                 let found = self.map.get(&key).copied();
                 check_same(rt, found, self.std.get(&key).copied(), ("get", key));
             }
         }
-        Ok(())
     }
 
-    fn insert(&mut self, rt: &impl Abort, key: u64, value: u64) -> Result<(), Fail> {
+    // A pair comes to the map of the standard library.
+    fn put(&mut self, rt: &impl Abort, key: u64, value: u64) {
+        check_same(rt, self.std.insert(key, value).is_ok(), true, ("put", key));
+    }
+
+    fn insert(&mut self, rt: &impl Abort, key: u64, value: u64) {
         let done = self.map.insert(key, value).is_ok();
         check_same(rt, done, self.std.get(&key).is_none(), ("insert", key));
         if done {
-            self.std.insert(key, value)?;
+            self.put(rt, key, value);
         }
-        Ok(())
     }
 
-    fn upsert(&mut self, rt: &impl Abort, key: u64, value: u64) -> Result<(), Fail> {
+    fn upsert(&mut self, rt: &impl Abort, key: u64, value: u64) {
         let earlier = self.map.upsert(key, value).ok();
         check_same(
             rt,
@@ -90,26 +93,27 @@ impl Course {
             Some(self.std.get(&key).copied()),
             ("upsert", key),
         );
-        self.std.insert(key, value)?;
-        Ok(())
+        self.put(rt, key, value);
     }
 
     fn remove(&mut self, rt: &impl Abort, key: u64) {
-        let pair = self.std.get(&key).map(|value| (key, *value));
+        let pair = match self.std.get(&key) {
+            Some(value) => Some((key, *value)),
+            None => None,
+        };
         check_same(rt, self.map.remove(&key), pair, ("remove", key));
         self.std.remove(&key);
     }
 
-    fn update(&mut self, rt: &impl Abort, key: u64, value: u64) -> Result<(), Fail> {
+    fn update(&mut self, rt: &impl Abort, key: u64, value: u64) {
         let earlier = self.map.update(
             &key,
             |_own: &u64, own: &mut u64| std::mem::replace(own, value),
         );
         check_same(rt, earlier, self.std.get(&key).copied(), ("update", key));
         if earlier.is_some() {
-            self.std.insert(key, value)?;
+            self.put(rt, key, value);
         }
-        Ok(())
     }
 
     // A call on the whole map.
@@ -148,7 +152,7 @@ fn a_map_has_the_pairs_of_a_btree_map(rt: HostRuntime) -> Result<(), Fail> {
         let mut course = Course::new(rt.alloc(), hasher);
         let mut most: usize = 0;
         for number in 0..calls {
-            course.call(&rt, number / TIDE % 2 == 0)?;
+            course.call(&rt, number / TIDE % 2 == 0);
             most = most.max(course.map.capacity());
             if number % WHOLE == 0 {
                 course.call_on_all(&rt);
