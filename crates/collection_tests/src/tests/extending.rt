@@ -82,9 +82,13 @@ fn take(rt: &impl Abort, map: &mut Map, set: &mut Set, at: At, step: &Step) {
 
 // Pairs come to a map, and their keys to a set. Whether all are in.
 fn come(map: &mut Map, set: &mut Set, pairs: &[(u64, u64)]) -> (bool, bool) {
-    let mut keys = pairs.iter().map(|pair: &(u64, u64)| pair.0);
+    let mut keys = pairs.iter().map(key_of);
     let is_in = map.try_extend(&mut pairs.iter().copied()).is_ok();
     (is_in, set.try_extend(&mut keys).is_ok())
+}
+
+fn key_of(pair: &(u64, u64)) -> u64 {
+    pair.0
 }
 
 // Keys come to a map, each as its own value, and to a set. Whether all are in.
