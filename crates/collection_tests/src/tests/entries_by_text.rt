@@ -1,9 +1,10 @@
 //! Stories of the places of words, found by texts: a word is made only where the map hasn't it.
+use super::forms::owned;
 use super::{At, check_same, steps};
 use Step::*;
 use collections::hash_map::HashMap;
 use collections::hash_map::entry::EntryRef;
-use std::alloc::{AllocError, Global};
+use std::alloc::Global;
 use std::process::Abort;
 use std::test::Fail;
 
@@ -12,7 +13,8 @@ type Words = HashMap<String, u64>;
 
 /// What is done at a word's place.
 enum Step {
-    /// A number is put where the word isn't, and one is added to what is there then: this comes out.
+    /// A number is put where the word isn't, and one is added to what is there then: this comes
+    /// out.
     Counts(&'static str, u64, u64),
     /// The word is made and put with a number where it isn't: whether it was.
     Puts(&'static str, u64, bool),
@@ -31,89 +33,72 @@ enum Step {
 }
 
 const STEPS: &[Step] = steps! {
-    Swaps("Ann", "Bob", false), Len(0), Takes("Ann", None), Writes("Ann", 1, None), Raises("Ann", None), Len(0), Counts("Ann", 4, 5),
-    Counts("Ann", 4, 6), Counts("An", 0, 1), Puts("Ann", 9, false), Puts("", 9, true),
-    Puts("", 8, false), Len(3), Writes("Ann", 7, Some(6)), Raises("Ann", Some((7, 8))),
-    Raises("ann", None), Holds("Ann", Some(8)), Holds("An", Some(1)), Holds("", Some(9)),
-    Takes("Ann", Some(8)), Takes("Ann", None), Holds("Ann", None), Counts("Ann", 2, 3), Len(3)
+    Swaps("Ann", "Bob", false), Len(0), Takes("Ann", None), Writes("Ann", 1, None),
+    Raises("Ann", None), Len(0), Counts("Ann", 4, 5), Counts("Ann", 4, 6), Counts("An", 0, 1),
+    Puts("Ann", 9, false), Puts("", 9, true), Puts("", 8, false), Len(3), Writes("Ann", 7, Some(6)),
+    Raises("Ann", Some((7, 8))), Raises("ann", None), Holds("Ann", Some(8)), Holds("An", Some(1)),
+    Holds("", Some(9)), Takes("Ann", Some(8)), Takes("Ann", None), Holds("Ann", None),
+    Counts("Ann", 2, 3), Len(3)
 };
 
 #[test]
 fn places_of_words_are_found_by_texts(rt: HostRuntime) -> Result<(), Fail> {
-    let alloc = rt.alloc();
-    let mut words = HashMap::new(alloc);
-    for (row, step) in STEPS.iter().enumerate() {
-        take(&rt, alloc, &mut words, ("words", row), step)?;
-    }
+    play(&rt, rt.alloc(), &mut HashMap::new(rt.alloc()));
     Ok(())
 }
 
-// Takes a step, and compares what it answers.
-fn take(
-    rt: &impl Abort,
-    alloc: Global,
-    words: &mut Words,
-    at: At,
-    step: &Step,
-) -> Result<(), AllocError> {
-    match step {
+// Takes the steps.
+fn play(rt: &impl Abort, alloc: Global, words: &mut Words) {
+    for (row, step) in STEPS.iter().enumerate() {
+        take(rt, alloc, words, ("words", row), step);
+    }
+}
+
+// Takes a step that may put a word, and compares what it answers.
+fn take(rt: &impl Abort, alloc: Global, words: &mut Words, at: At, step: &Step) {
+    match *step {
         Counts(word, number, after) => {
-            let counted = count(alloc, words, word, *number)?;
-            check_same(rt, counted, Some(*after), at);
+            check_same(rt, count(alloc, words, word, number), Some(after), at);
         }
         Puts(word, number, vacant) => {
-            let came = put(alloc, words, word, *number)?;
-            check_same(rt, came, *vacant, at);
+            check_same(rt, put(words, word, owned(alloc, word), number), vacant, at);
         }
-        Swaps(word, other, came) => check_same(rt, put_as(alloc, words, word, other)?, *came, at),
-        Writes(word, number, earlier) => check_same(rt, write(words, word, *number), *earlier, at),
-        Raises(word, numbers) => check_same(rt, raise(words, word), *numbers, at),
-        Takes(word, number) => check_same(rt, take_out(words, word), *number, at),
-        Holds(word, number) => check_same(rt, number_of(words, word), *number, at),
-        Len(count) => check_same(rt, words.len(), *count, at),
+        Swaps(word, other, came) => {
+            check_same(rt, put(words, word, owned(alloc, other), 0), came, at);
+        }
+        _ => change(rt, words, at, step),
     }
-    Ok(())
+}
+
+// Takes another step, and compares what it answers.
+fn change(rt: &impl Abort, words: &mut Words, at: At, step: &Step) {
+    match *step {
+        Writes(word, number, earlier) => check_same(rt, write(words, word, number), earlier, at),
+        Raises(word, numbers) => check_same(rt, raise(words, word), numbers, at),
+        Takes(word, number) => check_same(rt, take_out(words, word), number, at),
+        Holds(word, number) => check_same(rt, number_of(words, word), number, at),
+        Len(count) => check_same(rt, words.len(), count, at),
+        _ => check_same(rt, true, false, (at, "no step")),
+    }
 }
 
 // Puts a number where the word isn't, adds one to what is lent, and returns what the map has then.
-fn count(
-    alloc: Global,
-    words: &mut Words,
-    word: &str,
-    number: u64,
-) -> Result<Option<u64>, AllocError> {
+fn count(alloc: Global, words: &mut Words, word: &str, number: u64) -> Option<u64> {
     let lent = match words.entry_ref(word) {
         EntryRef::Occupied(place) => place.into_mut(),
-        EntryRef::Vacant(place) => {
-            let key = String::from_str(alloc, word)?;
-            place.insert_with_key(key, number).ok()
-        }
+        EntryRef::Vacant(place) => place.insert_with_key(owned(alloc, word), number).ok(),
     };
     if let Some(held) = lent {
-        *held = held.wrapping_add(1);
+        add_one(held);
     }
-    Ok(number_of(words, word))
+    number_of(words, word)
 }
 
-// Makes the word and puts it with a number where it isn't. Returns whether it came.
-fn put(alloc: Global, words: &mut Words, word: &str, number: u64) -> Result<bool, AllocError> {
+// Puts a key and a number where the word isn't. Returns whether they came.
+fn put(words: &mut Words, word: &str, key: String, number: u64) -> bool {
     match words.entry_ref(word) {
-        EntryRef::Vacant(place) => {
-            let key = String::from_str(alloc, word)?;
-            Ok(place.insert_with_key(key, number).is_ok())
-        }
-        EntryRef::Occupied(_) => Ok(false),
-    }
-}
-
-// Puts another word where the word isn't. Returns whether it came.
-fn put_as(alloc: Global, words: &mut Words, word: &str, other: &str) -> Result<bool, AllocError> {
-    match words.entry_ref(word) {
-        EntryRef::Vacant(place) => {
-            let key = String::from_str(alloc, other)?;
-            Ok(place.insert_with_key(key, 0).is_ok())
-        }
-        EntryRef::Occupied(_) => Ok(false),
+        EntryRef::Vacant(place) => place.insert_with_key(key, number).is_ok(),
+        EntryRef::Occupied(_) => false,
     }
 }
 
@@ -130,16 +115,23 @@ fn raise(words: &mut Words, word: &str) -> Option<(u64, u64)> {
     match words.entry_ref(word) {
         EntryRef::Occupied(mut place) => {
             let before = *place.get();
-            place.update(|held| *held = held.wrapping_add(1));
+            place.update(add_one);
             Some((before, *place.get()))
         }
         EntryRef::Vacant(_) => None,
     }
 }
 
+fn add_one(held: &mut u64) {
+    *held = held.wrapping_add(1);
+}
+
 // Takes the word out, and returns its number.
 fn take_out(words: &mut Words, word: &str) -> Option<u64> {
-    words.remove(word).map(|pair| pair.1)
+    match words.remove(word) {
+        Some((_, number)) => Some(number),
+        None => None,
+    }
 }
 
 // Returns the number of a word.

@@ -55,77 +55,83 @@ pub(super) fn no_words(alloc: Global) -> Words {
 
 #[test]
 fn words_are_changed_and_removed_by_texts(rt: HostRuntime) -> Result<(), Fail> {
-    let alloc = rt.alloc();
-    let mut words = no_words(alloc);
+    let mut words = no_words(rt.alloc());
     for (row, step) in STEPS.iter().enumerate() {
-        take(&rt, alloc, &mut words, ("words", row), step)?;
+        take(&rt, rt.alloc(), &mut words, ("words", row), step);
     }
     Ok(())
 }
 
 // Takes a step, and compares what was there.
-fn take(
-    rt: &impl Abort,
-    alloc: Global,
-    words: &mut Words,
-    at: At,
-    step: &Step,
-) -> Result<(), Fail> {
-    match step {
-        Puts(word, number) => put(alloc, words, word, *number)?,
+fn take(rt: &impl Abort, alloc: Global, words: &mut Words, at: At, step: &Step) {
+    match *step {
+        Puts(word, number) => check_same(rt, put(alloc, words, word, number), true, at),
         Gets(word, number) => {
-            check_same(rt, words.map.get(*word).copied(), *number, (at, "map"));
-            check_same(rt, words.cache.get(*word).copied(), *number, (at, "cache"));
-            let there = (words.set.contains(*word), words.index.contains(*word));
-            check_same(
-                rt,
-                there,
-                (number.is_some(), number.is_some()),
-                (at, "set, index"),
-            );
+            check_same(rt, get(words, word), (number, number), (at, "map, cache"));
+            let there = (words.set.contains(word), words.index.contains(word));
+            let wanted = (number.is_some(), number.is_some());
+            check_same(rt, there, wanted, (at, "set, index"));
         }
         Updates(word, later, number) => {
-            check_same(rt, update(words, word, *later), (*number, *number), at);
+            check_same(rt, update(words, word, later), (number, number), at);
         }
         Writes(word, later, number) => {
-            check_same(rt, write_both(words, word, *later), (*number, *number), at);
+            check_same(rt, write_both(words, word, later), (number, number), at);
         }
+        _ => remove(rt, words, at, step),
+    }
+}
+
+// Takes a step by which a word goes.
+fn remove(rt: &impl Abort, words: &mut Words, at: At, step: &Step) {
+    match *step {
         RemovesEven(word, number) => {
-            let found = words.map.remove_if(*word, |_own, held| *held % 2 == 0);
-            check_same(rt, number_of(found), *number, (at, "map"));
+            let found = number_of(words.map.remove_if(word, is_even));
+            check_same(rt, found, number, (at, "map"));
             if number.is_some() {
-                remove_elsewhere(rt, words, at, word, *number);
+                remove_elsewhere(rt, words, at, word, number);
             }
         }
         Removes(word, number) => {
-            let found = words.map.remove(*word);
-            check_same(rt, number_of(found), *number, (at, "map"));
-            remove_elsewhere(rt, words, at, word, *number);
+            check_same(rt, number_of(words.map.remove(word)), number, (at, "map"));
+            remove_elsewhere(rt, words, at, word, number);
         }
+        _ => check_same(rt, true, false, (at, "no step")),
     }
-    Ok(())
 }
 
-// A word comes to each collection with a number.
-pub(super) fn put(alloc: Global, words: &mut Words, word: &str, number: u64) -> Result<(), Fail> {
-    words.map.insert(String::from_str(alloc, word)?, number)?;
-    words.set.insert(String::from_str(alloc, word)?)?;
-    words
-        .index
-        .insert(String::from_str(alloc, word)?, number, &())?;
-    words.cache.put(String::from_str(alloc, word)?, number)?;
-    Ok(())
+// A text as a word of its own; no text where there is no memory.
+pub(super) fn owned(alloc: Global, text: &str) -> String {
+    match String::from_str(alloc, text) {
+        Ok(own) => own,
+        Err(_) => String::new(alloc),
+    }
+}
+
+// A word comes to each collection with a number. Whether it is in all of them.
+pub(super) fn put(alloc: Global, words: &mut Words, word: &str, number: u64) -> bool {
+    words.map.insert(owned(alloc, word), number).is_ok()
+        && words.set.insert(owned(alloc, word)).is_ok()
+        && words.index.insert(owned(alloc, word), number, &()).is_ok()
+        && words.cache.put(owned(alloc, word), number).is_ok()
+}
+
+// The number of a word, in the map and in the cache.
+fn get(words: &mut Words, word: &str) -> (Option<u64>, Option<u64>) {
+    (words.map.get(word).copied(), words.cache.get(word).copied())
+}
+
+fn is_even(_own: &String, number: &u64) -> bool {
+    *number % 2 == 0
 }
 
 // Updates the number of a word. Returns the earlier ones, of the map and of the cache.
 fn update(words: &mut Words, word: &str, later: u64) -> (Option<u64>, Option<u64>) {
-    let of_map = words
-        .map
-        .update(word, |_own, held| mem::replace(held, later));
-    let of_cache = words
-        .cache
-        .update(word, |_own, held| mem::replace(held, later));
-    (of_map, of_cache)
+    let write = move |_own: &String, held: &mut u64| mem::replace(held, later);
+    (
+        words.map.update(word, write),
+        words.cache.update(word, write),
+    )
 }
 
 // Writes over the number of a word that is lent. Returns the earlier ones, of the map and of the
@@ -138,14 +144,14 @@ fn write_both(words: &mut Words, word: &str, later: u64) -> (Option<u64>, Option
 // Removes a word from the set, the index and the cache.
 fn remove_elsewhere(rt: &impl Abort, words: &mut Words, at: At, word: &str, number: Option<u64>) {
     let there = (words.set.discard(word), words.index.remove(word, &()));
+    let wanted = (number.is_some(), number.is_some());
+    check_same(rt, there, wanted, (at, "set, index"));
     check_same(
         rt,
-        there,
-        (number.is_some(), number.is_some()),
-        (at, "set, index"),
+        number_of(words.cache.remove(word)),
+        number,
+        (at, "cache"),
     );
-    let found = words.cache.remove(word);
-    check_same(rt, number_of(found), number, (at, "cache"));
 }
 
 // The number of a pair that went.
@@ -162,30 +168,47 @@ const LISTS: [(&[u8], u64); 4] = [(b"", 0), (b"x", 1), (b"xy", 2), (b"yx", 3)];
 
 #[test]
 fn lists_are_changed_and_removed_by_slices(rt: HostRuntime) -> Result<(), Fail> {
-    let alloc = rt.alloc();
+    change_lists(&rt, rt.alloc());
+    remove_lists(&rt, rt.alloc());
+    Ok(())
+}
+
+// Of a map of the lists each is changed and removed twice.
+fn change_lists(rt: &impl Abort, alloc: Global) {
     let mut map: Lists = HashMap::new(alloc);
-    let mut set: HashSet<Vec<u8>> = HashSet::new(alloc);
-    put_lists(alloc, &mut map, &mut set)?;
+    for (list, number) in LISTS.iter() {
+        let _ = map.insert(owned_list(alloc, list), *number);
+    }
     for (row, (list, number)) in LISTS.iter().enumerate() {
         check_same(
-            &rt,
+            rt,
             change_list(&mut map, list),
             (Some(*number), Some(9), None),
             row,
         );
-        check_same(&rt, remove_list(&mut set, list), (true, false), row);
     }
-    check_same(&rt, (map.is_empty(), set.is_empty()), (true, true), "both");
-    Ok(())
+    check_same(rt, map.is_empty(), true, "map");
 }
 
-// Each list comes to a map with its number, and to a set.
-fn put_lists(alloc: Global, map: &mut Lists, set: &mut HashSet<Vec<u8>>) -> Result<(), Fail> {
-    for (list, number) in LISTS.iter() {
-        map.insert(Vec::from_slice(alloc, *list)?, *number)?;
-        set.insert(Vec::from_slice(alloc, *list)?)?;
+// Of a set of the lists each is removed twice.
+fn remove_lists(rt: &impl Abort, alloc: Global) {
+    let mut set: HashSet<Vec<u8>> = HashSet::new(alloc);
+    for (list, _) in LISTS.iter() {
+        let _ = set.insert(owned_list(alloc, list));
     }
-    Ok(())
+    for (row, (list, _)) in LISTS.iter().enumerate() {
+        let found = (set.remove(*list).is_some(), set.discard(*list));
+        check_same(rt, found, (true, false), row);
+    }
+    check_same(rt, set.is_empty(), true, "set");
+}
+
+// A slice as a list of its own; an empty one where there is no memory.
+fn owned_list(alloc: Global, list: &[u8]) -> Vec<u8> {
+    match Vec::from_slice(alloc, list) {
+        Ok(own) => own,
+        Err(_) => Vec::new(alloc),
+    }
 }
 
 // Writes 9 over the number of a list, and removes the list twice. Returns what was there each time.
@@ -196,9 +219,4 @@ fn change_list(map: &mut Lists, list: &[u8]) -> (Option<u64>, Option<u64>, Optio
         number_of(map.remove(list)),
         number_of(map.remove(list)),
     )
-}
-
-// Removes a list twice. Returns whether it was there each time.
-fn remove_list(set: &mut HashSet<Vec<u8>>, list: &[u8]) -> (bool, bool) {
-    (set.remove(list).is_some(), set.discard(list))
 }

@@ -1,6 +1,6 @@
 //! Words that are looked up by texts, and lists by slices, in collections that name no hasher; and
 //! the errors that hand a word back.
-use super::forms::{Words, no_words, put};
+use super::forms::{Words, no_words, owned, put};
 use super::{At, check_same, steps};
 use Step::*;
 use collections::hash_map::{HashMap, NotInserted};
@@ -26,16 +26,16 @@ const STEPS: &[Step] = steps! {
 
 #[test]
 fn words_are_looked_up_by_texts(rt: HostRuntime) -> Result<(), Fail> {
-    let alloc = rt.alloc();
-    let mut words = no_words(alloc);
+    let mut words = no_words(rt.alloc());
     for (row, step) in STEPS.iter().enumerate() {
-        take(&rt, alloc, &mut words, ("words", row), step)?;
+        take(&rt, rt.alloc(), &mut words, ("words", row), step);
     }
-    check_keys(&rt, alloc, &words)
+    check_keys(&rt, rt.alloc(), &words)?;
+    Ok(())
 }
 
 // The words that a map has, in order.
-fn check_keys(rt: &impl Abort, alloc: Global, words: &Words) -> Result<(), Fail> {
+fn check_keys(rt: &impl Abort, alloc: Global, words: &Words) -> Result<(), AllocError> {
     let mut met: Vec<&String> = words.map.keys().collect(alloc)?;
     met.sort()?;
     let shown = format!(in alloc; "{met:?}")?;
@@ -44,25 +44,16 @@ fn check_keys(rt: &impl Abort, alloc: Global, words: &Words) -> Result<(), Fail>
 }
 
 // Takes a step, and compares what is found.
-fn take(
-    rt: &impl Abort,
-    alloc: Global,
-    words: &mut Words,
-    at: At,
-    step: &Step,
-) -> Result<(), Fail> {
-    match step {
-        Puts(word, number) => put(alloc, words, word, *number)?,
+fn take(rt: &impl Abort, alloc: Global, words: &mut Words, at: At, step: &Step) {
+    match *step {
+        Puts(word, number) => check_same(rt, put(alloc, words, word, number), true, at),
         Finds(word, number) => {
-            let key = String::from_str(alloc, word)?;
-            let found = (*number, number.is_some());
+            let found = (number, number.is_some());
             check_same(rt, by_text(words, word), (found, found, found), at);
-            check_same(rt, words.set.contains(*word), number.is_some(), (at, "set"));
-            let of_map = (words.map.get(&key).copied(), words.map.contains(&key));
-            check_same(rt, of_map, found, (at, "key"));
+            check_same(rt, words.set.contains(word), number.is_some(), (at, "set"));
+            check_same(rt, by_key(words, &owned(alloc, word)), found, (at, "key"));
         }
     }
-    Ok(())
 }
 
 /// The number of a word, and whether the word is there.
@@ -77,39 +68,78 @@ fn by_text(words: &Words, word: &str) -> (Found, Found, Found) {
     )
 }
 
+// What is found by a word in the map.
+fn by_key(words: &Words, key: &String) -> Found {
+    (words.map.get(key).copied(), words.map.contains(key))
+}
+
 const LISTS: [&[u64]; 4] = [&[], &[1], &[1, 2], &[2, 1]];
 
 #[test]
 fn lists_are_looked_up_by_slices(rt: HostRuntime) -> Result<(), Fail> {
     let mut lists = HashSet::new(rt.alloc());
     for (row, list) in LISTS.iter().enumerate() {
-        check_same(&rt, lists.contains(*list), false, row);
-        lists.insert(Vec::from_slice(rt.alloc(), *list)?)?;
-        check_same(&rt, lists.contains(*list), true, row);
+        check_same(
+            &rt,
+            insert_list(rt.alloc(), &mut lists, list),
+            (false, true, true),
+            row,
+        );
     }
     Ok(())
 }
 
-const REFUSALS: [(NotInserted<&'static str, u64>, &'static str); 2] = [
-    (NotInserted::Present("Ann", 1), "an equal key is there"),
-    (NotInserted::Memory("Ann", 1), "out of memory"),
-];
+// Inserts a list. Whether it was there before, came, and is there then.
+fn insert_list(alloc: Global, lists: &mut HashSet<Vec<u64>>, list: &[u64]) -> (bool, bool, bool) {
+    let was_there = lists.contains(list);
+    let came = match Vec::from_slice(alloc, list) {
+        Ok(own) => lists.insert(own).is_ok(),
+        Err(_) => false,
+    };
+    (was_there, came, lists.contains(list))
+}
 
 #[test]
 fn refusals_are_errors_and_give_the_pair(rt: HostRuntime) -> Result<(), Fail> {
-    for (row, (refusal, text)) in REFUSALS.into_iter().enumerate() {
-        check_same(&rt, shown(rt.alloc(), &refusal)?.as_str(), text, row);
-        check_same(&rt, refusal.into_pair(), ("Ann", 1), row);
-    }
-    let mut words = HashMap::new(rt.alloc());
-    check_same(&rt, insert_once(&mut words), Ok(()), "inserted");
-    check_same(&rt, insert_once(&mut words), Err(AllocError), "there");
+    check_refusal(
+        &rt,
+        rt.alloc(),
+        NotInserted::Present("Ann", 1),
+        "an equal key is there",
+    )?;
+    check_refusal(
+        &rt,
+        rt.alloc(),
+        NotInserted::Memory("Ann", 1),
+        "out of memory",
+    )?;
+    check_insertions(&rt, rt.alloc());
+    Ok(())
+}
+
+// A refusal as text, and the pair that it gives.
+fn check_refusal(
+    rt: &impl Abort,
+    alloc: Global,
+    refusal: NotInserted<&'static str, u64>,
+    text: &'static str,
+) -> Result<(), AllocError> {
+    let shown = shown(alloc, &refusal)?;
+    check_same(rt, shown.as_str(), text, "shown");
+    check_same(rt, refusal.into_pair(), ("Ann", 1), text);
     Ok(())
 }
 
 // An error as text.
 fn shown<E: Error>(alloc: Global, error: &E) -> Result<String, AllocError> {
     format!(in alloc; "{error}")
+}
+
+// A word comes to a map once.
+fn check_insertions(rt: &impl Abort, alloc: Global) {
+    let mut words = HashMap::new(alloc);
+    check_same(rt, insert_once(&mut words), Ok(()), "inserted");
+    check_same(rt, insert_once(&mut words), Err(AllocError), "there");
 }
 
 // Inserts a word; every refusal is an allocation failure.
