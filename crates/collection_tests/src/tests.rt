@@ -3,8 +3,8 @@
 //! the tests of that library's maps and sets and of the crates `lru` and `hashbrown` check.
 mod by_chance;
 mod cache_changes;
+mod cache_drops;
 mod caches;
-mod clones;
 mod copies;
 mod draining;
 mod drops;
@@ -17,6 +17,7 @@ mod hashers;
 mod indexes;
 mod iterating;
 mod lru_caches;
+mod map_stories;
 mod maps;
 mod marks;
 mod printing;
@@ -25,6 +26,7 @@ mod std_entries;
 mod std_maps;
 mod std_sets;
 mod tags;
+mod two_maps;
 mod two_sets;
 mod words;
 

@@ -1,84 +1,90 @@
-//! Copies of maps and sets: one is made where there is memory, which no clause promises; a change
-//! of one leaves the other; and an allocation failure is answered.
+//! Copies of sets, and of words that a map and a set have, which name no hasher: each copy has its
+//! own.
 use super::check_same;
-use super::maps::{Map, fill, grown};
+use super::forms::owned;
 use super::sets::{Set, fill_set};
 use bucket_table::script::ScriptHash;
 use collections::hash_map::HashMap;
 use collections::hash_set::HashSet;
+use std::alloc::Global;
 use std::process::Abort;
 use std::test::Fail;
-
-// The greatest minimum, for which there is no memory.
-const MOST: usize = 1 << 63;
-
-// A map amid a growth is copied.
-#[test]
-fn a_change_of_a_map_leaves_its_copy(rt: HostRuntime) -> Result<(), Fail> {
-    let mut map = grown(rt.alloc());
-    let mut copy = map.try_clone(rt.alloc())?;
-    check_copy(&rt, &map, &copy);
-    check_same(&rt, copy.remove(&150), Some((150, 150)), "of the copy");
-    check_same(&rt, map.upsert(1, 10).ok(), Some(Some(1)), "of the map");
-    check_same(&rt, fill(&mut map, 40, 41), true, "of the map");
-    check_apart(&rt, &map, &copy);
-    map.clear();
-    check_same(&rt, (map.is_empty(), copy.len()), (true, 62), "cleared");
-    Ok(())
-}
-
-// A map and its copy are the same.
-fn check_copy(rt: &impl Abort, map: &Map, copy: &Map) {
-    let found = (map == copy, copy.len(), map.capacity());
-    check_same(rt, found, (true, 63, 128), "copied");
-    check_same(rt, *copy.hasher(), ScriptHash::Spread, "hasher");
-}
-
-// A map and its copy are what the changes of each made them.
-fn check_apart(rt: &impl Abort, map: &Map, copy: &Map) {
-    let found = (map.get(&150).copied(), map.get(&1).copied(), map.len());
-    check_same(rt, found, (Some(150), Some(10), 64), "map");
-    let found = (copy.get(&150).copied(), copy.get(&1).copied());
-    check_same(rt, found, (None, Some(1)), "copy");
-    check_same(rt, (copy.contains(&40), copy.len()), (false, 62), "copy");
-}
 
 #[test]
 fn a_change_of_a_set_leaves_its_copy(rt: HostRuntime) -> Result<(), Fail> {
     let mut set: Set = HashSet::with_hasher(rt.alloc(), ScriptHash::Id);
     check_same(&rt, fill_set(&mut set, 0, 100), true, "filled");
-    let mut copy = set.try_clone(rt.alloc())?;
-    check_same(&rt, (set == copy, copy.len()), (true, 100), "copied");
+    match set.try_copy(rt.alloc()) {
+        Ok(copy) => check_same(&rt, copy == set, true, "keys are copied"),
+        Err(_) => check_same(&rt, true, false, "no memory"),
+    }
+    match set.try_clone(rt.alloc()) {
+        Ok(mut copy) => change_both(&rt, &mut set, &mut copy),
+        Err(_) => check_same(&rt, true, false, "no memory"),
+    }
+    Ok(())
+}
+
+// A set and its copy are changed apart.
+fn change_both(rt: &impl Abort, set: &mut Set, copy: &mut Set) {
+    check_same(rt, (*set == *copy, copy.len()), (true, 100), "copied");
     let went = (set.remove(&7), copy.remove(&8));
-    check_same(&rt, went, (Some(7), Some(8)), "removed");
-    check_same(&rt, of_seven_and_eight(&set), (false, true), "set");
-    check_same(&rt, of_seven_and_eight(&copy), (true, false), "copy");
-    Ok(())
+    check_same(rt, went, (Some(7), Some(8)), "removed");
+    let found = (set.contains(&7), set.contains(&8));
+    check_same(rt, found, (false, true), "set");
+    let found = (copy.contains(&7), copy.contains(&8));
+    check_same(rt, found, (true, false), "copy");
 }
 
-// Whether a set has 7, and whether it has 8.
-fn of_seven_and_eight(set: &Set) -> (bool, bool) {
-    (set.contains(&7), set.contains(&8))
-}
+type Ages = HashMap<String, u64>;
 
-// A copy has the minimum of its map, and an empty one takes no memory.
+type Names = HashSet<String>;
+
+const AGES: [(&str, u64); 3] = [("Ann", 30), ("Bob", 40), ("", 0)];
+
 #[test]
-fn a_copy_is_refused_where_there_is_no_memory_for_it(rt: HostRuntime) -> Result<(), Fail> {
-    let mut map: Map = HashMap::with_hasher(rt.alloc(), ScriptHash::Id);
-    let came = map.insert(1, 10).is_ok();
-    check_same(
-        &rt,
-        (came, map.raise_minimum(MOST)),
-        (true, MOST),
-        "minimum",
-    );
-    check_same(&rt, map.try_clone(rt.alloc()).is_err(), true, "refused");
-    check_same(&rt, (map.get(&1).copied(), map.len()), (Some(10), 1), "map");
-    map.clear();
-    let found = match map.try_clone(rt.alloc()) {
-        Ok(copy) => Some((copy.is_empty(), copy.capacity())),
-        Err(_) => None,
-    };
-    check_same(&rt, found, Some((true, 0)), "empty");
+fn copies_have_words_of_their_own(rt: HostRuntime) -> Result<(), Fail> {
+    check_map(&rt, rt.alloc(), &mut HashMap::new(rt.alloc()));
+    check_set(&rt, rt.alloc(), &mut HashSet::new(rt.alloc()));
     Ok(())
+}
+
+// Ages come to a map, and stay in its copy as the map is cleared.
+fn check_map(rt: &impl Abort, alloc: Global, ages: &mut Ages) {
+    for (name, age) in AGES.iter() {
+        let _ = ages.insert(owned(alloc, name), *age);
+    }
+    match ages.try_clone(alloc) {
+        Ok(copy) => check_copied_map(rt, ages, &copy),
+        Err(_) => check_same(rt, true, false, "no memory"),
+    }
+}
+
+fn check_copied_map(rt: &impl Abort, ages: &mut Ages, copy: &Ages) {
+    check_same(rt, *copy == *ages, true, "equal");
+    ages.clear();
+    for (name, age) in AGES.iter() {
+        let found = (copy.get(*name).copied(), copy.len());
+        check_same(rt, found, (Some(*age), 3), *name);
+    }
+}
+
+// Names come to a set, and stay in its copy as the set is cleared.
+fn check_set(rt: &impl Abort, alloc: Global, names: &mut Names) {
+    for (name, _) in AGES.iter() {
+        let _ = names.insert(owned(alloc, name));
+    }
+    match names.try_clone(alloc) {
+        Ok(copy) => check_copied_set(rt, names, &copy),
+        Err(_) => check_same(rt, true, false, "no memory"),
+    }
+}
+
+fn check_copied_set(rt: &impl Abort, names: &mut Names, copy: &Names) {
+    check_same(rt, *copy == *names, true, "equal");
+    names.clear();
+    for (name, _) in AGES.iter() {
+        check_same(rt, (copy.contains(*name), copy.len()), (true, 3), *name);
+    }
+    check_same(rt, copy.contains("Ben"), false, "Ben");
 }

@@ -1,15 +1,16 @@
 //! Pairs that are handed out by value: none, a few, those of two arrays and of one chain; what is
 //! left of the collection; and values that are counted, of which some are handed out.
-use super::caches::Cache;
-use super::maps::Map;
-use super::sets::Set;
-use super::two_sets::{Ranges, listed, set_of};
-use super::{At, check_same, steps};
-use Step::*;
+ghost use Rattle.std.specs.Iterator.{IsFinite};
+
+use super::caches::{Cache, put, put_all};
+use super::maps::Step::*;
+use super::maps::{Map, Story, fill};
+use super::two_sets::{Ranges, check_listed, set_of};
+use super::{check_same, steps};
 use bucket_table::script::ScriptHash;
 use collections::hash_cache::HashCache;
 use collections::hash_map::{Drain, HashMap, IntoIter};
-use std::alloc::Global;
+use std::alloc::{AllocError, Global};
 use std::process::Abort;
 use std::rc::Rc;
 use std::test::Fail;
@@ -47,15 +48,8 @@ enum Way {
 fn pairs_come_by_value(rt: HostRuntime) -> Result<(), Fail> {
     for row in ROWS {
         for way in [Way::Drain, Way::IntoIter, Way::IntoKeys, Way::IntoValues] {
-            let map = map_of(rt.alloc(), row.hasher, row.keys)?;
-            let mut keys = taken(rt.alloc(), map, way)?;
-            keys.sort()?;
-            check_same(
-                &rt,
-                keys,
-                listed(rt.alloc(), row.in_order)?,
-                (row.name, way),
-            );
+            let found = taken(rt.alloc(), map_of(rt.alloc(), row), way)?;
+            check_listed(&rt, rt.alloc(), found, row.in_order, (row.name, way));
         }
     }
     Ok(())
@@ -65,145 +59,91 @@ fn pairs_come_by_value(rt: HostRuntime) -> Result<(), Fail> {
 fn keys_come_by_value(rt: HostRuntime) -> Result<(), Fail> {
     for row in ROWS {
         let mut set = set_of(rt.alloc(), row.hasher, row.keys);
-        let mut keys: Vec<u64> = set.drain().collect(rt.alloc())?;
-        keys.sort()?;
-        check_same(
-            &rt,
-            keys,
-            listed(rt.alloc(), row.in_order)?,
-            (row.name, "drain"),
-        );
+        let found = met(rt.alloc(), set.drain());
+        check_listed(&rt, rt.alloc(), found, row.in_order, (row.name, "drain"));
         check_same(&rt, (set.len(), set.capacity()), (0, 0), (row.name, "left"));
-        let keys = keys_met(rt.alloc(), set_of(rt.alloc(), row.hasher, row.keys))?;
-        check_same(
-            &rt,
-            keys,
-            listed(rt.alloc(), row.in_order)?,
-            (row.name, "loop"),
-        );
+        let set = set_of(rt.alloc(), row.hasher, row.keys);
+        let found = met(rt.alloc(), set.into_iter());
+        check_listed(&rt, rt.alloc(), found, row.in_order, (row.name, "loop"));
     }
     Ok(())
 }
 
-// The keys that a loop takes out of a set, in order.
-fn keys_met(alloc: Global, set: Set) -> Result<Vec<u64>, Fail> {
-    let mut keys = Vec::new(alloc);
-    for key in set {
-        keys.push(key)?;
+// The keys that an iterator gives.
+fn met<I: Iterator<Item = u64> + Drop>(alloc: Global, keys: I) -> Vec<u64>
+    requires can { I.can_next keys }
+    requires finite { IsFinite (I.remaining keys) }
+{
+    let mut met = Vec::new(alloc);
+    for key in keys {
+        let _ = met.push(key);
     }
-    keys.sort()?;
-    Ok(keys)
+    met
 }
 
-// A map of keys, each its own value.
-fn map_of(alloc: Global, hasher: ScriptHash, ranges: Ranges) -> Result<Map, Fail> {
-    let mut map = HashMap::with_hasher(alloc, hasher);
-    for (from, to) in ranges {
-        for key in *from..*to {
-            map.insert(key, key)?;
-        }
+// A map of a row's keys, each its own value.
+fn map_of(alloc: Global, row: &Row) -> Map {
+    let mut map = HashMap::with_hasher(alloc, row.hasher);
+    for (from, to) in row.keys {
+        let _ = fill(&mut map, *from, *to);
     }
-    Ok(map)
+    map
 }
 
 // The keys, or the values, that come of a map.
-fn taken(alloc: Global, mut map: Map, way: Way) -> Result<Vec<u64>, Fail> {
+fn taken(alloc: Global, mut map: Map, way: Way) -> Result<Vec<u64>, AllocError> {
     match way {
-        Way::Drain => keys_of(alloc, map.drain()),
-        Way::IntoIter => keys_of(alloc, map.into_iter()),
-        Way::IntoKeys => {
-            let keys: Vec<u64> = map.into_keys().collect(alloc)?;
-            Ok(keys)
-        }
-        Way::IntoValues => {
-            let values: Vec<u64> = map.into_values().collect(alloc)?;
-            Ok(values)
-        }
+        Way::Drain => Ok(keys_of(alloc, map.drain())),
+        Way::IntoIter => Ok(keys_of(alloc, map.into_iter())),
+        Way::IntoKeys => map.into_keys().collect(alloc),
+        Way::IntoValues => map.into_values().collect(alloc),
     }
 }
 
 // The keys of pairs. One whose value is another gives both.
-fn keys_of(alloc: Global, pairs: IntoIter<u64, u64>) -> Result<Vec<u64>, Fail> {
+fn keys_of(alloc: Global, pairs: IntoIter<u64, u64>) -> Vec<u64> {
     let mut keys = Vec::new(alloc);
     for (key, value) in pairs {
-        keys.push(key)?;
+        let _ = keys.push(key);
         if key != value {
-            keys.push(value)?;
+            let _ = keys.push(value);
         }
     }
-    Ok(keys)
+    keys
 }
 
-/// What happens on a map, or is seen of it. Of two keys the second is the first that is not meant.
-enum Step {
-    /// Keys are inserted, each as its own value.
-    Fills(u64, u64),
-    /// A drain hands out so many pairs, and is dropped.
-    Leaves(usize),
-    /// The value that a key has.
-    Holds(u64, Option<u64>),
-    /// How many pairs and slots there are.
-    Sees(usize, usize),
-}
-
-const STEPS: &[Step] = steps! {
-    Leaves(0), Sees(0, 0), Fills(1, 3), Sees(2, 64), Leaves(2), Sees(0, 0), Holds(1, None),
-    Fills(1, 2), Holds(1, Some(1)), Sees(1, 64), Leaves(0), Sees(0, 0), Fills(0, 31),
-    Fills(128, 159), Fills(31, 32), Sees(63, 128), Leaves(40), Sees(0, 0), Holds(31, None),
-    Holds(158, None), Fills(0, 31), Sees(31, 64), Fills(128, 159), Fills(31, 32), Sees(63, 128),
-    Holds(158, Some(158)), Leaves(63), Sees(0, 0)
+pub(super) const STORIES: &[Story] = steps! {
+    Story { name: "a map takes pairs after a drain", hasher: ScriptHash::Spread, minimum: 0,
+        steps: steps! {
+            Leaves(0), Len(0), Slots(0), Fills(1, 3), Len(2), Slots(64), Leaves(2), Len(0),
+            Slots(0), Holds(1, None), Fills(1, 2), Holds(1, Some(1)), Len(1), Slots(64), Leaves(0),
+            Len(0), Slots(0), Fills(0, 31), Fills(128, 159), Fills(31, 32), Len(63), Slots(128),
+            Leaves(40), Len(0), Slots(0), Holds(31, None), Holds(158, None), Fills(0, 31), Len(31),
+            Slots(64), Fills(128, 159), Fills(31, 32), Len(63), Slots(128), Holds(158, Some(158)),
+            Leaves(63), Len(0), Slots(0) } }
 };
-
-#[test]
-fn a_map_takes_pairs_after_a_drain(rt: HostRuntime) -> Result<(), Fail> {
-    let mut map: Map = HashMap::with_hasher(rt.alloc(), ScriptHash::Spread);
-    for (row, step) in STEPS.iter().enumerate() {
-        take(&rt, &mut map, ("a map", row), step)?;
-        check_same(&rt, *map.hasher(), ScriptHash::Spread, row);
-    }
-    Ok(())
-}
-
-// Takes a step, and compares what comes of it.
-fn take(rt: &impl Abort, map: &mut Map, at: At, step: &Step) -> Result<(), Fail> {
-    match step {
-        Fills(from, to) => {
-            for key in *from..*to {
-                map.insert(key, key)?;
-            }
-        }
-        Leaves(pairs) => {
-            let came = map.drain().take(*pairs).count();
-            check_same(rt, came, *pairs, at);
-        }
-        Holds(key, value) => check_same(rt, map.get(key).copied(), *value, at),
-        Sees(pairs, slots) => {
-            check_same(rt, (map.len(), map.capacity()), (*pairs, *slots), at);
-        }
-    }
-    Ok(())
-}
 
 #[test]
 fn a_cache_is_drained_and_takes_pairs_again(rt: HostRuntime) -> Result<(), Fail> {
     let mut cache: Cache = HashCache::with_capacity(rt.alloc(), ScriptHash::Zero, 0, 256);
-    for key in 0..32 {
-        cache.put(key, key)?;
-    }
-    check_same(&rt, cache.put(32, 320)?, Some((0, 0)), "evicted");
-    let drained = cache.drain().map(|pair: (u64, u64)| pair.0);
-    let mut keys: Vec<u64> = drained.collect(rt.alloc())?;
-    keys.sort()?;
-    check_same(&rt, keys, listed(rt.alloc(), &[(1, 33)])?, "drained");
-    check_same(&rt, (cache.len(), cache.capacity()), (0, 0), "left");
-    check_same(&rt, cache.put(0, 5)?, None, "put");
+    check_same(&rt, put_all(&mut cache, 0, 32), true, "put");
     check_same(
         &rt,
-        (cache.len(), cache.get(&0).copied()),
-        (1, Some(5)),
-        "again",
+        put(&mut cache, 32, 320),
+        Some(Ok(Some((0, 0)))),
+        "evicted",
     );
+    let found = met(rt.alloc(), cache.drain().map(key_of));
+    check_listed(&rt, rt.alloc(), found, &[(1, 33)], "drained");
+    check_same(&rt, (cache.len(), cache.capacity()), (0, 0), "left");
+    check_same(&rt, put(&mut cache, 0, 5), Some(Ok(None)), "put");
+    let found = (cache.len(), cache.get(&0).copied());
+    check_same(&rt, found, (1, Some(5)), "again");
     Ok(())
+}
+
+fn key_of(pair: (u64, u64)) -> u64 {
+    pair.0
 }
 
 type Counted = HashMap<u64, Rc<u64>, ScriptHash>;
@@ -216,32 +156,49 @@ fn what_is_not_handed_out_is_dropped(rt: HostRuntime) -> Result<(), Fail> {
     let counted = Rc::new(rt.alloc(), 0u64)?;
     let mut map: Counted = HashMap::with_hasher(rt.alloc(), ScriptHash::Spread);
     for handed_out in HANDED_OUT {
-        put_all(&mut map, &counted)?;
+        put_clones(&mut map, &counted);
         check_same(&rt, Rc::strong_count(&counted), 64, (handed_out, "put"));
-        let mut left = map.drain();
-        let held = first_of(rt.alloc(), &mut left, handed_out)?;
-        check_same(&rt, Rc::strong_count(&counted), 64, (handed_out, "taken"));
-        check_same(&rt, map.len(), 0, (handed_out, "amid the drain"));
-        drop(left);
-        let wanted = handed_out.saturating_add(1);
-        check_same(
-            &rt,
-            Rc::strong_count(&counted),
-            wanted,
-            (handed_out, "held"),
-        );
-        drop(held);
+        hand_out(&rt, rt.alloc(), &mut map, &counted, handed_out);
         check_same(&rt, Rc::strong_count(&counted), 1, (handed_out, "dropped"));
     }
     Ok(())
 }
 
 // Puts a clone under each of 63 keys. As the last one comes, a second array stands.
-fn put_all(map: &mut Counted, counted: &Rc<u64>) -> Result<(), Fail> {
-    for key in (0..31).chain(128..159).chain(31..32) {
-        let _ = map.insert(key, counted.clone()?);
+fn put_clones(map: &mut Counted, counted: &Rc<u64>) {
+    for number in 0..63u64 {
+        let key = match number {
+            0..=30 => number,
+            31..=61 => number.wrapping_add(97),
+            _ => 31,
+        };
+        put_clone(map, counted, key);
     }
-    Ok(())
+}
+
+// Puts a clone under a key.
+fn put_clone(map: &mut Counted, counted: &Rc<u64>, key: u64) {
+    if let Ok(value) = counted.clone() {
+        let _ = map.insert(key, value);
+    }
+}
+
+// Has a drain hand out so many pairs, and drops it, and then them.
+fn hand_out(
+    rt: &impl Abort,
+    alloc: Global,
+    map: &mut Counted,
+    counted: &Rc<u64>,
+    handed_out: usize,
+) {
+    let mut left = map.drain();
+    let held = first_of(alloc, &mut left, handed_out);
+    let found = (Rc::strong_count(counted), map.len());
+    check_same(rt, found, (64, 0), (handed_out, "amid the drain"));
+    drop(left);
+    let wanted = handed_out.saturating_add(1);
+    check_same(rt, Rc::strong_count(counted), wanted, (handed_out, "held"));
+    drop(held);
 }
 
 // The first pairs that a drain hands out, so many.
@@ -249,28 +206,36 @@ fn first_of(
     alloc: Global,
     left: &mut Drain<u64, Rc<u64>>,
     pairs: usize,
-) -> Result<Vec<Option<(u64, Rc<u64>)>>, Fail> {
+) -> Vec<Option<(u64, Rc<u64>)>> {
     let mut held = Vec::new(alloc);
     for _ in 0..pairs {
-        held.push(left.next())?;
+        let _ = held.push(left.next());
     }
-    Ok(held)
+    held
 }
 
 #[test]
 fn the_other_half_of_each_pair_is_dropped(rt: HostRuntime) -> Result<(), Fail> {
     let counted = Rc::new(rt.alloc(), 0u64)?;
-    let mut map: Counted = HashMap::with_hasher(rt.alloc(), ScriptHash::Zero);
-    for key in 0..40 {
-        let _ = map.insert(key, counted.clone()?);
-    }
-    let mut keys = map.into_keys();
-    for left in [40usize, 39, 38] {
-        let wanted = left.saturating_add(1);
-        check_same(&rt, Rc::strong_count(&counted), wanted, left);
-        check_same(&rt, keys.next().is_some(), true, left);
-    }
-    drop(keys);
+    take_keys(&rt, map_of_40(rt.alloc(), &counted), &counted);
     check_same(&rt, Rc::strong_count(&counted), 1, "dropped");
     Ok(())
+}
+
+// A map with a clone under each of 40 keys.
+fn map_of_40(alloc: Global, counted: &Rc<u64>) -> Counted {
+    let mut map = HashMap::with_hasher(alloc, ScriptHash::Zero);
+    for key in 0..40 {
+        put_clone(&mut map, counted, key);
+    }
+    map
+}
+
+// Takes three keys of 40, and drops the others.
+fn take_keys(rt: &impl Abort, map: Counted, counted: &Rc<u64>) {
+    let mut keys = map.into_keys();
+    for left in [40usize, 39, 38] {
+        check_same(rt, Rc::strong_count(counted), left.saturating_add(1), left);
+        check_same(rt, keys.next().is_some(), true, left);
+    }
 }

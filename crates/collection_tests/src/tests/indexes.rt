@@ -1,10 +1,11 @@
 //! Stories of an index of numbers: what each call answers, and which pairs are seen then.
-use super::iterating::{Walk, gone_over};
+use super::iterating::{Pairs, gone_over, same_pairs, walk_numbers, walk_pairs};
 use super::{At, check_same, steps};
 use Step::*;
 use bucket_table::script::{FixedGeneration, ScriptHash};
 use collections::hash_index::HashIndex;
 use collections::hash_map::NotInserted;
+use std::alloc::Global;
 use std::process::Abort;
 use std::test::Fail;
 
@@ -110,91 +111,95 @@ fn indexes_go_through_their_stories(rt: HostRuntime) -> Result<(), Fail> {
                 epoch: (number % 256) as u8,
                 keep,
             };
-            let mut index: Index = HashIndex::with_minimum(
-                rt.alloc(),
-                story.hasher,
-                story.capacity,
-            );
-            play(&rt, &mut index, &now, story)?;
+            play(&rt, rt.alloc(), &now, story);
         }
     }
     Ok(())
 }
 
-// Takes the steps of a story.
-fn play(
-    rt: &impl Abort,
-    index: &mut Index,
-    now: &FixedGeneration,
-    story: &Story,
-) -> Result<(), Fail> {
+// Takes the steps of a story on a new index.
+fn play(rt: &impl Abort, alloc: Global, now: &FixedGeneration, story: &Story) {
+    let mut index: Index = HashIndex::with_minimum(alloc, story.hasher, story.capacity);
     for (row, step) in story.steps.iter().enumerate() {
-        take(rt, index, now, (story.name, row), step)?;
+        take(rt, &mut index, now, (story.name, row), step);
         check_same(rt, *index.hasher(), story.hasher, (story.name, row));
     }
-    Ok(())
 }
 
-// Takes a step that puts pairs, and compares what it answers.
-fn take(
-    rt: &impl Abort,
-    index: &mut Index,
-    now: &FixedGeneration,
-    at: At,
-    step: &Step,
-) -> Result<(), Fail> {
-    match step {
-        Fills(from, to) => {
-            for key in *from..*to {
-                index.insert(key, key, now)?;
-            }
+// Takes a step that puts or marks pairs, and compares what it answers.
+fn take(rt: &impl Abort, index: &mut Index, now: &FixedGeneration, at: At, step: &Step) {
+    match *step {
+        Fills(from, to) => check_same(rt, fill(index, from, to, now), true, at),
+        Inserts(key, value) => check_same(rt, insert(index, key, value, now), Ok(()), at),
+        Returns(key, value) => {
+            check_same(
+                rt,
+                insert(index, key, value, now),
+                Err(Some((key, value))),
+                at,
+            );
         }
-        Inserts(key, value) => index.insert(*key, *value, now)?,
-        Returns(key, value) => match index.insert(*key, *value, now) {
-            Err(NotInserted::Present(own, back)) => {
-                check_same(rt, (own, back), (*key, *value), at);
-            }
-            _ => check_same(rt, true, false, (at, "inserted")),
-        },
-        _ => change(rt, index, now, at, step),
+        Removes(key, there) => check_same(rt, index.remove(&key, now), there, at),
+        Reads(key, pair) => check_same(rt, index.remove_with(&key, now, pair_of), pair, at),
+        Drains(from, to) => check_same(rt, drain(index, from, to, now), true, at),
+        _ => resize(rt, index, at, step),
     }
-    Ok(())
 }
 
-// Takes a step that marks pairs, or sets the minimum.
-fn change(rt: &impl Abort, index: &mut Index, now: &FixedGeneration, at: At, step: &Step) {
-    match step {
-        Removes(key, there) => check_same(rt, index.remove(key, now), *there, at),
-        Reads(key, pair) => {
-            let found = index.remove_with(key, now, |own: &u64, value: &u64| (*own, *value));
-            check_same(rt, found, *pair, at);
-        }
-        Drains(from, to) => {
-            for key in *from..*to {
-                check_same(rt, index.remove(&key, now), true, (at, key));
-            }
-        }
+// Inserts a pair. Returns the one that comes back since its key is there, or none where there is
+// no memory.
+fn insert(
+    index: &mut Index,
+    key: u64,
+    value: u64,
+    now: &FixedGeneration,
+) -> Result<(), Option<(u64, u64)>> {
+    match index.insert(key, value, now) {
+        Ok(()) => Ok(()),
+        Err(NotInserted::Present(own, back)) => Err(Some((own, back))),
+        Err(NotInserted::Memory(_, _)) => Err(None),
+    }
+}
+
+// Inserts keys, each as its own value. Whether all are in.
+fn fill(index: &mut Index, from: u64, to: u64, now: &FixedGeneration) -> bool {
+    let mut are_in = true;
+    for key in from..to {
+        are_in = index.insert(key, key, now).is_ok() && are_in;
+    }
+    are_in
+}
+
+// Marks keys. Whether each was there.
+fn drain(index: &mut Index, from: u64, to: u64, now: &FixedGeneration) -> bool {
+    let mut were_there = true;
+    for key in from..to {
+        were_there = index.remove(&key, now) && were_there;
+    }
+    were_there
+}
+
+fn pair_of(own: &u64, value: &u64) -> (u64, u64) {
+    (*own, *value)
+}
+
+// Takes a step that sets the minimum or looks.
+fn resize(rt: &impl Abort, index: &mut Index, at: At, step: &Step) {
+    match *step {
         Reserves(additional, raised) => {
-            check_same(rt, index.raise_minimum(*additional), *raised, at);
+            check_same(rt, index.raise_minimum(additional), raised, at);
         }
         Shrinks => index.shrink_to_fit(),
         Clears => index.clear(),
-        _ => look(rt, index, at, step),
-    }
-}
-
-// Takes a step that looks.
-fn look(rt: &impl Abort, index: &Index, at: At, step: &Step) {
-    match step {
         Holds(key, value) => {
-            let found = (index.peek(key).copied(), index.contains(key));
-            check_same(rt, found, (*value, value.is_some()), at);
+            let found = (index.peek(&key).copied(), index.contains(&key));
+            check_same(rt, found, (value, value.is_some()), at);
         }
         Len(len) => {
-            check_same(rt, (index.len(), index.is_empty()), (*len, *len == 0), at);
-            check_same(rt, met(index), Some(*len), (at, "met"));
+            let found = (index.len(), index.is_empty(), met(index));
+            check_same(rt, found, (len, len == 0, Some(len)), at);
         }
-        Slots(slots) => check_same(rt, index.capacity(), *slots, at),
+        Slots(slots) => check_same(rt, index.capacity(), slots, at),
         _ => check_same(rt, true, false, (at, "no step")),
     }
 }

@@ -1,65 +1,113 @@
 //! What the walks of a map, an index and a cache give. The stories of each compare it wherever they
 //! count pairs.
+ghost use Rattle.std.specs.Iterator.{IsFinite};
 
-/// The keys and the values that a walk gave, in its order, up to 256 of each; and how many came.
+/// The numbers that a walk gave, in its order, up to 256 of them; and how many came.
 #[derive(Drop)]
 pub(super) struct Walk {
-    keys: [u64; 256],
-    values: [u64; 256],
-    keys_len: usize,
-    values_len: usize,
+    numbers: [u64; 256],
+    len: usize,
 }
 
 impl Walk {
-    pub(super) fn new() -> Self {
+    fn new() -> Self {
         Walk {
-            keys: [0; 256],
-            values: [0; 256],
-            keys_len: 0,
-            values_len: 0,
+            numbers: [0; 256],
+            len: 0,
         }
     }
 
-    pub(super) fn key(&mut self, key: u64) {
-        if let Some(place) = self.keys.get_mut(self.keys_len) {
-            *place = key;
+    fn add(&mut self, number: u64) {
+        if let Some(place) = self.numbers.get_mut(self.len) {
+            *place = number;
         }
-        self.keys_len = self.keys_len.saturating_add(1);
-    }
-
-    pub(super) fn value(&mut self, value: u64) {
-        if let Some(place) = self.values.get_mut(self.values_len) {
-            *place = value;
-        }
-        self.values_len = self.values_len.saturating_add(1);
-    }
-
-    pub(super) fn pair(&mut self, key: u64, value: u64) {
-        self.key(key);
-        self.value(value);
-    }
-
-    // How many pairs came: keys below 256, each once, and as many values; or else none.
-    pub(super) fn pairs(&self) -> Option<usize> {
-        let mut is_met = [false; 256];
-        for key in self.keys.iter().take(self.keys_len) {
-            match is_met.get_mut(*key as usize) {
-                Some(place) if !*place => *place = true,
-                _ => return None,
-            }
-        }
-        if self.keys_len <= 256 && self.keys_len == self.values_len {
-            Some(self.keys_len)
-        } else {
-            None
-        }
+        self.len = self.len.saturating_add(1);
     }
 
     // Whether another walk gave the same in the same order.
-    pub(super) fn is_as(&self, other: &Walk) -> bool {
-        (self.keys_len, self.values_len) == (other.keys_len, other.values_len)
-            && self.keys == other.keys
-            && self.values == other.values
+    fn is_as(&self, other: &Walk) -> bool {
+        self.len == other.len && self.numbers == other.numbers
+    }
+
+    // Whether each number is below 256 and came once, so that none was left out.
+    fn is_distinct(&self) -> bool {
+        let mut is_met = [false; 256];
+        for number in self.numbers.iter().take(self.len) {
+            match is_met.get_mut(*number as usize) {
+                Some(place) if !*place => *place = true,
+                _ => return false,
+            }
+        }
+        self.len <= 256
+    }
+}
+
+/// The keys and the values of the pairs that a walk gave.
+#[derive(Drop)]
+pub(super) struct Pairs {
+    keys: Walk,
+    values: Walk,
+}
+
+impl Pairs {
+    pub(super) fn new() -> Self {
+        Pairs {
+            keys: Walk::new(),
+            values: Walk::new(),
+        }
+    }
+
+    pub(super) fn add(&mut self, key: u64, value: u64) {
+        self.keys.add(key);
+        self.values.add(value);
+    }
+
+    // The pair that came after so many.
+    pub(super) fn get(&self, place: usize) -> Option<(u64, u64)> {
+        match (self.keys.numbers.get(place), self.values.numbers.get(place)) {
+            (Some(key), Some(value)) => Some((*key, *value)),
+            _ => None,
+        }
+    }
+
+    pub(super) fn len(&self) -> usize {
+        self.keys.len
+    }
+}
+
+// The pairs that an iterator gives.
+pub(super) fn walk_pairs<'a, I: Iterator<Item = (&'a u64, &'a u64)> + Drop>(pairs: I) -> Pairs
+    requires can { I.can_next pairs }
+    requires finite { IsFinite (I.remaining pairs) }
+{
+    let mut met = Pairs::new();
+    for (key, value) in pairs {
+        met.add(*key, *value);
+    }
+    met
+}
+
+// The numbers that an iterator gives.
+pub(super) fn walk_numbers<'a, I: Iterator<Item = &'a u64> + Drop>(numbers: I) -> Walk
+    requires can { I.can_next numbers }
+    requires finite { IsFinite (I.remaining numbers) }
+{
+    let mut walk = Walk::new();
+    for number in numbers {
+        walk.add(*number);
+    }
+    walk
+}
+
+// How many pairs came, where other walks gave the same pairs, keys and values in the same order:
+// keys below 256, each once, and as many values; or else none.
+pub(super) fn same_pairs(met: &Pairs, pairs: &Pairs, keys: &Walk, values: &Walk) -> Option<usize> {
+    let are_as = met.keys.is_as(&pairs.keys) && met.values.is_as(&pairs.values);
+    let are_as = are_as && met.keys.is_as(keys) && met.values.is_as(values);
+    if are_as && met.keys.is_distinct() && keys.len == values.len {
+        Some(keys.len)
+    } else {
+        None
     }
 }
 
@@ -68,20 +116,17 @@ impl Walk {
 // same order; or else none.
 macro_rules! gone_over {
     ($collection:expr, $look:ident) => {{
-        let (mut met, mut paired, mut apart) = (Walk::new(), Walk::new(), Walk::new());
-        let mut is_found = true;
-        $collection.for_each(&mut |key: &u64, value: &u64| met.pair(*key, *value));
-        for (key, value) in $collection {
-            is_found = is_found && $collection.$look(key) == Some(value);
-            paired.pair(*key, *value);
+        let mut met = Pairs::new();
+        $collection.for_each(&mut |key: &u64, value: &u64| met.add(*key, *value));
+        for place in 0..met.len() {
+            match met.get(place) {
+                Some((key, value)) if $collection.$look(&key) == Some(&value) => {}
+                _ => return None,
+            }
         }
-        for key in $collection.keys() {
-            apart.key(*key);
-        }
-        for value in $collection.values() {
-            apart.value(*value);
-        }
-        if is_found && met.is_as(&paired) && met.is_as(&apart) { met.pairs() } else { None }
+        let pairs = walk_pairs($collection.into_iter());
+        let (keys, values) = (walk_numbers($collection.keys()), walk_numbers($collection.values()));
+        same_pairs(&met, &pairs, &keys, &values)
     }};
 }
 

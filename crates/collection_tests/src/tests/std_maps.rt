@@ -1,14 +1,14 @@
 //! What the standard library's tests of its map check: the same calls on this map, with the same
 //! answers. A comment names the test.
 use super::maps::Step::*;
-use super::maps::{Map, Story, play};
+use super::maps::{Map, Story};
 use super::{check_same, steps};
 use bucket_table::script::ScriptHash;
 use collections::hash_map::HashMap;
 use std::process::Abort;
 use std::test::Fail;
 
-const STORIES: &[Story] = steps! {
+pub(super) const STORIES: &[Story] = steps! {
     // test_create_capacity_zero
     Story { name: "a map that was made for none takes a pair", hasher: ScriptHash::Id,
         minimum: 0, steps: steps! { Upserts(1, 1, None), Holds(1, Some(1)), Holds(0, None) } },
@@ -61,11 +61,6 @@ const STORIES: &[Story] = steps! {
             Multiplies(0, 100, 10), Keeps(2, 0, 100), Len(50), Holds(2, Some(20)),
             Holds(4, Some(40)), Holds(6, Some(60)) } }
 };
-
-#[test]
-fn maps_answer_as_those_of_std(rt: HostRuntime) -> Result<(), Fail> {
-    play(&rt, rt.alloc(), STORIES)
-}
 
 // How many keys come and go. Those of the test are 1000, in ten rounds.
 const KEYS: u64 = 100;

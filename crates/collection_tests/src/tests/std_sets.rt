@@ -1,13 +1,13 @@
 //! What the standard library's tests of its set check: the same calls on this set, with the same
 //! answers. A comment names the test; a key below 0 is here as far below 200.
 use super::sets::Step::*;
-use super::sets::{Set, Step, play};
-use super::two_sets::{Ranges, Row, check_rows, set_of};
+use super::sets::{Set, Step};
+use super::two_sets::{Ranges, Row, set_of};
 use super::{check_same, steps};
 use bucket_table::script::ScriptHash;
 use std::test::Fail;
 
-const STEPS: &[Step] = steps! {
+pub(super) const STEPS: &[Step] = steps! {
     // test_iterate
     Comes(&[0, 1, 2, 3, 4, 5, 6, 7, 8, 9, 10, 11, 12, 13, 14, 15]),
     Comes(&[16, 17, 18, 19, 20, 21, 22, 23, 24, 25, 26, 27, 28, 29, 30, 31]),
@@ -22,12 +22,7 @@ const STEPS: &[Step] = steps! {
     Holds(6, true)
 };
 
-#[test]
-fn a_set_answers_as_that_of_std(rt: HostRuntime) -> Result<(), Fail> {
-    play(&rt, rt.alloc(), STEPS)
-}
-
-const ROWS: &[Row] = steps! {
+pub(super) const ROWS: &[Row] = steps! {
     // test_intersection, test_difference, test_symmetric_difference, test_union: of no keys
     Row { one: &[], other: &[], union: &[], intersection: &[], difference: &[],
         symmetric_difference: &[] },
@@ -59,11 +54,6 @@ const ROWS: &[Row] = steps! {
         difference: &[(3, 4), (11, 12), (16, 17), (24, 25)],
         symmetric_difference: &[(3, 4), (11, 12), (13, 14), (16, 17), (24, 25), (198, 199)] }
 };
-
-#[test]
-fn two_sets_are_joined_and_parted_as_those_of_std(rt: HostRuntime) -> Result<(), Fail> {
-    check_rows(&rt, rt.alloc(), ROWS)
-}
 
 /// Two sets, whether the first is a subset of the other, a superset of it and disjoint from it, and
 /// whether they are equal.

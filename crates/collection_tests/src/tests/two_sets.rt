@@ -1,9 +1,10 @@
 //! What two sets have together, apart, and of one alone.
 use super::sets::{Set, fill_set};
-use super::{check_same, steps};
+use super::{check_same, std_sets, steps};
 use bucket_table::script::ScriptHash;
 use collections::hash_set::HashSet;
 use std::alloc::Global;
+use std::fmt::Debug;
 use std::process::Abort;
 use std::test::Fail;
 
@@ -20,9 +21,10 @@ pub(super) struct Row {
     pub(super) symmetric_difference: Ranges,
 }
 
-/// A call on two sets.
+/// A call on two sets, or on the first alone.
 #[derive(Clone, Copy, Debug)]
-enum Call {
+pub(super) enum Call {
+    ForEach,
     Union,
     Intersection,
     Difference,
@@ -51,50 +53,47 @@ const ROWS: &[Row] = steps! {
 
 #[test]
 fn two_sets_are_joined_and_parted(rt: HostRuntime) -> Result<(), Fail> {
-    check_rows(&rt, rt.alloc(), ROWS)
+    check_rows(&rt, rt.alloc(), ROWS);
+    check_rows(&rt, rt.alloc(), std_sets::ROWS);
+    Ok(())
 }
 
 // What each call hands over of the sets of each row.
-pub(super) fn check_rows(rt: &impl Abort, alloc: Global, rows: &[Row]) -> Result<(), Fail> {
+fn check_rows(rt: &impl Abort, alloc: Global, rows: &[Row]) {
     for (number, row) in rows.iter().enumerate() {
         let one = set_of(alloc, ScriptHash::Spread, row.one);
         let other = set_of(alloc, ScriptHash::Id, row.other);
-        for call in CALLS.iter() {
-            check_call(rt, alloc, &one, &other, (number, *call), wanted(row, *call))?;
-        }
-    }
-    Ok(())
-}
-
-const CALLS: [Call; 4] = [
-    Call::Union,
-    Call::Intersection,
-    Call::Difference,
-    Call::SymmetricDifference,
-];
-
-// The keys that a call is to hand over.
-fn wanted(row: &Row, call: Call) -> Ranges {
-    match call {
-        Call::Union => row.union,
-        Call::Intersection => row.intersection,
-        Call::Difference => row.difference,
-        Call::SymmetricDifference => row.symmetric_difference,
+        check_row(rt, alloc, &one, &other, row, number);
     }
 }
 
-// What a call hands over of two sets.
-fn check_call(
+fn check_row(rt: &impl Abort, alloc: Global, one: &Set, other: &Set, row: &Row, number: usize) {
+    for (call, ranges) in calls(row) {
+        let found = handed_over(alloc, one, other, call);
+        check_listed(rt, alloc, found, ranges, (number, call));
+    }
+}
+
+// The calls, and the keys that each is to hand over.
+fn calls(row: &Row) -> [(Call, Ranges); 4] {
+    [
+        (Call::Union, row.union),
+        (Call::Intersection, row.intersection),
+        (Call::Difference, row.difference),
+        (Call::SymmetricDifference, row.symmetric_difference),
+    ]
+}
+
+// Keys are those of ranges, in some order.
+pub(super) fn check_listed<R: Debug + Drop>(
     rt: &impl Abort,
     alloc: Global,
-    one: &Set,
-    other: &Set,
-    at: (usize, Call),
-    ranges: Ranges,
-) -> Result<(), Fail> {
-    let found = handed_over(alloc, one, other, at.1)?;
-    check_same(rt, found, listed(alloc, ranges)?, at);
-    Ok(())
+    mut keys: Vec<u64>,
+    ranges: &[(u64, u64)],
+    row: R,
+) {
+    let are_sorted = keys.sort().is_ok();
+    check_same(rt, (are_sorted, keys), (true, listed(alloc, ranges)), row);
 }
 
 // A set of keys.
@@ -106,29 +105,29 @@ pub(super) fn set_of(alloc: Global, hasher: ScriptHash, ranges: Ranges) -> Set {
     set
 }
 
-// The keys that a call hands over, in order.
-fn handed_over(alloc: Global, one: &Set, other: &Set, call: Call) -> Result<Vec<u64>, Fail> {
+// The keys that a call hands over.
+pub(super) fn handed_over(alloc: Global, one: &Set, other: &Set, call: Call) -> Vec<u64> {
     let mut keys = Vec::new(alloc);
     let mut meet = |key: &u64| {
         let _ = keys.push(*key);
     };
     match call {
+        Call::ForEach => one.for_each(&mut meet),
         Call::Union => one.union(other, &mut meet),
         Call::Intersection => one.intersection(other, &mut meet),
         Call::Difference => one.difference(other, &mut meet),
         Call::SymmetricDifference => one.symmetric_difference(other, &mut meet),
     }
-    keys.sort()?;
-    Ok(keys)
+    keys
 }
 
 // The keys of ranges.
-pub(super) fn listed(alloc: Global, ranges: Ranges) -> Result<Vec<u64>, Fail> {
+fn listed(alloc: Global, ranges: &[(u64, u64)]) -> Vec<u64> {
     let mut keys = Vec::new(alloc);
     for (from, to) in ranges {
         for key in *from..*to {
-            keys.push(key)?;
+            let _ = keys.push(key);
         }
     }
-    Ok(keys)
+    keys
 }

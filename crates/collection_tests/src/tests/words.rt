@@ -1,7 +1,7 @@
 //! Words that are looked up by texts, and lists by slices, in collections that name no hasher; and
 //! the errors that hand a word back.
 use super::forms::{Words, no_words, owned, put};
-use super::{At, check_same, steps};
+use super::{At, check_same, maps, sets, steps};
 use Step::*;
 use collections::hash_map::{HashMap, NotInserted};
 use collections::hash_set::HashSet;
@@ -114,6 +114,13 @@ fn refusals_are_errors_and_give_the_pair(rt: HostRuntime) -> Result<(), Fail> {
         "out of memory",
     )?;
     check_insertions(&rt, rt.alloc());
+    Ok(())
+}
+
+#[test]
+fn a_new_map_and_a_new_set_take_words(rt: HostRuntime) -> Result<(), Fail> {
+    maps::check_words(&rt, &mut HashMap::new(rt.alloc()));
+    sets::check_words(&rt, &mut HashSet::new(rt.alloc()));
     Ok(())
 }
 

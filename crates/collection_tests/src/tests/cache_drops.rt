@@ -1,0 +1,95 @@
+//! Values that are counted, in a cache: each is dropped once.
+use super::{At, check_same, steps};
+use Step::*;
+use bucket_table::script::ScriptHash;
+use collections::hash_cache::HashCache;
+use std::process::Abort;
+use std::rc::Rc;
+use std::test::Fail;
+
+type Cache = HashCache<u64, Rc<u64>, ScriptHash>;
+
+/// A call on a cache, all of whose values are clones of one, or what is seen of it.
+enum Step {
+    /// A clone comes under each key below a number. There is a pair and a clone more then, up to 32
+    /// of each.
+    Fills(u64),
+    /// A clone comes under a key: whether it is in.
+    Comes(u64, bool),
+    /// A key goes.
+    Removes(u64),
+    /// The keys below 16 stay.
+    Retains,
+    /// All pairs go.
+    Clears,
+    /// How many pairs there are, and how many clones.
+    Sees(usize),
+}
+
+/// A name, whether what comes is upserted or else put, and what happens on a new cache.
+type Story = (&'static str, bool, &'static [Step]);
+
+// All keys have one bucket, of 32 own slots.
+const STORIES: &[Story] = steps! {
+    ("puts", false, steps! {
+        Fills(40), Comes(39, false), Sees(32), Removes(39), Sees(31), Clears, Sees(0),
+        Comes(39, true), Sees(1) }),
+    ("upserts", true, steps! { Fills(40), Comes(39, true), Sees(32), Retains, Sees(8) })
+};
+
+#[test]
+fn each_value_of_a_cache_is_dropped_once(rt: HostRuntime) -> Result<(), Fail> {
+    let counted = Rc::new(rt.alloc(), 0)?;
+    for (name, upserts, steps) in STORIES {
+        let mut cache: Cache = HashCache::with_hasher(rt.alloc(), ScriptHash::Zero);
+        for (row, step) in steps.iter().enumerate() {
+            take(&rt, &mut cache, &counted, (*name, row), *upserts, step);
+        }
+        drop(cache);
+        check_same(&rt, Rc::strong_count(&counted), 1, *name);
+    }
+    Ok(())
+}
+
+// Takes a step, and compares what comes of it.
+fn take(rt: &impl Abort, cache: &mut Cache, counted: &Rc<u64>, at: At, upserts: bool, step: &Step) {
+    match *step {
+        Fills(to) => fill(rt, cache, counted, upserts, to),
+        Comes(key, is_in) => check_same(rt, give(cache, counted, upserts, key), is_in, at),
+        Removes(key) => drop(cache.remove(&key)),
+        Retains => cache.retain(&mut is_below_16),
+        Clears => cache.clear(),
+        Sees(values) => {
+            let found = (cache.len(), Rc::strong_count(counted));
+            check_same(rt, found, (values, values.saturating_add(1)), at);
+        }
+    }
+}
+
+// A clone comes under each key below a number: as many clones are there as pairs.
+fn fill(rt: &impl Abort, cache: &mut Cache, counted: &Rc<u64>, upserts: bool, to: u64) {
+    for key in 0..to {
+        let done = give(cache, counted, upserts, key);
+        let values = (key as usize).saturating_add(1).min(32);
+        let found = (done, cache.len(), Rc::strong_count(counted));
+        check_same(rt, found, (true, values, values.saturating_add(1)), key);
+    }
+}
+
+fn is_below_16(key: &u64, _value: &mut Rc<u64>) -> bool {
+    *key < 16
+}
+
+// A clone of a value comes under a key. Whether it is in.
+fn give(cache: &mut Cache, counted: &Rc<u64>, upserts: bool, key: u64) -> bool {
+    match counted.clone() {
+        Ok(value) => {
+            if upserts {
+                cache.upsert(key, value).is_ok()
+            } else {
+                cache.put(key, value).is_ok()
+            }
+        }
+        Err(_) => false,
+    }
+}
