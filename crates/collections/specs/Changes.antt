@@ -131,8 +131,9 @@ module _ {K V H : Type 0} (eq : K → K → Bool) where
     pub stays : Stays eq (record old { minimum = old.minimum + answer }) new
 
   -- a function is asked of each pair in turn, from one state to another: those that it keeps are left, with the values last
-  -- written, and the slots stay
+  -- written, and the slots stay, the old ones too
   pub record Retains {S : Type 0} (step : S → Bor K → MutBor V → Bool → MutBor V → S → Type 0) (first : S) (old new : MapView K V H) (last : S) : Type 0 where
     pub asked : RetainsEach step first old.entries new.entries last
     pub kept : Keeps eq old new
     pub slots : new.slots ≡ old.slots
+    pub old_slots : new.old_slots ≡ old.old_slots

@@ -36,7 +36,7 @@ module _ {K V H : Type 0} (eq : K → K → Bool) where
   keys_of_one own other = keys_outside own other ++ keys_outside other own
 
   -- a function is asked of each key in turn, from one state to another: those for which it answers true are left, in their
-  -- order, and the slots stay
+  -- order, and the slots stay, the old ones too
   pub record RetainsKeys {F : Type 0} (asks : Mut F (Bor K × Unit {0}) Bool) (first : F) (old new : MapView K V H) (last : F) : Type 0 where
     pub answers : List Bool
     pub one_each : length answers ≡ length (keys_of old.entries)
@@ -44,3 +44,4 @@ module _ {K V H : Type 0} (eq : K → K → Bool) where
     pub left : keys_of new.entries ≡ items_where_true answers (keys_of old.entries)
     pub kept : Keeps eq old new
     pub slots : new.slots ≡ old.slots
+    pub old_slots : new.old_slots ≡ old.old_slots

@@ -28,7 +28,7 @@ module _ {K V : Type 0} where
       AddsMark wants epoch old new ⊎ ((new.minimum ≡ 0) × (new.current ++ new.linked ≡ []))
   MarksRemoved wants epoch false old new = AreEarlierMarks old (marks_of new)
 
-  -- no mark of the current array goes whose epoch the generation keeps, and where no old array stands none goes or comes
+  -- no mark of the current array goes whose epoch the generation keeps, and where no old array stands these are the same
   pub record LosesNoKeptMark (keeps : ℕ → Bool) (old new : ArraysView K V) : Type 0 where
     pub current : (mark : (K × V) × ℕ) → Contains (marks_among old.current) mark → keeps mark.1 ≡ true → Contains (marks_of new) mark
     pub alone : length old.linked ≡ 0 → filter (λ mark. keeps mark.1) (marks_of new) ≡ filter (λ mark. keeps mark.1) (marks_of old)

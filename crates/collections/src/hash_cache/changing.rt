@@ -2,6 +2,8 @@
 ghost use Rattle.std.specs.Prelude.{◌≡◌, ◌<◌, is_some, length};
 ghost use Rattle.std.specs.Borrow.{Bor, MutBor, sem};
 ghost use Rattle.std.specs.Option.{option_copied_mut};
+ghost use Rattle.bucket_table.specs.Map.LookingUp.{IsThere};
+ghost use Rattle.bucket_table.specs.Views.ArraysView.{pairs_of};
 ghost use Rattle.collections.specs.CacheWrites.{IsTouchedAndWritten, IsWritten, LeavesBuckets};
 ghost use Rattle.collections.specs.Changes.{Retains, Rewrites};
 ghost use Rattle.collections.specs.Maps.{contains_by, get_by, map_of};
@@ -25,7 +27,9 @@ impl<K: Eq + Drop, V: Drop, H: KeyHash<K>> HashCache<K, V, H> {
         key: Q,
         change: F,
     ) -> Option<R>
-        requires callable { (own : Bor K) (value : MutBor V) → F.pre change own value }
+        requires callable { (own : Bor K) (value : MutBor V)
+            → IsThere (Q.stands_for key) (pairs_of self.old.arrays) (own.now, value.now)
+            → F.pre change own value }
         ensures map { Rewrites K.eq (Q.stands_for key)
             (λ own before answer after. F.post change own before answer after) (map_of self.old)
             result (map_of self.new) }

@@ -11,6 +11,7 @@ returns-clause-retained g c = rw (← c.self.view_is) (record {
     maximum = c.retain.ensures.settings.maximum;
   };
   slots = ap (λ n. 32 * n) c.retain.ensures.current.len;
+  old_slots = ap (λ n. 32 * n) c.retain.ensures.linked.len;
 })
 
 pub returns-clause-buckets : goal.returns-clause-buckets

@@ -24,6 +24,7 @@ went g c =
         asked = all.1;
         kept = c.retain.ensures.retained.kept;
         slots = c.retain.ensures.retained.slots;
+        old_slots = c.retain.ensures.retained.old_slots;
       },
     )
 

@@ -25,6 +25,7 @@ went g c =
         left = all.1.3;
         kept = c.retain.ensures.retained.kept;
         slots = c.retain.ensures.retained.slots;
+        old_slots = c.retain.ensures.retained.old_slots;
       }),
     )
 
