@@ -1,7 +1,7 @@
 -- What the arrays are where a bucket was found for a writer: they were made ready, and may have grown then.
 use Rattle.bucket_table.specs.declared.arrays.side.Side.{Side}
 use Rattle.bucket_table.specs.declared.arrays.side.Side.TheVariants.{Current, Old}
-use Rattle.std.proofs.Common.{ℕ, ◌≡◌, ◌<◌, inl, inr, length, refl, arith}
+use Rattle.std.proofs.Common.{ℕ, ◌≡◌, inl, inr, length, refl, arith}
 use Rattle.std.proofs.lemmas.Bool.{cases_lt}
 use Rattle.bucket_table.specs.Map.Finding.{MakesReady, ReadiesThenGrows}
 use Rattle.bucket_table.specs.Resize.Growing.{Grows}

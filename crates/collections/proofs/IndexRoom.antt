@@ -1,16 +1,14 @@
 -- An insertion into an index that ran out of memory lacked slots.
-use Rattle.std.proofs.Common.{ℕ, ◌≡◌, ◌≤◌, ◌<◌, ◌+◌, ◌%◌, ◌++◌, ◌⊎◌, Bool, true, false, if◌then◌else◌, None, Result, Ok, Err, List, [], ◌∷◌}
-use Rattle.std.proofs.Common.{filter, length, map, inl, inr, refl, sym, subst, ap, ◌∙◌, arith, length-append}
+use Rattle.std.proofs.Common.{ℕ, ◌≡◌, ◌≤◌, ◌<◌, ◌+◌, ◌%◌, ◌++◌, Bool, true, false, if◌then◌else◌, None, Result, Ok, Err, List, [], ◌∷◌}
+use Rattle.std.proofs.Common.{length, map, inl, inr, refl, sym, subst, ap, ◌∙◌, arith, length-append}
 use Rattle.std.specs.List.{list_any}
 use Rattle.std.proofs.lemmas.Bool.{cases_Bool, true≢false}
 use Rattle.std.proofs.lemmas.List.Elements.{filter-append, filter_map-append}
 use Rattle.std.proofs.lemmas.List.Sums.{sum_by-append, sum_by-cons}
-use Rattle.bucket_slots.specs.ArrayView.{bucket_at}
 use Rattle.bucket_slots.specs.BucketLaws.{IsBucketOf}
 use Rattle.bucket_slots.specs.BucketView.{BucketView, first_place, flattened, marks_in, pairs_in}
 use Rattle.bucket_slots.specs.Clearing.{is_full_with_marks, slot_without_expired, slots_without_expired}
-use Rattle.bucket_slots.specs.Homes.{IsHome}
-use Rattle.bucket_slots.specs.Slots.{Slot, free, free_len, is_free, is_marked, live, live_pairs, marked, marked_entries, marked_entry}
+use Rattle.bucket_slots.specs.Slots.{Slot, free, free_len, is_free, live, live_pairs, marked, marked_entries, marked_entry}
 use Rattle.bucket_slots.proofs.Counting.{length-live_pairs-append, tally}
 use Rattle.bucket_slots.proofs.RoomCallerLemmas.{free_len_in-none}
 use Rattle.bucket_table.specs.Map.ByKey.{HasNoSlot, Inserts, InsertsAt}

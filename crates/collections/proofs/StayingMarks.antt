@@ -1,5 +1,5 @@
 -- That the marks of a current array stay where old pairs move on, beside what else a call does.
-use Rattle.std.proofs.Common.{ℕ, ◌≡◌, ◌<◌, Bool, true, false, List, [], ◌∷◌, Some, length, inl, inr, refl, suc, zero, ap, subst, sym, ◌∙◌, arith}
+use Rattle.std.proofs.Common.{ℕ, ◌≡◌, Bool, true, false, List, [], ◌∷◌, Some, length, inl, inr, refl, suc, zero, ap, subst, sym, ◌∙◌, arith}
 use Rattle.std.proofs.lemmas.Bool.{cases_Bool, cases_lt}
 use Rattle.std.specs.List.{Contains}
 use Rattle.std.proofs.lemmas.List.{nil_from_length}

@@ -1,7 +1,6 @@
 use Rattle.std.proofs.Common.{ap, subst, sym, ◌∙◌}
-use Rattle.collections.specs.Capacity.{ShrinksToFit}
 use Rattle.collections.specs.Changes.{Stays}
-use Rattle.collections.specs.Maps.{MapView, map_of}
+use Rattle.collections.specs.Maps.{map_of}
 use Rattle.collections.proofs.Capacity.{least_gone, none_moving, shrinks_moved, shrinks_none, shrinks_ready, shrinks_refused, slots_gone}
 use Rattle.collections.proofs.Capacity.{some_moving}
 use Rattle.collections.proofs.hash_map.HashMap.shrink_to_fit.Goals as goal
