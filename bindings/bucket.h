@@ -36,7 +36,7 @@ enum bucket_code {
     BUCKET_OK = 0,
     BUCKET_ABSENT = 1,     /* the key is absent */
     BUCKET_PRESENT = 2,    /* the key is there: not inserted; of an upsert: its value is another one now */
-    BUCKET_NO_MEMORY = 3,  /* allocation failed */
+    BUCKET_NO_MEMORY = 3,  /* allocation failed; all pairs stay */
     BUCKET_CLOSED = 4,     /* the handle is closed */
     BUCKET_OPEN = 5,       /* a `new` of a handle that is open */
     BUCKET_OTHER_KIND = 6, /* the handle holds a collection of another kind */
