@@ -1,8 +1,7 @@
 -- What a closure does that calls a function of keys, where it is called with each pair.
-use Rattle.std.proofs.Common.{suc, ◌≡◌, ◌∙◌, Bool, true, false, if◌then◌else◌, List, [], ◌∷◌, ◌++◌, length, refl, sym, ap, subst}
+use Rattle.std.proofs.Common.{suc, ◌≡◌, ◌∙◌, Bool, true, false, if◌then◌else◌, List, [], ◌∷◌, length, refl, sym, ap, subst}
 use denote.Param.Always.{always_mut, mut_next}
 use denote.Param.Members.{Called}
-use Rattle.std.specs.Prelude.{filter}
 use Rattle.std.specs.Borrow.{Bor, MutBor}
 use Rattle.std.specs.Fn.{CalledAt, Mut}
 use Rattle.std.specs.List.{FoldsTo, items_where_true}
@@ -11,7 +10,7 @@ use Rattle.std.specs.Map.{keys_of}
 use Rattle.bucket_slots.specs.Walking.{CallsEach}
 use Rattle.bucket_table.specs.Walking.Retains.{RetainsEach}
 use Rattle.collections.specs.Changes.{Calls}
-use Rattle.collections.specs.Keys.{CallsEachKey, CallsIf}
+use Rattle.collections.specs.Keys.{CallsEachKey}
 
 -- the key of a pair is left where the answer is true
 keys_left : {K V : Type 0} (answer : Bool) (key : K) (value : V) (kept : List (K × V)) (answers : List Bool) (keys : List K)
@@ -108,33 +107,6 @@ module _ {F K : Type 0} (calls : Mut F (Bor K × Unit {0}) (Unit {0})) where
   callable_after first [] last is may = subst (always_mut calls) is may
   callable_after first (key ∷ keys) last called may =
       callable_after called.0 keys last called.2 (mut_next calls first _ _ _ _ called.1.called refl may)
-
-  -- and after one that a test decides
-  pub callable_if : (test : Bool) (first : F) (key : K) (last : F) → CallsIf calls test first key last → always_mut calls first
-      → always_mut calls last
-  callable_if true first key last one may = mut_next calls first _ _ _ _ one.called refl may
-  callable_if false first key last is may = subst (always_mut calls) (sym is) may
-
-  -- where a test decides each call, it was called with the keys that pass
-  pub called_if : (test : K → Bool) (first : F) (keys : List K) (last : F)
-      → FoldsTo (λ state key next. CallsIf calls (test key) state key next) first keys last
-      → CallsEachKey calls first (filter test keys) last
-  called_if test first [] last is = is
-  called_if test first (key ∷ keys) last called = from (test key) refl called.1 (called_if test called.0 keys last called.2)
-    where
-      from : (answer : Bool) → test key ≡ answer → CallsIf calls answer first key called.0
-          → CallsEachKey calls called.0 (filter test keys) last
-          → CallsEachKey calls first (filter test (key ∷ keys)) last
-      from true is one rest = rw is (called.0, one, rest)
-      from false is one rest = rw is (subst (λ state. CallsEachKey calls state (filter test keys) last) one rest)
-
-  -- calls after calls
-  pub called_then : (first : F) (keys more : List K) (between last : F) → CallsEachKey calls first keys between
-      → CallsEachKey calls between more last
-      → CallsEachKey calls first (keys ++ more) last
-  called_then first [] more between last is rest = subst (λ state. CallsEachKey calls state more last) (sym is) rest
-  called_then first (key ∷ keys) more between last called rest =
-      (called.0, called.1, called_then called.0 keys more between last called.2 rest)
 
 -- a test that may always be asked may be after its answers
 pub askable_after : {F K : Type 0} (asks : Mut F (Bor K × Unit {0}) Bool) (first : F) (answers : List Bool) (keys : List K) (last : F)

@@ -1,5 +1,5 @@
 -- Functions called with the keys of a set.
-use Rattle.std.specs.Prelude.{◌≡◌, Bool, true, false, List, ◌++◌, filter, length, not}
+use Rattle.std.specs.Prelude.{◌≡◌, Bool, List, ◌++◌, filter, length, not}
 use Rattle.std.specs.Borrow.{Bor}
 use Rattle.std.specs.Fn.{CalledAt, Mut}
 use Rattle.std.specs.List.{FoldsTo, items_where_true}
@@ -12,11 +12,6 @@ module _ {F K : Type 0} (calls : Mut F (Bor K × Unit {0}) (Unit {0})) where
   -- a function is called with each key in turn, from one state to another
   abbrev pub CallsEachKey : F → List K → F → Type 0
   CallsEachKey first keys last = FoldsTo (λ state key next. CalledAt calls state key tt next) first keys last
-
-  -- a function is called with a key where a test passes, and else all stays
-  abbrev pub CallsIf : Bool → F → K → F → Type 0
-  CallsIf true first key last = CalledAt calls first key tt last
-  CallsIf false first key last = last ≡ first
 
 module _ {K V H : Type 0} (eq : K → K → Bool) where
   -- the keys of a map that another has too

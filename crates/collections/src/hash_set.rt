@@ -3,17 +3,17 @@
 //! Model: `MapView`, whose pairs are the keys beside `()`.
 //!
 //! Ports scc's `src/hash_set.rs` to an owned set.
-ghost use Rattle.std.specs.Prelude.{◌≡◌, ◌↔◌, ◌-◌, ◌^◌, [], Err, IfOk, IsOk, IsTrue, min, not, true};
+ghost use Rattle.std.specs.Prelude.{◌≡◌, ◌↔◌, ◌-◌, ◌^◌, [], Err, IfOk, IsOk, IsTrue, min, true};
 ghost use Rattle.std.specs.Fn.{CalledAt};
 ghost use Rattle.std.specs.Map.{keys_of};
 ghost use Rattle.bucket_table.specs.declared.hash_table.NotInserted.TheVariants.{Memory};
 ghost use Rattle.collections.specs.Changes.{Inserts, SetRemoves};
 ghost use Rattle.collections.specs.Copies.{IsCopy};
 ghost use Rattle.collections.specs.Crowding.{LacksRoom};
-ghost use Rattle.collections.specs.Keys.{CallsEachKey, CallsIf, RetainsKeys};
-ghost use Rattle.collections.specs.Keys.{keys_of_either, keys_of_one, keys_outside, keys_within};
-ghost use Rattle.collections.specs.Maps.{contains, contains_by, IsEmpty, map_len};
+ghost use Rattle.collections.specs.Keys.{CallsEachKey, RetainsKeys};
+ghost use Rattle.collections.specs.Maps.{contains_by, IsEmpty, map_len};
 
+mod algebra;
 mod cloning;
 mod collecting;
 mod draining;
@@ -27,6 +27,7 @@ use crate::default_hash::DefaultHash;
 use crate::hash_map::{HashMap, NotInserted};
 use crate::key_form::KeyForm;
 use bucket_table::key_hash::{KeyHash, StdHash};
+pub use algebra::{Difference, Intersection, SymmetricDifference, Union};
 pub use draining::{Drain, IntoIter};
 pub use iterating::Iter;
 use std::alloc::{AllocError, Global};
@@ -127,74 +128,6 @@ impl<K: Eq, H: KeyHash<K>> HashSet<K, H> {
             f(key);
         };
         self.map.for_each(&mut visit);
-    }
-
-    /// Calls a function with each key once that another set has too.
-    ///
-    /// O(slots) expected, and the function's calls. Own: std's `intersection`, by a function.
-    pub fn intersection<F: FnMut(&K)>(&self, other: &Self, f: &mut F)
-        requires callable { F.IsAlwaysCallable f.old }
-        ensures again { F.IsAlwaysCallable f.new }
-        ensures calls { CallsEachKey F.FnMut f.old (keys_within K.eq self.now other.now) f.new }
-    {
-        let mut visit = |key: &K, _value: &()|
-            requires { F.IsAlwaysCallable f.now }
-            ensures { CallsIf F.FnMut (contains K.eq other.entry.now key.now)
-                f.entry.now key.now f.exit.now }
-        {
-            if other.contains(key) {
-                f(key);
-            }
-        };
-        self.map.for_each(&mut visit);
-    }
-
-    /// Calls a function with each key once that another set hasn't.
-    ///
-    /// O(slots) expected, and the function's calls. Own: std's `difference`, by a function.
-    pub fn difference<F: FnMut(&K)>(&self, other: &Self, f: &mut F)
-        requires callable { F.IsAlwaysCallable f.old }
-        ensures again { F.IsAlwaysCallable f.new }
-        ensures calls { CallsEachKey F.FnMut f.old (keys_outside K.eq self.now other.now) f.new }
-    {
-        let mut visit = |key: &K, _value: &()|
-            requires { F.IsAlwaysCallable f.now }
-            ensures { CallsIf F.FnMut (not (contains K.eq other.entry.now key.now))
-                f.entry.now key.now f.exit.now }
-        {
-            let missing = !other.contains(key);
-            if missing {
-                f(key);
-            }
-        };
-        self.map.for_each(&mut visit);
-    }
-
-    /// Calls a function once with each key of either set: with the set's own keys, and then with
-    /// those of the other that it hasn't.
-    ///
-    /// O(slots of both) expected, and the function's calls. Own: std's `union`, by a function.
-    pub fn union<F: FnMut(&K)>(&self, other: &Self, f: &mut F)
-        requires callable { F.IsAlwaysCallable f.old }
-        ensures again { F.IsAlwaysCallable f.new }
-        ensures calls { CallsEachKey F.FnMut f.old (keys_of_either K.eq self.now other.now) f.new }
-    {
-        self.for_each(f);
-        other.difference(self, f);
-    }
-
-    /// Calls a function once with each key of just one of two sets: with the set's own that the
-    /// other hasn't, and then with those of the other that it hasn't.
-    ///
-    /// O(slots of both) expected, and the function's calls. Own: std's `symmetric_difference`, by a
-    /// function.
-    pub fn symmetric_difference<F: FnMut(&K)>(&self, other: &Self, f: &mut F)
-        requires callable { F.IsAlwaysCallable f.old }
-        ensures again { F.IsAlwaysCallable f.new }
-        ensures calls { CallsEachKey F.FnMut f.old (keys_of_one K.eq self.now other.now) f.new }
-    {
-        self.difference(other, f);
-        other.difference(self, f);
     }
 }
 

@@ -1,4 +1,6 @@
 //! What two sets have together, apart, and of one alone.
+ghost use Rattle.std.specs.Iterator.{IsFinite};
+
 use super::sets::{Set, fill_set};
 use super::{check_same, std_sets, steps};
 use bucket_table::script::ScriptHash;
@@ -11,7 +13,7 @@ use std::test::Fail;
 /// Keys in order. Of each two the second is the first that is not meant.
 pub(super) type Ranges = &'static [(u64, u64)];
 
-/// The keys of two sets, and those that four calls hand over.
+/// The keys of two sets, and those that four iterators give.
 pub(super) struct Row {
     pub(super) one: Ranges,
     pub(super) other: Ranges,
@@ -107,18 +109,42 @@ pub(super) fn set_of(alloc: Global, hasher: ScriptHash, ranges: Ranges) -> Set {
 
 // The keys that a call hands over.
 pub(super) fn handed_over(alloc: Global, one: &Set, other: &Set, call: Call) -> Vec<u64> {
-    let mut keys = Vec::new(alloc);
-    let mut meet = |key: &u64| {
-        let _ = keys.push(*key);
-    };
     match call {
-        Call::ForEach => one.for_each(&mut meet),
-        Call::Union => one.union(other, &mut meet),
-        Call::Intersection => one.intersection(other, &mut meet),
-        Call::Difference => one.difference(other, &mut meet),
-        Call::SymmetricDifference => one.symmetric_difference(other, &mut meet),
+        Call::ForEach => called_with(alloc, one),
+        Call::Union => given(alloc, one.union(other)),
+        Call::Intersection => given(alloc, one.intersection(other)),
+        Call::Difference => given(alloc, one.difference(other)),
+        Call::SymmetricDifference => given(alloc, one.symmetric_difference(other)),
     }
+}
+
+// The keys that a function is called with.
+fn called_with(alloc: Global, set: &Set) -> Vec<u64> {
+    let mut keys = Vec::new(alloc);
+    set.for_each(&mut |key: &u64| put(&mut keys, Some(key)));
     keys
+}
+
+// The keys that an iterator gives: two that it is asked for, the rest in a loop, and what comes
+// where it is asked again after its end.
+fn given<'a, I: Iterator<Item = &'a u64>>(alloc: Global, mut left: I) -> Vec<u64>
+    requires can { (state : I) → I.can_next state }
+    requires finite { IsFinite (I.remaining left) }
+{
+    let mut keys = Vec::new(alloc);
+    put(&mut keys, left.next());
+    put(&mut keys, left.next());
+    for key in &mut left {
+        put(&mut keys, Some(key));
+    }
+    put(&mut keys, left.next());
+    keys
+}
+
+fn put(keys: &mut Vec<u64>, key: Option<&u64>) {
+    if let Some(key) = key {
+        let _ = keys.push(*key);
+    }
 }
 
 // The keys of ranges.
