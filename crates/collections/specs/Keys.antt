@@ -1,4 +1,4 @@
--- Functions called with the keys of a set.
+-- Functions called with the keys of a set, and the keys of two sets.
 use Rattle.std.specs.Prelude.{◌≡◌, Bool, List, ◌++◌, filter, length, not}
 use Rattle.std.specs.Borrow.{Bor}
 use Rattle.std.specs.Fn.{CalledAt, Mut}
