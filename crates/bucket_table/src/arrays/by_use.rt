@@ -1,0 +1,193 @@
+//! An iterator over the pairs of a cache's arrays: bucket by bucket, those of each by use.
+//!
+//! A bucket's own slots come first, the one touched last before the others, and then its chain.
+ghost use Rattle.std.specs.Prelude.{◌≡◌};
+ghost use Rattle.std.specs.Iterator.{YieldsFirstBy, item_count};
+ghost use Rattle.bucket_slots.specs.ByUse.{pairs_by_use};
+ghost use Rattle.bucket_table.specs.Views.ArraysView.{list_of};
+ghost use Rattle.bucket_table.specs.Walking.ByUse.{all_by_use, arrays_by_use};
+ghost use Rattle.bucket_table.specs.Walking.Left.{left_of};
+
+use super::Arrays;
+use super::pairs::pair_past;
+use bucket_slots::bucket::{BUCKET_LEN, Bucket, CACHE, EntryPtr};
+use bucket_slots::bucket_array::BucketArray;
+use bucket_slots::lru::DoublyLinkedList;
+use std::iter::FusedIterator;
+use std::marker::Model;
+
+/// The pairs of a bucket that are left: those of its own slots by use, from an index on, and then
+/// those past a place.
+#[derive(Drop)]
+pub struct BucketByUse<'a, K, V> {
+    bucket: &'a Bucket<K, V, DoublyLinkedList, CACHE>,
+    slots: [u8; BUCKET_LEN],
+    given: usize,
+    at: EntryPtr<K, V, CACHE>,
+}
+
+impl<'a, K, V> Model for BucketByUse<'a, K, V> {
+    ghost use Rattle.std.specs.Prelude.{List, drop};
+    ghost use Rattle.bucket_table.specs.Walking.ByUse.{slots_left};
+
+    ghost Value = { List (K × V) };
+
+    ghost view = { λ pairs. slots_left pairs.bucket.now (drop pairs.given pairs.slots) pairs.at };
+}
+
+impl<'a, K, V> BucketByUse<'a, K, V> {
+    /// Begins with all pairs of a bucket.
+    fn new(bucket: &'a Bucket<K, V, DoublyLinkedList, CACHE>) -> Self
+        ensures { result ≡ pairs_by_use bucket.now }
+    {
+        bucket.sound();
+        BucketByUse {
+            bucket,
+            slots: bucket.slots_by_use(),
+            given: 0,
+            at: EntryPtr::own_slot(BUCKET_LEN - 1),
+        }
+    }
+
+    /// Gives the next pair.
+    fn next_pair(&mut self) -> Option<(&'a K, &'a V)>
+        ensures { YieldsFirstBy (λ pair. (pair.0.now, pair.1.now)) (λ left. left) self.old result
+            self.new }
+    {
+        let bucket = self.bucket;
+        'slots: while self.given < BUCKET_LEN {
+            let slot = self.slots[self.given] as usize;
+            self.given += 1;
+            match bucket.own_pair(slot) {
+                Some((key, value)) => return Some((key, value)),
+                None => {}
+            }
+        }
+        let mut ahead = self.at.clone();
+        match pair_past(bucket, &mut ahead) {
+            Some((key, value)) => {
+                self.at = ahead;
+                Some((key, value))
+            }
+            None => None,
+        }
+    }
+}
+
+/// The pairs of an array that are left: those of a bucket, and of the buckets from an index on.
+#[derive(Drop)]
+pub struct ArrayByUse<'a, K, V> {
+    array: &'a BucketArray<K, V, DoublyLinkedList, CACHE>,
+    here: BucketByUse<'a, K, V>,
+    next: usize,
+}
+
+impl<'a, K, V> Model for ArrayByUse<'a, K, V> {
+    ghost use Rattle.std.specs.Prelude.{List, ◌++◌, drop};
+    ghost use Rattle.bucket_table.specs.Walking.ByUse.{all_by_use};
+
+    ghost Value = { List (K × V) };
+
+    ghost view = { λ pairs. pairs.here ++ all_by_use (drop pairs.next pairs.array.now) };
+}
+
+impl<'a, K, V> ArrayByUse<'a, K, V> {
+    /// Begins with all pairs of an array.
+    fn new(array: &'a BucketArray<K, V, DoublyLinkedList, CACHE>) -> Self
+        ensures { result ≡ all_by_use array.now }
+    {
+        array.room();
+        ArrayByUse {
+            array,
+            here: BucketByUse::new(array.bucket(0)),
+            next: 1,
+        }
+    }
+
+    /// Gives the next pair.
+    fn next_pair(&mut self) -> Option<(&'a K, &'a V)>
+        ensures { YieldsFirstBy (λ pair. (pair.0.now, pair.1.now)) (λ left. left) self.old result
+            self.new }
+    {
+        let array = self.array;
+        array.room();
+        'buckets: loop {
+            match self.here.next_pair() {
+                Some((key, value)) => return Some((key, value)),
+                None => {}
+            }
+            if self.next >= array.len() {
+                return None;
+            }
+            self.here = BucketByUse::new(array.bucket(self.next));
+            self.next += 1;
+        }
+    }
+}
+
+/// The pairs of the arrays that are left, those of the current one first.
+#[derive(Drop)]
+pub struct PairsByUse<'a, K, V> {
+    current: Option<ArrayByUse<'a, K, V>>,
+    linked: Option<ArrayByUse<'a, K, V>>,
+}
+
+impl<'a, K, V> Model for PairsByUse<'a, K, V> {
+    ghost use Rattle.std.specs.Prelude.{List, ◌++◌};
+    ghost use Rattle.bucket_table.specs.Walking.Left.{left_of};
+
+    ghost Value = { List (K × V) };
+
+    ghost view = { λ pairs. left_of pairs.current ++ left_of pairs.linked };
+}
+
+impl<'a, K, V> Iterator for PairsByUse<'a, K, V> {
+    type Item = (&'a K, &'a V);
+
+    ghost next_gives = { YieldsFirstBy (λ pair. (pair.0.now, pair.1.now)) (λ left. left) };
+
+    ghost remaining = { item_count (λ left. left) };
+
+    fn next(&mut self) -> Option<(&'a K, &'a V)> {
+        match next_of(&mut self.current) {
+            Some(pair) => Some(pair),
+            None => next_of(&mut self.linked),
+        }
+    }
+}
+
+impl<'a, K, V> FusedIterator for PairsByUse<'a, K, V> {}
+
+/// Gives the next pair of an array.
+fn next_of<'a, K, V>(pairs: &mut Option<ArrayByUse<'a, K, V>>) -> Option<(&'a K, &'a V)>
+    ensures { YieldsFirstBy (λ pair. (pair.0.now, pair.1.now)) left_of pairs.old result pairs.new }
+{
+    match pairs {
+        Some(left) => left.next_pair(),
+        None => None,
+    }
+}
+
+/// Begins with all pairs of an array.
+fn pairs_on<'a, K, V>(
+    side: &'a Option<BucketArray<K, V, DoublyLinkedList, CACHE>>,
+) -> Option<ArrayByUse<'a, K, V>>
+    ensures { left_of result ≡ all_by_use (list_of side.now) }
+{
+    match side {
+        None => None,
+        Some(array) => Some(ArrayByUse::new(array)),
+    }
+}
+
+impl<K, V> Arrays<K, V, DoublyLinkedList, CACHE> {
+    /// Begins with all pairs, those of each bucket by use.
+    pub(crate) fn pairs_by_use(&self) -> PairsByUse<'_, K, V>
+        ensures { result ≡ arrays_by_use self.now }
+    {
+        PairsByUse {
+            current: pairs_on(&self.current),
+            linked: pairs_on(&self.linked),
+        }
+    }
+}
