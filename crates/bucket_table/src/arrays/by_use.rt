@@ -141,6 +141,18 @@ impl<'a, K, V> Model for PairsByUse<'a, K, V> {
     ghost view = { λ pairs. left_of pairs.current ++ left_of pairs.linked };
 }
 
+impl<'a, K, V> PairsByUse<'a, K, V> {
+    /// Begins with all pairs of the arrays.
+    pub(crate) fn new(arrays: &'a Arrays<K, V, DoublyLinkedList, CACHE>) -> Self
+        ensures { result ≡ arrays_by_use arrays.now }
+    {
+        PairsByUse {
+            current: pairs_on(&arrays.current),
+            linked: pairs_on(&arrays.linked),
+        }
+    }
+}
+
 impl<'a, K, V> Iterator for PairsByUse<'a, K, V> {
     type Item = (&'a K, &'a V);
 
@@ -177,17 +189,5 @@ fn pairs_on<'a, K, V>(
     match side {
         None => None,
         Some(array) => Some(ArrayByUse::new(array)),
-    }
-}
-
-impl<K, V> Arrays<K, V, DoublyLinkedList, CACHE> {
-    /// Begins with all pairs, those of each bucket by use.
-    pub(crate) fn pairs_by_use(&self) -> PairsByUse<'_, K, V>
-        ensures { result ≡ arrays_by_use self.now }
-    {
-        PairsByUse {
-            current: pairs_on(&self.current),
-            linked: pairs_on(&self.linked),
-        }
     }
 }

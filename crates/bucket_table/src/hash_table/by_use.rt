@@ -20,6 +20,6 @@ impl<K: Eq, V, H: KeyHash<K>> HashTable<K, V, H, DoublyLinkedList, CACHE> {
         ensures by_use { result ≡ arrays_by_use self.now.arrays }
         ensures each { IsPermutation (pairs_of self.now.arrays) result }
     {
-        self.arrays.pairs_by_use()
+        PairsByUse::new(&self.arrays)
     }
 }
