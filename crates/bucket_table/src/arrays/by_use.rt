@@ -1,11 +1,11 @@
 //! An iterator over the pairs of a cache's arrays: bucket by bucket, those of each by use.
 //!
 //! A bucket's own slots come first, the one touched last before the others, and then its chain.
-ghost use Rattle.std.specs.Prelude.{◌≡◌};
+ghost use Rattle.std.specs.Prelude.{◌≡◌, drop};
 ghost use Rattle.std.specs.Iterator.{YieldsFirstBy, item_count};
 ghost use Rattle.bucket_slots.specs.ByUse.{pairs_by_use};
 ghost use Rattle.bucket_table.specs.Views.ArraysView.{list_of};
-ghost use Rattle.bucket_table.specs.Walking.ByUse.{all_by_use, arrays_by_use};
+ghost use Rattle.bucket_table.specs.Walking.ByUse.{all_by_use, arrays_by_use, own_left};
 ghost use Rattle.bucket_table.specs.Walking.Left.{left_of};
 
 use super::Arrays;
@@ -27,12 +27,14 @@ pub struct BucketByUse<'a, K, V> {
 }
 
 impl<'a, K, V> Model for BucketByUse<'a, K, V> {
-    ghost use Rattle.std.specs.Prelude.{List, drop};
-    ghost use Rattle.bucket_table.specs.Walking.ByUse.{slots_left};
+    ghost use Rattle.std.specs.Prelude.{List, ◌++◌, drop};
+    ghost use Rattle.bucket_slots.specs.Walking.{pairs_ahead};
+    ghost use Rattle.bucket_table.specs.Walking.ByUse.{own_left};
 
     ghost Value = { List (K × V) };
 
-    ghost view = { λ pairs. slots_left pairs.bucket.now (drop pairs.given pairs.slots) pairs.at };
+    ghost view = { λ pairs. own_left pairs.bucket.now (drop pairs.given pairs.slots)
+        ++ pairs_ahead pairs.bucket.now pairs.at };
 }
 
 impl<'a, K, V> BucketByUse<'a, K, V> {
@@ -49,29 +51,50 @@ impl<'a, K, V> BucketByUse<'a, K, V> {
         }
     }
 
-    /// Gives the next pair.
-    fn next_pair(&mut self) -> Option<(&'a K, &'a V)>
+    /// Gives the next pair. The array tells that its buckets fit in memory.
+    fn next_pair(
+        &mut self,
+        array: &BucketArray<K, V, DoublyLinkedList, CACHE>,
+    ) -> Option<(&'a K, &'a V)>
         ensures { YieldsFirstBy (λ pair. (pair.0.now, pair.1.now)) (λ left. left) self.old result
             self.new }
     {
+        array.room();
         let bucket = self.bucket;
-        'slots: while self.given < BUCKET_LEN {
-            let slot = self.slots[self.given] as usize;
-            self.given += 1;
-            match bucket.own_pair(slot) {
-                Some((key, value)) => return Some((key, value)),
-                None => {}
+        match own_past(bucket, &self.slots, &mut self.given) {
+            Some((key, value)) => Some((key, value)),
+            None => {
+                let mut ahead = self.at.clone();
+                match pair_past(bucket, &mut ahead) {
+                    Some((key, value)) => {
+                        self.at = ahead;
+                        Some((key, value))
+                    }
+                    None => None,
+                }
             }
-        }
-        let mut ahead = self.at.clone();
-        match pair_past(bucket, &mut ahead) {
-            Some((key, value)) => {
-                self.at = ahead;
-                Some((key, value))
-            }
-            None => None,
         }
     }
+}
+
+/// Gives the pair of the next own slot that is live, of those in an array from an index on.
+fn own_past<'b, K, V>(
+    bucket: &'b Bucket<K, V, DoublyLinkedList, CACHE>,
+    slots: &[u8; BUCKET_LEN],
+    given: &mut usize,
+) -> Option<(&'b K, &'b V)>
+    ensures { YieldsFirstBy (λ pair. (pair.0.now, pair.1.now))
+        (λ given. own_left bucket.now (drop given slots.now)) given.old result given.new }
+{
+    'slots: while *given < BUCKET_LEN {
+        let slot = slots[*given] as usize;
+        *given += 1;
+        match bucket.own_pair(slot) {
+            Some((key, value)) => return Some((key, value)),
+            None => {}
+        }
+    }
+    None
 }
 
 /// The pairs of an array that are left: those of a bucket, and of the buckets from an index on.
@@ -112,7 +135,7 @@ impl<'a, K, V> ArrayByUse<'a, K, V> {
         let array = self.array;
         array.room();
         'buckets: loop {
-            match self.here.next_pair() {
+            match self.here.next_pair(array) {
                 Some((key, value)) => return Some((key, value)),
                 None => {}
             }
