@@ -23,3 +23,4 @@ pub mod LentPairs
 pub mod WalkCounts
 pub mod Left
 pub mod Draining
+pub mod EachByUse
