@@ -24,3 +24,4 @@ pub mod WalkCounts
 pub mod Left
 pub mod ByUse
 pub mod Draining
+pub mod EachByUse

@@ -12,7 +12,7 @@ use Rattle.bucket_slots.proofs.Recency.Orders.{older_order, order_turned, order_
 use Rattle.bucket_slots.proofs.Recency.Taking.{set-order_and_zeros}
 
 -- two slots are taken off in any order
-without_both : (order : List ℕ) (slot other : ℕ)
+pub without_both : (order : List ℕ) (slot other : ℕ)
     → order_without (order_without order slot) other ≡ order_without (order_without order other) slot
 without_both [] slot other = refl
 without_both (newest ∷ older) slot other = elim (cases_Bool (newest == slot)) [
