@@ -1,7 +1,7 @@
 -- Whether a slot of a row is live, by the first live slot from its position on.
 use Rattle.bucket_slots.proofs.Words.{List, None, Option, Some, Slot, ap, arith, cases_lt, drop, false, free, get_or-drop, get_or_past, inl}
-use Rattle.bucket_slots.proofs.Words.{inr, is_free, is_live, length, live, live_pair, marked, next_in, option_map, pair_of, position, position-Some, refl, rules}
-use Rattle.bucket_slots.proofs.Words.{slot_at, subst, sym, true, unwrap_or, ℕ, ◌+◌, ◌<◌, ◌∙◌, ◌≡◌, ◌≢◌}
+use Rattle.bucket_slots.proofs.Words.{inr, is_free, is_live, length, live, live_pair, marked, next_in, option_map, pair_of, position, position-Some, refl}
+use Rattle.bucket_slots.proofs.Words.{slot_at, sym, true, unwrap_or, ℕ, ◌+◌, ◌∙◌, ◌≡◌, ◌≢◌}
 use Rattle.bucket_slots.proofs.FirstPlaces.{live_occupied}
 use Rattle.bucket_slots.proofs.Positions.{position-None}
 

@@ -1,13 +1,13 @@
 -- The own slots of a bucket by use: the listed ones, and then the others, each once.
-use Rattle.bucket_slots.proofs.Words.{All, All-append, All-cons, All-filter, All-head, All-nil, All-tail, IsRecencyOrder, List, [], ap, append-nil}
-use Rattle.bucket_slots.proofs.Words.{append_assoc, arith, cases_Bool, cases_eq, eq-eqb, false, inl, inr, is_listed, length, length-append, list_any_none}
-use Rattle.bucket_slots.proofs.Words.{ne_eqb, not, order_without, refl, replicate, set, subst, suc, sym, take, true, ℕ, ◌++◌, ◌+◌, ◌-◌, ◌<◌, ◌==◌}
-use Rattle.bucket_slots.proofs.Words.{or_parts, false≢true, get_or-take, zero, ◌∙◌, ◌∷◌, ◌≡◌, ◌≤◌, Bool, eqb-true}
+use Rattle.bucket_slots.proofs.Words.{All, All-append, All-cons, All-head, All-nil, All-tail, IsRecencyOrder, List, [], ap, append-nil}
+use Rattle.bucket_slots.proofs.Words.{append_assoc, arith, cases_Bool, cases_eq, false, inl, inr, is_listed, length, length-append}
+use Rattle.bucket_slots.proofs.Words.{ne_eqb, order_without, refl, replicate, set, subst, suc, sym, take, true, ℕ, ◌++◌, ◌+◌, ◌-◌, ◌<◌, ◌==◌}
+use Rattle.bucket_slots.proofs.Words.{false≢true, zero, ◌∙◌, ◌∷◌, ◌≡◌, ◌≤◌, Bool}
 use Rattle.std.specs.List.{list_any, range_with_len}
 use Rattle.bucket_slots.specs.ByUse.{each_once, slots_by_use}
 use Rattle.bucket_slots.specs.RecencyLaws.{no_slots}
 use Rattle.bucket_slots.specs.Recency.{order_and_zeros, order_with_oldest}
-use Rattle.bucket_slots.proofs.Recency.Orders.{eqb-flip, eqb-same, is_listed-order_without, length_at_most, newest_below, newest_once}
+use Rattle.bucket_slots.proofs.Recency.Orders.{eqb-flip, eqb-same, is_listed-order_without, length_at_most, newest_once}
 use Rattle.bucket_slots.proofs.Recency.Orders.{older_order, order_turned, order_with, order_without-absent, split_at}
 use Rattle.bucket_slots.proofs.Recency.Taking.{set-order_and_zeros}
 
@@ -17,13 +17,13 @@ pub without_both : (order : List ℕ) (slot other : ℕ)
 without_both [] slot other = refl
 without_both (newest ∷ older) slot other = elim (cases_Bool (newest == slot)) [
   | inl is ↦ elim (cases_Bool (newest == other)) [
-      | inl both ↦ rw (is, both) (without_both older slot other)
-      | inr one ↦ rw (is, one, is) (without_both older slot other)
-    ]
+    | inl both ↦ rw (is, both) (without_both older slot other)
+    | inr one ↦ rw (is, one, is) (without_both older slot other)
+  ]
   | inr isnt ↦ elim (cases_Bool (newest == other)) [
-      | inl one ↦ rw (isnt, one) (without_both older slot other)
-      | inr neither ↦ rw (isnt, neither, isnt) (ap (λ (rest : List ℕ). newest ∷ rest) (without_both older slot other))
-    ]
+    | inl one ↦ rw (isnt, one) (without_both older slot other)
+    | inr neither ↦ rw (isnt, neither, isnt) (ap (λ (rest : List ℕ). newest ∷ rest) (without_both older slot other))
+  ]
 ]
 
 -- a slot that is taken off may have stood anywhere
@@ -134,7 +134,7 @@ module _ (all bytes : List ℕ) (len from : ℕ) (adds : AddsOthers all bytes le
     counted = adds.counted;
     bytes_are = adds.bytes_are;
     all_are = sym (once_again adds.taken (range_with_len (from + 1) (32 - (from + 1))) from (asked true (sym listed)))
-    ∙ ap (λ (rest : List ℕ). each_once (adds.taken ++ rest)) (sym (next within)) ∙ adds.all_are;
+        ∙ ap (λ (rest : List ℕ). each_once (adds.taken ++ rest)) (sym (next within)) ∙ adds.all_are;
   }
 
   -- a slot that isn't listed has room, and is the last
@@ -152,7 +152,7 @@ module _ (all bytes : List ℕ) (len from : ℕ) (adds : AddsOthers all bytes le
       counted = omega (arith, adds.counted, length-append adds.taken (from ∷ []));
       bytes_are = rw (adds.bytes_are, adds.counted) (set-order_and_zeros adds.taken from (omega (arith, has_room, adds.counted)));
       all_are = ap each_once (append_assoc adds.taken (from ∷ []) (range_with_len (from + 1) (32 - (from + 1)))
-      ∙ ap (λ (rest : List ℕ). adds.taken ++ rest) (sym (next within))) ∙ adds.all_are;
+          ∙ ap (λ (rest : List ℕ). adds.taken ++ rest) (sym (next within))) ∙ adds.all_are;
     }
 
 pub adds_first : (listed bytes : List ℕ) (len : ℕ) → IsRecencyOrder listed → bytes ≡ order_and_zeros listed → len ≡ length listed

@@ -1,12 +1,10 @@
 -- What a step of an iterator over pairs by use leaves.
-use Rattle.bucket_table.proofs.Words.{BucketView, List, None, Option, Place, Some, [], ap, arith, bucket_at, empty_bucket, flattened, length, live_pair}
-use Rattle.bucket_table.proofs.Words.{live_pairs, map, pairs_ahead, refl, slot_at, sym, ℕ, ◌++◌, ◌+◌, ◌<◌, ◌≤◌, ◌∙◌, ◌∷◌, ◌≡◌}
-use Rattle.std.proofs.Common.{drop, slice_index_or}
-use Rattle.std.proofs.lemmas.List.{at_drop_more, drop_all}
+use Rattle.bucket_table.proofs.Words.{BucketView, List, Place, ap, arith, flattened, length, live_pair}
+use Rattle.bucket_table.proofs.Words.{live_pairs, map, pairs_ahead, slot_at, sym, ℕ, ◌++◌, ◌∙◌, ◌≡◌}
+use Rattle.std.proofs.lemmas.List.{drop_all}
 use Rattle.std.proofs.lemmas.List.Elements.{filter_map-append}
 use Rattle.bucket_slots.specs.ByUse.{pairs_by_use, slots_by_use}
-use Rattle.bucket_slots.specs.Walking.{IsEnd}
-use Rattle.bucket_table.specs.Walking.ByUse.{all_by_use, own_left}
+use Rattle.bucket_table.specs.Walking.ByUse.{own_left}
 
 -- at first all pairs of the bucket are left
 pub left_at_first : {K V : Type 0} (bucket : BucketView K V) (slots : List ℕ) (at : Place) → length bucket.own ≡ 32

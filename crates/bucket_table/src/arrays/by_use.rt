@@ -132,17 +132,16 @@ impl<'a, K, V> ArrayByUse<'a, K, V> {
         ensures { YieldsFirstBy (λ pair. (pair.0.now, pair.1.now)) (λ left. left) self.old result
             self.new }
     {
-        let array = self.array;
-        array.room();
         'buckets: loop {
-            match self.here.next_pair(array) {
+            self.array.room();
+            match self.here.next_pair(self.array) {
                 Some((key, value)) => return Some((key, value)),
                 None => {}
             }
-            if self.next >= array.len() {
+            if self.next >= self.array.len() {
                 return None;
             }
-            self.here = BucketByUse::new(array.bucket(self.next));
+            self.here = BucketByUse::new(self.array.bucket(self.next));
             self.next += 1;
         }
     }

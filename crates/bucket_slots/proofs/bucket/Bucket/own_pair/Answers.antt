@@ -1,4 +1,4 @@
-use Rattle.bucket_slots.proofs.Words.{None, Option, Some, ap, arith, sym, unwrap_or, ◌∙◌, ◌≡◌}
+use Rattle.bucket_slots.proofs.Words.{Option, Some, ap, arith, sym, unwrap_or, ◌∙◌}
 use Rattle.bucket_slots.proofs.OwnPairs.{next_is_live, other_is_not}
 use Rattle.bucket_slots.proofs.bucket.Bucket.own_pair.Goals as goal
 

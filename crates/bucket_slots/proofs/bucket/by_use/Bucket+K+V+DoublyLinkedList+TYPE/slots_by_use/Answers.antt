@@ -1,7 +1,7 @@
 use Rattle.bucket_slots.specs.Recency.{order_and_zeros}
 use Rattle.bucket_slots.specs.declared.lru.doubly_linked_list.DoublyLinkedList.{DoublyLinkedList}
-use Rattle.bucket_slots.proofs.Words.{BucketView, IsRecencyOrder, order_in, ap, arith, length, length-take, subst, sym, ◌≡◌, ◌∙◌}
-use Rattle.bucket_slots.proofs.Recency.ByUse.{AddsOthers, adds_all, adds_first, adds_slot, few, has_room, passes_listed}
+use Rattle.bucket_slots.proofs.Words.{BucketView, IsRecencyOrder, order_in, ap, arith, length, length-take, subst, sym, ◌∙◌}
+use Rattle.bucket_slots.proofs.Recency.ByUse.{adds_all, adds_first, adds_slot, few, has_room, passes_listed}
 use Rattle.bucket_slots.proofs.bucket.by_use.Bucket+K+V+DoublyLinkedList+TYPE.slots_by_use.Goals as goal
 use Rattle.bucket_slots.proofs.bucket.by_use.Bucket+K+V+DoublyLinkedList+TYPE.slots_by_use.Goals.{then-not-listed, else-not-listed}
 
