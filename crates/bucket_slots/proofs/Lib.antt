@@ -25,6 +25,7 @@ pub mod ChangedSlots
 pub mod BucketPlacing
 pub mod NextInRow
 pub mod NextSlots
+pub mod OwnPairs
 pub mod LiveMasks
 pub mod AskingSlots
 pub mod NextPlaces

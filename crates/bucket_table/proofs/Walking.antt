@@ -22,4 +22,6 @@ pub mod ReadSteps
 pub mod LentPairs
 pub mod WalkCounts
 pub mod Left
+pub mod ByUse
 pub mod Draining
+pub mod EachByUse

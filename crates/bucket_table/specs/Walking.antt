@@ -3,6 +3,7 @@ pub mod Visits
 pub mod Walks
 pub mod Cursors
 pub mod Left
+pub mod ByUse
 pub mod Sweeps
 pub mod Retains
 pub mod Drains

@@ -6,6 +6,7 @@ ghost use Rattle.bucket_table.specs.Views.ArraysView.{AreArrays, list_of};
 ghost use Rattle.bucket_table.specs.Views.Sides.{buckets_on};
 ghost use Rattle.bucket_table.specs.Rehash.State.{IsTicketState, first_tickets, word_of};
 
+mod by_use;
 mod clearing;
 mod counting;
 mod cursor;
@@ -33,6 +34,7 @@ mod unit;
 use crate::tickets::Tickets;
 use bucket_slots::bucket_array::BucketArray;
 use bucket_slots::lru::LruList;
+pub use by_use::PairsByUse;
 pub use draining::TableDrain;
 pub use pairs::{ArraysPairs, Kind, TablePairs};
 pub use peeking::peek_arrays;

@@ -14,6 +14,7 @@ ghost use Rattle.bucket_table.specs.Views.ArraysView.{IsOneMap, pairs_of};
 ghost use Rattle.bucket_table.specs.Rehash.State.{first_tickets, word_of};
 
 mod by_key;
+mod by_use;
 mod clearing;
 mod counting;
 mod cursor;
@@ -34,7 +35,9 @@ mod walks;
 mod write_access;
 
 use crate::arrays::Arrays;
-pub use crate::arrays::{ArraysPairs, Kind, Missing, Side, TableDrain, TablePairs, peek_arrays};
+pub use crate::arrays::{
+    ArraysPairs, Kind, Missing, PairsByUse, Side, TableDrain, TablePairs, peek_arrays,
+};
 pub use crate::capacity::{
     from_index_to_range, num_entries_from_hint, ranges_part_the_indices,
     table_capacity_from_num_entries,

@@ -12,7 +12,7 @@ pub record TakesOrder (all : List ℕ) (bytes : List ℕ) (len : ℕ) (left : Li
   pub counted : len ≡ length taken
   pub bytes_are : bytes ≡ order_and_zeros taken
 
-set-order_and_zeros : (taken : List ℕ) (newest : ℕ) → length taken < 32
+pub set-order_and_zeros : (taken : List ℕ) (newest : ℕ) → length taken < 32
     → set (order_and_zeros taken) (length taken) newest ≡ order_and_zeros (taken ++ newest ∷ [])
 set-order_and_zeros taken newest few =
     let rest = 31 - length taken in

@@ -82,7 +82,7 @@ impl<'a, K, V, L: LruList, const TYPE: u8> Iterator
 /// Moves to the next live slot of a bucket, and lends its pair; at the end it lends none and is the
 /// null pointer.
 #[inline(always)]
-fn pair_past<'b, K, V, L: LruList, const TYPE: u8>(
+pub(super) fn pair_past<'b, K, V, L: LruList, const TYPE: u8>(
     bucket: &'b Bucket<K, V, L, TYPE>,
     at: &mut EntryPtr<K, V, TYPE>,
 ) -> Option<(&'b K, &'b V)>

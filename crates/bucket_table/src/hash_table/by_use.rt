@@ -1,0 +1,25 @@
+//! An iterator over the pairs of a cache's table by use.
+ghost use Rattle.std.specs.Prelude.{◌≡◌};
+ghost use Rattle.std.specs.List.Sorted.{IsPermutation};
+ghost use Rattle.bucket_table.specs.Views.ArraysView.{pairs_of};
+ghost use Rattle.bucket_table.specs.Walking.ByUse.{arrays_by_use};
+
+use crate::arrays::PairsByUse;
+use crate::hash_table::HashTable;
+use crate::key_hash::KeyHash;
+use bucket_slots::bucket::CACHE;
+use bucket_slots::lru::DoublyLinkedList;
+
+impl<K: Eq, V, H: KeyHash<K>> HashTable<K, V, H, DoublyLinkedList, CACHE> {
+    /// Lends the pairs one after the other, bucket by bucket: of each bucket those that are listed,
+    /// the one touched last first, then the others of its own slots, and then those of its chain.
+    ///
+    /// Touches none, works no unit, and takes no memory. O(1); all steps together O(slots, and the
+    /// square of the number of blocks of each chain). Own.
+    pub fn pairs_by_use(&self) -> PairsByUse<'_, K, V>
+        ensures by_use { result ≡ arrays_by_use self.now.arrays }
+        ensures each { IsPermutation (pairs_of self.now.arrays) result }
+    {
+        PairsByUse::new(&self.arrays)
+    }
+}
