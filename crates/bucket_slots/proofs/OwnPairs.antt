@@ -1,6 +1,7 @@
 -- Whether a slot of a row is live, by the first live slot from its position on.
 use Rattle.bucket_slots.proofs.Words.{List, None, Option, Some, Slot, ap, arith, cases_lt, drop, false, free, get_or-drop, get_or_past, inl}
-use Rattle.bucket_slots.proofs.Words.{inr, is_free, is_live, length, live, live_pair, marked, next_in, option_map, pair_of, position, position-Some, refl}
+use Rattle.bucket_slots.proofs.Words.{inr, is_free, is_live, length, live, live_pair, marked, next_in, option_map, pair_of, position}
+use Rattle.bucket_slots.proofs.Words.{position-Some, refl}
 use Rattle.bucket_slots.proofs.Words.{slot_at, sym, true, unwrap_or, ℕ, ◌+◌, ◌∙◌, ◌≡◌, ◌≢◌}
 use Rattle.bucket_slots.proofs.FirstPlaces.{live_occupied}
 use Rattle.bucket_slots.proofs.Positions.{position-None}
@@ -33,7 +34,8 @@ module _ {K V : Type 0} (row : List (Slot K V)) (pos : ℕ) where
   ]
 
   -- it is the first: its pair is the live one
-  pub next_is_live : next_in pos row ≡ Some pos → (is_free (slot_at row pos) ≡ false) × (live_pair (slot_at row pos) ≡ pair_of (slot_at row pos))
+  pub next_is_live : next_in pos row ≡ Some pos
+      → (is_free (slot_at row pos) ≡ false) × (live_pair (slot_at row pos) ≡ pair_of (slot_at row pos))
   next_is_live here = live_occupied (slot_at row pos) (live_from _ refl here)
 
   no_pair : (slot : Slot K V) → is_live slot ≡ false → live_pair slot ≡ None

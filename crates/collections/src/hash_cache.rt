@@ -34,7 +34,7 @@ pub use bucket_table::hash_table::NotInserted;
 use bucket_table::hash_table::{HashTable, MAXIMUM_CAPACITY_LIMIT};
 use bucket_table::key_hash::{KeyHash, StdHash};
 pub use draining::Drain;
-pub use iterating::{Iter, Keys, Values};
+pub use iterating::{Iter, IterByUse, Keys, Values};
 pub use putting::Upserted;
 use std::alloc::Global;
 use std::hash::{BuildHasherDefault, Hash, RandomState};

@@ -1,8 +1,8 @@
 -- The own slots of a bucket by use: the listed ones, and then the others, each once.
 use Rattle.bucket_slots.proofs.Words.{All, All-append, All-cons, All-head, All-nil, All-tail, IsRecencyOrder, List, [], ap, append-nil}
 use Rattle.bucket_slots.proofs.Words.{append_assoc, arith, cases_Bool, cases_eq, false, inl, inr, is_listed, length, length-append}
-use Rattle.bucket_slots.proofs.Words.{ne_eqb, order_without, refl, replicate, set, subst, suc, sym, take, true, ℕ, ◌++◌, ◌+◌, ◌-◌, ◌<◌, ◌==◌}
-use Rattle.bucket_slots.proofs.Words.{false≢true, zero, ◌∙◌, ◌∷◌, ◌≡◌, ◌≤◌, Bool}
+use Rattle.bucket_slots.proofs.Words.{ne_eqb, order_without, refl, replicate, set, subst, suc, sym, take, true}
+use Rattle.bucket_slots.proofs.Words.{false≢true, zero, ℕ, ◌++◌, ◌+◌, ◌-◌, ◌<◌, ◌==◌, ◌∙◌, ◌∷◌, ◌≡◌, ◌≤◌, Bool}
 use Rattle.std.specs.List.{list_any, range_with_len}
 use Rattle.bucket_slots.specs.ByUse.{each_once, slots_by_use}
 use Rattle.bucket_slots.specs.RecencyLaws.{no_slots}
@@ -32,7 +32,8 @@ without_one : (first rest : List ℕ) (slot : ℕ)
 without_one [] rest slot =
     rw (eqb-same slot) (order_without-absent (order_without (each_once rest) slot) slot (is_listed-order_without (each_once rest) slot))
 without_one (newest ∷ older) rest slot =
-    let others = without_both (each_once (older ++ slot ∷ rest)) newest slot ∙ ap (λ (order : List ℕ). order_without order newest) (without_one older rest slot)
+    let others = without_both (each_once (older ++ slot ∷ rest)) newest slot
+    ∙ ap (λ (order : List ℕ). order_without order newest) (without_one older rest slot)
     ∙ sym (without_both (each_once (older ++ rest)) newest slot) in
     elim (cases_Bool (newest == slot)) [
       | inl is ↦ rw is others
@@ -79,7 +80,9 @@ without_order order slot is_order = elim (cases_Bool (is_listed order slot)) [
 
 range_below : (from len : ℕ) → from + len ≤ 32 → All (λ slot. slot < 32) (range_with_len from len)
 range_below from zero within = All-nil (λ slot. slot < 32)
-range_below from (suc len) within = All-cons (λ slot. slot < 32) from (range_with_len (from + 1) len) (omega (arith, within)) (range_below (from + 1) len (omega (arith, within)))
+range_below from (suc len) within =
+    All-cons (λ slot. slot < 32) from (range_with_len (from + 1) len) (omega (arith, within))
+    (range_below (from + 1) len (omega (arith, within)))
 
 once_is_order : (slots : List ℕ) → All (λ slot. slot < 32) slots → IsRecencyOrder (each_once slots)
 once_is_order [] below = no_slots
@@ -93,7 +96,8 @@ once_long : (first : List ℕ) → All (λ slot. slot < 32) first → 32 ≤ len
 once_long [] below = omega arith
 once_long (slot ∷ slots) below =
     let rest = All-tail (λ slot. slot < 32) slot slots below in
-    let order = once_is_order (slots ++ range_with_len 0 32) (All-append (λ slot. slot < 32) slots (range_with_len 0 32) rest (range_below 0 32 (omega arith))) in
+    let order = once_is_order (slots ++ range_with_len 0 32)
+    (All-append (λ slot. slot < 32) slots (range_with_len 0 32) rest (range_below 0 32 (omega arith))) in
     omega (arith, once_long slots rest, touch_keeps (slots_by_use 32 slots) slot order)
 
 take_first : (taken rest : List ℕ) → take (length taken) (taken ++ rest) ≡ taken

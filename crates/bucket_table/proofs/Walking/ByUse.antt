@@ -13,4 +13,5 @@ pub left_at_first : {K V : Type 0} (bucket : BucketView K V) (slots : List ℕ) 
 left_at_first bucket slots at long slots_are at_is =
     let own = map (slot_at bucket.own) (slots_by_use 32 bucket.listed) in
     let chain = ap (λ ahead. live_pairs (ahead ++ flattened bucket.chain)) (drop_all 32 bucket.own (omega (arith, long))) in
-    rw (slots_are, at_is, long) (ap (λ pairs. live_pairs own ++ pairs) chain ∙ sym (filter_map-append live_pair own (flattened bucket.chain)))
+    rw (slots_are, at_is, long)
+    (ap (λ pairs. live_pairs own ++ pairs) chain ∙ sym (filter_map-append live_pair own (flattened bucket.chain)))

@@ -1,19 +1,24 @@
 //! The iterators over a cache's pairs, its keys and its values. None touches a pair.
 ghost use Rattle.std.specs.Prelude.{◌≡◌};
+ghost use Rattle.std.specs.List.Sorted.{IsPermutation};
 ghost use Rattle.std.specs.Map.{keys_of, values_of};
 ghost use Rattle.bucket_table.specs.Views.ArraysView.{pairs_of};
+ghost use Rattle.bucket_table.specs.Walking.ByUse.{arrays_by_use};
 ghost use Rattle.collections.specs.Maps.{IsUnique, map_of};
 
 use crate::hash_cache::HashCache;
 use crate::iterating::{PairKeys, PairValues, TableKeys, TableValues};
 use bucket_slots::bucket::CACHE;
 use bucket_slots::lru::DoublyLinkedList;
-use bucket_table::hash_table::TablePairs;
+use bucket_table::hash_table::{PairsByUse, TablePairs};
 use bucket_table::key_hash::KeyHash;
 use std::iter::IntoIterator;
 
 /// The pairs of a cache that are left, each as `(&K, &V)`.
 pub type Iter<'a, K, V> = TablePairs<'a, K, V, DoublyLinkedList, CACHE>;
+
+/// The pairs of a cache that are left, by use within a bucket.
+pub type IterByUse<'a, K, V> = PairsByUse<'a, K, V>;
 
 /// The keys of a cache that are left.
 pub type Keys<'a, K, V> = TableKeys<'a, K, V, DoublyLinkedList, CACHE>;
@@ -22,8 +27,8 @@ pub type Keys<'a, K, V> = TableKeys<'a, K, V, DoublyLinkedList, CACHE>;
 pub type Values<'a, K, V> = TableValues<'a, K, V, DoublyLinkedList, CACHE>;
 
 impl<K: Eq, V, H: KeyHash<K>> HashCache<K, V, H> {
-    /// Lends the pairs one after the other, in the order of the view, which isn't the LRU order.
-    /// None is touched.
+    /// Lends the pairs one after the other, in the order of the view, which isn't the LRU order:
+    /// `iter_by_use` goes by that. None is touched.
     ///
     /// Takes no memory. O(1); all steps together O(slots, and the square of the number of blocks of
     /// each chain). Own.
@@ -34,6 +39,21 @@ impl<K: Eq, V, H: KeyHash<K>> HashCache<K, V, H> {
         self.room.learn();
         self.table.sound();
         self.table.pairs()
+    }
+
+    /// Lends the pairs one after the other, bucket by bucket, and those of each bucket by use: the
+    /// listed ones first, the one touched last before the others, then the rest of its own slots,
+    /// and then its chain. None is touched.
+    ///
+    /// Takes no memory. As `iter`. Own: what the crate `lru` calls `iter`, a bucket at a time.
+    pub fn iter_by_use(&self) -> IterByUse<'_, K, V>
+        ensures by_use { result ≡ arrays_by_use self.now.arrays }
+        ensures each { IsPermutation (pairs_of self.now.arrays) result }
+        ensures unique { IsUnique K.eq (map_of self.now) }
+    {
+        self.room.learn();
+        self.table.sound();
+        self.table.pairs_by_use()
     }
 
     /// Lends the keys one after the other, in the order of the view. None is touched.

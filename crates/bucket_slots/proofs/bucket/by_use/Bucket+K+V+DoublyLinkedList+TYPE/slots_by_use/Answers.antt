@@ -22,7 +22,8 @@ pub bounds-slots-len : goal.bounds-slots-len
 bounds-slots-len g c = has_room _ _ _ _ c.others.invariant c.others-test.true (sym c.contains-listed.ensures.value ∙ c.if-not-listed.true)
 
 pub overflow_add-len : goal.overflow_add-len
-overflow_add-len g c = omega (arith, has_room _ _ _ _ c.others.invariant c.others-test.true (sym c.contains-listed.ensures.value ∙ c.if-not-listed.true))
+overflow_add-len g c =
+    omega (arith, has_room _ _ _ _ c.others.invariant c.others-test.true (sym c.contains-listed.ensures.value ∙ c.if-not-listed.true))
 
 pub others-preserved : goal.others-preserved
 others-preserved g c = elim c.if-not-listed.branch [
