@@ -9,6 +9,17 @@ use bucket_table::script::ScriptHash;
 // Under the hash 0 all keys have one bucket, of 32 own slots. Under the hash that spreads low bytes
 // the keys below 128 have the first of two buckets, and those below 64 the first of four.
 pub(super) const STORIES: &[Story] = steps! {
+    Story { name: "each touch is seen in the walk by use", hasher: ScriptHash::Zero,
+        made: Within(0, 256), steps: steps! {
+            Fills(0, 6), ByUse(&[5, 4, 3, 2, 1, 0]), Gets(1, Some(1)), Holds(3, Some(3)),
+            ByUse(&[1, 5, 4, 3, 2, 0]), Replaces(0, 50, 0), Writes(2, 52, Some(2)),
+            Updates(4, 54, Some((4, 4))), Pokes(5, 55, Some(5)), ByUse(&[2, 0, 1, 5, 4, 3]),
+            Removes(1, Some((1, 1))), ByUse(&[2, 0, 5, 4, 3]), Len(5), Puts(6, 6, None),
+            ByUse(&[6, 2, 0, 5, 4, 3]), Retains, ByUse(&[6, 2, 0, 4]), Clears, ByUse(&[]) } },
+    Story { name: "a walk by use goes bucket by bucket", hasher: ScriptHash::Spread,
+        made: Within(0, 0), steps: steps! {
+            Fills(128, 131), Fills(0, 3), Gets(129, Some(129)), Gets(0, Some(0)), Slots(64),
+            ByUse(&[0, 2, 1, 129, 130, 128]) } },
     Story { name: "a lent value is touched by get_mut alone", hasher: ScriptHash::Zero,
         made: Within(0, 256), steps: steps! {
             AddsAll(0, 32), Updates(0, 50, Some((0, 0))), Pokes(1, 51, Some(1)),

@@ -56,6 +56,8 @@ pub(super) enum Step {
     Len(usize),
     /// How many slots there are.
     Slots(usize),
+    /// The keys by use: of each bucket the one touched last comes first.
+    ByUse(&'static [u64]),
 }
 
 /// How a new cache is made.
@@ -221,6 +223,7 @@ fn look(rt: &impl Abort, cache: &mut Cache, at: At, step: &Step) {
             check_same(rt, found, (len, len == 0, Some(len)), at);
         }
         Slots(slots) => check_same(rt, cache.capacity(), slots, at),
+        ByUse(keys) => check_same(rt, walk_pairs(cache.iter_by_use()).has_keys(keys), true, at),
         _ => check_same(rt, true, false, (at, "no step")),
     }
 }
@@ -306,9 +309,21 @@ fn keep_even(key: &u64, value: &mut u64) -> bool {
     *key % 2 == 0
 }
 
-// How many pairs each walk over a cache gives.
+// How many pairs each walk over a cache gives; the one by use gives them in another order.
 fn met(cache: &Cache) -> Option<usize> {
-    gone_over!(cache, peek)
+    let len = gone_over!(cache, peek)?;
+    let by_use = walk_pairs(cache.iter_by_use());
+    for place in 0..by_use.len() {
+        match by_use.get(place) {
+            Some((key, value)) if cache.peek(&key) == Some(&value) => {}
+            _ => return None,
+        }
+    }
+    if by_use.are_distinct() && by_use.len() == len {
+        Some(len)
+    } else {
+        None
+    }
 }
 
 // An odd number with its bits spread, so that each of eight homes has more than 32 of the keys.

@@ -73,6 +73,16 @@ impl Pairs {
     pub(super) fn len(&self) -> usize {
         self.keys.len
     }
+
+    // Whether each key is below 256 and came once.
+    pub(super) fn are_distinct(&self) -> bool {
+        self.keys.is_distinct()
+    }
+
+    // Whether these keys came, in this order.
+    pub(super) fn has_keys(&self, keys: &[u64]) -> bool {
+        self.len() == keys.len() && self.keys.numbers.iter().take(self.len()).eq(keys.iter())
+    }
 }
 
 // The pairs that an iterator gives.

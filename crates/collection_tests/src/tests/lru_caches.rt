@@ -56,6 +56,10 @@ pub(super) const STORIES: &[Story] = steps! {
             Adds(1, 10, None), Adds(2, 20, None), Len(2), Gets(1, Some(10)), Gets(2, Some(20)),
             Removes(1, Some((1, 10))), Len(1), Gets(1, None), Gets(2, Some(20)), Removes(1, None),
             Len(1) } },
+    // test_iter_forwards
+    Story { name: "a walk by use begins with the pair touched last", hasher: ScriptHash::Zero,
+        made: Within(0, 256), steps: steps! {
+            ByUse(&[]), AddsAll(1, 4), Len(3), ByUse(&[3, 2, 1]) } },
     // test_clear
     Story { name: "a cleared cache has no pair", hasher: ScriptHash::Zero, made: Within(0, 256),
         steps: steps! {
