@@ -5,7 +5,7 @@ use super::sets::{Set, fill_set};
 use super::{check_same, std_sets, steps};
 use bucket_table::script::ScriptHash;
 use collections::hash_set::HashSet;
-use std::alloc::Global;
+use std::alloc::{AllocError, Global};
 use std::fmt::Debug;
 use std::process::Abort;
 use std::test::Fail;
@@ -73,6 +73,8 @@ fn check_row(rt: &impl Abort, alloc: Global, one: &Set, other: &Set, row: &Row, 
     for (call, ranges) in calls(row) {
         let found = handed_over(alloc, one, other, call);
         check_listed(rt, alloc, found, ranges, (number, call));
+        let found = collected(alloc, one, other, call);
+        check_listed(rt, alloc, found, ranges, (number, call, "collected"));
     }
 }
 
@@ -115,6 +117,21 @@ pub(super) fn handed_over(alloc: Global, one: &Set, other: &Set, call: Call) -> 
         Call::Intersection => given(alloc, one.intersection(other)),
         Call::Difference => given(alloc, one.difference(other)),
         Call::SymmetricDifference => given(alloc, one.symmetric_difference(other)),
+    }
+}
+
+// The keys of a new set that has those of a call: none where memory runs out.
+fn collected(alloc: Global, one: &Set, other: &Set, call: Call) -> Vec<u64> {
+    let made: Result<HashSet<u64>, AllocError> = match call {
+        Call::ForEach => one.iter().copied().collect(alloc),
+        Call::Union => one.union(other).copied().collect(alloc),
+        Call::Intersection => one.intersection(other).copied().collect(alloc),
+        Call::Difference => one.difference(other).copied().collect(alloc),
+        Call::SymmetricDifference => one.symmetric_difference(other).copied().collect(alloc),
+    };
+    match made {
+        Ok(set) => given(alloc, set.iter()),
+        Err(_) => Vec::new(alloc),
     }
 }
 
