@@ -3,11 +3,19 @@ use Rattle.std.specs.Prelude.{◌≡◌, ◌^◌, Bool, true, min, List, None}
 use Rattle.std.specs.List.{AllZip}
 use Rattle.std.specs.List.Sorted.{IsPermutation}
 use Rattle.std.specs.Option.{IsSomeAnd, MatchOption}
+use Rattle.collections.specs.Loans.{Puts}
 use Rattle.collections.specs.Maps.{IsUnique, MapView, get, map_len}
 
 -- a pair of clones, whose key is equal
 abbrev pub IsClonedPair : {K V : Type 0} → (K → K → Bool) → (K → K → Type 0) → (V → V → Type 0) → K × V → K × V → Type 0
 IsClonedPair eq IsKey IsValue own pair = (IsKey own.0 pair.0 × (eq own.0 pair.0 ≡ true)) × IsValue own.1 pair.1
+
+-- clones of a pair are put into a map
+pub record PutsClone {K V H : Type 0} (eq : K → K → Bool) (IsKey : K → K → Type 0) (IsValue : V → V → Type 0) (old : MapView K V H)
+    (own : K × V) (new : MapView K V H) : Type 0 where
+  pub pair : K × V
+  pub clone : IsClonedPair eq IsKey IsValue own pair
+  pub puts : Puts eq old pair.0 pair.1 new
 
 module _ {K V H : Type 0} (eq : K → K → Bool) (IsKey : K → K → Type 0) (IsValue : V → V → Type 0) (IsHasher : H → H → Type 0) where
   -- a map has clones of the pairs of another, and no other pair, so each key has a clone of the value that it has there; its

@@ -72,10 +72,7 @@ impl<K: Eq, V, H: KeyHash<K>> HashCache<K, V, H> {
         ensures maximum { result.arrays.maximum ≡ 256 }
         ensures slots { (length result.arrays.current ≡ 0) × (length result.arrays.linked ≡ 0) }
     {
-        HashCache {
-            table: HashTable::new(alloc, hasher, 0, DEFAULT_MAXIMUM_CAPACITY),
-            room: Fits::new(),
-        }
+        Self::with_capacity(alloc, hasher, 0, DEFAULT_MAXIMUM_CAPACITY)
     }
 
     /// Returns an empty cache whose arrays have at least `minimum` slots, or 2^63, and at most the

@@ -31,6 +31,7 @@ use crate::hash_map::NotInserted;
 use crate::homes::learn_refused;
 use crate::key_form::{FormProbe, KeyForm, value_by};
 use crate::room::{Fits, TableRoom};
+use crate::sizing::widest;
 use bucket_slots::bucket::{Generation, INDEX};
 use bucket_table::hash_table::{HashTable, MAXIMUM_CAPACITY_LIMIT};
 use bucket_table::key_hash::{KeyHash, StdHash};
@@ -87,7 +88,7 @@ impl<K: Eq, V, H: KeyHash<K>> HashIndex<K, V, H> {
     {
         let minimum = slots.min(MAXIMUM_CAPACITY_LIMIT);
         HashIndex {
-            table: HashTable::new(alloc, hasher, minimum, MAXIMUM_CAPACITY_LIMIT),
+            table: HashTable::new(alloc, hasher, minimum, widest()),
             room: Fits::new(),
         }
     }

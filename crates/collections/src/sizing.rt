@@ -1,5 +1,6 @@
 //! How many slots a number of pairs takes: numbers from numbers.
-ghost use Rattle.std.specs.Prelude.{◌↔◌, IsTrue, MatchOption};
+ghost use Rattle.std.specs.Int.{IsPowerOfTwo};
+ghost use Rattle.std.specs.Prelude.{◌≡◌, ◌↔◌, ◌^◌, IsTrue, MatchOption};
 ghost use Rattle.bucket_slots.specs.Sizing.{IsTooFull};
 ghost use Rattle.collections.specs.Capacity.{AreTooMany, IsMinimumFor, IsSlotsFor};
 
@@ -8,6 +9,14 @@ use bucket_table::hash_table::MAXIMUM_CAPACITY_LIMIT;
 
 /// The least number of slots that an array has.
 pub(crate) const LEAST_CAPACITY: usize = 64;
+
+/// Returns the greatest number of slots that a maximum says, which is a power of two.
+pub(crate) fn widest() -> usize
+    ensures power { IsPowerOfTwo result }
+    ensures value { result ≡ 2 ^ 63 }
+{
+    MAXIMUM_CAPACITY_LIMIT
+}
 
 /// Tests whether some pairs take more than 13 of 16 slots.
 pub(crate) fn is_too_full(slots: usize, pairs: usize) -> bool

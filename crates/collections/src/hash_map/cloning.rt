@@ -1,6 +1,6 @@
 //! A copy of a map whose keys and values are clones, which can be refused.
-ghost use Rattle.std.specs.Prelude.{IfOk, IsOk};
-ghost use Rattle.collections.specs.Clones.{IsClone};
+ghost use Rattle.std.specs.Prelude.{IfOk, IsOk, OnOk};
+ghost use Rattle.collections.specs.Clones.{IsClone, PutsClone};
 ghost use Rattle.collections.specs.Maps.{IsEmpty};
 
 use crate::hash_map::HashMap;
@@ -29,16 +29,26 @@ impl<K: Eq + Clone, V: Clone, H: KeyHash<K> + Clone> HashMap<K, V, H> {
         let mut pairs = self.iter();
         while let Some(pair) = pairs.next() {
             let (key, value) = pair;
-            let own = key.clone()?;
-            if !key.eq(&own) {
-                return Err(AllocError);
-            }
-            let held = value.clone()?;
-            match copy.upsert(own, held) {
-                Ok(earlier) => drop(earlier),
-                Err(_) => return Err(AllocError),
-            }
+            copy.put_clone(key, value)?;
         }
         Ok(copy)
+    }
+}
+
+impl<K: Eq + Clone, V: Clone, H: KeyHash<K>> HashMap<K, V, H> {
+    /// Puts clones of a key and a value, if that of the key is equal to it.
+    fn put_clone(&mut self, key: &K, value: &V) -> Result<(), AllocError>
+        ensures { OnOk result
+            (PutsClone K.eq K.is_clone V.is_clone self.old (key.now, value.now) self.new) }
+    {
+        let own = key.clone()?;
+        if !key.eq(&own) {
+            return Err(AllocError);
+        }
+        let held = value.clone()?;
+        match self.upsert(own, held) {
+            Ok(_earlier) => Ok(()),
+            Err(_) => Err(AllocError),
+        }
     }
 }

@@ -10,7 +10,7 @@ ghost use Rattle.collections.specs.Maps.{IsEmpty};
 
 use crate::hash_map::HashMap;
 use crate::room::Fits;
-use crate::sizing::{is_too_full, minimum_for, slots_for};
+use crate::sizing::{is_too_full, minimum_for, slots_for, widest};
 use bucket_table::hash_table::{HashTable, MAXIMUM_CAPACITY_LIMIT};
 use bucket_table::key_hash::KeyHash;
 use std::alloc::{AllocError, Global};
@@ -48,7 +48,7 @@ impl<K: Eq, V, H: KeyHash<K>> HashMap<K, V, H> {
     {
         let minimum = slots.min(MAXIMUM_CAPACITY_LIMIT);
         HashMap {
-            table: HashTable::new(alloc, hasher, minimum, MAXIMUM_CAPACITY_LIMIT),
+            table: HashTable::new(alloc, hasher, minimum, widest()),
             room: Fits::new(),
         }
     }

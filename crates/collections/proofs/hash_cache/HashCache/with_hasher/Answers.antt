@@ -1,5 +1,7 @@
 use Rattle.std.proofs.Common.{arith, refl}
 use Rattle.collections.proofs.hash_cache.HashCache.with_hasher.Goals as goal
 
-pub new-requires : goal.new-requires
-new-requires g c = (c.requires, ((8, refl), (omega arith, omega arith)))
+pub returns-clause-maximum : goal.returns-clause-maximum
+returns-clause-maximum g c =
+    let least = c.with_capacity.ensures.maximum in
+    omega (arith, least.at_least, least.least 256 (8, refl) (omega arith))

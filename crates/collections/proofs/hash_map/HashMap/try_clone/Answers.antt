@@ -1,7 +1,6 @@
-use Rattle.std.proofs.Common.{◌≡◌, ◌∙◌, ap, subst, sym, true}
+use Rattle.std.proofs.Common.{◌≡◌, ◌∙◌, ap, subst, sym}
 use Rattle.std.specs.Prelude.{◌^◌, min}
 use Rattle.collections.proofs.Cloning.{IsCloning, cloned, none_cloned, one_more_cloned, some_left}
-use Rattle.collections.proofs.Collecting.{upsert_puts}
 use Rattle.collections.proofs.hash_map.HashMap.try_clone.Goals as goal
 
 pub loop-pair-init : goal.loop-pair-init
@@ -14,15 +13,11 @@ loop-pair-init g c =
 
 pub loop-pair-preserved : goal.loop-pair-preserved
 loop-pair-preserved g c =
-    let eq = g.K.PartialEq.eq in
     let pair = c.in-Some.pair in
-    let mid = c.loop-pair.copy in
-    let new = c.upsert.new.self in
-    let same : eq pair.0.now c.in_ok-own.own ≡ true = sym c.eq.ensures ∙ c.if-not-eq.false in
-    let put = upsert_puts eq mid new c.in_ok-own.own c.in_ok-held.held c.in-Ok.earlier c.in-Ok.ensures.map in
-    one_more_cloned eq g.K.Clone.is_clone g.V.Clone.is_clone c.args.self.now c.with_minimum-copy.result mid new c.loop-pair.pairs
-    c.next.new.self (pair.0.now, pair.1.now) (c.in_ok-own.own, c.in_ok-held.held) c.loop-pair.invariant c.in-Some.ensures.steps
-    ((c.in_ok-own.ensures.cases, same), c.in_ok-held.ensures.cases) put
+    let put = c.in_ok-put_clone.ensures in
+    one_more_cloned g.K.PartialEq.eq g.K.Clone.is_clone g.V.Clone.is_clone c.args.self.now c.with_minimum-copy.result c.loop-pair.copy
+    c.put_clone.new.self c.loop-pair.pairs c.next.new.self (pair.0.now, pair.1.now) put.pair c.loop-pair.invariant c.in-Some.ensures.steps
+    put.clone put.puts
 
 pub returns-clause-copy : goal.returns-clause-copy
 returns-clause-copy g c =
@@ -40,26 +35,8 @@ returns-in_err-hasher-clause-succeeds g c =
     let hasher : c.hasher.result.now ≡ c.args.self.now.hasher = rw (← c.self.view_is) c.hasher.ensures in
     λ empty sure. absurd (c.in_err-hasher.ensures.cases (rw hasher sure))
 
-pub returns-in_err-own-clause-succeeds : goal.returns-in_err-own-clause-succeeds
-returns-in_err-own-clause-succeeds g c =
-    let pair = c.in-Some.pair in
-    λ empty sure. absurd (some_left g.K.PartialEq.eq g.K.Clone.is_clone g.V.Clone.is_clone c.args.self.now c.with_minimum-copy.result
-    c.loop-pair.copy c.loop-pair.pairs c.next.new.self (pair.0.now, pair.1.now) c.loop-pair.invariant c.in-Some.ensures.steps empty)
-
-pub returns-then-not-eq-clause-succeeds : goal.returns-then-not-eq-clause-succeeds
-returns-then-not-eq-clause-succeeds g c =
-    let pair = c.in-Some.pair in
-    λ empty sure. absurd (some_left g.K.PartialEq.eq g.K.Clone.is_clone g.V.Clone.is_clone c.args.self.now c.with_minimum-copy.result
-    c.loop-pair.copy c.loop-pair.pairs c.next.new.self (pair.0.now, pair.1.now) c.loop-pair.invariant c.in-Some.ensures.steps empty)
-
-pub returns-in_err-held-clause-succeeds : goal.returns-in_err-held-clause-succeeds
-returns-in_err-held-clause-succeeds g c =
-    let pair = c.in-Some.pair in
-    λ empty sure. absurd (some_left g.K.PartialEq.eq g.K.Clone.is_clone g.V.Clone.is_clone c.args.self.now c.with_minimum-copy.result
-    c.loop-pair.copy c.loop-pair.pairs c.next.new.self (pair.0.now, pair.1.now) c.loop-pair.invariant c.in-Some.ensures.steps empty)
-
-pub returns-in-Err-clause-succeeds : goal.returns-in-Err-clause-succeeds
-returns-in-Err-clause-succeeds g c =
+pub returns-in_err-put_clone-clause-succeeds : goal.returns-in_err-put_clone-clause-succeeds
+returns-in_err-put_clone-clause-succeeds g c =
     let pair = c.in-Some.pair in
     λ empty sure. absurd (some_left g.K.PartialEq.eq g.K.Clone.is_clone g.V.Clone.is_clone c.args.self.now c.with_minimum-copy.result
     c.loop-pair.copy c.loop-pair.pairs c.next.new.self (pair.0.now, pair.1.now) c.loop-pair.invariant c.in-Some.ensures.steps empty)
