@@ -1,5 +1,5 @@
 -- A pair was added, and its value lent: what is written through the loan stands beside the key.
-use Rattle.std.proofs.Common.{ℕ, suc, ◌≡◌, Bool, false, not, Some, None, List, [], ◌∷◌, refl, sym, ap, subst, ◌∙◌, arith}
+use Rattle.std.proofs.Common.{ℕ, suc, ◌≡◌, Bool, false, not, Err, Ok, OnOk, Result, Some, None, List, [], ◌∷◌, refl, sym, ap, subst, ◌∙◌, arith}
 use Rattle.std.specs.Cmp.{IsEquivalence}
 use Rattle.std.specs.List.{All, IsDistinct, filter}
 use Rattle.std.specs.List.Sorted.{IsPermutation}
@@ -12,6 +12,7 @@ use Rattle.bucket_table.specs.Views.ArraysView.{TableView, pairs_of}
 use Rattle.bucket_table.specs.Views.Sides.{bucket_on}
 use Rattle.bucket_table.specs.declared.arrays.side.Side.{Side}
 use Rattle.bucket_table.specs.Map.ByKey.{HasNoSlot}
+use Rattle.bucket_table.specs.Map.Finding.{Finds}
 use Rattle.bucket_table.specs.Map.LookingUp.{IsAbsent}
 use Rattle.bucket_table.specs.Map.MapState.{AddsPair, ChangesValue, KeepsPairs, MapState, state_of}
 use Rattle.bucket_table.proofs.Walking.Filters.{IsPermutation-filter}
@@ -46,6 +47,20 @@ module _ {K V : Type 0} (eq : K → K → Bool) (laws : IsEquivalence eq) where
   pub absent_permuted : (k : K) (xs ys : List (K × V)) → lookup (eq k) xs ≡ None → IsPermutation xs ys → IsAbsent (λ own. eq own k) ys
   absent_permuted k xs ys none moved = λ i d below.
       laws.symm _ k ∙ All-permutation (λ (o : K × V). eq k o.0 ≡ false) xs ys moved (absent_from_lookup eq laws k xs none) i d below
+
+-- what a look-up doesn't find isn't there where a bucket was found for it either
+pub found_absent : {K V H E : Type 0} (eq : K → K → Bool) (laws : IsEquivalence eq) (key : K) (hash : ℕ) (old new : TableView K V H)
+    (answer : Result (Side × ℕ) E) → lookup (eq key) (pairs_of old.arrays) ≡ None → Finds 83 hash old answer new
+    → OnOk answer (IsAbsent (λ own. eq own key) (pairs_of new.arrays))
+found_absent eq laws key hash old new (Ok found) none finds =
+    absent_permuted eq laws key (pairs_of old.arrays) (pairs_of new.arrays) none finds.map.pairs
+found_absent eq laws key hash old new (Err refused) none finds = tt
+
+-- and the hasher stays, whether one was found or not
+pub found_hasher : {K V H E : Type 0} (hash : ℕ) (old new : TableView K V H) (answer : Result (Side × ℕ) E)
+    → Finds 83 hash old answer new → old.hasher ≡ new.hasher
+found_hasher hash old new (Ok found) finds = sym (ap (λ others. others.hasher) finds.map.others)
+found_hasher hash old new (Err refused) finds = sym (ap (λ others. others.hasher) finds.prepared.map.others)
 
 -- a bucket without a free slot, named otherwise
 pub full_there : {K V H : Type 0} (keeps : ℕ → Bool) (t s : TableView K V H) (side to : Side) (index at : ℕ) → t ≡ s → side ≡ to → index ≡ at

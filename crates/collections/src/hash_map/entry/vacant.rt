@@ -1,11 +1,18 @@
 //! The calls of a vacant entry.
-ghost use Rattle.std.specs.Prelude.{◌≡◌, None, IfErr, IfOk};
+ghost use Rattle.std.specs.Prelude.{◌≡◌, None, IfErr, IfOk, OnOk};
 ghost use Rattle.std.specs.Borrow.{sem};
+ghost use Rattle.std.specs.Map.{lookup};
+ghost use Rattle.bucket_table.specs.Map.Finding.{Finds};
+ghost use Rattle.bucket_table.specs.Map.LookingUp.{IsAbsent};
+ghost use Rattle.bucket_table.specs.Views.ArraysView.{pairs_of};
 ghost use Rattle.collections.specs.Maps.{get};
+ghost use Rattle.collections.specs.Room.{MapFits};
 
 use crate::hash_map::HashMap;
 use crate::hash_map::entry::VacantEntry;
 use crate::homes::learn_homes;
+use bucket_slots::bucket::{AllocError, MAP};
+use bucket_table::hash_table::{HashTable, Side};
 use bucket_table::key_hash::KeyHash;
 use std::alloc::AllocFailed;
 
@@ -73,7 +80,7 @@ impl<K: Eq + Drop, V: Drop, H: KeyHash<K>> HashMap<K, V, H> {
     {
         self.room.learn();
         self.table.sound();
-        let Ok((side, index)) = self.table.find(hash) else {
+        let Ok((side, index)) = find_absent(&mut self.table, hash, &key) else {
             learn_homes(&self.table, hash);
             self.table.sound();
             return Err(AllocFailed {
@@ -91,4 +98,22 @@ impl<K: Eq + Drop, V: Drop, H: KeyHash<K>> HashMap<K, V, H> {
         self.table.sound();
         Ok(self.table.entry_mut_at(side, index, &at).1)
     }
+}
+
+/// Finds the bucket for a pair whose key has this hash, and isn't in the table.
+#[inline(always)]
+fn find_absent<K: Eq + Drop, V: Drop, H: KeyHash<K>>(
+    table: &mut HashTable<K, V, H, (), MAP>,
+    hash: u64,
+    key: &K,
+) -> Result<(Side, usize), AllocError>
+    requires fits { MapFits K.row V.row H.row K.PartialEq H.KeyHash }
+    requires hashed { hash ≡ H.hash_of table.old.hasher key.now }
+    requires absent { lookup (K.eq key.now) (pairs_of table.old.arrays) ≡ None }
+    ensures found { Finds MAP hash table.old result table.new }
+    ensures hashed { hash ≡ H.hash_of table.new.hasher key.now }
+    ensures absent { OnOk result
+        (IsAbsent (λ own. K.eq own key.now) (pairs_of table.new.arrays)) }
+{
+    table.find(hash)
 }

@@ -1,42 +1,31 @@
-use Rattle.std.proofs.Common.{arith, ap, refl, sym, true, ◌∙◌}
+use Rattle.std.proofs.Common.{arith, ap, refl, true, ◌∙◌}
 use Rattle.bucket_table.proofs.Map.LockedChanged.{table_same}
 use Rattle.bucket_table.specs.Map.Lending.{with_value}
-use Rattle.bucket_table.specs.Views.ArraysView.{pairs_of}
-use Rattle.collections.proofs.Adding.{absent_permuted, added_lent, full_there, kept_stays, pair_named}
+use Rattle.collections.proofs.Adding.{added_lent, full_there, kept_stays, pair_named}
 use Rattle.collections.proofs.Crowding.{found_full, none_found}
 use Rattle.collections.proofs.hash_map.HashMap.add.Goals as goal
 
-pub insert-requires : goal.insert-requires
-insert-requires g c =
-    let t = c.self.inside.table in
-    let found = c.in-Ok.ensures in
-    let own = (rw (← c.self.view_is) at c.requires.hashed) ∙ ap (λ h. g.H.KeyHash.hash_of h c.args.key) (sym (ap (λ z. z.hasher) found.map.others)) in
-    let none = absent_permuted g.K.PartialEq.eq g.met.K.Eq.laws c.args.key (pairs_of t.arrays) (pairs_of c.find.new.self.arrays)
-    (rw (← c.self.view_is) at c.requires.absent) found.map.pairs in
-    rw (c.lock.ensures.unchanged, c.lock.ensures.side, c.lock.ensures.index) (omega arith, (omega arith, (own, (found.home, none))))
-
 pub returns-in_default : goal.returns-in_default
 returns-in_default g c =
-    let kept = kept_stays g.K.PartialEq.eq g.met.K.Eq.laws 83 c.self.inside.table c.sound.ensures.one_map.distinct c.find.new.self
-    c.in_default.ensures.prepared.map in
-    let own = (rw (← c.self.view_is) at c.requires.hashed) ∙ ap (λ h. g.H.KeyHash.hash_of h c.args.key)
-    (sym (ap (λ z. z.hasher) c.in_default.ensures.prepared.map.others)) in
-    let lacks = none_found 83 g.H.KeyHash.hash_of c.args.key _ c.self.inside.table c.find.new.self own c.sound-in_default.ensures.one_map.placed
-    c.learn_homes.ensures.current c.learn_homes.ensures.old c.in_default.ensures in
+    let kept = kept_stays g.K.PartialEq.eq g.met.K.Eq.laws 83 c.self.inside.table c.sound.ensures.one_map.distinct c.find_absent.new.table
+    c.in_default.ensures.found.prepared.map in
+    let lacks = none_found 83 g.H.KeyHash.hash_of c.args.key _ c.self.inside.table c.find_absent.new.table
+    c.find_absent.ensures.hashed c.sound-in_default.ensures.one_map.placed c.learn_homes.ensures.current c.learn_homes.ensures.old
+    c.in_default.ensures.found in
     rw (← c.self.view_is) ((refl, λ value is. absurd cc, (kept, lacks)), record { writes_back = tt; value = tt; pair_returned = refl })
 
 pub returns-in-Err : goal.returns-in-Err
 returns-in-Err g c =
-    let kept = kept_stays g.K.PartialEq.eq g.met.K.Eq.laws 83 c.self.inside.table c.sound.ensures.one_map.distinct c.find.new.self
-    c.in-Ok.ensures.map in
-    let found = c.in-Ok.ensures in
+    let kept = kept_stays g.K.PartialEq.eq g.met.K.Eq.laws 83 c.self.inside.table c.sound.ensures.one_map.distinct c.find_absent.new.table
+    c.in-Ok.ensures.found.map in
+    let found = c.in-Ok.ensures.found in
     let same = table_same c.lock.result c.insert.new.self _ c.in-Err.ensures.changed refl ∙ c.lock.ensures.unchanged in
-    let own = (rw (← c.self.view_is) at c.requires.hashed) ∙ ap (λ h. g.H.KeyHash.hash_of h c.args.key) (sym (ap (λ z. z.hasher) found.map.others)) in
     let homes = rw same at c.learn_homes-in-Err.ensures in
     let placed = rw same at c.sound-in-Err.ensures.one_map.placed in
-    let none = full_there (λ mark. true) c.lock.result.table.now c.find.new.self c.lock.result.side c.in-Ok.side c.lock.result.index
+    let none = full_there (λ mark. true) c.lock.result.table.now c.find_absent.new.table c.lock.result.side c.in-Ok.side c.lock.result.index
     c.in-Ok.index c.lock.ensures.unchanged c.lock.ensures.side c.lock.ensures.index c.in-Err.ensures.answer.1 in
-    let lacks = found_full 83 g.H.KeyHash.hash_of c.args.key _ c.self.inside.table c.find.new.self own placed homes.current homes.old
+    let lacks = found_full 83 g.H.KeyHash.hash_of c.args.key _ c.self.inside.table c.find_absent.new.table
+    c.find_absent.ensures.hashed placed homes.current homes.old
     (λ e. omega arith) c.in-Ok.side c.in-Ok.index found.home none in
     rw (← c.self.view_is, same)
     ((refl, λ value is. absurd cc, (kept, lacks)), record { writes_back = tt; value = tt; pair_returned = c.in-Err.ensures.answer.0 })
@@ -53,9 +42,9 @@ returns g c =
     rw (← c.self.view_is) (
       (
         refl,
-        λ value is. added_lent g.K.PartialEq.eq g.met.K.Eq.laws 83 t c.sound.ensures.one_map.distinct c.find.new.self added
+        λ value is. added_lent g.K.PartialEq.eq g.met.K.Eq.laws 83 t c.sound.ensures.one_map.distinct c.find_absent.new.table added
             (with_value added c.in-Ok.side c.in-Ok.index c.in-Ok-insert.at value) c.args.key c.args.value value
-            (rw (← c.self.view_is) at c.requires.absent) c.in-Ok.ensures.map puts c.sound-2.ensures.one_map.distinct
+            (rw (← c.self.view_is) at c.requires.absent) c.in-Ok.ensures.found.map puts c.sound-2.ensures.one_map.distinct
             (rw pair at (e.map value)),
         tt,
       ),
