@@ -1,5 +1,6 @@
 -- A pair was added, and its value lent: what is written through the loan stands beside the key.
-use Rattle.std.proofs.Common.{ℕ, suc, ◌≡◌, Bool, false, not, Err, Ok, OnOk, Result, Some, None, List, [], ◌∷◌, refl, sym, ap, subst, ◌∙◌, arith}
+use Rattle.std.proofs.Common.{ℕ, suc, ◌≡◌, Bool, false, not, Err, Ok, OnOk, Result, Some, None, List, [], ◌∷◌, refl, sym, ap}
+use Rattle.std.proofs.Common.{subst, ◌∙◌, arith}
 use Rattle.std.specs.Cmp.{IsEquivalence}
 use Rattle.std.specs.List.{All, IsDistinct, filter}
 use Rattle.std.specs.List.Sorted.{IsPermutation}
@@ -63,7 +64,8 @@ found_hasher hash old new (Ok found) finds = sym (ap (λ others. others.hasher) 
 found_hasher hash old new (Err refused) finds = sym (ap (λ others. others.hasher) finds.prepared.map.others)
 
 -- a bucket without a free slot, named otherwise
-pub full_there : {K V H : Type 0} (keeps : ℕ → Bool) (t s : TableView K V H) (side to : Side) (index at : ℕ) → t ≡ s → side ≡ to → index ≡ at
+pub full_there : {K V H : Type 0} (keeps : ℕ → Bool) (t s : TableView K V H) (side to : Side) (index at : ℕ)
+    → t ≡ s → side ≡ to → index ≡ at
     → HasNoSlot 83 keeps (bucket_on t.arrays side index) → HasNoSlot 83 keeps (bucket_on s.arrays to at)
 full_there {K} {V} {H} keeps t s side to index at same here there none =
     subst (λ (u : TableView K V H). HasNoSlot 83 keeps (bucket_on u.arrays to at)) same
