@@ -1,20 +1,11 @@
-use Rattle.std.proofs.Common.{ℕ, Err, ap, refl, sym}
+use Rattle.std.proofs.Common.{Err, ap, unwrap_or}
 use Rattle.std.specs.Prelude.{nat_eq}
-use Rattle.bucket_table.specs.declared.hash_table.NotInserted.{NotInserted}
-use Rattle.collections.specs.Maps.{map_of}
-use Rattle.bucket_c.specs.Codes.{put_code}
-use Rattle.bucket_c.proofs.Refused.{handed_back}
+use Rattle.bucket_c.specs.Hashing.{word_hash}
+use Rattle.bucket_c.proofs.Refused.{put_refused}
 use Rattle.bucket_c.proofs.caches.put.Goals as goal
 
 pub returns-in-Err-Memory : goal.returns-in-Err-Memory
 returns-in-Err-Memory c =
-    let code : NotInserted ℕ ℕ → ℕ = λ why. put_code {P = ℕ × ℕ} (Err why) in
-    let back = handed_back nat_eq c.args.key c.args.value (map_of c.args.cache.now) c.in-Err-Memory.field-0-is c.in-Err-Memory.ensures.map.0 in (
-      Err c.in-Err-Memory.field-0,
-      sym (ap code c.in-Err-Memory.field-0-is),
-      c.in-Err-Memory.ensures.map,
-      c.in-Err-Memory.ensures.home,
-      λ _. c.in-Err-Memory.ensures.memory (ap Err back),
-      refl,
-      refl,
-    )
+    let refused = c.in-Err-Memory.ensures in
+    put_refused nat_eq word_hash c.args.key c.args.value (λ went. unwrap_or went c.args.gone.now) c.args.before.now c.args.cache.now
+    c.put.new.self c.in-Err-Memory.field-0 c.in-Err-Memory.field-0-is refused.map refused.home (λ back. refused.memory (ap Err back))

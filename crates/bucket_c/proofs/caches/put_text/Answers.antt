@@ -1,20 +1,13 @@
-use Rattle.std.proofs.Common.{ℕ, Err, ap, refl, sym}
-use Rattle.bucket_table.specs.declared.hash_table.NotInserted.{NotInserted}
-use Rattle.collections.specs.Maps.{map_of}
-use Rattle.bucket_c.specs.Codes.{put_code}
-use Rattle.bucket_c.specs.Tables.{Text, text_eq}
-use Rattle.bucket_c.proofs.Refused.{handed_back}
+use Rattle.std.proofs.Common.{Err, ap}
+use Rattle.bucket_c.specs.Caches.{key_copied}
+use Rattle.bucket_c.specs.Hashing.{text_hash}
+use Rattle.bucket_c.specs.Tables.{text_eq}
+use Rattle.bucket_c.proofs.Refused.{put_refused}
 use Rattle.bucket_c.proofs.caches.put_text.Goals as goal
 
 pub returns-in-Err-Memory : goal.returns-in-Err-Memory
 returns-in-Err-Memory c =
-    let code : NotInserted Text ℕ → ℕ = λ why. put_code {P = Text × ℕ} (Err why) in
-    let back = handed_back text_eq c.args.key c.args.value (map_of c.args.cache.now) c.in-Err-Memory.field-0-is c.in-Err-Memory.ensures.map.0 in (
-      Err c.in-Err-Memory.field-0,
-      sym (ap code c.in-Err-Memory.field-0-is),
-      c.in-Err-Memory.ensures.map,
-      c.in-Err-Memory.ensures.home,
-      λ _. c.in-Err-Memory.ensures.memory (ap Err back),
-      refl,
-      refl,
-    )
+    let refused = c.in-Err-Memory.ensures in
+    put_refused text_eq text_hash c.args.key c.args.value (key_copied c.args.bytes.now c.args.len.now) c.args.before.now
+    c.args.cache.now c.put.new.self c.in-Err-Memory.field-0 c.in-Err-Memory.field-0-is refused.map refused.home
+    (λ back. refused.memory (ap Err back))
