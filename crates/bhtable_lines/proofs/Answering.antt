@@ -40,8 +40,9 @@ asked_nothing_more (first ∷ lines) calls line (fits, asked) short blank = (
   ],
 )
 
-pub asked_one_more : (lines : List (List ℕ)) (calls : List (Call ℕ ℕ)) (line : List ℕ) (call : Call ℕ ℕ) → AskForCalls lines calls
-    → length line ≤ 4096 → Asks (parts_of line) (Calls call) → AskForCalls (lines ++ line ∷ []) (calls ++ call ∷ [])
+pub asked_one_more : (lines : List (List ℕ)) (calls : List (Call ℕ ℕ)) (line : List ℕ) (call : Call ℕ ℕ)
+    → AskForCalls lines calls → length line ≤ 4096 → Asks (parts_of line) (Calls call)
+    → AskForCalls (lines ++ line ∷ []) (calls ++ call ∷ [])
 asked_one_more [] calls line call asked short asks =
     (short, inr (call, [], asks, ap (λ (cs : List (Call ℕ ℕ)). cs ++ call ∷ []) asked, refl))
 asked_one_more (first ∷ lines) calls line call (fits, asked) short asks = (
@@ -58,8 +59,9 @@ asked_one_more (first ∷ lines) calls line call (fits, asked) short asks = (
   ],
 )
 
-answered_call : (line : List ℕ) (call : Call ℕ ℕ) (reply : Reply ℕ ℕ) (before after : ScriptTable) → Asks (parts_of line) (Calls call)
-    → ScriptStep before call reply after → IsAnswer (Some before) line (line_of (text_of reply)) (Some after)
+answered_call : (line : List ℕ) (call : Call ℕ ℕ) (reply : Reply ℕ ℕ) (before after : ScriptTable)
+    → Asks (parts_of line) (Calls call) → ScriptStep before call reply after
+    → IsAnswer (Some before) line (line_of (text_of reply)) (Some after)
 answered_call line call reply before after asks step = inr (Calls call, reply, asks, step, refl)
 
 -- without calls the lines have no words, and no answer
@@ -80,8 +82,8 @@ pub record AreSomeAnswered (old : Option ScriptTable) (lines : List (List ℕ)) 
   pub answers : AreAnswers old first text table
 
 -- the first replies of a run answer the first lines
-pub answered_some : (lines : List (List ℕ)) (calls : List (Call ℕ ℕ)) (replies left : List (Reply ℕ ℕ)) (before after : ScriptTable)
-    → AskForCalls lines calls → ScriptRun before calls (replies ++ left) after
+pub answered_some : (lines : List (List ℕ)) (calls : List (Call ℕ ℕ)) (replies left : List (Reply ℕ ℕ))
+    (before after : ScriptTable) → AskForCalls lines calls → ScriptRun before calls (replies ++ left) after
     → AreSomeAnswered (Some before) lines (lines_of_replies replies)
 answered_some lines calls [] left before after asked ran =
     record { first = []; others = lines; table = Some before; in_order = refl; answers = (refl, refl) }

@@ -37,7 +37,8 @@ some_grown start output output2 waiting waiting2 lines some grown = record {
 
 -- a bad line isn't told of where there is no memory for that, or the writer failed
 untold : (start output output2 : Option (List ℕ)) (waiting left : List ℕ) (lines : List (List ℕ)) (number : ℕ)
-    → HasRepliedBad start output waiting lines number → HasGrown output waiting output2 left [] → HasRepliedSome start output2 left lines
+    → HasRepliedBad start output waiting lines number → HasGrown output waiting output2 left []
+    → HasRepliedSome start output2 left lines
 untold start output output2 waiting left lines number bad grown = record {
   first = bad.first;
   others = bad.line ∷ bad.others;
@@ -73,8 +74,8 @@ nothing_split [] back split = (refl, sym split)
 nothing_split (byte ∷ front) back split = absurd (cc)
 
 -- where nothing waits, nothing is written
-nothing_written : (output output2 : Option (List ℕ)) (waiting left lost : List ℕ) → waiting ≡ [] → HasGrown output waiting output2 left []
-    → (left ≡ []) × HasGrown output lost output2 lost []
+nothing_written : (output output2 : Option (List ℕ)) (waiting left lost : List ℕ) → waiting ≡ []
+    → HasGrown output waiting output2 left [] → (left ≡ []) × HasGrown output lost output2 lost []
 nothing_written output output2 waiting left lost empty grown =
     let none = nothing_split grown.taken left (rw empty at grown.in_order) in
     (none.1, record { taken = []; written = rw none.0 at grown.written; in_order = append-nil lost })

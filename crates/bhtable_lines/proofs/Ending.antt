@@ -65,8 +65,8 @@ some_kept start output session lines none some = elim some.kept [
 ]
 
 -- a stop on the way
-stopped : (stop : Stop) (start output : Option (List ℕ)) (session : Session) (lines first others : List (List ℕ)) → lines ≡ first ++ others
-    → IsLack stop → session.calls.items ≡ [] → HasStopped stop start output session first
+stopped : (stop : Stop) (start output : Option (List ℕ)) (session : Session) (lines first others : List (List ℕ))
+    → lines ≡ first ++ others → IsLack stop → session.calls.items ≡ [] → HasStopped stop start output session first
     → IsReplied (Err stop) start output session.replies lines
 stopped (BadLine number) start output session lines first others parts lack none left = absurd lack
 stopped NoMemory start output session lines first others parts lack none left =

@@ -133,8 +133,9 @@ ready_out (Err InputFailed) start output lines some = some_out start output line
 ready_out (Err OutputFailed) start output lines failed = ready_begun (Err OutputFailed) start output [] lines failed
 
 -- what waits is written, as far as the writer takes it
-pub ready_written : (result ended : Result (Unit {0}) Stop) (start output output2 : Option (List ℕ)) (waiting left : List ℕ)
-    (lines : List (List ℕ)) → IsReady ended start output waiting lines → left ≡ [] → IsPushed result output waiting output2 left []
+pub ready_written : (result ended : Result (Unit {0}) Stop) (start output output2 : Option (List ℕ))
+    (waiting left : List ℕ) (lines : List (List ℕ)) → IsReady ended start output waiting lines
+    → left ≡ [] → IsPushed result output waiting output2 left []
     → IfErr result (λ stop. stop ≡ OutputFailed)
     → MatchResult (result_and result ended) (λ _. HasAnswered lines start output2 []) (λ stop. IsOutputUpTo stop lines start output2)
 ready_written (Ok done) ended start output output2 waiting left lines ready empty grown failed =

@@ -13,7 +13,8 @@ abbrev before_operands : Call ℕ ℕ → List ℕ
 before_operands call = (call_line call).0 ++ 32 ∷ []
 
 -- a verb ends at its blank; the last line is checked call by call
-verb_ends : (call : Call ℕ ℕ) (rest : List ℕ) → parts_of (before_operands call ++ rest) ≡ text (call_line call).0 ∷ parts_of rest
+verb_ends : (call : Call ℕ ℕ) (rest : List ℕ)
+    → parts_of (before_operands call ++ rest) ≡ text (call_line call).0 ∷ parts_of rest
 unfolding part_of is_number
 verb_ends (Put key value) rest = refl
 verb_ends call rest = refl

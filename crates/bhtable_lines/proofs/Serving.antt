@@ -4,7 +4,8 @@ use Rattle.std.proofs.Common.{take, drop, sym, ap, ◌∙◌, append-nil, append
 use Rattle.std.specs.Io.KnownBytes.{Consumes, IsAtEnd}
 use Rattle.line_io.specs.InputLines.{lines_of}
 use Rattle.line_io.specs.Found.{IsFoundIn}
-use Rattle.bhtable_lines.specs.Layout.Sessions.{HasEnded, HasFailed, HasFoundBad, HasStopped, HasTaken, HasTakenSome, IsBadAt, table_at_hand}
+use Rattle.bhtable_lines.specs.Layout.Sessions.{HasEnded, HasFailed, HasFoundBad, HasStopped, HasTaken, HasTakenSome, IsBadAt}
+use Rattle.bhtable_lines.specs.Layout.Sessions.{table_at_hand}
 use Rattle.bhtable_lines.specs.Layout.Stops.{IsInput, IsLack}
 use Rattle.line_io.specs.declared.line.Found.TheVariants.{Line as FoundLine, TooLong, End}
 use Rattle.line_io.specs.declared.line.Line.{Line}
