@@ -25,3 +25,6 @@ pub mod Left
 pub mod ByUse
 pub mod Draining
 pub mod EachByUse
+pub mod Behind
+pub mod PickingSlot
+pub mod Extracting

@@ -7,3 +7,4 @@ pub mod ByUse
 pub mod Sweeps
 pub mod Retains
 pub mod Drains
+pub mod Extracting

@@ -21,6 +21,7 @@ mod cursor;
 mod draining;
 mod each_pair;
 mod entries;
+mod extracting;
 mod finishing;
 mod locked_bucket;
 mod lookup;
@@ -36,7 +37,7 @@ mod write_access;
 
 use crate::arrays::Arrays;
 pub use crate::arrays::{
-    ArraysPairs, Kind, Missing, PairsByUse, Side, TableDrain, TablePairs, peek_arrays,
+    ArraysPairs, Kind, Missing, PairsByUse, Side, TableDrain, TableExtract, TablePairs, peek_arrays,
 };
 pub use crate::capacity::{
     from_index_to_range, num_entries_from_hint, ranges_part_the_indices,

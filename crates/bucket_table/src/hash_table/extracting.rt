@@ -1,0 +1,46 @@
+//! A table's arrays taken out, to take pairs out of them one after another, and put back.
+ghost use Rattle.std.specs.Prelude.{◌≡◌, ◌≢◌, []};
+ghost use Rattle.bucket_table.specs.Rehash.State.{first_tickets};
+ghost use Rattle.bucket_table.specs.Views.ArraysView.{IsOneMap, pairs_of};
+
+use crate::arrays::TableExtract;
+use crate::hash_table::HashTable;
+use crate::key_hash::KeyHash;
+use bucket_slots::bucket::INDEX;
+use bucket_slots::lru::LruList;
+
+impl<K: Eq, V, H: KeyHash<K>, L: LruList, const TYPE: u8> HashTable<K, V, H, L, TYPE> {
+    /// Takes both arrays out, with their tickets, to ask for their pairs one after the other. The
+    /// table has no array until they are put back by `restore`; the hasher and the capacities stay.
+    ///
+    /// Takes no memory, and is never refused. O(1). Own.
+    pub fn extract(&mut self) -> TableExtract<K, V, L, TYPE>
+        requires not_index { TYPE ≢ INDEX }
+        ensures arrays_out { result.arrays ≡ self.old.arrays }
+        ensures left { result.left ≡ pairs_of self.old.arrays }
+        ensures hasher { self.new.hasher ≡ self.old.hasher }
+        ensures arrays { self.new.arrays
+            ≡ record self.old.arrays { current = []; linked = []; tickets = first_tickets 0 } }
+    {
+        self.arrays.extract()
+    }
+}
+
+impl<K: Eq + Drop, V: Drop, H: KeyHash<K>, L: LruList + Drop, const TYPE: u8> HashTable<
+    K,
+    V,
+    H,
+    L,
+    TYPE,
+> {
+    /// Puts arrays back that were taken out, with their tickets and capacities; what the table has
+    /// is dropped.
+    ///
+    /// Takes no memory, and is never refused. O(1), and what is dropped. Own.
+    pub fn restore(&mut self, taken: TableExtract<K, V, L, TYPE>)
+        requires one_map { IsOneMap K.eq (H.hash_of self.old.hasher) taken.arrays }
+        ensures { self.new ≡ record self.old { arrays = taken.arrays } }
+    {
+        self.arrays = taken.into_arrays();
+    }
+}
