@@ -26,5 +26,6 @@ pub mod ByUse
 pub mod Draining
 pub mod EachByUse
 pub mod Behind
+pub mod Advancing
 pub mod PickingSlot
 pub mod Extracting

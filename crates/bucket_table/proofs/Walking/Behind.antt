@@ -2,7 +2,7 @@
 use Rattle.bucket_table.proofs.Words.{ArraysView, BucketView, Current, List, MovesToNext, Old, Place, Side, Slot, [], ap, append_assoc}
 use Rattle.bucket_table.proofs.Words.{arith, arrays_with, bucket_at, bucket_on, buckets_on, cases_lt, empty_bucket, flattened, get_or}
 use Rattle.bucket_table.proofs.Words.{get_or-set_same, inl, inr, length, length-append, live_pair, live_pairs, nil_from_length, null_place}
-use Rattle.bucket_table.proofs.Words.{pairs_ahead, pairs_in, pairs_of, refl, set, subst, suc, sym, take, zero, ℕ, ◌++◌, ◌+◌, ◌<◌, ◌∙◌, ◌∷◌, ◌≡◌}
+use Rattle.bucket_table.proofs.Words.{pairs_ahead, pairs_in, pairs_of, refl, set, suc, sym, take, zero, ℕ, ◌++◌, ◌+◌, ◌<◌, ◌∙◌, ◌∷◌, ◌≡◌}
 use Rattle.bucket_table.proofs.Words.{◌≤◌}
 use Rattle.std.proofs.Common.{drop}
 use Rattle.std.proofs.Math.Numerals.{add-one}
@@ -11,7 +11,7 @@ use Rattle.std.proofs.lemmas.List.{append_cancel_right, at_drop_more, drop-set-l
 use Rattle.std.proofs.lemmas.List.Elements.{filter_map-append}
 use Rattle.bucket_slots.specs.Walking.{IsEnd, position_after}
 use Rattle.bucket_table.specs.Map.LookingUp.{pairs_in_all}
-use Rattle.bucket_table.specs.Walking.Extracting.{MovesBehind, MovesPast, pairs_behind, pairs_past}
+use Rattle.bucket_table.specs.Walking.Extracting.{pairs_behind}
 use Rattle.bucket_table.specs.Walking.Left.{pairs_left}
 use Rattle.bucket_table.proofs.Map.LookUps.{pairs_are}
 use Rattle.bucket_table.proofs.Views.SideChanges.{arrays_with-same}
@@ -172,49 +172,3 @@ module _ {K V : Type 0} where
   has_pairs b from at moves none =
       let own = ahead_last b from in
       omega (arith, ap length none, ap length own.1, length-append own.0 (pairs_ahead b from), ap length moves.ahead)
-
-  -- where nothing was passed, a pointer that moves in a bucket moves to the first pair that was left
-  pub moves_past : (a : ArraysView K V) (side : Side) (from_index index : ℕ) (from at to : Place) (b : BucketView K V)
-      → b ≡ bucket_on a side index → index < length (buckets_on a side)
-      → pairs_past a side from_index from ≡ pairs_past a side index at → MovesToNext b at to → MovesPast a side from_index from index to
-  moves_past a side from_index index from at to b is within same moves =
-      let m = subst (λ c. MovesToNext c at to) is moves in
-      record {
-        within = within;
-        from = at;
-        moves = m;
-        first = same ∙ ap (λ ps. ps ++ pairs_in_all (drop (index + 1) (buckets_on a side))) m.ahead;
-      }
-
-  -- so it does where the old array's pairs are behind
-  pub moves_behind : (a : ArraysView K V) (side : Side) (from_index index : ℕ) (from to : Place)
-      → MovesPast a side from_index from index to → MovesBehind a side from_index from side index to
-  moves_behind a Old from_index index from to m = record { within = m.within; from = m.from; moves = m.moves; first = m.first }
-  moves_behind a Current from_index index from to m = record {
-    within = m.within;
-    from = m.from;
-    moves = m.moves;
-    first = ap (λ ps. ps ++ pairs_in_all a.linked) m.first;
-  }
-
-  -- where nothing is left on the current side, what is left is the old array's
-  old_behind : (a : ArraysView K V) (side : Side) (index : ℕ) (at start : Place) → side ≡ Current → pairs_past a side index at ≡ []
-      → start ≡ null_place → pairs_behind a side index at ≡ pairs_past a Old 0 start
-  old_behind a side index at start is none null =
-      ap (λ (s : Side). pairs_behind a s index at) is
-      ∙ ap (λ ps. ps ++ pairs_in_all a.linked) (sym (ap (λ (s : Side). pairs_past a s index at) is) ∙ none)
-      ∙ old_left a ∙ ap (λ (p : Place). pairs_past a Old 0 p) (sym null)
-
-  pub moves_over : (a : ArraysView K V) (side : Side) (from_index index : ℕ) (from start to : Place) → side ≡ Current
-      → pairs_past a side from_index from ≡ [] → start ≡ null_place → MovesPast a Old 0 start index to
-      → MovesBehind a side from_index from Old index to
-  moves_over a side from_index index from start to is none null m = record {
-    within = m.within;
-    from = m.from;
-    moves = m.moves;
-    first = old_behind a side from_index from start is none null ∙ m.first;
-  }
-
-  pub ends_over : (a : ArraysView K V) (side : Side) (index : ℕ) (at start : Place) → side ≡ Current → pairs_past a side index at ≡ []
-      → start ≡ null_place → pairs_past a Old 0 start ≡ [] → pairs_behind a side index at ≡ []
-  ends_over a side index at start is none null end = old_behind a side index at start is none null ∙ end

@@ -1,8 +1,8 @@
 -- What a step of an extraction asks for, and what it leaves.
-use Rattle.bucket_table.proofs.Words.{ArraysView, Bool, BucketView, Current, IsEquivalence, IsOneMap, List, None}
-use Rattle.bucket_table.proofs.Words.{Old, Option, Place, Side, Some, [], ap, append-nil, append_assoc, arrays_with, bucket_on}
-use Rattle.bucket_table.proofs.Words.{false, if◌then◌else◌, buckets_on, length, length-set}
-use Rattle.bucket_table.proofs.Words.{pairs_of, refl, same_Some, subst, sym, true, ℕ, ◌++◌, ◌<◌, ◌∙◌, ◌∷◌, ◌≡◌}
+use Rattle.bucket_table.proofs.Words.{ArraysView, Bool, BucketView, Current, IsEquivalence, IsOneMap, List, None, Old, Option, Place, Side}
+use Rattle.bucket_table.proofs.Words.{Some, [], ap, append-nil, append_assoc, arith, arrays_with, bucket_on, buckets_on, false}
+use Rattle.bucket_table.proofs.Words.{if◌then◌else◌, length, length-set, pairs_of, refl, same_Some, subst, sym, true, ℕ, ◌++◌, ◌<◌, ◌∙◌}
+use Rattle.bucket_table.proofs.Words.{◌∷◌, ◌≡◌}
 use Rattle.std.specs.Borrow.{Bor, MutBor}
 use Rattle.std.specs.List.Retain.{ExtractsNext}
 use Rattle.std.proofs.lemmas.Option.{none-some}
@@ -12,6 +12,7 @@ use Rattle.bucket_table.proofs.Walking.Behind.{exchanges, has_pairs, same_left}
 use Rattle.bucket_table.proofs.Walking.RetainingTable.{one_map_losing}
 
 module _ {K V : Type 0} where
+  -- another bucket leaves the shape
   shape_with : (a : ArraysView K V) (side : Side) (i : ℕ) (left : BucketView K V) → KeepsShape a (arrays_with a side i left)
   shape_with a Old i left = record {
     minimum = refl;
@@ -68,10 +69,12 @@ module _ {S K V : Type 0} (step : S → Bor K → MutBor V → Bool → MutBor V
   })
 
   -- no pair was left
-  pub picks_none : (first state : S) (old : ExtractView K V) (a : ArraysView K V) (left later : List (K × V))
-      → IsExtracting first old state (record { arrays = a; left = left }) → left ≡ [] → later ≡ []
-      → Extracts step first old None (record { arrays = a; left = later }) state
-  picks_none first state old a left later amid none end = rw end (record {
+  pub picks_none : (first state : S) (old : ExtractView K V) (a : ArraysView K V) (from_side side : Side) (from_index index : ℕ)
+      (from to : Place)
+      → IsExtracting first old state (record { arrays = a; left = pairs_behind a from_side from_index from })
+      → pairs_behind a from_side from_index from ≡ [] → pairs_behind a side index to ≡ []
+      → Extracts step first old None (record { arrays = a; left = pairs_behind a side index to }) state
+  picks_none first state old a from_side side from_index index from to amid none end = rw end (record {
     kept = amid.kept;
     asked = subst (λ kept. ExtractsNext (AsksPair step) first old.left None state kept []) (append-nil amid.kept)
         (amid.asked None state [] []
@@ -119,6 +122,12 @@ module _ {S K V : Type 0} (step : S → Bor K → MutBor V → Bool → MutBor V
           ap pairs_of e.new_is
           ∙ exchanges a side index at m.within e.left m.from m.moves.pair _ (front ++ amid.kept) m.moves.ahead e.slot.pairs are
           ∙ (λ j. (front ++ amid.kept) ++ (mid_is j ++ sym (after state last m.moves.pair a new side index at to picked m.within e) j))
+
+      -- fewer pairs are left
+      pub fewer : (picked : Option (K × V)) → ExtractsAt step state m.moves.pair a side index at picked new to last
+          → length (pairs_behind new side index to) < length (pairs_behind a from_side from_index from)
+      fewer picked e =
+          omega (arith, ap length m.first, ap length (after state last m.moves.pair a new side index at to picked m.within e))
 
       -- the pair is refused
       pub refuses : ExtractsAt step state m.moves.pair a side index at None new to last

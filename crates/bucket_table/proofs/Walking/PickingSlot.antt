@@ -1,14 +1,29 @@
 -- A function is asked of the pair in a live slot of a bucket, and picks it or refuses it.
-use Rattle.bucket_table.proofs.Words.{Bool, BucketView, IsBucketOf, IsPermutation, None, Place, Some, ap, bucket_with_value, entries_in}
-use Rattle.bucket_table.proofs.Words.{false, live_pair, pairs_ahead, pairs_in, refl, same_Some, slot_in, slots_without, sym, true, ℕ}
-use Rattle.bucket_table.proofs.Words.{◌++◌, ◌∙◌, ◌∷◌, ◌≡◌}
+use Rattle.bucket_table.proofs.Words.{Bool, BucketView, IsBucketOf, IsPermutation, None, Place, Slot, Some, ap, bucket_with_value}
+use Rattle.bucket_table.proofs.Words.{entries_in, false, free, is_live, live, live_pair, marked, pairs_ahead, pairs_in, refl, same_Some}
+use Rattle.bucket_table.proofs.Words.{slot_in, slots_without, sym, true, ℕ, ◌++◌, ◌∙◌, ◌∷◌, ◌≡◌}
 use Rattle.std.specs.Borrow.{Bor, MutBor}
 use Rattle.bucket_slots.proofs.CallerLemmas.{entries_in-slots_without}
+use Rattle.bucket_slots.proofs.ChangedSlots.{live_inside, slot_in-with_slot}
 use Rattle.bucket_slots.proofs.RoomCallerLemmas.{killed-slots_without}
 use Rattle.bucket_slots.proofs.SlotFronts.{pairs_in-slots_without}
 use Rattle.bucket_slots.proofs.WrittenValues.{valued}
+use Rattle.bucket_slots.specs.BucketView.{block_at}
+use Rattle.bucket_slots.specs.Slots.{slot_with_value}
 use Rattle.bucket_table.specs.Walking.Extracting.{ExtractsSlot}
 use Rattle.bucket_table.proofs.Walking.RetainingEach.{keys_both, keys_less, keys_valued}
+
+live_with : {K V : Type 0} (slot : Slot K V) (value : V) → is_live (slot_with_value slot value) ≡ is_live slot
+live_with free value = refl
+live_with (live pair byte) value = refl
+live_with (marked pair byte) value = refl
+
+-- a live slot with another value is live
+pub stays_live : {K V : Type 0} (s : BucketView K V) (at : Place) (value : V) → is_live (slot_in s at) ≡ true
+    → is_live (slot_in (bucket_with_value s at value) at) ≡ true
+stays_live s at value alive =
+    ap is_live (slot_in-with_slot s at (slot_with_value (slot_in s at) value) (live_inside (block_at s at.block) at.pos alive))
+    ∙ live_with (slot_in s at) value ∙ alive
 
 module _ {S K V : Type 0} (step : S → Bor K → MutBor V → Bool → MutBor V → S → Type 0) where
   module _ (kind : ℕ) (first last : S) (s : BucketView K V) (at : Place) (pair : K × V) (own : Bor K) (before after : MutBor V)

@@ -136,6 +136,7 @@ fn ask_at<K: Drop, V: Drop, L: LruList, F: FnMut(&K, &mut V) -> bool, const TYPE
 
 /// Asks `pick` of the pair in a live slot, and takes it out where it is picked.
 #[inline(always)]
+#[tactic(auto, using(crate::proofs::Walking::PickingSlot::stays_live))]
 fn ask_slot<K: Drop, V: Drop, L: LruList, F: FnMut(&K, &mut V) -> bool, const TYPE: u8>(
     bucket: &mut Bucket<K, V, L, TYPE>,
     at: &mut EntryPtr<K, V, TYPE>,

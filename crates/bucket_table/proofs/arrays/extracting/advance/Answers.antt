@@ -1,4 +1,4 @@
-use Rattle.bucket_table.proofs.Walking.Behind.{moves_behind, moves_over}
+use Rattle.bucket_table.proofs.Walking.Advancing.{moves_behind, moves_over}
 use Rattle.bucket_table.proofs.arrays.extracting.advance.Goals as goal
 
 pub returns-then-advance_on-clause-moves : goal.returns-then-advance_on-clause-moves

@@ -1,13 +1,5 @@
-use Rattle.bucket_table.proofs.Words.{bucket_with_value, live_from_pair, rules, slot_in}
-use Rattle.bucket_slots.proofs.WrittenValues.{valued}
 use Rattle.bucket_table.proofs.Walking.PickingSlot.{picked_at, refused_at}
 use Rattle.bucket_table.proofs.arrays.extracting.ask_slot.Goals as goal
-
-pub remove-requires : goal.remove-requires
-remove-requires g c =
-    let changed = bucket_with_value c.args.bucket.now c.args.at.now c.pick.new.arg3 in
-    let v = valued g.row.TYPE c.args.bucket.now c.args.at.now _ c.pick.new.arg3 c.sound.ensures c.entry_mut-value.ensures.pair in
-    (search rules, (search rules, (c.requires.not_index, live_from_pair (slot_in changed c.args.at.now) _ v.here)))
 
 pub returns-then-pick-clause-asked : goal.returns-then-pick-clause-asked
 returns-then-pick-clause-asked g c = λ pair here.

@@ -1,5 +1,4 @@
-use Rattle.bucket_table.proofs.Words.{ap, arith, length}
-use Rattle.bucket_table.proofs.Walking.Extracting.{after, picks, picks_none, refuses, sets_out}
+use Rattle.bucket_table.proofs.Walking.Extracting.{fewer, picks, picks_none, refuses, sets_out}
 use Rattle.bucket_table.proofs.arrays.extracting.TableExtract.extract_next.Goals as goal
 
 pub slots-init : goal.slots-init
@@ -16,9 +15,9 @@ returns-in-Some-clause-extracted g c =
 pub slots-smaller : goal.slots-smaller
 slots-smaller g c =
     let m = c.advance.ensures.moves c.slots-test.true in
-    let is = after _ c.slots.pick c.ask_at.new.pick m.moves.pair c.slots.self-inside.arrays c.ask_at.new.arrays c.advance.new.side
-    c.advance.new.index c.advance.new.at c.ask_at.new.at c.ask_at.result m.within (c.ask_at.ensures.asked m.moves.pair m.moves.here) in
-    omega (arith, ap length m.first, ap length is)
+    fewer _ c.args.pick.now c.slots.pick c.ask_at.new.pick c.args.self.now c.slots.self-inside.arrays c.ask_at.new.arrays
+    c.slots.self-inside.side c.advance.new.side c.slots.self-inside.index c.advance.new.index c.slots.self-inside.at c.advance.new.at
+    c.ask_at.new.at m c.slots.invariant.1 c.ask_at.result (c.ask_at.ensures.asked m.moves.pair m.moves.here)
 
 pub slots-preserved : goal.slots-preserved
 slots-preserved g c =
@@ -32,4 +31,5 @@ slots-preserved g c =
 pub returns-clause-extracted : goal.returns-clause-extracted
 returns-clause-extracted g c =
     let end = c.advance.ensures.end c.slots-test.false in
-    picks_none _ c.args.pick.now c.slots.pick c.args.self.now c.slots.self-inside.arrays _ _ c.slots.invariant.1 end.0 end.1
+    picks_none _ c.args.pick.now c.slots.pick c.args.self.now c.slots.self-inside.arrays c.slots.self-inside.side c.advance.new.side
+    c.slots.self-inside.index c.advance.new.index c.slots.self-inside.at c.advance.new.at c.slots.invariant.1 end.0 end.1
