@@ -43,7 +43,8 @@ pub record KeepsShape {K V : Type 0} (old new : ArraysView K V) : Type 0 where
 
 -- a function is asked of the pairs that are left, in turn, up to the first that it picks, which is taken out; those that it refused stay in
 -- their order with the values last written, and no other pair changes
-pub record Extracts {S K V : Type 0} (step : S → Bor K → MutBor V → Bool → MutBor V → S → Type 0) (first : S) (old : ExtractView K V) (picked : Option (K × V)) (new : ExtractView K V) (last : S) : Type 0 where
+pub record Extracts {S K V : Type 0} (step : S → Bor K → MutBor V → Bool → MutBor V → S → Type 0) (first : S)
+    (old : ExtractView K V) (picked : Option (K × V)) (new : ExtractView K V) (last : S) : Type 0 where
   pub kept : List (K × V)
   pub asked : ExtractsNext (AsksPair step) first old.left picked last kept new.left
   pub stay : (front : List (K × V)) → pairs_of old.arrays ≡ front ++ old.left → pairs_of new.arrays ≡ front ++ (kept ++ new.left)
@@ -52,7 +53,8 @@ pub record Extracts {S K V : Type 0} (step : S → Bor K → MutBor V → Bool �
 
 -- the pair in a live slot is asked for: it is taken out where it is picked, and else it is there with the value last written; the pairs
 -- before it and those ahead stay
-pub record ExtractsSlot {S K V : Type 0} (step : S → Bor K → MutBor V → Bool → MutBor V → S → Type 0) (first : S) (pair : K × V) (old : BucketView K V) (at : Place) (picked : Option (K × V)) (new : BucketView K V) (to : Place) (last : S) : Type 0 where
+pub record ExtractsSlot {S K V : Type 0} (step : S → Bor K → MutBor V → Bool → MutBor V → S → Type 0) (first : S) (pair : K × V)
+    (old : BucketView K V) (at : Place) (picked : Option (K × V)) (new : BucketView K V) (to : Place) (last : S) : Type 0 where
   pub answer : Bool
   pub later : K × V
   pub asked : AsksPair step first pair answer last later
@@ -63,20 +65,24 @@ pub record ExtractsSlot {S K V : Type 0} (step : S → Bor K → MutBor V → Bo
   pub keys : LosesKeys old new
 
 -- and nothing changes but a bucket of one side
-pub record ExtractsAt {S K V : Type 0} (step : S → Bor K → MutBor V → Bool → MutBor V → S → Type 0) (first : S) (pair : K × V) (old : ArraysView K V) (side : Side) (index : ℕ) (at : Place) (picked : Option (K × V)) (new : ArraysView K V) (to : Place) (last : S) : Type 0 where
+pub record ExtractsAt {S K V : Type 0} (step : S → Bor K → MutBor V → Bool → MutBor V → S → Type 0) (first : S) (pair : K × V)
+    (old : ArraysView K V) (side : Side) (index : ℕ) (at : Place) (picked : Option (K × V)) (new : ArraysView K V) (to : Place)
+    (last : S) : Type 0 where
   pub left : BucketView K V
   pub slot : ExtractsSlot step first pair (bucket_on old side index) at picked left to last
   pub new_is : new ≡ arrays_with old side index left
 
 -- a pointer moves to the first live slot ahead on its side: the pair there was the first of what is left
-pub record MovesPast {K V : Type 0} (arrays : ArraysView K V) (side : Side) (index : ℕ) (at : Place) (to_index : ℕ) (to : Place) : Type 0 where
+pub record MovesPast {K V : Type 0} (arrays : ArraysView K V) (side : Side) (index : ℕ) (at : Place) (to_index : ℕ) (to : Place)
+    : Type 0 where
   pub within : to_index < length (buckets_on arrays side)
   pub from : Place
   pub moves : MovesToNext (bucket_on arrays side to_index) from to
   pub first : pairs_past arrays side index at ≡ moves.pair ∷ pairs_past arrays side to_index to
 
 -- or to the first one of the old array, where none was ahead on the current side
-pub record MovesBehind {K V : Type 0} (arrays : ArraysView K V) (side : Side) (index : ℕ) (at : Place) (to_side : Side) (to_index : ℕ) (to : Place) : Type 0 where
+pub record MovesBehind {K V : Type 0} (arrays : ArraysView K V) (side : Side) (index : ℕ) (at : Place) (to_side : Side)
+    (to_index : ℕ) (to : Place) : Type 0 where
   pub within : to_index < length (buckets_on arrays to_side)
   pub from : Place
   pub moves : MovesToNext (bucket_on arrays to_side to_index) from to
