@@ -9,3 +9,5 @@ pub mod Asked
 pub mod Settling
 pub mod Growing
 pub mod Remaking
+pub mod Pouring
+pub mod PouringOne

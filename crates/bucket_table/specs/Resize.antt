@@ -6,3 +6,4 @@ pub mod Asking
 pub mod Growing
 pub mod TableCapacity
 pub mod Remaking
+pub mod Renewing

@@ -28,6 +28,7 @@ mod lookup;
 mod not_inserted;
 mod pairs;
 mod remaking;
+mod renewing;
 mod resize;
 mod retaining;
 mod shrinking;

@@ -1,0 +1,149 @@
+//! Putting all pairs of a cache into a new array in turn.
+//!
+//! Own.
+ghost use Rattle.std.specs.Prelude.{◌≡◌, ◌≢◌, ◌≤◌, ℕ, [], ◌∷◌, OnErr, OnOk};
+ghost use Rattle.std.specs.Int.{IsPowerOfTwo};
+ghost use Rattle.bucket_slots.specs.Slots.{live_pair, slot_at};
+ghost use Rattle.bucket_table.specs.Resize.Renewing.{Awaits, Pours, Renews};
+ghost use Rattle.bucket_table.specs.Resize.Renewing.{all_by_age, chain_pairs, own_by_age, pairs_by_age};
+ghost use Rattle.bucket_table.specs.Views.Sides.{buckets_on, with_buckets};
+ghost use Rattle.bucket_table.specs.Walking.ByUse.{own_left};
+
+use crate::arrays::{Arrays, Side};
+use crate::hash_table::HashTable;
+use crate::key_hash::KeyHash;
+use bucket_slots::bucket::{AllocError, BUCKET_LEN, Bucket, CACHE, EntryPtr};
+use bucket_slots::lru::DoublyLinkedList;
+use std::mem;
+
+impl<K: Eq + Drop, V: Drop, H: KeyHash<K>, const TYPE: u8> HashTable<
+    K,
+    V,
+    H,
+    DoublyLinkedList,
+    TYPE,
+> {
+    /// Puts all pairs of a cache into a new array of so many slots, which is the minimum and the
+    /// maximum from then on. Each pair is put as `put` does, bucket by bucket, and in each bucket
+    /// the one touched longest ago first. A pair goes only where its new bucket has no free own
+    /// slot.
+    ///
+    /// # Errors
+    ///
+    /// Allocation failure for the new array: all is as it was.
+    ///
+    /// O(slots of all arrays). Own: `LruCache::resize` of the crate lru.
+    pub fn renew(&mut self, capacity: usize) -> Result<(), AllocError>
+        requires cache { TYPE ≡ CACHE }
+        requires power { IsPowerOfTwo capacity }
+        requires large { 64 ≤ capacity }
+        ensures hasher { self.new.hasher ≡ self.old.hasher }
+        ensures renewed { OnOk result (Renews (H.hash_of self.old.hasher) capacity self.old.arrays
+            self.new.arrays) }
+        ensures unchanged { OnErr result (self.new.arrays ≡ self.old.arrays) }
+    {
+        self.sound();
+        let fresh = self.arrays.fresh(capacity)?;
+        let mut source = mem::replace(&mut self.arrays, fresh);
+        self.pour_on(&mut source, Side::Current);
+        self.pour_on(&mut source, Side::Old);
+        Ok(())
+    }
+
+    /// Puts the pairs of one side of other arrays in, bucket by bucket.
+    fn pour_on(&mut self, source: &mut Arrays<K, V, DoublyLinkedList, TYPE>, side: Side)
+        requires cache { TYPE ≡ CACHE }
+        requires awaits { Awaits K.eq self.old (all_by_age (buckets_on source.old side)) }
+        ensures poured { Pours H.hash_of self.old (all_by_age (buckets_on source.old side))
+            self.new }
+        ensures others { source.new
+            ≡ with_buckets source.old side (buckets_on source.new side) }
+    {
+        let mut index = 0;
+        while index < source.len_on(side) {
+            source.room_of(side);
+            self.pour_bucket(source.bucket_of_mut(side, index));
+            index += 1;
+        }
+    }
+
+    /// Puts the pairs of a bucket in by age.
+    fn pour_bucket(&mut self, bucket: &mut Bucket<K, V, DoublyLinkedList, TYPE>)
+        requires cache { TYPE ≡ CACHE }
+        requires awaits { Awaits K.eq self.old (pairs_by_age bucket.old) }
+        ensures { Pours H.hash_of self.old (pairs_by_age bucket.old) self.new }
+    {
+        self.pour_chain(bucket);
+        self.pour_own(bucket);
+    }
+
+    /// Puts the pairs of a bucket's chain in, from its head on.
+    fn pour_chain(&mut self, bucket: &mut Bucket<K, V, DoublyLinkedList, TYPE>)
+        requires cache { TYPE ≡ CACHE }
+        requires awaits { Awaits K.eq self.old (chain_pairs bucket.old) }
+        ensures poured { Pours H.hash_of self.old (chain_pairs bucket.old) self.new }
+        ensures own { bucket.new.own ≡ bucket.old.own }
+        ensures listed { bucket.new.listed ≡ bucket.old.listed }
+    {
+        bucket.sound();
+        let mut at = EntryPtr::own_slot(BUCKET_LEN - 1);
+        'pairs: while at.find_next(bucket) {
+            let (key, value) = bucket.remove(&mut at);
+            self.pour_pair(key, value);
+        }
+    }
+
+    /// Puts the pairs of a bucket's own slots in by age.
+    fn pour_own(&mut self, bucket: &mut Bucket<K, V, DoublyLinkedList, TYPE>)
+        requires cache { TYPE ≡ CACHE }
+        requires awaits { Awaits K.eq self.old (own_by_age bucket.old) }
+        ensures { Pours H.hash_of self.old (own_by_age bucket.old) self.new }
+    {
+        bucket.sound();
+        let slots = bucket.slots_by_use();
+        let mut left = BUCKET_LEN;
+        'slots: while left > 0 {
+            left -= 1;
+            self.pour_slot(bucket, slots[left] as usize);
+        }
+    }
+
+    /// Puts the pair of an own slot in, where it is live.
+    fn pour_slot(&mut self, bucket: &mut Bucket<K, V, DoublyLinkedList, TYPE>, slot: usize)
+        requires cache { TYPE ≡ CACHE }
+        requires awaits { Awaits K.eq self.old (own_left bucket.old (slot ∷ [])) }
+        ensures poured { Pours H.hash_of self.old (own_left bucket.old (slot ∷ [])) self.new }
+        ensures others { (other : ℕ) → other ≢ slot
+            → slot_at bucket.new.own other ≡ slot_at bucket.old.own other }
+    {
+        match take_own(bucket, slot) {
+            Some((key, value)) => self.pour_pair(key, value),
+            None => {}
+        }
+    }
+
+    /// Puts a pair in whose key isn't there. What goes for it is dropped.
+    fn pour_pair(&mut self, key: K, value: V)
+        requires cache { TYPE ≡ CACHE }
+        requires awaits { Awaits K.eq self.old ((key, value) ∷ []) }
+        ensures { Pours H.hash_of self.old ((key, value) ∷ []) self.new }
+    {
+        let _ = self.put(key, value);
+    }
+}
+
+/// Takes the pair out of an own slot, where it is live.
+fn take_own<K: Drop, V: Drop, const TYPE: u8>(
+    bucket: &mut Bucket<K, V, DoublyLinkedList, TYPE>,
+    slot: usize,
+) -> Option<(K, V)>
+    requires cache { TYPE ≡ CACHE }
+    ensures pair { result ≡ live_pair (slot_at bucket.old.own slot) }
+    ensures others { (other : ℕ) → other ≢ slot
+        → slot_at bucket.new.own other ≡ slot_at bucket.old.own other }
+{
+    if bucket.own_pair(slot).is_none() {
+        return None;
+    }
+    Some(bucket.remove(&mut EntryPtr::own_slot(slot)))
+}
