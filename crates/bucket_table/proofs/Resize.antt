@@ -10,4 +10,5 @@ pub mod Settling
 pub mod Growing
 pub mod Remaking
 pub mod Pouring
+pub mod ByAge
 pub mod PouringOne

@@ -96,15 +96,27 @@ pub record IsPouring {K V H : Type 0} (eq : K → K → Bool) (hash : H → K �
   pub awaits : Awaits eq now left
 
 module _ {K V H : Type 0} {eq : K → K → Bool} (laws : IsEquivalence eq) (hash : H → K → ℕ) (first : TableView K V H) (all : List (K × V)) where
-  pub pour_begins : Awaits eq first all → IsPouring eq hash first all first all
-  pour_begins awaits = record { whole = λ last pours. pours; awaits = awaits }
+  pub pour_begins : (left : List (K × V)) → all ≡ left → Awaits eq first all → IsPouring eq hash first all first left
+  pour_begins left same awaits =
+      let begun : IsPouring eq hash first all first all = record { whole = λ last pours. pours; awaits = awaits } in
+      subst (λ (pairs : List (K × V)). IsPouring eq hash first all first pairs) same begun
 
-  pub pour_goes_on : (now next : TableView K V H) (xs ys : List (K × V)) → IsPouring eq hash first all now (xs ++ ys) → Pours hash now xs next
-      → IsPouring eq hash first all next ys
-  pour_goes_on now next xs ys is pours = record {
-    whole = λ last later. is.whole last (pours_both hash now next last xs ys pours later);
-    awaits = awaits_rest laws hash now next xs ys is.awaits pours;
-  }
+  pub pour_goes_on : (now next : TableView K V H) (left xs ys : List (K × V)) → left ≡ xs ++ ys → IsPouring eq hash first all now left
+      → Pours hash now xs next → IsPouring eq hash first all next ys
+  pour_goes_on now next left xs ys same is pours =
+      let before = subst (λ (pairs : List (K × V)). IsPouring eq hash first all now pairs) same is in
+      record {
+        whole = λ last later. before.whole last (pours_both hash now next last xs ys pours later);
+        awaits = awaits_rest laws hash now next xs ys before.awaits pours;
+      }
 
-  pub pour_ends : (last : TableView K V H) → IsPouring eq hash first all last [] → Pours hash first all last
-  pour_ends last is = is.whole last (pours_none hash last)
+  -- the next ones are awaited
+  pub pour_awaits : (now : TableView K V H) (left xs ys : List (K × V)) → left ≡ xs ++ ys → IsPouring eq hash first all now left
+      → Awaits eq now xs
+  pour_awaits now left xs ys same is =
+      awaits_first laws now xs ys (subst (λ (pairs : List (K × V)). Awaits eq now pairs) same is.awaits)
+
+  pub pour_ends : (last : TableView K V H) (left : List (K × V)) → left ≡ [] → IsPouring eq hash first all last left
+      → Pours hash first all last
+  pour_ends last left none is =
+      is.whole last (subst (λ (pairs : List (K × V)). Pours hash last pairs last) (sym none) (pours_none hash last))

@@ -42,7 +42,7 @@ in_range len slot below =
 
 -- each slot once is the same slots
 
-other_listed : (order : List ℕ) (slot other : ℕ) → slot ≢ other → is_listed (order_without order other) slot ≡ is_listed order slot
+pub other_listed : (order : List ℕ) (slot other : ℕ) → slot ≢ other → is_listed (order_without order other) slot ≡ is_listed order slot
 other_listed order slot other apart =
     any-filter_same _ _ true (λ listed same. ap not (ne_eqb listed other (λ is. apart (eqb-true slot listed same ∙ is)))) order
 
@@ -110,7 +110,7 @@ module _ {K V : Type 0} where
       | inr past ↦ ap live_pair (get_or_past own slot free past)
     ]
 
-    own_by_use : (listed : List ℕ) → IsPermutation (live_pairs own) (pairs_at (slots_by_use (length own) listed))
+    pub own_by_use : (listed : List ℕ) → IsPermutation (live_pairs own) (pairs_at (slots_by_use (length own) listed))
     own_by_use [] =
         subst (IsPermutation (live_pairs own)) (sym (ap pairs_at (once_range 0 (length own)) ∙ pairs_at-all))
         (IsPermutation-refl (live_pairs own))

@@ -60,7 +60,7 @@ impl<K: Eq + Drop, V: Drop, H: KeyHash<K>, const TYPE: u8> HashTable<
             ≡ with_buckets source.old side (buckets_on source.new side) }
     {
         let mut index = 0;
-        while index < source.len_on(side) {
+        'buckets: while index < source.len_on(side) {
             source.room_of(side);
             self.pour_bucket(source.bucket_of_mut(side, index));
             index += 1;
@@ -78,6 +78,7 @@ impl<K: Eq + Drop, V: Drop, H: KeyHash<K>, const TYPE: u8> HashTable<
     }
 
     /// Puts the pairs of a bucket's chain in, from its head on.
+    #[tactic(auto, using(crate::proofs::Walking::Retaining::next_live))]
     fn pour_chain(&mut self, bucket: &mut Bucket<K, V, DoublyLinkedList, TYPE>)
         requires cache { TYPE ≡ CACHE }
         requires awaits { Awaits K.eq self.old (chain_pairs bucket.old) }
