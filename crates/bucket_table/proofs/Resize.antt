@@ -12,3 +12,4 @@ pub mod Remaking
 pub mod Pouring
 pub mod ByAge
 pub mod PouringOne
+pub mod Renewing

@@ -1,0 +1,83 @@
+-- A cache's new array, and what it is once all pairs are in.
+use Rattle.bucket_table.proofs.Words.{ArePlaced, ArraysView, Bool, BucketView, IsEquivalence, IsNewArray, IsOneMap, IsPermutation}
+use Rattle.bucket_table.proofs.Words.{IsPermutation-map, IsPermutation-trans, List, TableView, [], ap, append-nil, arith, first_tickets, length}
+use Rattle.bucket_table.proofs.Words.{length_permutation, nil_from_length, pairs_of, refl, subst, sym, ℕ, ◌*◌, ◌++◌, ◌-◌, ◌/◌, ◌<◌, ◌^◌}
+use Rattle.bucket_table.proofs.Words.{IsDistinct, IsDistinct-IsPermutation, map, ◌∙◌, ◌≡◌, ◌≤◌}
+use Rattle.bucket_slots.specs.Sizing.{IsLengthFor, IsPowerIn}
+use Rattle.bucket_slots.proofs.PowersOfTwo.{exponent_le, power_parts}
+use Rattle.bucket_table.specs.Resize.Renewing.{Awaits, Pours, Renews, all_by_age, arrays_by_age}
+use Rattle.bucket_table.specs.Resize.Resizing.{MakesArray}
+use Rattle.bucket_table.proofs.Map.MapKept.{keeps_pairs, nothing_kept, one_map_kept}
+use Rattle.bucket_table.proofs.Resize.ByAge.{each_by_age}
+use Rattle.bucket_table.proofs.Resize.Growing.{kept_made, placed_made}
+use Rattle.bucket_table.proofs.Resize.Pouring.{awaits_first, awaits_rest, pours_both}
+
+-- an array for a power of two has that many slots
+pub full_length : (capacity len : ℕ) → IsPowerIn 64 (2 ^ 63) capacity → capacity ≤ 2 ^ 62 → IsLengthFor capacity len → 32 * len ≡ capacity
+full_length capacity len is fits (power, least, len_is) =
+    let most : power ≤ capacity = least.least capacity is.power (omega arith) in
+    let enough = least.at_least in
+    let large = is.at_least in
+    let (k, capacity_is) = is.power in
+    let some : 5 ≤ k = exponent_le 5 k (omega (arith, capacity_is, large)) in
+    let parts = power_parts 5 k some in
+    let whole : capacity ≡ 2 ^ (k - 5) * 32 = capacity_is ∙ parts in
+    omega (arith, len_is, whole, most, enough, large, fits)
+
+-- the arrays of which a new one stands alone
+abbrev pub IsFresh : {K V : Type 0} → ℕ → ArraysView K V → Type 0
+IsFresh capacity arrays = IsNewArray capacity arrays.current × (32 * length arrays.current ≡ capacity)
+    × (arrays ≡ record { minimum = capacity; maximum = capacity; current = arrays.current; linked = []; tickets = first_tickets 0 })
+
+module _ {K V : Type 0} (capacity : ℕ) (fresh : ArraysView K V) (is : IsFresh capacity fresh) where
+  abbrev nothing : ArraysView K V
+  nothing = record { minimum = capacity; maximum = capacity; current = []; linked = []; tickets = first_tickets 0 }
+
+  made : MakesArray nothing fresh
+  made = (λ stands. absurd (omega arith), λ none. record { none = refl; fresh = fresh.current; fresh_is = is.0; new_is = is.2 })
+
+  pub fresh_one_map : (eq : K → K → Bool) → IsEquivalence eq → (hash : K → ℕ) → IsOneMap eq hash fresh
+  fresh_one_map eq laws hash =
+      let none = nothing_kept eq hash capacity capacity in
+      one_map_kept eq laws hash nothing fresh none (kept_made nothing fresh made) (placed_made hash nothing fresh made none.placed)
+
+  pub fresh_empty : pairs_of fresh ≡ []
+  fresh_empty =
+      let same = length_permutation _ _ (keeps_pairs nothing fresh (kept_made nothing fresh made)) in
+      nil_from_length (pairs_of fresh) (omega (arith, same))
+
+module _ {K V H : Type 0} {eq : K → K → Bool} (laws : IsEquivalence eq) (hash : H → K → ℕ) (capacity : ℕ) (hasher : H)
+    (old fresh : ArraysView K V) (is : IsFresh capacity fresh) where
+  abbrev first : TableView K V H
+  first = record { hasher = hasher; arrays = fresh }
+
+  -- all pairs are awaited
+  pub awaits_all : 64 ≤ capacity → IsDistinct eq (map (λ (pair : K × V). pair.0) (pairs_of old)) → Awaits eq first (arrays_by_age old)
+  awaits_all large distinct =
+      let full = is.1 in
+      let maximum : fresh.maximum ≡ capacity = ap (λ (a : ArraysView K V). a.maximum) is.2 in
+      record {
+        stands = omega (arith, full, large);
+        alone = ap (λ (a : ArraysView K V). length a.linked) is.2;
+        full = full ∙ sym maximum;
+        distinct = rw (fresh_empty capacity fresh is, append-nil (arrays_by_age old))
+            (IsDistinct-IsPermutation eq laws.symm _ _ (IsPermutation-map (λ (pair : K × V). pair.0) _ _ (each_by_age old)) distinct);
+      }
+
+  -- and in the end all are in
+  pub renewed : (between new : TableView K V H) → Pours hash first (all_by_age old.current) between
+      → Pours hash between (all_by_age old.linked) new → (new.hasher ≡ hasher) × Renews (hash hasher) capacity old new.arrays
+  renewed between new first_half second_half =
+      let all = pours_both hash first between new (all_by_age old.current) (all_by_age old.linked) first_half second_half in
+      let arrays = ap (λ (t : TableView K V H). t.arrays) all.others in
+      let parts = rw (fresh_empty capacity fresh is, append-nil (arrays_by_age old)) at all.parts in (
+        ap (λ (t : TableView K V H). t.hasher) all.others,
+        record {
+          fresh = fresh.current;
+          fresh_is = is.0;
+          put = all.each;
+          others = arrays ∙ ap (λ (a : ArraysView K V). record a { current = new.arrays.current }) is.2;
+          gone = all.gone;
+          parts = IsPermutation-trans _ _ _ (each_by_age old) parts;
+        },
+      )
