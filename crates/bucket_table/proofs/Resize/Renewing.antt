@@ -3,7 +3,9 @@ use Rattle.bucket_table.proofs.Words.{ArePlaced, ArraysView, Bool, BucketView, I
 use Rattle.bucket_table.proofs.Words.{IsPermutation-map, IsPermutation-trans, List, TableView, [], ap, append-nil, arith, first_tickets, length}
 use Rattle.bucket_table.proofs.Words.{length_permutation, nil_from_length, pairs_of, refl, subst, sym, ℕ, ◌*◌, ◌++◌, ◌-◌, ◌/◌, ◌<◌, ◌^◌}
 use Rattle.bucket_table.proofs.Words.{IsDistinct, IsDistinct-IsPermutation, map, ◌∙◌, ◌≡◌, ◌≤◌}
+use Rattle.std.specs.Int.{IsPowerOfTwo}
 use Rattle.bucket_slots.specs.Sizing.{IsLengthFor, IsPowerIn}
+use Rattle.bucket_slots.proofs.Doublings.{double_fits}
 use Rattle.bucket_slots.proofs.PowersOfTwo.{exponent_le, power_parts}
 use Rattle.bucket_table.specs.Resize.Renewing.{Awaits, Pours, Renews, all_by_age, arrays_by_age}
 use Rattle.bucket_table.specs.Resize.Resizing.{MakesArray}
@@ -24,17 +26,24 @@ full_length capacity len is fits (power, least, len_is) =
     let whole : capacity ≡ 2 ^ (k - 5) * 32 = capacity_is ∙ parts in
     omega (arith, len_is, whole, most, enough, large, fits)
 
--- the arrays of which a new one stands alone
-abbrev pub IsFresh : {K V : Type 0} → ℕ → ArraysView K V → Type 0
-IsFresh capacity arrays = IsNewArray capacity arrays.current × (32 * length arrays.current ≡ capacity)
-    × (arrays ≡ record { minimum = capacity; maximum = capacity; current = arrays.current; linked = []; tickets = first_tickets 0 })
+-- a power of two that is a number of 64 bits is at most 2^63
+pub power_in : (capacity : ℕ) → IsPowerOfTwo capacity → 64 ≤ capacity → capacity < 2 ^ 64 → IsPowerIn 64 (2 ^ 63) capacity
+power_in capacity power large fits =
+    let twice = double_fits capacity (2 ^ 64) power (64, refl) fits in
+    record { power = power; at_least = large; at_most = omega (arith, twice) }
+
+-- arrays of which a new one stands alone
+pub record IsFresh {K V : Type 0} (capacity : ℕ) (arrays : ArraysView K V) : Type 0 where
+  pub array : IsNewArray capacity arrays.current
+  pub full : 32 * length arrays.current ≡ capacity
+  pub others : arrays ≡ record { minimum = capacity; maximum = capacity; current = arrays.current; linked = []; tickets = first_tickets 0 }
 
 module _ {K V : Type 0} (capacity : ℕ) (fresh : ArraysView K V) (is : IsFresh capacity fresh) where
   abbrev nothing : ArraysView K V
   nothing = record { minimum = capacity; maximum = capacity; current = []; linked = []; tickets = first_tickets 0 }
 
   made : MakesArray nothing fresh
-  made = (λ stands. absurd (omega arith), λ none. record { none = refl; fresh = fresh.current; fresh_is = is.0; new_is = is.2 })
+  made = (λ stands. absurd (omega arith), λ none. record { none = refl; fresh = fresh.current; fresh_is = is.array; new_is = is.others })
 
   pub fresh_one_map : (eq : K → K → Bool) → IsEquivalence eq → (hash : K → ℕ) → IsOneMap eq hash fresh
   fresh_one_map eq laws hash =
@@ -52,32 +61,43 @@ module _ {K V H : Type 0} {eq : K → K → Bool} (laws : IsEquivalence eq) (has
   first = record { hasher = hasher; arrays = fresh }
 
   -- all pairs are awaited
-  pub awaits_all : 64 ≤ capacity → IsDistinct eq (map (λ (pair : K × V). pair.0) (pairs_of old)) → Awaits eq first (arrays_by_age old)
+  awaits_all : 64 ≤ capacity → IsDistinct eq (map (λ (pair : K × V). pair.0) (pairs_of old)) → Awaits eq first (arrays_by_age old)
   awaits_all large distinct =
-      let full = is.1 in
-      let maximum : fresh.maximum ≡ capacity = ap (λ (a : ArraysView K V). a.maximum) is.2 in
+      let full = is.full in
+      let maximum : fresh.maximum ≡ capacity = ap (λ (a : ArraysView K V). a.maximum) is.others in
       record {
         stands = omega (arith, full, large);
-        alone = ap (λ (a : ArraysView K V). length a.linked) is.2;
+        alone = ap (λ (a : ArraysView K V). length a.linked) is.others;
         full = full ∙ sym maximum;
         distinct = rw (fresh_empty capacity fresh is, append-nil (arrays_by_age old))
             (IsDistinct-IsPermutation eq laws.symm _ _ (IsPermutation-map (λ (pair : K × V). pair.0) _ _ (each_by_age old)) distinct);
       }
 
-  -- and in the end all are in
-  pub renewed : (between new : TableView K V H) → Pours hash first (all_by_age old.current) between
-      → Pours hash between (all_by_age old.linked) new → (new.hasher ≡ hasher) × Renews (hash hasher) capacity old new.arrays
-  renewed between new first_half second_half =
-      let all = pours_both hash first between new (all_by_age old.current) (all_by_age old.linked) first_half second_half in
-      let arrays = ap (λ (t : TableView K V H). t.arrays) all.others in
-      let parts = rw (fresh_empty capacity fresh is, append-nil (arrays_by_age old)) at all.parts in (
-        ap (λ (t : TableView K V H). t.hasher) all.others,
+  -- first those of the current array
+  pub awaits_current : 64 ≤ capacity → IsDistinct eq (map (λ (pair : K × V). pair.0) (pairs_of old))
+      → Awaits eq first (all_by_age old.current)
+  awaits_current large distinct = awaits_first laws first (all_by_age old.current) (all_by_age old.linked) (awaits_all large distinct)
+
+  module _ (between : TableView K V H) (linked : List (BucketView K V)) (poured : Pours hash first (all_by_age old.current) between)
+      (same : linked ≡ old.linked) where
+    -- and then those of the old one
+    pub awaits_linked : 64 ≤ capacity → IsDistinct eq (map (λ (pair : K × V). pair.0) (pairs_of old)) → Awaits eq between (all_by_age linked)
+    awaits_linked large distinct =
+        rw same (awaits_rest laws hash first between (all_by_age old.current) (all_by_age old.linked) (awaits_all large distinct) poured)
+
+    -- in the end all are in
+    pub renewed : (new : TableView K V H) → Pours hash between (all_by_age linked) new → Renews (hash hasher) capacity old new.arrays
+    renewed new later =
+        let rest = subst (λ (buckets : List (BucketView K V)). Pours hash between (all_by_age buckets) new) same later in
+        let all = pours_both hash first between new (all_by_age old.current) (all_by_age old.linked) poured rest in
+        let arrays = ap (λ (t : TableView K V H). t.arrays) all.others in
+        let parts = subst (λ (pairs : List (K × V)). IsPermutation pairs (all.gone ++ pairs_of new.arrays))
+          (ap (λ (pairs : List (K × V)). arrays_by_age old ++ pairs) (fresh_empty capacity fresh is) ∙ append-nil (arrays_by_age old)) all.parts in
         record {
           fresh = fresh.current;
-          fresh_is = is.0;
+          fresh_is = is.array;
           put = all.each;
-          others = arrays ∙ ap (λ (a : ArraysView K V). record a { current = new.arrays.current }) is.2;
+          others = arrays ∙ ap (λ (a : ArraysView K V). record a { current = new.arrays.current }) is.others;
           gone = all.gone;
           parts = IsPermutation-trans _ _ _ (each_by_age old) parts;
-        },
-      )
+        }
