@@ -10,6 +10,7 @@ pub mod Settling
 pub mod Growing
 pub mod Remaking
 pub mod Pouring
+pub mod ChainByAge
 pub mod ByAge
 pub mod PouringOne
 pub mod Renewing

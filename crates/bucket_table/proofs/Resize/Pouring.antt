@@ -2,7 +2,7 @@
 use Rattle.bucket_table.proofs.Words.{Bool, BucketView, IsDistinct, IsDistinct-IsPermutation, IsEquivalence, IsPermutation}
 use Rattle.bucket_table.proofs.Words.{IsPermutation-append_left, IsPermutation-append_right, IsPermutation-map, IsPermutation-refl}
 use Rattle.bucket_table.proofs.Words.{IsPermutation-trans, List, TableView, [], ap, append_assoc, arith, length, length-set, map, pairs_of}
-use Rattle.bucket_table.proofs.Words.{refl, subst, sym, ℕ, ◌*◌, ◌++◌, ◌<◌, ◌∙◌, ◌∷◌, ◌≡◌}
+use Rattle.bucket_table.proofs.Words.{refl, subst, sym, ℕ, ◌++◌, ◌∙◌, ◌∷◌, ◌≡◌}
 use Rattle.std.proofs.lemmas.List.Sorted.{IsPermutation-append_comm}
 use Rattle.std.proofs.lemmas.Map.Keys.{IsDistinct-tail}
 use Rattle.bucket_table.specs.Resize.Renewing.{Awaits, Pours, PutsEach}
@@ -10,7 +10,8 @@ use Rattle.bucket_table.specs.Resize.Renewing.{Awaits, Pours, PutsEach}
 -- two lists before a third change places
 moved_over : {A : Type 0} (xs ys zs : List A) → IsPermutation (xs ++ (ys ++ zs)) (ys ++ (xs ++ zs))
 moved_over xs ys zs =
-    rw (← append_assoc xs ys zs, ← append_assoc ys xs zs) (IsPermutation-append_left zs (xs ++ ys) (ys ++ xs) (IsPermutation-append_comm xs ys))
+    rw (← append_assoc xs ys zs, ← append_assoc ys xs zs)
+    (IsPermutation-append_left zs (xs ++ ys) (ys ++ xs) (IsPermutation-append_comm xs ys))
 
 -- what was put of two lists, and what went and is there
 module _ {A : Type 0} (xs ys all : List A) where
@@ -90,12 +91,14 @@ module _ {K V H : Type 0} {eq : K → K → Bool} (laws : IsEquivalence eq) wher
             (distinct_moved laws _ _ (over_gone xs ys (pairs_of old.arrays) pours.gone (pairs_of new.arrays) pours.parts) awaits.distinct);
       }
 
--- some of the pairs are in, and these are left
-pub record IsPouring {K V H : Type 0} (eq : K → K → Bool) (hash : H → K → ℕ) (first : TableView K V H) (all : List (K × V)) (now : TableView K V H) (left : List (K × V)) : Type 0 where
-  pub whole : (last : TableView K V H) → Pours hash now left last → Pours hash first all last
-  pub awaits : Awaits eq now left
+module _ {K V H : Type 0} (eq : K → K → Bool) (hash : H → K → ℕ) (first : TableView K V H) (all : List (K × V)) where
+  -- some of the pairs are in, and these are left
+  pub record IsPouring (now : TableView K V H) (left : List (K × V)) : Type 0 where
+    pub whole : (last : TableView K V H) → Pours hash now left last → Pours hash first all last
+    pub awaits : Awaits eq now left
 
-module _ {K V H : Type 0} {eq : K → K → Bool} (laws : IsEquivalence eq) (hash : H → K → ℕ) (first : TableView K V H) (all : List (K × V)) where
+module _ {K V H : Type 0} {eq : K → K → Bool} (laws : IsEquivalence eq) (hash : H → K → ℕ) (first : TableView K V H)
+    (all : List (K × V)) where
   pub pour_begins : (left : List (K × V)) → all ≡ left → Awaits eq first all → IsPouring eq hash first all first left
   pour_begins left same awaits =
       let begun : IsPouring eq hash first all first all = record { whole = λ last pours. pours; awaits = awaits } in

@@ -1,13 +1,13 @@
 -- A pair put into a cache whose one array has the greatest length: none grows, and the pair is in its home.
-use Rattle.bucket_table.proofs.Words.{All-from_recursion, AllByRecursion, Bool, BucketView, CACHE, Current, Err, IsAbsent, IsEquivalence}
+use Rattle.bucket_table.proofs.Words.{All-from_recursion, AllByRecursion, Bool, BucketView, CACHE, Current, Err, IsEquivalence}
 use Rattle.bucket_table.proofs.Words.{IsHome, IsPermutation, IsPermutation-cons, IsPermutation-trans, List, None, Ok, Old, Option, Result}
-use Rattle.bucket_table.proofs.Words.{Side, Some, TableView, [], ap, arith, bucket_at, buckets_on, inl, inr, false, false≢true, length, map, pairs_of, refl, subst}
-use Rattle.bucket_table.proofs.Words.{sym, true, ℕ, ◌%◌, ◌*◌, ◌++◌, ◌<◌, ◌∙◌, ◌∷◌, ◌≡◌}
+use Rattle.bucket_table.proofs.Words.{Side, Some, TableView, [], ap, arith, bucket_at, buckets_on, false, false≢true, inl, inr, length, map}
+use Rattle.bucket_table.proofs.Words.{pairs_of, refl, subst, sym, true, ℕ, ◌%◌, ◌*◌, ◌++◌, ◌<◌, ◌∙◌, ◌∷◌, ◌≡◌}
 use Rattle.std.proofs.lemmas.List.Elements.{All-contains}
 use Rattle.std.proofs.lemmas.List.Sorted.{IsPermutation-middle}
 use Rattle.std.proofs.lemmas.Map.Keys.{IsDistinct-head}
 use Rattle.std.specs.List.{Contains}
-use Rattle.bucket_table.specs.Map.Finding.{Finds, FindsBucket, FindsThen, ReadiesThenGrows}
+use Rattle.bucket_table.specs.Map.Finding.{Finds, FindsThen, ReadiesThenGrows}
 use Rattle.bucket_table.specs.Map.MapState.{MapState, state_of}
 use Rattle.bucket_table.specs.Map.Putting.{Goes, Puts, PutsAt, slots_left, slots_put}
 use Rattle.bucket_table.specs.Resize.Asking.{ResizesIf}
@@ -20,7 +20,8 @@ use Rattle.bucket_table.specs.declared.hash_table.NotInserted.TheVariants.{Prese
 
 module _ {K V : Type 0} where
   -- no growth was done beside no old array
-  not_grown : (side : Side) (old new : ArraysView K V) → 0 < length old.current → length new.linked ≡ 0 → Grows side old new → side ≡ Current
+  not_grown : (side : Side) (old new : ArraysView K V) → 0 < length old.current → length new.linked ≡ 0 → Grows side old new
+      → side ≡ Current
   not_grown Current old new stands alone grows = refl
   not_grown Old old new stands alone (capacity, pushed) =
       let linked : length new.linked ≡ length old.current = ap (λ (a : ArraysView K V). length a.linked) pushed.new_is in
@@ -64,7 +65,8 @@ module _ {K V H : Type 0} {eq : K → K → Bool} (laws : IsEquivalence eq) (has
   lost (Some pair) puts = (
     pair ∷ [],
     IsPermutation-trans _ _ _ (IsPermutation-cons (key, value) _ _ puts.1.before)
-        (IsPermutation-trans _ _ _ (IsPermutation-middle ((key, value) ∷ []) pair puts.1.rest) (IsPermutation-cons pair _ _ puts.1.after.pairs)),
+        (IsPermutation-trans _ _ _ (IsPermutation-middle ((key, value) ∷ []) pair puts.1.rest)
+        (IsPermutation-cons pair _ _ puts.1.after.pairs)),
   )
 
   placed : (index : ℕ) (gone : Option (K × V)) → IsHome (length old.arrays.current) (hash old.hasher key) index

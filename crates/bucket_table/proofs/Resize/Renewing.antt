@@ -1,7 +1,7 @@
 -- A cache's new array, and what it is once all pairs are in.
-use Rattle.bucket_table.proofs.Words.{ArePlaced, ArraysView, Bool, BucketView, IsEquivalence, IsNewArray, IsOneMap, IsPermutation}
-use Rattle.bucket_table.proofs.Words.{IsPermutation-map, IsPermutation-trans, List, TableView, [], ap, append-nil, arith, first_tickets, length}
-use Rattle.bucket_table.proofs.Words.{length_permutation, nil_from_length, pairs_of, refl, subst, sym, ℕ, ◌*◌, ◌++◌, ◌-◌, ◌/◌, ◌<◌, ◌^◌}
+use Rattle.bucket_table.proofs.Words.{ArraysView, Bool, BucketView, IsEquivalence, IsNewArray, IsOneMap, IsPermutation}
+use Rattle.bucket_table.proofs.Words.{IsPermutation-map, IsPermutation-trans, List, TableView, [], ap, append-nil, arith, first_tickets}
+use Rattle.bucket_table.proofs.Words.{length, length_permutation, nil_from_length, pairs_of, refl, subst, sym, ℕ, ◌*◌, ◌++◌, ◌-◌, ◌<◌, ◌^◌}
 use Rattle.bucket_table.proofs.Words.{IsDistinct, IsDistinct-IsPermutation, map, ◌∙◌, ◌≡◌, ◌≤◌}
 use Rattle.std.specs.Int.{IsPowerOfTwo}
 use Rattle.bucket_slots.specs.Sizing.{IsLengthFor, IsPowerIn}
@@ -81,7 +81,8 @@ module _ {K V H : Type 0} {eq : K → K → Bool} (laws : IsEquivalence eq) (has
   module _ (between : TableView K V H) (linked : List (BucketView K V)) (poured : Pours hash first (all_by_age old.current) between)
       (same : linked ≡ old.linked) where
     -- and then those of the old one
-    pub awaits_linked : 64 ≤ capacity → IsDistinct eq (map (λ (pair : K × V). pair.0) (pairs_of old)) → Awaits eq between (all_by_age linked)
+    pub awaits_linked : 64 ≤ capacity → IsDistinct eq (map (λ (pair : K × V). pair.0) (pairs_of old))
+        → Awaits eq between (all_by_age linked)
     awaits_linked large distinct =
         rw same (awaits_rest laws hash first between (all_by_age old.current) (all_by_age old.linked) (awaits_all large distinct) poured)
 
@@ -91,8 +92,9 @@ module _ {K V H : Type 0} {eq : K → K → Bool} (laws : IsEquivalence eq) (has
         let rest = subst (λ (buckets : List (BucketView K V)). Pours hash between (all_by_age buckets) new) same later in
         let all = pours_both hash first between new (all_by_age old.current) (all_by_age old.linked) poured rest in
         let arrays = ap (λ (t : TableView K V H). t.arrays) all.others in
-        let parts = subst (λ (pairs : List (K × V)). IsPermutation pairs (all.gone ++ pairs_of new.arrays))
-          (ap (λ (pairs : List (K × V)). arrays_by_age old ++ pairs) (fresh_empty capacity fresh is) ∙ append-nil (arrays_by_age old)) all.parts in
+        let none = ap (λ (pairs : List (K × V)). arrays_by_age old ++ pairs) (fresh_empty capacity fresh is)
+        ∙ append-nil (arrays_by_age old) in
+        let parts = subst (λ (pairs : List (K × V)). IsPermutation pairs (all.gone ++ pairs_of new.arrays)) none all.parts in
         record {
           fresh = fresh.current;
           fresh_is = is.array;

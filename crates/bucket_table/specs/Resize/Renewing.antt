@@ -38,13 +38,15 @@ arrays_by_age arrays = all_by_age arrays.current ++ all_by_age arrays.linked
 
 -- a pair is put into its home, after what goes for it
 abbrev pub PutsHome : {K V : Type 0} → (K → ℕ) → List (BucketView K V) → K × V → List (BucketView K V) → Type 0
-PutsHome {K} {V} hash old pair new = (index : ℕ) × (gone : Option (K × V)) × IsHome (length old) (hash pair.0) index × Goes (bucket_at old index) gone
+PutsHome {K} {V} hash old pair new =
+    (index : ℕ) × (gone : Option (K × V)) × IsHome (length old) (hash pair.0) index × Goes (bucket_at old index) gone
     × (new ≡ slice_set old index (slots_put true (slots_left (bucket_at old index) gone) pair (hash pair.0 % 256)))
 
 -- and so is each of some pairs, in turn
 abbrev pub PutsEach : {K V : Type 0} → (K → ℕ) → List (BucketView K V) → List (K × V) → List (BucketView K V) → Type 0
 PutsEach hash old [] new = new ≡ old
-PutsEach {K} {V} hash old (pair ∷ pairs) new = (between : List (BucketView K V)) × PutsHome hash old pair between × PutsEach hash between pairs new
+PutsEach {K} {V} hash old (pair ∷ pairs) new =
+    (between : List (BucketView K V)) × PutsHome hash old pair between × PutsEach hash between pairs new
 
 -- a table may take pairs in: one array alone stands, at the greatest capacity, and no key comes twice among these pairs and its own
 pub record Awaits {K V H : Type 0} (eq : K → K → Bool) (table : TableView K V H) (pairs : List (K × V)) : Type 0 where

@@ -27,8 +27,8 @@ pour_own-requires g c =
         (
           c.requires.cache,
           subst (λ (pairs : List (g.row.K.Denot × g.row.V.Denot)). Awaits g.K.PartialEq.eq c.pour_chain.new.self pairs) (sym same)
-              (awaits_rest g.met.K.Eq.laws g.H.KeyHash.hash_of c.args.self.now c.pour_chain.new.self (chain_pairs bucket) (own_by_age bucket)
-              c.requires.awaits c.pour_chain.ensures.poured),
+              (awaits_rest g.met.K.Eq.laws g.H.KeyHash.hash_of c.args.self.now c.pour_chain.new.self (chain_pairs bucket)
+              (own_by_age bucket) c.requires.awaits c.pour_chain.ensures.poured),
         ),
       ),
     )

@@ -1,6 +1,6 @@
 use Rattle.bucket_table.proofs.Words.{[], ap, arith, length, pairs_ahead, rules, sym, ◌∙◌, ◌∷◌}
 use Rattle.bucket_table.specs.Resize.Renewing.{chain_pairs}
-use Rattle.bucket_table.proofs.Resize.ByAge.{chain_ahead, first_taken, keeps_at_first, keeps_on}
+use Rattle.bucket_table.proofs.Resize.ChainByAge.{chain_ahead, first_taken, keeps_at_first, keeps_on}
 use Rattle.bucket_table.proofs.Resize.Pouring.{pour_awaits, pour_begins, pour_ends, pour_goes_on}
 use Rattle.bucket_table.proofs.hash_table.renewing.HashTable+K+V+H+DoublyLinkedList+TYPE.pour_chain.Goals as goal
 
@@ -28,7 +28,7 @@ pour_pair-requires g c =
 pub pairs-smaller : goal.pairs-smaller
 pairs-smaller g c =
     let taken = ap length (first_taken c.pairs.bucket c.remove-key.new.self c.pairs.at c.find_next.new.self c.remove-key.new.at
-      c.remove-key.result (c.find_next.ensures.ahead c.pairs-test.true) c.remove-key.ensures.pair c.remove-key.ensures.pairs_ahead) in
+    c.remove-key.result (c.find_next.ensures.ahead c.pairs-test.true) c.remove-key.ensures.pair c.remove-key.ensures.pairs_ahead) in
     omega (arith, taken)
 
 pub pairs-preserved : goal.pairs-preserved

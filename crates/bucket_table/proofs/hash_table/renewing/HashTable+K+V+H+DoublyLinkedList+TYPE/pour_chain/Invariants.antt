@@ -1,6 +1,6 @@
-use Rattle.bucket_table.proofs.Words.{ℕ, length, pairs_ahead}
+use Rattle.bucket_table.proofs.Words.{length, pairs_ahead}
 use Rattle.bucket_table.specs.Resize.Renewing.{chain_pairs}
-use Rattle.bucket_table.proofs.Resize.ByAge.{KeepsOwn}
+use Rattle.bucket_table.proofs.Resize.ChainByAge.{KeepsOwn}
 use Rattle.bucket_table.proofs.Resize.Pouring.{IsPouring}
 use Rattle.bucket_table.proofs.hash_table.renewing.HashTable+K+V+H+DoublyLinkedList+TYPE.pour_chain.Given as goal
 

@@ -1,5 +1,5 @@
 use Rattle.bucket_table.proofs.Words.{BucketView, ap, arith, arrays_with, bucket_on, buckets_on, length, length-set, rules, subst, sym}
-use Rattle.bucket_table.proofs.Words.{◌+◌, ◌<◌, ◌∙◌, ◌≡◌}
+use Rattle.bucket_table.proofs.Words.{◌+◌, ◌∙◌}
 use Rattle.std.proofs.Common.{drop}
 use Rattle.std.proofs.lemmas.List.{drop_all}
 use Rattle.bucket_table.specs.Resize.Renewing.{Awaits, Pours, all_by_age, pairs_by_age}
@@ -23,7 +23,8 @@ pour_bucket-requires g c =
           c.requires.cache,
           subst (λ (b : BucketView g.row.K.Denot g.row.V.Denot). Awaits g.K.PartialEq.eq c.buckets.self (pairs_by_age b))
               (sym c.bucket_of_mut.ensures.bucket)
-              (pour_awaits g.met.K.Eq.laws g.H.KeyHash.hash_of c.args.self.now (all_by_age (buckets_on c.args.source.now side)) c.buckets.self
+              (pour_awaits g.met.K.Eq.laws g.H.KeyHash.hash_of c.args.self.now (all_by_age (buckets_on c.args.source.now side))
+              c.buckets.self
               (all_by_age (drop c.buckets.index (buckets_on source side))) (pairs_by_age (bucket_on source side c.buckets.index))
               (all_by_age (drop (c.buckets.index + 1) (buckets_on (arrays_with source side c.buckets.index bucket) side))) parts
               c.buckets.invariant.0),
@@ -38,7 +39,7 @@ buckets-smaller g c =
     let len = c.len_on.ensures.value in
     let more = c.buckets-test.true in
     let same = ap length (buckets_on-arrays_with source c.args.side c.buckets.index bucket)
-      ∙ length-set (buckets_on source c.args.side) c.buckets.index bucket in
+    ∙ length-set (buckets_on source c.args.side) c.buckets.index bucket in
     omega (arith, len, more, same)
 
 pub buckets-preserved : goal.buckets-preserved
@@ -54,7 +55,8 @@ buckets-preserved g c =
           (pairs_by_age (bucket_on source side c.buckets.index))
           (all_by_age (drop (c.buckets.index + 1) (buckets_on (arrays_with source side c.buckets.index bucket) side))) parts
           c.buckets.invariant.0
-          (subst (λ (b : BucketView g.row.K.Denot g.row.V.Denot). Pours g.H.KeyHash.hash_of c.buckets.self (pairs_by_age b) c.pour_bucket.new.self)
+          (subst (λ (b : BucketView g.row.K.Denot g.row.V.Denot).
+          Pours g.H.KeyHash.hash_of c.buckets.self (pairs_by_age b) c.pour_bucket.new.self)
           c.bucket_of_mut.ensures.bucket c.pour_bucket.ensures),
       other_side c.args.source.now source side c.buckets.index bucket c.buckets.invariant.1,
     )

@@ -1,4 +1,4 @@
-use Rattle.bucket_table.proofs.Words.{[], ap, arith, get_or, length, refl, rules, slot_at, sym, take, ℕ, ◌-◌, ◌∙◌, ◌∷◌, ◌≡◌, ◌≤◌, ◌≢◌}
+use Rattle.bucket_table.proofs.Words.{[], ap, arith, get_or, length, refl, rules, take, ℕ, ◌-◌, ◌∷◌, ◌≡◌, ◌≤◌}
 use Rattle.bucket_table.specs.Resize.Renewing.{own_backwards, own_by_age}
 use Rattle.bucket_table.specs.Walking.ByUse.{own_left}
 use Rattle.bucket_table.proofs.Resize.ByAge.{all_at_first, takes_last}
@@ -24,18 +24,18 @@ pour_slot-requires g c =
     let some = c.slots-test.true in
     let within = c.slots.invariant.2 in
     let parts = takes_last c.slots.bucket c.slots.bucket c.args.bucket.now.listed slots c.slots.left 0 c.slots.invariant.1 some
-      (omega (arith, long, within)) (λ other apart. refl) in (
+    (omega (arith, long, within)) (λ other apart. refl) in (
+      search rules,
+      (
         search rules,
         (
-          search rules,
-          (
-            c.requires.cache,
-            pour_awaits g.met.K.Eq.laws g.H.KeyHash.hash_of c.args.self.now (own_by_age c.args.bucket.now) c.slots.self
-                (own_backwards c.slots.bucket (take c.slots.left slots)) (own_left c.slots.bucket (slot ∷ []))
-                (own_backwards c.slots.bucket (take (c.slots.left - 1) slots)) parts c.slots.invariant.0,
-          ),
+          c.requires.cache,
+          pour_awaits g.met.K.Eq.laws g.H.KeyHash.hash_of c.args.self.now (own_by_age c.args.bucket.now) c.slots.self
+              (own_backwards c.slots.bucket (take c.slots.left slots)) (own_left c.slots.bucket (slot ∷ []))
+              (own_backwards c.slots.bucket (take (c.slots.left - 1) slots)) parts c.slots.invariant.0,
         ),
-      )
+      ),
+    )
 
 pub slots-preserved : goal.slots-preserved
 slots-preserved g c =
@@ -45,13 +45,13 @@ slots-preserved g c =
     let some = c.slots-test.true in
     let within = c.slots.invariant.2 in
     let parts = takes_last c.slots.bucket c.pour_slot.new.bucket c.args.bucket.now.listed slots c.slots.left 0 c.slots.invariant.1 some
-      (omega (arith, long, within)) c.pour_slot.ensures.others in (
-        pour_goes_on g.met.K.Eq.laws g.H.KeyHash.hash_of c.args.self.now (own_by_age c.args.bucket.now) c.slots.self c.pour_slot.new.self
-            (own_backwards c.slots.bucket (take c.slots.left slots)) (own_left c.slots.bucket (slot ∷ []))
-            (own_backwards c.pour_slot.new.bucket (take (c.slots.left - 1) slots)) parts c.slots.invariant.0 c.pour_slot.ensures.poured,
-        c.slots.invariant.1,
-        omega (arith, within),
-      )
+    (omega (arith, long, within)) c.pour_slot.ensures.others in (
+      pour_goes_on g.met.K.Eq.laws g.H.KeyHash.hash_of c.args.self.now (own_by_age c.args.bucket.now) c.slots.self c.pour_slot.new.self
+          (own_backwards c.slots.bucket (take c.slots.left slots)) (own_left c.slots.bucket (slot ∷ []))
+          (own_backwards c.pour_slot.new.bucket (take (c.slots.left - 1) slots)) parts c.slots.invariant.0 c.pour_slot.ensures.poured,
+      c.slots.invariant.1,
+      omega (arith, within),
+    )
 
 pub returns : goal.returns
 returns g c =

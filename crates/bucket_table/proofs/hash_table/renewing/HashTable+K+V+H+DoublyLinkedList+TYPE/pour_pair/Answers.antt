@@ -1,4 +1,3 @@
-use Rattle.bucket_table.proofs.Resize.Pouring.{pours_both}
 use Rattle.bucket_table.proofs.Resize.PouringOne.{pours_one}
 use Rattle.bucket_table.proofs.hash_table.renewing.HashTable+K+V+H+DoublyLinkedList+TYPE.pour_pair.Goals as goal
 

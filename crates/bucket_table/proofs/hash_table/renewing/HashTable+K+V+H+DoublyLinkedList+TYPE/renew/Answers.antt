@@ -1,4 +1,4 @@
-use Rattle.bucket_table.proofs.Words.{ArraysView, IsDistinct, ap, arith, map, pairs_of, rules, subst, sym, ◌∙◌, ◌≡◌}
+use Rattle.bucket_table.proofs.Words.{ArraysView, ap, arith, rules, subst}
 use Rattle.bucket_table.specs.Resize.Renewing.{Renews}
 use Rattle.bucket_table.proofs.Resize.Renewing.{IsFresh, awaits_current, awaits_linked, fresh_one_map, power_in, renewed}
 use Rattle.bucket_table.proofs.hash_table.renewing.HashTable+K+V+H+DoublyLinkedList+TYPE.renew.Goals as goal
@@ -57,8 +57,8 @@ returns-clause-renewed g c =
     rw c.replace-source.ensures.after (record { array = made.array; full = made.full; others = made.others }) in
     let linked = ap (λ (a : ArraysView g.row.K.Denot g.row.V.Denot). a.linked) c.pour_on.ensures.others in
     let all = renewed g.met.K.Eq.laws g.H.KeyHash.hash_of c.args.capacity c.self.inside.hasher c.replace-source.result
-      c.replace-source.new.dest is c.pour_on.new.self c.pour_on.new.source.linked c.pour_on.ensures.poured linked c.pour_on-2.new.self
-      c.pour_on-2.ensures.poured in
+    c.replace-source.new.dest is c.pour_on.new.self c.pour_on.new.source.linked c.pour_on.ensures.poured linked c.pour_on-2.new.self
+    c.pour_on-2.ensures.poured in
     rw (← c.self.view_is)
     (subst (λ (a : ArraysView g.row.K.Denot g.row.V.Denot).
     Renews (g.H.KeyHash.hash_of c.self.inside.hasher) c.args.capacity a c.pour_on-2.new.self.arrays) c.replace-source.ensures.value all)
