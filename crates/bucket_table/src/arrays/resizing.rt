@@ -71,6 +71,27 @@ impl<K: Drop, V: Drop, L: LruList + Drop, const TYPE: u8> Arrays<K, V, L, TYPE> 
         self.make_first_array(self.minimum)
     }
 
+    /// Returns other arrays: a new one of so many slots, which are their minimum and their maximum,
+    /// stands alone.
+    ///
+    /// # Errors
+    ///
+    /// Allocation failed, which it always does for 2^63 slots: no array has more than 2^62.
+    pub(crate) fn fresh(&self, capacity: usize) -> Result<Self, AllocError>
+        requires power { IsPowerIn 64 (2 ^ 63) capacity }
+        ensures array { IfOk result (λ fresh. IsNewArray capacity fresh.current) }
+        ensures full { IfOk result (λ fresh. 32 * length fresh.current ≡ capacity) }
+        ensures others { IfOk result (λ fresh. fresh
+            ≡ record { minimum = capacity; maximum = capacity; current = fresh.current; linked = []; tickets = first_tickets 0 }) }
+    {
+        if capacity > 1 << 62 {
+            return Err(AllocError);
+        }
+        let mut fresh = Arrays::new(self.alloc, capacity, capacity);
+        fresh.make_first_array(capacity)?;
+        Ok(fresh)
+    }
+
     /// Makes an empty array for a capacity.
     ///
     /// # Errors
@@ -87,27 +108,6 @@ impl<K: Drop, V: Drop, L: LruList + Drop, const TYPE: u8> Arrays<K, V, L, TYPE> 
         let fresh = BucketArray::alloc(self.alloc, capacity)?;
         self.current = Some(fresh);
         Ok(())
-    }
-
-    /// Returns other arrays, of which a new one of so many slots stands alone; that is their minimum
-    /// and their maximum.
-    ///
-    /// # Errors
-    ///
-    /// Allocation failed; so it is where an array can't have so many slots.
-    pub(crate) fn fresh(&self, capacity: usize) -> Result<Self, AllocError>
-        requires power { IsPowerIn 64 (2 ^ 63) capacity }
-        ensures array { IfOk result (λ fresh. IsNewArray capacity fresh.current) }
-        ensures full { IfOk result (λ fresh. 32 * length fresh.current ≡ capacity) }
-        ensures others { IfOk result (λ fresh. fresh
-            ≡ record { minimum = capacity; maximum = capacity; current = fresh.current; linked = []; tickets = first_tickets 0 }) }
-    {
-        if capacity > 1 << 62 {
-            return Err(AllocError);
-        }
-        let mut fresh = Arrays::new(self.alloc, capacity, capacity);
-        fresh.make_first_array(capacity)?;
-        Ok(fresh)
     }
 
     /// Makes an empty array for a capacity the current one, and the one that stood the old one.

@@ -24,15 +24,18 @@ impl<K: Eq + Drop, V: Drop, H: KeyHash<K>, const TYPE: u8> HashTable<
     TYPE,
 > {
     /// Puts all pairs of a cache into a new array of so many slots, which is the minimum and the
-    /// maximum from then on. Each pair is put as `put` does, bucket by bucket, and in each bucket
-    /// the one touched longest ago first. A pair goes only where its new bucket has no free own
-    /// slot.
+    /// maximum from then on. Each pair is put as `put` does: bucket by bucket, first those of the
+    /// chain, and then those of the own slots, the one touched longest ago first. For a pair whose
+    /// new bucket has no free own slot another goes, and is dropped.
+    ///
+    /// A rehash that is on ends with the arrays: no ticket is open then.
     ///
     /// # Errors
     ///
-    /// Allocation failure for the new array: all is as it was.
+    /// Allocation failure for the new array, which 2^63 slots always are: all is as it was.
     ///
-    /// O(slots of all arrays). Own: `LruCache::resize` of the crate lru.
+    /// O(slots of all arrays, and the square of the number of blocks of each chain). Own:
+    /// `LruCache::resize` of the crate lru.
     pub fn renew(&mut self, capacity: usize) -> Result<(), AllocError>
         requires cache { TYPE ≡ CACHE }
         requires power { IsPowerOfTwo capacity }
@@ -42,7 +45,6 @@ impl<K: Eq + Drop, V: Drop, H: KeyHash<K>, const TYPE: u8> HashTable<
             self.new.arrays) }
         ensures unchanged { OnErr result (self.new.arrays ≡ self.old.arrays) }
     {
-        self.sound();
         let fresh = self.arrays.fresh(capacity)?;
         let mut source = mem::replace(&mut self.arrays, fresh);
         self.pour_on(&mut source, Side::Current);
