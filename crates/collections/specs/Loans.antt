@@ -13,6 +13,15 @@ abbrev pub Puts : {K V H : Type 0} → (K → K → Bool) → MapView K V H → 
 Puts {K} {V} {H} eq old key value new =
     MatchOption (get eq old key) (Adds eq old key value new) (λ before. (own : K) × Replaces eq old (eq key) (own, before) value new)
 
+module _ {K V H : Type 0} (eq : K → K → Bool) (old : MapView K V H) (wants : K → Bool) (value : V) (new : MapView K V H) where
+  -- a pair more, whose key is one that is wanted
+  abbrev pub AddsWanted : Type 0
+  AddsWanted = (key : K) × (wants key ≡ true) × Adds eq old key value new
+
+  -- the value stands under a key that is wanted: a pair more, or beside the key that is there
+  abbrev pub PutsWanted : Type 0
+  PutsWanted = MatchOption (get_by wants old) AddsWanted (λ before. (own : K) × Replaces eq old wants (own, before) value new)
+
 module _ (K V H : RattleType) (equal : equals.Ghosts K.Denot) (hashing : key_hash.Ghosts H.Denot K.Denot)
     (map : MutBor (MapView K.Denot V.Denot H.Denot)) where
   -- the value beside the key that is wanted is the last one written through the loan; where there is none no key is wanted, and all stays
@@ -43,3 +52,18 @@ module _ (K V H : RattleType) (equal : equals.Ghosts K.Denot) (hashing : key_has
       LendsSoOk (the_row K V H (record {}) equal hashing) V map loan
       (λ new value. Puts equal.eq map.now key value new)
       (λ new. Stays equal.eq map.now new × LacksRoom hashing.hash_of key new)
+
+  -- a pair more, whose key is one that is wanted, with the last value written through the loan; where nothing is lent all stays
+  abbrev pub LendsMade : {E : Type 0} → (K.Denot → Bool) → Result (MutBor V.Denot) E → Fml
+  LendsMade wants loan =
+      LendsSoOk (the_row K V H (record {}) equal hashing) V map loan
+      (λ new value. AddsWanted equal.eq map.now wants value new)
+      (λ new. Stays equal.eq map.now new)
+
+  -- the value under a key that is wanted is the last one written through the loan, whether the map had one or not; where
+  -- nothing is lent all stays
+  abbrev pub LendsPutWanted : {E : Type 0} → (K.Denot → Bool) → Result (MutBor V.Denot) E → Fml
+  LendsPutWanted wants loan =
+      LendsSoOk (the_row K V H (record {}) equal hashing) V map loan
+      (λ new value. PutsWanted equal.eq map.now wants value new)
+      (λ new. Stays equal.eq map.now new)

@@ -5,6 +5,8 @@ ghost use Rattle.std.specs.Str.{bytes_eq};
 ghost use Rattle.collections.specs.Hashes.{HaveHash};
 ghost use Rattle.collections.specs.Maps.{get_by, map_of};
 
+mod to_key;
+
 use bucket_slots::bucket::KeyProbe;
 use bucket_slots::lru::LruList;
 use bucket_table::hash_table::HashTable;
@@ -12,6 +14,7 @@ use bucket_table::key_hash::{KeyHash, StdHash};
 use std::alloc::Allocator;
 use std::hash::{BuildHasher, Hash};
 use std::marker::PhantomData;
+pub use to_key::ToKey;
 
 /// A form in which a key is looked up: it stands for the keys that are equal to one of them, and is
 /// hashed as they are. Own; std has `Borrow` there, scc `Equivalent`.

@@ -23,4 +23,4 @@ mod sizing;
 pub use default_hash::{
     BuildHasherDefault, DefaultHash, FoldHasher, KeyHash, RandomState, StdHash,
 };
-pub use key_form::KeyForm;
+pub use key_form::{KeyForm, ToKey};

@@ -3,9 +3,9 @@ ghost use Rattle.std.specs.Prelude.{◌≡◌, IfErr, IfOk};
 ghost use Rattle.std.specs.Borrow.{sem};
 
 use crate::hash_map::entry::by_form::VacantEntryRef;
-use crate::key_form::KeyForm;
+use crate::key_form::{KeyForm, ToKey};
 use bucket_table::key_hash::KeyHash;
-use std::alloc::AllocFailed;
+use std::alloc::{AllocFailed, Global};
 
 impl<'a, K: Eq + Drop, V: Drop, H: KeyHash<K>, Q: KeyForm<K, H>> VacantEntryRef<'a, K, V, H, Q> {
     ghost use Rattle.collections.specs.Loans.{LendsWanted};
@@ -35,5 +35,39 @@ impl<'a, K: Eq + Drop, V: Drop, H: KeyHash<K>, Q: KeyForm<K, H>> VacantEntryRef<
             });
         }
         map.add(hash, key, value)
+    }
+}
+
+impl<'a, K: Eq + Drop, V: Drop, H: KeyHash<K>, Q: ToKey<K, H>> VacantEntryRef<'a, K, V, H, Q> {
+    ghost use Rattle.collections.specs.Loans.{LendsMade};
+
+    /// Makes a key of the form, inserts it with a value, and lends that for writing. Once the loan
+    /// ends, the map has the pair of a key for which the form stands and of the value last written
+    /// more. The key isn't hashed again, and takes its memory from the allocator.
+    ///
+    /// # Errors
+    ///
+    /// No key could be made, or allocation failed, as in `HashMap::insert`: the value comes back,
+    /// and the map has the pairs that it had.
+    ///
+    /// O(1) expected, beside the key and a resize. hashbrown: `VacantEntryRef::insert`.
+    pub fn insert(self, value: V, alloc: Global) -> Result<&'a mut V, AllocFailed<V>>
+        ensures* writes_back { sem 𝓛
+            (LendsMade K.row V.row H.row K.PartialEq H.KeyHash self.entry.map
+            (Q.stands_for self.entry.form) result) }
+        ensures value { IfOk result (λ lent. lent.now ≡ value) }
+        ensures value_returned { IfErr result (λ back. back.value ≡ value) }
+    {
+        let VacantEntryRef { map, form, hash } = self;
+        let Ok(key) = form.to_key(alloc) else {
+            map.sound();
+            return Err(AllocFailed { value });
+        };
+        match map.add(hash, key, value) {
+            Ok(lent) => Ok(lent),
+            Err(back) => Err(AllocFailed {
+                value: back.value.1,
+            }),
+        }
     }
 }
