@@ -1,9 +1,11 @@
 -- A value of a map that was lent, or was made and lent.
-use Rattle.std.proofs.Common.{Option, Some, None, Result, Ok, Err, ◌≡◌, refl, sym, ap, subst}
+use Rattle.std.proofs.Common.{Bool, Option, Some, None, Result, Ok, Err, ◌≡◌, refl, sym, ap, subst}
 use Rattle.std.specs.Borrow.{MutBor}
 use Rattle.std.specs.Option.{MatchOption}
 use Rattle.std.specs.Prelude.{IfErr, IfOk}
 use Rattle.std.specs.declared.alloc.AllocFailed.{AllocFailed}
+use Rattle.collections.specs.Loans.{AddsWanted, PutsWanted}
+use Rattle.collections.specs.Maps.{MapView, get_by}
 
 -- what is lent is what was there
 pub same_as_held : {V : Type 0} (Q : Type 0) (held : Option V) (value : V) → Some value ≡ held → MatchOption held Q (λ v. value ≡ v)
@@ -40,3 +42,22 @@ module _ {K V : Type 0} (P : V → Type 0) (held : Option V) (none : held ≡ No
       → IfErr r (λ back. (back.value.0 ≡ key) × P back.value.1 × (held ≡ None))
   back_vacant key (Ok lent) back = tt
   back_vacant key (Err refused) back = (back.0, back.1, none)
+
+module _ {V : Type 0} (P : V → Type 0) (value : V) (made : P value) (held : Option V) (none : held ≡ None) where
+  -- where nothing was there, what is lent is what was made, and was put under a key that was made too
+  pub lent_new : (r : Result (MutBor V) (AllocFailed V)) → IfOk r (λ lent. lent.now ≡ value)
+      → IfOk r (λ lent. MatchOption held (P lent.now) (λ v. lent.now ≡ v))
+  lent_new (Ok lent) is =
+      subst (λ (o : Option V). MatchOption o (P lent.now) (λ v. lent.now ≡ v)) (sym none) (subst P (sym is) made)
+  lent_new (Err back) is = tt
+
+  -- and so is what comes back
+  pub back_new : (r : Result (MutBor V) (AllocFailed V)) → IfErr r (λ back. back.value ≡ value)
+      → IfErr r (λ back. P back.value × (held ≡ None))
+  back_new (Ok lent) is = tt
+  back_new (Err back) is = (subst P (sym is) made, none)
+
+-- a pair more, where none of the keys was there, puts the value
+pub puts_new : {K V H : Type 0} (eq : K → K → Bool) (old : MapView K V H) (wants : K → Bool) (value : V) (new : MapView K V H)
+    → get_by wants old ≡ None → AddsWanted eq old wants value new → PutsWanted eq old wants value new
+puts_new {K} {V} {H} eq old wants value new none adds = rw none adds

@@ -1,11 +1,13 @@
-//! The call that makes an entry by a form.
-ghost use Rattle.std.specs.Prelude.{◌≡◌};
-ghost use Rattle.collections.specs.Maps.{contains_by};
+//! The call that makes an entry by a form, and the calls of such entries of either kind.
+ghost use Rattle.std.specs.Prelude.{◌≡◌, None, IfErr, IfOk, MatchOption, unwrap_or};
+ghost use Rattle.std.specs.Borrow.{sem};
+ghost use Rattle.collections.specs.Maps.{contains_by, get_by};
 
 use crate::hash_map::HashMap;
 use crate::hash_map::entry::by_form::{EntryRef, OccupiedEntryRef, VacantEntryRef};
-use crate::key_form::KeyForm;
+use crate::key_form::{KeyForm, ToKey};
 use bucket_table::key_hash::KeyHash;
+use std::alloc::{AllocFailed, Global};
 
 impl<K: Eq, V, H: KeyHash<K>> HashMap<K, V, H> {
     ghost use Rattle.collections.specs.EntryRefs.{is_ref_occupied, ref_form, ref_map};
@@ -35,5 +37,100 @@ impl<K: Eq, V, H: KeyHash<K>> HashMap<K, V, H> {
                 hash,
             })
         }
+    }
+}
+
+impl<'a, K: Eq + Drop, V: Drop, H: KeyHash<K>, Q: ToKey<K, H>> EntryRef<'a, K, V, H, Q> {
+    ghost use Rattle.collections.specs.EntryRefs.{ref_form, ref_map};
+    ghost use Rattle.collections.specs.Loans.{LendsPutWanted};
+
+    /// Lends the value under the key for writing; where the map hasn't one of the keys, it makes one
+    /// of the form and inserts it with the default first. Once the loan ends, the key has the value
+    /// last written, and each other key what it had. Where the map has one no key is made, and it is
+    /// never refused.
+    ///
+    /// # Errors
+    ///
+    /// The map has none of the keys, and none could be made, or allocation failed: the default comes
+    /// back, and the map has the pairs that it had.
+    ///
+    /// O(1) expected, beside the key and a resize. hashbrown: `EntryRef::or_insert`.
+    pub fn or_insert(self, default: V, alloc: Global) -> Result<&'a mut V, AllocFailed<V>>
+        ensures* writes_back { sem 𝓛
+            (LendsPutWanted K.row V.row H.row K.PartialEq H.KeyHash (ref_map self.entry)
+            (Q.stands_for (ref_form self.entry)) result) }
+        ensures value { IfOk result (λ lent. lent.now ≡ unwrap_or
+            (get_by (Q.stands_for (ref_form self.entry)) (ref_map self.entry).now) default) }
+        ensures refused { IfErr result (λ back. (back.value ≡ default)
+            × (get_by (Q.stands_for (ref_form self.entry)) (ref_map self.entry).now ≡ None)) }
+    {
+        match self {
+            EntryRef::Occupied(entry) => match entry.into_mut() {
+                Some(value) => Ok(value),
+                None => unreachable!(),
+            },
+            EntryRef::Vacant(entry) => entry.insert(default, alloc),
+        }
+    }
+
+    /// Lends the value under the key for writing; where the map hasn't one of the keys, it makes one
+    /// of the form and inserts it with what the function makes first. Once the loan ends, the key
+    /// has the value last written, and each other key what it had. Where the map has one no key is
+    /// made, the function isn't called, and it is never refused.
+    ///
+    /// # Errors
+    ///
+    /// The map has none of the keys, and none could be made, or allocation failed: what was made
+    /// comes back, and the map has the pairs that it had.
+    ///
+    /// O(1) expected, beside the key and a resize. hashbrown: `EntryRef::or_insert_with`.
+    pub fn or_insert_with<F: FnOnce() -> V>(
+        self,
+        make: F,
+        alloc: Global,
+    ) -> Result<&'a mut V, AllocFailed<V>>
+        requires callable { F.pre make }
+        ensures* writes_back { sem 𝓛
+            (LendsPutWanted K.row V.row H.row K.PartialEq H.KeyHash (ref_map self.entry)
+            (Q.stands_for (ref_form self.entry)) result) }
+        ensures value { IfOk result (λ lent. MatchOption
+            (get_by (Q.stands_for (ref_form self.entry)) (ref_map self.entry).now)
+            (F.post make lent.now) (λ held. lent.now ≡ held)) }
+        ensures refused { IfErr result (λ back. F.post make back.value
+            × (get_by (Q.stands_for (ref_form self.entry)) (ref_map self.entry).now ≡ None)) }
+    {
+        match self {
+            EntryRef::Occupied(entry) => match entry.into_mut() {
+                Some(value) => Ok(value),
+                None => unreachable!(),
+            },
+            EntryRef::Vacant(entry) => entry.insert(make(), alloc),
+        }
+    }
+
+    /// Lends the value under the key for writing; where the map hasn't one of the keys, it makes one
+    /// of the form and inserts it with the default of values first. Once the loan ends, the key has
+    /// the value last written, and each other key what it had. Where the map has one no key is made,
+    /// and it is never refused.
+    ///
+    /// # Errors
+    ///
+    /// The map has none of the keys, and none could be made, or allocation failed: the default comes
+    /// back, and the map has the pairs that it had.
+    ///
+    /// O(1) expected, beside the key and a resize. hashbrown: `EntryRef::or_default`.
+    pub fn or_default(self, alloc: Global) -> Result<&'a mut V, AllocFailed<V>>
+    where
+        V: Default,
+        ensures* writes_back { sem 𝓛
+            (LendsPutWanted K.row V.row H.row K.PartialEq H.KeyHash (ref_map self.entry)
+            (Q.stands_for (ref_form self.entry)) result) }
+        ensures value { IfOk result (λ lent. MatchOption
+            (get_by (Q.stands_for (ref_form self.entry)) (ref_map self.entry).now)
+            (V.is_default lent.now) (λ held. lent.now ≡ held)) }
+        ensures refused { IfErr result (λ back. V.is_default back.value
+            × (get_by (Q.stands_for (ref_form self.entry)) (ref_map self.entry).now ≡ None)) }
+    {
+        self.or_insert_with(|| V::default(), alloc)
     }
 }

@@ -1,0 +1,41 @@
+use Rattle.std.proofs.Common.{◌≡◌, Option, ap, refl, subst, sym}
+use Rattle.std.specs.Prelude.{IfOk, unwrap_or}
+use Rattle.collections.specs.Maps.{get_by}
+use Rattle.collections.proofs.Entries.{puts_there}
+use Rattle.collections.proofs.EntryMaking.{back_new, puts_new}
+use Rattle.collections.proofs.hash_map.entry.by_form.EntryRef.or_insert.Goals as goal
+
+pub returns-in-Some : goal.returns-in-Some
+returns-in-Some g c =
+    let lent = c.into_mut.follows in
+    let place = c.in-Occupied.entry in
+    rw c.in-Occupied.is (
+      (
+        refl,
+        λ value is. puts_there g.K.PartialEq.eq place.map.now (lent.lender value) (g.Q.KeyForm.stands_for place.form)
+            c.into_mut.result c.in-Some.value value c.in-Some.is (lent.holds value) _,
+        tt,
+      ),
+      record { writes_back = tt; value = ap (λ held. unwrap_or held c.args.default) c.in-Some.ensures.value; refused = tt },
+    )
+
+pub returns-in-Vacant : goal.returns-in-Vacant
+returns-in-Vacant g c =
+    let default = c.args.default in
+    let lent = c.insert.follows in
+    let place = c.in-Vacant.entry in
+    let wants = g.Q.KeyForm.stands_for place.form in
+    let held = get_by wants place.map.now in
+    rw c.in-Vacant.is (
+      (
+        refl,
+        λ value is. puts_new g.K.PartialEq.eq place.map.now wants value (lent.lender value) place.absent (lent.holds value is),
+        lent.holds-at-none,
+      ),
+      record {
+        writes_back = tt;
+        value = subst (λ (o : Option _). IfOk c.insert.result (λ lent. lent.now ≡ unwrap_or o default)) (sym place.absent)
+            c.insert.ensures.value;
+        refused = back_new (λ value. value ≡ default) default refl held place.absent c.insert.result c.insert.ensures.value_returned;
+      },
+    )

@@ -1,0 +1,43 @@
+use Rattle.std.proofs.Common.{refl}
+use Rattle.collections.specs.Maps.{get_by}
+use Rattle.collections.proofs.Entries.{puts_there, same_as_lent}
+use Rattle.collections.proofs.EntryMaking.{back_new, lent_new, puts_new}
+use Rattle.collections.proofs.hash_map.entry.by_form.EntryRef.or_insert_with.Goals as goal
+
+pub returns-in-Some : goal.returns-in-Some
+returns-in-Some g c =
+    let lent = c.into_mut.follows in
+    let place = c.in-Occupied.entry in
+    rw c.in-Occupied.is (
+      (
+        refl,
+        λ value is. puts_there g.K.PartialEq.eq place.map.now (lent.lender value) (g.Q.KeyForm.stands_for place.form)
+            c.into_mut.result c.in-Some.value value c.in-Some.is (lent.holds value) _,
+        tt,
+      ),
+      record {
+        writes_back = tt;
+        value = same_as_lent (goal.F-post g c.args.make) _ c.in-Some.value.now c.in-Some.ensures.value;
+        refused = tt;
+      },
+    )
+
+pub returns-in-Vacant : goal.returns-in-Vacant
+returns-in-Vacant g c =
+    let made = goal.F-post g c.args.make in
+    let lent = c.insert.follows in
+    let place = c.in-Vacant.entry in
+    let wants = g.Q.KeyForm.stands_for place.form in
+    let held = get_by wants place.map.now in
+    rw c.in-Vacant.is (
+      (
+        refl,
+        λ value is. puts_new g.K.PartialEq.eq place.map.now wants value (lent.lender value) place.absent (lent.holds value is),
+        lent.holds-at-none,
+      ),
+      record {
+        writes_back = tt;
+        value = lent_new made c.make.result c.make.ensures held place.absent c.insert.result c.insert.ensures.value;
+        refused = back_new made c.make.result c.make.ensures held place.absent c.insert.result c.insert.ensures.value_returned;
+      },
+    )
