@@ -1,10 +1,10 @@
 -- What a map ends as, where a value of it was lent for writing.
-use Rattle.std.specs.Prelude.{◌≡◌, Bool, true, Option, None, Result, IfNone, IfSome, MatchOption}
+use Rattle.std.specs.Prelude.{◌≡◌, Bool, true, Option, Some, None, Result, IfNone, IfSome, MatchOption}
 use Rattle.std.specs.Borrow.{Fml, LendsSo, LendsSoOk, MutBor, RattleType}
 use Rattle.std.specs.declared.cmp.PartialEq as equals
 use Rattle.bucket_table.specs.declared.key_hash.KeyHash as key_hash
 use Rattle.collections.specs.Maps.{MapView, get, get_by}
-use Rattle.collections.specs.Changes.{Adds, Replaces, Stays}
+use Rattle.collections.specs.Changes.{Adds, Replaces, Stays, Updates}
 use Rattle.collections.specs.Crowding.{LacksRoom}
 use Rattle.collections.specs.contracts.hash_map.HashMap.{the_row}
 
@@ -15,12 +15,16 @@ Puts {K} {V} {H} eq old key value new =
 
 module _ {K V H : Type 0} (eq : K → K → Bool) (old : MapView K V H) (wants : K → Bool) (value : V) (new : MapView K V H) where
   -- a pair more, whose key is one that is wanted
-  abbrev pub AddsWanted : Type 0
-  AddsWanted = (key : K) × (wants key ≡ true) × Adds eq old key value new
+  pub record AddsWanted : Type 0 where
+    pub key : K
+    pub same : wants key ≡ true
+    pub adds : Adds eq old key value new
+    pub updates : Updates eq old wants (Some value) new
 
   -- the value stands under a key that is wanted: a pair more, or beside the key that is there
-  abbrev pub PutsWanted : Type 0
-  PutsWanted = MatchOption (get_by wants old) AddsWanted (λ before. (own : K) × Replaces eq old wants (own, before) value new)
+  pub record PutsWanted : Type 0 where
+    pub cases : MatchOption (get_by wants old) AddsWanted (λ before. (own : K) × Replaces eq old wants (own, before) value new)
+    pub updates : Updates eq old wants (Some value) new
 
 module _ (K V H : RattleType) (equal : equals.Ghosts K.Denot) (hashing : key_hash.Ghosts H.Denot K.Denot)
     (map : MutBor (MapView K.Denot V.Denot H.Denot)) where

@@ -1,8 +1,7 @@
 use Rattle.std.proofs.Common.{◌≡◌, Option, ap, refl, subst, sym}
 use Rattle.std.specs.Prelude.{IfOk, unwrap_or}
 use Rattle.collections.specs.Maps.{get_by}
-use Rattle.collections.proofs.Entries.{puts_there}
-use Rattle.collections.proofs.EntryMaking.{back_new, puts_new}
+use Rattle.collections.proofs.EntryMaking.{back_new, puts_new, puts_over}
 use Rattle.collections.proofs.hash_map.entry.by_form.EntryRef.or_insert.Goals as goal
 
 pub returns-in-Some : goal.returns-in-Some
@@ -12,8 +11,8 @@ returns-in-Some g c =
     rw c.in-Occupied.is (
       (
         refl,
-        λ value is. puts_there g.K.PartialEq.eq place.map.now (lent.lender value) (g.Q.KeyForm.stands_for place.form)
-            c.into_mut.result c.in-Some.value value c.in-Some.is (lent.holds value) _,
+        λ value is. puts_over g.K.PartialEq.eq place.map.now (g.Q.KeyForm.stands_for place.form) value (lent.lender value)
+            c.into_mut.result c.in-Some.value c.in-Some.is (lent.holds value),
         tt,
       ),
       record { writes_back = tt; value = ap (λ held. unwrap_or held c.args.default) c.in-Some.ensures.value; refused = tt },
