@@ -1,7 +1,8 @@
 -- Maps that count the keys of a list.
-use Rattle.std.specs.Prelude.{ℕ, ◌≡◌, ◌==◌, Bool, if◌then◌else◌, List, take, Option, Some, None}
+use Rattle.std.specs.Prelude.{ℕ, ◌≡◌, ◌==◌, ◌+◌, ◌-◌, ◌^◌, Bool, if◌then◌else◌, List, take, Option, Some, None, min, unwrap_or}
 use Rattle.std.specs.List.{count_by}
-use Rattle.collections.specs.Maps.{MapView, get}
+use Rattle.collections.specs.Changes.{Updates}
+use Rattle.collections.specs.Maps.{MapView, get, get_by}
 
 -- a number, where there is something to count
 abbrev pub unless_zero : ℕ → Option ℕ
@@ -15,3 +16,7 @@ module _ {K H : Type 0} (eq : K → K → Bool) where
   -- the map counts the first keys of the list, up to some place
   abbrev pub CountsFirst : List K → MapView K ℕ H → Type 0
   CountsFirst keys counts = (place : ℕ) × Counts (take place keys) counts
+
+  -- the key that is wanted is counted once more, 0 where the map hasn't it, and each other key has what it had
+  abbrev pub CountsOneMore : (K → Bool) → MapView K ℕ H → MapView K ℕ H → Type 0
+  CountsOneMore wants old new = Updates eq old wants (Some (min (unwrap_or (get_by wants old) 0 + 1) (2 ^ 64 - 1))) new

@@ -8,7 +8,9 @@ mod counting;
 pub mod ledger;
 mod retiring;
 mod sessions;
+mod words;
 
 pub use counting::count_keys;
 pub use retiring::retire_keys;
 pub use sessions::session_for;
+pub use words::count_word;
