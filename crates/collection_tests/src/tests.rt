@@ -17,6 +17,7 @@ mod hashers;
 mod indexes;
 mod iterating;
 mod lru_caches;
+mod made_keys;
 mod map_stories;
 mod maps;
 mod marks;

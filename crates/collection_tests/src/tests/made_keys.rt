@@ -1,0 +1,200 @@
+//! Stories of the places of words whose keys the map makes, where it hasn't the words.
+use super::forms::owned;
+use super::{At, check_same, steps};
+use Step::*;
+use collections::hash_map::HashMap;
+use collections::hash_map::entry::EntryRef;
+use collections::{KeyForm, StdHash, ToKey};
+use std::alloc::{AllocError, Global};
+use std::hash::BuildHasher;
+use std::process::Abort;
+use std::test::Fail;
+
+/// A map from words to numbers.
+type Words = HashMap<String, u64>;
+
+/// A text of which no word can be made, as where there is no memory for it.
+#[derive(Clone, Copy)]
+struct Unmade {
+    text: &'static str,
+}
+
+/// It stands for the words that have its bytes.
+impl<S: BuildHasher> KeyForm<String, StdHash<S>> for Unmade {
+    ghost use Rattle.std.specs.Prelude.{string_bytes};
+    ghost use Rattle.std.specs.Str.{bytes_eq};
+    ghost use Rattle.std.specs.Cmp.Lexicographic.{nat_list_eq_equiv};
+
+    ghost stands_for = { λ form key. bytes_eq form.text.now (string_bytes key) };
+
+    fn stands_for(&self, key: &String) -> bool {
+        self.text == key.as_str()
+    }
+
+    fn hash_by(&self, hasher: &StdHash<S>) -> u64 {
+        KeyForm::<String, StdHash<S>>::hash_by(&self.text, hasher)
+    }
+
+    ghost alike = { λ form key other. nat_list_eq_equiv.congr form.text.now (string_bytes key) (string_bytes other) };
+}
+
+impl<S: BuildHasher> ToKey<String, StdHash<S>> for Unmade {
+    fn to_key(self, _alloc: Global) -> Result<String, AllocError> {
+        Err(AllocError)
+    }
+}
+
+/// What is done at a word's place, by its text if nothing else is said.
+enum Step {
+    /// `or_insert` puts a number where the word isn't. Then one is added: this comes out.
+    Adds(&'static str, u64, u64),
+    /// The same by another word that is equal.
+    AddsEqual(&'static str, u64, u64),
+    /// The same by a text of which no word can be made: the number comes back where the word isn't.
+    Finds(&'static str, u64, Result<u64, u64>),
+    /// The same by `or_insert_with`, and whether its function was called.
+    Makes(&'static str, u64, (bool, u64)),
+    /// The same by `or_default`.
+    Starts(&'static str, u64),
+    /// A number is put where the place is vacant: whether it was.
+    Fills(&'static str, u64, bool),
+    /// The number of the word that is taken out.
+    Takes(&'static str, Option<u64>),
+    /// The number of a word.
+    Holds(&'static str, Option<u64>),
+    /// How many words there are.
+    Len(usize),
+}
+
+const STEPS: &[Step] = steps! {
+    Finds("Ann", 3, Err(3)), Len(0), Adds("Ann", 3, 4), Adds("Ann", 3, 5), Finds("Ann", 9, Ok(6)),
+    Finds("An", 9, Err(9)), Len(1), Makes("Ann", 1, (false, 7)), Makes("Bob", 1, (true, 2)),
+    Starts("", 1), Starts("", 2), Fills("Bob", 8, false), Fills("An", 8, true), Len(4),
+    Holds("Ann", Some(7)), Holds("Bob", Some(2)), Holds("", Some(2)), Holds("An", Some(8)),
+    AddsEqual("Ann", 9, 8), AddsEqual("ann", 9, 10), Len(5), Takes("Ann", Some(8)),
+    Finds("Ann", 9, Err(9)), Holds("Ann", None), Adds("Ann", 0, 1), Len(5)
+};
+
+#[test]
+fn keys_are_made_of_texts_where_words_are_new(rt: HostRuntime) -> Result<(), Fail> {
+    play(&rt, rt.alloc(), &mut HashMap::new(rt.alloc()));
+    Ok(())
+}
+
+// Takes the steps.
+fn play(rt: &impl Abort, alloc: Global, words: &mut Words) {
+    for (row, step) in STEPS.iter().enumerate() {
+        take(rt, alloc, words, ("words", row), step);
+    }
+}
+
+// Takes a step, and compares what comes out.
+fn take(rt: &impl Abort, alloc: Global, words: &mut Words, at: At, step: &Step) {
+    match *step {
+        Adds(word, number, after) => {
+            check_same(rt, add(alloc, words, word, number), Ok(after), at);
+        }
+        AddsEqual(word, number, after) => {
+            check_same(rt, add_equal(alloc, words, word, number), Ok(after), at);
+        }
+        Finds(word, number, after) => check_same(rt, find(alloc, words, word, number), after, at),
+        Makes(word, number, after) => {
+            check_same(rt, make(alloc, words, word, number), Some(after), at);
+        }
+        Starts(word, after) => check_same(rt, start(alloc, words, word), Some(after), at),
+        Fills(word, number, vacant) => {
+            check_same(rt, fill(alloc, words, word, number), vacant, at);
+        }
+        Takes(word, number) => {
+            check_same(rt, words.remove(word).map(|pair| pair.1), number, at);
+        }
+        Holds(word, number) => check_same(rt, words.get(word).copied(), number, at),
+        Len(count) => check_same(rt, words.len(), count, at),
+    }
+}
+
+// Adds one to the number of a word, or to this one where the word is new.
+fn add(alloc: Global, words: &mut Words, word: &str, number: u64) -> Result<u64, u64> {
+    match words.entry_ref(word).or_insert(number, alloc) {
+        Ok(held) => Ok(raise(held)),
+        Err(back) => Err(back.value),
+    }
+}
+
+// The same by another word that is equal.
+fn add_equal(alloc: Global, words: &mut Words, word: &str, number: u64) -> Result<u64, u64> {
+    let word = owned(alloc, word);
+    match words.entry_ref(&word).or_insert(number, alloc) {
+        Ok(held) => Ok(raise(held)),
+        Err(back) => Err(back.value),
+    }
+}
+
+// The same where no word can be made.
+fn find(alloc: Global, words: &mut Words, word: &'static str, number: u64) -> Result<u64, u64> {
+    match words
+        .entry_ref(Unmade { text: word })
+        .or_insert(number, alloc)
+    {
+        Ok(held) => Ok(raise(held)),
+        Err(back) => Err(back.value),
+    }
+}
+
+// The same of a number that is made where the word is new, and whether it was.
+fn make(alloc: Global, words: &mut Words, word: &str, number: u64) -> Option<(bool, u64)> {
+    let mut was_called = false;
+    let place = words.entry_ref(word);
+    let lent = place.or_insert_with(
+        || {
+            was_called = true;
+            number
+        },
+        alloc,
+    );
+    match lent {
+        Ok(held) => Some((was_called, raise(held))),
+        Err(_) => None,
+    }
+}
+
+// The same of 0 where the word is new.
+fn start(alloc: Global, words: &mut Words, word: &str) -> Option<u64> {
+    match words.entry_ref(word).or_default(alloc) {
+        Ok(held) => Some(raise(held)),
+        Err(_) => None,
+    }
+}
+
+// Adds one, and returns what comes out.
+fn raise(held: &mut u64) -> u64 {
+    *held = held.wrapping_add(1);
+    *held
+}
+
+// Puts a number where the word is new, and returns whether it was.
+fn fill(alloc: Global, words: &mut Words, word: &str, number: u64) -> bool {
+    match words.entry_ref(word) {
+        EntryRef::Vacant(place) => place.insert(number, alloc).is_ok(),
+        EntryRef::Occupied(_) => false,
+    }
+}
+
+#[test]
+fn keys_are_made_of_slices_where_lists_are_new(rt: HostRuntime) -> Result<(), Fail> {
+    let mut lists: HashMap<Vec<u64>, u64> = HashMap::new(rt.alloc());
+    let rows: [(&[u64], u64); 6] = [
+        (&[1, 2], 1),
+        (&[1], 1),
+        (&[1, 2], 2),
+        (&[], 1),
+        (&[2, 1], 1),
+        (&[], 2),
+    ];
+    for (list, after) in rows {
+        let count = lists.entry_ref(list).or_insert(0, rt.alloc())?;
+        check_same(&rt, raise(count), after, list);
+    }
+    check_same(&rt, lists.len(), 4, "lists");
+    Ok(())
+}
