@@ -1,6 +1,6 @@
 //! The call that makes an entry by a form, and the calls of such entries of either kind.
 ghost use Rattle.std.specs.Prelude.{◌≡◌, None, IfErr, IfOk, MatchOption, unwrap_or};
-ghost use Rattle.std.specs.Borrow.{sem};
+ghost use Rattle.std.specs.Borrow.{MutBor, sem};
 ghost use Rattle.collections.specs.Maps.{contains_by, get_by};
 
 use crate::hash_map::HashMap;
@@ -36,6 +36,31 @@ impl<K: Eq, V, H: KeyHash<K>> HashMap<K, V, H> {
                 form: key,
                 hash,
             })
+        }
+    }
+}
+
+impl<'a, K: Eq + Drop, V: Drop, H: KeyHash<K>, Q: KeyForm<K, H>> EntryRef<'a, K, V, H, Q> {
+    ghost use Rattle.collections.specs.EntryRefs.{ModifiesRef, is_ref_occupied, ref_form, ref_map};
+
+    /// Hands the value under the key to a function, for writing, where the map has one of the keys;
+    /// else the function isn't called. Returns the entry.
+    ///
+    /// Never refused. O(1) expected. hashbrown: `EntryRef::and_modify`.
+    pub fn and_modify<F: FnOnce(&mut V)>(self, change: F) -> EntryRef<'a, K, V, H, Q>
+        requires callable { (value : MutBor V) → F.pre change value }
+        ensures same_map { (ref_map result).ghost_name ≡ (ref_map self.entry).ghost_name }
+        ensures same_form { ref_form result ≡ ref_form self.entry }
+        ensures same_kind { is_ref_occupied result ≡ is_ref_occupied self.entry }
+        ensures modified { ModifiesRef K.eq Q.stands_for (λ before after. F.post change before tt after)
+            self.entry (ref_map result).now }
+    {
+        match self {
+            EntryRef::Occupied(mut entry) => {
+                entry.update(change);
+                EntryRef::Occupied(entry)
+            }
+            EntryRef::Vacant(entry) => EntryRef::Vacant(entry),
         }
     }
 }
