@@ -47,7 +47,7 @@ module _ {K V : Type 0} (P : V → Type 0) (held : Option V) (none : held ≡ No
   back_vacant key (Err refused) back = (back.0, back.1, none)
 
 module _ {V : Type 0} (P : V → Type 0) (value : V) (made : P value) (held : Option V) (none : held ≡ None) where
-  -- where nothing was there, what is lent is what was made, and was put under a key that was made too
+  -- where nothing was there, what is lent is what was made
   pub lent_new : (r : Result (MutBor V) (AllocFailed V)) → IfOk r (λ lent. lent.now ≡ value)
       → IfOk r (λ lent. MatchOption held (P lent.now) (λ v. lent.now ≡ v))
   lent_new (Ok lent) is =

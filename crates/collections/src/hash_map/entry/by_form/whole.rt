@@ -52,8 +52,8 @@ impl<'a, K: Eq + Drop, V: Drop, H: KeyHash<K>, Q: KeyForm<K, H>> EntryRef<'a, K,
         ensures same_map { (ref_map result).ghost_name ≡ (ref_map self.entry).ghost_name }
         ensures same_form { ref_form result ≡ ref_form self.entry }
         ensures same_kind { is_ref_occupied result ≡ is_ref_occupied self.entry }
-        ensures modified { ModifiesRef K.eq Q.stands_for (λ before after. F.post change before tt after)
-            self.entry (ref_map result).now }
+        ensures modified { ModifiesRef K.eq Q.stands_for
+            (λ before after. F.post change before tt after) self.entry (ref_map result).now }
     {
         match self {
             EntryRef::Occupied(mut entry) => {
@@ -69,15 +69,15 @@ impl<'a, K: Eq + Drop, V: Drop, H: KeyHash<K>, Q: ToKey<K, H>> EntryRef<'a, K, V
     ghost use Rattle.collections.specs.EntryRefs.{ref_form, ref_map};
     ghost use Rattle.collections.specs.Loans.{LendsPutWanted};
 
-    /// Lends the value under the key for writing; where the map hasn't one of the keys, it makes one
+    /// Lends the value under the key for writing; where the map has none of the keys, it makes one
     /// of the form and inserts it with the default first. Once the loan ends, the key has the value
-    /// last written, and each other key what it had. Where the map has one no key is made, and it is
-    /// never refused.
+    /// last written, and each other key what it had. Where the map has one no key is made, and it
+    /// is never refused.
     ///
     /// # Errors
     ///
-    /// The map has none of the keys, and none could be made, or allocation failed: the default comes
-    /// back, and the map has the pairs that it had.
+    /// The map has none of the keys, and none could be made, or allocation failed: the default
+    /// comes back, and the map has the pairs that it had.
     ///
     /// O(1) expected, beside the key and a resize. hashbrown: `EntryRef::or_insert`.
     pub fn or_insert(self, default: V, alloc: Global) -> Result<&'a mut V, AllocFailed<V>>
@@ -98,7 +98,7 @@ impl<'a, K: Eq + Drop, V: Drop, H: KeyHash<K>, Q: ToKey<K, H>> EntryRef<'a, K, V
         }
     }
 
-    /// Lends the value under the key for writing; where the map hasn't one of the keys, it makes one
+    /// Lends the value under the key for writing; where the map has none of the keys, it makes one
     /// of the form and inserts it with what the function makes first. Once the loan ends, the key
     /// has the value last written, and each other key what it had. Where the map has one no key is
     /// made, the function isn't called, and it is never refused.
@@ -133,15 +133,15 @@ impl<'a, K: Eq + Drop, V: Drop, H: KeyHash<K>, Q: ToKey<K, H>> EntryRef<'a, K, V
         }
     }
 
-    /// Lends the value under the key for writing; where the map hasn't one of the keys, it makes one
+    /// Lends the value under the key for writing; where the map has none of the keys, it makes one
     /// of the form and inserts it with the default of values first. Once the loan ends, the key has
-    /// the value last written, and each other key what it had. Where the map has one no key is made,
-    /// and it is never refused.
+    /// the value last written, and each other key what it had. Where the map has one no key is
+    /// made, and it is never refused.
     ///
     /// # Errors
     ///
-    /// The map has none of the keys, and none could be made, or allocation failed: the default comes
-    /// back, and the map has the pairs that it had.
+    /// The map has none of the keys, and none could be made, or allocation failed: the default
+    /// comes back, and the map has the pairs that it had.
     ///
     /// O(1) expected, beside the key and a resize. hashbrown: `EntryRef::or_default`.
     pub fn or_default(self, alloc: Global) -> Result<&'a mut V, AllocFailed<V>>
