@@ -1,14 +1,13 @@
 -- A value of a map that was lent, or was made and lent.
-use Rattle.std.proofs.Common.{Bool, cond, true, Option, Some, None, Result, Ok, Err, ◌≡◌, ◌∙◌, refl, sym, ap, subst}
+use Rattle.std.proofs.Common.{Bool, Option, Some, None, Result, Ok, Err, ◌≡◌, refl, sym, ap, subst}
 use Rattle.std.specs.Borrow.{MutBor}
 use Rattle.std.specs.Option.{IfSome, MatchOption}
 use Rattle.std.specs.Prelude.{IfErr, IfOk}
 use Rattle.std.specs.declared.alloc.AllocFailed.{AllocFailed}
-use Rattle.collections.specs.Changes.{Adds, Replaces}
+use Rattle.collections.specs.Changes.{Replaces}
 use Rattle.collections.specs.Loans.{AddsWanted, PutsWanted}
-use Rattle.collections.specs.Maps.{MapView, get, get_by}
+use Rattle.collections.specs.Maps.{MapView, get_by}
 use Rattle.collections.proofs.Entries.{puts_there, replaces_there}
-use Rattle.collections.proofs.Lookups.{IsForm}
 
 -- what is lent is what was there
 pub same_as_held : {V : Type 0} (Q : Type 0) (held : Option V) (value : V) → Some value ≡ held → MatchOption held Q (λ v. value ≡ v)
@@ -61,16 +60,7 @@ module _ {V : Type 0} (P : V → Type 0) (value : V) (made : P value) (held : Op
   back_new (Err back) is = (subst P (sym is) made, none)
 
 module _ {K V H : Type 0} (eq : K → K → Bool) (old : MapView K V H) (wants : K → Bool) (value : V) (new : MapView K V H) where
-  -- a pair more, whose key a form stands for
-  pub adds_wanted : (key : K) → IsForm eq wants → wants key ≡ true → Adds eq old key value new → AddsWanted eq old wants value new
-  adds_wanted key alike same adds = record {
-    key = key;
-    same = same;
-    adds = adds;
-    updates = λ other. adds.updates other ∙ ap (λ b. cond b (Some value) (get eq old other)) (sym (alike key other same));
-  }
-
-  -- where none of the keys was there, that puts the value
+  -- a pair more, where none of the keys was there, puts the value
   pub puts_new : get_by wants old ≡ None → AddsWanted eq old wants value new → PutsWanted eq old wants value new
   puts_new none adds = record { cases = rw none adds; updates = adds.updates }
 
