@@ -8,3 +8,4 @@ pub mod Lent
 pub mod SideChanges
 pub mod LockedLaw
 pub mod LockedValues
+pub mod Truncated

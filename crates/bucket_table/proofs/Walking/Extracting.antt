@@ -73,7 +73,7 @@ module _ {S K V : Type 0} (step : S → Bor K → MutBor V → Bool → MutBor V
       (from to : Place)
       → IsExtracting first old state (record { arrays = a; left = pairs_behind a from_side from_index from })
       → pairs_behind a from_side from_index from ≡ [] → pairs_behind a side index to ≡ []
-      → Extracts step first old None (record { arrays = a; left = pairs_behind a side index to }) state
+      → Extracts (AsksPair step) first old None (record { arrays = a; left = pairs_behind a side index to }) state
   picks_none first state old a from_side side from_index index from to amid none end = rw end (record {
     kept = amid.kept;
     asked = subst (λ kept. ExtractsNext (AsksPair step) first old.left None state kept []) (append-nil amid.kept)
@@ -156,7 +156,7 @@ module _ {S K V : Type 0} (step : S → Bor K → MutBor V → Bool → MutBor V
 
       -- or it is picked
       pub picks : (pair : K × V) → ExtractsAt step state m.moves.pair a side index at (Some pair) new to last
-          → Extracts step first old (Some pair) (record { arrays = new; left = pairs_behind new side index to }) last
+          → Extracts (AsksPair step) first old (Some pair) (record { arrays = new; left = pairs_behind new side index to }) last
       picks pair e =
           let by = picked_by e.slot.answer e.slot.later pair e.slot.picks in
           let call : AsksPair step state m.moves.pair true last pair =

@@ -42,11 +42,11 @@ pub record KeepsShape {K V : Type 0} (old new : ArraysView K V) : Type 0 where
   pub linked_len : length new.linked ≡ length old.linked
 
 -- a function is asked of the pairs that are left, in turn, up to the first that it picks, which is taken out; those that it refused stay in
--- their order with the values last written, and no other pair changes
-pub record Extracts {S K V : Type 0} (step : S → Bor K → MutBor V → Bool → MutBor V → S → Type 0) (first : S)
-    (old : ExtractView K V) (picked : Option (K × V)) (new : ExtractView K V) (last : S) : Type 0 where
+-- their order, as it left them, and no other pair changes
+pub record Extracts {S K V : Type 0} (asks : S → K × V → Bool → S → K × V → Type 0) (first : S) (old : ExtractView K V)
+    (picked : Option (K × V)) (new : ExtractView K V) (last : S) : Type 0 where
   pub kept : List (K × V)
-  pub asked : ExtractsNext (AsksPair step) first old.left picked last kept new.left
+  pub asked : ExtractsNext asks first old.left picked last kept new.left
   pub stay : (front : List (K × V)) → pairs_of old.arrays ≡ front ++ old.left → pairs_of new.arrays ≡ front ++ (kept ++ new.left)
   pub one_map : (eq : K → K → Bool) → IsEquivalence eq → (hash : K → ℕ) → IsOneMap eq hash old.arrays → IsOneMap eq hash new.arrays
   pub others : KeepsShape old.arrays new.arrays

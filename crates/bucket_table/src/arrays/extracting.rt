@@ -6,7 +6,7 @@ ghost use Rattle.bucket_table.specs.Rehash.State.{first_tickets};
 ghost use Rattle.bucket_table.specs.Views.ArraysView.{pairs_of};
 ghost use Rattle.bucket_table.specs.Views.Sides.{bucket_on, buckets_on};
 ghost use Rattle.bucket_table.specs.Walking.Drains.{FreesSlots};
-ghost use Rattle.bucket_table.specs.Walking.Extracting.{Extracts, ExtractsAt, ExtractsSlot, MovesBehind};
+ghost use Rattle.bucket_table.specs.Walking.Extracting.{AsksPair, Extracts, ExtractsAt, ExtractsSlot, MovesBehind};
 ghost use Rattle.bucket_table.specs.Walking.Extracting.{MovesPast, pairs_behind, pairs_past};
 
 use super::{Arrays, Side};
@@ -43,7 +43,7 @@ impl<K: Drop, V: Drop, L: LruList, const TYPE: u8> TableExtract<K, V, L, TYPE> {
         requires callable { F.IsAlwaysCallable pick.old }
         ensures again { F.IsAlwaysCallable pick.new }
         ensures extracted { Extracts
-            (λ state own before answer after last. F.step state own before answer after last)
+            (AsksPair (λ state own before answer after last. F.step state own before answer after last))
             pick.old self.old result self.new pick.new }
     {
         'slots: while advance(&self.arrays, &mut self.side, &mut self.index, &mut self.at) {
@@ -54,12 +54,14 @@ impl<K: Drop, V: Drop, L: LruList, const TYPE: u8> TableExtract<K, V, L, TYPE> {
         }
         None
     }
+}
 
-    /// Returns the arrays.
-    pub(crate) fn into_arrays(self) -> Arrays<K, V, L, TYPE>
-        ensures { result ≡ self.arrays }
+impl<K, V, L: LruList, const TYPE: u8> TableExtract<K, V, L, TYPE> {
+    /// Changes its arrays for others; which pairs are left is of no use then.
+    pub(crate) fn swap_arrays(&mut self, arrays: &mut Arrays<K, V, L, TYPE>)
+        ensures there { arrays.new ≡ self.old.arrays }
     {
-        self.arrays
+        mem::swap(&mut self.arrays, arrays);
     }
 }
 

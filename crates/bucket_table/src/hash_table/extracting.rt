@@ -24,23 +24,15 @@ impl<K: Eq, V, H: KeyHash<K>, L: LruList, const TYPE: u8> HashTable<K, V, H, L, 
     {
         self.arrays.extract()
     }
-}
 
-impl<K: Eq + Drop, V: Drop, H: KeyHash<K>, L: LruList + Drop, const TYPE: u8> HashTable<
-    K,
-    V,
-    H,
-    L,
-    TYPE,
-> {
-    /// Puts arrays back that were taken out, with their tickets and capacities; what the table has
-    /// is dropped.
+    /// Puts arrays back that were taken out, with their tickets and capacities, and takes out what
+    /// the table has.
     ///
-    /// Takes no memory, and is never refused. O(1), and what is dropped. Own.
-    pub fn restore(&mut self, taken: TableExtract<K, V, L, TYPE>)
-        requires one_map { IsOneMap K.eq (H.hash_of self.old.hasher) taken.arrays }
-        ensures { self.new ≡ record self.old { arrays = taken.arrays } }
+    /// Takes no memory, and is never refused. O(1). Own.
+    pub fn restore(&mut self, taken: &mut TableExtract<K, V, L, TYPE>)
+        requires one_map { ∥ IsOneMap K.eq (H.hash_of self.old.hasher) taken.old.arrays ∥₁ }
+        ensures { self.new ≡ record self.old { arrays = taken.old.arrays } }
     {
-        self.arrays = taken.into_arrays();
+        taken.swap_arrays(&mut self.arrays);
     }
 }
