@@ -12,6 +12,7 @@ mod entries;
 mod entries_by_text;
 mod equality;
 mod extending;
+mod extracting;
 mod forms;
 mod hashers;
 mod indexes;

@@ -30,3 +30,4 @@ pub mod SetSteps
 pub mod Removals
 pub mod EntryMaking
 pub mod Capacity
+pub mod Picking

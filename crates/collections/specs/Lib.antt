@@ -23,3 +23,4 @@ pub mod Removals
 pub mod SetChanges
 pub mod Collecting
 pub mod Capacity
+pub mod Extracting

@@ -10,6 +10,7 @@
 
 mod default_hash;
 mod draining;
+mod extracting;
 pub mod hash_cache;
 pub mod hash_index;
 pub mod hash_map;

@@ -1,0 +1,101 @@
+//! The keys of a set that a function picks, taken out one after the other.
+ghost use Rattle.std.specs.Prelude.{◌≡◌, length};
+ghost use Rattle.std.specs.Fn.{CalledAt};
+ghost use Rattle.std.specs.Iterator.{at_most};
+ghost use Rattle.std.specs.Map.{keys_of};
+ghost use Rattle.bucket_table.specs.Views.ArraysView.{IsOneMap};
+ghost use Rattle.bucket_table.specs.Walking.Extracting.{Extracts};
+ghost use Rattle.collections.specs.Extracting.{AsksKey};
+ghost use Rattle.collections.specs.Maps.{IsUnique, map_of};
+
+use crate::extracting::{Extraction, PutBack};
+use crate::hash_map::HashMap;
+use crate::hash_set::HashSet;
+use bucket_slots::bucket::MAP;
+use bucket_table::hash_table::TableExtract;
+use bucket_table::key_hash::KeyHash;
+use std::iter::FusedIterator;
+
+/// The keys of a set that a function picks, as it is asked for them. What it isn't asked for stays
+/// in the set. std: `hash_set::ExtractIf`.
+pub type ExtractIf<'a, K, H, F> = Extraction<'a, HashSet<K, H>, F, TableExtract<K, (), (), MAP>>;
+
+impl<K: Eq, H: KeyHash<K>> HashSet<K, H> {
+    ghost use Rattle.collections.specs.Extracting.{extract_left, extract_map};
+
+    /// Hands out the keys for which a function answers `true`, one after the other, in the order of
+    /// the view: as the iterator goes on it asks of each key once, and takes out the first that is
+    /// picked. Where the iterator is dropped half-way, what it wasn't asked for stays.
+    ///
+    /// The slots stay, and the iterator holds the arrays, as in `HashMap::extract_if`.
+    ///
+    /// Never refused, and takes no memory. O(1); all steps together O(slots), and the function's
+    /// calls. std: `HashSet::extract_if`.
+    pub fn extract_if<F: FnMut(&K) -> bool>(&mut self, test: F) -> ExtractIf<'_, K, H, F>
+        requires callable { F.IsAlwaysCallable test }
+        ensures same_set { result.from.ghost_name ≡ self.entry.ghost_name }
+        ensures unchanged { extract_map result ≡ self.old }
+        ensures left { keys_of (extract_left result) ≡ keys_of self.old.entries }
+        ensures test { result.test ≡ test }
+        ensures unique { IsUnique K.eq self.old }
+    {
+        let taken = self.map.take_arrays();
+        Extraction {
+            from: self,
+            taken,
+            test,
+        }
+    }
+}
+
+impl<K: Eq, H: KeyHash<K>> PutBack<HashSet<K, H>> for TableExtract<K, (), (), MAP> {
+    ghost fits = { λ set taken. IsOneMap K.eq (H.hash_of set.hasher) taken.arrays };
+
+    ghost after = { λ set taken. map_of (record { hasher = set.hasher; arrays = taken.arrays }) };
+
+    fn put_back(&mut self, to: &mut HashSet<K, H>) {
+        PutBack::<HashMap<K, (), H>>::put_back(self, &mut to.map);
+    }
+}
+
+impl<'a, K: Eq + Drop, H: KeyHash<K>, F: FnMut(&K) -> bool> Iterator
+    for Extraction<'a, HashSet<K, H>, F, TableExtract<K, (), (), MAP>> {
+    ghost use Rattle.collections.specs.Extracting.{ExtractsKeyIf, extract_left};
+
+    type Item = K;
+
+    ghost can_next = { λ it. F.IsAlwaysCallable it.test };
+
+    ghost next_gives = { ExtractsKeyIf K.eq F.FnMut };
+
+    ghost remaining = { λ it. at_most (length (extract_left it)) };
+
+    fn next(&mut self) -> Option<K> {
+        match next_key(&mut self.taken, &mut self.test) {
+            Some((key, _)) => Some(key),
+            None => None,
+        }
+    }
+}
+
+impl<'a, K: Eq + Drop, H: KeyHash<K>, F: Drop> FusedIterator
+    for Extraction<'a, HashSet<K, H>, F, TableExtract<K, (), (), MAP>>
+where
+    Extraction<'a, HashSet<K, H>, F, TableExtract<K, (), (), MAP>>: Iterator,
+{}
+
+/// Takes out the next key that a function picks.
+fn next_key<K: Drop, F: FnMut(&K) -> bool>(
+    taken: &mut TableExtract<K, (), (), MAP>,
+    test: &mut F,
+) -> Option<(K, ())>
+    requires callable { F.IsAlwaysCallable test.old }
+    ensures again { F.IsAlwaysCallable test.new }
+    ensures extracted { Extracts (AsksKey F.FnMut) test.old taken.old result taken.new test.new }
+{
+    let mut pick = |key: &K, _value: &mut ()|
+        requires { F.IsAlwaysCallable test.now }
+        ensures { CalledAt F.FnMut test.entry.now key.now result test.exit.now }
+    { test(key) };
+    taken.extract_next(&mut pick)
+}
