@@ -1,12 +1,13 @@
 -- Look-ups in a list of pairs whose keys are distinct, and what changes of the list do to them.
 use Rattle.std.proofs.Common.{zero, suc, ◌≡◌, inl, inr, Bool, true, false, cond, Option, Some, None, List, [], ◌∷◌, length, refl, sym, ap}
-use Rattle.std.proofs.Common.{◌∙◌, arith}
+use Rattle.std.proofs.Common.{◌++◌, ◌∙◌, ◌⊎◌, ⊎_elim, arith}
 use Rattle.std.specs.Cmp.{IsEquivalence}
 use Rattle.std.specs.List.{All, Contains, IsDistinct}
 use Rattle.std.specs.List.Sorted.{IsPermutation}
 use Rattle.std.specs.Map.{keys_of, lookup}
 use Rattle.std.proofs.lemmas.Bool.{cases_Bool}
-use Rattle.std.proofs.lemmas.List.Sorted.{All-permutation, Contains-permutation, IsPermutation-map, IsPermutation-sym}
+use Rattle.std.proofs.lemmas.List.Sorted.{All-permutation, Contains-permutation, IsPermutation-append_comm, IsPermutation-map}
+use Rattle.std.proofs.lemmas.List.Sorted.{IsPermutation-sym, IsPermutation-trans}
 use Rattle.std.proofs.lemmas.Map.{lookup-none}
 use Rattle.std.proofs.lemmas.Map.Entries.{lookup_head, lookup_tail, none_past_head, place_from_lookup, lookup_from_place}
 use Rattle.std.proofs.lemmas.Map.Keys.{IsDistinct-IsPermutation}
@@ -194,3 +195,18 @@ module _ {K V : Type 0} (eq : K → K → Bool) (laws : IsEquivalence eq) (test 
   form_changed q p v rest xs ys distinct before after passes =
       lookup_changed eq laws p.0 q p v rest xs ys distinct before after (laws.refl p.0)
       ∙ ap (λ (b : Bool). cond b (Some v) (lookup (eq q) xs)) (sym (alike p.0 q passes))
+
+-- a look-up finds what it finds where more pairs come behind, or nothing
+found_first : {K V : Type 0} (test : K → Bool) (xs ys : List (K × V)) → (lookup test xs ≡ lookup test (xs ++ ys)) ⊎ (lookup test xs ≡ None)
+found_first test [] ys = inr refl
+found_first test (p ∷ xs) ys = elim (cases_Bool (test p.0)) [
+  | inl hit ↦ inl (rw hit refl)
+  | inr miss ↦ ⊎_elim (λ same. inl (rw miss same)) (λ none. inr (rw miss none)) (found_first test xs ys)
+]
+
+-- where pairs are gone, each key has the value that it had, or none
+pub kept_or_gone : {K V : Type 0} (eq : K → K → Bool) (laws : IsEquivalence eq) (old gone new : List (K × V)) → IsDistinct eq (keys_of old)
+    → IsPermutation old (gone ++ new) → (key : K) → (lookup (eq key) new ≡ lookup (eq key) old) ⊎ (lookup (eq key) new ≡ None)
+kept_or_gone eq laws old gone new distinct parts key =
+    let turned = IsPermutation-trans old (gone ++ new) (new ++ gone) parts (IsPermutation-append_comm gone new) in
+    rw (← lookup_permuted eq laws key old (new ++ gone) distinct turned) (found_first (eq key) new gone)

@@ -24,3 +24,4 @@ pub mod SetChanges
 pub mod Collecting
 pub mod Capacity
 pub mod Extracting
+pub mod Resizing

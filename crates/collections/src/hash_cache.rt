@@ -22,12 +22,13 @@ mod draining;
 mod iterating;
 mod printing;
 mod putting;
+mod resizing;
 
 use crate::default_hash::DefaultHash;
 use crate::homes::learn_refused;
 use crate::key_form::{FormProbe, KeyForm, value_by};
 use crate::room::{Fits, TableRoom};
-use crate::sizing::LEAST_CAPACITY;
+use crate::sizing::{LEAST_CAPACITY, size_for};
 use bucket_slots::bucket::CACHE;
 use bucket_slots::lru::DoublyLinkedList;
 pub use bucket_table::hash_table::NotInserted;
@@ -114,10 +115,7 @@ impl<K: Eq, V, H: KeyHash<K>> HashCache<K, V, H> {
         ensures maximum { IsLeastPowerOfTwo (min (max slots 64) (2 ^ 63)) result.arrays.maximum }
         ensures slots { (length result.arrays.current ≡ 0) × (length result.arrays.linked ≡ 0) }
     {
-        let size = slots
-            .max(LEAST_CAPACITY)
-            .min(MAXIMUM_CAPACITY_LIMIT)
-            .next_power_of_two();
+        let size = size_for(slots);
         HashCache {
             table: HashTable::new(alloc, hasher, size, size),
             room: Fits::new(),

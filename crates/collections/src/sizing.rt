@@ -1,7 +1,7 @@
 //! How many slots a number of pairs takes: numbers from numbers.
 ghost use Rattle.std.specs.Int.{IsPowerOfTwo};
-ghost use Rattle.std.specs.Prelude.{◌≡◌, ◌↔◌, ◌^◌, IsTrue, MatchOption};
-ghost use Rattle.bucket_slots.specs.Sizing.{IsTooFull};
+ghost use Rattle.std.specs.Prelude.{◌≡◌, ◌≤◌, ◌↔◌, ◌^◌, IsTrue, MatchOption, max, min};
+ghost use Rattle.bucket_slots.specs.Sizing.{IsLeastPowerOfTwo, IsTooFull};
 ghost use Rattle.collections.specs.Capacity.{AreTooMany, IsMinimumFor, IsSlotsFor};
 
 use bucket_slots::bucket_array::MAXIMUM_SLOTS;
@@ -16,6 +16,18 @@ pub(crate) fn widest() -> usize
     ensures value { result ≡ 2 ^ 63 }
 {
     MAXIMUM_CAPACITY_LIMIT
+}
+
+/// Returns the size of an array that has at least some slots: 64, or a power of two up to 2^63.
+pub(crate) fn size_for(slots: usize) -> usize
+    ensures least { IsLeastPowerOfTwo (min (max slots 64) (2 ^ 63)) result }
+    ensures power { IsPowerOfTwo result }
+    ensures large { 64 ≤ result }
+{
+    slots
+        .max(LEAST_CAPACITY)
+        .min(MAXIMUM_CAPACITY_LIMIT)
+        .next_power_of_two()
 }
 
 /// Tests whether some pairs take more than 13 of 16 slots.

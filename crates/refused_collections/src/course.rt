@@ -1,6 +1,7 @@
 //! A collection and what it must have, and calls on both. Pairs come and go like tides, so that the
 //! collection gets longer arrays and shorter ones again.
 mod extending;
+mod resizing;
 
 use crate::chance::Chance;
 use crate::collection::Collection;
@@ -157,7 +158,8 @@ impl Course {
         }
     }
 
-    /// Clears the collection, raises the minimum, makes room, extends it, or gives slots back.
+    /// Clears the collection, raises the minimum, makes room, extends it, resizes a cache, or gives
+    /// slots back.
     fn call_on_all(&mut self) -> bool {
         match self.chance.next() % 8 {
             0 => {
@@ -167,6 +169,7 @@ impl Course {
             1..=2 => self.collection.raise_minimum(256),
             3 => self.collection.try_reserve(256),
             4..=5 => self.extend(),
+            6 => self.resize(),
             _ => self.collection.shrink_to_fit(),
         }
     }

@@ -20,6 +20,21 @@ pub(super) const STORIES: &[Story] = steps! {
         made: Within(0, 0), steps: steps! {
             Fills(128, 131), Fills(0, 3), Gets(129, Some(129)), Gets(0, Some(0)), Slots(64),
             ByUse(&[0, 2, 1, 129, 130, 128]) } },
+    Story { name: "of the pairs of two buckets the ones touched longest ago go for a smaller size",
+        hasher: ScriptHash::Spread, made: Sized(128), steps: steps! {
+            Fills(0, 32), Fills(64, 74), Gets(0, Some(0)), Slots(128), Len(42), Resizes(64),
+            Slots(64), Len(32), Holds(1, None), Holds(10, None), Holds(11, Some(11)),
+            Holds(0, Some(0)), Gets(64, Some(64)), Puts(32, 32, Some((11, 11))),
+            Puts(33, 33, Some((12, 12))), Fills(128, 160), Pushes(160, 161, 128), Len(64) } },
+    Story { name: "a greater size has room for more, and keeps the order of touches",
+        hasher: ScriptHash::Spread, made: Sized(64), steps: steps! {
+            Fills(64, 96), Gets(64, Some(64)), Puts(0, 0, Some((65, 65))), Resizes(100), Slots(128),
+            Len(32), Fills(65, 66), Pushes(96, 97, 66), Gets(67, Some(67)), Pushes(97, 98, 68),
+            Fills(1, 32), Len(64), Slots(128) } },
+    Story { name: "a cache without slots has its size from the next pair on",
+        hasher: ScriptHash::Spread, made: Within(0, 256), steps: steps! {
+            Resizes(200), Slots(256), Len(0), Fills(0, 32), Slots(256), Clears, Slots(0),
+            Fills(0, 32), Slots(256), Resizes(0), Slots(64), Len(32) } },
     Story { name: "a lent value is touched by get_mut alone", hasher: ScriptHash::Zero,
         made: Within(0, 256), steps: steps! {
             AddsAll(0, 32), Updates(0, 50, Some((0, 0))), Pokes(1, 51, Some(1)),

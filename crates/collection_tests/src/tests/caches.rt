@@ -50,6 +50,8 @@ pub(super) enum Step {
     Removes(u64, Option<(u64, u64)>),
     /// All pairs go.
     Clears,
+    /// The cache is put into an array for so many slots.
+    Resizes(usize),
     /// The value that a key has. It isn't touched.
     Holds(u64, Option<u64>),
     /// How many pairs there are.
@@ -214,6 +216,7 @@ fn look(rt: &impl Abort, cache: &mut Cache, at: At, step: &Step) {
         Retains => cache.retain(&mut keep_even),
         Removes(key, pair) => check_same(rt, cache.remove(&key), pair, at),
         Clears => cache.clear(),
+        Resizes(slots) => check_same(rt, cache.resize(slots).is_ok(), true, at),
         Holds(key, value) => {
             let found = (cache.peek(&key).copied(), cache.contains(&key));
             check_same(rt, found, (value, value.is_some()), at);

@@ -60,6 +60,17 @@ pub(super) const STORIES: &[Story] = steps! {
     Story { name: "a walk by use begins with the pair touched last", hasher: ScriptHash::Zero,
         made: Within(0, 256), steps: steps! {
             ByUse(&[]), AddsAll(1, 4), Len(3), ByUse(&[3, 2, 1]) } },
+    // test_resize_larger, 2 pairs that become 4: of one home of four buckets, and of another
+    Story { name: "a greater cache takes more pairs", hasher: ScriptHash::Spread,
+        made: Sized(64), steps: steps! {
+            AddsAll(30, 62), Adds(64, 1, Some((30, 30))), Adds(65, 2, Some((31, 31))),
+            Resizes(128), Adds(66, 3, None), Adds(67, 4, None), Len(34), Gets(64, Some(1)),
+            Gets(65, Some(2)), Gets(66, Some(3)), Gets(67, Some(4)) } },
+    // test_resize_smaller, 4 pairs of which 2 go
+    Story { name: "a smaller cache lets the oldest pairs go", hasher: ScriptHash::Spread,
+        made: Sized(128), steps: steps! {
+            AddsAll(0, 4), AddsAll(64, 94), Resizes(64), Len(32), Gets(0, None), Gets(1, None),
+            Gets(2, Some(2)), Gets(3, Some(3)) } },
     // test_clear
     Story { name: "a cleared cache has no pair", hasher: ScriptHash::Zero, made: Within(0, 256),
         steps: steps! {
