@@ -2,3 +2,4 @@ pub mod KeyCounts
 pub mod Moving
 pub mod Putting
 pub mod WithoutKeys
+pub mod Picked

@@ -5,12 +5,14 @@
 #![tactic(auto)]
 
 mod counting;
+mod expiring;
 pub mod ledger;
 mod retiring;
 mod sessions;
 mod words;
 
 pub use counting::count_keys;
+pub use expiring::take_expired;
 pub use retiring::retire_keys;
 pub use sessions::session_for;
 pub use words::count_word;

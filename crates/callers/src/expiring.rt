@@ -1,0 +1,25 @@
+//! Taking an expired session out of a map.
+ghost use Rattle.std.specs.Prelude.{◌≡◌, ◌↔◌, ◌++◌, ◌∷◌, ◌<◌, ◌≤◌, IfNone, IfSome, IsTrue, List, ℕ};
+ghost use Rattle.std.specs.List.{All};
+
+use collections::hash_map::HashMap;
+
+/// Takes out a session that has ended before a time, the first in the order of the view, and returns
+/// it beside its end; `None` where none has ended. The other sessions stay.
+///
+/// Never refused. O(slots). Own.
+pub fn take_expired(sessions: &mut HashMap<u64, u64>, time: u64) -> Option<(u64, u64)>
+    ensures taken { IfSome result (λ session. (session.1 < time)
+        × ((front behind : List (ℕ × ℕ))
+        × (sessions.old.entries ≡ front ++ session ∷ behind)
+        × (sessions.new.entries ≡ front ++ behind))) }
+    ensures none { IfNone result (All (λ session. time ≤ session.1) sessions.old.entries
+        × (sessions.new.entries ≡ sessions.old.entries)) }
+{
+    let mut expired = sessions.extract_if(
+        move |_session: &u64, end: &mut u64|
+            ensures { (IsTrue result ↔ end.old < time) × (end.new ≡ end.old) }
+        { *end < time },
+    );
+    expired.next()
+}
