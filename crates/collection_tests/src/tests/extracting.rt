@@ -20,10 +20,10 @@ struct Row {
     left: Ranges,
 }
 
-// Of the standard library's tests: empty, consuming_nothing, consuming_all, and of the set
-// test_extract_if. The keys 0 to 30 and 128 to 158 are in one array; as key 31 comes, a second one
-// stands beside it. Under the hash 0 all keys are in one bucket, and those past the first 32 in its
-// chain.
+// The standard library's tests of a map's extract_if: empty, consuming_nothing, consuming_all,
+// mutating_and_keeping and mutating_and_removing; and of a set test_extract_if. The keys 0 to 30 and
+// 128 to 158 are in one array; as key 31 comes, a second one stands beside it. Under the hash 0 all
+// keys are in one bucket, and those past the first 32 in its chain.
 const ROWS: &[Row] = steps! {
     Row { name: "empty", hasher: ScriptHash::Id, keys: &[], picks: (1, 0), gone: &[], left: &[] },
     Row { name: "none is picked", hasher: ScriptHash::Spread, keys: &[(0, 3)], picks: (9, 8),
