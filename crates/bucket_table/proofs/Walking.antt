@@ -1,4 +1,5 @@
 -- Walks, cursors and sweeps.
+pub mod Row
 pub mod Filters
 pub mod Each
 pub mod EachPair
@@ -21,11 +22,7 @@ pub mod WalkBegins
 pub mod ReadSteps
 pub mod LentPairs
 pub mod WalkCounts
-pub mod Left
 pub mod ByUse
-pub mod Draining
 pub mod EachByUse
-pub mod Behind
-pub mod Advancing
-pub mod PickingSlot
+pub mod AskingSlot
 pub mod Extracting

@@ -2,7 +2,7 @@
 pub mod Visits
 pub mod Walks
 pub mod Cursors
-pub mod Left
+pub mod Row
 pub mod ByUse
 pub mod Sweeps
 pub mod Retains

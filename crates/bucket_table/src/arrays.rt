@@ -26,6 +26,7 @@ mod rehashing;
 mod relocating;
 mod remaking;
 mod resizing;
+mod row;
 mod sampling;
 mod searching;
 mod side;

@@ -1,12 +1,11 @@
 //! Taking out of a bucket what a test refuses.
-ghost use Rattle.std.specs.Prelude.{◌≡◌, Some, IsTrue, List, ℕ, ◌∷◌, ◌++◌};
-ghost use Rattle.std.specs.List.Sorted.{IsPermutation};
-ghost use Rattle.bucket_slots.specs.BucketView.{entries_in, marks_in, pairs_in, slot_in};
-ghost use Rattle.bucket_slots.specs.Marking.{MarksBy};
+ghost use Rattle.std.specs.Prelude.{◌≡◌, ◌≢◌, Some, IsTrue, ℕ};
+ghost use Rattle.bucket_slots.specs.BucketView.{slot_in};
 ghost use Rattle.bucket_slots.specs.Slots.{is_live, live_pair};
 ghost use Rattle.bucket_slots.specs.Walking.{pairs_ahead};
 ghost use Rattle.bucket_table.specs.Walking.Retains.{AnswersBy, AsksFront, IsLeftOf, Retains};
-ghost use Rattle.bucket_table.specs.Walking.Retains.{RetainsBucket, RetainsPair, RetainsSlot, slots_taken};
+ghost use Rattle.bucket_table.specs.Walking.Extracting.{AsksAt};
+ghost use Rattle.bucket_table.specs.Walking.Retains.{RetainsBucket, RetainsPair, slots_taken};
 
 use bucket_slots::bucket::{BUCKET_LEN, Bucket, CACHE, EntryPtr, Generation, INDEX};
 use bucket_slots::lru::LruList;
@@ -25,7 +24,6 @@ pub(crate) fn retain_in<
     ensures retained { Retains (AnswersBy (λ key value answer. F.post keep.now key value answer))
         bucket.old bucket.new result }
     ensures left { IsLeftOf TYPE (G.epoch_of generation.now) bucket.old bucket.new }
-    ensures marks { MarksBy (G.epoch_of generation.now) (marks_in bucket.old) (marks_in bucket.new) }
 {
     let before = bucket.len();
     let mut at = EntryPtr::null();
@@ -52,12 +50,11 @@ fn retain_at<K: Drop, V: Drop, L: LruList, F: Fn(&K, &V) -> bool, G: Generation,
         → RetainsPair (AnswersBy (λ key value answer. F.post keep.now key value answer)) pair
         bucket.old at.old bucket.new at.new }
     ensures left { IsLeftOf TYPE (G.epoch_of generation.now) bucket.old bucket.new }
-    ensures marks { MarksBy (G.epoch_of generation.now) (marks_in bucket.old) (marks_in bucket.new) }
 {
     if keep(at.key(bucket), at.val(bucket)) {
         return;
     }
-    take_at(bucket, at, generation);
+    drop(take_at(bucket, at, generation));
 }
 
 /// Lends `keep` the value of each live pair, in slot order, and takes out each pair that it
@@ -75,17 +72,17 @@ pub(crate) fn retain_each_in<
     ensures again { F.IsAlwaysCallable keep.new }
     ensures retained { RetainsBucket
         (λ state own before answer after last. F.step state own before answer after last)
-        (G.epoch_of generation.now) keep.old bucket.old bucket.new result keep.new }
+        keep.old bucket.old bucket.new result keep.new }
     ensures left { IsLeftOf TYPE (G.epoch_of generation.now) bucket.old bucket.new }
 {
     let before = bucket.len();
     bucket.sound();
     let mut at = retain_front(bucket, keep);
     'own: while at.find_next_here(bucket) {
-        retain_slot(bucket, &mut at, keep, generation);
+        drop(ask_slot(bucket, &mut at, keep, true, generation));
     }
     'pairs: while at.find_next(bucket) {
-        retain_slot(bucket, &mut at, keep, generation);
+        drop(ask_slot(bucket, &mut at, keep, true, generation));
     }
     before - bucket.len()
 }
@@ -113,57 +110,56 @@ fn retain_front<K: Drop, V: Drop, L: LruList, F: FnMut(&K, &mut V) -> bool, cons
     EntryPtr::own_slot(BUCKET_LEN - 1)
 }
 
-/// Lends `keep` the value in a live slot, and takes the pair out, or leaves a tombstone in an
-/// index, where it is refused.
+/// Asks for the pair in a live slot, with its value lent. Where the answer isn't `keeps`, takes the
+/// pair out and returns it, or leaves a tombstone in an index.
 #[inline(always)]
-fn retain_slot<
+#[tactic(auto, using(crate::proofs::Walking::AskingSlot::stays_live))]
+pub(crate) fn ask_slot<
     K: Drop,
     V: Drop,
     L: LruList,
     F: FnMut(&K, &mut V) -> bool,
     G: Generation,
     const TYPE: u8,
->(bucket: &mut Bucket<K, V, L, TYPE>, at: &mut EntryPtr<K, V, TYPE>, keep: &mut F, generation: &G)
-    requires callable { F.IsAlwaysCallable keep.old }
+>(
+    bucket: &mut Bucket<K, V, L, TYPE>,
+    at: &mut EntryPtr<K, V, TYPE>,
+    ask: &mut F,
+    keeps: bool,
+    generation: &G,
+) -> Option<(K, V)>
+    requires callable { F.IsAlwaysCallable ask.old }
     requires live_slot { IsTrue (is_live (slot_in bucket.old at.old)) }
-    ensures again { F.IsAlwaysCallable keep.new }
-    ensures retained { (pair : K × V) → live_pair (slot_in bucket.old at.old) ≡ Some pair
-        → RetainsSlot
+    ensures again { F.IsAlwaysCallable ask.new }
+    ensures asked { (pair : K × V) → live_pair (slot_in bucket.old at.old) ≡ Some pair → AsksAt
         (λ state own before answer after last. F.step state own before answer after last)
-        keep.old pair bucket.old at.old bucket.new at.new keep.new }
+        TYPE keeps ask.old pair bucket.old at.old result bucket.new at.new ask.new }
     ensures left { IsLeftOf TYPE (G.epoch_of generation.now) bucket.old bucket.new }
-    ensures marks { MarksBy (G.epoch_of generation.now) (marks_in bucket.old) (marks_in bucket.new) }
 {
     bucket.sound();
     let (key, value) = bucket.entry_mut(at);
-    if keep(key, value) {
-        return;
+    if ask(key, value) == keeps {
+        return None;
     }
-    take_at(bucket, at, generation);
+    bucket.sound();
+    take_at(bucket, at, generation)
 }
 
-/// Takes the pair out of a live slot, or leaves a tombstone in an index.
+/// Takes the pair out of a live slot and returns it, or leaves a tombstone in an index.
 pub(crate) fn take_at<K: Drop, V: Drop, L: LruList, G: Generation, const TYPE: u8>(
     bucket: &mut Bucket<K, V, L, TYPE>,
     at: &mut EntryPtr<K, V, TYPE>,
     generation: &G,
-)
+) -> Option<(K, V)>
     requires live_slot { IsTrue (is_live (slot_in bucket.old at.old)) }
+    ensures pair { TYPE ≢ INDEX → result ≡ live_pair (slot_in bucket.old at.old) }
     ensures slots { bucket.new ≡ slots_taken TYPE (G.epoch_of generation.now) bucket.old at.old }
-    ensures alive { bucket.new.killed ≡ bucket.old.killed }
-    ensures taken { (pair : K × V) → (live_pair (slot_in bucket.old at.old) ≡ Some pair)
-        → (byte : ℕ) × IsPermutation (entries_in bucket.old) ((pair, byte) ∷ entries_in bucket.new) }
     ensures pairs_ahead { pairs_ahead bucket.new at.new ≡ pairs_ahead bucket.old at.old }
-    ensures order { (pair : K × V) (front : List (K × V))
-        → (live_pair (slot_in bucket.old at.old) ≡ Some pair)
-        → (pairs_in bucket.old ≡ front ++ pair ∷ pairs_ahead bucket.old at.old)
-        → pairs_in bucket.new ≡ front ++ pairs_ahead bucket.old at.old }
-    ensures marks { MarksBy (G.epoch_of generation.now) (marks_in bucket.old) (marks_in bucket.new) }
 {
     bucket.sound();
     if TYPE == INDEX {
         bucket.mark_removed(at, generation);
-        return;
+        return None;
     }
-    let _ = bucket.remove(at);
+    Some(bucket.remove(at))
 }

@@ -3,9 +3,8 @@ use Rattle.bucket_table.proofs.Words.{All, ArraysView, Bool, BucketView, Err, Is
 use Rattle.bucket_table.proofs.Words.{arith, bucket_at, counted, counted_to, entries_among, entries_in, entries_of, flattened, get_or}
 use Rattle.bucket_table.proofs.Words.{is_live, length, live_pairs}
 use Rattle.bucket_table.proofs.Words.{length-entries_in, length-map, length_permutation, live_counts, map, min, pairs_in, pairs_of, refl}
-use Rattle.bucket_table.proofs.Words.{suc, sum_by-cons, sym, take, zero, ℕ, ◌*◌, ◌+◌, ◌-◌, ◌/◌, ◌<◌, ◌^◌, ◌∙◌, ◌∷◌, ◌≡◌, ◌++◌}
+use Rattle.bucket_table.proofs.Words.{suc, sum_by-cons, sym, take, zero, ℕ, ◌*◌, ◌+◌, ◌-◌, ◌/◌, ◌<◌, ◌^◌, ◌∙◌, ◌∷◌, ◌≡◌}
 use Rattle.std.proofs.Common.{length-append, sum, zero-mul, false, inl, inr, true}
-use Rattle.std.proofs.lemmas.Grind.{flat_map-append}
 use Rattle.std.proofs.lemmas.List.Sums.{count_by-le-length}
 use Rattle.bucket_slots.proofs.Counting.{length-live_pairs, length-live_pairs-append}
 use Rattle.bucket_table.specs.Map.Counting.{IsHeldBy, chained_among}
@@ -65,18 +64,6 @@ module _ {K V : Type 0} where
       let few = count_by-le-length is_live b.own in
       rw (length-append (entries_in b) (entries_among bs), length-append (live_pairs (flattened b.chain)) (chained_among bs))
       (omega (arith, rest, own, here, parts, live, few))
-
-  -- two arrays
-  pub held_by_both : (bs cs : List (BucketView K V)) → IsHeldBy (entries_among bs) bs → IsHeldBy (entries_among cs) cs
-      → IsHeldBy (entries_among bs ++ entries_among cs) (bs ++ cs)
-  held_by_both bs cs first second =
-      rw (
-        length-append (entries_among bs) (entries_among cs),
-        length-append bs cs,
-        flat_map-append (λ (b : BucketView K V). live_pairs
-            (flattened b.chain)) bs cs,
-        length-append (chained_among bs) (chained_among cs),
-      ) (omega (arith, first, second))
 
   zero_counts : (bs : List (BucketView K V)) → length (entries_among bs) ≡ 0 → All (λ count. count ≡ 0) (live_counts bs)
   zero_counts bs none i d below = each bs none i d below

@@ -1,8 +1,8 @@
 -- The pairs of a bucket by age, and of a row of buckets: of the own slots each is taken once.
-use Rattle.bucket_table.proofs.Words.{ArraysView, BucketView, Current, IsPermutation, IsPermutation-refl, IsPermutation-trans, List, Old}
-use Rattle.bucket_table.proofs.Words.{Side, Slot, [], ap, arith, arrays_with, bucket_on, buckets_on, cases_eq, empty_bucket, eq-eqb}
+use Rattle.bucket_table.proofs.Words.{ArraysView, BucketView, IsPermutation, IsPermutation-refl, IsPermutation-trans, List}
+use Rattle.bucket_table.proofs.Words.{Slot, [], ap, arith, cases_eq, empty_bucket, eq-eqb}
 use Rattle.bucket_table.proofs.Words.{false, false≢true, flattened, get_or, inl, inr, is_listed, length, live_pair, live_pairs, map}
-use Rattle.bucket_table.proofs.Words.{pairs_in, pairs_of, refl, set, slot_at, suc, sym, take, true, zero, ℕ, ◌++◌, ◌+◌, ◌-◌, ◌<◌, ◌∙◌}
+use Rattle.bucket_table.proofs.Words.{pairs_in, pairs_of, refl, slot_at, suc, sym, take, true, zero, ℕ, ◌++◌, ◌+◌, ◌-◌, ◌<◌, ◌∙◌}
 use Rattle.bucket_table.proofs.Words.{◌∷◌, ◌≡◌, ◌≢◌, ◌≤◌}
 use Rattle.std.proofs.Common.{drop}
 use Rattle.std.proofs.lemmas.Bool.{ne_eqb, or_parts}
@@ -17,10 +17,11 @@ use Rattle.bucket_slots.specs.Recency.{order_without}
 use Rattle.bucket_slots.proofs.Recency.Orders.{eqb-same, is_listed-order_without, listed_apart}
 use Rattle.bucket_table.specs.Map.LookingUp.{pairs_in_all}
 use Rattle.bucket_table.specs.Resize.Renewing.{all_by_age, arrays_by_age, chain_pairs, own_backwards, own_by_age, pairs_by_age}
-use Rattle.bucket_table.specs.Views.Sides.{with_buckets}
+use Rattle.bucket_table.specs.Walking.Row.{row_of, row_with}
+use Rattle.bucket_table.proofs.Walking.Row.{row_of-row_with}
+use Rattle.bucket_table.proofs.Words.{append_assoc, bucket_at}
 use Rattle.bucket_table.specs.Walking.ByUse.{own_left}
 use Rattle.bucket_table.proofs.Map.LookUps.{pairs_are}
-use Rattle.bucket_table.proofs.Views.SideChanges.{buckets_on-arrays_with}
 use Rattle.bucket_table.proofs.Walking.EachByUse.{other_listed, own_by_use}
 use Rattle.bucket_table.proofs.Walking.Filters.{IsPermutation-filter_map}
 
@@ -96,23 +97,23 @@ module _ {K V : Type 0} where
       λ i. live_pairs (reverse (map (slot_at (own i)) (slots_by_use (length (own i)) (listed i))))
 
   -- the pairs of the buckets from one on are its own and those of the buckets behind it, whatever the bucket is then
-  pub next_bucket : (arrays : ArraysView K V) (side : Side) (index : ℕ) (left : BucketView K V) → index < length (buckets_on arrays side)
-      → all_by_age (drop index (buckets_on arrays side))
-      ≡ pairs_by_age (bucket_on arrays side index) ++ all_by_age (drop (index + 1) (buckets_on (arrays_with arrays side index left) side))
-  next_bucket arrays side index left within =
-      let behind = drop-set-lt (index + 1) (buckets_on arrays side) index left (omega arith) in
-      at_drop_more all_by_age (buckets_on arrays side) index empty_bucket within
-      ∙ ap (λ (buckets : List (BucketView K V)). pairs_by_age (bucket_on arrays side index) ++ all_by_age buckets)
-      (sym behind ∙ ap (drop (index + 1)) (sym (buckets_on-arrays_with arrays side index left)))
+  pub next_bucket : (arrays : ArraysView K V) (index : ℕ) (left : BucketView K V) → index < length (row_of arrays)
+      → all_by_age (drop index (row_of arrays))
+      ≡ pairs_by_age (bucket_at (row_of arrays) index) ++ all_by_age (drop (index + 1) (row_of (row_with arrays index left)))
+  next_bucket arrays index left within =
+      let behind = drop-set-lt (index + 1) (row_of arrays) index left (omega arith) in
+      at_drop_more all_by_age (row_of arrays) index empty_bucket within
+      ∙ ap (λ (buckets : List (BucketView K V)). pairs_by_age (bucket_at (row_of arrays) index) ++ all_by_age buckets)
+      (sym behind ∙ ap (drop (index + 1)) (sym (row_of-row_with arrays index left)))
 
-  -- and the other side stays
-  pub other_side : (first now : ArraysView K V) (side : Side) (index : ℕ) (left : BucketView K V)
-      → now ≡ with_buckets first side (buckets_on now side)
-      → arrays_with now side index left ≡ with_buckets first side (buckets_on (arrays_with now side index left) side)
-  other_side first now Current index left same =
-      ap (λ (arrays : ArraysView K V). record arrays { current = set now.current index left }) same
-  other_side first now Old index left same =
-      ap (λ (arrays : ArraysView K V). record arrays { linked = set now.linked index left }) same
+  age_joined : (xs ys : List (BucketView K V)) → all_by_age (xs ++ ys) ≡ all_by_age xs ++ all_by_age ys
+  age_joined [] ys = refl
+  age_joined (x ∷ xs) ys =
+      ap (λ ps. pairs_by_age x ++ ps) (age_joined xs ys) ∙ sym (append_assoc (pairs_by_age x) (all_by_age xs) (all_by_age ys))
+
+  -- the pairs of the row by age are those of the arrays
+  pub age_in_row : (arrays : ArraysView K V) → all_by_age (row_of arrays) ≡ arrays_by_age arrays
+  age_in_row arrays = age_joined arrays.current arrays.linked
 
   -- by age all pairs are there, each once
 

@@ -11,7 +11,7 @@ use Rattle.bucket_slots.specs.Slots.{all_free}
 use Rattle.bucket_slots.specs.Walking.{next_in, next_place, position_after}
 use Rattle.bucket_slots.proofs.FirstPlaces.{first_from-Some}
 use Rattle.bucket_table.specs.Resize.Renewing.{chain_pairs}
-use Rattle.bucket_table.proofs.Walking.Left.{moves_past}
+use Rattle.bucket_table.proofs.Walking.Row.{moves_past}
 
 -- a place that was found
 found_place : (found : Option Place) (next : Place) → is_some found ≡ true → next ≡ place_or_null found → found ≡ Some next

@@ -1,5 +1,5 @@
 -- A cache's new array, and what it is once all pairs are in.
-use Rattle.bucket_table.proofs.Words.{ArraysView, Bool, BucketView, IsEquivalence, IsNewArray, IsOneMap, IsPermutation}
+use Rattle.bucket_table.proofs.Words.{ArraysView, Bool, IsEquivalence, IsNewArray, IsOneMap, IsPermutation}
 use Rattle.bucket_table.proofs.Words.{IsPermutation-map, IsPermutation-trans, List, TableView, [], ap, append-nil, arith, first_tickets}
 use Rattle.bucket_table.proofs.Words.{length, length_permutation, nil_from_length, pairs_of, refl, subst, sym, ℕ, ◌*◌, ◌++◌, ◌-◌, ◌<◌, ◌^◌}
 use Rattle.bucket_table.proofs.Words.{IsDistinct, IsDistinct-IsPermutation, map, ◌∙◌, ◌≡◌, ◌≤◌}
@@ -7,12 +7,11 @@ use Rattle.std.specs.Int.{IsPowerOfTwo}
 use Rattle.bucket_slots.specs.Sizing.{IsLengthFor, IsPowerIn}
 use Rattle.bucket_slots.proofs.Doublings.{double_fits}
 use Rattle.bucket_slots.proofs.PowersOfTwo.{exponent_le, power_parts}
-use Rattle.bucket_table.specs.Resize.Renewing.{Awaits, Pours, Renews, all_by_age, arrays_by_age}
+use Rattle.bucket_table.specs.Resize.Renewing.{Awaits, Pours, Renews, arrays_by_age}
 use Rattle.bucket_table.specs.Resize.Resizing.{MakesArray}
 use Rattle.bucket_table.proofs.Map.MapKept.{keeps_pairs, nothing_kept, one_map_kept}
 use Rattle.bucket_table.proofs.Resize.ByAge.{each_by_age}
 use Rattle.bucket_table.proofs.Resize.Growing.{kept_made, placed_made}
-use Rattle.bucket_table.proofs.Resize.Pouring.{awaits_first, awaits_rest, pours_both}
 
 -- an array for a power of two has that many slots
 pub full_length : (capacity len : ℕ) → IsPowerIn 64 (2 ^ 63) capacity → capacity ≤ 2 ^ 62 → IsLengthFor capacity len → 32 * len ≡ capacity
@@ -61,7 +60,7 @@ module _ {K V H : Type 0} {eq : K → K → Bool} (laws : IsEquivalence eq) (has
   first = record { hasher = hasher; arrays = fresh }
 
   -- all pairs are awaited
-  awaits_all : 64 ≤ capacity → IsDistinct eq (map (λ (pair : K × V). pair.0) (pairs_of old)) → Awaits eq first (arrays_by_age old)
+  pub awaits_all : 64 ≤ capacity → IsDistinct eq (map (λ (pair : K × V). pair.0) (pairs_of old)) → Awaits eq first (arrays_by_age old)
   awaits_all large distinct =
       let full = is.full in
       let maximum : fresh.maximum ≡ capacity = ap (λ (a : ArraysView K V). a.maximum) is.others in
@@ -73,33 +72,18 @@ module _ {K V H : Type 0} {eq : K → K → Bool} (laws : IsEquivalence eq) (has
             (IsDistinct-IsPermutation eq laws.symm _ _ (IsPermutation-map (λ (pair : K × V). pair.0) _ _ (each_by_age old)) distinct);
       }
 
-  -- first those of the current array
-  pub awaits_current : 64 ≤ capacity → IsDistinct eq (map (λ (pair : K × V). pair.0) (pairs_of old))
-      → Awaits eq first (all_by_age old.current)
-  awaits_current large distinct = awaits_first laws first (all_by_age old.current) (all_by_age old.linked) (awaits_all large distinct)
-
-  module _ (between : TableView K V H) (linked : List (BucketView K V)) (poured : Pours hash first (all_by_age old.current) between)
-      (same : linked ≡ old.linked) where
-    -- and then those of the old one
-    pub awaits_linked : 64 ≤ capacity → IsDistinct eq (map (λ (pair : K × V). pair.0) (pairs_of old))
-        → Awaits eq between (all_by_age linked)
-    awaits_linked large distinct =
-        rw same (awaits_rest laws hash first between (all_by_age old.current) (all_by_age old.linked) (awaits_all large distinct) poured)
-
-    -- in the end all are in
-    pub renewed : (new : TableView K V H) → Pours hash between (all_by_age linked) new → Renews (hash hasher) capacity old new.arrays
-    renewed new later =
-        let rest = subst (λ (buckets : List (BucketView K V)). Pours hash between (all_by_age buckets) new) same later in
-        let all = pours_both hash first between new (all_by_age old.current) (all_by_age old.linked) poured rest in
-        let arrays = ap (λ (t : TableView K V H). t.arrays) all.others in
-        let none = ap (λ (pairs : List (K × V)). arrays_by_age old ++ pairs) (fresh_empty capacity fresh is)
-        ∙ append-nil (arrays_by_age old) in
-        let parts = subst (λ (pairs : List (K × V)). IsPermutation pairs (all.gone ++ pairs_of new.arrays)) none all.parts in
-        record {
-          fresh = fresh.current;
-          fresh_is = is.array;
-          put = all.each;
-          others = arrays ∙ ap (λ (a : ArraysView K V). record a { current = new.arrays.current }) is.others;
-          gone = all.gone;
-          parts = IsPermutation-trans _ _ _ (each_by_age old) parts;
-        }
+  -- in the end all are in
+  pub renewed : (new : TableView K V H) → Pours hash first (arrays_by_age old) new → Renews (hash hasher) capacity old new.arrays
+  renewed new all =
+      let arrays = ap (λ (t : TableView K V H). t.arrays) all.others in
+      let none = ap (λ (pairs : List (K × V)). arrays_by_age old ++ pairs) (fresh_empty capacity fresh is)
+      ∙ append-nil (arrays_by_age old) in
+      let parts = subst (λ (pairs : List (K × V)). IsPermutation pairs (all.gone ++ pairs_of new.arrays)) none all.parts in
+      record {
+        fresh = fresh.current;
+        fresh_is = is.array;
+        put = all.each;
+        others = arrays ∙ ap (λ (a : ArraysView K V). record a { current = new.arrays.current }) is.others;
+        gone = all.gone;
+        parts = IsPermutation-trans _ _ _ (each_by_age old) parts;
+      }

@@ -1,7 +1,7 @@
 -- A bucket whose own slots were asked for at once: what is gone, and what is ahead.
-use Rattle.bucket_table.proofs.Words.{Bool, BucketView, CACHE, IsBucketOf, List, MarksBy, None, Option, Place, Slot, Some, [], ap}
-use Rattle.bucket_table.proofs.Words.{append_assoc, arith, bucket_with_value, by-no_new, by-trans, false, free, if◌then◌else◌, inl, inr}
-use Rattle.bucket_table.proofs.Words.{is_live, length, live, live_pair, marked, marks_in, no_new-refl, pairs_ahead, pairs_in, refl, slot_in}
+use Rattle.bucket_table.proofs.Words.{Bool, BucketView, CACHE, IsBucketOf, List, Place, Slot, [], ap}
+use Rattle.bucket_table.proofs.Words.{append_assoc, arith, bucket_with_value, false, free, if◌then◌else◌, inl, inr}
+use Rattle.bucket_table.proofs.Words.{is_live, length, live, live_pair, marked, pairs_ahead, pairs_in, refl, slot_in}
 use Rattle.bucket_table.proofs.Words.{slots_marked, slots_without, subst, sym, true, ℕ, ◌++◌, ◌==◌, ◌∙◌, ◌∷◌, ◌≡◌, ◌≢◌}
 use Rattle.std.proofs.Math.Seq.{get_or-append_seam, set-append_seam}
 use Rattle.std.proofs.lemmas.Bool.Decides.{nat_tests}
@@ -14,50 +14,9 @@ use Rattle.bucket_slots.specs.declared.bucket.TheConstants.{INDEX}
 use Rattle.bucket_slots.specs.Slots.{live_pairs, slot_with_value}
 use Rattle.bucket_slots.specs.Walking.{AsksOwn, AsksSlot, AsksSlots}
 use Rattle.bucket_slots.proofs.AskingSlots.{asked_len}
-use Rattle.bucket_slots.proofs.CallerLemmas.{entries_in-slots_without}
-use Rattle.bucket_slots.proofs.MarkCallerLemmas.{by-one, entries_in-slots_marked, marks_in-bucket_with_value, marks_in-slots_marked}
-use Rattle.bucket_slots.proofs.MarkCallerLemmas.{marks_in-slots_without}
-use Rattle.bucket_slots.proofs.RoomCallerLemmas.{killed-slots_marked, killed-slots_without}
-use Rattle.bucket_table.specs.Walking.Retains.{AsksFront, ChangesPairs, IsLeftOf, LosesKeys, RetainsEach, slots_taken}
-use Rattle.bucket_table.proofs.Map.LockedSteps.{pair_there}
+use Rattle.bucket_table.specs.Walking.Retains.{AsksFront, IsLeftOf, RetainsEach}
 use Rattle.bucket_table.proofs.Walking.Leaving.{left_both, left_same, left_taken, left_written}
-use Rattle.bucket_table.proofs.Walking.RetainingEach.{IsAsking, begins, keys_both, keys_less, keys_same, keys_valued}
-
-module _ {K V : Type 0} (kind epoch : ℕ) where
-  -- some keys are gone, and no mark is new but the epoch's
-  abbrev Gone : BucketView K V → BucketView K V → Type 0
-  Gone s t = LosesKeys s t × MarksBy epoch (marks_in s) (marks_in t)
-
-  gone_both : (s t u : BucketView K V) → Gone s t → Gone t u → Gone s u
-  gone_both s t u first second = (
-    keys_both s t u first.0 second.0,
-    by-trans epoch (marks_in s) (marks_in t) (marks_in u) first.1 second.1,
-  )
-
-  gone_taken : (index : Bool) (s : BucketView K V) (at : Place) (p : K × V) → live_pair (slot_in s at) ≡ Some p
-      → Gone s (if index then slots_marked s at epoch else slots_without s at)
-  gone_taken true s at p here = (
-    keys_less s (slots_marked s at epoch) p (killed-slots_marked s at epoch) (entries_in-slots_marked s at epoch p here),
-    by-one epoch p (marks_in s) (marks_in (slots_marked s at epoch)) (marks_in-slots_marked s at epoch p here),
-  )
-  gone_taken false s at p here = (
-    keys_less s (slots_without s at) p (killed-slots_without s at) (entries_in-slots_without s at p here),
-    by-no_new epoch (marks_in s) (marks_in (slots_without s at)) (marks_in-slots_without s at),
-  )
-
-  -- pairs that are changed or taken one after another leave it so
-  pub gone_changed : (changes : List (Place × Option V)) (s t : BucketView K V) → ChangesPairs kind epoch changes s t → Gone s t
-  gone_changed [] s t same = rw same (keys_same s, by-no_new epoch (marks_in s) (marks_in s) (no_new-refl (marks_in s)))
-  gone_changed ((at, Some value) ∷ changes) s t (alive, rest) =
-      let (p, here) = pair_there s at alive in
-      gone_both s (bucket_with_value s at value) t (
-        keys_valued s at p value here,
-        by-no_new epoch (marks_in s) (marks_in (bucket_with_value s at value)) (marks_in-bucket_with_value s at value p here),
-      ) (gone_changed changes (bucket_with_value s at value) t rest)
-  gone_changed ((at, None) ∷ changes) s t (alive, rest) =
-      let (p, here) = pair_there s at alive in
-      gone_both s (slots_taken kind epoch s at) t (gone_taken (kind == INDEX) s at p here)
-      (gone_changed changes (slots_taken kind epoch s at) t rest)
+use Rattle.bucket_table.proofs.Walking.RetainingEach.{IsAsking, begins}
 
 module _ {K V : Type 0} where
   -- what is ahead of the last own slot is the chain
@@ -101,22 +60,19 @@ module _ {S K V : Type 0} (step : S → Bor K → MutBor V → Bool → MutBor V
   )
 
   -- a walk that has asked for the own slots goes on in the chain
-  pub asking_front : (kind epoch : ℕ) (first last : S) (old new : BucketView K V) (at : Place) → length old.own ≡ 32
-      → IsLeftOf kind epoch old new → AsksFront step first old at new last → IsAsking step epoch first old last new at
+  pub asking_front : (first last : S) (old new : BucketView K V) (at : Place) → length old.own ≡ 32
+      → AsksFront step first old at new last → IsAsking step first old last new at
   unfolding AsksFront
-  asking_front kind epoch first last old new at long left (inl (null, same, still)) = rw (same, still) (begins step epoch first old at null)
-  asking_front kind epoch first last old new at long (changes, left) (inr (stands, asks)) =
+  asking_front first last old new at long (inl (null, same, still)) = rw (same, still) (begins step first old at null)
+  asking_front first last old new at long (inr (stands, asks)) =
       let own = asks.own in
       let ahead = chain_ahead own old at stands (asked_len step first last old.own own asks.asked ∙ long) in
-      let gone = rw asks.new_is at (gone_changed kind epoch changes old new left) in
       rw asks.new_is (record {
         done = live_pairs old.own;
         left = live_pairs own;
         were = pairs_split old.own old ∙ ap (λ l. live_pairs old.own ++ l) (sym ahead);
         are = pairs_split own old ∙ ap (λ l. live_pairs own ++ l) (sym ahead);
         asked = each_slot first last old.own own asks.asked;
-        keys = gone.0;
-        marks = gone.1;
       })
 
 module _ {S K V : Type 0} (step : S → Bor K → MutBor V → Bool → MutBor V → S → Type 0) (kind epoch : ℕ) where

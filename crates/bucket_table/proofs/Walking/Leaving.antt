@@ -1,8 +1,92 @@
 -- What is left of buckets where live pairs are changed or taken one after another.
-use Rattle.bucket_table.proofs.Words.{BucketView, List, None, Option, Place, Some, [], bucket_at, bucket_with_value, cases_eq, inl}
-use Rattle.bucket_table.proofs.Words.{empty_bucket, get_or-set_other, get_or-set_same, inr, is_live, length, length-set, live_from_pair}
-use Rattle.bucket_table.proofs.Words.{live_pair, refl, set, slot_in, subst, true, ℕ, ◌++◌, ◌<◌, ◌∙◌, ◌∷◌, ◌≡◌}
-use Rattle.bucket_table.specs.Walking.Retains.{AreLeftOf, ChangesPairs, IsLeftOf, slots_taken}
+use Rattle.bucket_table.proofs.Words.{Bool, BucketView, IsPermutation, IsPermutation-append_right, IsPermutation-map}
+use Rattle.bucket_table.proofs.Words.{IsPermutation-refl, IsPermutation-trans, List, MarksBy, None, Option, Place, Some, []}
+use Rattle.bucket_table.proofs.Words.{append_assoc, bucket_at, bucket_with_value, by-no_new, by-trans, cases_eq, empty_bucket, entries_in}
+use Rattle.bucket_table.proofs.Words.{false, get_or-set_other, get_or-set_same, if◌then◌else◌, inl, inr, is_live, length, length-set}
+use Rattle.bucket_table.proofs.Words.{live_from_pair, live_pair, marks_in, no_new-refl, refl, set, slot_in, slots_marked, slots_without}
+use Rattle.bucket_table.proofs.Words.{subst, sym, true, ℕ, ◌++◌, ◌<◌, ◌==◌, ◌∙◌, ◌∷◌, ◌≡◌}
+use Rattle.bucket_slots.proofs.CallerLemmas.{entries_in-slots_without, rewritten}
+use Rattle.bucket_slots.proofs.MarkCallerLemmas.{by-one, entries_in-slots_marked, marks_in-bucket_with_value, marks_in-slots_marked}
+use Rattle.bucket_slots.proofs.MarkCallerLemmas.{marks_in-slots_without}
+use Rattle.bucket_slots.proofs.RoomCallerLemmas.{killed-bucket_with_value, killed-slots_marked, killed-slots_without}
+use Rattle.bucket_slots.specs.declared.bucket.TheConstants.{INDEX}
+use Rattle.bucket_table.specs.Walking.Retains.{AreLeftOf, ChangesPairs, IsLeftOf, LosesKeys, slots_taken}
+use Rattle.bucket_table.specs.Walking.Walks.{keys_in}
+use Rattle.bucket_table.proofs.Map.LockedSteps.{pair_there}
+
+module _ {K V : Type 0} where
+  abbrev key_of : (K × V) × ℕ → K × ℕ
+  key_of entry = (entry.0.0, entry.1)
+
+  pub keys_same : (s : BucketView K V) → LosesKeys s s
+  keys_same s = record { gone = []; keys = IsPermutation-refl (keys_in s); alive = refl }
+
+  pub keys_both : (s t u : BucketView K V) → LosesKeys s t → LosesKeys t u → LosesKeys s u
+  keys_both s t u one two = record {
+    gone = one.gone ++ two.gone;
+    keys = subst (IsPermutation (keys_in s)) (sym (append_assoc one.gone two.gone (keys_in u)))
+        (IsPermutation-trans _ _ _ one.keys (IsPermutation-append_right one.gone _ _ two.keys));
+    alive = two.alive ∙ one.alive;
+  }
+
+  -- an entry goes
+  pub keys_less : (s t : BucketView K V) (p : K × V) → t.killed ≡ s.killed
+      → ((byte : ℕ) × IsPermutation (entries_in s) ((p, byte) ∷ entries_in t)) → LosesKeys s t
+  keys_less s t p alive (byte, out) = record { gone = (p.0, byte) ∷ []; keys = IsPermutation-map key_of _ _ out; alive = alive }
+
+  -- a value is another
+  pub keys_valued : (s : BucketView K V) (at : Place) (p : K × V) (value : V) → live_pair (slot_in s at) ≡ Some p
+      → LosesKeys s (bucket_with_value s at value)
+  keys_valued s at p value here =
+      let r = rewritten s at p value here in
+      record {
+        gone = [];
+        keys = IsPermutation-trans _ _ _ (IsPermutation-map key_of _ _ r.before_is) (IsPermutation-map key_of _ _ r.after_is);
+        alive = killed-bucket_with_value s at value;
+      }
+
+module _ {K V : Type 0} (kind epoch : ℕ) where
+  -- some keys are gone, and no mark is new but the epoch's
+  abbrev Gone : BucketView K V → BucketView K V → Type 0
+  Gone s t = LosesKeys s t × MarksBy epoch (marks_in s) (marks_in t)
+
+  gone_both : (s t u : BucketView K V) → Gone s t → Gone t u → Gone s u
+  gone_both s t u first second = (
+    keys_both s t u first.0 second.0,
+    by-trans epoch (marks_in s) (marks_in t) (marks_in u) first.1 second.1,
+  )
+
+  -- a pair is taken out, or marked
+  pub taken_out : (index : Bool) (s : BucketView K V) (at : Place) (p : K × V) → live_pair (slot_in s at) ≡ Some p
+      → ((if index then slots_marked s at epoch else slots_without s at).killed ≡ s.killed)
+      × ((byte : ℕ) × IsPermutation (entries_in s) ((p, byte) ∷ entries_in (if index then slots_marked s at epoch else slots_without s at)))
+  taken_out true s at p here = (killed-slots_marked s at epoch, entries_in-slots_marked s at epoch p here)
+  taken_out false s at p here = (killed-slots_without s at, entries_in-slots_without s at p here)
+
+  marks_taken : (index : Bool) (s : BucketView K V) (at : Place) (p : K × V) → live_pair (slot_in s at) ≡ Some p
+      → MarksBy epoch (marks_in s) (marks_in (if index then slots_marked s at epoch else slots_without s at))
+  marks_taken true s at p here = by-one epoch p (marks_in s) (marks_in (slots_marked s at epoch)) (marks_in-slots_marked s at epoch p here)
+  marks_taken false s at p here = by-no_new epoch (marks_in s) (marks_in (slots_without s at)) (marks_in-slots_without s at)
+
+  gone_taken : (index : Bool) (s : BucketView K V) (at : Place) (p : K × V) → live_pair (slot_in s at) ≡ Some p
+      → Gone s (if index then slots_marked s at epoch else slots_without s at)
+  gone_taken index s at p here =
+      let out = taken_out index s at p here in
+      (keys_less s _ p out.0 out.1, marks_taken index s at p here)
+
+  -- pairs that are changed or taken one after another leave it so
+  pub gone_changed : (changes : List (Place × Option V)) (s t : BucketView K V) → ChangesPairs kind epoch changes s t → Gone s t
+  gone_changed [] s t same = rw same (keys_same s, by-no_new epoch (marks_in s) (marks_in s) (no_new-refl (marks_in s)))
+  gone_changed ((at, Some value) ∷ changes) s t (alive, rest) =
+      let (p, here) = pair_there s at alive in
+      gone_both s (bucket_with_value s at value) t (
+        keys_valued s at p value here,
+        by-no_new epoch (marks_in s) (marks_in (bucket_with_value s at value)) (marks_in-bucket_with_value s at value p here),
+      ) (gone_changed changes (bucket_with_value s at value) t rest)
+  gone_changed ((at, None) ∷ changes) s t (alive, rest) =
+      let (p, here) = pair_there s at alive in
+      gone_both s (slots_taken kind epoch s at) t (gone_taken (kind == INDEX) s at p here)
+      (gone_changed changes (slots_taken kind epoch s at) t rest)
 
 module _ {K V : Type 0} (kind epoch : ℕ) where
   pub left_same : (s : BucketView K V) → IsLeftOf kind epoch s s

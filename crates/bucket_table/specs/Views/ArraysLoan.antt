@@ -7,6 +7,7 @@ use Rattle.bucket_slots.specs.BucketView.{BucketView}
 use Rattle.bucket_slots.specs.contracts.bucket.Bucket.{the_row as bucket_row}
 use Rattle.bucket_table.specs.Views.ArraysView.{ArraysView}
 use Rattle.bucket_table.specs.Views.Sides.{arrays_with}
+use Rattle.bucket_table.specs.Walking.Row.{row_with}
 use Rattle.bucket_table.specs.contracts.arrays.Arrays.{the_row}
 use Rattle.bucket_table.specs.declared.arrays.side.Side.{Side}
 
@@ -15,3 +16,7 @@ module _ (K V L TYPE : RattleType) (listing : list.Ghosts L.Denot) (fresh : defa
   abbrev pub LendsBucketOn : Side → ℕ → MutBor (BucketView K.Denot V.Denot) → Fml
   LendsBucketOn side index loan =
       Lends (the_row K V L TYPE listing fresh) (bucket_row K V L TYPE listing fresh) arrays loan (arrays_with arrays.now side index)
+
+  -- so has that bucket of the row
+  abbrev pub LendsNth : ℕ → MutBor (BucketView K.Denot V.Denot) → Fml
+  LendsNth index loan = Lends (the_row K V L TYPE listing fresh) (bucket_row K V L TYPE listing fresh) arrays loan (row_with arrays.now index)

@@ -15,11 +15,6 @@ buckets_on arrays Old = arrays.linked
 abbrev pub bucket_on : {K V : Type 0} → ArraysView K V → Side → ℕ → BucketView K V
 bucket_on arrays side index = bucket_at (buckets_on arrays side) index
 
--- the arrays with other buckets on one side
-abbrev pub with_buckets : {K V : Type 0} → ArraysView K V → Side → List (BucketView K V) → ArraysView K V
-with_buckets arrays Current buckets = record arrays { current = buckets }
-with_buckets arrays Old buckets = record arrays { linked = buckets }
-
 -- the arrays with another bucket on one side
 abbrev pub arrays_with : {K V : Type 0} → ArraysView K V → Side → ℕ → BucketView K V → ArraysView K V
 arrays_with arrays Current index bucket = record arrays { current = slice_set arrays.current index bucket }

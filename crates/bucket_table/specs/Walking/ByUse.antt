@@ -1,5 +1,5 @@
 -- The pairs of a cache's arrays by use, and what a walk over them has yet to give.
-use Rattle.std.specs.Prelude.{ℕ, List, [], ◌∷◌, ◌++◌, map}
+use Rattle.std.specs.Prelude.{ℕ, List, [], ◌∷◌, ◌++◌, Option, Some, None, map}
 use Rattle.bucket_slots.specs.BucketView.{BucketView}
 use Rattle.bucket_slots.specs.ByUse.{pairs_by_use}
 use Rattle.bucket_slots.specs.Slots.{live_pairs, slot_at}
@@ -17,3 +17,8 @@ arrays_by_use arrays = all_by_use arrays.current ++ all_by_use arrays.linked
 -- the live pairs of some own slots of a bucket
 abbrev pub own_left : {K V : Type 0} → BucketView K V → List ℕ → List (K × V)
 own_left bucket slots = live_pairs (map (slot_at bucket.own) slots)
+
+-- what is left of an array, nothing where there is none
+abbrev pub left_of : {X : Type 0} → Option (List X) → List X
+left_of None = []
+left_of (Some left) = left

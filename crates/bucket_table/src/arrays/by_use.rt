@@ -1,15 +1,14 @@
 //! An iterator over the pairs of a cache's arrays: bucket by bucket, those of each by use.
 //!
 //! A bucket's own slots come first, the one touched last before the others, and then its chain.
-ghost use Rattle.std.specs.Prelude.{◌≡◌, drop};
+ghost use Rattle.std.specs.Prelude.{◌≡◌, ◌∷◌, MatchOption, drop};
 ghost use Rattle.std.specs.Iterator.{YieldsFirstBy, item_count};
 ghost use Rattle.bucket_slots.specs.ByUse.{pairs_by_use};
+ghost use Rattle.bucket_slots.specs.Walking.{IsEnd, pairs_ahead};
 ghost use Rattle.bucket_table.specs.Views.ArraysView.{list_of};
-ghost use Rattle.bucket_table.specs.Walking.ByUse.{all_by_use, arrays_by_use, own_left};
-ghost use Rattle.bucket_table.specs.Walking.Left.{left_of};
+ghost use Rattle.bucket_table.specs.Walking.ByUse.{all_by_use, arrays_by_use, left_of, own_left};
 
 use super::Arrays;
-use super::pairs::pair_past;
 use bucket_slots::bucket::{BUCKET_LEN, Bucket, CACHE, EntryPtr};
 use bucket_slots::bucket_array::BucketArray;
 use bucket_slots::lru::DoublyLinkedList;
@@ -74,6 +73,24 @@ impl<'a, K, V> BucketByUse<'a, K, V> {
                 }
             }
         }
+    }
+}
+
+/// Moves to the next live slot of a bucket, and lends its pair; at the end it lends none and is the
+/// null pointer.
+#[inline(always)]
+fn pair_past<'b, K, V>(
+    bucket: &'b Bucket<K, V, DoublyLinkedList, CACHE>,
+    at: &mut EntryPtr<K, V, CACHE>,
+) -> Option<(&'b K, &'b V)>
+    ensures { MatchOption result (IsEnd bucket.now at.old at.new)
+        (λ pair. pairs_ahead bucket.now at.old
+        ≡ (pair.0.now, pair.1.now) ∷ pairs_ahead bucket.now at.new) }
+{
+    if at.find_next(bucket) {
+        Some(bucket.entry(at))
+    } else {
+        None
     }
 }
 
@@ -156,7 +173,7 @@ pub struct PairsByUse<'a, K, V> {
 
 impl<'a, K, V> Model for PairsByUse<'a, K, V> {
     ghost use Rattle.std.specs.Prelude.{List, ◌++◌};
-    ghost use Rattle.bucket_table.specs.Walking.Left.{left_of};
+    ghost use Rattle.bucket_table.specs.Walking.ByUse.{left_of};
 
     ghost Value = { List (K × V) };
 

@@ -1,15 +1,13 @@
 //! How many pairs the arrays have.
 ghost use Rattle.std.specs.Prelude.{◌≡◌, ◌-◌, ◌++◌, ℕ, [], length};
-ghost use Rattle.bucket_table.specs.Views.ArraysView.{ArePlaced, entries_of, list_of};
+ghost use Rattle.bucket_table.specs.Views.ArraysView.{ArePlaced, entries_of};
 ghost use Rattle.bucket_table.specs.Resize.Asking.{ResizesIf};
 ghost use Rattle.bucket_table.specs.Map.Counting.{CountsAndResizes, IsHeldBy, counted_to};
 ghost use Rattle.bucket_table.specs.Views.Keeping.{Keeps};
-ghost use Rattle.bucket_table.specs.Rehash.Relocation.{entries_among};
 ghost use Rattle.bucket_table.specs.Rehash.Units.{WorksUnits};
 
 use super::Arrays;
 use crate::key_hash::KeyHash;
-use bucket_slots::bucket_array::BucketArray;
 use bucket_slots::lru::LruList;
 
 impl<K: Eq + Drop, V: Drop, L: LruList + Drop, const TYPE: u8> Arrays<K, V, L, TYPE> {
@@ -55,34 +53,17 @@ impl<K, V, L: LruList, const TYPE: u8> Arrays<K, V, L, TYPE> {
         ensures count { result ≡ counted_to (entries_of self.now) }
         ensures within { IsHeldBy (entries_of self.now) (self.now.current ++ self.now.linked) }
     {
-        count_on(&self.current).saturating_add(count_on(&self.linked))
+        if !self.has_row() {
+            return 0;
+        }
+        self.row_room();
+        let mut live: usize = 0;
+        let mut index = 0;
+        while let Some(bucket) = self.nth(index) {
+            bucket.sound();
+            live = live.saturating_add(bucket.len());
+            index += 1;
+        }
+        live
     }
-}
-
-/// Returns how many pairs one side has, saturating.
-fn count_on<K, V, L: LruList, const TYPE: u8>(held: &Option<BucketArray<K, V, L, TYPE>>) -> usize
-    ensures count { result ≡ counted_to (entries_among (list_of held.now)) }
-    ensures within { IsHeldBy (entries_among (list_of held.now)) (list_of held.now) }
-{
-    match held {
-        None => 0,
-        Some(array) => count_in(array),
-    }
-}
-
-/// Returns how many pairs an array has, saturating.
-fn count_in<K, V, L: LruList, const TYPE: u8>(array: &BucketArray<K, V, L, TYPE>) -> usize
-    ensures count { result ≡ counted_to (entries_among array.now) }
-    ensures within { IsHeldBy (entries_among array.now) array.now }
-{
-    array.room();
-    let mut live: usize = 0;
-    let len = array.len();
-    for index in 0..len {
-        let bucket = array.bucket(index);
-        bucket.sound();
-        let here = bucket.len();
-        live = live.saturating_add(here);
-    }
-    live
 }

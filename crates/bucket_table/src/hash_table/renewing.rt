@@ -5,11 +5,10 @@ ghost use Rattle.std.specs.Prelude.{◌≡◌, ◌≢◌, ◌≤◌, ℕ, [], �
 ghost use Rattle.std.specs.Int.{IsPowerOfTwo};
 ghost use Rattle.bucket_slots.specs.Slots.{live_pair, slot_at};
 ghost use Rattle.bucket_table.specs.Resize.Renewing.{Awaits, Pours, Renews};
-ghost use Rattle.bucket_table.specs.Resize.Renewing.{all_by_age, chain_pairs, own_by_age, pairs_by_age};
-ghost use Rattle.bucket_table.specs.Views.Sides.{buckets_on, with_buckets};
+ghost use Rattle.bucket_table.specs.Resize.Renewing.{arrays_by_age, chain_pairs, own_by_age, pairs_by_age};
 ghost use Rattle.bucket_table.specs.Walking.ByUse.{own_left};
 
-use crate::arrays::{Arrays, Side};
+use crate::arrays::Arrays;
 use crate::hash_table::HashTable;
 use crate::key_hash::KeyHash;
 use bucket_slots::bucket::{AllocError, BUCKET_LEN, Bucket, CACHE, EntryPtr};
@@ -47,24 +46,23 @@ impl<K: Eq + Drop, V: Drop, H: KeyHash<K>, const TYPE: u8> HashTable<
     {
         let fresh = self.arrays.fresh(capacity)?;
         let mut source = mem::replace(&mut self.arrays, fresh);
-        self.pour_on(&mut source, Side::Current);
-        self.pour_on(&mut source, Side::Old);
+        self.pour_all(&mut source);
         Ok(())
     }
 
-    /// Puts the pairs of one side of other arrays in, bucket by bucket.
-    fn pour_on(&mut self, source: &mut Arrays<K, V, DoublyLinkedList, TYPE>, side: Side)
+    /// Puts the pairs of other arrays in, bucket by bucket.
+    fn pour_all(&mut self, source: &mut Arrays<K, V, DoublyLinkedList, TYPE>)
         requires cache { TYPE ≡ CACHE }
-        requires awaits { Awaits K.eq self.old (all_by_age (buckets_on source.old side)) }
-        ensures poured { Pours H.hash_of self.old (all_by_age (buckets_on source.old side))
-            self.new }
-        ensures others { source.new
-            ≡ with_buckets source.old side (buckets_on source.new side) }
+        requires awaits { Awaits K.eq self.old (arrays_by_age source.old) }
+        ensures { Pours H.hash_of self.old (arrays_by_age source.old) self.new }
     {
+        if !source.has_row() {
+            return;
+        }
+        source.row_room();
         let mut index = 0;
-        'buckets: while index < source.len_on(side) {
-            source.room_of(side);
-            self.pour_bucket(source.bucket_of_mut(side, index));
+        'buckets: while let Some(_bucket) = source.nth(index) {
+            self.pour_bucket(source.nth_mut(index));
             index += 1;
         }
     }

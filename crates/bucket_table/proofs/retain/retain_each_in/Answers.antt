@@ -8,36 +8,31 @@ use Rattle.bucket_table.proofs.retain.retain_each_in.Goals as goal
 pub own-init : goal.own-init
 own-init g c =
     let epoch = g.G.Generation.epoch_of c.args.generation.now in (
-      λ always. c.retain_front-at.ensures.again,
-      asking_front _ g.row.TYPE epoch c.args.keep.now c.retain_front-at.new.keep c.args.bucket.now c.retain_front-at.new.bucket
-          c.retain_front-at.result c.sound.ensures.own_long (c.retain_front-at.ensures.left epoch) c.retain_front-at.ensures.asked,
+      c.retain_front-at.ensures.again,
+      asking_front _ c.args.keep.now c.retain_front-at.new.keep c.args.bucket.now c.retain_front-at.new.bucket c.retain_front-at.result
+          c.sound.ensures.own_long c.retain_front-at.ensures.asked,
       c.retain_front-at.ensures.left epoch,
     )
 
-pub retain_slot-requires : goal.retain_slot-requires
-retain_slot-requires g c =
-    let live = next_live c.own.bucket c.own.at c.find_next_here.new.self (c.find_next_here.ensures.ahead c.own-test.true) in
-    (search rules, (search rules, (c.own.invariant.0 c.requires.callable, live)))
-
-pub retain_slot-requires-in-pairs : goal.retain_slot-requires-in-pairs
-retain_slot-requires-in-pairs g c =
+pub ask_slot-requires-in-pairs : goal.ask_slot-requires-in-pairs
+ask_slot-requires-in-pairs g c =
     let live = next_live c.pairs.bucket c.pairs.at c.find_next.new.self (c.find_next.ensures.ahead c.pairs-test.true) in
-    (search rules, (search rules, (c.pairs.invariant.0 c.requires.callable, live)))
+    (search rules, (search rules, (c.pairs.invariant.0, live)))
 
 pub own-smaller : goal.own-smaller
 own-smaller g c =
     let m = c.find_next_here.ensures.ahead c.own-test.true in
-    omega (arith, ap length m.ahead, ap length (c.retain_slot.ensures.retained m.pair m.here).ahead)
+    omega (arith, ap length m.ahead, ap length (c.ask_slot.ensures.asked m.pair m.here).ahead)
 
 pub own-preserved : goal.own-preserved
 own-preserved g c =
     let m = c.find_next_here.ensures.ahead c.own-test.true in (
-      λ always. c.retain_slot.ensures.again,
-      asks _ (g.G.Generation.epoch_of c.args.generation.now) c.args.keep.now c.own.keep c.retain_slot.new.keep c.args.bucket.now
-          c.own.bucket c.retain_slot.new.bucket c.own.at c.find_next_here.new.self c.retain_slot.new.at m
-          (c.retain_slot.ensures.retained m.pair m.here) c.retain_slot.ensures.marks c.own.invariant.1,
-      left_both g.row.TYPE (g.G.Generation.epoch_of c.args.generation.now) c.args.bucket.now c.own.bucket c.retain_slot.new.bucket
-          c.own.invariant.2 c.retain_slot.ensures.left,
+      c.ask_slot.ensures.again,
+      asks _ g.row.TYPE c.args.keep.now c.own.keep c.ask_slot.new.ask c.args.bucket.now
+          c.own.bucket c.ask_slot.new.bucket c.own.at c.find_next_here.new.self c.ask_slot.new.at _ m
+          (c.ask_slot.ensures.asked m.pair m.here) c.own.invariant.1,
+      left_both g.row.TYPE (g.G.Generation.epoch_of c.args.generation.now) c.args.bucket.now c.own.bucket c.ask_slot.new.bucket
+          c.own.invariant.2 c.ask_slot.ensures.left,
     )
 
 pub pairs-init : goal.pairs-init
@@ -46,31 +41,29 @@ pairs-init g c = rw (c.find_next_here.ensures.stays c.own-test.false) c.own.inva
 pub pairs-smaller : goal.pairs-smaller
 pairs-smaller g c =
     let m = c.find_next.ensures.ahead c.pairs-test.true in
-    omega (arith, ap length m.ahead, ap length (c.retain_slot-in-pairs.ensures.retained m.pair m.here).ahead)
+    omega (arith, ap length m.ahead, ap length (c.ask_slot-in-pairs.ensures.asked m.pair m.here).ahead)
 
 pub pairs-preserved : goal.pairs-preserved
 pairs-preserved g c =
     let m = c.find_next.ensures.ahead c.pairs-test.true in (
-      λ always. c.retain_slot-in-pairs.ensures.again,
-      asks _ (g.G.Generation.epoch_of c.args.generation.now) c.args.keep.now c.pairs.keep c.retain_slot-in-pairs.new.keep c.args.bucket.now
-          c.pairs.bucket c.retain_slot-in-pairs.new.bucket c.pairs.at c.find_next.new.self c.retain_slot-in-pairs.new.at m
-          (c.retain_slot-in-pairs.ensures.retained m.pair m.here) c.retain_slot-in-pairs.ensures.marks c.pairs.invariant.1,
+      c.ask_slot-in-pairs.ensures.again,
+      asks _ g.row.TYPE c.args.keep.now c.pairs.keep c.ask_slot-in-pairs.new.ask c.args.bucket.now
+          c.pairs.bucket c.ask_slot-in-pairs.new.bucket c.pairs.at c.find_next.new.self c.ask_slot-in-pairs.new.at _ m
+          (c.ask_slot-in-pairs.ensures.asked m.pair m.here) c.pairs.invariant.1,
       left_both g.row.TYPE (g.G.Generation.epoch_of c.args.generation.now) c.args.bucket.now c.pairs.bucket
-          c.retain_slot-in-pairs.new.bucket c.pairs.invariant.2 c.retain_slot-in-pairs.ensures.left,
+          c.ask_slot-in-pairs.new.bucket c.pairs.invariant.2 c.ask_slot-in-pairs.ensures.left,
     )
 
 pub overflow_sub-result : goal.overflow_sub-result
 overflow_sub-result g c =
-    let less = fewer _ _ _ _ c.args.bucket.now c.pairs.bucket c.pairs.at c.pairs.invariant.1 in
+    let less = fewer _ _ _ c.args.bucket.now c.pairs.bucket c.pairs.at c.pairs.invariant.1 in
     omega (arith, less, c.len-before.ensures, c.len.ensures)
 
 pub returns-clause-retained : goal.returns-clause-retained
 returns-clause-retained g c =
     let amid = c.pairs.invariant.1 in
-    let less = fewer _ _ _ _ c.args.bucket.now c.pairs.bucket c.pairs.at amid in
+    let less = fewer _ _ _ c.args.bucket.now c.pairs.bucket c.pairs.at amid in
     record {
-      asked = all_asked _ _ _ _ _ _ c.pairs.at amid (c.find_next.ensures.end c.pairs-test.false).ahead;
-      keys = amid.keys;
+      asked = all_asked _ _ _ _ _ c.pairs.at amid (c.find_next.ensures.end c.pairs-test.false).ahead;
       counted = omega (arith, less, c.len-before.ensures, c.len.ensures);
-      marks = amid.marks;
     }

@@ -7,16 +7,16 @@ use Rattle.bucket_table.proofs.retain.retain_each_in.Given as goal
 -- the closure can be called again, and was asked for each pair that is no more ahead; the bucket is left so
 abbrev pub invariant-own : goal.invariant-own
 invariant-own g l =
-    (always_mut g.F.FnMut l.fn.keep → always_mut g.F.FnMut l.keep)
+    always_mut g.F.FnMut l.keep
     × IsAsking (λ state own before answer after last. goal.F-step g state own before answer after last)
-    (g.G.Generation.epoch_of l.generation) l.fn.keep l.fn.bucket l.keep l.bucket l.at
+    l.fn.keep l.fn.bucket l.keep l.bucket l.at
     × IsLeftOf g.row.TYPE (g.G.Generation.epoch_of l.generation) l.fn.bucket l.bucket
 
 abbrev pub invariant-pairs : goal.invariant-pairs
 invariant-pairs g l =
-    (always_mut g.F.FnMut l.fn.keep → always_mut g.F.FnMut l.keep)
+    always_mut g.F.FnMut l.keep
     × IsAsking (λ state own before answer after last. goal.F-step g state own before answer after last)
-    (g.G.Generation.epoch_of l.generation) l.fn.keep l.fn.bucket l.keep l.bucket l.at
+    l.fn.keep l.fn.bucket l.keep l.bucket l.at
     × IsLeftOf g.row.TYPE (g.G.Generation.epoch_of l.generation) l.fn.bucket l.bucket
 
 abbrev pub decreases-own : goal.decreases-own

@@ -1,4 +1,4 @@
-use Rattle.bucket_table.proofs.Words.{arith, by-no_new, by-trans, marks_in, no_new-refl, refl}
+use Rattle.bucket_table.proofs.Words.{arith, refl}
 use Rattle.bucket_table.proofs.Walking.Leaving.{left_both, left_same}
 use Rattle.bucket_table.proofs.Walking.Retaining.{fewer, retained, sets_out, steps}
 use Rattle.bucket_table.proofs.retain.retain_in.Goals as goal
@@ -6,8 +6,6 @@ use Rattle.bucket_table.proofs.retain.retain_in.Goals as goal
 pub own-init : goal.own-init
 own-init g c = (
   sets_out _ c.args.bucket.now c.null-at.result c.null-at.ensures,
-  by-no_new (g.G.Generation.epoch_of c.args.generation.now) (marks_in c.args.bucket.now) (marks_in c.args.bucket.now)
-      (no_new-refl (marks_in c.args.bucket.now)),
   left_same g.row.TYPE (g.G.Generation.epoch_of c.args.generation.now) c.args.bucket.now,
 )
 
@@ -22,10 +20,8 @@ own-preserved g c =
     let m = c.find_next_here.ensures.ahead c.own-test.true in (
       (steps _ c.args.bucket.now c.own.bucket c.retain_at.new.bucket c.own.at c.find_next_here.new.self c.retain_at.new.at m
           (c.retain_at.ensures.retained m.pair m.here) c.own.invariant.0).0,
-      by-trans _ (marks_in c.args.bucket.now) (marks_in c.own.bucket) (marks_in c.retain_at.new.bucket) c.own.invariant.1
-          c.retain_at.ensures.marks,
       left_both g.row.TYPE (g.G.Generation.epoch_of c.args.generation.now) c.args.bucket.now c.own.bucket c.retain_at.new.bucket
-          c.own.invariant.2 c.retain_at.ensures.left,
+          c.own.invariant.1 c.retain_at.ensures.left,
     )
 
 pub pairs-init : goal.pairs-init
@@ -42,10 +38,8 @@ pairs-preserved g c =
     let m = c.find_next.ensures.ahead c.pairs-test.true in (
       (steps _ c.args.bucket.now c.pairs.bucket c.retain_at-in-pairs.new.bucket c.pairs.at c.find_next.new.self
           c.retain_at-in-pairs.new.at m (c.retain_at-in-pairs.ensures.retained m.pair m.here) c.pairs.invariant.0).0,
-      by-trans _ (marks_in c.args.bucket.now) (marks_in c.pairs.bucket) (marks_in c.retain_at-in-pairs.new.bucket) c.pairs.invariant.1
-          c.retain_at-in-pairs.ensures.marks,
       left_both g.row.TYPE (g.G.Generation.epoch_of c.args.generation.now) c.args.bucket.now c.pairs.bucket c.retain_at-in-pairs.new.bucket
-          c.pairs.invariant.2 c.retain_at-in-pairs.ensures.left,
+          c.pairs.invariant.1 c.retain_at-in-pairs.ensures.left,
     )
 
 pub overflow_sub-result : goal.overflow_sub-result

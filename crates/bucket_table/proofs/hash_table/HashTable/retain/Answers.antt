@@ -1,27 +1,54 @@
-use Rattle.bucket_table.proofs.Words.{◌∙◌}
-use Rattle.bucket_table.proofs.Views.Keeping.{bag_same}
-use Rattle.bucket_table.proofs.Walking.RetainingTable.{both_sides}
+use Rattle.bucket_table.proofs.Words.{ap, arith, bucket_at, length, pairs_in, refl, sym, ◌<◌, ◌∙◌}
+use Rattle.bucket_table.specs.Walking.Row.{row_of}
+use Rattle.bucket_table.proofs.Walking.Each.{nothing}
+use Rattle.bucket_table.proofs.Walking.RetainingTable.{IsRetained, ends, goes_on, passes, sets_out}
+use Rattle.bucket_table.proofs.hash_table.HashTable.retain.Given as given
 use Rattle.bucket_table.proofs.hash_table.HashTable.retain.Goals as goal
+use Rattle.bucket_table.proofs.hash_table.HashTable.retain.Goals.{then-len-ne0, else-len-ne0}
 
-pub returns : goal.returns
-returns g c =
-    let r = both_sides _ (g.G.Generation.epoch_of c.args.generation.now) c.args.keep.now c.retain_on-current.new.keep
-    c.retain_on-linked.new.keep c.args.self.now.arrays c.retain_on-current.new.self.arrays c.retain_on-linked.new.self.arrays
-    c.retain_on-current.result c.retain_on-linked.result c.saturating_add.result c.retain_on-current.ensures.retained
-    c.retain_on-current.ensures.others c.retain_on-linked.ensures.retained c.retain_on-linked.ensures.others c.saturating_add.ensures
-    g.row.TYPE c.retain_on-current.ensures.left c.retain_on-linked.ensures.left in
-    record {
-      again = c.retain_on-linked.ensures.again;
-      retained = r.asked;
-      count = r.counted;
-      marks = r.marks;
-      settings = record {
-        hasher = c.retain_on-linked.ensures.hasher ∙ c.retain_on-current.ensures.hasher;
-        minimum = r.minimum;
-        maximum = r.maximum;
-        bag = rw r.tickets (bag_same c.args.self.now.arrays.tickets);
-      };
-      tickets = r.tickets;
-      current = r.current;
-      linked = r.linked;
-    }
+pub loop-bucket-init : goal.loop-bucket-init
+loop-bucket-init g c = (c.requires.callable, refl, sets_out _ g.row.TYPE _ _ _)
+
+pub loop-bucket-preserved : goal.loop-bucket-preserved
+loop-bucket-preserved g c =
+    let amid = c.loop-bucket.invariant in
+    let row = ap (λ t. row_of t.arrays) c.self-in-loop-bucket.view_is in
+    let within : c.loop-bucket.index < length (row_of c.loop-bucket.self.arrays) = omega (arith, ap length row, c.in-Some.ensures.bucket.0) in
+    let live = c.len.ensures ∙ ap (λ b. length (pairs_in b)) (c.in-Some.ensures.bucket.1 ∙ ap (λ bs. bucket_at bs c.loop-bucket.index) row) in
+    elim c.if-len-ne0.branch [
+      | then-len-ne0 w ↦ rw (w.self-is, w.keep-is, w.count-is) (
+        w.retain_nth-gone.ensures.again,
+        w.retain_nth-gone.ensures.hasher ∙ amid.1,
+        goes_on _ g.row.TYPE _ _ _ _ _ _ _ _ _ _ _ within w.retain_nth-gone.ensures.retained w.saturating_add-count.ensures amid.2,
+      )
+      | else-len-ne0 w ↦ rw (w.self-is, w.keep-is, w.count-is) (
+        amid.0,
+        amid.1,
+        passes _ g.row.TYPE _ _ _ _ _ _ _ within (nothing _ (sym live ∙ w.if-len-ne0.false)) amid.2,
+      )
+    ]
+
+pub loop-bucket-smaller : goal.loop-bucket-smaller
+loop-bucket-smaller g c =
+    let row = ap (λ t. length (row_of t.arrays)) c.self-in-loop-bucket.view_is in
+    omega (arith, row, c.in-Some.ensures.bucket.0, c.loop-bucket.invariant.2.left.len, (loop-bucket-preserved g c).2.left.len)
+
+-- the whole row was gone through
+all_retained : (g : given.Over) (c : goal.In_default g) → IsRetained (λ state own before answer after last. given.F-step g state own before answer after last)
+    g.row.TYPE (g.G.Generation.epoch_of c.args.generation.now) c.args.keep.now c.args.self.now.arrays c.loop-bucket.self.arrays
+    c.loop-bucket.count c.loop-bucket.keep
+all_retained g c =
+    let row = ap (λ t. length (row_of t.arrays)) c.self-in-loop-bucket.view_is in
+    ends _ g.row.TYPE _ _ _ _ _ c.loop-bucket.index _ (omega (arith, row, c.in_default.ensures.bucket)) c.loop-bucket.invariant.2
+
+pub returns-clause-retained : goal.returns-clause-retained
+returns-clause-retained g c = (all_retained g c).asked
+
+pub returns-clause-count : goal.returns-clause-count
+returns-clause-count g c = (all_retained g c).counted
+
+pub returns-clause-current : goal.returns-clause-current
+returns-clause-current g c = (all_retained g c).current
+
+pub returns-clause-linked : goal.returns-clause-linked
+returns-clause-linked g c = (all_retained g c).linked

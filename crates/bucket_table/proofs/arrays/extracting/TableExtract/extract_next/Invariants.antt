@@ -1,18 +1,18 @@
 use Rattle.bucket_table.proofs.Words.{length}
 use denote.Param.Always.{always_mut}
-use Rattle.bucket_table.specs.Walking.Extracting.{pairs_behind}
+use Rattle.bucket_table.specs.Walking.Row.{pairs_from, row_of}
 use Rattle.bucket_table.proofs.Walking.Extracting.{IsExtracting}
 use Rattle.bucket_table.proofs.arrays.extracting.TableExtract.extract_next.Given as goal
 
 -- the closure can be called again, and refused the pairs that are no more left
 abbrev pub invariant-slots : goal.invariant-slots
 invariant-slots g l =
-    (always_mut g.F.FnMut l.fn.pick → always_mut g.F.FnMut l.pick)
+    always_mut g.F.FnMut l.pick
     × IsExtracting (λ state own before answer after last. goal.F-step g state own before answer after last) l.fn.pick l.fn.self l.pick
     (record {
       arrays = l.self-inside.arrays;
-      left = pairs_behind l.self-inside.arrays l.self-inside.side l.self-inside.index l.self-inside.at;
+      left = pairs_from (row_of l.self-inside.arrays) l.self-inside.index l.self-inside.at;
     })
 
 abbrev pub decreases-slots : goal.decreases-slots
-decreases-slots g l = length (pairs_behind l.self-inside.arrays l.self-inside.side l.self-inside.index l.self-inside.at)
+decreases-slots g l = length (pairs_from (row_of l.self-inside.arrays) l.self-inside.index l.self-inside.at)

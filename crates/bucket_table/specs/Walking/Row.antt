@@ -1,0 +1,32 @@
+-- The buckets of both arrays in a row, and the pairs behind a place in it.
+use Rattle.std.specs.Prelude.{ℕ, ◌≡◌, ◌<◌, ◌+◌, ◌-◌, nat_lt, if◌then◌else◌, List, ◌∷◌, ◌++◌, drop, length}
+use Rattle.bucket_slots.specs.ArrayView.{bucket_at}
+use Rattle.bucket_slots.specs.BucketView.{BucketView, Place}
+use Rattle.bucket_slots.specs.Walking.{MovesToNext, pairs_ahead}
+use Rattle.bucket_table.specs.Map.LookingUp.{pairs_in_all}
+use Rattle.bucket_table.specs.Views.ArraysView.{ArraysView}
+use Rattle.bucket_table.specs.Views.Sides.{arrays_with}
+use Rattle.bucket_table.specs.declared.arrays.side.Side.TheVariants.{Current, Old}
+
+-- the buckets of the current array, and then of the old one
+abbrev pub row_of : {K V : Type 0} → ArraysView K V → List (BucketView K V)
+row_of arrays = arrays.current ++ arrays.linked
+
+-- the arrays with another bucket in the row
+abbrev pub row_with : {K V : Type 0} → ArraysView K V → ℕ → BucketView K V → ArraysView K V
+row_with arrays index bucket =
+    if nat_lt index (length arrays.current) then arrays_with arrays Current index bucket
+    else arrays_with arrays Old (index - length arrays.current) bucket
+
+-- the pairs behind a place in a bucket of a row, and those of the buckets behind it
+abbrev pub pairs_from : {K V : Type 0} → List (BucketView K V) → ℕ → Place → List (K × V)
+pairs_from buckets index at = pairs_ahead (bucket_at buckets index) at ++ pairs_in_all (drop (index + 1) buckets)
+
+-- a place moves to the first live slot behind it, in a bucket: the pair there was the first of what is left
+pub record MovesOn {K V : Type 0} (buckets : List (BucketView K V)) (index : ℕ) (at : Place) (bucket : BucketView K V) (to_index : ℕ)
+    (to : Place) : Type 0 where
+  pub within : to_index < length buckets
+  pub here : bucket ≡ bucket_at buckets to_index
+  pub from : Place
+  pub moves : MovesToNext (bucket_at buckets to_index) from to
+  pub first : pairs_from buckets index at ≡ moves.pair ∷ pairs_from buckets to_index to
