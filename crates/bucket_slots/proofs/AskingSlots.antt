@@ -1,5 +1,5 @@
 -- A function that is lent the value of each live slot of a row, by the mask of those that are left.
-use Rattle.bucket_slots.proofs.Words.{BucketView, CACHE, IsBucket, flattened, is_marked, live_pairs, marked_len, sum_by-append, ◌≢◌}
+use Rattle.bucket_slots.proofs.Words.{BucketView, CACHE, IsBucket, flattened, is_marked, marked_len, sum_by-append, ◌≢◌}
 use Rattle.bucket_slots.proofs.Words.{Bool, Bor, IsLowest, IsMaskOf, List, MutBor, SetsBit, Slot, Some, [], ap, append-nil, append_assoc}
 use Rattle.bucket_slots.proofs.Words.{arith, bit_at-zero}
 use Rattle.bucket_slots.proofs.Words.{drop, drop_all, drop_more, false, free, get_or-set_same, if◌then◌else◌, is_live, length}
@@ -8,7 +8,7 @@ use Rattle.bucket_slots.proofs.Words.{slot_with_value, subst, suc, sym, take}
 use Rattle.bucket_slots.proofs.Words.{take_all, true, zero, ℕ, ◌++◌, ◌+◌, ◌-◌, ◌<◌, ◌∙◌, ◌∷◌, ◌≡◌, ◌≤◌}
 use Rattle.std.proofs.lemmas.List.Sums.{sum_by-cons}
 use Rattle.bucket_slots.proofs.ChangedSlots.{live-value}
-use Rattle.bucket_slots.proofs.Counting.{length-live_pairs-append, tally}
+use Rattle.bucket_slots.proofs.Counting.{tally}
 use Rattle.std.proofs.lemmas.List.{get_or-append_right, set-append_right, take_more}
 use Rattle.bucket_slots.specs.Walking.{AsksSlot, AsksSlots}
 use Rattle.bucket_slots.proofs.LiveMasks.{NamesFrom, lowest_ahead, named_live, names_all, names_next}
@@ -166,48 +166,32 @@ module _ {S K V : Type 0} (step : S → Bor K → MutBor V → Bool → MutBor V
       rw ends (rw whole at upto.asked)
 
 module _ {S K V : Type 0} (step : S → Bor K → MutBor V → Bool → MutBor V → S → Type 0) where
-  one_fewer : (first last : S) (slot here : Slot K V) (slots rest : List (Slot K V)) → AsksSlot step first slot here last
-      → length (live_pairs rest) ≤ length (live_pairs slots)
-      → (length (live_pairs (here ∷ rest)) ≤ length (live_pairs (slot ∷ slots))) × (is_marked here ≡ is_marked slot)
-  one_fewer first last free here slots rest (is, same) fewer = rw is (fewer, refl)
-  one_fewer first last (live pair byte) here slots rest (own, before, after, answer, read, call, is) fewer =
-      rw is (by_answer answer)
+  mark_stays : (first last : S) (slot here : Slot K V) → AsksSlot step first slot here last → is_marked here ≡ is_marked slot
+  mark_stays first last free here (is, same) = rw is refl
+  mark_stays first last (live pair byte) here (own, before, after, answer, read, call, is) = rw is (by_answer answer)
     where
-      by_answer : (b : Bool) → (length (live_pairs ((if b then live (own.now, after.now) byte else free) ∷ rest))
-          ≤ length (live_pairs (live pair byte ∷ slots))) × (is_marked (if b then live (own.now, after.now) byte else free) ≡ false)
-      by_answer true = (omega (arith, fewer), refl)
-      by_answer false = (omega (arith, fewer), refl)
-  one_fewer first last (marked pair byte) here slots rest (is, same) fewer = rw is (fewer, refl)
+      by_answer : (b : Bool) → is_marked (if b then live (own.now, after.now) byte else free) ≡ false
+      by_answer true = refl
+      by_answer false = refl
+  mark_stays first last (marked pair byte) here (is, same) = rw is refl
 
-  -- no pair comes, and as many slots are marked
-  pub asked_fewer : (first last : S) (slots left : List (Slot K V)) → AsksSlots step first slots left last
-      → (length (live_pairs left) ≤ length (live_pairs slots)) × (marked_len left ≡ marked_len slots)
-  asked_fewer first last [] left (none, same) = rw none (omega arith, refl)
-  asked_fewer first last (slot ∷ slots) left (mid, here, rest, asked, is, later) =
-      let (fewer, marks) = asked_fewer mid last slots rest later in
-      let (less, mark) = one_fewer first mid slot here slots rest asked fewer in
-      rw is (
-        less,
-        omega (
-          arith,
-          marks,
-          sum_by-cons (λ (x : Slot K V). tally (is_marked x)) here rest,
-          sum_by-cons (λ (x : Slot K V). tally (is_marked x)) slot slots,
-          ap tally mark,
-        ),
-      )
+  -- as many slots are marked
+  asked_marks : (first last : S) (slots left : List (Slot K V)) → AsksSlots step first slots left last
+      → marked_len left ≡ marked_len slots
+  asked_marks first last [] left (none, same) = rw none refl
+  asked_marks first last (slot ∷ slots) left (mid, here, rest, asked, is, later) =
+      let marks : Slot K V → ℕ = λ x. tally (is_marked x) in
+      let mark = ap tally (mark_stays first mid slot here asked) in
+      rw is (omega (arith, asked_marks mid last slots rest later, sum_by-cons marks here rest, sum_by-cons marks slot slots, mark))
 
-  -- the bucket's law, where the stored length is less by those that are gone
-  pub bucket_asked : (kind : ℕ) (s : BucketView K V) (len after : ℕ) (own : List (Slot K V)) (first last : S) → kind ≢ CACHE
-      → IsBucket kind s len → AsksSlots step first s.own own last → after + length (live_pairs s.own) ≡ len + length (live_pairs own)
-      → IsBucket kind (record s { own = own }) after
-  bucket_asked kind s len after own first last other h asked counted =
-      let (fewer, marks) = asked_fewer first last s.own own asked in
+  -- the bucket's law
+  pub bucket_asked : (kind : ℕ) (s : BucketView K V) (len : ℕ) (own : List (Slot K V)) (first last : S) → kind ≢ CACHE
+      → IsBucket kind s len → AsksSlots step first s.own own last → IsBucket kind (record s { own = own }) len
+  bucket_asked kind s len own first last other h asked =
+      let marks = asked_marks first last s.own own asked in
       let long = asked_len step first last s.own own asked in
-      let lives = length-live_pairs-append s.own (flattened s.chain) in
-      let more = length-live_pairs-append own (flattened s.chain) in
       record {
-        counted = omega (arith, h.counted, lives, more, counted);
+        counted = h.counted;
         own_long = long ∙ h.own_long;
         listed_live = rw (h.unlisted other) (λ k d below. absurd (omega arith));
         unlisted = h.unlisted;

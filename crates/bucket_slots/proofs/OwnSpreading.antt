@@ -2,13 +2,11 @@
 use Rattle.bucket_slots.proofs.Words.{Bor, BucketView, IsBucket, IsBucketOf, IsLowest, IsMaskOf, IsRecencyOrder, IsRow, List, None, Option}
 use Rattle.bucket_slots.proofs.Words.{SetsBit, Slot, Some, arith, bit_at, bit_or, cond, flattened, free, get_or, is_live, is_marked}
 use Rattle.bucket_slots.proofs.Words.{is_some, length, live, live_pairs, marked, order_without, pair_of, refl, row_slots, set}
-use Rattle.bucket_slots.proofs.Words.{slot_at, slots_vacated_at, slots_with, suc, sym, true, ℕ, ◌%◌, ◌*◌, ◌+◌, ◌<◌, ◌^◌, ◌∙◌, ◌≡◌, ◌≤◌}
+use Rattle.bucket_slots.proofs.Words.{slot_at, slots_vacated_at, slots_with, suc, true, ℕ, ◌%◌, ◌+◌, ◌<◌, ◌∙◌, ◌≡◌, ◌≤◌}
 use Rattle.std.proofs.lemmas.Nat.Bits.{bit_at_or}
 use Rattle.bucket_slots.specs.ArrayView.{bucket_at}
 use Rattle.bucket_slots.specs.Layout.OwnSpreading.{SpreadsOwn}
-use Rattle.bucket_slots.proofs.BucketPlacing.{len_small}
 use Rattle.bucket_slots.proofs.ChangedSlots.{IsBucket-vacated}
-use Rattle.bucket_slots.proofs.Counting.{length-live_pairs-append}
 use Rattle.bucket_slots.proofs.FirstPlaces.{live_occupied}
 use Rattle.bucket_slots.proofs.Masks.{IsMaskOf-from, IsMaskOf-set, bit-mask, bit_already, lowest_passes, position-lowest, within}
 use Rattle.bucket_slots.proofs.NextPlaces.{moves_first}
@@ -23,24 +21,22 @@ SetsBit-or marks left k after clear s = record {
 }
 
 module _ {K V : Type 0} where
-  -- a bucket that keeps what every bucket does and counts its pairs
-  pub IsBucket-counted : (kind : ℕ) (s : BucketView K V) (len : ℕ) → IsBucketOf kind s
-      → len ≡ length (live_pairs s.own) + length (live_pairs (flattened s.chain)) → IsBucket kind s len × (len ≤ 32 + 4 * 2 ^ 28)
-  IsBucket-counted kind s len kept counted =
-      let is : IsBucket kind s len = record {
-        counted = counted ∙ sym (length-live_pairs-append s.own (flattened s.chain));
-        own_long = kept.own_long;
-        listed_live = kept.listed_live;
-        unlisted = kept.unlisted;
-        unmarked = kept.unmarked;
-      } in
-      (is, len_small kind s len is (record { long = kept.blocks_long; few = kept.few }))
+  -- a bucket that keeps what every bucket does and counts the chain's pairs
+  pub IsBucket-counted : (kind : ℕ) (s : BucketView K V) (len : ℕ) → IsBucketOf kind s → len ≡ length (live_pairs (flattened s.chain))
+      → IsBucket kind s len
+  IsBucket-counted kind s len kept counted = record {
+    counted = counted;
+    own_long = kept.own_long;
+    listed_live = kept.listed_live;
+    unlisted = kept.unlisted;
+    unmarked = kept.unmarked;
+  }
 
   -- it keeps that where a live own slot is vacated
   IsBucketOf-vacated : (kind : ℕ) (s : BucketView K V) (pos : ℕ) → IsBucketOf kind s → is_live (slot_at s.own pos) ≡ true
       → IsRecencyOrder (order_without s.listed pos) → IsBucketOf kind (slots_vacated_at s 0 pos)
   IsBucketOf-vacated kind s pos kept alive once =
-      let after = IsBucket-vacated kind s _ 0 pos (IsBucket-counted kind s _ kept refl).0 alive in
+      let after = IsBucket-vacated kind s _ 0 pos (IsBucket-counted kind s _ kept refl) alive in
       record {
         own_long = after.own_long;
         blocks_long = kept.blocks_long;

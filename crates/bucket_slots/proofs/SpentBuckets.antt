@@ -15,9 +15,9 @@ module _ {K V : Type 0} where
   none_listed own (slot ∷ listed) vacant live =
       absurd (no_live own slot vacant (All-head (λ at. IsTrue (is_live (slot_at own at))) slot listed live))
 
-  pub spent_is : (kind len : ℕ) (s t : BucketView K V) → s ≡ t → IsBucket kind s len → s.killed ≡ true → all_free s.own ≡ true
+  pub spent_is : (kind chained : ℕ) (s t : BucketView K V) → s ≡ t → IsBucket kind s chained → s.killed ≡ true → all_free s.own ≡ true
       → s.chain ≡ [] → t ≡ record empty_bucket { killed = true }
-  spent_is kind len s t is kept killed vacant none =
+  spent_is kind chained s t is kept killed vacant none =
       let own : s.own ≡ replicate 32 free = free_slots s.own vacant ∙ ap (λ n. replicate n free) kept.own_long in
       let listed = none_listed s.own s.listed vacant kept.listed_live in
       sym is ∙ ap (λ x. record s { own = x }) own ∙ ap (λ x. record s { own = replicate 32 free; chain = x }) none

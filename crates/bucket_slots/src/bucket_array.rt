@@ -35,7 +35,7 @@ use crate::bucket::room::fits_in_memory;
 use crate::bucket::{AllocError, BUCKET_LEN, Bucket};
 use crate::data_block::DataBlock;
 use crate::lru::LruList;
-use part::{Part, bucket_in, release_in, spare_buckets, spread_in};
+use part::{Part, bucket_in, release_in, release_to_in, spare_buckets, spread_in};
 use sizing::{LEAST_PART_BITS, MINIMUM_CAPACITY};
 pub use sizing::{MAXIMUM_SLOTS, full_sample_size_of, large_sample_size_of, small_sample_size_of};
 use std::alloc::Global;
@@ -100,7 +100,7 @@ impl<K: Drop, V: Drop, L: LruList + Drop, const TYPE: u8> BucketArray<K, V, L, T
     /// Allocation failed: nothing is kept. All memory is asked for here, a request for each part
     /// among others, and its buckets are made later.
     ///
-    /// O(parts), which are 256 at most. scc: `BucketArray::new`.
+    /// O(parts), which are 1,024 at most. scc: `BucketArray::new`.
     pub fn alloc(alloc: Global, capacity: usize) -> Result<Self, AllocError>
         ensures { IfOk result (IsNewArray capacity) }
     {
@@ -181,6 +181,29 @@ impl<K: Drop, V: Drop, L: LruList + Drop, const TYPE: u8> BucketArray<K, V, L, T
             let (part, _offset) = sizing::place_of(index, self.part_bits, self.part_mask);
             release_in(&mut self.parts, part);
         }
+    }
+
+    /// Lets the buckets of the part around a bucket go, where every one is killed and holds
+    /// nothing, and exchanges their memory with that of a part of another array that has none made:
+    /// one of the next parts that pairs move to. Where there is none, it is `release_around`. No
+    /// bucket changes.
+    ///
+    /// O(1) where the last of them isn't killed, else O(buckets of the part). Own.
+    pub fn release_into(&mut self, index: usize, to: &mut Self)
+        requires { index < length self.old }
+        ensures kept { self.new ≡ self.old }
+        ensures other { to.new ≡ to.old }
+    {
+        if self.part_bits != to.part_bits {
+            self.release_around(index);
+            return;
+        }
+        self.room();
+        let (part, _offset) = sizing::place_of(index, self.part_bits, self.part_mask);
+        if release_to_in(&mut self.parts, part, &mut to.parts) {
+            return;
+        }
+        self.release_around(index);
     }
 }
 

@@ -5,7 +5,7 @@
 //! nothing is released: its buckets go, and those that aren't made are killed ones from then on.
 //!
 //! Own.
-ghost use Rattle.std.specs.Prelude.{◌≡◌, ℕ, ◌+◌, ◌<◌, ◌≤◌, ◌^◌, ◌∷◌, [], List, true, false, IfOk, length, replicate, slice_set};
+ghost use Rattle.std.specs.Prelude.{◌≡◌, ℕ, ◌+◌, ◌<◌, ◌≤◌, ◌^◌, ◌∷◌, [], List, true, false, IfOk, IfSome, length, replicate, slice_set};
 ghost use Rattle.std.specs.Prelude.{vec_capacity, vec_len};
 ghost use Rattle.std.specs.Borrow.{sem};
 ghost use Rattle.bucket_slots.specs.ArrayRoom.{BucketFits};
@@ -20,7 +20,11 @@ use crate::bucket::{AllocError, Bucket};
 use crate::lru::LruList;
 use std::alloc::Global;
 use std::marker::Model;
+use std::mem;
 use std::mem::ManuallyDrop;
+
+/// How many parts are looked at for one of which no bucket is made.
+const FRESH_TRIES: usize = 8;
 
 /// A run of buckets, of which the first ones are made.
 pub(crate) struct Part<K, V, L: LruList, const TYPE: u8> {
@@ -122,6 +126,24 @@ impl<K: Drop, V: Drop, L: LruList + Drop, const TYPE: u8> Part<K, V, L, TYPE> {
             if let Ok(untouched) = Vec::with_capacity(alloc, self.made.capacity()) {
                 self.made = untouched;
             }
+            self.released = true;
+        }
+    }
+
+    /// Lets the buckets go, where every one is killed and holds nothing, and exchanges their memory
+    /// with that of a part as long that has none made. What is read of both stays.
+    fn release_to(&mut self, fresh: &mut Self)
+        requires { BucketFits K.row V.row L.row TYPE.row
+            (record { KEEPS = L.KEEPS; listed = L.listed; IsTail = L.IsTail }) L.Default }
+        ensures kept { self.new ≡ self.old }
+        ensures fresh { fresh.new ≡ fresh.old }
+    {
+        if !fresh.made.is_empty() || fresh.made.capacity() != self.made.capacity() {
+            return;
+        }
+        if self.made.len() == self.made.capacity() && are_spent(&self.made) {
+            self.made.clear();
+            mem::swap(&mut self.made, &mut fresh.made);
             self.released = true;
         }
     }
@@ -296,6 +318,44 @@ pub(crate) fn release_in<K: Drop, V: Drop, L: LruList + Drop, const TYPE: u8>(
     ensures { parts.new.items ≡ parts.old.items }
 {
     parts[part].release();
+}
+
+/// Lets the buckets of one of the parts go, where every one is killed and holds nothing, and
+/// exchanges their memory with that of a part of other ones that has none made: the first among a
+/// few that pairs move to next. What is read of both stays. Returns whether there is such a part.
+pub(crate) fn release_to_in<K: Drop, V: Drop, L: LruList + Drop, const TYPE: u8>(
+    parts: &mut Vec<Part<K, V, L, TYPE>>,
+    part: usize,
+    others: &mut Vec<Part<K, V, L, TYPE>>,
+) -> bool
+    requires fits { BucketFits K.row V.row L.row TYPE.row
+        (record { KEEPS = L.KEEPS; listed = L.listed; IsTail = L.IsTail }) L.Default }
+    requires within { part < vec_len parts.old }
+    ensures kept { parts.new.items ≡ parts.old.items }
+    ensures others { others.new.items ≡ others.old.items }
+{
+    let next = (part + 1).saturating_mul(others.len()) / parts.len();
+    let Some(fresh) = first_fresh(others, next) else {
+        return false;
+    };
+    parts[part].release_to(&mut others[fresh]);
+    true
+}
+
+/// Returns the first of a few parts from an index on of which no bucket is made.
+fn first_fresh<K, V, L: LruList, const TYPE: u8>(
+    parts: &Vec<Part<K, V, L, TYPE>>,
+    start: usize,
+) -> Option<usize>
+    ensures { IfSome result (λ part. part < vec_len parts.now) }
+{
+    let end = start.saturating_add(FRESH_TRIES).min(parts.len());
+    for part in start..end {
+        if parts[part].made.is_empty() {
+            return Some(part);
+        }
+    }
+    None
 }
 
 /// Moves pairs of own slots of a bucket to buckets of one of the parts, as `Part::spread` does.

@@ -25,7 +25,7 @@ pub(crate) const MINIMUM_CAPACITY: usize = 2 * BUCKET_LEN;
 pub const MAXIMUM_SLOTS: usize = 1 << 62;
 
 /// The logarithm of the greatest number of parts of an array.
-const MOST_PARTS_BITS: u32 = 8;
+const MOST_PARTS_BITS: u32 = 10;
 
 /// The logarithm of the least length of a part, where the array has as many buckets.
 pub(crate) const LEAST_PART_BITS: u32 = 6;
@@ -72,8 +72,8 @@ pub(crate) fn len_for(capacity: usize) -> usize
     slots / BUCKET_LEN
 }
 
-/// Returns how many parts an array of this length has, and the logarithm of their length: 256 parts
-/// at most, of 64 buckets at least; a shorter array is one part.
+/// Returns how many parts an array of this length has, and the logarithm of their length: 1,024
+/// parts at most, of 64 buckets at least; a shorter array is one part.
 pub(crate) fn parts_for(len: usize) -> (usize, u32)
     requires { IsLength len }
     ensures whole { len ≡ result.0 * 2 ^ result.1 }

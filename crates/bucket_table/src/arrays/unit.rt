@@ -60,6 +60,9 @@ impl<K: Eq + Drop, V: Drop, L: LruList + Drop, const TYPE: u8> Arrays<K, V, L, T
         let Some(linked) = &mut self.linked else {
             unreachable!()
         };
-        linked.release_around(index);
+        match &mut self.current {
+            Some(current) => linked.release_into(index, current),
+            None => linked.release_around(index),
+        }
     }
 }

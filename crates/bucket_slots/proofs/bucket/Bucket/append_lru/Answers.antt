@@ -8,7 +8,7 @@ pub invariant_of-self : goal.invariant_of-self
 invariant_of-self g c =
     let live = own_live _ _ c.args.at.now _ c.self.view_is (omega arith) c.pos.ensures c.self.invariant.1 c.requires.live_slot in (
       c.make_oldest-self-inside.ensures.tail,
-      IsBucket-appended g.row.TYPE _ c.self.inside.len c.pos.result _ _ c.requires.cache
+      IsBucket-appended g.row.TYPE _ c.self.inside.chained c.pos.result _ _ c.requires.cache
           c.self.invariant.1 live.1 c.make_oldest-self-inside.ensures.order,
     )
 

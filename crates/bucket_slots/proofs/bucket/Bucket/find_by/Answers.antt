@@ -1,13 +1,8 @@
-use Rattle.bucket_slots.proofs.Words.{arith, flattened, has_byte, is_wanted, refl, sum_by-append, sym, ◌%◌, ◌∙◌}
+use Rattle.bucket_slots.proofs.Words.{arith, flattened, has_byte, is_wanted, refl, sum_by-append, ◌%◌, ◌∙◌}
 use Rattle.bucket_slots.proofs.Counting.{tally}
 use Rattle.bucket_slots.proofs.FilledPlaces.{low_byte_fits}
-use Rattle.bucket_slots.proofs.FirstPlaces.{first_chain, found_in_chain, none_wanted}
+use Rattle.bucket_slots.proofs.FirstPlaces.{first_chain, found_in_chain}
 use Rattle.bucket_slots.proofs.bucket.Bucket.find_by.Goals as goal
-
-pub returns-then-self-eq0-clause-place : goal.returns-then-self-eq0-clause-place
-returns-then-self-eq0-clause-place g c =
-    rw (← c.self.view_is)
-    (sym (none_wanted g.row.TYPE _ (g.P.KeyProbe.wants c.args.probe.now) _ (rw c.if-self-eq0.true at c.self.invariant.1)))
 
 pub returns-clause-place : goal.returns-clause-place
 returns-clause-place g c =
@@ -45,6 +40,3 @@ returns-clause-few g c =
     let byte = c.args.hash % 256 in
     let parts = sum_by-append (λ x. tally (has_byte byte x)) c.self.inside.own (flattened c.self.inside.chain) in
     rw (← c.self.view_is) (omega (arith, c.find_by.ensures.few, c.find_by-2.ensures.few, parts))
-
-pub returns-then-self-eq0-clause-few : goal.returns-then-self-eq0-clause-few
-returns-then-self-eq0-clause-few g c = omega arith
