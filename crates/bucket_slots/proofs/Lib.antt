@@ -15,6 +15,7 @@ pub mod Bitmaps
 pub mod RowSlots
 pub mod RowFields
 pub mod RowMasks
+pub mod Digests
 pub mod Counting
 pub mod Entries
 pub mod BoxedWalks

@@ -1,4 +1,5 @@
 -- Pairs that spread from a bucket's own slots over some buckets.
+use Rattle.bucket_slots.proofs.Words.{[], cases_eq, get_or-set_other, get_or-set_same, inl, inr}
 use Rattle.bucket_slots.proofs.Words.{AreParts, Bool, Bor, BucketView, List, Some, ap, append-nil, append_assoc, arith}
 use Rattle.bucket_slots.proofs.Words.{div-add-mod, drop, drop-drop, drop_all, empty_bucket, first_place, flattened, is_free, length}
 use Rattle.bucket_slots.proofs.Words.{length-append, length-drop, length-set, length-take-le, live, mod-lt, mul_comm}
@@ -217,3 +218,30 @@ module _ {K V : Type 0} where
         there.kept left same,
         (count, subst (λ ds. Spreads kind answers (IsHome (length now)) 0 count s now t ds) (sym (there.is left)) before),
       )
+
+  -- of two lists with one front its elements are alike
+  pub front_same : (front xs ys : List (BucketView K V)) (i : ℕ) → i < length front → bucket_at (front ++ xs) i ≡ bucket_at (front ++ ys) i
+  front_same front xs ys i below = get_or_append_left front xs empty_bucket i below ∙ sym (get_or_append_left front ys empty_bucket i below)
+
+  -- where one part changes behind an offset, the buckets before that place stay
+  pub same_before : (parts items : List (List (BucketView K V))) (spare : List (BucketView K V)) (len bits part offset start : ℕ)
+      (left : List (BucketView K V)) → AreParts parts spare len bits → AreParts items spare len bits → start < length (flattened parts)
+      → part ≡ start / 2 ^ bits → offset ≡ start % 2 ^ bits → items ≡ set parts part left
+      → ((k : ℕ) → k < offset → bucket_at left k ≡ bucket_at (part_at parts part) k) → (i : ℕ) → i < start
+      → bucket_at (flattened items) i ≡ bucket_at (flattened parts) i
+  same_before parts items spare len bits part offset start left kept after below part_is offset_is is same i before =
+      let m : ℕ = 2 ^ bits in
+      let there = place_is parts spare len bits kept part offset start (flattened parts) refl below part_is offset_is in
+      let here : i < length (flattened parts) = omega (arith, below) in
+      let here_after : i < length (flattened items) = omega (arith, below, kept.len_is, after.len_is) in
+      let p = place_is parts spare len bits kept (i / m) (i % m) i (flattened parts) refl here refl refl in
+      let q = place_is items spare len bits after (i / m) (i % m) i (flattened items) refl here_after refl refl in
+      let inner : bucket_at (part_at (set parts part left) (i / m)) (i % m) ≡ bucket_at (part_at parts (i / m)) (i % m) =
+      elim (cases_eq (i / m) part) [
+        | inl e ↦
+            let products : m * (i / m) ≡ m * (start / m) = ap (λ n. m * n) (e ∙ part_is) in
+            let less : i % m < offset = rw offset_is (omega (arith, div-add-mod i m, div-add-mod start m, products)) in
+            rw (e, get_or-set_same parts part left [] there.within) (same (i % m) less)
+        | inr other ↦ rw (get_or-set_other parts part (i / m) left [] other) refl
+      ] in
+      sym q.read ∙ ap (λ (ps : List (List (BucketView K V))). bucket_at (part_at ps (i / m)) (i % m)) is ∙ inner ∙ p.read

@@ -13,6 +13,7 @@ pub mod Room
 pub mod RowLoans
 pub mod ArrayFields
 pub mod ArrayParts
+pub mod Digests
 pub mod PartLoans
 pub mod TargetLoans
 pub mod OwnSpreading

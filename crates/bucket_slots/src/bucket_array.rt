@@ -3,7 +3,8 @@
 //! Model: the list of the buckets, in the order of the intervals of hashes that they are home to.
 //! Invariant (`IsArray`): the length is a power of two from 2 to 2^57, the stored offset shifts a
 //! hash to the index of its home, and the stored sample size is that of the length. The buckets
-//! stand in equally long parts, beside a spare empty one and a spare killed one (`AreParts`).
+//! stand in equally long parts, beside a spare empty one and a spare killed one (`AreParts`). Each
+//! digest that says something is its bucket's (`AreDigests`).
 //!
 //! Ports scc's `src/hash_table/bucket_array.rs`. The buckets stand in vectors whose memory is asked
 //! for at once, and are made as they are lent for writing, where scc asks for raw memory that is
@@ -28,6 +29,8 @@ ghost use Rattle.bucket_slots.specs.Sizing.{
 ghost use Rattle.bucket_slots.specs.Slots.{places_of};
 ghost use Rattle.bucket_slots.specs.Spreading.{SpreadsSome};
 
+mod digested;
+mod digests;
 mod part;
 mod sizing;
 
@@ -35,6 +38,8 @@ use crate::bucket::room::fits_in_memory;
 use crate::bucket::{AllocError, BUCKET_LEN, Bucket};
 use crate::data_block::DataBlock;
 use crate::lru::LruList;
+pub use digested::NotPut;
+use digests::Digests;
 use part::{Part, bucket_in, release_in, release_to_in, spare_buckets, spread_in};
 use sizing::{LEAST_PART_BITS, MINIMUM_CAPACITY};
 pub use sizing::{MAXIMUM_SLOTS, full_sample_size_of, large_sample_size_of, small_sample_size_of};
@@ -51,6 +56,7 @@ pub struct BucketArray<K, V, L: LruList, const TYPE: u8> {
     len: usize,
     parts: Vec<Part<K, V, L, TYPE>>,
     spare: Vec<Bucket<K, V, L, TYPE>>,
+    digests: Digests,
 }
 
 impl<K, V, L: LruList, const TYPE: u8> Model for BucketArray<K, V, L, TYPE> {
@@ -58,6 +64,7 @@ impl<K, V, L: LruList, const TYPE: u8> Model for BucketArray<K, V, L, TYPE> {
     ghost use Rattle.bucket_slots.specs.BucketView.{BucketView, flattened};
     ghost use Rattle.bucket_slots.specs.Layout.ArrayFields.{IsArray};
     ghost use Rattle.bucket_slots.specs.Layout.ArrayParts.{AreParts};
+    ghost use Rattle.bucket_slots.specs.Layout.Digests.{AreDigests};
     ghost use Rattle.std.specs.Prelude.{◌≡◌, ◌^◌, ◌-◌};
 
     ghost Value = { List (BucketView K V) };
@@ -66,7 +73,8 @@ impl<K, V, L: LruList, const TYPE: u8> Model for BucketArray<K, V, L, TYPE> {
 
     ghost invariant = { λ array. IsArray array.len array.hash_offset array.sample_size
         × AreParts array.parts.items array.spare.items array.len array.part_bits
-        × (array.part_mask ≡ 2 ^ array.part_bits - 1) };
+        × (array.part_mask ≡ 2 ^ array.part_bits - 1)
+        × AreDigests array.digests (flattened array.parts.items) };
 }
 
 impl<K: Drop, V: Drop, L: LruList + Drop, const TYPE: u8> Drop for BucketArray<K, V, L, TYPE> {
@@ -79,6 +87,7 @@ impl<K: Drop, V: Drop, L: LruList + Drop, const TYPE: u8> Drop for BucketArray<K
             len: _,
             parts,
             spare,
+            digests: _,
         } = self;
         drop(parts);
         if fits_in_memory::<Bucket<K, V, L, TYPE>>() {
@@ -120,6 +129,7 @@ impl<K: Drop, V: Drop, L: LruList + Drop, const TYPE: u8> BucketArray<K, V, L, T
             len,
             parts,
             spare,
+            digests: Digests::none(alloc),
         })
     }
 }
@@ -127,7 +137,8 @@ impl<K: Drop, V: Drop, L: LruList + Drop, const TYPE: u8> BucketArray<K, V, L, T
 impl<K: Drop, V: Drop, L: LruList, const TYPE: u8> BucketArray<K, V, L, TYPE> {
     /// Moves pairs of own slots of a bucket, the first ones in slot order, to own slots of their
     /// homes, where these are some of the buckets from `start` up to below `end`. Which pairs move
-    /// is left open: it may stop at any pair, and where there is one such bucket alone none moves.
+    /// is left open: it may stop at any pair, and where there is one such bucket alone none moves, nor
+    /// where one of them may have a digest.
     /// The slots that they leave are free.
     ///
     /// Takes no memory. O(own slots), but O(buckets of a part) where buckets are made. Own.
@@ -148,6 +159,9 @@ impl<K: Drop, V: Drop, L: LruList, const TYPE: u8> BucketArray<K, V, L, TYPE> {
             return;
         }
         if start >= self.len {
+            return;
+        }
+        if !self.digests.is_lost_from(start) {
             return;
         }
         self.room();
@@ -305,6 +319,7 @@ impl<K, V, L: LruList, const TYPE: u8> BucketArray<K, V, L, TYPE> {
     {
         self.room();
         let (part, offset) = sizing::place_of(index, self.part_bits, self.part_mask);
+        self.digests.lose(index);
         bucket_in(&mut self.parts, part, offset)
     }
 

@@ -13,6 +13,7 @@ ghost use Rattle.bucket_slots.specs.ArrayView.{bucket_at};
 ghost use Rattle.bucket_slots.specs.BucketView.{BucketView, empty_bucket};
 ghost use Rattle.bucket_slots.specs.Layout.ArrayParts.{part_at, unmade_bucket, with_unmade};
 ghost use Rattle.bucket_slots.specs.Layout.PartLoans.{LendsBucketIn};
+ghost use Rattle.bucket_slots.specs.Slots.{is_live, slot_at};
 ghost use Rattle.bucket_slots.specs.Spreading.{IsShifted, SpreadsSome};
 
 use crate::bucket::room::fits_in_memory;
@@ -91,6 +92,16 @@ impl<K, V, L: LruList, const TYPE: u8> Part<K, V, L, TYPE> {
         } else {
             &spare[0]
         }
+    }
+
+    /// Returns a bucket with a live own slot: it is made.
+    #[inline(always)]
+    pub(crate) fn made_bucket(&self, offset: usize) -> &Bucket<K, V, L, TYPE>
+        requires within { offset < length self.now }
+        requires live_slot { (pos : ℕ) × (is_live (slot_at (bucket_at self.now offset).own pos) ≡ true) }
+        ensures { result.now ≡ bucket_at self.now offset }
+    {
+        &self.made[offset]
     }
 
     /// Lends the bucket with an offset for writing. It is made if need be, with those before it.
@@ -192,9 +203,12 @@ impl<K: Drop, V: Drop, L: LruList, const TYPE: u8> Part<K, V, L, TYPE> {
         requires within { offset < length self.old }
         requires shift { shift < 64 }
         requires bounded { start + len ≤ 2 ^ 64 }
-        ensures { (first : ℕ) → start ≡ first + offset
+        ensures spreads { (first : ℕ) → start ≡ first + offset
             → SpreadsSome TYPE (λ key answer. F.post hash_of.now key answer) (IsShifted shift) first
             source.old self.old source.new self.new }
+
+        // The buckets before the offset stay.
+        ensures front { (i : ℕ) → i < offset → bucket_at self.new i ≡ bucket_at self.old i }
     {
         if self.made.capacity() - offset < len {
             return;
@@ -380,7 +394,9 @@ pub(crate) fn spread_in<K: Drop, V: Drop, L: LruList, F: Fn(&K) -> u64, const TY
     ensures { (left : List (BucketView K V)) × (parts.new.items ≡ slice_set parts.old.items part left)
         × ((first : ℕ) → start ≡ first + offset
         → SpreadsSome TYPE (λ key answer. F.post hash_of.now key answer) (IsShifted shift) first
-        source.old (part_at parts.old.items part) source.new left) }
+        source.old (part_at parts.old.items part) source.new left)
+        × ((i : ℕ) → i < offset
+        → bucket_at left i ≡ bucket_at (part_at parts.old.items part) i) }
 {
     let lent = &mut parts[part];
     lent.spread(source, offset, len, start, shift, hash_of);

@@ -1,6 +1,9 @@
 -- One side of a table's arrays with another bucket.
 use Rattle.bucket_table.proofs.Words.{AreArrays, ArraysView, BucketView, Current, List, None, Old, Option, Side, Some, TicketState, arith}
 use Rattle.bucket_table.proofs.Words.{arrays_with, first_tickets, length, length-set, refl, set, sym, ℕ, ◌∙◌, ◌≡◌}
+use Rattle.std.proofs.Common.{Bool, ap}
+use Rattle.bucket_slots.specs.Digested.{TakesWanted}
+use Rattle.bucket_table.specs.Map.Taking.{TakesHome}
 use Rattle.bucket_table.specs.Views.ArrayLoan.{array_with}
 use Rattle.bucket_table.specs.Views.ArraysView.{list_of}
 
@@ -63,3 +66,72 @@ module _ {K V : Type 0} (minimum maximum : ℕ) (other : List (BucketView K V)) 
         → ◌≡◌ {A = ArraysView K V} (record { minimum = minimum; maximum = maximum; current = fresh; linked = array; tickets = after })
         (record now { current = fresh; linked = now.current; tickets = first_tickets (length now.current) })
     pushed_seen fresh array after len stood first len_is is = rw (first, len_is) (rw (← is) (rw (← stood) refl))
+
+module _ {K V : Type 0} (wants : K → Bool) (byte index : ℕ) (minimum maximum : ℕ) (other : List (BucketView K V))
+    (held after : Option (List (BucketView K V))) (tickets : TicketState) (result : Option ((K × V) × ℕ))
+    (taken : TakesWanted wants byte index (list_of held) result (list_of after)) where
+  -- a take leaves as many buckets
+  taken_len : length (list_of after) ≡ length (list_of held)
+  taken_len = go result taken
+    where
+      go : (found : Option ((K × V) × ℕ)) → TakesWanted wants byte index (list_of held) found (list_of after)
+          → length (list_of after) ≡ length (list_of held)
+      go None is = ap length is.0
+      go (Some found) is = ap length is.changed ∙ length-set (list_of held) index _
+
+  pub linked_taken : AreArrays (with_linked minimum maximum other held tickets (list_of held))
+      → AreArrays (with_linked minimum maximum other held tickets (list_of after))
+  linked_taken arrays =
+      let same = taken_len in
+      record {
+        maximum_power = arrays.maximum_power;
+        bounded = arrays.bounded;
+        within = arrays.within;
+        beside = λ some. arrays.beside (omega arith);
+        tickets_len = arrays.tickets_len ∙ sym same;
+      }
+
+  pub current_taken : AreArrays (with_current minimum maximum other held tickets (list_of held))
+      → AreArrays (with_current minimum maximum other held tickets (list_of after))
+  current_taken arrays =
+      let same = taken_len in
+      record {
+        maximum_power = arrays.maximum_power;
+        bounded = arrays.bounded;
+        within = let fits = arrays.within in omega arith;
+        beside = λ some. let stands = arrays.beside some in omega arith;
+        tickets_len = arrays.tickets_len;
+      }
+
+  module _ (now : ArraysView K V) (side : Side) where
+    pub current_takes : side ≡ Current → with_current minimum maximum other held tickets (list_of held) ≡ now
+        → TakesHome wants byte side index now result (with_current minimum maximum other held tickets (list_of after))
+    current_takes is view = rw (is, ← view) (go result taken)
+      where
+        go : (found : Option ((K × V) × ℕ)) → TakesWanted wants byte index (list_of held) found (list_of after)
+            → TakesHome wants byte Current index (with_current minimum maximum other held tickets (list_of held)) found
+            (with_current minimum maximum other held tickets (list_of after))
+        go None e = (ap (with_current minimum maximum other held tickets) e.0, e.1)
+        go (Some found) e = record {
+          at = e.at;
+          found = e.found;
+          taken = e.taken;
+          changed = ap (with_current minimum maximum other held tickets) e.changed;
+          left_is = e.left_is;
+        }
+
+    pub linked_takes : side ≡ Old → with_linked minimum maximum other held tickets (list_of held) ≡ now
+        → TakesHome wants byte side index now result (with_linked minimum maximum other held tickets (list_of after))
+    linked_takes is view = rw (is, ← view) (go result taken)
+      where
+        go : (found : Option ((K × V) × ℕ)) → TakesWanted wants byte index (list_of held) found (list_of after)
+            → TakesHome wants byte Old index (with_linked minimum maximum other held tickets (list_of held)) found
+            (with_linked minimum maximum other held tickets (list_of after))
+        go None e = (ap (with_linked minimum maximum other held tickets) e.0, e.1)
+        go (Some found) e = record {
+          at = e.at;
+          found = e.found;
+          taken = e.taken;
+          changed = ap (with_linked minimum maximum other held tickets) e.changed;
+          left_is = e.left_is;
+        }

@@ -1,5 +1,5 @@
 -- What a call by key does to a table, in the words of its map. A reply that isn't stated doesn't come.
-use Rattle.std.specs.Prelude.{ℕ, ◌≡◌, ◌<◌, Bool, true, false, List, Option, Some, None, Result, Ok, Err, length}
+use Rattle.std.specs.Prelude.{OnErr, OnOk, ℕ, ◌≡◌, ◌<◌, Bool, true, false, List, Option, Some, None, Result, Ok, Err, length}
 use Rattle.std.specs.Borrow.{Bor, MutBor}
 use Rattle.bucket_slots.specs.BucketView.{BucketView, Place, bucket_with_value, first_place, slot_in}
 use Rattle.bucket_slots.specs.Clearing.{slots_after_insertion, slots_for_insertion}
@@ -88,6 +88,13 @@ AnswersInsertion eq key value byte kind keeps bucket (Err (Present k v)) =
     (k ≡ key) × (v ≡ value) × ((at : Place) × (place_wanted (λ own. eq own key) byte bucket ≡ Some at))
 AnswersInsertion eq key value byte kind keeps bucket (Err (Memory k v)) =
     (k ≡ key) × (v ≡ value) × (place_wanted (λ own. eq own key) byte bucket ≡ None) × HasNoSlot kind keeps bucket
+
+-- a bucket ends as one that an insertion leaves: with the pair where it is put, and as it was where it isn't
+abbrev pub InsertsIn : {K V : Type 0} → (K → K → Bool) → K → V → ℕ → ℕ → (ℕ → Bool) → BucketView K V → Result (Unit {0}) (NotInserted K V)
+    → (BucketView K V → Type 0) → Type 0
+InsertsIn {K} {V} eq key value byte kind keeps old result Ends =
+    (left : BucketView K V) × AnswersInsertion eq key value byte kind keeps old result
+    × OnOk result (left ≡ slots_after_insertion kind keeps old (key, value) byte) × OnErr result (left ≡ old) × Ends left
 
 -- a pair put into a bucket where no live slot has an equal key, or its value written where one has; what isn't put comes back, and then no
 -- slot is free

@@ -1,8 +1,8 @@
 -- What is taken out of the home of a hash in one of a table's arrays.
-use Rattle.std.specs.Prelude.{ℕ, ◌≡◌, ◌%◌, Bool, Option, Some, None}
-use Rattle.bucket_slots.specs.BucketView.{Place, slot_in}
+use Rattle.std.specs.Prelude.{ℕ, ◌≡◌, ◌%◌, length, Bool, Option, Some, None}
+use Rattle.bucket_slots.specs.BucketView.{Place, pairs_in, slot_in}
 use Rattle.bucket_slots.specs.Removing.{slots_without}
-use Rattle.bucket_slots.specs.Searching.{pair_wanted}
+use Rattle.bucket_slots.specs.Searching.{pair_wanted, place_wanted}
 use Rattle.bucket_slots.specs.Slots.{live_pair}
 use Rattle.bucket_table.specs.Map.ByKey.{StandsAt}
 use Rattle.bucket_table.specs.Map.LookingUp.{home_bucket}
@@ -27,3 +27,17 @@ abbrev pub TakesOn : {K V : Type 0} → (K → Bool) → ℕ → Side → Arrays
 TakesOn wants hash side old (Some pair) new = TakesFrom wants side old pair new
 TakesOn wants hash side old None new =
     (new ≡ old) × (pair_wanted wants (hash % 256) (home_bucket hash (buckets_on old side)) ≡ None)
+
+-- the pair of the first wanted slot of a bucket of one side is taken out, and so many live pairs are left there
+pub record TakesHomePair {K V : Type 0} (wants : K → Bool) (byte : ℕ) (side : Side) (index : ℕ) (old : ArraysView K V) (pair : K × V) (left : ℕ)
+    (new : ArraysView K V) : Type 0 where
+  pub at : Place
+  pub found : place_wanted wants byte (bucket_on old side index) ≡ Some at
+  pub taken : live_pair (slot_in (bucket_on old side index) at) ≡ Some pair
+  pub changed : new ≡ arrays_with old side index (slots_without (bucket_on old side index) at)
+  pub left_is : left ≡ length (pairs_in (slots_without (bucket_on old side index) at))
+
+-- there is no answer exactly where no slot is wanted, and all stays
+abbrev pub TakesHome : {K V : Type 0} → (K → Bool) → ℕ → Side → ℕ → ArraysView K V → Option ((K × V) × ℕ) → ArraysView K V → Type 0
+TakesHome wants byte side index old (Some found) new = TakesHomePair wants byte side index old found.0 found.1 new
+TakesHome wants byte side index old None new = (new ≡ old) × (place_wanted wants byte (bucket_on old side index) ≡ None)

@@ -1,15 +1,18 @@
 //! A bucket of one side, read or lent for writing.
-ghost use Rattle.std.specs.Prelude.{◌≡◌, ◌<◌, length};
+ghost use Rattle.std.specs.Prelude.{◌≡◌, ◌≢◌, ◌%◌, ◌<◌, length};
 ghost use Rattle.std.specs.Borrow.{sem};
 ghost use Rattle.bucket_slots.specs.ArrayRoom.{BucketFits};
 ghost use Rattle.bucket_slots.specs.ArrayView.{bucket_at};
-ghost use Rattle.bucket_table.specs.Views.ArrayLoan.{LendsBucketOf};
+ghost use Rattle.bucket_slots.specs.Digested.{TakesWanted};
+ghost use Rattle.bucket_table.specs.Map.ByKey.{InsertsIn};
+ghost use Rattle.bucket_table.specs.Views.ArrayLoan.{LendsBucketOf, array_with};
 ghost use Rattle.bucket_table.specs.Views.ArraysView.{list_of};
 ghost use Rattle.bucket_table.specs.Views.Sides.{buckets_on};
 
 use super::{Arrays, Side};
-use bucket_slots::bucket::Bucket;
-use bucket_slots::bucket_array::BucketArray;
+use crate::hash_table::NotInserted;
+use bucket_slots::bucket::{Bucket, Generation, INDEX, KeyProbe};
+use bucket_slots::bucket_array::{BucketArray, NotPut};
 use bucket_slots::lru::LruList;
 
 impl<K, V, L: LruList, const TYPE: u8> Arrays<K, V, L, TYPE> {
@@ -75,6 +78,50 @@ fn bucket_in<K, V, L: LruList, const TYPE: u8>(
 {
     match held {
         Some(array) => array.bucket_mut(index),
+        None => unreachable!(),
+    }
+}
+
+/// Puts a pair into a bucket of one side where no live slot of it has an equal key.
+#[inline(always)]
+pub(super) fn insert_in<K: Eq + Drop, V: Drop, L: LruList, G: Generation, const TYPE: u8>(
+    held: &mut Option<BucketArray<K, V, L, TYPE>>,
+    index: usize,
+    hash: u64,
+    key: K,
+    value: V,
+    generation: &G,
+) -> Result<(), NotInserted<K, V>>
+    requires { index < length (list_of held.old) }
+    ensures { InsertsIn K.eq key value (hash % 256) TYPE (G.keeps generation.now)
+        (bucket_at (list_of held.old) index) result (λ left. held.new ≡ array_with held.old index left) }
+{
+    match held {
+        Some(array) => match array.insert_absent(index, hash, key, value, generation) {
+            Ok(()) => Ok(()),
+            Err(NotPut::Present(key, value)) => Err(NotInserted::Present(key, value)),
+            Err(NotPut::Memory(key, value)) => Err(NotInserted::Memory(key, value)),
+        },
+        None => unreachable!(),
+    }
+}
+
+/// Takes the first pair that a probe wants out of a bucket of one side.
+#[inline(always)]
+pub(super) fn take_in<K: Drop, V: Drop, L: LruList, P: KeyProbe<K>, const TYPE: u8>(
+    held: &mut Option<BucketArray<K, V, L, TYPE>>,
+    index: usize,
+    hash: u64,
+    probe: &mut P,
+) -> Option<((K, V), usize)>
+    requires not_index { TYPE ≢ INDEX }
+    requires within { index < length (list_of held.old) }
+    ensures taken { TakesWanted (P.wants probe.old) (hash % 256) index (list_of held.old) result
+        (list_of held.new) }
+    ensures fixed { P.wants probe.new ≡ P.wants probe.old }
+{
+    match held {
+        Some(array) => array.take_by(index, hash, probe),
         None => unreachable!(),
     }
 }

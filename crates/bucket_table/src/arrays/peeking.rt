@@ -80,7 +80,5 @@ fn peek_home<'a, K, V, L: LruList, const TYPE: u8, P: KeyProbe<K>>(
     ensures fixed { P.wants probe.new ≡ P.wants probe.old }
 {
     array.room();
-    array
-        .bucket(array.bucket_index(hash))
-        .peek_entry_by(hash, probe)
+    array.peek_by(array.bucket_index(hash), hash, probe)
 }

@@ -105,7 +105,8 @@ impl<K: Drop, V: Drop, L: LruList + Drop, const TYPE: u8> Arrays<K, V, L, TYPE> 
         ensures others { OnOk result (self.new ≡ record self.old { current = self.new.current }) }
         ensures unchanged { OnErr result (self.new ≡ self.old) }
     {
-        let fresh = BucketArray::alloc(self.alloc, capacity)?;
+        let mut fresh = BucketArray::alloc(self.alloc, capacity)?;
+        fresh.start_digests(self.alloc);
         self.current = Some(fresh);
         Ok(())
     }
@@ -204,10 +205,11 @@ impl<K: Drop, V: Drop, L: LruList + Drop, const TYPE: u8> Arrays<K, V, L, TYPE> 
         let Ok(tickets) = Tickets::new(self.alloc, self.len()) else {
             return Err(AllocError);
         };
-        let fresh = BucketArray::alloc(self.alloc, capacity)?;
-        let Some(array) = self.current.take() else {
+        let mut fresh = BucketArray::alloc(self.alloc, capacity)?;
+        let Some(mut array) = self.current.take() else {
             unreachable!()
         };
+        fresh.adopt_digests(self.alloc, &mut array);
         self.current = Some(fresh);
         self.linked = Some(array);
         self.tickets = tickets;

@@ -1,19 +1,22 @@
 //! Pairs touched, marked and taken out where they stand, in a bucket of either side: what calls by
 //! key and locked buckets do.
-ghost use Rattle.std.specs.Prelude.{◌≡◌, ◌≢◌, ◌<◌, ℕ, Some, IsTrue, length};
+ghost use Rattle.std.specs.Prelude.{◌≡◌, ◌≢◌, ◌%◌, ◌<◌, ℕ, Some, IsTrue, length};
 ghost use Rattle.bucket_slots.specs.BucketView.{bucket_with_value, pairs_in, slot_in};
 ghost use Rattle.bucket_slots.specs.Evicting.{slots_touched};
 ghost use Rattle.bucket_slots.specs.Marking.{slots_marked};
 ghost use Rattle.bucket_slots.specs.Removing.{place_after, slots_without};
 ghost use Rattle.bucket_slots.specs.Slots.{is_live, live_pair};
 ghost use Rattle.bucket_slots.specs.Walking.{pairs_ahead};
-ghost use Rattle.bucket_table.specs.Map.Taking.{TakesOn};
+ghost use Rattle.bucket_table.specs.Map.ByKey.{InsertsIn};
+ghost use Rattle.bucket_table.specs.Map.Taking.{TakesHome, TakesOn};
 ghost use Rattle.bucket_table.specs.Views.ArraysView.{ArePlaced};
 ghost use Rattle.bucket_table.specs.Resize.Asking.{RemovesAndShrinks};
 ghost use Rattle.bucket_table.specs.Views.Sides.{arrays_with, bucket_on, buckets_on};
 ghost use Rattle.bucket_table.specs.Views.Keeping.{Keeps};
 
+use super::lending::{insert_in, take_in};
 use super::{Arrays, Side};
+use crate::hash_table::NotInserted;
 use bucket_slots::bucket::{CACHE, EntryPtr, Generation, INDEX, KeyProbe};
 use bucket_slots::lru::LruList;
 use std::mem;
@@ -88,6 +91,51 @@ impl<K, V, L: LruList, const TYPE: u8> Arrays<K, V, L, TYPE> {
 }
 
 impl<K: Drop, V: Drop, L: LruList, const TYPE: u8> Arrays<K, V, L, TYPE> {
+    /// Puts a pair into a bucket where no live slot of it has an equal key.
+    #[inline(always)]
+    pub(crate) fn insert_home<G: Generation>(
+        &mut self,
+        side: Side,
+        index: usize,
+        hash: u64,
+        key: K,
+        value: V,
+        generation: &G,
+    ) -> Result<(), NotInserted<K, V>>
+    where
+        K: Eq,
+        requires { index < length (buckets_on self.old side) }
+        ensures { InsertsIn K.eq key value (hash % 256) TYPE (G.keeps generation.now)
+            (bucket_on self.old side index) result
+            (λ left. self.new ≡ arrays_with self.old side index left) }
+    {
+        match side {
+            Side::Current => insert_in(&mut self.current, index, hash, key, value, generation),
+            Side::Old => insert_in(&mut self.linked, index, hash, key, value, generation),
+        }
+    }
+
+    /// Takes the first pair that a probe wants out of a bucket. Returns it, and how many live pairs are
+    /// left there.
+    #[inline(always)]
+    pub(crate) fn take_home<P: KeyProbe<K>>(
+        &mut self,
+        side: Side,
+        index: usize,
+        hash: u64,
+        probe: &mut P,
+    ) -> Option<((K, V), usize)>
+        requires not_index { TYPE ≢ INDEX }
+        requires within { index < length (buckets_on self.old side) }
+        ensures taken { TakesHome (P.wants probe.old) (hash % 256) side index self.old result self.new }
+        ensures fixed { P.wants probe.new ≡ P.wants probe.old }
+    {
+        match side {
+            Side::Current => take_in(&mut self.current, index, hash, probe),
+            Side::Old => take_in(&mut self.linked, index, hash, probe),
+        }
+    }
+
     /// Takes the pair out of a live slot. Returns it, and how many live pairs are left in the
     /// bucket.
     #[inline(always)]
@@ -189,13 +237,9 @@ impl<K: Drop, V: Drop, L: LruList + Drop, const TYPE: u8> Arrays<K, V, L, TYPE> 
         }
         self.room_of(side);
         let index = self.array_of(side).bucket_index(hash);
-        let bucket = self.bucket_of_mut(side, index);
-        let mut at = bucket.get_entry_ptr_by(hash, probe);
-        if !at.is_valid() {
+        let Some((pair, left)) = self.take_home(side, index, hash, probe) else {
             return None;
-        }
-        let pair = bucket.remove(&mut at);
-        let left = bucket.len();
+        };
         self.shrink_left(side, index, left);
         Some(pair)
     }

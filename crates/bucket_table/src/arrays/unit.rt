@@ -7,6 +7,7 @@ ghost use Rattle.bucket_table.specs.Rehash.Finishing.{Finishes};
 ghost use Rattle.bucket_table.specs.Rehash.Units.{KillsOnly, SpendsSome, WantsMemory, WorksUnit, WorksUnits};
 
 use super::Arrays;
+use crate::capacity::from_index_to_range;
 use crate::key_hash::KeyHash;
 use crate::tickets::{REHASHING_UNIT_LEN, TICKET_STEP};
 use bucket_slots::lru::LruList;
@@ -48,8 +49,36 @@ impl<K: Eq + Drop, V: Drop, L: LruList + Drop, const TYPE: u8> Arrays<K, V, L, T
         let start = unit * REHASHING_UNIT_LEN;
         let end = (start + REHASHING_UNIT_LEN).min(len);
         let success = self.relocate_range(hasher, start, end);
+        self.settle_unit(start, end);
         self.release_old(start);
         success
+    }
+
+    /// Writes the digests of the homes of some old buckets. No bucket changes.
+    fn settle_unit(&mut self, start: usize, end: usize)
+        ensures { self.new ≡ self.old }
+    {
+        let from = self.old_len();
+        let to = self.len();
+        if start >= end || end > from || to == 0 {
+            return;
+        }
+        let (first, _) = from_index_to_range(from, to, start);
+        let (_, last) = from_index_to_range(from, to, end - 1);
+        for home in first..last {
+            self.settle_current(home);
+        }
+    }
+
+    /// Writes the digest of a current bucket. No bucket changes.
+    fn settle_current(&mut self, index: usize)
+        requires { index < length self.old.current }
+        ensures { self.new ≡ self.old }
+    {
+        let Some(array) = &mut self.current else {
+            unreachable!()
+        };
+        array.settle(index);
     }
 
     /// Lets the old buckets around one go, where they are killed and hold nothing.

@@ -28,7 +28,7 @@ mod updating;
 use crate::arrays::{Side, Spot};
 use crate::hash_table::{HashTable, NotInserted};
 use crate::key_hash::KeyHash;
-use bucket_slots::bucket::{Bucket, CACHE, EqProbe, Generation, INDEX};
+use bucket_slots::bucket::{CACHE, EqProbe, Generation, INDEX};
 use bucket_slots::lru::LruList;
 pub use evicting::puts_keep_chains;
 
@@ -206,9 +206,8 @@ impl<K: Eq + Drop, V: Drop, H: KeyHash<K>, L: LruList + Drop, const TYPE: u8> Ha
         ensures answer { AnswersInsertion K.eq key value (hash % 256) TYPE (G.keeps generation.now)
             (bucket_on self.old.arrays side index) result }
     {
-        self.arrays.room_of(side);
-        let bucket = self.arrays.bucket_of_mut(side, index);
-        insert_absent(bucket, hash, key, value, generation)
+        self.arrays
+            .insert_home(side, index, hash, key, value, generation)
     }
 
     /// Writes a value into a live slot, and returns the earlier one.
@@ -269,30 +268,5 @@ impl<K: Eq, V, H: KeyHash<K>, L: LruList, const TYPE: u8> HashTable<K, V, H, L, 
     {
         let (key, value) = self.arrays.entry_of(spot.side, spot.index, &spot.at);
         reader(key, value)
-    }
-}
-
-/// Puts a pair into a bucket where no live slot of it has an equal key.
-#[inline(always)]
-fn insert_absent<K: Eq + Drop, V: Drop, L: LruList, G: Generation, const TYPE: u8>(
-    bucket: &mut Bucket<K, V, L, TYPE>,
-    hash: u64,
-    key: K,
-    value: V,
-    generation: &G,
-) -> Result<(), NotInserted<K, V>>
-    ensures answer { AnswersInsertion K.eq key value (hash % 256) TYPE (G.keeps generation.now)
-        bucket.old result }
-    ensures put { OnOk result (bucket.new ≡ slots_after_insertion TYPE (G.keeps generation.now)
-        bucket.old (key, value) (hash % 256)) }
-    ensures unchanged { OnErr result (bucket.new ≡ bucket.old) }
-{
-    let at = bucket.get_entry_ptr(&key, hash);
-    if at.is_valid() {
-        return Err(NotInserted::Present(key, value));
-    }
-    match bucket.insert(hash, (key, value), generation) {
-        Ok(_) => Ok(()),
-        Err((key, value)) => Err(NotInserted::Memory(key, value)),
     }
 }

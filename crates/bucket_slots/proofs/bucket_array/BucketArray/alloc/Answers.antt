@@ -1,5 +1,6 @@
 use Rattle.bucket_slots.proofs.Words.{ap, arith, ℕ, ◌-◌, ◌<◌, ◌^◌, ◌∙◌, ◌≡◌}
 use Rattle.bucket_slots.proofs.ArrayParts.{new_array, new_parts}
+use Rattle.bucket_slots.proofs.Digests.{AreDigests-none}
 use Rattle.bucket_slots.proofs.PowersOfTwo.{exponent_lt, log_is, shifted_one}
 use Rattle.bucket_slots.proofs.Sampled.{large_fits}
 use Rattle.bucket_slots.proofs.bucket_array.BucketArray.alloc.Goals as goal
@@ -28,6 +29,7 @@ invariant_of-result g c =
       },
       new_parts _ _ _ _ _ (shifted_one _ cut.bits) cut.whole c.in_ok-parts.ensures _ cut.bits c.in_ok-spare.ensures,
       ap (λ (n : ℕ). n - 1) (shifted_one _ cut.bits),
+      AreDigests-none _ _ c.none.ensures,
     )
 
 pub returns : goal.returns

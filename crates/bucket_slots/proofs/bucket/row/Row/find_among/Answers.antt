@@ -4,15 +4,15 @@ use Rattle.bucket_slots.proofs.FilledPlaces.{fits_w64}
 use Rattle.bucket_slots.proofs.FirstPlaces.{live_occupied}
 use Rattle.bucket_slots.proofs.Masks.{IsLeft-first, IsLeft-next, ones-mask, position-left, position-none_left}
 use Rattle.bucket_slots.proofs.RowMasks.{candidate_live, candidate_wanted, unwanted}
-use Rattle.bucket_slots.proofs.bucket.row.Row.find_by.Goals as goal
+use Rattle.bucket_slots.proofs.bucket.row.Row.find_among.Goals as goal
 
 pub loop-left-init : goal.loop-left-init
 loop-left-init g c =
     let want = is_wanted (g.P.KeyProbe.wants c.args.probe.now) c.args.byte in
     record {
       left = IsLeft-first (has_byte c.args.byte) (λ slot. want slot ≡ false) free c.args.self.now _ refl (unwanted _ c.args.byte)
-          c.candidates-left.ensures;
-      few = omega (arith, ones-mask (has_byte c.args.byte) c.args.self.now _ c.candidates-left.ensures);
+          c.requires;
+      few = omega (arith, ones-mask (has_byte c.args.byte) c.args.self.now _ c.requires);
       fixed = refl;
     }
 

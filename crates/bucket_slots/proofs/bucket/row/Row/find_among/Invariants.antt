@@ -1,5 +1,5 @@
 use Rattle.bucket_slots.proofs.Words.{IsLeft, count_by, false, free, has_byte, is_wanted, ones, ◌+◌, ◌≡◌, ◌≤◌}
-use Rattle.bucket_slots.proofs.bucket.row.Row.find_by.Given as goal
+use Rattle.bucket_slots.proofs.bucket.row.Row.find_among.Given as goal
 
 abbrev pub invariant-loop-left : goal.invariant-loop-left
 invariant-loop-left g l = record {

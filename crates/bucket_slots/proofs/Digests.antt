@@ -1,0 +1,263 @@
+-- What digests say of buckets, and how it holds after a change.
+use Rattle.bucket_slots.proofs.Words.{BucketView, IsMaskOf, List, SetsBit, Slot, Some, [], ap, arith, bit_and, bit_at, bit_at_and, byte_of}
+use Rattle.bucket_slots.proofs.Words.{cases_eq, cond, empty_bucket, false, free, get_or, get_or-map, get_or-set_other, get_or-set_same, has_byte, is_free, is_marked, IsBucketOf, INDEX, IsLowest, IsTrue, Place, position, sum_by-append, trailing_zeros, get_or-le-sum_by, bit_at_not, w32, slots_without, slots_with, slots_after_insertion, ne_eqb, is_wanted, place_wanted, first_from, None}
+use Rattle.bucket_slots.proofs.Words.{Bool, cases_lt, inl, inr, is_live, length, length-set, live, marked, min, refl, set, slot_at, subst, sym, true}
+use Rattle.bucket_slots.proofs.Words.{common_steps, flattened, part_at, replicate, ◌++◌, ◌≤◌, ◌/◌, ◌%◌, suc, with_unmade, zero, ℕ, ◌-◌, ◌<◌, ◌==◌, ◌^◌, ◌∙◌, ◌≡◌, ◌≢◌}
+use Rattle.std.proofs.lemmas.List.{get_or_append_left}
+use Rattle.bucket_slots.specs.ArrayView.{bucket_at}
+use Rattle.bucket_slots.specs.Layout.ArrayParts.{AreParts}
+use Rattle.bucket_slots.specs.Layout.Digests.{Settles, AreDigests, ChangesOne, Digest, DigestLists, IsDigest, IsLost, KnowsNone, digest_at}
+use Rattle.bucket_slots.specs.declared.bucket.TheConstants.{BUCKET_LEN}
+use Rattle.bucket_slots.proofs.Counting.{tally}
+use Rattle.bucket_slots.proofs.Bitmaps.{lowest}
+use Rattle.bucket_slots.proofs.Positions.{position_at}
+use Rattle.bucket_slots.proofs.ArrayParts.{IsPlace, part_unmade, place_is}
+use Rattle.bucket_slots.proofs.Spreading.{put_in_own}
+use Rattle.bucket_slots.proofs.FirstPlaces.{first_chain}
+use Rattle.bucket_slots.proofs.RowMasks.{candidate_live, unwanted}
+use Rattle.bucket_slots.proofs.Masks.{lowest_passes, IsLeft-first, position-none_left, IsMaskOf-from, IsMaskOf-set, bit-mask, within}
+
+module _ {K V : Type 0} where
+  -- nothing is said of any bucket
+  pub AreDigests-none : (digests : DigestLists) (buckets : List (BucketView K V)) → KnowsNone 0 digests → AreDigests digests buckets
+  AreDigests-none digests buckets none index said = absurd (said (none index (omega arith)))
+
+  -- one digest and its bucket change, and the digest says nothing or is the bucket's
+  pub AreDigests-set : (old new : DigestLists) (buckets : List (BucketView K V)) (index : ℕ) (bucket : BucketView K V) → AreDigests old buckets
+      → index < length buckets → ChangesOne index old new → ((digest_at new index).live ≢ 2 ^ 32 - 1 → IsDigest (digest_at new index) bucket)
+      → AreDigests new (set buckets index bucket)
+  AreDigests-set old new buckets index bucket kept below others here i said = elim (cases_eq i index) [
+    | inl same ↦
+        let there = get_or-set_same buckets index bucket empty_bucket below in
+        rw (same, there) (here (λ lost. said (ap (λ k. (digest_at new k).live) same ∙ lost)))
+    | inr other ↦
+        rw (others i other, get_or-set_other buckets index i bucket empty_bucket other) (kept i (λ lost. said (ap (λ d. d.live) (others i other) ∙ lost)))
+  ]
+
+  -- one digest is lost, and its bucket changes
+  pub AreDigests-lost : (old new : DigestLists) (buckets : List (BucketView K V)) (index : ℕ) (bucket : BucketView K V) → AreDigests old buckets
+      → index < length buckets → ChangesOne index old new → IsLost (digest_at new index) → AreDigests new (set buckets index bucket)
+  AreDigests-lost old new buckets index bucket kept below others lost =
+      AreDigests-set old new buckets index bucket kept below others (λ said. absurd (said lost))
+
+  matched_bit : (slot : Slot K V) (byte own bit : ℕ) → (is_live slot ≡ true → byte_of slot ≡ Some own)
+      → (is_live slot ≡ true → bit ≡ cond (own == byte) 1 0) → min bit (cond (is_live slot) 1 0) ≡ cond (has_byte byte slot) 1 0
+  matched_bit (live pair stored) byte own bit is compared =
+      let some : Some stored ≡ Some own = is refl in
+      let same : own ≡ stored = cc in
+      rw (compared refl, same) (grind (arith, common_steps))
+  matched_bit free byte own bit is compared = omega arith
+  matched_bit (marked pair stored) byte own bit is compared = omega arith
+
+  -- the live own slots whose byte matches
+  pub candidates_are : (digest : Digest) (bucket : BucketView K V) (byte mask : ℕ) → IsDigest digest bucket
+      → IsMaskOf (λ own. own == byte) digest.bytes mask
+      → IsMaskOf (has_byte byte) bucket.own (bit_and mask digest.live)
+  candidates_are digest bucket byte mask d match = IsMaskOf-from (has_byte byte) bucket.own _ free refl (λ i.
+      let alive = bit-mask is_live bucket.own digest.live d.mask i free refl in
+      let matched : min (bit_at mask i) (cond (is_live (slot_at bucket.own i)) 1 0) ≡ cond (has_byte byte (slot_at bucket.own i)) 1 0 =
+      matched_bit (slot_at bucket.own i) byte (get_or digest.bytes i 0) (bit_at mask i) (d.bytes i) (λ h.
+      match i ∙ ap (λ b. cond b 1 0) (get_or-map (λ own. own == byte) digest.bytes i 0 false
+      (omega (arith, d.bytes_long, d.own_long, within is_live bucket.own i free refl h)))) in
+      omega (arith, bit_at_and mask digest.live i))
+
+  -- an own slot is filled
+  pub IsDigest-filled : (digest new : Digest) (bucket : BucketView K V) (pos : ℕ) (pair : K × V) (byte : ℕ) → IsDigest digest bucket
+      → pos < 32 → SetsBit digest.live pos 1 new.live → new.bytes ≡ set digest.bytes pos byte
+      → IsDigest new (record bucket { own = set bucket.own pos (live pair byte) })
+  IsDigest-filled digest new bucket pos pair byte d below bits bytes = record {
+    mask = IsMaskOf-set is_live bucket.own digest.live d.mask pos new.live (live pair byte) (omega (arith, d.own_long, below)) bits;
+    bytes = λ i alive. rw bytes (elim (cases_eq i pos) [
+      | inl same ↦
+          rw (same, get_or-set_same bucket.own pos (live pair byte) free (omega (arith, d.own_long, below)),
+          get_or-set_same digest.bytes pos byte 0 (omega (arith, d.bytes_long, below))) refl
+      | inr other ↦
+          let there = get_or-set_other bucket.own pos i (live pair byte) free other in
+          rw (there, get_or-set_other digest.bytes pos i byte 0 other) (d.bytes i (rw there at alive))
+    ]);
+    bytes_long = rw bytes (length-set digest.bytes pos byte ∙ d.bytes_long);
+    own_long = length-set bucket.own pos _ ∙ d.own_long;
+    chainless = d.chainless;
+  }
+
+  -- an own slot is left
+  pub IsDigest-freed : (digest new : Digest) (bucket left : BucketView K V) (pos : ℕ) → IsDigest digest bucket
+      → pos < 32 → SetsBit digest.live pos 0 new.live → new.bytes ≡ digest.bytes
+      → left.own ≡ set bucket.own pos free → left.chain ≡ bucket.chain
+      → IsDigest new left
+  IsDigest-freed digest new bucket left pos d below bits bytes own chain = record {
+    mask = rw own (IsMaskOf-set is_live bucket.own digest.live d.mask pos new.live free (omega (arith, d.own_long, below)) bits);
+    bytes = λ i alive. rw (bytes, own) (elim (cases_eq i pos) [
+      | inl same ↦
+          let none : is_live (slot_at left.own i) ≡ false =
+          rw (own, same, get_or-set_same bucket.own pos free free (omega (arith, d.own_long, below))) refl in
+          absurd cc
+      | inr other ↦
+          let there = get_or-set_other bucket.own pos i free free other in
+          rw there (d.bytes i (rw (own, there) at alive))
+    ]);
+    bytes_long = rw bytes d.bytes_long;
+    own_long = rw own (length-set bucket.own pos free ∙ d.own_long);
+    chainless = chain ∙ d.chainless;
+  }
+
+  free_at : (n pos : ℕ) → ◌≡◌ {A = Slot K V} (slot_at (replicate n free) pos) free
+  free_at zero pos = refl
+  free_at (suc n) zero = refl
+  free_at (suc n) (suc pos) = free_at n pos
+
+  -- a bucket with a live own slot is made
+  pub made_there : (made part : List (BucketView K V)) (len i : ℕ) (released : Bool) (pos : ℕ) → with_unmade made len released ≡ part
+      → i < length part → is_live (slot_at (bucket_at part i).own pos) ≡ true → i < length made
+  made_there made part len i released pos same below alive = elim (cases_lt i (length made)) [
+    | inl there ↦ there
+    | inr past ↦
+        let unmade = part_unmade made part len i released same past below in
+        let none : is_live (slot_at (bucket_at part i).own pos) ≡ false = rw (← unmade, free_at 32 pos) refl in
+        absurd cc
+  ]
+
+  pub free_from : (slot : Slot K V) → is_free slot ≡ true → slot ≡ free
+  free_from free is = refl
+  free_from slot is = cc
+
+  module _ (parts : List (List (BucketView K V))) (spare : List (BucketView K V)) (len bits part offset index : ℕ) (buckets : List (BucketView K V))
+      (place : IsPlace parts spare len bits part offset index buckets) (view : flattened parts ≡ buckets) (below : index < length buckets)
+      (old new : DigestLists) (kept : AreDigests old (flattened parts)) (others : ChangesOne index old new) where
+    -- one digest and its bucket change, where the parts hold it
+    pub set_there : (bucket : BucketView K V) → ((digest_at new index).live ≢ 2 ^ 32 - 1 → IsDigest (digest_at new index) bucket)
+        → AreDigests new (flattened (set parts part (set (part_at parts part) offset bucket)))
+    set_there bucket here =
+        subst (λ (xs : List (BucketView K V)). AreDigests new xs) (sym (place.written bucket))
+        (AreDigests-set old new buckets index bucket (subst (λ (xs : List (BucketView K V)). AreDigests old xs) view kept) below others here)
+
+    pub lost_there : IsLost (digest_at new index) → (bucket : BucketView K V)
+        → AreDigests new (flattened (set parts part (set (part_at parts part) offset bucket)))
+    lost_there lost bucket = set_there bucket (λ said. absurd (said lost))
+
+  -- nothing is said from an index on, and the buckets before it stay
+  pub AreDigests-front : (digests : DigestLists) (old new : List (BucketView K V)) (start : ℕ) → AreDigests digests old → KnowsNone start digests
+      → ((i : ℕ) → i < start → bucket_at new i ≡ bucket_at old i) → AreDigests digests new
+  AreDigests-front digests old new start kept none same i said = elim (cases_lt i start) [
+    | inl before ↦ rw (same i before) (kept i said)
+    | inr past ↦ absurd (said (none i past))
+  ]
+
+  -- one digest is written anew
+  pub AreDigests-settled : (old new : DigestLists) (buckets : List (BucketView K V)) (index : ℕ) (bucket : BucketView K V) (bits : ℕ)
+      (bytes : List ℕ) → AreDigests old buckets → ChangesOne index old new → Settles bits bytes (digest_at new index)
+      → (bits ≢ 2 ^ 32 - 1 → IsDigest (record { live = bits; bytes = bytes }) bucket) → bucket ≡ bucket_at buckets index
+      → AreDigests new buckets
+  AreDigests-settled old new buckets index bucket bits bytes kept others settled is read i said = elim (cases_eq i index) [
+    | inl same ↦ rw (same, ← read) (at_index settled (λ lost. said (ap (λ k. (digest_at new k).live) same ∙ lost)))
+    | inr other ↦ rw (others i other) (kept i (λ lost. said (ap (λ d. d.live) (others i other) ∙ lost)))
+  ]
+    where
+      at_index : Settles bits bytes (digest_at new index) → (digest_at new index).live ≢ 2 ^ 32 - 1 → IsDigest (digest_at new index) bucket
+      at_index (inl lost) known = absurd (known lost)
+      at_index (inr e) known =
+          subst (λ (d : Digest). IsDigest d bucket) (sym e) (is (λ lost. known (ap (λ (d : Digest). d.live) e ∙ lost)))
+
+  -- where no live own slot has the byte none is wanted
+  pub none_by_mask : (wants : K → Bool) (byte : ℕ) (bucket : BucketView K V) → IsMaskOf (has_byte byte) bucket.own 0 → bucket.chain ≡ []
+      → place_wanted wants byte bucket ≡ None
+  none_by_mask wants byte bucket mask none =
+      let want = is_wanted wants byte in
+      let left = IsLeft-first (has_byte byte) (λ slot. want slot ≡ false) free bucket.own 0 refl (unwanted wants byte) mask in
+      let nowhere = position-none_left (has_byte byte) want free bucket.own left in
+      sym (first_chain want bucket.own bucket.chain (sym nowhere)) ∙ ap (first_from want 1) none
+
+  clear_bit : (slot : Slot K V) → tally (is_marked slot) ≤ 0 → (is_live slot ≡ true → is_free slot ≡ false) × (is_live slot ≡ false → is_free slot ≡ true)
+  clear_bit free none = (λ e. cc, λ e. refl)
+  clear_bit (live pair byte) none = (λ e. refl, λ e. cc)
+  clear_bit (marked pair byte) none = absurd (omega arith)
+
+  -- the lowest own slot that isn't live is the first free one, where no slot has a mark
+  pub free_by_mask : (kind : ℕ) (b : BucketView K V) (bits pos : ℕ) → IsBucketOf kind b → kind ≢ INDEX → bits < 2 ^ 32
+      → IsMaskOf is_live b.own bits → IsLowest (2 ^ 32 - 1 - bits) pos → position is_free b.own ≡ Some pos
+  free_by_mask kind b bits pos laws other fits mask low =
+      let marks : Slot K V → ℕ = λ x. tally (is_marked x) in
+      let unmarked = laws.unmarked other in
+      let none : (i : ℕ) → i < 32 → tally (is_marked (slot_at b.own i)) ≤ 0 = λ i below.
+      omega (arith, get_or-le-sum_by marks b.own i free (omega (arith, laws.own_long, below)), unmarked,
+      sum_by-append marks b.own (flattened b.chain)) in
+      let bit : (i : ℕ) → i < 32 → bit_at (2 ^ 32 - 1 - bits) i ≡ 1 - cond (is_live (slot_at b.own i)) 1 0 = λ i below.
+      bit_at_not w32 bits i fits below ∙ ap (λ n. 1 - n) (bit-mask is_live b.own bits mask i free refl) in
+      let within = low.within in
+      position_at is_free b.own pos free (omega (arith, laws.own_long, within))
+      (λ k before. (clear_bit (slot_at b.own k) (none k (omega arith))).0
+      (bit_gone (is_live (slot_at b.own k)) (sym (bit k (omega arith)) ∙ low.lower k before)))
+      ((clear_bit (slot_at b.own pos) (none pos within)).1 (bit_there (is_live (slot_at b.own pos)) (sym (bit pos within) ∙ low.set)))
+    where
+      bit_gone : (is : Bool) → 1 - cond is 1 0 ≡ 0 → is ≡ true
+      bit_gone true e = refl
+      bit_gone false e = absurd (omega arith)
+
+      bit_there : (is : Bool) → 1 - cond is 1 0 ≡ 1 → is ≡ false
+      bit_there true e = absurd (omega arith)
+      bit_there false e = refl
+
+  -- an own slot that is left
+  pub without_own : (b : BucketView K V) (at : Place) → at.block ≡ 0
+      → ((slots_without b at).own ≡ set b.own at.pos free) × ((slots_without b at).chain ≡ b.chain)
+  without_own b at e = rw e (refl, refl)
+
+  -- where a bucket stands in the parts, and what its digest says
+  pub record IsReady (parts : List (List (BucketView K V))) (spare : List (BucketView K V)) (len bits part offset index : ℕ)
+      (buckets : List (BucketView K V)) (digest : Digest) (byte left : ℕ) : Type 0 where
+    pub place : IsPlace parts spare len bits part offset index buckets
+    pub digest_is : IsDigest digest (bucket_at (part_at parts part) offset)
+    pub mask : IsMaskOf (has_byte byte) (bucket_at (part_at parts part) offset).own left
+
+  pub ready_there : (parts : List (List (BucketView K V))) (spare : List (BucketView K V)) (len bits part offset index : ℕ)
+      (buckets : List (BucketView K V)) (digests : DigestLists) (byte lives left : ℕ) → AreParts parts spare len bits → flattened parts ≡ buckets
+      → index < length buckets → part ≡ index / 2 ^ bits → offset ≡ index % 2 ^ bits → AreDigests digests (flattened parts)
+      → lives ≡ (digest_at digests index).live → lives ≢ 2 ^ 32 - 1
+      → (mask : ℕ) × IsMaskOf (λ own. own == byte) (digest_at digests index).bytes mask × (left ≡ bit_and mask lives)
+      → IsReady parts spare len bits part offset index buckets (digest_at digests index) byte left
+  ready_there parts spare len bits part offset index buckets digests byte lives left kept view below part_is offset_is are said known found =
+      let place = place_is parts spare len bits kept part offset index buckets view below part_is offset_is in
+      let is = are index (λ lost. known (said ∙ lost)) in
+      let read : bucket_at (flattened parts) index ≡ bucket_at (part_at parts part) offset =
+      ap (λ (xs : List (BucketView K V)). bucket_at xs index) view ∙ sym place.read in
+      let here : IsDigest (digest_at digests index) (bucket_at (part_at parts part) offset) =
+      subst (λ (b : BucketView K V). IsDigest (digest_at digests index) b) read is in
+      let (mask, match, left_is) = found in
+      let same : left ≡ bit_and mask (digest_at digests index).live = left_is ∙ ap (λ n. bit_and mask n) said in
+      record {
+        place = place;
+        digest_is = here;
+        mask = subst (λ (n : ℕ). IsMaskOf (has_byte byte) (bucket_at (part_at parts part) offset).own n) (sym same)
+            (candidates_are (digest_at digests index) (bucket_at (part_at parts part) offset) byte mask here match);
+      }
+
+  -- where a bit of a byte's mask is set, that slot is live
+  pub some_in_mask : (byte : ℕ) (own : List (Slot K V)) (bits : ℕ) → IsMaskOf (has_byte byte) own bits → bits < 2 ^ 32 → bits ≢ 0
+      → (pos : ℕ) × (is_live (slot_at own pos) ≡ true)
+  some_in_mask byte own bits mask fits some =
+      let low = lowest bits (omega (arith, some)) fits in
+      let pos = trailing_zeros w32 bits in
+      (pos, candidate_live (slot_at own pos) byte (lowest_passes (has_byte byte) own bits pos free mask low refl))
+
+  -- a pair stands in the first free slot, an own one
+  pub IsDigest-put : (digest new : Digest) (b : BucketView K V) (pos : ℕ) (pair : K × V) (byte : ℕ) → IsDigest digest b
+      → position is_free b.own ≡ Some pos → pos < 32 → SetsBit digest.live pos 1 new.live → new.bytes ≡ set digest.bytes pos byte
+      → IsDigest new (slots_with b pair byte)
+  IsDigest-put digest new b pos pair byte d place below bits bytes =
+      subst (λ (x : BucketView K V). IsDigest new x) (sym (put_in_own b pos pair byte place))
+      (IsDigest-filled digest new b pos pair byte d below bits bytes)
+
+  -- an insertion looks at no mark but in an index
+  pub after_put : (kind : ℕ) (keeps : ℕ → Bool) (b : BucketView K V) (pair : K × V) (byte : ℕ) → kind ≢ INDEX
+      → slots_after_insertion kind keeps b pair byte ≡ slots_with b pair byte
+  after_put kind keeps b pair byte other = let e : (kind == INDEX) ≡ false = ne_eqb kind INDEX other in rw e refl
+
+-- a bitmap that says something
+pub said_is : (lost : Bool) (bits : ℕ) → (bits ≡ 2 ^ 32 - 1 → IsTrue lost) → lost ≡ false → bits ≢ 2 ^ 32 - 1
+said_is lost bits lost_is is e = let yes : lost ≡ true = lost_is e in absurd cc
+
+pub null_at : (valid : Bool) (pos : ℕ) → ((pos ≡ BUCKET_LEN → ⊥) → IsTrue valid) → valid ≡ false → pos ≡ BUCKET_LEN
+null_at valid pos points is = elim (cases_eq pos BUCKET_LEN) [
+  | inl null ↦ null
+  | inr other ↦ let yes : valid ≡ true = points other in absurd cc
+]

@@ -1,0 +1,34 @@
+-- What calls on a bucket of an array do that search it and then take or put a pair.
+use Rattle.std.specs.Prelude.{ℕ, ◌≡◌, Bool, Option, Some, None, Result, Ok, Err, List, length, slice_set}
+use Rattle.bucket_slots.specs.ArrayView.{bucket_at}
+use Rattle.bucket_slots.specs.BucketView.{BucketView, Place, first_place, pairs_in, slot_in}
+use Rattle.bucket_slots.specs.Clearing.{slots_for_insertion}
+use Rattle.bucket_slots.specs.Removing.{slots_without}
+use Rattle.bucket_slots.specs.Searching.{place_wanted}
+use Rattle.bucket_slots.specs.Slots.{is_free, live_pair}
+use Rattle.bucket_slots.specs.declared.bucket_array.digested.NotPut.{NotPut}
+use Rattle.bucket_slots.specs.declared.bucket_array.digested.NotPut.TheVariants.{Memory, Present}
+
+-- the pair of the first wanted slot of a bucket is taken out, and so many are left there
+pub record TakesFirst {K V : Type 0} (wants : K → Bool) (byte index : ℕ) (old : List (BucketView K V)) (pair : K × V) (left : ℕ)
+    (new : List (BucketView K V)) : Type 0 where
+  pub at : Place
+  pub found : place_wanted wants byte (bucket_at old index) ≡ Some at
+  pub taken : live_pair (slot_in (bucket_at old index) at) ≡ Some pair
+  pub changed : new ≡ slice_set old index (slots_without (bucket_at old index) at)
+  pub left_is : left ≡ length (pairs_in (slots_without (bucket_at old index) at))
+
+-- there is no answer exactly where no slot is wanted, and all stays
+abbrev pub TakesWanted : {K V : Type 0} → (K → Bool) → ℕ → ℕ → List (BucketView K V) → Option ((K × V) × ℕ) → List (BucketView K V) → Type 0
+TakesWanted wants byte index old (Some found) new = TakesFirst wants byte index old found.0 found.1 new
+TakesWanted wants byte index old None new = (new ≡ old) × (place_wanted wants byte (bucket_at old index) ≡ None)
+
+-- no live slot has an equal key where a pair was put, or allocation failed, and then no slot is free; one has where the answer says so;
+-- what isn't put comes back
+abbrev pub AnswersPut : {K V : Type 0} → (K → K → Bool) → K → V → ℕ → ℕ → (ℕ → Bool) → BucketView K V → Result (Unit {0}) (NotPut K V) → Type 0
+AnswersPut eq key value byte kind keeps bucket (Ok done) = place_wanted (λ own. eq own key) byte bucket ≡ None
+AnswersPut eq key value byte kind keeps bucket (Err (Present k v)) =
+    (k ≡ key) × (v ≡ value) × ((at : Place) × (place_wanted (λ own. eq own key) byte bucket ≡ Some at))
+AnswersPut eq key value byte kind keeps bucket (Err (Memory k v)) =
+    (k ≡ key) × (v ≡ value) × (place_wanted (λ own. eq own key) byte bucket ≡ None)
+    × (first_place is_free (slots_for_insertion kind keeps bucket) ≡ None)

@@ -1,0 +1,158 @@
+//! Digests of buckets: of each bucket a bitmap of its live own slots, and their bytes.
+//!
+//! Model: the digest of each index. A bitmap with all bits says nothing of its bucket, and so does
+//! an index past the end.
+//!
+//! Own.
+ghost use Rattle.std.specs.Prelude.{◌≡◌, ◌≢◌, ◌==◌, ℕ, ◌-◌, ◌^◌, ◌<◌, IsTrue, ◌↔◌, bit_and, slice_set};
+ghost use Rattle.bucket_slots.specs.Layout.Bitmaps.{SetsBit};
+ghost use Rattle.bucket_slots.specs.Layout.Digests.{ChangesOne, IsLost, KnowsNone, Settles, digest_at};
+ghost use Rattle.bucket_slots.specs.Masks.{IsMaskOf};
+
+use crate::bucket::BUCKET_LEN;
+use crate::bucket::bits::{with_bit, without_bit};
+use crate::matcher::match_partial_hash;
+use std::alloc::Global;
+use std::marker::Model;
+
+/// The bitmap that says nothing of its bucket.
+const LOST: u32 = u32::MAX;
+
+/// The digests of an array's buckets.
+#[derive(Drop)]
+pub(crate) struct Digests {
+    lives: Vec<u32>,
+    bytes: Vec<[u8; BUCKET_LEN]>,
+}
+
+impl Model for Digests {
+    ghost use Rattle.std.specs.Prelude.{◌≡◌, length};
+    ghost use Rattle.bucket_slots.specs.Layout.Digests.{DigestLists};
+
+    ghost Value = { DigestLists };
+
+    ghost view = { λ digests. record { lives = digests.lives.items; bytes = digests.bytes.items } };
+
+    ghost invariant = { λ digests. length digests.lives.items ≡ length digests.bytes.items };
+}
+
+impl Digests {
+    /// Returns digests that say nothing.
+    pub(crate) fn none(alloc: Global) -> Self
+        ensures { KnowsNone 0 result }
+    {
+        Digests {
+            lives: Vec::new(alloc),
+            bytes: Vec::new(alloc),
+        }
+    }
+
+    /// Asks for the memory of so many digests, which say nothing. Where it is refused none is kept.
+    pub(crate) fn restart(&mut self, alloc: Global, len: usize)
+        ensures { KnowsNone 0 self.new }
+    {
+        self.lives.clear();
+        self.bytes.clear();
+        if len < self.bytes.capacity() {
+            self.lives = Vec::new(alloc);
+            self.bytes = Vec::new(alloc);
+        }
+        if self.lives.try_reserve(len).is_ok() {
+            let _ = self.bytes.try_reserve(len);
+        }
+    }
+
+    /// Returns the bitmap of a bucket.
+    #[inline(always)]
+    pub(crate) fn live(&self, index: usize) -> u32
+        ensures { result ≡ (digest_at self.now index).live }
+    {
+        match self.lives.get(index) {
+            Some(live) => *live,
+            None => LOST,
+        }
+    }
+
+    /// Whether nothing is said of a bucket, nor of those behind it.
+    #[inline(always)]
+    pub(crate) fn is_lost_from(&self, index: usize) -> bool
+        ensures { IsTrue result → KnowsNone index self.now }
+    {
+        self.lives.len() <= index
+    }
+
+    /// Returns those of the live own slots that have a byte.
+    #[inline(always)]
+    pub(crate) fn candidates(&self, index: usize, live: u32, byte: u8) -> u32
+        requires known { (digest_at self.now index).live ≢ 2 ^ 32 - 1 }
+        ensures { (mask : ℕ) × IsMaskOf (λ own. own == byte) (digest_at self.now index).bytes mask
+            × (result ≡ bit_and mask live) }
+    {
+        match_partial_hash(&self.bytes[index], byte) & live
+    }
+
+    /// Forgets what is known of a bucket.
+    #[inline(always)]
+    pub(crate) fn lose(&mut self, index: usize)
+        ensures lost { IsLost (digest_at self.new index) }
+        ensures others { ChangesOne index self.old self.new }
+    {
+        if index < self.lives.len() {
+            self.lives[index] = LOST;
+        }
+    }
+
+    /// Writes down what a bucket is, where there is room.
+    #[inline(always)]
+    pub(crate) fn settle(&mut self, index: usize, live: u32, bytes: &[u8; BUCKET_LEN])
+        ensures settled { Settles live bytes.now (digest_at self.new index) }
+        ensures others { ChangesOne index self.old self.new }
+    {
+        if index < self.lives.len() {
+            self.lives[index] = live;
+            self.bytes[index] = *bytes;
+        } else if index == self.lives.len()
+            && index < self.lives.capacity()
+            && index < self.bytes.capacity()
+        {
+            self.lives.push_reserved(live);
+            self.bytes.push_reserved(*bytes);
+        }
+    }
+
+    /// Writes down that an own slot was filled.
+    #[inline(always)]
+    pub(crate) fn fill(&mut self, index: usize, live: u32, pos: u32, byte: u8)
+        requires known { (digest_at self.old index).live ≢ 2 ^ 32 - 1 }
+        requires live { live ≡ (digest_at self.old index).live }
+        requires pos { pos < 32 }
+        ensures live { SetsBit (digest_at self.old index).live pos 1 (digest_at self.new index).live }
+        ensures bytes { (digest_at self.new index).bytes ≡ slice_set (digest_at self.old index).bytes pos byte }
+        ensures others { ChangesOne index self.old self.new }
+    {
+        self.lives[index] = with_bit(live, pos);
+        let row = &mut self.bytes[index];
+        row[pos as usize] = byte;
+    }
+
+    /// Writes down that an own slot was left.
+    #[inline(always)]
+    pub(crate) fn free(&mut self, index: usize, live: u32, pos: u32)
+        requires known { (digest_at self.old index).live ≢ 2 ^ 32 - 1 }
+        requires live { live ≡ (digest_at self.old index).live }
+        requires pos { pos < 32 }
+        ensures live { SetsBit (digest_at self.old index).live pos 0 (digest_at self.new index).live }
+        ensures bytes { (digest_at self.new index).bytes ≡ (digest_at self.old index).bytes }
+        ensures others { ChangesOne index self.old self.new }
+    {
+        self.lives[index] = without_bit(live, pos);
+    }
+}
+
+/// Whether a bitmap says nothing of its bucket.
+#[inline(always)]
+pub(crate) fn is_lost(live: u32) -> bool
+    ensures { IsTrue result ↔ (live ≡ 2 ^ 32 - 1) }
+{
+    live == LOST
+}
