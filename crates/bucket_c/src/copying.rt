@@ -52,7 +52,7 @@ pub fn copy_map(map: &HashMap<u64, u64, SeededHash>, start: usize, out: &mut [Pa
         ensures { (skip.exit, count.exit, out.exit.now)
             ≡ next_copied (skip.entry, count.entry, out.entry.now) (key.now, value.now) }
     { copy_next(&mut skip, &mut count, out, *key, *value) };
-    map.for_each(&mut visit);
+    map.for_each_ref(&mut visit);
     count
 }
 
@@ -132,7 +132,7 @@ pub fn copy_text_map(
         ensures { (place.exit, rows.exit.now, bytes.exit.now)
             ≡ next_text (place.entry, rows.entry.now, bytes.entry.now) (key.now, value.now) }
     { copy_next_text(&mut place, rows, bytes, key, *value) };
-    map.for_each(&mut visit);
+    map.for_each_ref(&mut visit);
     place.count
 }
 
@@ -156,7 +156,7 @@ pub fn copy_text_set(
         ensures { (place.exit, rows.exit.now, bytes.exit.now)
             ≡ next_text (place.entry, rows.entry.now, bytes.entry.now) (key.now, 0) }
     { copy_next_text(&mut place, rows, bytes, key, 0) };
-    set.for_each(&mut visit);
+    set.for_each_ref(&mut visit);
     place.count
 }
 

@@ -139,7 +139,7 @@ pub fn remove<K: Eq + Drop, H: KeyHash<K>, Q: KeyForm<K, H>>(
 pub fn insert_key<K: Eq + Drop, H: KeyHash<K>>(set: &mut HashSet<K, H>, key: K) -> u32
     ensures { InsertsOne K.eq H.hash_of key tt set.old result set.new }
 {
-    match set.insert(key) {
+    match set.insert_new(key) {
         Ok(()) => OK,
         Err(NotInserted::Present(_own, _)) => PRESENT,
         Err(NotInserted::Memory(_own, _)) => NO_MEMORY,
@@ -162,7 +162,7 @@ pub fn remove_key<K: Eq + Drop, H: KeyHash<K>, Q: KeyForm<K, H>>(
 ) -> u32
     ensures { RemovesKey K.eq (Q.stands_for key) set.old result set.new }
 {
-    match set.remove(key) {
+    match set.take(key) {
         Some(_own) => OK,
         None => ABSENT,
     }

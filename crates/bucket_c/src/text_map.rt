@@ -33,7 +33,7 @@ pub extern "C" fn bucket_text_map_new(
     ensures { (map : Maps Text ℕ) × IsNew capacity seed map
         × Opens (TextMap map) handle.old.held.table result handle.new.held.table }
 {
-    let map = HashMap::with_capacity(alloc, hash_by(seed), capacity);
+    let map = HashMap::with_capacity_and_hasher(alloc, capacity, hash_by(seed));
     handle.open(alloc, Table::TextMap(map))
 }
 

@@ -28,7 +28,7 @@ pub extern "C" fn bucket_text_set_new(alloc: Global, handle: &mut Handle, seed: 
     ensures { (set : Maps Text (Unit {0})) × IsNew 0 seed set
         × Opens (TextSet set) handle.old.held.table result handle.new.held.table }
 {
-    let set = HashSet::with_capacity(alloc, hash_by(seed), 0);
+    let set = HashSet::with_capacity_and_hasher(alloc, 0, hash_by(seed));
     handle.open(alloc, Table::TextSet(set))
 }
 

@@ -41,7 +41,7 @@ pub use draining::TableDrain;
 pub use extracting::TableExtract;
 pub use pairs::{ArraysPairs, Kind, TablePairs};
 pub use peeking::peek_arrays;
-pub(crate) use searching::Spot;
+pub use searching::Spot;
 pub use side::Side;
 use std::alloc::Global;
 use std::error::Error;
@@ -104,6 +104,11 @@ impl<K, V, L: LruList, const TYPE: u8> Arrays<K, V, L, TYPE> {
             linked: None,
             tickets: Tickets::none(alloc),
         }
+    }
+
+    /// Returns the allocator.
+    pub(crate) fn allocator(&self) -> Global {
+        self.alloc
     }
 
     /// Returns the least capacity, in slots.

@@ -38,7 +38,8 @@ mod write_access;
 
 use crate::arrays::Arrays;
 pub use crate::arrays::{
-    ArraysPairs, Kind, Missing, PairsByUse, Side, TableDrain, TableExtract, TablePairs, peek_arrays,
+    ArraysPairs, Kind, Missing, PairsByUse, Side, Spot, TableDrain, TableExtract, TablePairs,
+    peek_arrays,
 };
 pub use crate::capacity::{
     from_index_to_range, num_entries_from_hint, ranges_part_the_indices,
@@ -129,6 +130,13 @@ impl<K: Eq, V, H: KeyHash<K>, L: LruList, const TYPE: u8> HashTable<K, V, H, L, 
         ensures { result.now ≡ self.now.hasher }
     {
         &self.hasher
+    }
+
+    /// Returns the allocator, which serves all that the table will hold.
+    ///
+    /// O(1). Own.
+    pub fn allocator(&self) -> Global {
+        self.arrays.allocator()
     }
 
     /// Returns the hash of a key.

@@ -6,6 +6,7 @@
 
 mod counting;
 mod expiring;
+mod grouping;
 pub mod ledger;
 mod retiring;
 mod sessions;
@@ -13,6 +14,7 @@ mod words;
 
 pub use counting::count_keys;
 pub use expiring::take_expired;
+pub use grouping::{group, overwrite};
 pub use retiring::retire_keys;
 pub use sessions::session_for;
 pub use words::count_word;

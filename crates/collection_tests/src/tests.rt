@@ -27,6 +27,7 @@ mod sets;
 mod std_entries;
 mod std_maps;
 mod std_sets;
+mod std_shapes;
 mod tags;
 mod two_maps;
 mod two_sets;

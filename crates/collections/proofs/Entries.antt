@@ -3,7 +3,7 @@ use Rattle.std.proofs.Common.{ℕ, Bool, Option, Some, ◌≡◌, ◌∙◌, con
 use Rattle.std.specs.Borrow.{MutBor}
 use Rattle.std.specs.Cmp.{IsEquivalence}
 use Rattle.std.specs.Option.{IfSome, IsSome, MatchOption}
-use Rattle.collections.specs.Changes.{Keeps, Replaces}
+use Rattle.collections.specs.Changes.{Holds, Keeps, Replaces}
 use Rattle.collections.specs.Hashes.{HaveHash}
 use Rattle.collections.specs.Maps.{MapView, get, get_by}
 use Rattle.collections.proofs.Lookups.{IsForm, form_of_key}
@@ -21,6 +21,13 @@ hashes_stay eq hash_of wants hash old new keeps have = λ key wanted. ap (λ h. 
 pub same_as_lent : {V : Type 0} (P : V → Type 0) (held : Option V) (value : V) → Some value ≡ held
     → MatchOption held (P value) (λ v. value ≡ v)
 same_as_lent P held value is = subst (λ (o : Option _). MatchOption o (P value) (λ v. value ≡ v)) is refl
+
+-- a value that is lent where it stands is put, whatever puts it where no key is wanted
+pub puts_held : {K V H : Type 0} (eq : K → K → Bool) (map new : MapView K V H) (wants : K → Bool) (before value : V) (P : Type 0)
+    → get_by wants map ≡ Some before → Holds eq wants map before value new
+    → MatchOption (get_by wants map) P (λ held. (own : K) × Replaces eq map wants (own, held) value new)
+puts_held {K} {V} eq map new wants before value P is holds =
+    subst (λ (o : Option V). MatchOption o P (λ held. (own : K) × Replaces eq map wants (own, held) value new)) (sym is) holds
 
 module _ {K V H : Type 0} (eq : K → K → Bool) (map new : MapView K V H) (wants : K → Bool) (loan : Option (MutBor V)) (lent : MutBor V)
     (value : V) (is : loan ≡ Some lent) (holds : IfSome loan (λ l. (own : K) × Replaces eq map wants (own, l.now) value new)) where

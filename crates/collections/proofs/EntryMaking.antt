@@ -1,13 +1,13 @@
 -- A value of a map that was lent, or was made and lent.
 use Rattle.std.proofs.Common.{Bool, Option, Some, None, Result, Ok, Err, ◌≡◌, refl, sym, ap, subst}
 use Rattle.std.specs.Borrow.{MutBor}
-use Rattle.std.specs.Option.{IfSome, MatchOption}
-use Rattle.std.specs.Prelude.{IfErr, IfOk}
+use Rattle.std.specs.Option.{MatchOption}
+use Rattle.std.specs.Prelude.{IfErr, IfOk, OnErr}
 use Rattle.std.specs.declared.alloc.AllocFailed.{AllocFailed}
-use Rattle.collections.specs.Changes.{Replaces}
+use Rattle.collections.specs.Changes.{Holds}
 use Rattle.collections.specs.Loans.{AddsWanted, PutsWanted}
 use Rattle.collections.specs.Maps.{MapView, get_by}
-use Rattle.collections.proofs.Entries.{puts_there, replaces_there}
+use Rattle.collections.proofs.Entries.{puts_held}
 
 -- what is lent is what was there
 pub same_as_held : {V : Type 0} (Q : Type 0) (held : Option V) (value : V) → Some value ≡ held → MatchOption held Q (λ v. value ≡ v)
@@ -32,18 +32,24 @@ module _ {K V : Type 0} (P : V → Type 0) (value : V) (made : P value) (outcome
       from (Ok lent) is = tt
       from (Err back) is = (ap (λ p. p.0) is, subst P (sym (ap (λ p. p.1) is)) made)
 
-module _ {K V : Type 0} (P : V → Type 0) (held : Option V) (none : held ≡ None) where
-  -- where nothing was there, what is lent was made
-  pub lent_vacant : (r : Result (MutBor V) (AllocFailed (K × V))) → IfOk r (λ lent. P lent.now)
-      → IfOk r (λ lent. MatchOption held (P lent.now) (λ v. lent.now ≡ v))
-  lent_vacant (Ok lent) made = subst (λ (o : Option V). MatchOption o (P lent.now) (λ v. lent.now ≡ v)) (sym none) made
-  lent_vacant (Err back) made = tt
+-- where nothing was there, what is lent was made
+pub lent_vacant : {E V : Type 0} (P : V → Type 0) (held : Option V) → held ≡ None → (r : Result (MutBor V) E)
+    → IfOk r (λ lent. P lent.now) → IfOk r (λ lent. MatchOption held (P lent.now) (λ v. lent.now ≡ v))
+lent_vacant {E} {V} P held none (Ok lent) made =
+    subst (λ (o : Option V). MatchOption o (P lent.now) (λ v. lent.now ≡ v)) (sym none) made
+lent_vacant P held none (Err back) made = tt
 
+module _ {K V : Type 0} (P : V → Type 0) (held : Option V) (none : held ≡ None) where
   -- and what comes back was
   pub back_vacant : (key : K) (r : Result (MutBor V) (AllocFailed (K × V))) → IfErr r (λ back. (back.value.0 ≡ key) × P back.value.1)
       → IfErr r (λ back. (back.value.0 ≡ key) × P back.value.1 × (held ≡ None))
   back_vacant key (Ok lent) back = tt
   back_vacant key (Err refused) back = (back.0, back.1, none)
+
+-- where nothing was there, nothing was where an error came
+pub none_refused : {A E V : Type 0} (held : Option V) (none : held ≡ None) (r : Result A E) → OnErr r (held ≡ None)
+none_refused held none (Ok x) = tt
+none_refused held none (Err why) = none
 
 module _ {V : Type 0} (P : V → Type 0) (value : V) (made : P value) (held : Option V) (none : held ≡ None) where
   -- where nothing was there, what is lent is what was made
@@ -65,9 +71,8 @@ module _ {K V H : Type 0} (eq : K → K → Bool) (old : MapView K V H) (wants :
   puts_new none adds = record { cases = rw none adds; updates = adds.updates }
 
   -- and so does another value beside the key that is there
-  pub puts_over : (loan : Option (MutBor V)) (lent : MutBor V) → loan ≡ Some lent
-      → IfSome loan (λ l. (own : K) × Replaces eq old wants (own, l.now) value new) → PutsWanted eq old wants value new
-  puts_over loan lent is holds = record {
-    cases = puts_there eq old new wants loan lent value is holds _;
-    updates = (replaces_there eq old new wants loan lent value is holds).1.updates;
+  pub puts_over : (before : V) → get_by wants old ≡ Some before → Holds eq wants old before value new → PutsWanted eq old wants value new
+  puts_over before is holds = record {
+    cases = puts_held eq old new wants before value _ is holds;
+    updates = holds.1.updates;
   }

@@ -31,3 +31,6 @@ pub mod Removals
 pub mod EntryMaking
 pub mod Capacity
 pub mod Picking
+pub mod InPlace
+pub mod EntryLoans
+pub mod SetClones

@@ -1,5 +1,5 @@
 -- How many slots a map takes for some pairs.
-use Rattle.std.specs.Prelude.{ℕ, ◌≡◌, ◌+◌, ◌<◌, ◌≤◌, ◌^◌, Bool, Result, Ok, IsErr, OnOk, max}
+use Rattle.std.specs.Prelude.{ℕ, ◌≡◌, ◌+◌, ◌<◌, ◌≤◌, ◌^◌, Bool, Result, Ok, IsErr, OnOk, max, min}
 use Rattle.bucket_slots.specs.Sizing.{IsPowerIn, IsTooFull}
 use Rattle.collections.specs.Changes.{Stays}
 use Rattle.collections.specs.Maps.{IsEmpty, MapView, map_len}
@@ -59,3 +59,11 @@ module _ {K V H : Type 0} where
     pub fitted : OnOk answer (IsFitted new)
     pub ready : IsFitted old → (answer ≡ Ok tt) × (new ≡ record old { minimum = 0 })
     pub none : IsEmpty old → answer ≡ Ok tt
+
+  -- the minimum is 0, and there are as few slots as so many pairs take, or as before where those were fewer, unless allocation fails; where
+  -- the pairs of the map are as many, those count
+  pub record ShrinksTo {E : Type 0} (eq : K → K → Bool) (pairs : ℕ) (old : MapView K V H) (answer : Result (Unit {0}) E) (new : MapView K V H) : Type 0 where
+    pub stays : Stays eq (record old { minimum = 0 }) new
+    pub fitted : pairs ≤ map_len old → ShrinksToFit eq old answer new
+    pub slots : map_len old < pairs → OnOk answer ((least : ℕ) → IsSlotsFor pairs least → new.slots ≡ min least old.slots)
+    pub too_many : AreTooMany pairs → map_len old < pairs → (answer ≡ Ok tt) × (new ≡ record old { minimum = 0 })

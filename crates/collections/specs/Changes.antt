@@ -55,6 +55,10 @@ module _ {K V H : Type 0} (eq : K → K → Bool) where
     pub updates : Updates old wants (Some later) new
     pub kept : Keeps old new
 
+  -- the value beside some key that is wanted is another one
+  abbrev pub Holds : (K → Bool) → MapView K V H → V → V → MapView K V H → Type 0
+  Holds wants old before later new = (own : K) × Replaces old wants (own, before) later new
+
   -- a pair is in, whose key was absent, and another is out
   pub record Displaces (old : MapView K V H) (gone : K × V) (key : K) (value : V) (new : MapView K V H) : Type 0 where
     pub absent : get eq old key ≡ None
@@ -137,3 +141,10 @@ module _ {K V H : Type 0} (eq : K → K → Bool) where
     pub kept : Keeps eq old new
     pub slots : new.slots ≡ old.slots
     pub old_slots : new.old_slots ≡ old.old_slots
+
+-- an error was made of a pair that wasn't put for want of memory: the key, and a value that was made
+pub record FailsToAdd {K V E : Type 0} (gives : AllocFailed (K × V) → E → Type 0) (IsMade : V → Type 0) (key : K) (why : E) : Type 0 where
+  pub back : AllocFailed (K × V)
+  pub same_key : back.value.0 ≡ key
+  pub made : IsMade back.value.1
+  pub given : gives back why

@@ -1,10 +1,13 @@
 -- What a copy of a map has whose keys and values are clones.
-use Rattle.std.specs.Prelude.{◌≡◌, ◌^◌, Bool, true, min, List, None}
+use Rattle.std.specs.Prelude.{◌≡◌, ◌^◌, Bool, true, map, min, List, None, Option}
+use Rattle.std.specs.Borrow.{Bor}
+use Rattle.std.specs.Iterator.{Drains}
 use Rattle.std.specs.List.{AllZip}
 use Rattle.std.specs.List.Sorted.{IsPermutation}
 use Rattle.std.specs.Option.{IsSomeAnd, MatchOption}
+use Rattle.collections.specs.Collecting.{PutsKey, PutsKeys, empty_map}
 use Rattle.collections.specs.Loans.{Puts}
-use Rattle.collections.specs.Maps.{IsUnique, MapView, get, map_len}
+use Rattle.collections.specs.Maps.{IsUnique, MapView, contains, get, map_len}
 
 -- a pair of clones, whose key is equal
 abbrev pub IsClonedPair : {K V : Type 0} → (K → K → Bool) → (K → K → Type 0) → (V → V → Type 0) → K × V → K × V → Type 0
@@ -30,3 +33,33 @@ module _ {K V H : Type 0} (eq : K → K → Bool) (IsKey : K → K → Type 0) (
     pub hasher : IsHasher own.hasher copy.hasher
     pub minimum : copy.minimum ≡ min own.minimum (2 ^ 63)
     pub maximum : copy.maximum ≡ 2 ^ 63
+
+-- a clone of a key, which is equal
+abbrev pub IsClonedKey : {K : Type 0} → (K → K → Bool) → (K → K → Type 0) → K → K → Type 0
+IsClonedKey eq IsKey key clone = IsKey key clone × (eq key clone ≡ true)
+
+module _ {K H : Type 0} (eq : K → K → Bool) (IsKey : K → K → Type 0) where
+  -- a clone of a key is put into a set
+  pub record PutsKeyClone (old : MapView K (Unit {0}) H) (key : K) (new : MapView K (Unit {0}) H) : Type 0 where
+    pub clone : K
+    pub is_clone : IsClonedKey eq IsKey key clone
+    pub puts : PutsKey eq old clone new
+
+  -- clones of some keys are put into a set in turn
+  pub record PutsClones (old : MapView K (Unit {0}) H) (keys : List K) (new : MapView K (Unit {0}) H) : Type 0 where
+    pub clones : List K
+    pub one_each : AllZip (IsClonedKey eq IsKey) keys clones
+    pub puts : PutsKeys eq old clones new
+
+  -- clones of keys that an iterator lends are put in turn, all of them
+  abbrev pub PutsClonesFrom : {S : Type 0} → (S → Option (Bor K) → S → Type 0) → S → MapView K (Unit {0}) H → MapView K (Unit {0}) H → Type 0
+  PutsClonesFrom steps first old new =
+      (lent : List (Bor K)) × Drains steps first lent × PutsClones old (map (λ key. key.now) lent) new
+
+module _ {K H : Type 0} (eq : K → K → Bool) (IsKey : K → K → Type 0) (IsHasher : H → H → Type 0) where
+  -- a set that was made empty has clones of some keys of two others, which the test of both says of each key; its hasher is a clone
+  -- of the first one's
+  pub record JoinsClones (own other : MapView K (Unit {0}) H) (keys : List K) (joins : Bool → Bool → Bool) (made : MapView K (Unit {0}) H) : Type 0 where
+    pub puts : PutsClones {H = H} eq IsKey (empty_map made.hasher) keys made
+    pub has : (key : K) → contains eq made key ≡ joins (contains eq own key) (contains eq other key)
+    pub hasher : IsHasher own.hasher made.hasher

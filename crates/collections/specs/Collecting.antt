@@ -1,5 +1,6 @@
 -- Many pairs or keys put in turn, as an iterator gives them.
-use Rattle.std.specs.Prelude.{◌≡◌, ◌||◌, ◌^◌, Bool, List, [], Option, Some, None, Result, Ok, Err, MatchBool}
+use Rattle.std.specs.Prelude.{◌≡◌, ◌||◌, ◌^◌, Bool, List, [], Option, Some, None, Result, Ok, Err, MatchBool, map}
+use Rattle.std.specs.Borrow.{Bor}
 use Rattle.std.specs.Iterator.{YieldsThen}
 use Rattle.std.specs.List.{FoldsTo, list_any}
 use Rattle.std.specs.Map.{update_all}
@@ -11,6 +12,10 @@ use Rattle.collections.specs.Maps.{MapView, contains, get}
 -- a map as it is made: it has no pair and no slot
 abbrev pub empty_map : {K V H : Type 0} → H → MapView K V H
 empty_map hasher = record { entries = []; hasher = hasher; minimum = 0; maximum = 2 ^ 63; slots = 0; old_slots = 0 }
+
+-- pairs that are lent, by value
+abbrev pub copied_pairs : {K V : Type 0} → List (Bor K × Bor V) → List (K × V)
+copied_pairs pairs = map (λ pair. (pair.0.now, pair.1.now)) pairs
 
 module _ {K V H : Type 0} (eq : K → K → Bool) where
   -- each pair is put in turn, or its value beside the key that is there; so each key has the last value that came for it, or what

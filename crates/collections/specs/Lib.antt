@@ -16,6 +16,7 @@ pub mod Orders
 pub mod Marks
 pub mod Entries
 pub mod EntryRefs
+pub mod EntryLoans
 pub mod Copies
 pub mod Clones
 pub mod StoredKeys

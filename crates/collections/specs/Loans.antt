@@ -1,9 +1,9 @@
 -- What a map ends as, where a value of it was lent for writing.
 use Rattle.std.specs.Prelude.{◌≡◌, Bool, true, Option, Some, None, Result, IfNone, IfSome, MatchOption}
-use Rattle.std.specs.Borrow.{Fml, LendsSo, LendsSoOk, MutBor, RattleType}
+use Rattle.std.specs.Borrow.{Fml, Lends, LendsSo, LendsSoOk, MutBor, RattleType}
 use Rattle.std.specs.declared.cmp.PartialEq as equals
 use Rattle.bucket_table.specs.declared.key_hash.KeyHash as key_hash
-use Rattle.collections.specs.Maps.{MapView, get, get_by}
+use Rattle.collections.specs.Maps.{MapView, get, get_by, map_with_value}
 use Rattle.collections.specs.Changes.{Adds, Replaces, Stays, Updates}
 use Rattle.collections.specs.Crowding.{LacksRoom}
 use Rattle.collections.specs.contracts.hash_map.HashMap.{the_row}
@@ -35,6 +35,11 @@ module _ (K V H : RattleType) (equal : equals.Ghosts K.Denot) (hashing : key_has
       (λ new value. IfSome loan (λ lent. (own : K.Denot) × Replaces equal.eq map.now wants (own, lent.now) value new))
       (λ new. IfNone loan ((get_by wants map.now ≡ None) × Stays equal.eq map.now new))
 
+  -- the value beside the key that is wanted is the last one written through the loan
+  abbrev pub LendsThere : (K.Denot → Bool) → MutBor V.Denot → Fml
+  LendsThere wants lent =
+      Lends (the_row K V H (record {}) equal hashing) V map lent (map_with_value wants map.now)
+
   -- a pair more, which has the last value written through the loan; where nothing is lent all stays, and room is lacking
   abbrev pub LendsAdded : {E : Type 0} → K.Denot → Result (MutBor V.Denot) E → Fml
   LendsAdded key loan =
@@ -56,6 +61,20 @@ module _ (K V H : RattleType) (equal : equals.Ghosts K.Denot) (hashing : key_has
       LendsSoOk (the_row K V H (record {}) equal hashing) V map loan
       (λ new value. Puts equal.eq map.now key value new)
       (λ new. Stays equal.eq map.now new × LacksRoom hashing.hash_of key new)
+
+  -- the same; where nothing is lent all stays, and what came of it may be no allocation
+  abbrev pub LendsTried : {E : Type 0} → K.Denot → Result (MutBor V.Denot) E → Fml
+  LendsTried key loan =
+      LendsSoOk (the_row K V H (record {}) equal hashing) V map loan
+      (λ new value. Puts equal.eq map.now key value new)
+      (λ new. Stays equal.eq map.now new)
+
+  -- a pair more; where nothing is lent all stays, and what came of it may be no allocation
+  abbrev pub LendsTriedNew : {E : Type 0} → K.Denot → Result (MutBor V.Denot) E → Fml
+  LendsTriedNew key loan =
+      LendsSoOk (the_row K V H (record {}) equal hashing) V map loan
+      (λ new value. Adds equal.eq map.now key value new)
+      (λ new. Stays equal.eq map.now new)
 
   -- a pair more, whose key is one that is wanted, with the last value written through the loan; where nothing is lent all stays
   abbrev pub LendsMade : {E : Type 0} → (K.Denot → Bool) → Result (MutBor V.Denot) E → Fml

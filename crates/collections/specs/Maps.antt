@@ -1,7 +1,7 @@
 -- What contracts see of a collection, in the words of std's `HashMap`.
 use Rattle.std.specs.Prelude.{ℕ, ◌≡◌, ◌*◌, Bool, List, [], length, Option, is_some}
 use Rattle.std.specs.List.{IsDistinct}
-use Rattle.std.specs.Map.{keys_of, lookup}
+use Rattle.std.specs.Map.{keys_of, lookup, set_value}
 use Rattle.bucket_table.specs.Views.ArraysView.{TableView, pairs_of}
 
 -- the pairs, in an order that any call may change, the hasher, the least number of slots that a shrink leaves and the
@@ -36,6 +36,10 @@ module _ {K V H : Type 0} where
   -- the value at the first key that passes a test
   abbrev pub get_by : (K → Bool) → MapView K V H → Option V
   get_by test m = lookup test m.entries
+
+  -- the map with another value at the first key that passes a test
+  abbrev pub map_with_value : (K → Bool) → MapView K V H → V → MapView K V H
+  map_with_value test m value = record m { entries = set_value test m.entries value }
 
   -- whether a key passes a test
   abbrev pub contains_by : (K → Bool) → MapView K V H → Bool

@@ -19,6 +19,7 @@ ghost use Rattle.collections.specs.Maps.{contains_by, get_by, IsEmpty, map_len, 
 
 mod changing;
 mod draining;
+mod emptied;
 mod iterating;
 mod printing;
 mod putting;

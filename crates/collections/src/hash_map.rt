@@ -19,6 +19,7 @@ mod cloning;
 mod collecting;
 mod copying;
 mod draining;
+mod emptied;
 pub mod entry;
 mod extracting;
 mod from_pairs;
@@ -39,6 +40,7 @@ use bucket_table::hash_table::HashTable;
 pub use bucket_table::hash_table::NotInserted;
 use bucket_table::key_hash::{KeyHash, StdHash};
 pub use draining::{Drain, IntoIter, IntoKeys, IntoValues};
+pub use entry::{Entry, EntryRef, OccupiedEntry, OccupiedEntryRef, VacantEntry, VacantEntryRef};
 pub use extracting::ExtractIf;
 pub use iterating::{Iter, Keys, Values};
 use std::alloc::{AllocFailed, Global};
@@ -89,6 +91,14 @@ impl<K: Eq, V, H: KeyHash<K>> HashMap<K, V, H> {
         self.table.hasher()
     }
 
+    /// Returns the allocator, which serves all slots of the map.
+    ///
+    /// O(1). Own: as the kit's `HashMap::allocator`.
+    pub fn allocator(&self) -> Global {
+        self.room.learn();
+        self.table.allocator()
+    }
+
     /// Returns how many pairs the map has, at most 2^64 - 1.
     ///
     /// O(slots / 32). scc: `HashMap::len`.
@@ -111,9 +121,21 @@ impl<K: Eq, V, H: KeyHash<K>> HashMap<K, V, H> {
 
     /// Calls a function with each pair once, in the order of the view.
     ///
+    /// O(slots), and the function's calls. Own: std's loop over `iter`.
+    #[inline(always)]
+    pub fn for_each<F: FnMut(&K, &V)>(&self, mut f: F)
+        requires callable { F.IsAlwaysCallable f }
+        ensures calls { (last : F) × CallsEach (λ state own value after. F.step state own value tt
+            after) f self.now.entries last }
+    {
+        self.for_each_ref(&mut f);
+    }
+
+    /// As `for_each`, of a function that is lent: a proof knows in which state it is afterwards.
+    ///
     /// O(slots), and the function's calls. scc: `HashMap::iter_sync`.
     #[inline(always)]
-    pub fn for_each<F: FnMut(&K, &V)>(&self, f: &mut F)
+    pub fn for_each_ref<F: FnMut(&K, &V)>(&self, f: &mut F)
         requires callable { F.IsAlwaysCallable f.old }
         ensures again { F.IsAlwaysCallable f.new }
         ensures calls { CallsEach (λ state own value last. F.step state own value tt last) f.old
@@ -153,6 +175,14 @@ impl<K: Eq, V, H: KeyHash<K>> HashMap<K, V, H> {
         ensures { result ≡ contains_by (Q.stands_for key) self.now }
     {
         self.get(key).is_some()
+    }
+
+    /// As `contains`. std: `HashMap::contains_key`.
+    #[inline(always)]
+    pub fn contains_key<Q: KeyForm<K, H>>(&self, key: Q) -> bool
+        ensures { result ≡ contains_by (Q.stands_for key) self.now }
+    {
+        self.contains(key)
     }
 }
 
@@ -249,10 +279,24 @@ impl<K: Eq + Drop, V: Drop, H: KeyHash<K>> HashMap<K, V, H> {
     /// Asks a function of each pair once, its value lent for writing, and drops each pair for which
     /// it answers `false`; the others stay, with the values that it left.
     ///
+    /// Never refused, and takes no memory. O(slots), and the function's calls. std:
+    /// `HashMap::retain`.
+    #[inline(always)]
+    pub fn retain<F: FnMut(&K, &mut V) -> bool>(&mut self, mut f: F)
+        requires callable { F.IsAlwaysCallable f }
+        ensures retained { (last : F) × Retains K.eq
+            (λ state own before answer after next. F.step state own before answer after next)
+            f self.old self.new last }
+    {
+        self.retain_ref(&mut f);
+    }
+
+    /// As `retain`, of a function that is lent: a proof knows in which state it is afterwards.
+    ///
     /// Never refused, and takes no memory. O(slots), and the function's calls. scc:
     /// `HashMap::retain_sync`.
     #[inline(always)]
-    pub fn retain<F: FnMut(&K, &mut V) -> bool>(&mut self, f: &mut F)
+    pub fn retain_ref<F: FnMut(&K, &mut V) -> bool>(&mut self, f: &mut F)
         requires callable { F.IsAlwaysCallable f.old }
         ensures again { F.IsAlwaysCallable f.new }
         ensures retained { Retains K.eq
@@ -279,7 +323,7 @@ impl<K: Eq + Drop, V: Drop, H: KeyHash<K>> HashMap<K, V, H> {
 impl<K: Eq + Debug, V: Debug, H: KeyHash<K>> Debug for HashMap<K, V, H> {
     fn fmt<W: Write>(&self, f: &mut Formatter<W>) -> fmt::Result {
         let mut out = f.debug_map();
-        self.for_each(&mut |key: &K, value: &V| {
+        self.for_each(|key: &K, value: &V| {
             out.entry(key, value);
         });
         out.finish()
@@ -342,7 +386,7 @@ impl<K: Eq, V: PartialEq, H: KeyHash<K>> HashMap<K, V, H> {
                 all = other.has_value(key, value);
             }
         };
-        self.for_each(&mut visit);
+        self.for_each_ref(&mut visit);
         all
     }
 }

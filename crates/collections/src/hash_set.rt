@@ -17,10 +17,12 @@ mod algebra;
 mod cloning;
 mod collecting;
 mod draining;
+mod emptied;
 mod extracting;
 mod from_keys;
 mod iterating;
 mod keeping;
+mod operators;
 mod relating;
 mod sizing;
 
@@ -79,6 +81,13 @@ impl<K: Eq, H: KeyHash<K>> HashSet<K, H> {
         self.map.contains(key)
     }
 
+    /// Returns the allocator, which serves all slots of the set.
+    ///
+    /// O(1). Own: as the kit's `HashSet::allocator`.
+    pub fn allocator(&self) -> Global {
+        self.map.allocator()
+    }
+
     /// Returns how many keys the set has, at most 2^64 - 1.
     ///
     /// O(slots / 32). scc: `HashSet::len`.
@@ -117,8 +126,18 @@ impl<K: Eq, H: KeyHash<K>> HashSet<K, H> {
 
     /// Calls a function with each key once, in the order of the view.
     ///
+    /// O(slots), and the function's calls. Own: std's loop over `iter`.
+    pub fn for_each<F: FnMut(&K)>(&self, mut f: F)
+        requires callable { F.IsAlwaysCallable f }
+        ensures calls { (last : F) × CallsEachKey F.FnMut f (keys_of self.now.entries) last }
+    {
+        self.for_each_ref(&mut f);
+    }
+
+    /// As `for_each`, of a function that is lent: a proof knows in which state it is afterwards.
+    ///
     /// O(slots), and the function's calls. scc: `HashSet::iter_sync`.
-    pub fn for_each<F: FnMut(&K)>(&self, f: &mut F)
+    pub fn for_each_ref<F: FnMut(&K)>(&self, f: &mut F)
         requires callable { F.IsAlwaysCallable f.old }
         ensures again { F.IsAlwaysCallable f.new }
         ensures calls { CallsEachKey F.FnMut f.old (keys_of self.now.entries) f.new }
@@ -129,7 +148,7 @@ impl<K: Eq, H: KeyHash<K>> HashSet<K, H> {
         {
             f(key);
         };
-        self.map.for_each(&mut visit);
+        self.map.for_each_ref(&mut visit);
     }
 }
 
@@ -141,8 +160,8 @@ impl<K: Eq + Drop, H: KeyHash<K>> HashSet<K, H> {
     /// An equal key is there; or allocation failed, as in `HashMap::insert`, and then none is: the
     /// key comes back.
     ///
-    /// O(1) expected, beside a resize. scc: `HashSet::insert_sync`.
-    pub fn insert(&mut self, key: K) -> Result<(), NotInserted<K, ()>>
+    /// O(1) expected, beside a resize. scc: `HashSet::insert_sync`; std's is `insert`.
+    pub fn insert_new(&mut self, key: K) -> Result<(), NotInserted<K, ()>>
         ensures map { Inserts K.eq key tt self.old result self.new }
         ensures memory { result ≡ Err (Memory key tt) → LacksRoom H.hash_of key self.new }
     {
@@ -152,8 +171,9 @@ impl<K: Eq + Drop, H: KeyHash<K>> HashSet<K, H> {
     /// Takes out the key that is equal, or that a form stands for, and returns it; `None` where the
     /// set hasn't one.
     ///
-    /// Never refused. O(1) expected, beside a resize. scc: `HashSet::remove_sync`.
-    pub fn remove<Q: KeyForm<K, H>>(&mut self, key: Q) -> Option<K>
+    /// Never refused. O(1) expected, beside a resize. scc: `HashSet::remove_sync`; std's
+    /// `HashSet::take`.
+    pub fn take<Q: KeyForm<K, H>>(&mut self, key: Q) -> Option<K>
         ensures { SetRemoves K.eq (Q.stands_for key) self.old result self.new }
     {
         match self.map.remove(key) {
@@ -164,9 +184,20 @@ impl<K: Eq + Drop, H: KeyHash<K>> HashSet<K, H> {
 
     /// Asks a function of each key once, and drops each key for which it answers `false`.
     ///
+    /// Never refused, and takes no memory. O(slots), and the function's calls. std:
+    /// `HashSet::retain`.
+    pub fn retain<F: FnMut(&K) -> bool>(&mut self, mut f: F)
+        requires callable { F.IsAlwaysCallable f }
+        ensures retained { (last : F) × RetainsKeys K.eq F.FnMut f self.old self.new last }
+    {
+        self.retain_ref(&mut f);
+    }
+
+    /// As `retain`, of a function that is lent: a proof knows in which state it is afterwards.
+    ///
     /// Never refused, and takes no memory. O(slots), and the function's calls. scc:
     /// `HashSet::retain_sync`.
-    pub fn retain<F: FnMut(&K) -> bool>(&mut self, f: &mut F)
+    pub fn retain_ref<F: FnMut(&K) -> bool>(&mut self, f: &mut F)
         requires callable { F.IsAlwaysCallable f.old }
         ensures again { F.IsAlwaysCallable f.new }
         ensures retained { RetainsKeys K.eq F.FnMut f.old self.old self.new f.new }
@@ -175,7 +206,7 @@ impl<K: Eq + Drop, H: KeyHash<K>> HashSet<K, H> {
             requires { F.IsAlwaysCallable f.now }
             ensures { CalledAt F.FnMut f.entry.now key.now result f.exit.now }
         { f(key) };
-        self.map.retain(&mut keep);
+        self.map.retain_ref(&mut keep);
     }
 
     /// Drops all keys and all slots; the hasher and the capacities stay.
@@ -240,7 +271,7 @@ impl<K: Eq + Hash> HashSet<K, StdHash<RandomState>> {
 impl<K: Eq + Debug, H: KeyHash<K>> Debug for HashSet<K, H> {
     fn fmt<W: Write>(&self, f: &mut Formatter<W>) -> fmt::Result {
         let mut out = f.debug_set();
-        self.for_each(&mut |key: &K| {
+        self.for_each(|key: &K| {
             out.entry(key);
         });
         out.finish()

@@ -2,13 +2,14 @@
 //! half is given.
 //!
 //! The last parameter is as that of the table's own iterator: a loan of the kind of table, which no
-//! field holds. No iterator has a `size_hint`: the pairs would have to be counted first, bucket by
-//! bucket, and no clause bounds their number by 2^64. `len` of the collection counts them where a
-//! caller wants to.
+//! field holds. A `size_hint` counts the pairs that are left, slot by slot. No iterator is an
+//! `ExactSizeIterator`, since no clause bounds the pairs by 2^64.
+ghost use Rattle.std.specs.Prelude.{◌≡◌};
 ghost use Rattle.std.specs.Iterator.{YieldsFirstRef, item_count};
 
 use bucket_slots::lru::LruList;
 use bucket_table::hash_table::{ArraysPairs, Kind};
+use std::alloc::AllocError;
 use std::iter::FusedIterator;
 use std::marker::Model;
 
@@ -43,6 +44,23 @@ impl<'a, K, V, L: LruList, const TYPE: u8> Iterator
             Some((key, _)) => Some(key),
             None => None,
         }
+    }
+
+    /// As that of the pairs.
+    fn size_hint(&self) -> (usize, Option<usize>) {
+        self.inner.size_hint()
+    }
+}
+
+/// Takes no memory, and can't fail.
+impl<'a, K, V, L: LruList, const TYPE: u8> Clone for PairKeys<'a, K, V, L, TYPE, &'a Kind<TYPE>> {
+    ghost is_clone = { λ own copy. copy ≡ own };
+
+    ghost is_infallible = { λ _. Unit {0} };
+
+    fn clone(&self) -> Result<PairKeys<'a, K, V, L, TYPE, &'a Kind<TYPE>>, AllocError> {
+        let inner = self.inner.clone()?;
+        Ok(PairKeys { inner })
     }
 }
 
@@ -80,6 +98,23 @@ impl<'a, K, V, L: LruList, const TYPE: u8> Iterator
             Some((_, value)) => Some(value),
             None => None,
         }
+    }
+
+    /// As that of the pairs.
+    fn size_hint(&self) -> (usize, Option<usize>) {
+        self.inner.size_hint()
+    }
+}
+
+/// Takes no memory, and can't fail.
+impl<'a, K, V, L: LruList, const TYPE: u8> Clone for PairValues<'a, K, V, L, TYPE, &'a Kind<TYPE>> {
+    ghost is_clone = { λ own copy. copy ≡ own };
+
+    ghost is_infallible = { λ _. Unit {0} };
+
+    fn clone(&self) -> Result<PairValues<'a, K, V, L, TYPE, &'a Kind<TYPE>>, AllocError> {
+        let inner = self.inner.clone()?;
+        Ok(PairValues { inner })
     }
 }
 

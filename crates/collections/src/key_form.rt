@@ -5,6 +5,8 @@ ghost use Rattle.std.specs.Str.{bytes_eq};
 ghost use Rattle.collections.specs.Hashes.{HaveHash};
 ghost use Rattle.collections.specs.Maps.{get_by, map_of};
 
+mod slices;
+mod texts;
 mod to_key;
 
 use bucket_slots::bucket::KeyProbe;

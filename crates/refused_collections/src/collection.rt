@@ -55,7 +55,7 @@ impl Collection {
     ) -> Result<Option<(u64, u64)>, NotInserted<u64, u64>> {
         match self {
             Map(map) => map.insert(key, value)?,
-            Set(set) => match set.insert(key) {
+            Set(set) => match set.insert_new(key) {
                 Ok(()) => {}
                 Err(NotInserted::Present(own, _)) => return Err(NotInserted::Present(own, 0)),
                 Err(NotInserted::Memory(own, _)) => return Err(NotInserted::Memory(own, 0)),
@@ -70,7 +70,7 @@ impl Collection {
     pub(crate) fn remove(&mut self, key: u64) -> Option<(u64, u64)> {
         match self {
             Map(map) => map.remove(&key),
-            Set(set) => set.remove(&key).map(|own| (own, 0)),
+            Set(set) => set.take(&key).map(|own| (own, 0)),
             Index(index, generation) => {
                 generation.epoch = generation.epoch.wrapping_add(1);
                 generation.keep = !generation.keep;

@@ -68,7 +68,7 @@ impl<'a> Rows<'a> {
     fn take_all<H: KeyHash<Line<'a>>>(&mut self, counts: &HashMap<Line<'a>, u64, H>)
         ensures { HasTaken self.old (map row_of_pair counts.now.entries) self.new }
     {
-        counts.for_each(
+        counts.for_each_ref(
             &mut |line, count|
                 ensures { HasTaken self.entry.now
                     (row_of_pair (line.now, count.now) ∷ []) self.exit.now }

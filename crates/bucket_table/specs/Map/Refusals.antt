@@ -1,4 +1,6 @@
 -- The pair that comes back where it wasn't inserted.
+use Rattle.std.specs.declared.io.ErrorKind.{ErrorKind}
+use Rattle.std.specs.declared.io.ErrorKind.TheVariants.{AlreadyExists, OutOfMemory}
 use Rattle.bucket_table.specs.declared.hash_table.NotInserted.{NotInserted}
 use Rattle.bucket_table.specs.declared.hash_table.NotInserted.TheVariants.{Present, Memory}
 
@@ -6,3 +8,8 @@ use Rattle.bucket_table.specs.declared.hash_table.NotInserted.TheVariants.{Prese
 abbrev pub pair_of_refusal : {K V : Type 0} → NotInserted K V → K × V
 pair_of_refusal (Present key value) = (key, value)
 pair_of_refusal (Memory key value) = (key, value)
+
+-- the kind of an error that tells the cause
+abbrev pub kind_of_refusal : {K V : Type 0} → NotInserted K V → ErrorKind
+kind_of_refusal (Present key value) = AlreadyExists
+kind_of_refusal (Memory key value) = OutOfMemory

@@ -2,13 +2,14 @@
 //!
 //! The type ends in a parameter that no field holds. Where `next` is, it is a loan of the kind of
 //! table, and tells the borrow checker that TYPE lives as long as the buckets.
-ghost use Rattle.std.specs.Prelude.{◌≡◌};
+ghost use Rattle.std.specs.Prelude.{◌≡◌, ◌-◌, ◌^◌, length, min};
 ghost use Rattle.std.specs.Iterator.{YieldsFirstBy, item_count};
 ghost use Rattle.bucket_table.specs.Views.ArraysView.{pairs_of};
 
 use super::Arrays;
 use bucket_slots::bucket::EntryPtr;
 use bucket_slots::lru::LruList;
+use std::alloc::AllocError;
 use std::iter::FusedIterator;
 use std::marker::{Model, PhantomData};
 
@@ -53,6 +54,56 @@ impl<'a, K, V, L: LruList, const TYPE: u8> Iterator
             return None;
         };
         Some(bucket.entry(&self.at))
+    }
+
+    /// O(slots that are left): it counts the pairs.
+    fn size_hint(&self) -> (usize, Option<usize>) {
+        let count = self.count_left();
+        if count < usize::MAX {
+            (count, Some(count))
+        } else {
+            (count, None)
+        }
+    }
+}
+
+impl<'a, K, V, L: LruList, const TYPE: u8> ArraysPairs<'a, K, V, L, TYPE, &'a Kind<TYPE>> {
+    /// Returns an iterator over the same pairs.
+    fn again(&self) -> Self
+        ensures { result ≡ self.now }
+    {
+        ArraysPairs {
+            arrays: self.arrays,
+            index: self.index,
+            at: self.at.clone(),
+            loan: PhantomData,
+        }
+    }
+
+    /// Returns how many pairs are left, at most 2^64 - 1.
+    ///
+    /// O(slots that are left).
+    pub fn count_left(&self) -> usize
+        ensures { result ≡ min (length self.now) (2 ^ 64 - 1) }
+    {
+        let mut rest = self.again();
+        let mut count = 0usize;
+        'pairs: while let Some(_pair) = rest.next() {
+            count = count.saturating_add(1);
+        }
+        count
+    }
+}
+
+/// Takes no memory, and can't fail.
+impl<'a, K, V, L: LruList, const TYPE: u8> Clone
+    for ArraysPairs<'a, K, V, L, TYPE, &'a Kind<TYPE>> {
+    ghost is_clone = { λ own copy. copy ≡ own };
+
+    ghost is_infallible = { λ _. Unit {0} };
+
+    fn clone(&self) -> Result<ArraysPairs<'a, K, V, L, TYPE, &'a Kind<TYPE>>, AllocError> {
+        Ok(self.again())
     }
 }
 

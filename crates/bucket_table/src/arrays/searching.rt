@@ -11,10 +11,13 @@ use bucket_slots::lru::LruList;
 
 /// A slot of a bucket of one side.
 #[derive(Drop)]
-pub(crate) struct Spot<K, V, const TYPE: u8> {
-    pub(crate) side: Side,
-    pub(crate) index: usize,
-    pub(crate) at: EntryPtr<K, V, TYPE>,
+pub struct Spot<K, V, const TYPE: u8> {
+    /// The side.
+    pub side: Side,
+    /// The bucket's number there.
+    pub index: usize,
+    /// The slot's place in the bucket.
+    pub at: EntryPtr<K, V, TYPE>,
 }
 
 impl<K, V, L: LruList, const TYPE: u8> Arrays<K, V, L, TYPE> {

@@ -1,11 +1,12 @@
 //! A pair that comes back, as an error.
 ghost use Rattle.std.specs.Prelude.{◌≡◌};
-ghost use Rattle.bucket_table.specs.Map.Refusals.{pair_of_refusal};
+ghost use Rattle.std.specs.IoError.{error_kind};
+ghost use Rattle.bucket_table.specs.Map.Refusals.{kind_of_refusal, pair_of_refusal};
 
 use crate::hash_table::NotInserted;
-use std::alloc::AllocError;
 use std::error::Error;
 use std::fmt::{self, Debug};
+use std::io::{self, ErrorKind};
 
 impl<K, V> NotInserted<K, V> {
     /// Gives the pair back, whatever the cause.
@@ -31,10 +32,15 @@ impl<K, V> fmt::Display for NotInserted<K, V> {
 
 impl<K: Debug + Drop, V: Debug + Drop> Error for NotInserted<K, V> {}
 
-/// For a caller to whom every cause is a failure: `?` drops the pair. It tells no cause, so where
-/// the key may be there, a caller matches `Present` first.
-impl<K: Drop, V: Drop> From<NotInserted<K, V>> for AllocError {
-    fn from(_refusal: NotInserted<K, V>) -> AllocError {
-        AllocError
+/// So `?` works in a function that returns an `io::Result`: the kind says whether an equal key is
+/// there or memory ran out. The pair is dropped.
+impl<K: Drop, V: Drop> From<NotInserted<K, V>> for io::Error {
+    ghost from_gives = { λ refusal error. error_kind error ≡ kind_of_refusal refusal };
+
+    fn from(refusal: NotInserted<K, V>) -> io::Error {
+        match refusal {
+            NotInserted::Present(..) => io::Error::from(ErrorKind::AlreadyExists),
+            NotInserted::Memory(..) => io::Error::from(ErrorKind::OutOfMemory),
+        }
     }
 }

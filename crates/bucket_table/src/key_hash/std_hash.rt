@@ -21,6 +21,14 @@ impl<S> StdHash<S> {
     }
 }
 
+impl<S: Default> Default for StdHash<S> {
+    ghost is_default = { λ hasher. S.is_default hasher.builder };
+
+    fn default() -> StdHash<S> {
+        StdHash::new(S::default())
+    }
+}
+
 impl<K: Eq + Hash, S: BuildHasher> KeyHash<K> for StdHash<S> {
     ghost use Rattle.std.proofs.Common.{ap, arith};
     ghost use Rattle.std.proofs.Math.Nat.{mod-lt};

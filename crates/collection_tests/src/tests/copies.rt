@@ -28,7 +28,7 @@ fn a_change_of_a_set_leaves_its_copy(rt: HostRuntime) -> Result<(), Fail> {
 // A set and its copy are changed apart.
 fn change_both(rt: &impl Abort, set: &mut Set, copy: &mut Set) {
     check_same(rt, (*set == *copy, copy.len()), (true, 100), "copied");
-    let went = (set.remove(&7), copy.remove(&8));
+    let went = (set.take(&7), copy.take(&8));
     check_same(rt, went, (Some(7), Some(8)), "removed");
     let found = (set.contains(&7), set.contains(&8));
     check_same(rt, found, (false, true), "set");

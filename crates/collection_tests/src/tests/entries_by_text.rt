@@ -85,7 +85,7 @@ fn change(rt: &impl Abort, words: &mut Words, at: At, step: &Step) {
 // Puts a number where the word isn't, adds one to what is lent, and returns what the map has then.
 fn count(alloc: Global, words: &mut Words, word: &str, number: u64) -> Option<u64> {
     let lent = match words.entry_ref(word) {
-        EntryRef::Occupied(place) => place.into_mut(),
+        EntryRef::Occupied(place) => Some(place.into_mut()),
         EntryRef::Vacant(place) => place.insert_with_key(owned(alloc, word), number).ok(),
     };
     if let Some(held) = lent {

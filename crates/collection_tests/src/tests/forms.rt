@@ -111,7 +111,7 @@ pub(super) fn owned(alloc: Global, text: &str) -> String {
 // A word comes to each collection with a number. Whether it is in all of them.
 pub(super) fn put(alloc: Global, words: &mut Words, word: &str, number: u64) -> bool {
     words.map.insert(owned(alloc, word), number).is_ok()
-        && words.set.insert(owned(alloc, word)).is_ok()
+        && words.set.insert_new(owned(alloc, word)).is_ok()
         && words.index.insert(owned(alloc, word), number, &()).is_ok()
         && words.cache.put(owned(alloc, word), number).is_ok()
 }
@@ -143,7 +143,7 @@ fn write_both(words: &mut Words, word: &str, later: u64) -> (Option<u64>, Option
 
 // Removes a word from the set, the index and the cache.
 fn remove_elsewhere(rt: &impl Abort, words: &mut Words, at: At, word: &str, number: Option<u64>) {
-    let there = (words.set.discard(word), words.index.remove(word, &()));
+    let there = (words.set.remove(word), words.index.remove(word, &()));
     let wanted = (number.is_some(), number.is_some());
     check_same(rt, there, wanted, (at, "set, index"));
     check_same(
@@ -194,10 +194,10 @@ fn change_lists(rt: &impl Abort, alloc: Global) {
 fn remove_lists(rt: &impl Abort, alloc: Global) {
     let mut set: HashSet<Vec<u8>> = HashSet::new(alloc);
     for (list, _) in LISTS.iter() {
-        let _ = set.insert(owned_list(alloc, list));
+        let _ = set.insert_new(owned_list(alloc, list));
     }
     for (row, (list, _)) in LISTS.iter().enumerate() {
-        let found = (set.remove(*list).is_some(), set.discard(*list));
+        let found = (set.take(*list).is_some(), set.remove(*list));
         check_same(rt, found, (true, false), row);
     }
     check_same(rt, set.is_empty(), true, "set");

@@ -137,7 +137,11 @@ const CAPACITIES: [(usize, usize); 7] = [
 #[test]
 fn a_first_array_has_room_for_the_pairs(rt: HostRuntime) -> Result<(), Fail> {
     for (pairs, slots) in &CAPACITIES {
-        let mut map: Map = HashMap::with_capacity(rt.alloc(), ScriptHash::Spread, *pairs);
+        let mut map: Map = HashMap::with_capacity_and_hasher(
+            rt.alloc(),
+            *pairs,
+            ScriptHash::Spread,
+        );
         check_same(&rt, map.capacity(), 0, ("none yet", *pairs));
         let found = (map.insert(1, 1).is_ok(), map.capacity());
         check_same(&rt, found, (true, *slots), ("first", *pairs));

@@ -36,7 +36,7 @@ fn maps_and_sets_are_printed(rt: HostRuntime) -> Result<(), Fail> {
         let mut map: Map = HashMap::with_hasher(rt.alloc(), ScriptHash::Id);
         let mut set: Set = HashSet::with_hasher(rt.alloc(), ScriptHash::Id);
         if let Some((key, value)) = row.pair {
-            let are_in = map.insert(key, value).is_ok() && set.insert(key).is_ok();
+            let are_in = map.insert(key, value).is_ok() && set.insert_new(key).is_ok();
             check_same(&rt, are_in, true, number);
         }
         check_shown(&rt, rt.alloc(), &map, row.map, number);

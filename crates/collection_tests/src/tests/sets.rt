@@ -70,7 +70,7 @@ fn a_set_goes_through_its_story(rt: HostRuntime) -> Result<(), Fail> {
 pub(super) fn fill_set(set: &mut Set, first: u64, last: u64) -> bool {
     let mut are_in = true;
     for key in first..last {
-        are_in = set.insert(key).is_ok() && are_in;
+        are_in = set.insert_new(key).is_ok() && are_in;
     }
     are_in
 }
@@ -90,7 +90,7 @@ fn take(rt: &impl Abort, alloc: Global, set: &mut Set, at: At, step: &Step) {
         Inserts(key) => check_same(rt, insert(set, key), Ok(()), at),
         Comes(keys) => check_same(rt, come(set, keys), true, at),
         Returns(key) => check_same(rt, insert(set, key), Err(Some(key)), at),
-        Adds(key, added) => check_same(rt, set.add(key).ok(), Some(added), at),
+        Adds(key, added) => check_same(rt, set.insert(key).ok(), Some(added), at),
         Has(ranges) => check_keys(rt, alloc, set, at, ranges),
         _ => change(rt, set, at, step),
     }
@@ -99,7 +99,7 @@ fn take(rt: &impl Abort, alloc: Global, set: &mut Set, at: At, step: &Step) {
 // Inserts a key. Returns the one that comes back since it is there, or none where there is no
 // memory.
 fn insert(set: &mut Set, key: u64) -> Result<(), Option<u64>> {
-    match set.insert(key) {
+    match set.insert_new(key) {
         Ok(()) => Ok(()),
         Err(NotInserted::Present(own, ())) => Err(Some(own)),
         Err(NotInserted::Memory(_, ())) => Err(None),
@@ -114,8 +114,8 @@ fn come(set: &mut Set, keys: &[u64]) -> bool {
 // Takes a step that takes keys out, and compares what comes of it.
 fn change(rt: &impl Abort, set: &mut Set, at: At, step: &Step) {
     match *step {
-        Removes(key, taken) => check_same(rt, set.remove(&key), taken, at),
-        Discards(key, gone) => check_same(rt, set.discard(&key), gone, at),
+        Removes(key, taken) => check_same(rt, set.take(&key), taken, at),
+        Discards(key, gone) => check_same(rt, set.remove(&key), gone, at),
         Retains(divisor, asked) => check_same(rt, retain(set, divisor), asked, at),
         Clears => set.clear(),
         _ => resize(rt, set, at, step),
@@ -169,7 +169,7 @@ fn keys_met(alloc: Global, set: &Set) -> Vec<u64> {
 // A new set takes words.
 pub(super) fn check_words(rt: &impl Abort, words: &mut HashSet<&'static str>) {
     check_same(rt, (words.len(), words.capacity()), (0, 0), "new");
-    let came = words.insert("a").is_ok();
+    let came = words.insert_new("a").is_ok();
     let found = (came, words.contains(&"a"), words.contains(&"b"));
     check_same(rt, found, (true, true, false), "contains");
 }

@@ -132,10 +132,10 @@ fn take(rt: &impl Abort, map: &mut Map, set: &mut Set, at: At, step: &Step) {
 // Takes a step on the set, and compares what it answers.
 fn take_on_set(rt: &impl Abort, set: &mut Set, at: At, step: &Step) {
     match *step {
-        Comes(key, back) => check_same(rt, returned(set.insert(key)), Some(back), at),
-        Adds(key, added) => check_same(rt, set.add(key).ok(), Some(added), at),
+        Comes(key, back) => check_same(rt, returned(set.insert_new(key)), Some(back), at),
+        Adds(key, added) => check_same(rt, set.insert(key).ok(), Some(added), at),
         Replaces(key, tag) => check_same(rt, tag_in(set.replace(key).ok().flatten()), tag, at),
-        Goes(key, tag) => check_same(rt, tag_in(set.remove(&key)), tag, at),
+        Goes(key, tag) => check_same(rt, tag_in(set.take(&key)), tag, at),
         Has(key, tag) => check_same(rt, tag_in(set.get(&key).copied()), tag, at),
         Len(keys) => check_same(rt, set.len(), keys, at),
         _ => check_same(rt, true, false, (at, "no step")),

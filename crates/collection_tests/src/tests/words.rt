@@ -7,6 +7,7 @@ use collections::hash_map::{HashMap, NotInserted};
 use collections::hash_set::HashSet;
 use std::alloc::{AllocError, Global};
 use std::error::Error;
+use std::io::{self, ErrorKind};
 use std::process::Abort;
 use std::test::Fail;
 
@@ -145,12 +146,25 @@ fn shown<E: Error>(alloc: Global, error: &E) -> Result<String, AllocError> {
 // A word comes to a map once.
 fn check_insertions(rt: &impl Abort, alloc: Global) {
     let mut words = HashMap::new(alloc);
-    check_same(rt, insert_once(&mut words), Ok(()), "inserted");
-    check_same(rt, insert_once(&mut words), Err(AllocError), "there");
+    check_same(rt, kind(insert_once(&mut words)), None, "inserted");
+    check_same(
+        rt,
+        kind(insert_once(&mut words)),
+        Some(ErrorKind::AlreadyExists),
+        "there",
+    );
 }
 
-// Inserts a word; every refusal is an allocation failure.
-fn insert_once(words: &mut HashMap<&'static str, u64>) -> Result<(), AllocError> {
+// The kind of an error.
+fn kind(outcome: io::Result<()>) -> Option<ErrorKind> {
+    match outcome {
+        Ok(()) => None,
+        Err(why) => Some(why.kind()),
+    }
+}
+
+// Inserts a word, and says why it can't.
+fn insert_once(words: &mut HashMap<&'static str, u64>) -> io::Result<()> {
     words.insert("Ann", 1)?;
     Ok(())
 }

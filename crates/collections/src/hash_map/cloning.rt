@@ -52,3 +52,15 @@ impl<K: Eq + Clone, V: Clone, H: KeyHash<K>> HashMap<K, V, H> {
         }
     }
 }
+
+/// As `try_clone`, whose memory comes from the map's own allocator: so a struct with a map can
+/// derive `Clone`.
+impl<K: Eq + Clone, V: Clone, H: KeyHash<K> + Clone> Clone for HashMap<K, V, H> {
+    ghost is_clone = { λ own copy. IsClone K.eq K.is_clone V.is_clone H.is_clone own copy };
+
+    ghost is_infallible = { λ own. IsEmpty own × H.is_infallible own.hasher };
+
+    fn clone(&self) -> Result<HashMap<K, V, H>, AllocError> {
+        self.try_clone(self.allocator())
+    }
+}

@@ -1,12 +1,13 @@
 //! Pairs of an iterator, put into a map.
 ghost use Rattle.std.specs.Prelude.{IfErr};
 ghost use Rattle.std.specs.Iterator.{IsFinite};
-ghost use Rattle.collections.specs.Collecting.{PutsFrom};
+ghost use Rattle.collections.specs.Collecting.{PutsAll, PutsFrom, copied_pairs};
 ghost use Rattle.collections.specs.Crowding.{LacksRoom};
 
 use crate::hash_map::HashMap;
 use bucket_table::key_hash::KeyHash;
-use std::alloc::AllocFailed;
+use std::alloc::{AllocError, AllocFailed};
+use std::iter::{Extend, IntoIterator};
 
 impl<K: Eq + Drop, V: Drop, H: KeyHash<K>> HashMap<K, V, H> {
     /// Puts the pairs that an iterator gives, one after the other, as `upsert` does: where an equal
@@ -33,6 +34,44 @@ impl<K: Eq + Drop, V: Drop, H: KeyHash<K>> HashMap<K, V, H> {
             match self.upsert(key, value) {
                 Ok(earlier) => drop(earlier),
                 Err(back) => return Err(back),
+            }
+        }
+        Ok(())
+    }
+}
+
+/// Puts the pairs of an iterator, as `try_extend` does.
+///
+/// Where allocation fails the pair that wasn't put is dropped, and so are those after it;
+/// `try_extend` loses none.
+impl<K: Eq + Drop, V: Drop, H: KeyHash<K>> Extend<(K, V)> for HashMap<K, V, H> {
+    ghost extend_gives = { λ old pairs new. PutsAll K.eq old pairs new };
+
+    fn extend<U: IntoIterator<Item = (K, V)>>(&mut self, iter: U) -> Result<(), AllocError> {
+        let mut pairs = iter.into_iter();
+        match self.try_extend(&mut pairs) {
+            Ok(()) => Ok(()),
+            Err(_) => Err(AllocError),
+        }
+    }
+}
+
+/// Puts copies of the pairs of an iterator, as of pairs by value.
+impl<'a, K: Eq + Copy + 'a, V: Copy + 'a, H: KeyHash<K>> Extend<(&'a K, &'a V)>
+    for HashMap<K, V, H> {
+    ghost extend_gives = { λ old pairs new. PutsAll K.eq old (copied_pairs pairs) new };
+
+    fn extend<U: IntoIterator<Item = (&'a K, &'a V)>>(
+        &mut self,
+        iter: U,
+    ) -> Result<(), AllocError> {
+        self.sound();
+        let mut pairs = iter.into_iter();
+        while let Some(pair) = pairs.next() {
+            let (key, value) = pair;
+            match self.upsert(*key, *value) {
+                Ok(_earlier) => {}
+                Err(_) => return Err(AllocError),
             }
         }
         Ok(())

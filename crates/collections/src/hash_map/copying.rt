@@ -69,6 +69,6 @@ impl<K: Eq + Copy, V: Copy, H: KeyHash<K> + Copy> HashMap<K, V, H> {
         {
             into.take_pair(*key, *value);
         };
-        self.for_each(&mut put);
+        self.for_each_ref(&mut put);
     }
 }

@@ -1,10 +1,10 @@
 //! The calls by a hash that is known, for an entry: it hashes its key once.
-ghost use Rattle.std.specs.Prelude.{◌≡◌};
+ghost use Rattle.std.specs.Prelude.{◌≡◌, IsSome, Some};
 ghost use Rattle.std.specs.Borrow.{sem};
 ghost use Rattle.std.specs.Option.{option_copied, option_copied_mut};
-ghost use Rattle.collections.specs.Changes.{Removes};
+ghost use Rattle.collections.specs.Changes.{Holds, Removes};
 ghost use Rattle.collections.specs.Hashes.{HaveHash};
-ghost use Rattle.collections.specs.Maps.{get_by};
+ghost use Rattle.collections.specs.Maps.{get_by, map_with_value};
 
 use crate::hash_map::HashMap;
 use crate::key_form::{FormProbe, KeyForm, value_hashed};
@@ -26,7 +26,7 @@ impl<K: Eq, V, H: KeyHash<K>> HashMap<K, V, H> {
 }
 
 impl<K: Eq + Drop, V: Drop, H: KeyHash<K>> HashMap<K, V, H> {
-    ghost use Rattle.collections.specs.Loans.{LendsValue};
+    ghost use Rattle.collections.specs.Loans.{LendsThere, LendsValue};
 
     /// Lends the value under the keys that a form stands for, which have this hash, for writing;
     /// `None` where the map has none of them.
@@ -44,6 +44,29 @@ impl<K: Eq + Drop, V: Drop, H: KeyHash<K>> HashMap<K, V, H> {
         self.table.sound();
         self.table
             .get_mut_by(hash, &mut FormProbe::<Q, H>::new(key))
+    }
+
+    /// Lends the value under the keys that a form stands for, which have this hash, and one of which
+    /// the map has, for writing, where it stands.
+    ///
+    /// Moves nothing, and takes no memory. O(1) expected.
+    #[inline(always)]
+    pub(super) fn value_mut_hashed<Q: KeyForm<K, H>>(&mut self, hash: u64, key: Q) -> &mut V
+        requires hashed { HaveHash (Q.stands_for key) (H.hash_of self.old.hasher) hash }
+        requires there { IsSome (get_by (Q.stands_for key) self.old) }
+        ensures* writes_back { sem 𝓛
+            (LendsThere K.row V.row H.row K.PartialEq H.KeyHash self.entry (Q.stands_for key)
+            result) }
+        ensures value { get_by (Q.stands_for key) self.old ≡ Some result.now }
+        ensures written { (value : V) → Holds K.eq (Q.stands_for key) self.old result.now value
+            (map_with_value (Q.stands_for key) self.old value) }
+    {
+        self.room.learn();
+        self.table.sound();
+        match self.table.spot_by(hash, &mut FormProbe::<Q, H>::new(key)) {
+            Some(spot) => self.table.entry_mut_at(spot.side, spot.index, &spot.at).1,
+            None => unreachable!(),
+        }
     }
 
     /// Takes out the pair under the keys that a form stands for, which have this hash, and returns

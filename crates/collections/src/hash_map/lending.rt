@@ -33,7 +33,19 @@ impl<K: Eq + Drop, V: Drop, H: KeyHash<K>> HashMap<K, V, H> {
     ///
     /// Never refused, and takes no memory. O(slots), and the function's calls. Own: std's loop over
     /// `iter_mut`.
-    pub fn for_each_mut<F: FnMut(&K, &mut V)>(&mut self, f: &mut F)
+    pub fn for_each_mut<F: FnMut(&K, &mut V)>(&mut self, mut f: F)
+        requires callable { F.IsAlwaysCallable f }
+        ensures written { (last : F) × Retains K.eq (λ state own before answer after next.
+            (answer ≡ true) × F.step state own before tt after next) f self.old self.new last }
+    {
+        self.for_each_mut_ref(&mut f);
+    }
+
+    /// As `for_each_mut`, of a function that is lent: a proof knows in which state it is afterwards.
+    ///
+    /// Never refused, and takes no memory. O(slots), and the function's calls. Own: std's loop over
+    /// `iter_mut`.
+    pub fn for_each_mut_ref<F: FnMut(&K, &mut V)>(&mut self, f: &mut F)
         requires callable { F.IsAlwaysCallable f.old }
         ensures again { F.IsAlwaysCallable f.new }
         ensures written { Retains K.eq (λ state own before answer after last. (answer ≡ true)
@@ -44,7 +56,7 @@ impl<K: Eq + Drop, V: Drop, H: KeyHash<K>> HashMap<K, V, H> {
             ensures { (result ≡ true) × Calls (λ own before after.
                 F.step f.entry.now own before tt after f.exit.now) key.now value.old value.new }
         { called_with(f, key, value) };
-        self.retain(&mut keep);
+        self.retain_ref(&mut keep);
     }
 }
 

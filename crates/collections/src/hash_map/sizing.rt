@@ -4,16 +4,18 @@
 //! and `shrink_to_fit` go beside the plan: they move all pairs at once.
 ghost use Rattle.std.specs.Prelude.{◌≡◌, ◌^◌, IsErr, OnOk, min};
 ghost use Rattle.bucket_slots.specs.Sizing.{IsPowerIn};
-ghost use Rattle.collections.specs.Capacity.{AreTooMany, IsMinimumFor, MakesRoom, ShrinksToFit, TakesSlots};
+ghost use Rattle.collections.specs.Capacity.{AreTooMany, IsMinimumFor, MakesRoom, ShrinksTo, ShrinksToFit, TakesSlots};
 ghost use Rattle.collections.specs.Changes.{Reserves, Stays};
 ghost use Rattle.collections.specs.Maps.{IsEmpty};
 
+use crate::default_hash::DefaultHash;
 use crate::hash_map::HashMap;
 use crate::room::Fits;
 use crate::sizing::{is_too_full, minimum_for, slots_for, widest};
 use bucket_table::hash_table::{HashTable, MAXIMUM_CAPACITY_LIMIT};
 use bucket_table::key_hash::KeyHash;
 use std::alloc::{AllocError, Global};
+use std::hash::Hash;
 
 impl<K: Eq, V, H: KeyHash<K>> HashMap<K, V, H> {
     ghost use Rattle.collections.specs.Room.{MapFits};
@@ -22,8 +24,8 @@ impl<K: Eq, V, H: KeyHash<K>> HashMap<K, V, H> {
     /// memory. The minimum is the least number of slots of which they take no more than 13 of 16: 0
     /// for no pair, and 2^63, which no array has, where they are too many.
     ///
-    /// O(1). Own: std's `with_capacity`, which takes memory.
-    pub fn with_capacity(alloc: Global, hasher: H, pairs: usize) -> Self
+    /// O(1). Own: std's `with_capacity_and_hasher`, which takes memory.
+    pub fn with_capacity_and_hasher(alloc: Global, pairs: usize, hasher: H) -> Self
         requires { MapFits K.row V.row H.row K.PartialEq H.KeyHash }
         ensures empty { IsEmpty result }
         ensures hasher { result.hasher ≡ hasher }
@@ -51,6 +53,21 @@ impl<K: Eq, V, H: KeyHash<K>> HashMap<K, V, H> {
             table: HashTable::new(alloc, hasher, minimum, widest()),
             room: Fits::new(),
         }
+    }
+}
+
+impl<K: Eq + Hash, V> HashMap<K, V, DefaultHash> {
+    /// Returns an empty map that hashes by std's default, and whose first insertion makes room for
+    /// this number of pairs, as `with_capacity_and_hasher` does. Takes no memory.
+    ///
+    /// O(1). Own: std's `with_capacity`, which takes memory.
+    pub fn with_capacity(alloc: Global, pairs: usize) -> Self
+        ensures empty { IsEmpty result }
+        ensures minimum { IsMinimumFor pairs result.minimum }
+        ensures maximum { result.maximum ≡ 2 ^ 63 }
+        ensures slots { (result.slots ≡ 0) × (result.old_slots ≡ 0) }
+    {
+        Self::with_capacity_and_hasher(alloc, pairs, DefaultHash::default())
     }
 }
 
@@ -142,6 +159,34 @@ impl<K: Eq + Drop, V: Drop, H: KeyHash<K>> HashMap<K, V, H> {
             return self.rehash_to(slots);
         }
         if self.table.has_linked_array() {
+            return self.rehash_to(slots);
+        }
+        Ok(())
+    }
+
+    /// Sets the minimum to 0, and leaves no more slots than so many pairs take: the least number of
+    /// which they take no more than 13 of 16. Where the map has as many pairs, it does as
+    /// `shrink_to_fit`. The pairs stay.
+    ///
+    /// # Errors
+    ///
+    /// Allocation failure: all pairs are there, and the minimum is 0. It can't fail where the slots
+    /// are as few already.
+    ///
+    /// O(slots). Own: std's `shrink_to`, which can't be refused.
+    pub fn shrink_to(&mut self, pairs: usize) -> Result<(), AllocError>
+        ensures { ShrinksTo K.eq pairs self.old result self.new }
+    {
+        if pairs <= self.len() {
+            return self.shrink_to_fit();
+        }
+        self.room.learn();
+        self.table.sound();
+        self.table.set_minimum(0);
+        let Some(slots) = slots_for(pairs) else {
+            return Ok(());
+        };
+        if slots < self.table.num_slots() {
             return self.rehash_to(slots);
         }
         Ok(())

@@ -28,3 +28,16 @@ impl<K: Eq + Clone, H: KeyHash<K> + Clone> HashSet<K, H> {
         }
     }
 }
+
+/// As `try_clone`, whose memory comes from the set's own allocator: so a struct with a set can
+/// derive `Clone`.
+impl<K: Eq + Clone, H: KeyHash<K> + Clone> Clone for HashSet<K, H> {
+    ghost is_clone = { λ own copy. IsClone K.eq K.is_clone (λ unit held. held ≡ unit) H.is_clone
+        own copy };
+
+    ghost is_infallible = { λ own. IsEmpty own × H.is_infallible own.hasher };
+
+    fn clone(&self) -> Result<HashSet<K, H>, AllocError> {
+        self.try_clone(self.allocator())
+    }
+}

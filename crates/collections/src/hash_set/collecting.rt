@@ -1,15 +1,16 @@
 //! Keys of an iterator, put into a set.
-ghost use Rattle.std.specs.Prelude.{IfErr};
+ghost use Rattle.std.specs.Prelude.{IfErr, map};
 ghost use Rattle.std.specs.Iterator.{IsFinite};
-ghost use Rattle.collections.specs.Collecting.{PutsKeysFrom};
+ghost use Rattle.collections.specs.Collecting.{PutsKeys, PutsKeysFrom};
 ghost use Rattle.collections.specs.Crowding.{LacksRoom};
 
 use crate::hash_set::HashSet;
 use bucket_table::key_hash::KeyHash;
-use std::alloc::AllocFailed;
+use std::alloc::{AllocError, AllocFailed};
+use std::iter::{Extend, IntoIterator};
 
 impl<K: Eq + Drop, H: KeyHash<K>> HashSet<K, H> {
-    /// Puts the keys that an iterator gives, one after the other, as `add` does: where an equal key
+    /// Puts the keys that an iterator gives, one after the other, as `insert` does: where an equal key
     /// is there that one stays, and the other is dropped.
     ///
     /// # Errors
@@ -26,9 +27,42 @@ impl<K: Eq + Drop, H: KeyHash<K>> HashSet<K, H> {
     {
         self.map.sound();
         while let Some(key) = keys.next() {
-            match self.add(key) {
+            match self.insert(key) {
                 Ok(_added) => {}
                 Err(back) => return Err(back),
+            }
+        }
+        Ok(())
+    }
+}
+
+/// Puts the keys of an iterator, as `try_extend` does.
+///
+/// Where allocation fails the key that wasn't put is dropped, and so are those after it;
+/// `try_extend` loses none.
+impl<K: Eq + Drop, H: KeyHash<K>> Extend<K> for HashSet<K, H> {
+    ghost extend_gives = { λ old keys new. PutsKeys K.eq old keys new };
+
+    fn extend<U: IntoIterator<Item = K>>(&mut self, iter: U) -> Result<(), AllocError> {
+        let mut keys = iter.into_iter();
+        match self.try_extend(&mut keys) {
+            Ok(()) => Ok(()),
+            Err(_) => Err(AllocError),
+        }
+    }
+}
+
+/// Puts copies of the keys of an iterator, as of keys by value.
+impl<'a, K: Eq + Copy + 'a, H: KeyHash<K>> Extend<&'a K> for HashSet<K, H> {
+    ghost extend_gives = { λ old keys new. PutsKeys K.eq old (map (λ key. key.now) keys) new };
+
+    fn extend<U: IntoIterator<Item = &'a K>>(&mut self, iter: U) -> Result<(), AllocError> {
+        self.map.sound();
+        let mut keys = iter.into_iter();
+        while let Some(key) = keys.next() {
+            match self.insert(*key) {
+                Ok(_added) => {}
+                Err(_) => return Err(AllocError),
             }
         }
         Ok(())

@@ -7,6 +7,7 @@ ghost use Rattle.collections.specs.Maps.{IsUnique};
 use crate::hash_map::Keys;
 use crate::hash_set::HashSet;
 use bucket_table::key_hash::KeyHash;
+use std::alloc::AllocError;
 use std::iter::{FusedIterator, IntoIterator};
 use std::marker::Model;
 
@@ -33,6 +34,23 @@ impl<'a, K> Iterator for Iter<'a, K> {
 
     fn next(&mut self) -> Option<&'a K> {
         self.inner.next()
+    }
+
+    /// As that of a map's keys.
+    fn size_hint(&self) -> (usize, Option<usize>) {
+        self.inner.size_hint()
+    }
+}
+
+/// Takes no memory, and can't fail.
+impl<'a, K> Clone for Iter<'a, K> {
+    ghost is_clone = { λ own copy. copy ≡ own };
+
+    ghost is_infallible = { λ _. Unit {0} };
+
+    fn clone(&self) -> Result<Iter<'a, K>, AllocError> {
+        let inner = self.inner.clone()?;
+        Ok(Iter { inner })
     }
 }
 

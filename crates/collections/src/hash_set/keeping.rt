@@ -39,7 +39,7 @@ impl<K: Eq + Drop, H: KeyHash<K>> HashSet<K, H> {
     /// Allocation failure, and the set has no equal key: the key comes back.
     ///
     /// O(1) expected, beside a resize. std: `HashSet::insert`.
-    pub fn add(&mut self, key: K) -> Result<bool, AllocFailed<K>>
+    pub fn insert(&mut self, key: K) -> Result<bool, AllocFailed<K>>
         ensures set { SetAdds K.eq key self.old result self.new }
         ensures memory { OnErr result (LacksRoom H.hash_of key self.new) }
     {
@@ -53,7 +53,7 @@ impl<K: Eq + Drop, H: KeyHash<K>> HashSet<K, H> {
     /// Drops the key that is equal, or that a form stands for, and returns whether the set had one.
     ///
     /// Never refused. O(1) expected, beside a resize. std: `HashSet::remove`.
-    pub fn discard<Q: KeyForm<K, H>>(&mut self, key: Q) -> bool
+    pub fn remove<Q: KeyForm<K, H>>(&mut self, key: Q) -> bool
         ensures { TakesOut K.eq (Q.stands_for key) self.old result self.new }
     {
         let Some(pair) = self.map.remove(key) else {
@@ -76,7 +76,7 @@ impl<K: Eq + Drop, H: KeyHash<K>> HashSet<K, H> {
         ensures set { SetReplaces K.eq key self.old result self.new }
         ensures memory { OnErr result (LacksRoom H.hash_of key self.new) }
     {
-        let earlier = self.remove(&key);
+        let earlier = self.take(&key);
         let _held = match self.map.upsert(key, ()) {
             Ok(held) => held,
             Err(back) => {

@@ -1,13 +1,15 @@
 //! How many slots a set has, as of a map: room for keys that come, and slots that go.
 ghost use Rattle.std.specs.Prelude.{◌≡◌, ◌^◌, min};
-ghost use Rattle.collections.specs.Capacity.{IsMinimumFor, MakesRoom, ShrinksToFit};
+ghost use Rattle.collections.specs.Capacity.{IsMinimumFor, MakesRoom, ShrinksTo, ShrinksToFit};
 ghost use Rattle.collections.specs.Changes.{Reserves};
 ghost use Rattle.collections.specs.Maps.{IsEmpty};
 
+use crate::default_hash::DefaultHash;
 use crate::hash_map::HashMap;
 use crate::hash_set::HashSet;
 use bucket_table::key_hash::KeyHash;
 use std::alloc::{AllocError, Global};
+use std::hash::Hash;
 
 impl<K: Eq, H: KeyHash<K>> HashSet<K, H> {
     ghost use Rattle.collections.specs.Room.{SetFits};
@@ -15,8 +17,8 @@ impl<K: Eq, H: KeyHash<K>> HashSet<K, H> {
     /// Returns an empty set, whose first insertion makes room for this number of keys, as
     /// `HashMap::with_capacity` does. Takes no memory.
     ///
-    /// O(1). Own: std's `with_capacity`, which takes memory.
-    pub fn with_capacity(alloc: Global, hasher: H, keys: usize) -> Self
+    /// O(1). Own: std's `with_capacity_and_hasher`, which takes memory.
+    pub fn with_capacity_and_hasher(alloc: Global, keys: usize, hasher: H) -> Self
         requires { SetFits K.row H.row K.PartialEq H.KeyHash }
         ensures empty { IsEmpty result }
         ensures hasher { result.hasher ≡ hasher }
@@ -25,7 +27,7 @@ impl<K: Eq, H: KeyHash<K>> HashSet<K, H> {
         ensures slots { (result.slots ≡ 0) × (result.old_slots ≡ 0) }
     {
         HashSet {
-            map: HashMap::with_capacity(alloc, hasher, keys),
+            map: HashMap::with_capacity_and_hasher(alloc, keys, hasher),
         }
     }
 
@@ -44,6 +46,21 @@ impl<K: Eq, H: KeyHash<K>> HashSet<K, H> {
         HashSet {
             map: HashMap::with_minimum(alloc, hasher, slots),
         }
+    }
+}
+
+impl<K: Eq + Hash> HashSet<K, DefaultHash> {
+    /// Returns an empty set that hashes by std's default, and whose first insertion makes room for
+    /// this number of keys, as `with_capacity_and_hasher` does. Takes no memory.
+    ///
+    /// O(1). Own: std's `with_capacity`, which takes memory.
+    pub fn with_capacity(alloc: Global, keys: usize) -> Self
+        ensures empty { IsEmpty result }
+        ensures minimum { IsMinimumFor keys result.minimum }
+        ensures maximum { result.maximum ≡ 2 ^ 63 }
+        ensures slots { (result.slots ≡ 0) × (result.old_slots ≡ 0) }
+    {
+        Self::with_capacity_and_hasher(alloc, keys, DefaultHash::default())
     }
 }
 
@@ -86,5 +103,19 @@ impl<K: Eq + Drop, H: KeyHash<K>> HashSet<K, H> {
         ensures { ShrinksToFit K.eq self.old result self.new }
     {
         self.map.shrink_to_fit()
+    }
+
+    /// Leaves no more slots than so many keys take, as `HashMap::shrink_to` does. The keys stay.
+    ///
+    /// # Errors
+    ///
+    /// Allocation failure: all keys are there, and the minimum is 0. It can't fail where the slots
+    /// are as few already.
+    ///
+    /// O(slots). Own: std's `shrink_to`, which can't be refused.
+    pub fn shrink_to(&mut self, keys: usize) -> Result<(), AllocError>
+        ensures { ShrinksTo K.eq keys self.old result self.new }
+    {
+        self.map.shrink_to(keys)
     }
 }

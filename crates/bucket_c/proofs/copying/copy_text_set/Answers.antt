@@ -13,7 +13,7 @@ beside_zero key = (key, 0)
 pub returns : goal.returns
 returns c =
     let went = keys_called {A = ℕ × ℕ × ℕ} _ (λ s. (s.0.now, s.1.now, s.2.now)) (λ s. (s.0.ghost_name, s.1.ghost_name, s.2.ghost_name))
-    (λ before key after. after ≡ next_text before (beside_zero key)) _ _ _ c.for_each.ensures.calls
+    (λ before key after. after ≡ next_text before (beside_zero key)) _ _ _ c.for_each_ref.ensures.calls
     (λ s own t kept e. ((λ i. (e.met.0.0 i, e.met.0.1 i, e.met.0.2 i)), e.met.1)) in
     let all = texts_copied c.args.start c.args.rows.now c.args.bytes.now (map beside_zero (keys_of c.args.set.now.entries)) _
     (copies-map beside_zero _ (keys_of c.args.set.now.entries) _ went.1) in

@@ -151,13 +151,11 @@ impl<K: Eq + Drop, V: Drop, H: KeyHash<K>, L: LruList + Drop, const TYPE: u8> Ha
 
 impl<K: Eq, V, H: KeyHash<K>, L: LruList, const TYPE: u8> HashTable<K, V, H, L, TYPE> {
     /// Returns the first live slot that a probe wants, on either side; `None` where the map has
-    /// none.
+    /// none. Moves nothing, and takes no memory.
+    ///
+    /// O(blocks in two chains). Own.
     #[inline(always)]
-    pub(super) fn spot_by<P: KeyProbe<K>>(
-        &self,
-        hash: u64,
-        probe: &mut P,
-    ) -> Option<Spot<K, V, TYPE>>
+    pub fn spot_by<P: KeyProbe<K>>(&self, hash: u64, probe: &mut P) -> Option<Spot<K, V, TYPE>>
         requires own_hash { (key : K)
             → P.wants probe.old key ≡ true
             → H.hash_of self.now.hasher key ≡ hash }

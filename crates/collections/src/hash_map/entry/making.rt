@@ -1,6 +1,7 @@
 //! The call of an entry of either kind that makes a value of the key.
-ghost use Rattle.std.specs.Prelude.{◌≡◌, None, IfErr, IfOk, MatchOption};
+ghost use Rattle.std.specs.Prelude.{◌≡◌, ◌⊎◌, Err, None, Ok, false, IfErr, IfOk, MatchOption, OnErr};
 ghost use Rattle.std.specs.Borrow.{Bor, sem};
+ghost use Rattle.collections.specs.Changes.{FailsToAdd};
 ghost use Rattle.collections.specs.Maps.{get};
 
 use crate::hash_map::entry::{Entry, VacantEntry};
@@ -39,17 +40,81 @@ impl<'a, K: Eq + Drop, V: Drop, H: KeyHash<K>> Entry<'a, K, V, H> {
             × (get K.eq (entry_map self.entry).now (entry_key self.entry) ≡ None)) }
     {
         match self {
-            Entry::Occupied(entry) => match entry.into_mut() {
-                Some(value) => Ok(value),
-                None => unreachable!(),
-            },
+            Entry::Occupied(entry) => Ok(entry.into_mut()),
             Entry::Vacant(entry) => entry.insert_made(make),
         }
     }
 }
 
+impl<'a, K: Eq + Drop, V: Drop, H: KeyHash<K>> Entry<'a, K, V, H> {
+    ghost use Rattle.collections.specs.Entries.{entry_key, entry_map, is_occupied};
+    ghost use Rattle.collections.specs.Loans.{LendsTried};
+
+    /// Lends the value under the key for writing; where the map hasn't the key, it inserts it with
+    /// what the function makes first. Once the loan ends, the key has the value last written, and
+    /// each other key what it had. Where the map has the key the function isn't called, and it never
+    /// fails.
+    ///
+    /// # Errors
+    ///
+    /// The function's error; or allocation failed, and then it is made of the key and of what was
+    /// made. The map hasn't the key, and has the pairs that it had.
+    ///
+    /// O(1) expected, beside a resize. Own: as the kit's `Entry::or_try_insert_with`.
+    pub fn or_try_insert_with<E: From<AllocFailed<(K, V)>>, F: FnOnce() -> Result<V, E>>(
+        self,
+        make: F,
+    ) -> Result<&'a mut V, E>
+        requires callable { is_occupied self ≡ false → F.pre make }
+        ensures* writes_back { sem 𝓛
+            (LendsTried K.row V.row H.row K.PartialEq H.KeyHash (entry_map self.entry)
+            (entry_key self.entry) result) }
+        ensures value { IfOk result (λ lent.
+            MatchOption (get K.eq (entry_map self.entry).now (entry_key self.entry))
+            (F.post make (Ok lent.now)) (λ held. lent.now ≡ held)) }
+        ensures absent { OnErr result
+            (get K.eq (entry_map self.entry).now (entry_key self.entry) ≡ None) }
+        ensures refused { IfErr result (λ why. F.post make (Err why)
+            ⊎ FailsToAdd (λ back e. E.from_gives back e) (λ value. F.post make (Ok value))
+            (entry_key self.entry) why) }
+    {
+        match self {
+            Entry::Occupied(entry) => Ok(entry.into_mut()),
+            Entry::Vacant(entry) => entry.insert_tried(make),
+        }
+    }
+}
+
 impl<'a, K: Eq + Drop, V: Drop, H: KeyHash<K>> VacantEntry<'a, K, V, H> {
-    ghost use Rattle.collections.specs.Loans.{LendsAdded};
+    ghost use Rattle.collections.specs.Loans.{LendsAdded, LendsTriedNew};
+
+    /// Inserts the key with what a function makes, and lends that for writing.
+    fn insert_tried<E: From<AllocFailed<(K, V)>>, F: FnOnce() -> Result<V, E>>(
+        self,
+        make: F,
+    ) -> Result<&'a mut V, E>
+        requires callable { F.pre make }
+        ensures* writes_back { sem 𝓛
+            (LendsTriedNew K.row V.row H.row K.PartialEq H.KeyHash self.entry.map self.entry.key
+            result) }
+        ensures absent { get K.eq self.entry.map.now self.entry.key ≡ None }
+        ensures value { IfOk result (λ lent. F.post make (Ok lent.now)) }
+        ensures refused { IfErr result (λ why. F.post make (Err why)
+            ⊎ FailsToAdd (λ back e. E.from_gives back e) (λ value. F.post make (Ok value))
+            self.entry.key why) }
+    {
+        let VacantEntry { map, key, hash } = self;
+        match make() {
+            Ok(value) => match map.add(hash, key, value) {
+                Ok(lent) => Ok(lent),
+                Err(back) => Err(E::from(back)),
+            },
+            Err(why) => {
+                map.sound();
+                Err(why)
+            }
+        }
+    }
 
     /// Inserts the key with what a function makes of it, and lends that for writing.
     fn insert_made<F: FnOnce(&K) -> V>(self, make: F) -> Result<&'a mut V, AllocFailed<(K, V)>>

@@ -1,9 +1,8 @@
 //! The calls of an occupied entry.
-ghost use Rattle.std.specs.Prelude.{◌≡◌, Some, IsSome};
+ghost use Rattle.std.specs.Prelude.{◌≡◌, Some};
 ghost use Rattle.std.specs.Borrow.{MutBor, sem};
-ghost use Rattle.std.specs.Option.{option_copied_mut};
-ghost use Rattle.collections.specs.Maps.{get};
-ghost use Rattle.collections.specs.Changes.{Replaces, Takes};
+ghost use Rattle.collections.specs.Maps.{get, map_with_value};
+ghost use Rattle.collections.specs.Changes.{Holds, Replaces, Takes};
 
 use crate::hash_map::entry::OccupiedEntry;
 use bucket_table::key_hash::KeyHash;
@@ -30,7 +29,7 @@ impl<'a, K: Eq, V, H: KeyHash<K>> OccupiedEntry<'a, K, V, H> {
 }
 
 impl<'a, K: Eq + Drop, V: Drop, H: KeyHash<K>> OccupiedEntry<'a, K, V, H> {
-    ghost use Rattle.collections.specs.Loans.{LendsValue};
+    ghost use Rattle.collections.specs.Loans.{LendsThere};
 
     /// Hands the value under the key to a function, for writing, and returns what that answers.
     ///
@@ -49,19 +48,20 @@ impl<'a, K: Eq + Drop, V: Drop, H: KeyHash<K>> OccupiedEntry<'a, K, V, H> {
         }
     }
 
-    /// Lends the value under the key for writing: always `Some`. Once the loan ends, the key has
-    /// the value last written, and each other key what it had.
+    /// Lends the value under the key for writing, for as long as the map is lent. Once the loan
+    /// ends, the key has the value last written, and each other key what it had.
     ///
-    /// Never refused. O(1) expected. std: `OccupiedEntry::into_mut`.
-    pub fn into_mut(self) -> Option<&'a mut V>
+    /// Moves nothing. O(1) expected. std: `OccupiedEntry::into_mut`.
+    pub fn into_mut(self) -> &'a mut V
         ensures* writes_back { sem 𝓛
-            (LendsValue K.row V.row H.row K.PartialEq H.KeyHash self.entry.map
+            (LendsThere K.row V.row H.row K.PartialEq H.KeyHash self.entry.map
             (K.eq self.entry.key) result) }
-        ensures value { option_copied_mut result ≡ get K.eq self.entry.map.now self.entry.key }
-        ensures there { IsSome result }
+        ensures value { get K.eq self.entry.map.now self.entry.key ≡ Some result.now }
+        ensures written { (value : V) → Holds K.eq (K.eq self.entry.key) self.entry.map.now
+            result.now value (map_with_value (K.eq self.entry.key) self.entry.map.now value) }
     {
         let OccupiedEntry { map, key, hash } = self;
-        map.get_mut_hashed(hash, &key)
+        map.value_mut_hashed(hash, &key)
     }
 
     /// Writes the value under the key, and returns the earlier one; the map's own key stays.
@@ -97,5 +97,26 @@ impl<'a, K: Eq + Drop, V: Drop, H: KeyHash<K>> OccupiedEntry<'a, K, V, H> {
     {
         let (_own, value) = self.remove_entry();
         value
+    }
+}
+
+impl<'a, K: Eq + Copy, V: Drop, H: KeyHash<K>> OccupiedEntry<'a, K, V, H> {
+    ghost use Rattle.collections.specs.EntryLoans.{LendsHeld};
+
+    /// Lends the value under the key for writing. Once the loan ends, the key has the value last
+    /// written, and each other key what it had; the entry stays. For a key that isn't `Copy`:
+    /// `update`, `into_mut`, or an entry by a form.
+    ///
+    /// Moves nothing. O(1) expected. std: `OccupiedEntry::get_mut`.
+    pub fn get_mut(&mut self) -> &mut V
+        ensures* writes_back { sem 𝓛
+            (LendsHeld K.row V.row H.row K.PartialEq H.KeyHash self.entry result) }
+        ensures value { get K.eq self.old.map.now self.old.key ≡ Some result.now }
+        ensures written { (value : V) → Holds K.eq (K.eq self.old.key) self.old.map.now result.now
+            value (map_with_value (K.eq self.old.key) self.old.map.now value) }
+    {
+        let hash = self.hash;
+        let key = self.key;
+        self.map.value_mut_hashed(hash, &key)
     }
 }

@@ -6,7 +6,8 @@ ghost use Rattle.collections.specs.Maps.{contains, get};
 use crate::hash_map::HashMap;
 use crate::hash_map::entry::{Entry, OccupiedEntry, VacantEntry};
 use bucket_table::key_hash::KeyHash;
-use std::alloc::AllocFailed;
+use std::alloc::{AllocFailed, Global};
+use std::default::MadeWith;
 
 impl<K: Eq, V, H: KeyHash<K>> HashMap<K, V, H> {
     ghost use Rattle.collections.specs.Entries.{entry_key, entry_map, is_occupied};
@@ -49,6 +50,14 @@ impl<'a, K: Eq, V, H: KeyHash<K>> Entry<'a, K, V, H> {
         match self {
             Entry::Occupied(entry) => entry.key(),
             Entry::Vacant(entry) => entry.key(),
+        }
+    }
+
+    /// Returns the allocator of the map.
+    fn allocator(&self) -> Global {
+        match self {
+            Entry::Occupied(entry) => entry.map.allocator(),
+            Entry::Vacant(entry) => entry.map.allocator(),
         }
     }
 }
@@ -98,10 +107,7 @@ impl<'a, K: Eq + Drop, V: Drop, H: KeyHash<K>> Entry<'a, K, V, H> {
             × (get K.eq (entry_map self.entry).now (entry_key self.entry) ≡ None)) }
     {
         match self {
-            Entry::Occupied(entry) => match entry.into_mut() {
-                Some(value) => Ok(value),
-                None => unreachable!(),
-            },
+            Entry::Occupied(entry) => Ok(entry.into_mut()),
             Entry::Vacant(entry) => entry.insert(default),
         }
     }
@@ -130,16 +136,14 @@ impl<'a, K: Eq + Drop, V: Drop, H: KeyHash<K>> Entry<'a, K, V, H> {
             × (get K.eq (entry_map self.entry).now (entry_key self.entry) ≡ None)) }
     {
         match self {
-            Entry::Occupied(entry) => match entry.into_mut() {
-                Some(value) => Ok(value),
-                None => unreachable!(),
-            },
+            Entry::Occupied(entry) => Ok(entry.into_mut()),
             Entry::Vacant(entry) => entry.insert(make()),
         }
     }
 
     /// Lends the value under the key for writing; where the map hasn't the key, it inserts it with
-    /// the default of values first. Once the loan ends, the key has the value last written, and each
+    /// the default of values first: of a collection or a `String` the empty one, whose memory comes
+    /// from the map's allocator. Once the loan ends, the key has the value last written, and each
     /// other key what it had. Where the map has the key it is never refused.
     ///
     /// # Errors
@@ -150,17 +154,18 @@ impl<'a, K: Eq + Drop, V: Drop, H: KeyHash<K>> Entry<'a, K, V, H> {
     /// O(1) expected, beside a resize. std: `Entry::or_default`.
     pub fn or_default(self) -> Result<&'a mut V, AllocFailed<(K, V)>>
     where
-        V: Default,
+        V: MadeWith<Global>,
         ensures* writes_back { sem 𝓛
             (LendsPut K.row V.row H.row K.PartialEq H.KeyHash (entry_map self.entry)
             (entry_key self.entry) result) }
         ensures value { IfOk result (λ lent.
             MatchOption (get K.eq (entry_map self.entry).now (entry_key self.entry))
-            (V.is_default lent.now) (λ held. lent.now ≡ held)) }
+            (V.is_made_with lent.now) (λ held. lent.now ≡ held)) }
         ensures refused { IfErr result (λ back. (back.value.0 ≡ entry_key self.entry)
-            × V.is_default back.value.1
+            × V.is_made_with back.value.1
             × (get K.eq (entry_map self.entry).now (entry_key self.entry) ≡ None)) }
     {
-        self.or_insert_with(|| V::default())
+        let alloc = self.allocator();
+        self.or_insert_with(|| V::made_with(alloc))
     }
 }

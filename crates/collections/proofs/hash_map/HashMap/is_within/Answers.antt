@@ -12,7 +12,7 @@ returns g c =
     let went = pairs_visited_from {A = ℕ × Bor (MapView g.row.K.Denot g.row.V.Denot g.row.H.Denot)} (λ s. s.0.now)
     (λ s. (s.0.ghost_name, s.1)) _
     (λ flag pair next. next ≡ (flag && option_eq g.V.PartialEq.eq (Some pair.1) (get g.K.PartialEq.eq c.args.other.now pair.0)))
-    _ _ _ c.for_each.ensures.calls
+    _ _ _ c.for_each_ref.ensures.calls
     (λ s own value t kept e. (
       (λ i. (e.met.0.0 i, e.met.0.1 i)),
       e.met.1 ∙ ap (λ o. s.0.now && option_eq g.V.PartialEq.eq (Some value.now) (get g.K.PartialEq.eq o.now own.now)) (λ i. (kept i).1),

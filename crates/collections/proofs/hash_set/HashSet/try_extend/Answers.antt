@@ -14,8 +14,8 @@ loop-key-preserved g c =
     let inv = c.loop-key.invariant in
     let key = c.in-Some.key in
     it.again inv key c.in-Some.is (c.next.ensures.steps, c.next.ensures.goes)
-    (one_more_key eq g.met.K.Eq.laws c.args.self.now c.loop-key.self c.add.new.self inv.seen key inv.holds
-    (added_put eq g.met.K.Eq.laws c.loop-key.self c.add.new.self key c.in-Ok._added c.in-Ok.ensures.set))
+    (one_more_key eq g.met.K.Eq.laws c.args.self.now c.loop-key.self c.insert.new.self inv.seen key inv.holds
+    (added_put eq g.met.K.Eq.laws c.loop-key.self c.insert.new.self key c.in-Ok._added c.in-Ok.ensures.set))
 
 pub returns-in-Err-clause-puts : goal.returns-in-Err-clause-puts
 returns-in-Err-clause-puts g c =
@@ -24,7 +24,7 @@ returns-in-Err-clause-puts g c =
     rw back (
       inv.seen,
       it.Gave-then inv c.in-Some.is c.next.ensures.steps,
-      keys_then_stay g.K.PartialEq.eq g.met.K.Eq.laws c.args.self.now c.loop-key.self c.add.new.self inv.seen inv.holds stays,
+      keys_then_stay g.K.PartialEq.eq g.met.K.Eq.laws c.args.self.now c.loop-key.self c.insert.new.self inv.seen inv.holds stays,
       stays.gets c.in-Some.key ∙ none,
     )
 

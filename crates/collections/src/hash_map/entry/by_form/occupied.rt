@@ -1,9 +1,8 @@
 //! The calls of an occupied entry by a form.
-ghost use Rattle.std.specs.Prelude.{◌≡◌, IsSome, Some};
+ghost use Rattle.std.specs.Prelude.{◌≡◌, Some};
 ghost use Rattle.std.specs.Borrow.{MutBor, sem};
-ghost use Rattle.std.specs.Option.{option_copied_mut};
-ghost use Rattle.collections.specs.Maps.{get_by};
-ghost use Rattle.collections.specs.Changes.{Replaces};
+ghost use Rattle.collections.specs.Maps.{get_by, map_with_value};
+ghost use Rattle.collections.specs.Changes.{Holds, Replaces};
 
 use crate::hash_map::entry::by_form::OccupiedEntryRef;
 use crate::key_form::KeyForm;
@@ -22,7 +21,24 @@ impl<'a, K: Eq, V, H: KeyHash<K>, Q: KeyForm<K, H>> OccupiedEntryRef<'a, K, V, H
 }
 
 impl<'a, K: Eq + Drop, V: Drop, H: KeyHash<K>, Q: KeyForm<K, H>> OccupiedEntryRef<'a, K, V, H, Q> {
-    ghost use Rattle.collections.specs.Loans.{LendsValue};
+    ghost use Rattle.collections.specs.Loans.{LendsThere};
+    ghost use Rattle.collections.specs.EntryLoans.{LendsHeldRef};
+
+    /// Lends the value under the key for writing. Once the loan ends, the key has the value last
+    /// written, and each other key what it had; the entry stays.
+    ///
+    /// Moves nothing. O(1) expected. std: `OccupiedEntry::get_mut`.
+    pub fn get_mut(&mut self) -> &mut V
+        ensures* writes_back { sem 𝓛
+            (LendsHeldRef K.row V.row H.row Q.row K.PartialEq H.KeyHash Q.KeyForm self.entry result) }
+        ensures value { get_by (Q.stands_for self.old.form) self.old.map.now ≡ Some result.now }
+        ensures written { (value : V) → Holds K.eq (Q.stands_for self.old.form) self.old.map.now
+            result.now value (map_with_value (Q.stands_for self.old.form) self.old.map.now value) }
+    {
+        let hash = self.hash;
+        let form = self.form;
+        self.map.value_mut_hashed(hash, form)
+    }
 
     /// Hands the value under the key to a function, for writing, and returns what that answers.
     ///
@@ -41,20 +57,22 @@ impl<'a, K: Eq + Drop, V: Drop, H: KeyHash<K>, Q: KeyForm<K, H>> OccupiedEntryRe
         }
     }
 
-    /// Lends the value under the key for writing: always `Some`. Once the loan ends, the key has
-    /// the value last written, and each other key what it had.
+    /// Lends the value under the key for writing, for as long as the map is lent. Once the loan
+    /// ends, the key has the value last written, and each other key what it had.
     ///
     /// Never refused. O(1) expected. std: `OccupiedEntry::into_mut`.
-    pub fn into_mut(self) -> Option<&'a mut V>
+    pub fn into_mut(self) -> &'a mut V
         ensures* writes_back { sem 𝓛
-            (LendsValue K.row V.row H.row K.PartialEq H.KeyHash self.entry.map
+            (LendsThere K.row V.row H.row K.PartialEq H.KeyHash self.entry.map
             (Q.stands_for self.entry.form) result) }
-        ensures value { option_copied_mut result
-            ≡ get_by (Q.stands_for self.entry.form) self.entry.map.now }
-        ensures there { IsSome result }
+        ensures value { get_by (Q.stands_for self.entry.form) self.entry.map.now
+            ≡ Some result.now }
+        ensures written { (value : V) → Holds K.eq (Q.stands_for self.entry.form)
+            self.entry.map.now result.now value
+            (map_with_value (Q.stands_for self.entry.form) self.entry.map.now value) }
     {
         let OccupiedEntryRef { map, form, hash } = self;
-        map.get_mut_hashed(hash, form)
+        map.value_mut_hashed(hash, form)
     }
 
     /// Writes the value under the key, and returns the earlier one; the map's own key stays.

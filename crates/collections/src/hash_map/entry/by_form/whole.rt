@@ -8,6 +8,7 @@ use crate::hash_map::entry::by_form::{EntryRef, OccupiedEntryRef, VacantEntryRef
 use crate::key_form::{KeyForm, ToKey};
 use bucket_table::key_hash::KeyHash;
 use std::alloc::{AllocFailed, Global};
+use std::default::MadeWith;
 
 impl<K: Eq, V, H: KeyHash<K>> HashMap<K, V, H> {
     ghost use Rattle.collections.specs.EntryRefs.{is_ref_occupied, ref_form, ref_map};
@@ -90,10 +91,7 @@ impl<'a, K: Eq + Drop, V: Drop, H: KeyHash<K>, Q: ToKey<K, H>> EntryRef<'a, K, V
             × (get_by (Q.stands_for (ref_form self.entry)) (ref_map self.entry).now ≡ None)) }
     {
         match self {
-            EntryRef::Occupied(entry) => match entry.into_mut() {
-                Some(value) => Ok(value),
-                None => unreachable!(),
-            },
+            EntryRef::Occupied(entry) => Ok(entry.into_mut()),
             EntryRef::Vacant(entry) => entry.insert(default, alloc),
         }
     }
@@ -125,10 +123,7 @@ impl<'a, K: Eq + Drop, V: Drop, H: KeyHash<K>, Q: ToKey<K, H>> EntryRef<'a, K, V
             × (get_by (Q.stands_for (ref_form self.entry)) (ref_map self.entry).now ≡ None)) }
     {
         match self {
-            EntryRef::Occupied(entry) => match entry.into_mut() {
-                Some(value) => Ok(value),
-                None => unreachable!(),
-            },
+            EntryRef::Occupied(entry) => Ok(entry.into_mut()),
             EntryRef::Vacant(entry) => entry.insert(make(), alloc),
         }
     }
@@ -146,16 +141,16 @@ impl<'a, K: Eq + Drop, V: Drop, H: KeyHash<K>, Q: ToKey<K, H>> EntryRef<'a, K, V
     /// O(1) expected, beside the key and a resize. hashbrown: `EntryRef::or_default`.
     pub fn or_default(self, alloc: Global) -> Result<&'a mut V, AllocFailed<V>>
     where
-        V: Default,
+        V: MadeWith<Global>,
         ensures* writes_back { sem 𝓛
             (LendsPutWanted K.row V.row H.row K.PartialEq H.KeyHash (ref_map self.entry)
             (Q.stands_for (ref_form self.entry)) result) }
         ensures value { IfOk result (λ lent. MatchOption
             (get_by (Q.stands_for (ref_form self.entry)) (ref_map self.entry).now)
-            (V.is_default lent.now) (λ held. lent.now ≡ held)) }
-        ensures refused { IfErr result (λ back. V.is_default back.value
+            (V.is_made_with lent.now) (λ held. lent.now ≡ held)) }
+        ensures refused { IfErr result (λ back. V.is_made_with back.value
             × (get_by (Q.stands_for (ref_form self.entry)) (ref_map self.entry).now ≡ None)) }
     {
-        self.or_insert_with(|| V::default(), alloc)
+        self.or_insert_with(|| V::made_with(alloc), alloc)
     }
 }

@@ -1,18 +1,22 @@
-use Rattle.std.proofs.Common.{ap, refl}
+use Rattle.std.proofs.Common.{ap, refl, sym}
 use Rattle.std.specs.Prelude.{unwrap_or}
-use Rattle.collections.proofs.Entries.{puts_there}
+use Rattle.collections.proofs.Entries.{puts_held}
 use Rattle.collections.proofs.hash_map.entry.Entry.or_insert.Goals as goal
 
-pub returns-in-Some : goal.returns-in-Some
-returns-in-Some g c =
-    let lent = c.into_mut.follows in
+pub returns-in-Occupied : goal.returns-in-Occupied
+returns-in-Occupied g c =
+    let lent = c.into_mut.ensures in
     let place = c.in-Occupied.entry in
     rw c.in-Occupied.is (
       (
         refl,
-        λ value is. puts_there g.K.PartialEq.eq place.map.now (lent.lender value) (g.K.PartialEq.eq place.key) c.into_mut.result
-            c.in-Some.value value c.in-Some.is (lent.holds value) _,
+        λ value is. puts_held g.K.PartialEq.eq place.map.now _ (g.K.PartialEq.eq place.key) c.into_mut.result.now value _ lent.value
+            (lent.written value),
         tt,
       ),
-      record { writes_back = tt; value = ap (λ held. unwrap_or held c.args.default) c.in-Some.ensures.value; refused = tt },
+      record {
+        writes_back = tt;
+        value = ap (λ held. unwrap_or held c.args.default) (sym lent.value);
+        refused = tt;
+      },
     )

@@ -4,18 +4,22 @@ use Rattle.collections.specs.Maps.{get_by}
 use Rattle.collections.proofs.EntryMaking.{back_new, puts_new, puts_over}
 use Rattle.collections.proofs.hash_map.entry.by_form.EntryRef.or_insert.Goals as goal
 
-pub returns-in-Some : goal.returns-in-Some
-returns-in-Some g c =
-    let lent = c.into_mut.follows in
+pub returns-in-Occupied : goal.returns-in-Occupied
+returns-in-Occupied g c =
+    let lent = c.into_mut.ensures in
     let place = c.in-Occupied.entry in
     rw c.in-Occupied.is (
       (
         refl,
-        λ value is. puts_over g.K.PartialEq.eq place.map.now (g.Q.KeyForm.stands_for place.form) value (lent.lender value)
-            c.into_mut.result c.in-Some.value c.in-Some.is (lent.holds value),
+        λ value is. puts_over g.K.PartialEq.eq place.map.now (g.Q.KeyForm.stands_for place.form) value _ c.into_mut.result.now lent.value
+            (lent.written value),
         tt,
       ),
-      record { writes_back = tt; value = ap (λ held. unwrap_or held c.args.default) c.in-Some.ensures.value; refused = tt },
+      record {
+        writes_back = tt;
+        value = ap (λ held. unwrap_or held c.args.default) (sym lent.value);
+        refused = tt;
+      },
     )
 
 pub returns-in-Vacant : goal.returns-in-Vacant

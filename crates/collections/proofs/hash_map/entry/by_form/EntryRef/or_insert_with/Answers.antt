@@ -1,23 +1,23 @@
-use Rattle.std.proofs.Common.{refl}
+use Rattle.std.proofs.Common.{refl, sym}
 use Rattle.collections.specs.Maps.{get_by}
 use Rattle.collections.proofs.Entries.{same_as_lent}
 use Rattle.collections.proofs.EntryMaking.{back_new, lent_new, puts_new, puts_over}
 use Rattle.collections.proofs.hash_map.entry.by_form.EntryRef.or_insert_with.Goals as goal
 
-pub returns-in-Some : goal.returns-in-Some
-returns-in-Some g c =
-    let lent = c.into_mut.follows in
+pub returns-in-Occupied : goal.returns-in-Occupied
+returns-in-Occupied g c =
+    let lent = c.into_mut.ensures in
     let place = c.in-Occupied.entry in
     rw c.in-Occupied.is (
       (
         refl,
-        λ value is. puts_over g.K.PartialEq.eq place.map.now (g.Q.KeyForm.stands_for place.form) value (lent.lender value)
-            c.into_mut.result c.in-Some.value c.in-Some.is (lent.holds value),
+        λ value is. puts_over g.K.PartialEq.eq place.map.now (g.Q.KeyForm.stands_for place.form) value _ c.into_mut.result.now lent.value
+            (lent.written value),
         tt,
       ),
       record {
         writes_back = tt;
-        value = same_as_lent (goal.F-post g c.args.make) _ c.in-Some.value.now c.in-Some.ensures.value;
+        value = same_as_lent (goal.F-post g c.args.make) _ c.into_mut.result.now (sym lent.value);
         refused = tt;
       },
     )

@@ -1,0 +1,38 @@
+//! Numbers grouped under keys, and a value written in the place of another.
+ghost use Rattle.std.specs.Prelude.{◌≡◌, ◌++◌, ◌∷◌, [], IsTrue, MatchOption, OnOk, Some, true};
+ghost use Rattle.collections.specs.Maps.{contains, get};
+
+use collections::hash_map::{Entry, HashMap};
+use std::alloc::AllocError;
+
+/// Puts a number behind those of its key.
+///
+/// # Errors
+///
+/// Allocation failed. The key may be new then, with no number.
+///
+/// O(1) expected, beside a resize. Own.
+pub fn group(groups: &mut HashMap<u64, Vec<u64>>, key: u64, number: u64) -> Result<(), AllocError>
+    ensures { OnOk result (MatchOption (get ⟦<u64 as PartialEq>⟧.eq groups.new key) ⊥ (λ numbers.
+        MatchOption (get ⟦<u64 as PartialEq>⟧.eq groups.old key) (numbers.items ≡ number ∷ [])
+        (λ earlier. numbers.items ≡ earlier.items ++ number ∷ []))) }
+{
+    groups.entry(key).or_default()?.push(number)?;
+    Ok(())
+}
+
+/// Writes a value beside a key that is there, and returns whether it is.
+///
+/// O(1) expected. Own.
+pub fn overwrite(map: &mut HashMap<u64, u64>, key: u64, value: u64) -> bool
+    ensures found { result ≡ contains ⟦<u64 as PartialEq>⟧.eq map.old key }
+    ensures written { IsTrue result → get ⟦<u64 as PartialEq>⟧.eq map.new key ≡ Some value }
+{
+    match map.entry(key) {
+        Entry::Occupied(mut place) => {
+            *place.get_mut() = value;
+            true
+        }
+        Entry::Vacant(_) => false,
+    }
+}

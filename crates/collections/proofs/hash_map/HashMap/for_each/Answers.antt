@@ -1,4 +1,0 @@
-use Rattle.collections.proofs.hash_map.HashMap.for_each.Goals as goal
-
-pub returns-clause-calls : goal.returns-clause-calls
-returns-clause-calls g c = rw (← c.self.view_is) c.for_each.ensures.calls

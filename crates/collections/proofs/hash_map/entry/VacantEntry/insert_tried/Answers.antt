@@ -1,0 +1,20 @@
+use Rattle.std.proofs.Common.{Ok, ap, inr, refl, subst, sym}
+use Rattle.collections.proofs.hash_map.entry.VacantEntry.insert_tried.Goals as goal
+
+pub returns-in-Err-add : goal.returns-in-Err-add
+returns-in-Err-add g c =
+    let back = c.in-Err-add.ensures.pair_returned in
+    let stays = rw c.in-Err-add.is at c.add.follows.holds-at-none in (
+      (refl, λ value is. absurd cc, stays.0),
+      record {
+        writes_back = tt;
+        absent = c.args.self.absent;
+        value = tt;
+        refused = inr (record {
+          back = c.in-Err-add.back;
+          same_key = ap (λ p. p.0) back;
+          made = subst (λ value. goal.F-post g c.args.make (Ok value)) (sym (ap (λ p. p.1) back)) c.in-Ok.ensures;
+          given = c.from.ensures;
+        });
+      },
+    )
