@@ -4,7 +4,7 @@ use Rattle.bucket_table.specs.declared.hash_table.NotInserted.{NotInserted}
 use Rattle.bucket_table.specs.declared.hash_table.NotInserted.TheVariants.{Memory}
 use Rattle.bucket_table.specs.Views.ArraysView.{TableView}
 use Rattle.collections.specs.Changes.{HandsBack, Puts}
-use Rattle.collections.specs.Crowding.{LacksRoom}
+use Rattle.collections.specs.Crowding.{LacksBucket}
 use Rattle.collections.specs.Maps.{MapView, map_of}
 use Rattle.collections.specs.Orders.{PutsOrKeeps}
 use Rattle.bucket_c.specs.Caches.{PutsOne}
@@ -21,7 +21,7 @@ pub put_refused : {K V H Out : Type 0} (eq : K → K → Bool) (hash_of : H → 
     (before : V) (old new : TableView K V H) (why : NotInserted K V) {k : K} {v : V} → why ≡ Memory k v
     → Puts eq key value (map_of old) (Err why) (map_of new)
     → PutsOrKeeps eq (key, value) (hash_of old.hasher key) old (Err why) new.arrays
-    → (why ≡ Memory key value → LacksRoom hash_of key (map_of new))
+    → (why ≡ Memory key value → LacksBucket hash_of key (map_of old))
     → PutsOne eq hash_of key value key_out before old no_memory new (key_out None) before
 put_refused {K} {V} eq hash_of key value key_out before old new why is map home memory =
     let code : NotInserted K V → ℕ = λ why. put_code {P = K × V} (Err why) in

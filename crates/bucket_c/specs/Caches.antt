@@ -6,7 +6,7 @@ use Rattle.bucket_table.specs.Views.ArraysView.{TableView}
 use Rattle.bucket_table.specs.declared.hash_table.NotInserted.{NotInserted}
 use Rattle.collections.specs.CacheUpserts.{UpsertsInOrder, UpsertsOrEvicts}
 use Rattle.collections.specs.Changes.{Puts, Removes}
-use Rattle.collections.specs.Crowding.{LacksRoom}
+use Rattle.collections.specs.Crowding.{LacksBucket}
 use Rattle.collections.specs.Maps.{contains_by, get_by, map_of}
 use Rattle.collections.specs.Orders.{IsTouched, LeavesPlace, PutsOrKeeps}
 use Rattle.collections.specs.declared.hash_cache.putting.Upserted.{Upserted}
@@ -57,7 +57,7 @@ module _ {K V H : Type 0} (eq : K → K → Bool) (hash_of : H → K → ℕ) (k
   PutsOne key_out before old code new out after =
       (answer : Result (Option (K × V)) (NotInserted K V)) × (code ≡ put_code answer) × Puts eq key value (map_of old) answer (map_of new)
       × PutsOrKeeps eq (key, value) (hash_of old.hasher key) old answer new.arrays
-      × (code ≡ no_memory → LacksRoom hash_of key (map_of new))
+      × (code ≡ no_memory → LacksBucket hash_of key (map_of old))
       × (out ≡ key_out (option_map (λ pair. pair.0) (gone_of answer)))
       × (after ≡ unwrap_or (option_map (λ pair. pair.1) (gone_of answer)) before)
 
@@ -67,5 +67,5 @@ module _ {K V H : Type 0} (eq : K → K → Bool) (hash_of : H → K → ℕ) (k
       (answer : Result (Upserted K V) (AllocFailed (K × V))) × (code ≡ cache_upsert_code answer)
       × UpsertsOrEvicts eq key value (map_of old) answer (map_of new)
       × UpsertsInOrder eq (key, value) (hash_of old.hasher key) old answer new
-      × (code ≡ no_memory → LacksRoom hash_of key (map_of new))
+      × (code ≡ no_memory → LacksBucket hash_of key (map_of old))
       × (out ≡ key_out (evicted_key answer)) × (after ≡ unwrap_or (value_before answer) before)

@@ -17,13 +17,13 @@ module _ {K H : Type 0} (eq : K → K → Bool) (hash_of : H → K → ℕ) (key
   abbrev pub InsertsOne : {V : Type 0} → V → MapView K V H → ℕ → MapView K V H → Type 0
   InsertsOne {V} value old code new =
       (answer : Result (Unit {0}) (NotInserted K V)) × (code ≡ insert_code answer) × Inserts eq key value old answer new
-      × (code ≡ no_memory → LacksRoom hash_of key new)
+      × (code ≡ no_memory → LacksRoom hash_of key old)
 
   -- the earlier value is written out, if there is one
   abbrev pub UpsertsOne : {V : Type 0} → V → V → MapView K V H → ℕ → MapView K V H → V → Type 0
   UpsertsOne {V} value before old code new after =
       (answer : Result (Option V) (AllocFailed (K × V))) × (code ≡ upsert_code answer) × Upserts eq key value old answer new
-      × (code ≡ no_memory → LacksRoom hash_of key new) × (after ≡ unwrap_or (get eq old key) before)
+      × (code ≡ no_memory → LacksRoom hash_of key old) × (after ≡ unwrap_or (get eq old key) before)
 
 module _ {K H : Type 0} (eq : K → K → Bool) (test : K → Bool) where
   -- the value that goes under a key that passes a test is written out, if there is one

@@ -3,3 +3,4 @@ pub mod Moving
 pub mod Putting
 pub mod WithoutKeys
 pub mod Picked
+pub mod RoomYet

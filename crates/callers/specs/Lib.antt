@@ -4,3 +4,4 @@ pub mod Held
 pub mod Moves
 pub mod Sessions
 pub mod Without
+pub mod Filled

@@ -6,6 +6,7 @@
 
 mod counting;
 mod expiring;
+pub mod filling;
 mod grouping;
 pub mod ledger;
 mod retiring;

@@ -148,6 +148,11 @@ settled_slots slots arrays is settled =
     let alone = settled.alone in
     (slots_of_len slots (length arrays.current) is settled.len, omega (arith, alone))
 
+-- an array that has its length, or that for a capacity which isn't less, has no fewer slots
+pub none_fewer : (slots was len : ℕ) → IsPowerIn 64 (2 ^ 62) slots → (len ≡ was) ⊎ IsLengthFor slots len → 32 * was ≤ slots → 32 * was ≤ 32 * len
+none_fewer slots was len is (inl same) least = omega (arith, same)
+none_fewer slots was len is (inr for) least = omega (arith, slots_of_len slots len is for, least)
+
 -- the count of pairs, cut at what a number of 64 bits holds, is that of pairs that are not too many
 counted : (n more len pairs : ℕ) → len ≡ min n (2 ^ 64 - 1) → pairs ≡ len + more
     → (pairs ≤ (2 ^ 62 / 16) * 13) ⊎ (n + more ≤ (2 ^ 62 / 16) * 13) → pairs ≡ n + more
@@ -176,7 +181,8 @@ module _ {K V H E : Type 0} (eq : K → K → Bool) (more : ℕ) (old : MapView 
   stays_refused error none = record {
     stays = stays_same eq old unique;
     room = tt;
-    no_fewer = tt;
+    slots = tt;
+    no_fewer = omega arith;
     ready = λ has. absurd (none has);
     too_many = λ many. (refl, refl);
   }
@@ -204,6 +210,7 @@ module _ {K V H E : Type 0} (eq : K → K → Bool) (more : ℕ) (old : MapView 
         record {
           stays = stays_same eq old unique;
           room = record { alone = alone; enough = room };
+          slots = λ none. absurd (none (record { alone = alone; enough = room }));
           no_fewer = omega arith;
           ready = λ has. (refl, refl);
           too_many = λ many. absurd (not_many old.slots (map_len old + more) shape room many);
@@ -211,12 +218,13 @@ module _ {K V H E : Type 0} (eq : K → K → Bool) (more : ℕ) (old : MapView 
 
     -- all pairs move to an array for so many
     pub makes : (answer : Result (Unit {0}) E) (new : MapView K V H) → Stays eq old new → OnOk answer (TakesSlots pairs old new)
-        → (AreTooMany pairs → IsErr answer × (new ≡ old))
+        → old.slots ≤ new.slots → (AreTooMany pairs → IsErr answer × (new ≡ old))
         → ((IsTooFull old.slots pairs → ⊥) → old.old_slots ≡ 0 → ⊥) → MakesRoom eq more old answer new
-    makes answer new stays takes refused unready = record {
+    makes answer new stays takes no_fewer refused unready = record {
       stays = stays;
       room = room answer takes;
-      no_fewer = no_fewer answer takes;
+      slots = slots answer takes;
+      no_fewer = no_fewer;
       ready = λ has.
           let few = few_in old.slots (map_len old + more) shape has.enough in
           let same = counted (map_len old) more len pairs len_is pairs_are (inr few) in
@@ -235,9 +243,14 @@ module _ {K V H E : Type 0} (eq : K → K → Bool) (more : ℕ) (old : MapView 
             record { alone = takes.alone; enough = λ full. absurd (omega (arith, enough, kept, same, slots, full)) }
         room (Err error) none = tt
 
-        no_fewer : (answer : Result (Unit {0}) E) → OnOk answer (TakesSlots pairs old new) → OnOk answer (old.slots ≤ new.slots)
-        no_fewer (Ok done) takes = let slots = takes.slots_are in omega (arith, slots)
-        no_fewer (Err error) none = tt
+        slots : (answer : Result (Unit {0}) E) → OnOk answer (TakesSlots pairs old new)
+            → OnOk answer ((HasRoomFor more old → ⊥) → TakesSlots (map_len old + more) old new)
+        slots (Ok done) takes =
+            let held = takes.least_is.holds in
+            let few = few_in takes.least pairs (inr held.power) held.enough in
+            let same = counted (map_len old) more len pairs len_is pairs_are (inl few) in
+            λ none. subst (λ (n : ℕ). TakesSlots n old new) same takes
+        slots (Err error) none = tt
 
         many_too : AreTooMany (map_len old + more) → AreTooMany pairs
         many_too many = elim (cases_lt ((2 ^ 62 / 16) * 13) pairs) [

@@ -1,7 +1,7 @@
 -- An insertion that ran out of memory lacked room.
 use Rattle.std.proofs.Common.{ℕ, suc, ◌≡◌, ◌≢◌, ◌<◌, ◌≤◌, ◌+◌, ◌*◌, ◌/◌, ◌%◌, ◌++◌, Bool, cond, ◌==◌, None, Option, Result, Ok, Err, IfOk, List}
 use Rattle.std.proofs.Common.{[], ◌∷◌, ◌⊎◌, inl, inr}
-use Rattle.std.proofs.Common.{length, map, refl, sym, subst, ◌∙◌, arith, append-nil, length-append}
+use Rattle.std.proofs.Common.{length, map, refl, sym, subst, ap, ◌∙◌, arith, append-nil, length-append}
 use Rattle.std.specs.List.{All}
 use Rattle.std.proofs.lemmas.Bool.{cases_lt, false≢true}
 use Rattle.std.specs.List.Sorted.{IsPermutation}
@@ -18,7 +18,7 @@ use Rattle.bucket_slots.proofs.CallerLemmas.{length-entries_in}
 use Rattle.bucket_slots.proofs.Counting.{length-live_pairs, tally}
 use Rattle.bucket_slots.proofs.RoomCallerLemmas.{free_len_in-none}
 use Rattle.bucket_table.specs.Map.ByKey.{HasNoSlot, Inserts, InsertsAt, Upserts, UpsertsAt}
-use Rattle.bucket_table.specs.Map.Finding.{Finds, FindsThen}
+use Rattle.bucket_table.specs.Map.Finding.{Finds, FindsBucket, FindsThen, MakesReady, ReadiesThenGrows}
 use Rattle.bucket_table.specs.Map.MapState.{KeepsPairs, state_of}
 use Rattle.bucket_table.specs.Map.Preparing.{HomeWantsMemory}
 use Rattle.bucket_table.specs.Map.Putting.{Puts, PutsAt}
@@ -34,7 +34,8 @@ use Rattle.bucket_table.proofs.Map.MapKept.{hasher_kept}
 use Rattle.bucket_table.proofs.Moves.HomesByDivision.{home_of-interval}
 use Rattle.bucket_table.proofs.Moves.MovingPairs.{homed-permutation, homed_here}
 use Rattle.bucket_table.proofs.Views.SideChanges.{homes_on, pairs_exchanged}
-use Rattle.collections.specs.Crowding.{IsCrowded, KeepsHome, LacksRoom}
+use Rattle.collections.proofs.Found.{found, same_buckets}
+use Rattle.collections.specs.Crowding.{HasAtHome, KeepsHome, LacksBucket, LacksRoom}
 use Rattle.collections.specs.Maps.{map_of}
 
 module _ {K V : Type 0} where
@@ -93,29 +94,48 @@ module _ {K V : Type 0} where
           let here = homed len index entries (homes_on hash arrays side index placed within) in
           omega (arith, all, parts, here, length-entries_in (bucket_on arrays side index))
 
-      -- a home that has 32 pairs is crowded
-      crowded : (key : K) → IsHome (length (buckets_on arrays side)) (hash key) index
-          → 32 ≤ length (pairs_in (bucket_on arrays side index))
-          → IsCrowded hash key (32 * length (buckets_on arrays side)) (pairs_of arrays)
-      crowded key home many =
+      -- a home that has so many pairs is the home of so many
+      pub at_home : (count : ℕ) (key : K) → IsHome (length (buckets_on arrays side)) (hash key) index
+          → count ≤ length (pairs_in (bucket_on arrays side index))
+          → HasAtHome count hash key (32 * length (buckets_on arrays side)) (pairs_of arrays)
+      at_home count key home many =
           let len = length (buckets_on arrays side) in
           let buckets : (32 * len) / 32 ≡ len = omega arith in
           let most = shared home.within in (
             omega (arith, home.within),
-            subst (λ (m : ℕ). 32 ≤ homed_len hash m (home_of m (hash key)) (pairs_of arrays)) (sym buckets)
+            subst (λ (m : ℕ). count ≤ homed_len hash m (home_of m (hash key)) (pairs_of arrays)) (sym buckets)
                 (rw (home_of-interval len index (hash key) home.own) (omega (arith, many, most))),
           )
+
+-- arrays that were made ready have as many slots as they had, if they had any
+pub ready_len : {K V : Type 0} (old : ArraysView K V) (index : ℕ) (ready : ArraysView K V) → MakesReady old index ready
+    → 0 < length old.current → length ready.current ≡ length old.current
+ready_len {K} {V} old index ready makes stands = elim (cases_lt 0 (length old.linked)) [
+  | inl beside ↦ (makes.beside beside).current_len
+  | inr alone ↦ ap (λ (a : ArraysView K V). length a.current) ((makes.first (omega (arith, alone))).0 stands)
+]
+
+-- and so has the array in which a bucket was found for a writer
+pub found_len : {K V : Type 0} (kind hash : ℕ) (old : ArraysView K V) (side : Side) (index : ℕ) (new : ArraysView K V)
+    → ReadiesThenGrows kind hash old side index new → 0 < length old.current → length (buckets_on new side) ≡ length old.current
+found_len kind hash old side index new readies stands =
+    let is = found kind hash old side index new readies in
+    ap length (same_buckets side is.ready new is.grown) ∙ ready_len old index is.ready is.makes stands
 
 module _ {K V H : Type 0} (kind : ℕ) (hash_of : H → K → ℕ) (key : K) (n : ℕ) (old new : TableView K V H) (own : n ≡ hash_of new.hasher key)
     (placed : ArePlaced (hash_of new.hasher) new.arrays) (current : 0 < length new.arrays.current → KeepsHome kind n new.arrays.current)
     (linked : 0 < length new.arrays.linked → KeepsHome kind n new.arrays.linked) where
-  crowded_on : (side : Side) (index : ℕ) → IsHome (length (buckets_on new.arrays side)) n index
-      → 32 ≤ length (pairs_in (bucket_on new.arrays side index)) → LacksRoom hash_of key (map_of new)
-  unfolding LacksRoom
-  crowded_on Current index home many = inr (inl (crowded (hash_of new.hasher) new.arrays Current index placed key
-      (subst (λ (h : ℕ). IsHome (length new.arrays.current) h index) own home) many))
-  crowded_on Old index home many = inr (inr (crowded (hash_of new.hasher) new.arrays Old index placed key
-      (subst (λ (h : ℕ). IsHome (length new.arrays.linked) h index) own home) many))
+  -- so many pairs in a home were as many before
+  pub before_on : (count : ℕ) (side : Side) (index len : ℕ) → KeepsPairs (state_of kind old) (state_of kind new)
+      → length (buckets_on new.arrays side) ≡ len → IsHome (length (buckets_on new.arrays side)) n index
+      → count ≤ length (pairs_in (bucket_on new.arrays side index))
+      → HasAtHome count (hash_of old.hasher) key (32 * len) (pairs_of old.arrays)
+  before_on count side index len kept same home many =
+      let now = at_home (hash_of new.hasher) new.arrays side index placed count key
+      (subst (λ (h : ℕ). IsHome (length (buckets_on new.arrays side)) h index) own home) many in
+      let there = rw (same, hasher_kept _ _ kept) at now in
+      (there.0, rw (← homed-permutation (hash_of old.hasher) ((32 * len) / 32) (home_of ((32 * len) / 32) (hash_of old.hasher key))
+          (pairs_of old.arrays) (pairs_of new.arrays) kept.pairs) there.1)
 
   pub laws_on : (side : Side) (index : ℕ) → IsHome (length (buckets_on new.arrays side)) n index
       → IsBucketOf kind (bucket_on new.arrays side index)
@@ -127,10 +147,15 @@ module _ {K V H : Type 0} (kind : ℕ) (hash_of : H → K → ℕ) (key : K) (n 
       subst (λ (i : ℕ). IsBucketOf kind (bucket_at new.arrays.linked i)) (home.the_one kept.index kept.home.own) kept.laws
 
   -- a bucket that was found had no free slot
-  pub found_full : kind ≢ INDEX → (side : Side) (index : ℕ) → IsHome (length (buckets_on new.arrays side)) n index
-      → first_place is_free (bucket_on new.arrays side index) ≡ None → LacksRoom hash_of key (map_of new)
-  found_full other side index home none =
-      crowded_on side index home (held kind (bucket_on new.arrays side index) other (laws_on side index home) none)
+  pub found_full : kind ≢ INDEX → (side : Side) (index : ℕ) → FindsBucket kind n old side index new
+      → first_place is_free (bucket_on new.arrays side index) ≡ None → LacksRoom hash_of key (map_of old)
+  unfolding LacksRoom
+  found_full other side index found none = elim (cases_lt 0 (length old.arrays.current)) [
+    | inr empty ↦ inl (inl (inl (omega (arith, empty))))
+    | inl stands ↦ inr (before_on 32 side index (length old.arrays.current) found.map
+        (found_len kind n old.arrays side index new.arrays found.found stands) found.home
+        (held kind (bucket_on new.arrays side index) other (laws_on side index found.home) none))
+  ]
 
   -- where an old array isn't longer, a source of a current home is the old home
   old_home : (index i : ℕ) → IsHome (length new.arrays.current) n index → i < length new.arrays.linked
@@ -147,55 +172,64 @@ module _ {K V H : Type 0} (kind : ℕ) (hash_of : H → K → ℕ) (key : K) (n 
       let there : kept.index ≡ one.0 = (one.2 kept.index kept.home.within).0 (homes_meet from to kept.index index n kept.home home) in
       subst (IsHome from n) (there ∙ sym here) kept.home
 
-  -- where no bucket was found, the old home has 32 pairs if arrays stand and grow
-  pub old_full : IsRefused kind n old new → ((length new.arrays.current ≡ 0) ⊎ (length new.arrays.current < length new.arrays.linked))
-      ⊎ ((i : ℕ) × IsHome (length new.arrays.linked) n i × (32 ≤ length (pairs_in (bucket_at new.arrays.linked i))))
+  -- where no bucket was found, the old home had more than 32 pairs if arrays stood and grew
+  pub old_full : IsRefused kind n old new → ((length old.arrays.current ≡ 0) ⊎ (length old.arrays.current < length old.arrays.linked))
+      ⊎ ((i : ℕ) × IsHome (length new.arrays.linked) n i × (33 ≤ length (pairs_in (bucket_at old.arrays.linked i)))
+      × (bucket_at new.arrays.linked i ≡ bucket_at old.arrays.linked i) × (length new.arrays.linked ≡ length old.arrays.linked))
   old_full refused = elim (cases_lt 0 (length new.arrays.current)) [
-    | inr none ↦ inl (inl (omega (arith, none)))
-    | inl stands ↦ elim (cases_lt (length new.arrays.current) (length new.arrays.linked)) [
-      | inl shorter ↦ inl (inr shorter)
-      | inr longer ↦ inr (from_source (refused.home stands) longer)
-    ]
+    | inr none ↦ inl (inl (omega (arith, none, refused.prepared.kept.current_len)))
+    | inl stands ↦ from_source (refused.home stands)
   ]
     where
-      from_source : HomeWantsMemory n old.arrays new.arrays → length new.arrays.linked ≤ length new.arrays.current
-          → (i : ℕ) × IsHome (length new.arrays.linked) n i × (32 ≤ length (pairs_in (bucket_at new.arrays.linked i)))
-      from_source (index, home, wants) longer =
+      from_source : HomeWantsMemory n old.arrays new.arrays
+          → ((length old.arrays.current ≡ 0) ⊎ (length old.arrays.current < length old.arrays.linked))
+          ⊎ ((i : ℕ) × IsHome (length new.arrays.linked) n i × (33 ≤ length (pairs_in (bucket_at old.arrays.linked i)))
+          × (bucket_at new.arrays.linked i ≡ bucket_at old.arrays.linked i) × (length new.arrays.linked ≡ length old.arrays.linked))
+      from_source (index, home, wants) =
           let i = wants.index in
           let run = refused.prepared.units.stands (omega (arith, wants.within)) in
-          let was = bucket_at old.arrays.linked i in
-          let many : 32 ≤ length (pairs_in was) = elim (cases_lt 32 (length (pairs_in was))) [
-            | inl more ↦ omega (arith, more)
-            | inr less ↦ absurd (wants.needed (record {
-              no_shorter = omega (arith, longer, run.len, refused.prepared.kept.current_len);
-              few = λ j low high.
-                  let same : i ≡ j = omega (arith, low, high) in
-                  subst (λ (k : ℕ). length (pairs_in (bucket_at old.arrays.linked k)) ≤ 32) same less;
-            }))
-          ] in
-          let still : bucket_at new.arrays.linked i ≡ was = elim (run.spent i) [
-            | inl same ↦ same
-            | inr spent ↦ absurd (false≢true (sym wants.alive ∙ spent.0))
-          ] in
-          (i, old_home index i home wants.within wants.one longer, subst (λ (b : BucketView K V). 32 ≤ length (pairs_in b)) (sym still) many)
+          let len = refused.prepared.kept.current_len in
+          elim (cases_lt (length old.arrays.current) (length old.arrays.linked)) [
+            | inl shorter ↦ inl (inr shorter)
+            | inr longer ↦
+                let many : 33 ≤ length (pairs_in (bucket_at old.arrays.linked i)) =
+                elim (cases_lt 32 (length (pairs_in (bucket_at old.arrays.linked i)))) [
+                  | inl more ↦ omega (arith, more)
+                  | inr less ↦ absurd (wants.needed (record {
+                    no_shorter = omega (arith, longer);
+                    few = λ j low high.
+                        let same : i ≡ j = omega (arith, low, high) in
+                        subst (λ (k : ℕ). length (pairs_in (bucket_at old.arrays.linked k)) ≤ 32) same less;
+                  }))
+                ] in
+                let still : bucket_at new.arrays.linked i ≡ bucket_at old.arrays.linked i = elim (run.spent i) [
+                  | inl same ↦ same
+                  | inr spent ↦ absurd (false≢true (sym wants.alive ∙ spent.0))
+                ] in
+                inr (i, old_home index i home wants.within wants.one (omega (arith, longer, len, run.len)), many, still, run.len)
+          ]
 
   -- no bucket was found
-  pub none_found : IsRefused kind n old new → LacksRoom hash_of key (map_of new)
-  unfolding LacksRoom
+  pub none_found : IsRefused kind n old new → LacksBucket hash_of key (map_of old)
   none_found refused = elim (old_full refused) [
     | inl (inl none) ↦ inl (inl (omega (arith, none)))
     | inl (inr shorter) ↦ inl (inr (omega (arith, shorter)))
-    | inr (i, home, many) ↦ crowded_on Old i home many
+    | inr (i, home, many, still, len) ↦ inr (before_on 33 Old i (length old.arrays.linked) refused.prepared.map len home
+        (subst (λ (b : BucketView K V). 33 ≤ length (pairs_in b)) (sym still) many))
   ]
+
+  pub none_found_room : IsRefused kind n old new → LacksRoom hash_of key (map_of old)
+  unfolding LacksRoom
+  none_found_room refused = inl (none_found refused)
 
 -- a table in which a bucket was looked for, and that is as it was then
 module _ {K V H : Type 0} (kind : ℕ) (hash_of : H → K → ℕ) (key : K) (old between new : TableView K V H)
     (kept : KeepsPairs (state_of kind old) (state_of kind new)) (is : new ≡ between) where
-  pub home_found : (side : Side) (index : ℕ) → IsHome (length (buckets_on between.arrays side)) (hash_of old.hasher key) index
-      → IsHome (length (buckets_on new.arrays side)) (hash_of new.hasher key) index
-  home_found side index home =
-      subst (λ (h : H). IsHome (length (buckets_on new.arrays side)) (hash_of h key) index) (sym (hasher_kept _ _ kept))
-      (subst (λ (t : TableView K V H). IsHome (length (buckets_on t.arrays side)) (hash_of old.hasher key) index) (sym is) home)
+  pub found_some : (side : Side) (index : ℕ) → FindsBucket kind (hash_of old.hasher key) old side index between
+      → FindsBucket kind (hash_of new.hasher key) old side index new
+  found_some side index found =
+      subst (λ (h : H). FindsBucket kind (hash_of h key) old side index new) (sym (hasher_kept _ _ kept))
+      (subst (λ (t : TableView K V H). FindsBucket kind (hash_of old.hasher key) old side index t) (sym is) found)
 
   pub found_none : IsRefused kind (hash_of old.hasher key) old between → IsRefused kind (hash_of new.hasher key) old new
   found_none refused =
@@ -207,7 +241,7 @@ module _ {K V H : Type 0} (hash_of : H → K → ℕ) (key : K) (old new : Table
     (linked : 0 < length new.arrays.linked → KeepsHome 67 (hash_of new.hasher key) new.arrays.linked) (keeps : Bool) (value : V) where
   put_by : (k : K) (v : V) (answer : Result (Side × ℕ) (Unit {0})) (between : TableView K V H)
       → KeepsPairs (state_of 67 old) (state_of 67 new) → Finds 67 (hash_of old.hasher key) old answer between
-      → PutsAt keeps (key, value) (hash_of old.hasher key % 256) between (Err (Memory k v)) answer new → LacksRoom hash_of key (map_of new)
+      → PutsAt keeps (key, value) (hash_of old.hasher key % 256) between (Err (Memory k v)) answer new → LacksBucket hash_of key (map_of old)
   put_by k v (Ok at) between kept found none = absurd none
   put_by k v (Err e) between kept refused is = none_found 67 hash_of key (hash_of new.hasher key) old new refl placed current linked
       (found_none 67 hash_of key old between new kept is refused)
@@ -217,7 +251,7 @@ module _ {K V H : Type 0} (hash_of : H → K → ℕ) (key : K) (old new : Table
       → Puts eq key value (state_of 67 old) result (state_of 67 new)
       → FindsThen 67 (hash_of old.hasher key) old
       (λ answer between. PutsAt keeps (key, value) (hash_of old.hasher key % 256) between result answer new)
-      → result ≡ Err (Memory k v) → LacksRoom hash_of key (map_of new)
+      → result ≡ Err (Memory k v) → LacksBucket hash_of key (map_of old)
   put_lacks eq result k v map finds is =
       put_by k v finds.answer finds.between
       (subst (λ (r : Result (Option (K × V)) (NotInserted K V)). Puts eq key value (state_of 67 old) r (state_of 67 new)) is map).1 finds.found
@@ -229,20 +263,20 @@ module _ {K V H : Type 0} (hash_of : H → K → ℕ) (key : K) (old new : Table
     (linked : 0 < length new.arrays.linked → KeepsHome 83 (hash_of new.hasher key) new.arrays.linked) (keeps : ℕ → Bool) where
   refused_by : (answer : Result (Side × ℕ) (Unit {0})) (between : TableView K V H) → KeepsPairs (state_of 83 old) (state_of 83 new)
       → Finds 83 (hash_of old.hasher key) old answer between → new ≡ between
-      → IfOk answer (λ at. HasNoSlot 83 keeps (bucket_on between.arrays at.0 at.1)) → LacksRoom hash_of key (map_of new)
+      → IfOk answer (λ at. HasNoSlot 83 keeps (bucket_on between.arrays at.0 at.1)) → LacksRoom hash_of key (map_of old)
   refused_by (Ok at) between kept finds is none =
       found_full 83 hash_of key (hash_of new.hasher key) old new refl placed current linked (λ e. omega arith) at.0 at.1
-      (home_found 83 hash_of key old between new kept is at.0 at.1 finds.home)
+      (found_some 83 hash_of key old between new kept is at.0 at.1 finds)
       (subst (λ (t : TableView K V H). HasNoSlot 83 keeps (bucket_on t.arrays at.0 at.1)) (sym is) none)
   refused_by (Err e) between kept refused is none =
-      none_found 83 hash_of key (hash_of new.hasher key) old new refl placed current linked
+      none_found_room 83 hash_of key (hash_of new.hasher key) old new refl placed current linked
       (found_none 83 hash_of key old between new kept is refused)
 
   module _ (value : V) where
     inserted_by : (A : Type 0) (k : K) (v : V) (answer : Result (Side × ℕ) (Unit {0})) (between : TableView K V H)
         → KeepsPairs (state_of 83 old) (state_of 83 new) → Finds 83 (hash_of old.hasher key) old answer between
         → InsertsAt {A = A} 83 keeps (key, value) (hash_of old.hasher key % 256) between (Err (Memory k v)) answer new
-        → LacksRoom hash_of key (map_of new)
+        → LacksRoom hash_of key (map_of old)
     inserted_by A k v (Ok at) between kept found done = refused_by (Ok at) between kept found done.1 done.0
     inserted_by A k v (Err e) between kept found done = refused_by (Err e) between kept found done tt
 
@@ -251,7 +285,7 @@ module _ {K V H : Type 0} (hash_of : H → K → ℕ) (key : K) (old new : Table
         → Inserts eq key value (state_of 83 old) result (state_of 83 new)
         → FindsThen 83 (hash_of old.hasher key) old
         (λ answer between. InsertsAt 83 keeps (key, value) (hash_of old.hasher key % 256) between result answer new)
-        → result ≡ Err (Memory k v) → LacksRoom hash_of key (map_of new)
+        → result ≡ Err (Memory k v) → LacksRoom hash_of key (map_of old)
     insertion_lacks {A} eq result k v map finds is =
         inserted_by A k v finds.answer finds.between
         (subst (λ (r : Result A (NotInserted K V)). Inserts eq key value (state_of 83 old) r (state_of 83 new)) is map).1 finds.found
@@ -260,7 +294,7 @@ module _ {K V H : Type 0} (hash_of : H → K → ℕ) (key : K) (old new : Table
 
     upserted_by : (eq : K → K → Bool) (back : K × V) (answer : Result (Side × ℕ) (Unit {0})) (between : TableView K V H)
         → KeepsPairs (state_of 83 old) (state_of 83 new) → Finds 83 (hash_of old.hasher key) old answer between
-        → UpsertsAt eq 83 keeps key value (hash_of old.hasher key % 256) between (Err back) answer new → LacksRoom hash_of key (map_of new)
+        → UpsertsAt eq 83 keeps key value (hash_of old.hasher key % 256) between (Err back) answer new → LacksRoom hash_of key (map_of old)
     upserted_by eq back (Ok at) between kept found done = refused_by (Ok at) between kept found done.1 done.0
     upserted_by eq back (Err e) between kept found done = refused_by (Err e) between kept found done tt
 
@@ -268,5 +302,5 @@ module _ {K V H : Type 0} (hash_of : H → K → ℕ) (key : K) (old new : Table
     pub upsertion_lacks : (eq : K → K → Bool) (back : K × V) → Upserts eq key value (state_of 83 old) (Err back) (state_of 83 new)
         → FindsThen 83 (hash_of old.hasher key) old
         (λ answer between. UpsertsAt eq 83 keeps key value (hash_of old.hasher key % 256) between (Err back) answer new)
-        → LacksRoom hash_of key (map_of new)
+        → LacksRoom hash_of key (map_of old)
     upsertion_lacks eq back map finds = upserted_by eq back finds.answer finds.between map.2 finds.found finds.done

@@ -2,27 +2,27 @@
 use Rattle.std.proofs.Common.{ℕ, ◌≡◌, ◌≤◌, ◌<◌, ◌+◌, ◌%◌, ◌++◌, Bool, true, false, if◌then◌else◌, None, Result, Ok, Err, List, [], ◌∷◌}
 use Rattle.std.proofs.Common.{length, map, inl, inr, refl, sym, subst, ap, ◌∙◌, arith, length-append}
 use Rattle.std.specs.List.{list_any}
-use Rattle.std.proofs.lemmas.Bool.{cases_Bool, true≢false}
+use Rattle.std.proofs.lemmas.Bool.{cases_Bool, cases_lt, true≢false}
 use Rattle.std.proofs.lemmas.List.Elements.{filter-append, filter_map-append}
 use Rattle.std.proofs.lemmas.List.Sums.{sum_by-append, sum_by-cons}
 use Rattle.bucket_slots.specs.BucketLaws.{IsBucketOf}
 use Rattle.bucket_slots.specs.BucketView.{BucketView, first_place, flattened, marks_in, pairs_in}
 use Rattle.bucket_slots.specs.Clearing.{is_full_with_marks, slot_without_expired, slots_without_expired}
+use Rattle.bucket_slots.specs.Homes.{IsHome}
 use Rattle.bucket_slots.specs.Slots.{Slot, free, free_len, is_free, live, live_pairs, marked, marked_entries, marked_entry}
 use Rattle.bucket_slots.proofs.Counting.{length-live_pairs-append, tally}
 use Rattle.bucket_slots.proofs.RoomCallerLemmas.{free_len_in-none}
 use Rattle.bucket_table.specs.Map.ByKey.{HasNoSlot, Inserts, InsertsAt}
 use Rattle.bucket_table.specs.Map.Finding.{Finds, FindsThen}
 use Rattle.bucket_table.specs.Map.MapState.{KeepsPairs, state_of}
-use Rattle.bucket_table.specs.Map.Refusing.{IsRefused}
 use Rattle.bucket_table.specs.Views.ArraysView.{ArePlaced, TableView}
 use Rattle.bucket_table.specs.Views.Sides.{bucket_on, buckets_on}
 use Rattle.bucket_table.specs.declared.arrays.side.Side.{Side}
-use Rattle.bucket_table.specs.declared.arrays.side.Side.TheVariants.{Current, Old}
+use Rattle.bucket_table.proofs.Map.MapKept.{hasher_kept}
 use Rattle.bucket_table.specs.declared.hash_table.NotInserted.{NotInserted}
 use Rattle.bucket_table.specs.declared.hash_table.NotInserted.TheVariants.{Memory}
 use Rattle.collections.specs.Crowding.{IsFull, KeepsHome, LacksSlots}
-use Rattle.collections.proofs.Crowding.{found_none, home_found, laws_on, old_full}
+use Rattle.collections.proofs.Crowding.{found_len, found_none, found_some, laws_on, none_found}
 use Rattle.collections.proofs.InsertedMarks.{kept}
 
 module _ {K V : Type 0} where
@@ -102,40 +102,38 @@ module _ {K V : Type 0} where
 module _ {K V H : Type 0} (hash_of : H → K → ℕ) (key : K) (old new : TableView K V H) (placed : ArePlaced (hash_of new.hasher) new.arrays)
     (current : 0 < length new.arrays.current → KeepsHome 79 (hash_of new.hasher key) new.arrays.current)
     (linked : 0 < length new.arrays.linked → KeepsHome 79 (hash_of new.hasher key) new.arrays.linked) (keeps : ℕ → Bool) (value : V) where
-  full_on : (side : Side) → IsFull keeps (hash_of new.hasher key) (buckets_on new.arrays side)
-      → LacksSlots keeps (hash_of new.hasher key) new.arrays
-  unfolding LacksSlots
-  full_on Current is = inr (inl is)
-  full_on Old is = inr (inr is)
-
-  none_found : IsRefused 79 (hash_of new.hasher key) old new → LacksSlots keeps (hash_of new.hasher key) new.arrays
-  unfolding LacksSlots
-  none_found refused = elim (old_full 79 hash_of key (hash_of new.hasher key) old new refl placed current linked refused) [
-    | inl lacks ↦ inl lacks
-    | inr (i, home, many) ↦ inr (inr (record { index = i; home = home; many = omega (arith, many) }))
-  ]
-
   inserted_by : (A : Type 0) (k : K) (v : V) (answer : Result (Side × ℕ) (Unit {0})) (between : TableView K V H)
       → KeepsPairs (state_of 79 old) (state_of 79 new) → Finds 79 (hash_of old.hasher key) old answer between
       → InsertsAt {A = A} 79 keeps (key, value) (hash_of old.hasher key % 256) between (Err (Memory k v)) answer new
-      → LacksSlots keeps (hash_of new.hasher key) new.arrays
-  inserted_by A k v (Ok at) between holds finds done =
-      let home = home_found 79 hash_of key old between new holds done.1 at.0 at.1 finds.home in
-      full_on at.0 (record {
-        index = at.1;
-        home = home;
-        many = full keeps (bucket_on new.arrays at.0 at.1)
-            (laws_on 79 hash_of key (hash_of new.hasher key) old new refl placed current linked at.0 at.1 home)
-            (subst (λ (t : TableView K V H). HasNoSlot 79 keeps (bucket_on t.arrays at.0 at.1)) (sym done.1) done.0);
-      })
-  inserted_by A k v (Err e) between holds refused done = none_found (found_none 79 hash_of key old between new holds done refused)
+      → LacksSlots keeps hash_of key old new
+  unfolding LacksSlots
+  inserted_by A k v (Ok at) between holds finds done = elim (cases_lt 0 (length old.arrays.current)) [
+    | inr empty ↦ inl (inl (inl (omega (arith, empty))))
+    | inl stands ↦
+        let found = found_some 79 hash_of key old between new holds done.1 at.0 at.1 finds in
+        let full_there = full keeps (bucket_on new.arrays at.0 at.1)
+        (laws_on 79 hash_of key (hash_of new.hasher key) old new refl placed current linked at.0 at.1 found.home)
+        (subst (λ (t : TableView K V H). HasNoSlot 79 keeps (bucket_on t.arrays at.0 at.1)) (sym done.1) done.0) in
+        inr (
+          at.0,
+          found_len 79 (hash_of new.hasher key) old.arrays at.0 at.1 new.arrays found.found stands,
+          record {
+            index = at.1;
+            home = subst (λ (h : H). IsHome (length (buckets_on new.arrays at.0)) (hash_of h key) at.1) (hasher_kept _ _ holds) found.home;
+            many = full_there;
+          },
+        )
+  ]
+  inserted_by A k v (Err e) between holds refused done =
+      inl (none_found 79 hash_of key (hash_of new.hasher key) old new refl placed current linked
+      (found_none 79 hash_of key old between new holds done refused))
 
   -- a pair that came back from an insertion for want of memory
   pub index_lacks : {A : Type 0} (eq : K → K → Bool) (result : Result A (NotInserted K V)) (k : K) (v : V)
       → Inserts eq key value (state_of 79 old) result (state_of 79 new)
       → FindsThen 79 (hash_of old.hasher key) old
       (λ answer between. InsertsAt 79 keeps (key, value) (hash_of old.hasher key % 256) between result answer new)
-      → result ≡ Err (Memory k v) → LacksSlots keeps (hash_of new.hasher key) new.arrays
+      → result ≡ Err (Memory k v) → LacksSlots keeps hash_of key old new
   index_lacks {A} eq result k v map finds is =
       inserted_by A k v finds.answer finds.between
       (subst (λ (r : Result A (NotInserted K V)). Inserts eq key value (state_of 79 old) r (state_of 79 new)) is map).1 finds.found

@@ -4,6 +4,7 @@ pub mod Lookups
 pub mod Steps
 pub mod Shrinking
 pub mod Crowding
+pub mod Slots
 pub mod Found
 pub mod InsertedMarks
 pub mod Marks

@@ -1,7 +1,5 @@
--- That no mark is new where a table inserts, and where it resizes.
-use Rattle.std.proofs.Common.{ℕ, ◌≡◌, inl, inr, Bool, true, false, Result, Ok, Err, List, ◌+◌}
-use Rattle.std.proofs.Common.{◌-◌, ap, sym, subst}
-use Rattle.std.proofs.lemmas.Bool.{cases_lt}
+-- That no mark is new where a table inserts.
+use Rattle.std.proofs.Common.{ℕ, ◌≡◌, Bool, true, false, Result, Ok, Err, List, ap, sym, subst}
 use Rattle.std.specs.List.{Contains}
 use Rattle.std.proofs.lemmas.List.Elements.{All-contains, All-contains_itself, All-filter}
 use Rattle.bucket_slots.specs.BucketView.{BucketView, marks_in}
@@ -13,10 +11,8 @@ use Rattle.bucket_table.specs.Views.Sides.{arrays_with, bucket_on}
 use Rattle.bucket_table.specs.Rehash.Relocation.{marks_among}
 use Rattle.bucket_table.specs.Map.ByKey.{InsertsAt}
 use Rattle.bucket_table.specs.Map.Finding.{Finds, FindsThen}
-use Rattle.bucket_table.specs.Resize.Resizing.{Releases, Reserves, TriesResize, with_minimum}
 use Rattle.bucket_table.specs.declared.hash_table.NotInserted.{NotInserted}
 use Rattle.bucket_table.specs.declared.hash_table.NotInserted.TheVariants.{Memory, Present}
-use Rattle.bucket_table.proofs.Resize.Following.{given_up_keeps, pushed_keeps}
 use Rattle.bucket_table.proofs.Views.MarksKept.{marks_among-set}
 use Rattle.bucket_table.specs.declared.arrays.side.Side.{Side}
 use Rattle.bucket_table.specs.declared.arrays.side.Side.TheVariants.{Current, Old}
@@ -50,32 +46,6 @@ module _ {K V : Type 0} where
 
   no_new-arrays : (old new : ArraysView K V) → new ≡ old → HasNoNewMark (marks_of old) (marks_of new)
   no_new-arrays old new same = no_new-same (marks_of old) (marks_of new) (ap (λ (arrays : ArraysView K V). marks_of arrays) same)
-
-  -- nor does a resize
-  no_new-tried : {E : Type 0} (old new : ArraysView K V) (answer : Result Bool E) → TriesResize old answer new
-      → HasNoNewMark (marks_of old) (marks_of new)
-  no_new-tried old new (Ok false) tries = no_new-arrays old new tries.1
-  no_new-tried old new (Ok true) (inl gone) = (given_up_keeps old new gone.1).marks
-  no_new-tried old new (Ok true) (inr moved) = (pushed_keeps moved.0 old new moved.2).marks
-  no_new-tried old new (Err refused) tries = no_new-arrays old new tries.2
-
-  pub no_new-reserves : (additional answer : ℕ) (old new : ArraysView K V) → Reserves additional old answer new
-      → HasNoNewMark (marks_of old) (marks_of new)
-  no_new-reserves additional answer old new reserves = elim (cases_lt (old.maximum - old.minimum) additional) [
-    | inl much ↦ no_new-arrays old new (reserves.too_much much).1
-    | inr fits ↦
-        let done = (reserves.raised fits).1 in
-        no_new-tried (with_minimum old (old.minimum + additional)) new done.0 done.1
-  ]
-
-  pub no_new-releases : (released answer : ℕ) (old new : ArraysView K V) → Releases released old answer new
-      → HasNoNewMark (marks_of old) (marks_of new)
-  no_new-releases released answer old new releases = elim (cases_lt old.minimum released) [
-    | inl much ↦ no_new-arrays old new (releases.too_much much).1
-    | inr fits ↦
-        let done = (releases.lowered fits).1 in
-        no_new-tried (with_minimum old (old.minimum - released)) new done.0 done.1
-  ]
 
 module _ {K V H : Type 0} (kind hash : ℕ) (old new : TableView K V H) where
   found : {E : Type 0} (answer : Result (Side × ℕ) E) → Finds kind hash old answer new

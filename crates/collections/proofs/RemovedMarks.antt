@@ -2,7 +2,8 @@
 use Rattle.bucket_table.specs.declared.arrays.side.Side.{Side}
 use Rattle.bucket_table.specs.declared.arrays.side.Side.TheVariants.{Current, Old}
 use Rattle.std.proofs.Common.{ℕ, ◌≡◌, ◌<◌, ◌++◌, inl, inr, Bool, true, false, Some, List, [], ◌∷◌, length, replicate, zero, suc, refl}
-use Rattle.std.proofs.Common.{sym, ap, subst, ◌∙◌, append-nil}
+use Rattle.std.proofs.Common.{Result, sym, ap, subst, ◌+◌, ◌-◌, ◌∙◌, append-nil}
+use Rattle.std.proofs.lemmas.Bool.{cases_lt}
 use Rattle.std.specs.List.Sorted.{IsPermutation}
 use Rattle.std.proofs.lemmas.List.{nil_from_length}
 use Rattle.std.proofs.lemmas.List.Sorted.{Contains-permutation, IsPermutation-append_right, IsPermutation-sym, IsPermutation-trans}
@@ -19,11 +20,11 @@ use Rattle.bucket_table.specs.Map.ByKey.{ShrinksAt}
 use Rattle.bucket_table.specs.Map.LookingUp.{IsThere}
 use Rattle.bucket_table.specs.Map.Preparing.{IsPrepared}
 use Rattle.bucket_table.specs.Rehash.Relocation.{marks_among}
-use Rattle.bucket_table.specs.Resize.Resizing.{IsMade, IsPushed}
+use Rattle.bucket_table.specs.Resize.Resizing.{IsMade, IsPushed, Releases, Reserves, TriesResize, with_minimum}
 use Rattle.bucket_table.specs.Views.ArraysView.{ArraysView, TableView, marks_of, pairs_of}
 use Rattle.bucket_table.specs.Views.Sides.{arrays_with, bucket_on, buckets_on}
-use Rattle.collections.specs.Marks.{AddsMark, AreEarlierMarks, MarksRemoved}
-use Rattle.collections.proofs.Shrinking.{none_left, removed_ends}
+use Rattle.collections.specs.Marks.{AddsMark, AreEarlierMarks, KeepsMarks, MarksRemoved}
+use Rattle.collections.proofs.Shrinking.{none_left, removed_ends, tried}
 use Rattle.collections.proofs.StayingMarks.{in_buckets, on_side}
 
 module _ {K V : Type 0} where
@@ -114,3 +115,29 @@ module _ {K V H : Type 0} (wants : K → Bool) (epoch hash : ℕ) (old between n
         | inr (inl gone) ↦ inr (none_left mid new.arrays gone)
         | inr (inr (capacity, pushed)) ↦ inl (adds (marks_of-pushed capacity mid new.arrays pushed))
       ]
+
+-- a resize keeps the marks, or leaves no array
+module _ {K V : Type 0} where
+  marks_tried : {E : Type 0} (old mid new : ArraysView K V) (answer : Result Bool E) → marks_of mid ≡ marks_of old
+      → TriesResize mid answer new → KeepsMarks old new
+  marks_tried old mid new answer same tries = elim (tried mid new answer tries) [
+    | inl is ↦ inl (ap (λ (a : ArraysView K V). marks_of a) is ∙ same)
+    | inr (inl gone) ↦ inr (none_left mid new gone)
+    | inr (inr (capacity, pushed)) ↦ inl (marks_of-pushed capacity mid new pushed ∙ same)
+  ]
+
+  pub marks_reserved : (additional answer : ℕ) (old new : ArraysView K V) → Reserves additional old answer new → KeepsMarks old new
+  marks_reserved additional answer old new reserves = elim (cases_lt (old.maximum - old.minimum) additional) [
+    | inl much ↦ inl (ap (λ (a : ArraysView K V). marks_of a) (reserves.too_much much).1)
+    | inr fits ↦
+        let done = (reserves.raised fits).1 in
+        marks_tried old (with_minimum old (old.minimum + additional)) new done.0 refl done.1
+  ]
+
+  pub marks_released : (released answer : ℕ) (old new : ArraysView K V) → Releases released old answer new → KeepsMarks old new
+  marks_released released answer old new releases = elim (cases_lt old.minimum released) [
+    | inl much ↦ inl (ap (λ (a : ArraysView K V). marks_of a) (releases.too_much much).1)
+    | inr fits ↦
+        let done = (releases.lowered fits).1 in
+        marks_tried old (with_minimum old (old.minimum - released)) new done.0 refl done.1
+  ]

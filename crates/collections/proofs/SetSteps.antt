@@ -1,10 +1,12 @@
 -- A key of a set is taken out, and another is put.
-use Rattle.std.proofs.Common.{◌≡◌, Bool, Option, Some, None, Ok, ◌∷◌, sym, ◌∙◌, arith}
+use Rattle.std.proofs.Common.{ℕ, ◌≡◌, Bool, true, false, Option, Some, None, Ok, ◌∷◌, ap, is_some, sym, ◌∙◌, arith}
+use Rattle.std.proofs.lemmas.Bool.{true≢false}
 use Rattle.std.specs.Cmp.{IsEquivalence}
 use Rattle.std.proofs.lemmas.List.Sorted.{IsPermutation-cons, IsPermutation-trans}
-use Rattle.collections.specs.Changes.{SetRemoves, Stays, Takes, Upserts}
-use Rattle.collections.specs.Maps.{MapView, get}
-use Rattle.collections.specs.SetChanges.{SetReplaces}
+use Rattle.collections.specs.Changes.{Adds, SetRemoves, Stays, Takes, Upserts}
+use Rattle.collections.specs.Crowding.{LacksRoom}
+use Rattle.collections.specs.Maps.{MapView, contains, get}
+use Rattle.collections.specs.SetChanges.{LacksRoomAfter, SetAdds, SetReplaces}
 use Rattle.collections.proofs.Staying.{adds_after, stays_after}
 use Rattle.collections.proofs.StoredKeys.{replaced_key}
 
@@ -48,3 +50,14 @@ module _ {K H : Type 0} (eq : K → K → Bool) (laws : IsEquivalence eq) (key :
       → SetRemoves eq (eq key) old earlier new
   not_replaced None none stays = (none.0, stays_after eq old between new none.1 stays)
   not_replaced (Some own) taken stays = takes_then eq old between new key (own, tt) taken stays
+
+  -- where the key was absent it was put
+  pub put_absent : (answer : Bool) → contains eq old key ≡ false → SetAdds eq key old (Ok answer) new → Adds eq old key tt new
+  put_absent true absent added = added
+  put_absent false absent (there, stays) = absurd (true≢false (sym there ∙ absent))
+
+  -- room was lacking then
+  pub lacks_after : (hash_of : H → K → ℕ) (earlier : Option K) → contains eq old key ≡ true → SetRemoves eq (eq key) old earlier between
+      → LacksRoom hash_of key between → LacksRoomAfter eq key hash_of old earlier
+  lacks_after hash_of None there (absent, stays) lacks = absurd (true≢false (sym there ∙ ap is_some absent))
+  lacks_after hash_of (Some own) there taken lacks = (between, taken, lacks)

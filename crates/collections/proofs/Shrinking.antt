@@ -14,7 +14,7 @@ module _ {K V : Type 0} where
   abbrev pub Ends : ArraysView K V → ArraysView K V → Type 0
   Ends old new = (new ≡ old) ⊎ (((old.minimum ≡ 0) × IsGivenUp old new) ⊎ ((capacity : ℕ) × IsPushed capacity old new))
 
-  tried : {E : Type 0} (old new : ArraysView K V) (answer : Result Bool E) → TriesResize old answer new → Ends old new
+  pub tried : {E : Type 0} (old new : ArraysView K V) (answer : Result Bool E) → TriesResize old answer new → Ends old new
   tried old new (Ok false) tries = inl tries.1
   tried old new (Ok true) (inl gone) = inr (inl (gives_up_at_zero old gone.0, gone.1))
   tried old new (Ok true) (inr moved) = inr (inr (moved.0, moved.2))

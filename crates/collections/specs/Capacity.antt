@@ -43,12 +43,13 @@ module _ {K V H : Type 0} where
     pub none : IsEmpty map → map.slots ≡ 0
     pub some : (IsEmpty map → ⊥) → IsSlotsFor (map_len map) map.slots
 
-  -- room is made for so many pairs more, and no slot goes, unless allocation fails; where there is room already, and where they are too
-  -- many, nothing changes
+  -- room is made for so many pairs more, by the least number of slots for them all, or those that there are, unless allocation fails, and no slot goes;
+  -- where there is room already, and where they are too many, nothing changes
   pub record MakesRoom {E : Type 0} (eq : K → K → Bool) (more : ℕ) (old : MapView K V H) (answer : Result (Unit {0}) E) (new : MapView K V H) : Type 0 where
     pub stays : Stays eq old new
     pub room : OnOk answer (HasRoomFor more new)
-    pub no_fewer : OnOk answer (old.slots ≤ new.slots)
+    pub slots : OnOk answer ((HasRoomFor more old → ⊥) → TakesSlots (map_len old + more) old new)
+    pub no_fewer : old.slots ≤ new.slots
     pub ready : HasRoomFor more old → (answer ≡ Ok tt) × (new ≡ old)
     pub too_many : AreTooMany (map_len old + more) → IsErr answer × (new ≡ old)
 

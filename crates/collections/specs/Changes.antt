@@ -142,8 +142,10 @@ module _ {K V H : Type 0} (eq : K → K → Bool) where
     pub slots : new.slots ≡ old.slots
     pub old_slots : new.old_slots ≡ old.old_slots
 
--- an error was made of a pair that wasn't put for want of memory: the key, and a value that was made
-pub record FailsToAdd {K V E : Type 0} (gives : AllocFailed (K × V) → E → Type 0) (IsMade : V → Type 0) (key : K) (why : E) : Type 0 where
+-- an error was made of a pair that wasn't put, for which room is lacking: the key, and a value that was made
+pub record FailsToAdd {K V E : Type 0} (gives : AllocFailed (K × V) → E → Type 0) (IsMade : V → Type 0) (key : K) (Lacks : Type 0) (why : E)
+    : Type 0 where
+  pub lacks : Lacks
   pub back : AllocFailed (K × V)
   pub same_key : back.value.0 ≡ key
   pub made : IsMade back.value.1

@@ -1,13 +1,15 @@
 -- Many pairs or keys put in turn, as an iterator gives them.
-use Rattle.std.specs.Prelude.{◌≡◌, ◌||◌, ◌^◌, Bool, List, [], Option, Some, None, Result, Ok, Err, MatchBool, map}
+use Rattle.std.specs.Prelude.{ℕ, ◌≡◌, ◌||◌, ◌^◌, Bool, List, [], Option, Some, None, Result, Ok, Err, MatchBool, map}
 use Rattle.std.specs.Borrow.{Bor}
 use Rattle.std.specs.Iterator.{YieldsThen}
 use Rattle.std.specs.List.{FoldsTo, list_any}
 use Rattle.std.specs.Map.{update_all}
 use Rattle.std.specs.declared.alloc.AllocFailed.{AllocFailed}
 use Rattle.collections.specs.Changes.{Adds, Keeps, Stays}
+use Rattle.collections.specs.Crowding.{LacksRoom}
 use Rattle.collections.specs.Loans.{Puts}
 use Rattle.collections.specs.Maps.{MapView, contains, get}
+use Rattle.collections.specs.Slots.{GrowsSlots}
 
 -- a map as it is made: it has no pair and no slot
 abbrev pub empty_map : {K V H : Type 0} → H → MapView K V H
@@ -27,13 +29,20 @@ module _ {K V H : Type 0} (eq : K → K → Bool) where
     pub gets : (key : K) → get eq new key ≡ update_all eq (get eq old) pairs key
     pub kept : Keeps eq old new
 
-  -- what an iterator gives is put, all of it; or if allocation fails what came before a pair whose key is absent: that comes back,
-  -- and the iterator has what follows it
-  abbrev pub PutsFrom : {S : Type 0} → (S → Option (K × V) → S → Type 0) → S → MapView K V H → Result (Unit {0}) (AllocFailed (K × V))
-      → MapView K V H → S → Type 0
-  PutsFrom steps first old (Ok done) new last = (pairs : List (K × V)) × YieldsThen steps first pairs None last × PutsAll old pairs new
-  PutsFrom steps first old (Err back) new last = (pairs : List (K × V)) × YieldsThen steps first pairs (Some back.value) last
+  -- each is put as an upsert puts it, from one map to the next
+  abbrev pub UpsertsEach : (H → K → ℕ) → MapView K V H → List (K × V) → MapView K V H → Type 0
+  UpsertsEach hash_of old pairs new =
+      FoldsTo (λ before pair after. Puts eq before pair.0 pair.1 after × GrowsSlots hash_of pair.0 before after) old pairs new
+
+  -- what an iterator gives is put, all of it; or if allocation fails what came before a pair that an upsert then hands back, for want of
+  -- room in the map of that moment, and the iterator has what follows it
+  abbrev pub PutsFrom : {S : Type 0} → (H → K → ℕ) → (S → Option (K × V) → S → Type 0) → S → MapView K V H
+      → Result (Unit {0}) (AllocFailed (K × V)) → MapView K V H → S → Type 0
+  PutsFrom hash_of steps first old (Ok done) new last = (pairs : List (K × V)) × YieldsThen steps first pairs None last × PutsAll old pairs new
+      × UpsertsEach hash_of old pairs new
+  PutsFrom hash_of steps first old (Err back) new last = (pairs : List (K × V)) × YieldsThen steps first pairs (Some back.value) last
       × PutsAll old pairs new × (get eq new back.value.0 ≡ None)
+      × ((between : MapView K V H) × UpsertsEach hash_of old pairs between × Stays eq between new × LacksRoom hash_of back.value.0 between)
 
 module _ {K H : Type 0} (eq : K → K → Bool) where
   -- a key is put where it is absent, and else the one that is there stays
@@ -48,9 +57,15 @@ module _ {K H : Type 0} (eq : K → K → Bool) where
     pub has : (key : K) → contains eq new key ≡ (contains eq old key || list_any (eq key) keys)
     pub kept : Keeps eq old new
 
+  -- each is put as an insertion puts it, from one set to the next
+  abbrev pub InsertsEach : (H → K → ℕ) → MapView K (Unit {0}) H → List K → MapView K (Unit {0}) H → Type 0
+  InsertsEach hash_of old keys new = FoldsTo (λ before key after. PutsKey before key after × GrowsSlots hash_of key before after) old keys new
+
   -- what an iterator gives is put, as pairs are into a map
-  abbrev pub PutsKeysFrom : {S : Type 0} → (S → Option K → S → Type 0) → S → MapView K (Unit {0}) H → Result (Unit {0}) (AllocFailed K)
-      → MapView K (Unit {0}) H → S → Type 0
-  PutsKeysFrom steps first old (Ok done) new last = (keys : List K) × YieldsThen steps first keys None last × PutsKeys old keys new
-  PutsKeysFrom steps first old (Err back) new last = (keys : List K) × YieldsThen steps first keys (Some back.value) last
+  abbrev pub PutsKeysFrom : {S : Type 0} → (H → K → ℕ) → (S → Option K → S → Type 0) → S → MapView K (Unit {0}) H
+      → Result (Unit {0}) (AllocFailed K) → MapView K (Unit {0}) H → S → Type 0
+  PutsKeysFrom hash_of steps first old (Ok done) new last = (keys : List K) × YieldsThen steps first keys None last × PutsKeys old keys new
+      × InsertsEach hash_of old keys new
+  PutsKeysFrom hash_of steps first old (Err back) new last = (keys : List K) × YieldsThen steps first keys (Some back.value) last
       × PutsKeys old keys new × (get eq new back.value ≡ None)
+      × ((between : MapView K (Unit {0}) H) × InsertsEach hash_of old keys between × Stays eq between new × LacksRoom hash_of back.value between)

@@ -6,19 +6,24 @@ use Rattle.bucket_slots.specs.BucketView.{BucketView, marks_in, pairs_in}
 use Rattle.bucket_slots.specs.Homes.{IsHome}
 use Rattle.bucket_slots.specs.Sizing.{IsLength}
 use Rattle.bucket_table.specs.Rehash.Relocation.{home_of, homed_len}
-use Rattle.bucket_table.specs.Views.ArraysView.{ArraysView}
-use Rattle.collections.specs.Maps.{MapView}
+use Rattle.bucket_table.specs.Views.ArraysView.{TableView}
+use Rattle.bucket_table.specs.Views.Sides.{buckets_on}
+use Rattle.bucket_table.specs.declared.arrays.side.Side.{Side}
+use Rattle.collections.specs.Maps.{MapView, map_of}
 
--- in an array of some slots, 32 to a bucket, the bucket of a key is the home of at least 32 of some pairs
-abbrev pub IsCrowded : {K V : Type 0} → (K → ℕ) → K → ℕ → List (K × V) → Type 0
-IsCrowded hash key slots pairs = (0 < slots) × (32 ≤ homed_len hash (slots / 32) (home_of (slots / 32) (hash key)) pairs)
+-- in an array of some slots, 32 to a bucket, the bucket of a key is the home of so many of some pairs, at least
+abbrev pub HasAtHome : {K V : Type 0} → ℕ → (K → ℕ) → K → ℕ → List (K × V) → Type 0
+HasAtHome count hash key slots pairs = (0 < slots) × (count ≤ homed_len hash (slots / 32) (home_of (slots / 32) (hash key)) pairs)
 
--- an insertion of a key may need memory that isn't there: the map has no slots, or moves to fewer slots than it had, or the key's bucket is
--- crowded, among its slots or among the old ones; a caller that needs it unfolds it, since the search of one that doesn't would go
--- through all of it
+-- to find a bucket for a key may need memory that isn't there: the map has no slots, or moves to fewer slots than it had, or the key's old
+-- bucket was the home of more pairs than it has slots
+abbrev pub LacksBucket : {K V H : Type 0} → (H → K → ℕ) → K → MapView K V H → Type 0
+LacksBucket hash_of key map = ((map.slots ≡ 0) ⊎ (map.slots < map.old_slots)) ⊎ HasAtHome 33 (hash_of map.hasher) key map.old_slots map.entries
+
+-- and so may an insertion of a key, or else its bucket is the home of as many pairs as it has slots; a caller that needs it unfolds it,
+-- since the search of one that doesn't would go through all of it
 unfoldable pub LacksRoom : {K V H : Type 0} → (H → K → ℕ) → K → MapView K V H → Type 0
-LacksRoom hash_of key map = ((map.slots ≡ 0) ⊎ (map.slots < map.old_slots))
-    ⊎ (IsCrowded (hash_of map.hasher) key map.slots map.entries ⊎ IsCrowded (hash_of map.hasher) key map.old_slots map.entries)
+LacksRoom hash_of key map = LacksBucket hash_of key map ⊎ HasAtHome 32 (hash_of map.hasher) key map.slots map.entries
 
 -- in an array of an index, the pairs in the bucket of a hash and the tombstones there that are kept are 32 at least
 pub record IsFull {K V : Type 0} (keeps : ℕ → Bool) (hash : ℕ) (buckets : List (BucketView K V)) : Type 0 where
@@ -26,11 +31,12 @@ pub record IsFull {K V : Type 0} (keeps : ℕ → Bool) (hash : ℕ) (buckets : 
   pub home : IsHome (length buckets) hash index
   pub many : 32 ≤ length (pairs_in (bucket_at buckets index)) + length (filter (λ mark. keeps mark.1) (marks_in (bucket_at buckets index)))
 
--- an insertion into an index may need memory that isn't there: it has no slots, or moves to fewer slots than it had, or the hash's bucket
--- is full, in the array or in the old one; a caller that needs it unfolds it
-unfoldable pub LacksSlots : {K V : Type 0} → (ℕ → Bool) → ℕ → ArraysView K V → Type 0
-LacksSlots keeps hash arrays = ((length arrays.current ≡ 0) ⊎ (length arrays.current < length arrays.linked))
-    ⊎ (IsFull keeps hash arrays.current ⊎ IsFull keeps hash arrays.linked)
+-- an insertion of a key into an index may need memory that isn't there: that of a bucket, or the one found is full, in an array as long
+-- as the current one was; a caller that needs it unfolds it
+unfoldable pub LacksSlots : {K V H : Type 0} → (ℕ → Bool) → (H → K → ℕ) → K → TableView K V H → TableView K V H → Type 0
+LacksSlots keeps hash_of key old new = LacksBucket hash_of key (map_of old)
+    ⊎ ((side : Side) × (length (buckets_on new.arrays side) ≡ length old.arrays.current)
+    × IsFull keeps (hash_of old.hasher key) (buckets_on new.arrays side))
 
 -- what the home of a hash keeps, a bucket of an array. No public clause cites it
 pub record KeepsHome {K V : Type 0} (kind hash : ℕ) (buckets : List (BucketView K V)) : Type 0 where

@@ -2,6 +2,7 @@
 pub mod Maps
 pub mod Changes
 pub mod Crowding
+pub mod Slots
 pub mod Equality
 pub mod EqualityLaws
 pub mod Hashes

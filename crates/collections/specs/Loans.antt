@@ -1,5 +1,5 @@
 -- What a map ends as, where a value of it was lent for writing.
-use Rattle.std.specs.Prelude.{◌≡◌, Bool, true, Option, Some, None, Result, IfNone, IfSome, MatchOption}
+use Rattle.std.specs.Prelude.{◌≡◌, ◌⊎◌, Bool, true, Option, Some, None, Result, IfNone, IfSome, MatchOption}
 use Rattle.std.specs.Borrow.{Fml, Lends, LendsSo, LendsSoOk, MutBor, RattleType}
 use Rattle.std.specs.declared.cmp.PartialEq as equals
 use Rattle.bucket_table.specs.declared.key_hash.KeyHash as key_hash
@@ -45,14 +45,14 @@ module _ (K V H : RattleType) (equal : equals.Ghosts K.Denot) (hashing : key_has
   LendsAdded key loan =
       LendsSoOk (the_row K V H (record {}) equal hashing) V map loan
       (λ new value. Adds equal.eq map.now key value new)
-      (λ new. Stays equal.eq map.now new × LacksRoom hashing.hash_of key new)
+      (λ new. Stays equal.eq map.now new × LacksRoom hashing.hash_of key map.now)
 
   -- the same of a key that is wanted; where it isn't nothing is lent, and all stays
   abbrev pub LendsWanted : {E : Type 0} → (K.Denot → Bool) → K.Denot → Result (MutBor V.Denot) E → Fml
   LendsWanted wants key loan =
       LendsSoOk (the_row K V H (record {}) equal hashing) V map loan
       (λ new value. (wants key ≡ true) × Adds equal.eq map.now key value new)
-      (λ new. Stays equal.eq map.now new × (wants key ≡ true → LacksRoom hashing.hash_of key new))
+      (λ new. Stays equal.eq map.now new × (wants key ≡ true → LacksRoom hashing.hash_of key map.now))
 
   -- the value under the key is the last one written through the loan, whether the map had the key or not; where nothing is
   -- lent all stays, and room is lacking
@@ -60,7 +60,7 @@ module _ (K V H : RattleType) (equal : equals.Ghosts K.Denot) (hashing : key_has
   LendsPut key loan =
       LendsSoOk (the_row K V H (record {}) equal hashing) V map loan
       (λ new value. Puts equal.eq map.now key value new)
-      (λ new. Stays equal.eq map.now new × LacksRoom hashing.hash_of key new)
+      (λ new. Stays equal.eq map.now new × LacksRoom hashing.hash_of key map.now)
 
   -- the same; where nothing is lent all stays, and what came of it may be no allocation
   abbrev pub LendsTried : {E : Type 0} → K.Denot → Result (MutBor V.Denot) E → Fml
@@ -76,17 +76,22 @@ module _ (K V H : RattleType) (equal : equals.Ghosts K.Denot) (hashing : key_has
       (λ new value. Adds equal.eq map.now key value new)
       (λ new. Stays equal.eq map.now new)
 
-  -- a pair more, whose key is one that is wanted, with the last value written through the loan; where nothing is lent all stays
-  abbrev pub LendsMade : {E : Type 0} → (K.Denot → Bool) → Result (MutBor V.Denot) E → Fml
-  LendsMade wants loan =
+  -- no pair of a key that is wanted is put: it may be that none can be made, or room for one is lacking
+  abbrev pub LacksPair : Type 0 → (K.Denot → Bool) → Type 0
+  LacksPair MayLackKey wants = MayLackKey ⊎ ((key : K.Denot) × (wants key ≡ true) × LacksRoom hashing.hash_of key map.now)
+
+  -- a pair more, whose key is one that is wanted, with the last value written through the loan; where nothing is lent all stays, and a
+  -- key or room is lacking
+  abbrev pub LendsMade : {E : Type 0} → Type 0 → (K.Denot → Bool) → Result (MutBor V.Denot) E → Fml
+  LendsMade MayLackKey wants loan =
       LendsSoOk (the_row K V H (record {}) equal hashing) V map loan
       (λ new value. AddsWanted equal.eq map.now wants value new)
-      (λ new. Stays equal.eq map.now new)
+      (λ new. Stays equal.eq map.now new × LacksPair MayLackKey wants)
 
   -- the value under a key that is wanted is the last one written through the loan, whether the map had one or not; where
-  -- nothing is lent all stays
-  abbrev pub LendsPutWanted : {E : Type 0} → (K.Denot → Bool) → Result (MutBor V.Denot) E → Fml
-  LendsPutWanted wants loan =
+  -- nothing is lent all stays, and a key or room is lacking
+  abbrev pub LendsPutWanted : {E : Type 0} → Type 0 → (K.Denot → Bool) → Result (MutBor V.Denot) E → Fml
+  LendsPutWanted MayLackKey wants loan =
       LendsSoOk (the_row K V H (record {}) equal hashing) V map loan
       (λ new value. PutsWanted equal.eq map.now wants value new)
-      (λ new. Stays equal.eq map.now new)
+      (λ new. Stays equal.eq map.now new × LacksPair MayLackKey wants)

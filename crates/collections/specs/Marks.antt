@@ -21,11 +21,19 @@ pub record AddsMark {K V : Type 0} (wants : K → Bool) (epoch : ℕ) (old new :
   pub kept : AreEarlierMarks old earlier
   pub marks : IsPermutation ((pair, epoch) ∷ earlier) (marks_of new)
 
+-- no array is left, where the minimum is 0
+abbrev pub LeavesNoArray : {K V : Type 0} → ArraysView K V → Type 0
+LeavesNoArray arrays = (arrays.minimum ≡ 0) × (arrays.current ++ arrays.linked ≡ [])
+
+-- the marks stay, or no array is left
+abbrev pub KeepsMarks : {K V : Type 0} → ArraysView K V → ArraysView K V → Type 0
+KeepsMarks old new = (marks_of new ≡ marks_of old) ⊎ LeavesNoArray new
+
 module _ {K V : Type 0} where
-  -- a pair that is removed is marked, or no array is left, where the minimum is 0; where none is removed, the marks are earlier ones
+  -- a pair that is removed is marked, or no array is left; where none is removed, the marks are earlier ones
   abbrev pub MarksRemoved : (K → Bool) → ℕ → Bool → ArraysView K V → ArraysView K V → Type 0
   MarksRemoved wants epoch true old new =
-      AddsMark wants epoch old new ⊎ ((new.minimum ≡ 0) × (new.current ++ new.linked ≡ []))
+      AddsMark wants epoch old new ⊎ LeavesNoArray new
   MarksRemoved wants epoch false old new = AreEarlierMarks old (marks_of new)
 
   -- no mark of the current array goes whose epoch the generation keeps, and where no old array stands these are the same

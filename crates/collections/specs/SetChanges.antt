@@ -1,7 +1,8 @@
 -- What calls do to a set, in the words of std's `HashSet`.
-use Rattle.std.specs.Prelude.{◌≡◌, Bool, true, false, Option, Some, None, Result, Ok, Err, IsSome}
+use Rattle.std.specs.Prelude.{ℕ, ◌≡◌, Bool, true, false, Option, Some, None, Result, Ok, Err, IsSome}
 use Rattle.std.specs.declared.alloc.AllocFailed.{AllocFailed}
-use Rattle.collections.specs.Changes.{Adds, SetRemoves, Stays}
+use Rattle.collections.specs.Changes.{Adds, SetRemoves, Stays, Takes}
+use Rattle.collections.specs.Crowding.{LacksRoom}
 use Rattle.collections.specs.Maps.{MapView, get}
 use Rattle.collections.specs.StoredKeys.{ReplacesKey}
 
@@ -18,3 +19,9 @@ module _ {K H : Type 0} (eq : K → K → Bool) (key : K) where
   SetReplaces old (Ok None) new = Adds eq old key tt new
   SetReplaces old (Ok (Some own)) new = ReplacesKey eq old (own, tt) key new
   SetReplaces old (Err back) new = (back.value.0 ≡ key) × SetRemoves eq (eq key) old back.value.1 new
+
+  -- why a key isn't put: room is lacking for it, or is once the equal one is out
+  abbrev pub LacksRoomAfter : (H → K → ℕ) → MapView K (Unit {0}) H → Option K → Type 0
+  LacksRoomAfter hash_of old None = LacksRoom hash_of key old
+  LacksRoomAfter hash_of old (Some own) =
+      (between : MapView K (Unit {0}) H) × Takes eq old (eq key) (own, tt) between × LacksRoom hash_of key between

@@ -4,7 +4,7 @@
 //! it, and answers as std's `HashMap` does.
 //!
 //! Ports scc's `src/hash_cache.rs` to an owned cache: a borrow stands where scc locks.
-ghost use Rattle.std.specs.Prelude.{◌≡◌, ◌↔◌, ◌^◌, ◌*◌, ◌-◌, ◌++◌, [], Err, IsTrue, is_some, length, max, min};
+ghost use Rattle.std.specs.Prelude.{◌≤◌, ◌≡◌, ◌↔◌, ◌^◌, ◌*◌, ◌-◌, ◌++◌, [], Err, IsTrue, is_some, length, max, min};
 ghost use Rattle.std.specs.Borrow.{sem};
 ghost use Rattle.std.specs.Option.{option_copied};
 ghost use Rattle.bucket_slots.specs.Sizing.{IsLeastPowerOfTwo};
@@ -14,7 +14,7 @@ ghost use Rattle.bucket_table.specs.Rehash.State.{first_tickets};
 ghost use Rattle.bucket_table.specs.Views.ArraysView.{pairs_of};
 ghost use Rattle.bucket_table.specs.declared.hash_table.NotInserted.TheVariants.{Memory};
 ghost use Rattle.collections.specs.Changes.{Puts, Removes};
-ghost use Rattle.collections.specs.Crowding.{LacksRoom};
+ghost use Rattle.collections.specs.Crowding.{LacksBucket};
 ghost use Rattle.collections.specs.Maps.{contains_by, get_by, IsEmpty, map_len, map_of};
 
 mod changing;
@@ -134,15 +134,17 @@ impl<K: Eq, V, H: KeyHash<K>> HashCache<K, V, H> {
     }
 
     /// Returns how many pairs the cache has, at most 2^64 - 1: no more than its arrays have slots,
-    /// and pairs in their chains.
+    /// and pairs in their chains. The current array has no more slots than the maximum.
     ///
     /// O(slots / 32). scc: `HashCache::len`.
     pub fn len(&self) -> usize
         ensures count { result ≡ min (map_len (map_of self.now)) (2 ^ 64 - 1) }
         ensures within { IsHeldBy (pairs_of self.now.arrays)
             (self.now.arrays.current ++ self.now.arrays.linked) }
+        ensures bounded { 32 * length self.now.arrays.current ≤ self.now.arrays.maximum }
     {
         self.room.learn();
+        self.table.bounded();
         self.table.len()
     }
 
@@ -242,7 +244,7 @@ impl<K: Eq + Drop, V: Drop, H: KeyHash<K>> HashCache<K, V, H> {
         ensures home { PutsOrKeeps K.eq (key, value) (H.hash_of self.old.hasher key) self.old result
             self.new.arrays }
         ensures memory { result ≡ Err (Memory key value)
-            → LacksRoom H.hash_of key (map_of self.new) }
+            → LacksBucket H.hash_of key (map_of self.old) }
     {
         self.room.learn();
         self.table.sound();

@@ -21,7 +21,7 @@ ghost use Rattle.bucket_table.specs.declared.hash_table.NotInserted.TheVariants.
 ghost use Rattle.collections.specs.Changes.{Inserts, ReadsOut, Reserves, Stays, TakesOut};
 ghost use Rattle.collections.specs.Crowding.{LacksSlots};
 ghost use Rattle.collections.specs.Maps.{contains_by, get_by, IsEmpty, map_len, map_of};
-ghost use Rattle.collections.specs.Marks.{LosesNoKeptMark, MarksRemoved};
+ghost use Rattle.collections.specs.Marks.{KeepsMarks, LosesNoKeptMark, MarksRemoved};
 
 mod emptied;
 mod iterating;
@@ -196,7 +196,7 @@ impl<K: Eq + Drop, V: Drop, H: KeyHash<K>> HashIndex<K, V, H> {
         ensures marks { HasNoNewMark (marks_of self.old.arrays) (marks_of self.new.arrays) }
         ensures kept { LosesNoKeptMark (G.keeps generation.now) self.old.arrays self.new.arrays }
         ensures memory { result ≡ Err (Memory key value)
-            → LacksSlots (G.keeps generation.now) (H.hash_of self.new.hasher key) self.new.arrays }
+            → LacksSlots (G.keeps generation.now) H.hash_of key self.old self.new }
     {
         self.room.learn();
         self.table.sound();
@@ -265,7 +265,7 @@ impl<K: Eq + Drop, V: Drop, H: KeyHash<K>> HashIndex<K, V, H> {
     /// Never refused. O(slots). scc: `HashIndex::reserve`.
     pub fn raise_minimum(&mut self, additional: usize) -> usize
         ensures map { Reserves K.eq additional (map_of self.old) result (map_of self.new) }
-        ensures marks { HasNoNewMark (marks_of self.old.arrays) (marks_of self.new.arrays) }
+        ensures marks { KeepsMarks self.old.arrays self.new.arrays }
     {
         self.room.learn();
         self.table.sound();
@@ -280,7 +280,7 @@ impl<K: Eq + Drop, V: Drop, H: KeyHash<K>> HashIndex<K, V, H> {
     /// Never refused. O(slots). Own: what ends scc's `Reserve`s.
     pub fn shrink_to_fit(&mut self)
         ensures map { Stays K.eq (record (map_of self.old) { minimum = 0 }) (map_of self.new) }
-        ensures marks { HasNoNewMark (marks_of self.old.arrays) (marks_of self.new.arrays) }
+        ensures marks { KeepsMarks self.old.arrays self.new.arrays }
     {
         self.room.learn();
         self.table.sound();

@@ -14,6 +14,7 @@ ghost use Rattle.collections.specs.Crowding.{LacksRoom};
 ghost use Rattle.collections.specs.Equality.{is_within};
 ghost use Rattle.collections.specs.Maps.{contains_by, get, get_by, IsEmpty, map_len};
 ghost use Rattle.collections.specs.Changes.{Inserts, Removes, Retains, Rewrites, Upserts};
+ghost use Rattle.collections.specs.Slots.{GrowsSlots};
 
 mod cloning;
 mod collecting;
@@ -199,7 +200,8 @@ impl<K: Eq + Drop, V: Drop, H: KeyHash<K>> HashMap<K, V, H> {
     #[inline(always)]
     pub fn insert(&mut self, key: K, value: V) -> Result<(), NotInserted<K, V>>
         ensures map { Inserts K.eq key value self.old result self.new }
-        ensures memory { result ≡ Err (Memory key value) → LacksRoom H.hash_of key self.new }
+        ensures slots { GrowsSlots H.hash_of key self.old self.new }
+        ensures memory { result ≡ Err (Memory key value) → LacksRoom H.hash_of key self.old }
     {
         self.room.learn();
         self.table.sound();
@@ -232,7 +234,8 @@ impl<K: Eq + Drop, V: Drop, H: KeyHash<K>> HashMap<K, V, H> {
     #[inline(always)]
     pub fn upsert(&mut self, key: K, value: V) -> Result<Option<V>, AllocFailed<(K, V)>>
         ensures map { Upserts K.eq key value self.old result self.new }
-        ensures memory { OnErr result (LacksRoom H.hash_of key self.new) }
+        ensures slots { GrowsSlots H.hash_of key self.old self.new }
+        ensures memory { OnErr result (LacksRoom H.hash_of key self.old) }
     {
         self.room.learn();
         self.table.sound();

@@ -10,6 +10,7 @@ ghost use Rattle.bucket_table.specs.declared.hash_table.NotInserted.TheVariants.
 ghost use Rattle.collections.specs.Changes.{Inserts, SetRemoves};
 ghost use Rattle.collections.specs.Copies.{IsCopy};
 ghost use Rattle.collections.specs.Crowding.{LacksRoom};
+ghost use Rattle.collections.specs.Slots.{GrowsSlots};
 ghost use Rattle.collections.specs.Keys.{CallsEachKey, RetainsKeys};
 ghost use Rattle.collections.specs.Maps.{contains_by, IsEmpty, map_len};
 
@@ -163,7 +164,8 @@ impl<K: Eq + Drop, H: KeyHash<K>> HashSet<K, H> {
     /// O(1) expected, beside a resize. scc: `HashSet::insert_sync`; std's is `insert`.
     pub fn insert_new(&mut self, key: K) -> Result<(), NotInserted<K, ()>>
         ensures map { Inserts K.eq key tt self.old result self.new }
-        ensures memory { result ≡ Err (Memory key tt) → LacksRoom H.hash_of key self.new }
+        ensures slots { GrowsSlots H.hash_of key self.old self.new }
+        ensures memory { result ≡ Err (Memory key tt) → LacksRoom H.hash_of key self.old }
     {
         self.map.insert(key, ())
     }

@@ -116,6 +116,7 @@ module _ {K V E : Type 0} (capacity : ℕ) (old second : ArraysView K V) (first 
     kept = first.keeps;
     none_open = none;
     order = record { between = second; first = carries_unopened old second first.order; again = inl refl };
+    current_len = inl first.current_len;
     settled = settled;
     there = there;
     refused = wanted;
@@ -129,6 +130,7 @@ module _ {K V E : Type 0} (capacity : ℕ) (old second : ArraysView K V) (first 
     kept = keeps_both _ second third first.keeps (keeps_both second pushed third (pushed_keeps capacity second pushed is) then.keeps);
     none_open = none;
     order = record { between = second; first = carries_unopened old second first.order; again = inr (pushed, is, then.order) };
+    current_len = inr length_is;
     settled = settled answer gone;
     there = λ there. absurd (apart there.len);
     refused = at_error _ answer (λ len. absurd (apart len));

@@ -24,11 +24,13 @@ pub record CarriesOrderTo {K V : Type 0} (capacity : ℕ) (old new : ArraysView 
   pub again : (new ≡ between) ⊎ ((pushed : ArraysView K V) × IsPushed capacity between pushed × CarriesOrder pushed new)
 
 -- all pairs go to one array for a capacity, in which they stand unless allocation fails; no ticket is open any more, and where one array
--- of that length stood alone nothing changes; where the current array has that length, memory is wanted for an old bucket alone
+-- of that length stood alone nothing changes; the current array has its length or that one, and where it had that one, memory is wanted for
+-- an old bucket alone
 pub record RehashesTo {K V E : Type 0} (capacity : ℕ) (old : ArraysView K V) (answer : Result (Unit {0}) E) (new : ArraysView K V) : Type 0 where
   pub kept : Keeps (unopened old) new
   pub none_open : new.tickets.open_units ≡ []
   pub order : CarriesOrderTo capacity old new
+  pub current_len : (length new.current ≡ length old.current) ⊎ IsLengthFor capacity (length new.current)
   pub settled : OnOk answer (IsSettledAt capacity new)
   pub there : IsSettledAt capacity old → (answer ≡ Ok tt) × (new ≡ old)
   pub refused : OnErr answer (IsLengthFor capacity (length old.current) → WantsMemory (λ i. Unit {0}) (unopened old) new)

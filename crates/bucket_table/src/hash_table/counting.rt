@@ -4,7 +4,7 @@
 //! Invariant: the table's, `IsOneMap`; a count keeps the pairs and the open tickets.
 //!
 //! Ports `num_entries` and `has_entry` of scc's `src/hash_table.rs`.
-ghost use Rattle.std.specs.Prelude.{◌≡◌, ◌↔◌, ◌<◌, ◌++◌, [], IsTrue, length};
+ghost use Rattle.std.specs.Prelude.{◌*◌, ◌≤◌, ◌≡◌, ◌↔◌, ◌<◌, ◌++◌, [], IsTrue, length};
 ghost use Rattle.bucket_table.specs.Views.ArraysView.{pairs_of};
 ghost use Rattle.bucket_table.specs.Map.Counting.{CountsAndResizes, IsHeldBy, counted_to};
 ghost use Rattle.bucket_table.specs.Map.MapState.{KeepsPairs, state_of};
@@ -68,6 +68,13 @@ impl<K: Eq, V, H: KeyHash<K>, L: LruList, const TYPE: u8> HashTable<K, V, H, L, 
             (self.now.arrays.current ++ self.now.arrays.linked) }
     {
         self.arrays.count()
+    }
+
+    /// No work: a proof learns how many slots a table has at most. Own.
+    pub fn bounded(&self)
+        ensures { 32 * length self.now.arrays.current ≤ self.now.arrays.maximum }
+    {
+        self.arrays.sound();
     }
 
     /// Tests whether the map has no pair.

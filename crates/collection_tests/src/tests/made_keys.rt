@@ -39,6 +39,8 @@ impl<S: BuildHasher> KeyForm<String, StdHash<S>> for Unmade {
 }
 
 impl<S: BuildHasher> ToKey<String, StdHash<S>> for Unmade {
+    ghost may_lack = { λ form. Unit {0} };
+
     fn to_key(self, _alloc: Global) -> Result<String, AllocError> {
         Err(AllocError)
     }

@@ -8,6 +8,7 @@ ghost use Rattle.collections.specs.CacheWrites.{IsTouchedAndWritten, IsWritten, 
 ghost use Rattle.collections.specs.Changes.{Retains, Rewrites};
 ghost use Rattle.collections.specs.Maps.{contains_by, get_by, map_of};
 ghost use Rattle.collections.specs.Orders.{IsTouched};
+ghost use Rattle.collections.specs.Slots.{KeepsSlots};
 
 use crate::hash_cache::HashCache;
 use crate::key_form::{FormProbe, KeyForm};
@@ -107,6 +108,7 @@ impl<K: Eq + Drop, V: Drop, H: KeyHash<K>> HashCache<K, V, H> {
         ensures there { result ≡ contains_by (Q.stands_for key) (map_of self.old) }
         ensures touched { IsTouched K.eq (Q.stands_for key) result self.old self.new }
         ensures beside { 0 < length self.old.arrays.linked → 0 < length self.old.arrays.current }
+        ensures slots { KeepsSlots (map_of self.old) (map_of self.new) }
     {
         self.room.learn();
         self.table.sound();

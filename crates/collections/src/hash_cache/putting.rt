@@ -2,7 +2,7 @@
 //! there.
 ghost use Rattle.std.specs.Prelude.{◌≡◌, OnErr, false};
 ghost use Rattle.std.specs.Borrow.{Bor};
-ghost use Rattle.collections.specs.Crowding.{LacksRoom};
+ghost use Rattle.collections.specs.Crowding.{LacksBucket};
 ghost use Rattle.collections.specs.Maps.{contains, map_of};
 
 use crate::hash_cache::{HashCache, NotInserted};
@@ -40,7 +40,7 @@ impl<K: Eq + Drop, V: Drop, H: KeyHash<K>> HashCache<K, V, H> {
         ensures map { UpsertsOrEvicts K.eq key value (map_of self.old) result (map_of self.new) }
         ensures order { UpsertsInOrder K.eq (key, value) (H.hash_of self.old.hasher key) self.old
             result self.new }
-        ensures memory { OnErr result (LacksRoom H.hash_of key (map_of self.new)) }
+        ensures memory { OnErr result (LacksBucket H.hash_of key (map_of self.old)) }
     {
         if self.touch(&key) {
             return match self.peek_mut(&key) {
@@ -82,7 +82,7 @@ impl<K: Eq + Drop, V: Drop, H: KeyHash<K>> HashCache<K, V, H> {
         ensures done { GetsOrInserts K.eq key (H.hash_of self.old.hasher key)
             (λ made. M.post make made) (λ value answer. F.post reader value answer) self.old result
             self.new }
-        ensures memory { OnErr result (LacksRoom H.hash_of key (map_of self.new)) }
+        ensures memory { OnErr result (LacksBucket H.hash_of key (map_of self.old)) }
     {
         if self.touch(&key) {
             return match self.peek(&key) {

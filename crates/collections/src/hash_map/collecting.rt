@@ -1,8 +1,6 @@
 //! Pairs of an iterator, put into a map.
-ghost use Rattle.std.specs.Prelude.{IfErr};
 ghost use Rattle.std.specs.Iterator.{IsFinite};
 ghost use Rattle.collections.specs.Collecting.{PutsAll, PutsFrom, copied_pairs};
-ghost use Rattle.collections.specs.Crowding.{LacksRoom};
 
 use crate::hash_map::HashMap;
 use bucket_table::key_hash::KeyHash;
@@ -25,8 +23,8 @@ impl<K: Eq + Drop, V: Drop, H: KeyHash<K>> HashMap<K, V, H> {
     ) -> Result<(), AllocFailed<(K, V)>>
         requires can { I.can_next pairs.old }
         requires finite { IsFinite (I.remaining pairs.old) }
-        ensures puts { PutsFrom K.eq I.next_gives pairs.old self.old result self.new pairs.new }
-        ensures memory { IfErr result (λ back. LacksRoom H.hash_of back.value.0 self.new) }
+        ensures { PutsFrom K.eq H.hash_of I.next_gives pairs.old self.old result self.new
+            pairs.new }
     {
         self.sound();
         while let Some(pair) = pairs.next() {

@@ -2,7 +2,7 @@
 //!
 //! The minimum, which scc's `reserve` raises, is what the plan of a resize keeps to. `try_reserve`
 //! and `shrink_to_fit` go beside the plan: they move all pairs at once.
-ghost use Rattle.std.specs.Prelude.{◌≡◌, ◌^◌, IsErr, OnOk, min};
+ghost use Rattle.std.specs.Prelude.{◌≤◌, ◌≡◌, ◌^◌, IsErr, OnOk, min};
 ghost use Rattle.bucket_slots.specs.Sizing.{IsPowerIn};
 ghost use Rattle.collections.specs.Capacity.{AreTooMany, IsMinimumFor, MakesRoom, ShrinksTo, ShrinksToFit, TakesSlots};
 ghost use Rattle.collections.specs.Changes.{Reserves, Stays};
@@ -121,6 +121,7 @@ impl<K: Eq + Drop, V: Drop, H: KeyHash<K>> HashMap<K, V, H> {
     fn make_room(&mut self, pairs: usize) -> Result<(), AllocError>
         ensures map { Stays K.eq self.old self.new }
         ensures slots { OnOk result (TakesSlots pairs self.old self.new) }
+        ensures no_fewer { self.old.slots ≤ self.new.slots }
         ensures too_many { AreTooMany pairs → IsErr result × (self.new ≡ self.old) }
     {
         self.room.learn();
@@ -201,6 +202,7 @@ impl<K: Eq + Drop, V: Drop, H: KeyHash<K>> HashMap<K, V, H> {
         requires { IsPowerIn 64 (2 ^ 62) slots }
         ensures map { Stays K.eq self.old self.new }
         ensures slots { OnOk result ((self.new.slots ≡ slots) × (self.new.old_slots ≡ 0)) }
+        ensures no_fewer { self.old.slots ≤ slots → self.old.slots ≤ self.new.slots }
     {
         self.room.learn();
         self.table.sound();

@@ -2,7 +2,6 @@
 ghost use Rattle.std.specs.Prelude.{IfErr, map};
 ghost use Rattle.std.specs.Iterator.{IsFinite};
 ghost use Rattle.collections.specs.Collecting.{PutsKeys, PutsKeysFrom};
-ghost use Rattle.collections.specs.Crowding.{LacksRoom};
 
 use crate::hash_set::HashSet;
 use bucket_table::key_hash::KeyHash;
@@ -22,8 +21,8 @@ impl<K: Eq + Drop, H: KeyHash<K>> HashSet<K, H> {
     pub fn try_extend<I: Iterator<Item = K>>(&mut self, keys: &mut I) -> Result<(), AllocFailed<K>>
         requires can { I.can_next keys.old }
         requires finite { IsFinite (I.remaining keys.old) }
-        ensures puts { PutsKeysFrom K.eq I.next_gives keys.old self.old result self.new keys.new }
-        ensures memory { IfErr result (λ back. LacksRoom H.hash_of back.value self.new) }
+        ensures { PutsKeysFrom K.eq H.hash_of I.next_gives keys.old self.old result self.new
+            keys.new }
     {
         self.map.sound();
         while let Some(key) = keys.next() {

@@ -1,10 +1,11 @@
 //! The calls of std's `HashSet` that answer with a key of the set, or by a truth value.
-ghost use Rattle.std.specs.Prelude.{◌≡◌, IfSome, IsTrue, OnErr, is_some};
+ghost use Rattle.std.specs.Prelude.{◌≡◌, IfErr, IfSome, IsTrue, OnErr, is_some};
 ghost use Rattle.std.specs.Option.{option_copied};
 ghost use Rattle.collections.specs.Changes.{TakesOut};
 ghost use Rattle.collections.specs.Crowding.{LacksRoom};
+ghost use Rattle.collections.specs.Slots.{GrowsSlots};
 ghost use Rattle.collections.specs.Maps.{contains_by};
-ghost use Rattle.collections.specs.SetChanges.{SetAdds, SetReplaces};
+ghost use Rattle.collections.specs.SetChanges.{LacksRoomAfter, SetAdds, SetReplaces};
 ghost use Rattle.collections.specs.StoredKeys.{key_by};
 
 use crate::hash_map::NotInserted;
@@ -41,7 +42,8 @@ impl<K: Eq + Drop, H: KeyHash<K>> HashSet<K, H> {
     /// O(1) expected, beside a resize. std: `HashSet::insert`.
     pub fn insert(&mut self, key: K) -> Result<bool, AllocFailed<K>>
         ensures set { SetAdds K.eq key self.old result self.new }
-        ensures memory { OnErr result (LacksRoom H.hash_of key self.new) }
+        ensures slots { GrowsSlots H.hash_of key self.old self.new }
+        ensures memory { OnErr result (LacksRoom H.hash_of key self.old) }
     {
         match self.map.insert(key, ()) {
             Ok(()) => Ok(true),
@@ -68,14 +70,23 @@ impl<K: Eq + Drop, H: KeyHash<K>> HashSet<K, H> {
     ///
     /// # Errors
     ///
-    /// Allocation failure: the key comes back, and beside it the equal one, which is taken out, or
-    /// `None` where the set had none.
+    /// Allocation failed, as in `insert`, for the key, or once the equal one was out: it comes back,
+    /// and beside it the equal one, which is taken out, or `None` where the set had none.
     ///
     /// O(1) expected, beside a resize. std: `HashSet::replace`.
     pub fn replace(&mut self, key: K) -> Result<Option<K>, AllocFailed<(K, Option<K>)>>
         ensures set { SetReplaces K.eq key self.old result self.new }
-        ensures memory { OnErr result (LacksRoom H.hash_of key self.new) }
+        ensures memory { IfErr result (λ back.
+            LacksRoomAfter K.eq key H.hash_of self.old back.value.1) }
     {
+        if !self.contains(&key) {
+            return match self.insert(key) {
+                Ok(_added) => Ok(None),
+                Err(back) => Err(AllocFailed {
+                    value: (back.value, None),
+                }),
+            };
+        }
         let earlier = self.take(&key);
         let _held = match self.map.upsert(key, ()) {
             Ok(held) => held,

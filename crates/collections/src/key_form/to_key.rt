@@ -1,5 +1,5 @@
 //! Keys that are made of the forms in which they are looked up.
-ghost use Rattle.std.specs.Prelude.{◌≡◌, true, IfOk};
+ghost use Rattle.std.specs.Prelude.{◌≡◌, ◌<◌, ◌⊎◌, false, true, length, IfOk, OnErr};
 
 use crate::key_form::KeyForm;
 use bucket_table::key_hash::{KeyHash, StdHash};
@@ -8,17 +8,24 @@ use std::hash::{BuildHasher, Hash};
 
 /// A form of which a key can be made. Own; hashbrown has `From` there.
 pub trait ToKey<K: Eq, H: KeyHash<K>>: KeyForm<K, H> {
+    /// Whether it may be that no key is made of the form.
+    ghost may_lack: { Self → Type 0 };
+
     /// Returns a key for which the form stands, whose memory comes from the allocator.
     ///
     /// # Errors
     ///
     /// Allocation failure; or what was made is no such key, as a clone that isn't equal.
     fn to_key(self, alloc: Global) -> Result<K, AllocError>
-        ensures { IfOk result (λ key. Self.stands_for self key ≡ true) };
+        ensures made { IfOk result (λ key. Self.stands_for self key ≡ true) }
+        ensures lacks { OnErr result (may_lack self) };
 }
 
-/// The key is a clone, if that is equal.
+/// The key is a clone, if that is equal: a clone may fail, or differ.
 impl<'k, K: Eq + Clone, H: KeyHash<K>> ToKey<K, H> for &'k K {
+    ghost may_lack = { λ form. (¬ (K.is_infallible form.now))
+        ⊎ ((key : K) × K.is_clone form.now key × (K.eq form.now key ≡ false)) };
+
     fn to_key(self, _alloc: Global) -> Result<K, AllocError> {
         let key = self.clone()?;
         if *self == key {
@@ -29,16 +36,26 @@ impl<'k, K: Eq + Clone, H: KeyHash<K>> ToKey<K, H> for &'k K {
     }
 }
 
-/// The key has the bytes of the text.
+/// The key has the bytes of the text. An empty one takes no memory.
 impl<'s, S: BuildHasher> ToKey<String, StdHash<S>> for &'s str {
+    ghost may_lack = { λ form. 0 < length form.now };
+
     fn to_key(self, alloc: Global) -> Result<String, AllocError> {
+        if self.is_empty() {
+            return Ok(String::new(alloc));
+        }
         String::from_str(alloc, self)
     }
 }
 
-/// The key has clones of the items, if they are equal.
+/// The key has clones of the items, if they are equal. One of no items takes no memory.
 impl<'s, T: Eq + Hash + Clone, S: BuildHasher> ToKey<Vec<T>, StdHash<S>> for &'s [T] {
+    ghost may_lack = { λ form. 0 < length form.now };
+
     fn to_key(self, alloc: Global) -> Result<Vec<T>, AllocError> {
+        if self.is_empty() {
+            return Ok(Vec::new(alloc));
+        }
         let key = self.to_vec(alloc)?;
         if self == key.as_slice() {
             Ok(key)

@@ -2,6 +2,7 @@
 ghost use Rattle.std.specs.Prelude.{◌≡◌, ◌⊎◌, Err, None, Ok, false, IfErr, IfOk, MatchOption, OnErr};
 ghost use Rattle.std.specs.Borrow.{Bor, sem};
 ghost use Rattle.collections.specs.Changes.{FailsToAdd};
+ghost use Rattle.collections.specs.Crowding.{LacksRoom};
 ghost use Rattle.collections.specs.Maps.{get};
 
 use crate::hash_map::entry::{Entry, VacantEntry};
@@ -9,7 +10,7 @@ use bucket_table::key_hash::KeyHash;
 use std::alloc::AllocFailed;
 
 impl<'a, K: Eq + Drop, V: Drop, H: KeyHash<K>> Entry<'a, K, V, H> {
-    ghost use Rattle.collections.specs.Entries.{entry_key, entry_map};
+    ghost use Rattle.collections.specs.Entries.{entry_key, entry_map, is_occupied};
     ghost use Rattle.collections.specs.Loans.{LendsPut};
 
     /// Lends the value under the key for writing; where the map hasn't the key, it inserts it with
@@ -27,7 +28,8 @@ impl<'a, K: Eq + Drop, V: Drop, H: KeyHash<K>> Entry<'a, K, V, H> {
         self,
         make: F,
     ) -> Result<&'a mut V, AllocFailed<(K, V)>>
-        requires callable { (key : Bor K) → key.now ≡ entry_key self → F.pre make key }
+        requires callable { is_occupied self ≡ false
+            → (key : Bor K) → key.now ≡ entry_key self → F.pre make key }
         ensures* writes_back { sem 𝓛
             (LendsPut K.row V.row H.row K.PartialEq H.KeyHash (entry_map self.entry)
             (entry_key self.entry) result) }
@@ -76,7 +78,8 @@ impl<'a, K: Eq + Drop, V: Drop, H: KeyHash<K>> Entry<'a, K, V, H> {
             (get K.eq (entry_map self.entry).now (entry_key self.entry) ≡ None) }
         ensures refused { IfErr result (λ why. F.post make (Err why)
             ⊎ FailsToAdd (λ back e. E.from_gives back e) (λ value. F.post make (Ok value))
-            (entry_key self.entry) why) }
+            (entry_key self.entry)
+            (LacksRoom H.hash_of (entry_key self.entry) (entry_map self.entry).now) why) }
     {
         match self {
             Entry::Occupied(entry) => Ok(entry.into_mut()),
@@ -101,7 +104,7 @@ impl<'a, K: Eq + Drop, V: Drop, H: KeyHash<K>> VacantEntry<'a, K, V, H> {
         ensures value { IfOk result (λ lent. F.post make (Ok lent.now)) }
         ensures refused { IfErr result (λ why. F.post make (Err why)
             ⊎ FailsToAdd (λ back e. E.from_gives back e) (λ value. F.post make (Ok value))
-            self.entry.key why) }
+            self.entry.key (LacksRoom H.hash_of self.entry.key self.entry.map.now) why) }
     {
         let VacantEntry { map, key, hash } = self;
         match make() {

@@ -1,4 +1,6 @@
 use Rattle.std.proofs.Common.{inl, inr, ap, refl, sym, ◌∙◌}
+use Rattle.collections.specs.Maps.{map_of}
+use Rattle.collections.proofs.Slots.{lacks_before}
 use Rattle.collections.proofs.Upserting.{came_back, for_memory, puts_after, refused_parts, went_home}
 use Rattle.collections.proofs.hash_cache.HashCache.get_or_insert_with.Goals as goal
 
@@ -36,4 +38,5 @@ returns-in-Err-Memory-clause-done g c =
 pub returns-in-Err-Memory-clause-memory : goal.returns-in-Err-Memory-clause-memory
 returns-in-Err-Memory-clause-memory g c =
     for_memory g.K.PartialEq.eq c.args.key c.args.self.now c.touch.new.self c.if-touch.ensures.touched c.make-made.result c.put.new.self
-    c.put.result c.put.ensures.map c.put.ensures.memory _ _ _ c.in-Err-Memory.is c.in-Err-Memory.field-0-is
+    c.put.result c.put.ensures.map (λ is. lacks_before g.K.PartialEq.eq g.H.KeyHash.hash_of c.args.key (map_of c.args.self.now)
+    (map_of c.touch.new.self) c.if-touch.ensures.touched.map c.touch.ensures.slots (c.put.ensures.memory is)) _ _ _ c.in-Err-Memory.is c.in-Err-Memory.field-0-is

@@ -16,7 +16,7 @@ returns-clause-home g c =
     c.sound.ensures.one_map.distinct (c.args.key, c.args.value) c.put-outcome.result puts.answer puts.between puts.found puts.done)
 
 pub returns-clause-memory : goal.returns-clause-memory
-returns-clause-memory g c = λ is. put_lacks g.H.KeyHash.hash_of c.args.key c.self.inside.table c.put-outcome.new.self
+returns-clause-memory g c = λ is. rw (← c.self.view_is) (put_lacks g.H.KeyHash.hash_of c.args.key c.self.inside.table c.put-outcome.new.self
     c.sound-2.ensures.one_map.placed (c.learn_refused.ensures.current c.args.key c.args.value is)
     (c.learn_refused.ensures.old c.args.key c.args.value is) true c.args.value g.K.PartialEq.eq c.put-outcome.result
-    c.args.key c.args.value c.put-outcome.ensures.map c.put-outcome.ensures.arrays is
+    c.args.key c.args.value c.put-outcome.ensures.map c.put-outcome.ensures.arrays is)

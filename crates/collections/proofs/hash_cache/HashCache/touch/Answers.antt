@@ -1,4 +1,6 @@
-use Rattle.std.proofs.Common.{refl}
+use Rattle.std.proofs.Common.{refl, true}
+use Rattle.bucket_slots.specs.Evicting.{slots_touched}
+use Rattle.collections.proofs.Slots.{changed_keeps}
 use Rattle.collections.proofs.Touching.{touch_tells, touched}
 use Rattle.collections.proofs.hash_cache.HashCache.touch.Goals as goal
 
@@ -15,3 +17,7 @@ returns-clause-touched g c = rw (← c.self.view_is, ← c.new.ensures.form) (to
 
 pub returns-clause-beside : goal.returns-clause-beside
 returns-clause-beside g c = rw (← c.self.view_is) c.sound.ensures.beside
+
+pub returns-clause-slots : goal.returns-clause-slots
+returns-clause-slots g c = rw (← c.self.view_is) (changed_keeps 67 _ c.self.inside.table c.touch_by-is_there.new.self
+    _ (slots_touched true) c.touch_by-is_there.result c.touch_by-is_there.ensures.arrays)

@@ -1,4 +1,6 @@
 use Rattle.std.proofs.Common.{Some, ap}
+use Rattle.collections.specs.Maps.{map_of}
+use Rattle.collections.proofs.Slots.{lacks_before}
 use Rattle.collections.proofs.Upserting.{added, came_back, displaced, for_memory, refused, went_home}
 use Rattle.collections.proofs.Writing.{lent_touched}
 use Rattle.collections.proofs.hash_cache.HashCache.upsert.Goals as goal
@@ -60,4 +62,5 @@ returns-in-Err-Memory-clause-order g c =
 pub returns-in-Err-Memory-clause-memory : goal.returns-in-Err-Memory-clause-memory
 returns-in-Err-Memory-clause-memory g c =
     for_memory g.K.PartialEq.eq c.args.key c.args.self.now c.touch.new.self c.if-touch.ensures.touched c.args.value c.put.new.self
-    c.put.result c.put.ensures.map c.put.ensures.memory _ _ _ c.in-Err-Memory.is c.in-Err-Memory.field-0-is
+    c.put.result c.put.ensures.map (λ is. lacks_before g.K.PartialEq.eq g.H.KeyHash.hash_of c.args.key (map_of c.args.self.now)
+    (map_of c.touch.new.self) c.if-touch.ensures.touched.map c.touch.ensures.slots (c.put.ensures.memory is)) _ _ _ c.in-Err-Memory.is c.in-Err-Memory.field-0-is

@@ -1,4 +1,4 @@
-use Rattle.collections.proofs.Marks.{no_new-reserves}
+use Rattle.collections.proofs.RemovedMarks.{marks_reserved}
 use Rattle.collections.proofs.Steps.{stays_by}
 use Rattle.collections.proofs.hash_index.HashIndex.raise_minimum.Goals as goal
 
@@ -10,5 +10,5 @@ returns-clause-map g c = rw (← c.self.view_is) (record {
 })
 
 pub returns-clause-marks : goal.returns-clause-marks
-returns-clause-marks g c = rw (← c.self.view_is) (no_new-reserves c.args.additional c.reserve_capacity-raised.result
+returns-clause-marks g c = rw (← c.self.view_is) (marks_reserved c.args.additional c.reserve_capacity-raised.result
     c.self.inside.table.arrays c.reserve_capacity-raised.new.self.arrays c.reserve_capacity-raised.ensures.arrays)

@@ -1,4 +1,4 @@
-use Rattle.collections.proofs.Marks.{no_new-releases}
+use Rattle.collections.proofs.RemovedMarks.{marks_released}
 use Rattle.collections.proofs.Steps.{released}
 use Rattle.collections.proofs.hash_index.HashIndex.shrink_to_fit.Goals as goal
 
@@ -8,5 +8,5 @@ returns-clause-map g c = rw (← c.self.view_is) (released g.K.PartialEq.eq g.me
     c.minimum_capacity-minimum.ensures c.release_capacity.ensures.map)
 
 pub returns-clause-marks : goal.returns-clause-marks
-returns-clause-marks g c = rw (← c.self.view_is) (no_new-releases _ c.release_capacity.result c.self.inside.table.arrays
+returns-clause-marks g c = rw (← c.self.view_is) (marks_released _ c.release_capacity.result c.self.inside.table.arrays
     c.release_capacity.new.self.arrays c.release_capacity.ensures.arrays)

@@ -2,14 +2,14 @@ use Rattle.std.proofs.Common.{arith, ap, refl, true, ◌∙◌}
 use Rattle.bucket_table.proofs.Map.LockedChanged.{table_same}
 use Rattle.bucket_table.specs.Map.Lending.{with_value}
 use Rattle.collections.proofs.Adding.{added_lent, full_there, kept_stays, pair_named}
-use Rattle.collections.proofs.Crowding.{found_full, none_found}
+use Rattle.collections.proofs.Crowding.{found_full, none_found_room}
 use Rattle.collections.proofs.hash_map.HashMap.add.Goals as goal
 
 pub returns-in_default : goal.returns-in_default
 returns-in_default g c =
     let kept = kept_stays g.K.PartialEq.eq g.met.K.Eq.laws 83 c.self.inside.table c.sound.ensures.one_map.distinct c.find_absent.new.table
     c.in_default.ensures.found.prepared.map in
-    let lacks = none_found 83 g.H.KeyHash.hash_of c.args.key _ c.self.inside.table c.find_absent.new.table
+    let lacks = none_found_room 83 g.H.KeyHash.hash_of c.args.key _ c.self.inside.table c.find_absent.new.table
     c.find_absent.ensures.hashed c.sound-in_default.ensures.one_map.placed c.learn_homes.ensures.current c.learn_homes.ensures.old
     c.in_default.ensures.found in
     rw (← c.self.view_is) ((refl, λ value is. absurd cc, (kept, lacks)), record { writes_back = tt; value = tt; pair_returned = refl })
@@ -26,7 +26,7 @@ returns-in-Err g c =
     c.in-Ok.index c.lock.ensures.unchanged c.lock.ensures.side c.lock.ensures.index c.in-Err.ensures.answer.1 in
     let lacks = found_full 83 g.H.KeyHash.hash_of c.args.key _ c.self.inside.table c.find_absent.new.table
     c.find_absent.ensures.hashed placed homes.current homes.old
-    (λ e. omega arith) c.in-Ok.side c.in-Ok.index found.home none in
+    (λ e. omega arith) c.in-Ok.side c.in-Ok.index found none in
     rw (← c.self.view_is, same)
     ((refl, λ value is. absurd cc, (kept, lacks)), record { writes_back = tt; value = tt; pair_returned = c.in-Err.ensures.answer.0 })
 

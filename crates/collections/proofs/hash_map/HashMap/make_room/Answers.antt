@@ -1,4 +1,4 @@
-use Rattle.std.proofs.Common.{max, rules, subst, sym, ℕ, ◌^◌, ◌≡◌, ◌⊎◌}
+use Rattle.std.proofs.Common.{arith, max, rules, subst, sym, ℕ, ◌^◌, ◌≡◌, ◌⊎◌}
 use Rattle.bucket_slots.specs.Sizing.{IsPowerIn}
 use Rattle.collections.specs.Maps.{map_of}
 use Rattle.collections.proofs.Capacity.{greater_in, slots_of_array, slots_taken}
@@ -22,3 +22,8 @@ returns-in-Some-clause-slots g c =
 
 pub returns-in-Some-clause-too_many : goal.returns-in-Some-clause-too_many
 returns-in-Some-clause-too_many g c = λ many. absurd (many c.in-Some.least c.in-Some.ensures.holds)
+
+pub returns-in-Some-clause-no_fewer : goal.returns-in-Some-clause-no_fewer
+returns-in-Some-clause-no_fewer g c =
+    let is : c.max.result ≡ max c.in-Some.least c.num_slots-slots.result = search rules in
+    c.rehash_to.ensures.no_fewer (rw (← c.self.view_is) (omega (arith, is, c.num_slots-slots.ensures)))

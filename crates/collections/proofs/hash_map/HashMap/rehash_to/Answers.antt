@@ -1,4 +1,4 @@
-use Rattle.collections.proofs.Capacity.{settled_slots}
+use Rattle.collections.proofs.Capacity.{none_fewer, settled_slots}
 use Rattle.collections.proofs.Steps.{stays}
 use Rattle.collections.proofs.hash_map.HashMap.rehash_to.Goals.{in-Err, in-Ok}
 use Rattle.collections.proofs.hash_map.HashMap.rehash_to.Goals as goal
@@ -13,3 +13,6 @@ returns-clause-slots g c = elim c.match-outcome.branch [
       rw w.result-is (settled_slots c.args.slots c.rehash_to-outcome.new.self.arrays c.requires w.in-Ok.ensures.rehashed.settled)
   | in-Err w ↦ rw w.result-is tt
 ]
+
+pub returns-clause-no_fewer : goal.returns-clause-no_fewer
+returns-clause-no_fewer g c = rw (← c.self.view_is) (none_fewer c.args.slots _ _ c.requires c.rehash_to-outcome.ensures.rehashed.current_len)

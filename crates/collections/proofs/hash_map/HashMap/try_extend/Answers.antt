@@ -1,10 +1,13 @@
-use Rattle.std.proofs.Common.{◌∙◌}
+use Rattle.std.proofs.Common.{refl, ◌∙◌}
+use Rattle.std.proofs.slice.Lists.{chained_more}
+use Rattle.collections.specs.Loans.{Puts}
+use Rattle.collections.specs.Slots.{GrowsSlots}
 use Rattle.std.proofs.iter.Next as it
 use Rattle.collections.proofs.Collecting.{none_put, one_more_put, put_then_stays, upsert_puts}
 use Rattle.collections.proofs.hash_map.HashMap.try_extend.Goals as goal
 
 pub loop-pair-init : goal.loop-pair-init
-loop-pair-init g c = it.begun c.requires.can c.requires.finite (none_put g.K.PartialEq.eq c.args.self.now c.sound.ensures)
+loop-pair-init g c = it.begun c.requires.can c.requires.finite (none_put g.K.PartialEq.eq c.args.self.now c.sound.ensures, refl)
 
 pub loop-pair-preserved : goal.loop-pair-preserved
 loop-pair-preserved g c =
@@ -12,19 +15,20 @@ loop-pair-preserved g c =
     let inv = c.loop-pair.invariant in
     let pair = c.in-Some.pair in
     it.again inv pair c.in-Some.is (c.next.ensures.steps, c.next.ensures.goes)
-    (one_more_put eq c.args.self.now c.loop-pair.self c.upsert.new.self inv.seen pair inv.holds
-    (upsert_puts eq c.loop-pair.self c.upsert.new.self pair.0 pair.1 c.in-Ok.earlier c.in-Ok.ensures.map))
+    (
+      one_more_put eq c.args.self.now c.loop-pair.self c.upsert.new.self inv.seen pair inv.holds.0 (upsert_puts eq c.loop-pair.self c.upsert.new.self pair.0 pair.1 c.in-Ok.earlier c.in-Ok.ensures.map),
+      chained_more (λ before p after. Puts eq before p.0 p.1 after × GrowsSlots g.H.KeyHash.hash_of p.0 before after) c.args.self.now
+          inv.seen c.loop-pair.self pair c.upsert.new.self inv.holds.1 ((upsert_puts eq c.loop-pair.self c.upsert.new.self pair.0 pair.1 c.in-Ok.earlier c.in-Ok.ensures.map), c.upsert.ensures.slots),
+    )
 
-pub returns-in-Err-clause-puts : goal.returns-in-Err-clause-puts
-returns-in-Err-clause-puts g c =
+pub returns-in-Err : goal.returns-in-Err
+returns-in-Err g c =
     let inv = c.loop-pair.invariant in
     let (back, none, stays) = c.in-Err.ensures.map in
     rw back (
       inv.seen,
       it.Gave-then inv c.in-Some.is c.next.ensures.steps,
-      put_then_stays g.K.PartialEq.eq c.args.self.now c.loop-pair.self c.upsert.new.self inv.seen inv.holds stays,
+      put_then_stays g.K.PartialEq.eq c.args.self.now c.loop-pair.self c.upsert.new.self inv.seen inv.holds.0 stays,
       stays.gets c.in-Some.pair.0 ∙ none,
+      (c.loop-pair.self, inv.holds.1, stays, c.in-Err.ensures.memory),
     )
-
-pub returns-in-Err-clause-memory : goal.returns-in-Err-clause-memory
-returns-in-Err-clause-memory g c = rw c.in-Err.ensures.map.0 c.in-Err.ensures.memory

@@ -1,4 +1,7 @@
-use Rattle.std.proofs.Common.{◌∙◌}
+use Rattle.std.proofs.Common.{refl, ◌∙◌}
+use Rattle.std.proofs.slice.Lists.{chained_more}
+use Rattle.collections.specs.Collecting.{PutsKey}
+use Rattle.collections.specs.Slots.{GrowsSlots}
 use Rattle.std.proofs.iter.Next as it
 use Rattle.collections.proofs.SetCollecting.{added_put, keys_then_stay, no_key_put, one_more_key}
 use Rattle.collections.proofs.hash_set.HashSet.try_extend.Goals as goal
@@ -6,7 +9,7 @@ use Rattle.collections.proofs.hash_set.HashSet.try_extend.Goals as goal
 pub loop-key-init : goal.loop-key-init
 loop-key-init g c =
     it.begun c.requires.can c.requires.finite (no_key_put g.K.PartialEq.eq g.met.K.Eq.laws c.args.self.now
-    (rw (← c.self.view_is) c.sound.ensures))
+    (rw (← c.self.view_is) c.sound.ensures), refl)
 
 pub loop-key-preserved : goal.loop-key-preserved
 loop-key-preserved g c =
@@ -14,19 +17,20 @@ loop-key-preserved g c =
     let inv = c.loop-key.invariant in
     let key = c.in-Some.key in
     it.again inv key c.in-Some.is (c.next.ensures.steps, c.next.ensures.goes)
-    (one_more_key eq g.met.K.Eq.laws c.args.self.now c.loop-key.self c.insert.new.self inv.seen key inv.holds
-    (added_put eq g.met.K.Eq.laws c.loop-key.self c.insert.new.self key c.in-Ok._added c.in-Ok.ensures.set))
+    (
+      one_more_key eq g.met.K.Eq.laws c.args.self.now c.loop-key.self c.insert.new.self inv.seen key inv.holds.0 (added_put eq g.met.K.Eq.laws c.loop-key.self c.insert.new.self key c.in-Ok._added c.in-Ok.ensures.set),
+      chained_more (λ before k after. PutsKey eq before k after × GrowsSlots g.H.KeyHash.hash_of k before after) c.args.self.now
+          inv.seen c.loop-key.self key c.insert.new.self inv.holds.1 ((added_put eq g.met.K.Eq.laws c.loop-key.self c.insert.new.self key c.in-Ok._added c.in-Ok.ensures.set), c.insert.ensures.slots),
+    )
 
-pub returns-in-Err-clause-puts : goal.returns-in-Err-clause-puts
-returns-in-Err-clause-puts g c =
+pub returns-in-Err : goal.returns-in-Err
+returns-in-Err g c =
     let inv = c.loop-key.invariant in
     let (back, none, stays) = c.in-Err.ensures.set in
     rw back (
       inv.seen,
       it.Gave-then inv c.in-Some.is c.next.ensures.steps,
-      keys_then_stay g.K.PartialEq.eq g.met.K.Eq.laws c.args.self.now c.loop-key.self c.insert.new.self inv.seen inv.holds stays,
+      keys_then_stay g.K.PartialEq.eq g.met.K.Eq.laws c.args.self.now c.loop-key.self c.insert.new.self inv.seen inv.holds.0 stays,
       stays.gets c.in-Some.key ∙ none,
+      (c.loop-key.self, inv.holds.1, stays, c.in-Err.ensures.memory),
     )
-
-pub returns-in-Err-clause-memory : goal.returns-in-Err-clause-memory
-returns-in-Err-clause-memory g c = rw c.in-Err.ensures.set.0 c.in-Err.ensures.memory

@@ -54,7 +54,7 @@ impl<'a, K: Eq + Drop, V: Drop, H: KeyHash<K>, Q: ToKey<K, H>> VacantEntryRef<'a
     pub fn insert(self, value: V, alloc: Global) -> Result<&'a mut V, AllocFailed<V>>
         ensures* writes_back { sem 𝓛
             (LendsMade K.row V.row H.row K.PartialEq H.KeyHash self.entry.map
-            (Q.stands_for self.entry.form) result) }
+            (Q.may_lack self.entry.form) (Q.stands_for self.entry.form) result) }
         ensures value { IfOk result (λ lent. lent.now ≡ value) }
         ensures value_returned { IfErr result (λ back. back.value ≡ value) }
     {

@@ -1,5 +1,5 @@
 //! The call that makes an entry by a form, and the calls of such entries of either kind.
-ghost use Rattle.std.specs.Prelude.{◌≡◌, None, IfErr, IfOk, MatchOption, unwrap_or};
+ghost use Rattle.std.specs.Prelude.{◌≡◌, false, None, IfErr, IfOk, MatchOption, unwrap_or};
 ghost use Rattle.std.specs.Borrow.{MutBor, sem};
 ghost use Rattle.collections.specs.Maps.{contains_by, get_by};
 
@@ -67,7 +67,7 @@ impl<'a, K: Eq + Drop, V: Drop, H: KeyHash<K>, Q: KeyForm<K, H>> EntryRef<'a, K,
 }
 
 impl<'a, K: Eq + Drop, V: Drop, H: KeyHash<K>, Q: ToKey<K, H>> EntryRef<'a, K, V, H, Q> {
-    ghost use Rattle.collections.specs.EntryRefs.{ref_form, ref_map};
+    ghost use Rattle.collections.specs.EntryRefs.{is_ref_occupied, ref_form, ref_map};
     ghost use Rattle.collections.specs.Loans.{LendsPutWanted};
 
     /// Lends the value under the key for writing; where the map has none of the keys, it makes one
@@ -84,7 +84,7 @@ impl<'a, K: Eq + Drop, V: Drop, H: KeyHash<K>, Q: ToKey<K, H>> EntryRef<'a, K, V
     pub fn or_insert(self, default: V, alloc: Global) -> Result<&'a mut V, AllocFailed<V>>
         ensures* writes_back { sem 𝓛
             (LendsPutWanted K.row V.row H.row K.PartialEq H.KeyHash (ref_map self.entry)
-            (Q.stands_for (ref_form self.entry)) result) }
+            (Q.may_lack (ref_form self.entry)) (Q.stands_for (ref_form self.entry)) result) }
         ensures value { IfOk result (λ lent. lent.now ≡ unwrap_or
             (get_by (Q.stands_for (ref_form self.entry)) (ref_map self.entry).now) default) }
         ensures refused { IfErr result (λ back. (back.value ≡ default)
@@ -112,10 +112,10 @@ impl<'a, K: Eq + Drop, V: Drop, H: KeyHash<K>, Q: ToKey<K, H>> EntryRef<'a, K, V
         make: F,
         alloc: Global,
     ) -> Result<&'a mut V, AllocFailed<V>>
-        requires callable { F.pre make }
+        requires callable { is_ref_occupied self ≡ false → F.pre make }
         ensures* writes_back { sem 𝓛
             (LendsPutWanted K.row V.row H.row K.PartialEq H.KeyHash (ref_map self.entry)
-            (Q.stands_for (ref_form self.entry)) result) }
+            (Q.may_lack (ref_form self.entry)) (Q.stands_for (ref_form self.entry)) result) }
         ensures value { IfOk result (λ lent. MatchOption
             (get_by (Q.stands_for (ref_form self.entry)) (ref_map self.entry).now)
             (F.post make lent.now) (λ held. lent.now ≡ held)) }
@@ -144,7 +144,7 @@ impl<'a, K: Eq + Drop, V: Drop, H: KeyHash<K>, Q: ToKey<K, H>> EntryRef<'a, K, V
         V: MadeWith<Global>,
         ensures* writes_back { sem 𝓛
             (LendsPutWanted K.row V.row H.row K.PartialEq H.KeyHash (ref_map self.entry)
-            (Q.stands_for (ref_form self.entry)) result) }
+            (Q.may_lack (ref_form self.entry)) (Q.stands_for (ref_form self.entry)) result) }
         ensures value { IfOk result (λ lent. MatchOption
             (get_by (Q.stands_for (ref_form self.entry)) (ref_map self.entry).now)
             (V.is_made_with lent.now) (λ held. lent.now ≡ held)) }

@@ -11,6 +11,7 @@ returns-in-Err-add g c =
         absent = c.args.self.absent;
         value = tt;
         refused = inr (record {
+          lacks = stays.1;
           back = c.in-Err-add.back;
           same_key = ap (λ p. p.0) back;
           made = subst (λ value. goal.F-post g c.args.make (Ok value)) (sym (ap (λ p. p.1) back)) c.in-Ok.ensures;

@@ -1,0 +1,28 @@
+-- What calls do to the slots of a map.
+use Rattle.std.specs.Prelude.{ℕ, ◌≡◌, ◌<◌, ◌/◌, ◌⊎◌}
+use Rattle.bucket_slots.specs.Sizing.{IsLengthFor}
+use Rattle.collections.specs.Crowding.{HasAtHome}
+use Rattle.collections.specs.Maps.{MapView}
+
+module _ {K V H : Type 0} where
+  -- the slots stay, and the old ones too, or those are gone
+  pub record KeepsSlots (old new : MapView K V H) : Type 0 where
+    pub slots : new.slots ≡ old.slots
+    pub old_slots : (new.old_slots ≡ old.old_slots) ⊎ (new.old_slots ≡ 0)
+
+  -- the first slots are those for the minimum
+  pub record MakesSlots (old new : MapView K V H) : Type 0 where
+    pub none : old.slots ≡ 0
+    pub slots : IsLengthFor old.minimum (new.slots / 32)
+    pub old_slots : new.old_slots ≡ 0
+
+  -- the slots are the old ones now, and a key's bucket among them was the home of 31 pairs
+  pub record ChangesSlots (hash : K → ℕ) (key : K) (old new : MapView K V H) : Type 0 where
+    pub crowded : HasAtHome 31 hash key old.slots old.entries
+    pub old_slots : new.old_slots ≡ old.slots
+    pub slots : 0 < new.slots
+
+  -- an insertion of a key keeps the slots, or makes the first, or the key's bucket is nearly full and they are the old ones now; a caller
+  -- that needs it unfolds it
+  unfoldable pub GrowsSlots : (H → K → ℕ) → K → MapView K V H → MapView K V H → Type 0
+  GrowsSlots hash_of key old new = KeepsSlots old new ⊎ (MakesSlots old new ⊎ ChangesSlots (hash_of old.hasher) key old new)
