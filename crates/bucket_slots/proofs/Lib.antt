@@ -53,4 +53,5 @@ pub mod Spreading
 pub mod OwnSpreading
 pub mod ArrayCallerLemmas
 pub mod WrittenValues
+pub mod Replacing
 pub mod Crosses

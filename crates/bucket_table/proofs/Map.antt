@@ -16,5 +16,6 @@ pub mod Putting
 pub mod Finding
 pub mod Preparing
 pub mod SlotSteps
+pub mod Replacing
 pub mod TakingOn
 pub mod CountSteps

@@ -12,6 +12,7 @@ pub mod Arriving
 pub mod Carried
 pub mod CarriedPairs
 pub mod CarriedOrder
+pub mod GoingFirst
 pub mod CountingTargets
 pub mod HomesByDivision
 pub mod Ways

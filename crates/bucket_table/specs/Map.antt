@@ -3,6 +3,7 @@ pub mod MapState
 pub mod LookingUp
 pub mod ByKey
 pub mod Putting
+pub mod Replacing
 pub mod Lending
 pub mod Counting
 pub mod Finding

@@ -25,6 +25,7 @@ mod preparing;
 mod rehashing;
 mod relocating;
 mod remaking;
+mod replacing;
 mod resizing;
 mod row;
 mod sampling;

@@ -1,5 +1,5 @@
 -- A pair was added, and its value lent: what is written through the loan stands beside the key.
-use Rattle.std.proofs.Common.{ℕ, suc, ◌≡◌, Bool, false, not, Err, Ok, OnOk, Result, Some, None, List, [], ◌∷◌, refl, sym, ap}
+use Rattle.std.proofs.Common.{ℕ, suc, ◌≡◌, ◌<◌, ◌*◌, length, Bool, false, not, Err, Ok, OnOk, Result, Some, None, List, [], ◌∷◌, refl, sym, ap}
 use Rattle.std.proofs.Common.{subst, ◌∙◌, arith}
 use Rattle.std.specs.Cmp.{IsEquivalence}
 use Rattle.std.specs.List.{All, IsDistinct, filter}
@@ -8,18 +8,23 @@ use Rattle.std.specs.Map.{keys_of, lookup}
 use Rattle.std.proofs.lemmas.List.Sorted.{All-permutation, IsPermutation-cons, IsPermutation-refl, IsPermutation-sym, IsPermutation-trans}
 use Rattle.std.proofs.lemmas.Map.{lookup-none}
 use Rattle.std.proofs.lemmas.Map.Entries.{none_past_head}
+use Rattle.bucket_slots.specs.BucketView.{BucketView, Place, bucket_with_value}
+use Rattle.bucket_slots.specs.Clearing.{slots_after_insertion}
 use Rattle.bucket_slots.specs.Slots.{Slot, live, live_pair}
-use Rattle.bucket_table.specs.Views.ArraysView.{TableView, pairs_of}
-use Rattle.bucket_table.specs.Views.Sides.{bucket_on}
+use Rattle.bucket_table.specs.Views.ArraysView.{ArePlaced, TableView, pairs_of}
+use Rattle.bucket_table.specs.Views.Sides.{bucket_on, with_bucket}
 use Rattle.bucket_table.specs.declared.arrays.side.Side.{Side}
 use Rattle.bucket_table.specs.Map.ByKey.{HasNoSlot}
-use Rattle.bucket_table.specs.Map.Finding.{Finds}
+use Rattle.bucket_table.specs.Map.Finding.{Finds, FindsBucket}
+use Rattle.bucket_table.specs.Map.Lending.{with_value}
 use Rattle.bucket_table.specs.Map.LookingUp.{IsAbsent}
 use Rattle.bucket_table.specs.Map.MapState.{AddsPair, ChangesValue, KeepsPairs, MapState, state_of}
 use Rattle.bucket_table.proofs.Walking.Filters.{IsPermutation-filter}
 use Rattle.collections.specs.Changes.{Adds, Stays}
 use Rattle.collections.specs.Maps.{get, map_of}
 use Rattle.collections.proofs.Lookups.{absent_from_lookup, distinct_permuted, distinct_with}
+use Rattle.collections.specs.Slots.{GrowsSlots}
+use Rattle.collections.proofs.Slots.{added_grows, as_long_with, grows_as, kept_grows}
 use Rattle.collections.proofs.Steps.{adds, stays}
 
 module _ {K V : Type 0} (eq : K → K → Bool) (laws : IsEquivalence eq) where
@@ -72,6 +77,15 @@ full_there {K} {V} {H} keeps t s side to index at same here there none =
     (subst (λ (k : Side). HasNoSlot 83 keeps (bucket_on t.arrays k at)) here
     (subst (λ (i : ℕ). HasNoSlot 83 keeps (bucket_on t.arrays side i)) there none))
 
+-- a bucket that was changed, named otherwise
+pub changed_there : {K V H : Type 0} (added t s : TableView K V H) (side to : Side) (index at : ℕ) (change : BucketView K V → BucketView K V)
+    → t ≡ s → side ≡ to → index ≡ at → added ≡ with_bucket t side index (change (bucket_on t.arrays side index))
+    → added ≡ with_bucket s to at (change (bucket_on s.arrays to at))
+changed_there {K} {V} {H} added t s side to index at change same here there is =
+    subst (λ (u : TableView K V H). added ≡ with_bucket u to at (change (bucket_on u.arrays to at))) same
+    (subst (λ (k : Side). added ≡ with_bucket t k at (change (bucket_on t.arrays k at))) here
+    (subst (λ (i : ℕ). added ≡ with_bucket t side i (change (bucket_on t.arrays side i))) there is))
+
 -- the pair of a live slot
 pub pair_named : {K V : Type 0} (slot : Slot K V) (p q : K × V) (byte : ℕ) → slot ≡ live p byte → live_pair slot ≡ Some q → q ≡ p
 pair_named slot p q byte named found =
@@ -109,3 +123,27 @@ module _ {K V H : Type 0} (eq : K → K → Bool) (laws : IsEquivalence eq) (kin
         others = changed.after.others ∙ ap (λ (z : MapState K V H). record z { pairs = pairs_of s.arrays })
             (puts.others ∙ ap (λ (z : MapState K V H). record z { pairs = zs }) keeps.others);
       })
+
+-- a pair was put into the bucket that was found, and its value written then
+pub added_lent_grows : {K V H : Type 0} (hash_of : H → K → ℕ) (key : K) (t between added : TableView K V H)
+    → ArePlaced (hash_of added.hasher) added.arrays → (0 < length added.arrays.linked → 0 < length added.arrays.current)
+    → (keeps : ℕ → Bool) (v w : V) (side : Side) (index byte hash : ℕ) (at : Place) → hash ≡ hash_of t.hasher key
+    → FindsBucket 83 hash t side index between → AddsPair (state_of 83 between) (key, v) (state_of 83 added)
+    → added ≡ with_bucket between side index (slots_after_insertion 83 keeps (bucket_on between.arrays side index) (key, v) byte)
+    → GrowsSlots hash_of key (map_of t) (map_of (with_value added side index at w))
+added_lent_grows {K} {V} {H} hash_of key t between added placed beside keeps v w side index byte hash at own finds puts is =
+    let same = sym (ap (λ z. z.hasher) puts.others ∙ ap (λ z. z.hasher) finds.map.others) in
+    let pairs = IsPermutation-trans _ _ _ (IsPermutation-cons (key, v) (pairs_of t.arrays) (pairs_of between.arrays) finds.map.pairs) puts.pairs in
+    let there = subst (λ (h : ℕ). FindsBucket 83 h t side index between) own finds in
+    let grows = added_grows hash_of key t added placed beside 83 keeps v between side index byte there same pairs is in
+    let long = as_long_with added.arrays side index (bucket_with_value (bucket_on added.arrays side index) at w) in
+    grows_as hash_of key (map_of t) (map_of added) (map_of (with_value added side index at w))
+    (ap (λ (n : ℕ). 32 * n) long.current) (ap (λ (n : ℕ). 32 * n) long.linked) grows
+
+-- the bucket that was found has no free slot
+pub full_grows : {K V H : Type 0} (hash_of : H → K → ℕ) (key : K) (t s : TableView K V H) → ArePlaced (hash_of s.hasher) s.arrays
+    → (0 < length s.arrays.linked → 0 < length s.arrays.current) → (side : Side) (index hash : ℕ) → hash ≡ hash_of t.hasher key
+    → FindsBucket 83 hash t side index s → GrowsSlots hash_of key (map_of t) (map_of s)
+full_grows {K} {V} {H} hash_of key t s placed beside side index hash own finds =
+    kept_grows hash_of key t s placed beside 83 (Ok (side, index)) s
+    (subst (λ (h : ℕ). FindsBucket 83 h t side index s) own finds) finds.map refl

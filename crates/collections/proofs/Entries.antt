@@ -5,6 +5,7 @@ use Rattle.std.specs.Cmp.{IsEquivalence}
 use Rattle.std.specs.Option.{IfSome, IsSome, MatchOption}
 use Rattle.collections.specs.Changes.{Holds, Keeps, Replaces}
 use Rattle.collections.specs.Hashes.{HaveHash}
+use Rattle.collections.specs.Slots.{KeepsSlots}
 use Rattle.collections.specs.Maps.{MapView, get, get_by}
 use Rattle.collections.proofs.Lookups.{IsForm, form_of_key}
 
@@ -30,10 +31,14 @@ puts_held {K} {V} eq map new wants before value P is holds =
     subst (λ (o : Option V). MatchOption o P (λ held. (own : K) × Replaces eq map wants (own, held) value new)) (sym is) holds
 
 module _ {K V H : Type 0} (eq : K → K → Bool) (map new : MapView K V H) (wants : K → Bool) (loan : Option (MutBor V)) (lent : MutBor V)
-    (value : V) (is : loan ≡ Some lent) (holds : IfSome loan (λ l. (own : K) × Replaces eq map wants (own, l.now) value new)) where
+    (value : V) (is : loan ≡ Some lent) (holds : IfSome loan (λ l. (own : K) × Replaces eq map wants (own, l.now) value new × KeepsSlots map new)) where
   -- a loan that is there replaces
   pub replaces_there : (own : K) × Replaces eq map wants (own, lent.now) value new
-  replaces_there = rw is at holds
+  replaces_there = let both = rw is at holds in (both.0, both.1)
+
+  -- and the slots stay
+  pub slots_there : KeepsSlots map new
+  slots_there = let both = rw is at holds in both.2
 
   -- and so the value is put, whatever puts it where no key is wanted
   pub puts_there : (P : Type 0)

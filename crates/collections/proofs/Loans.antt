@@ -1,10 +1,11 @@
 -- A value of a map was lent: what is written through the loan stands beside the key.
-use Rattle.std.proofs.Common.{ℕ, Bool, ◌∷◌, Option, Some, None, ◌≡◌, sym}
+use Rattle.std.proofs.Common.{ℕ, Bool, true, ◌∷◌, Option, Some, None, ◌≡◌, sym}
 use Rattle.std.specs.Borrow.{MutBor}
 use Rattle.std.specs.Cmp.{IsEquivalence}
 use Rattle.std.specs.List.{IsDistinct}
 use Rattle.std.specs.Map.{keys_of}
 use Rattle.std.specs.Option.{IfNone, IfSome, option_copied_mut}
+use Rattle.bucket_slots.specs.BucketView.{bucket_with_value}
 use Rattle.bucket_table.specs.Map.Lending.{WritesUnder}
 use Rattle.bucket_table.specs.Map.LookingUp.{IsAbsent, IsThere}
 use Rattle.bucket_table.specs.Map.MapState.{ChangesValue, state_of}
@@ -12,7 +13,9 @@ use Rattle.bucket_table.specs.Map.Preparing.{IsPrepared}
 use Rattle.bucket_table.specs.Views.ArraysView.{TableView, pairs_of}
 use Rattle.collections.specs.Changes.{Replaces, Stays}
 use Rattle.collections.specs.Maps.{get_by, map_of}
+use Rattle.collections.specs.Slots.{KeepsSlots}
 use Rattle.collections.proofs.Lookups.{IsForm, distinct_permuted, distinct_with, form_absent, form_there}
+use Rattle.collections.proofs.Slots.{as_long, changed_keeps, prepared_keeps}
 use Rattle.collections.proofs.Steps.{replaces, stays}
 
 module _ {K V H : Type 0} (eq : K → K → Bool) (laws : IsEquivalence eq) (kind : ℕ) (t : TableView K V H)
@@ -28,13 +31,16 @@ module _ {K V H : Type 0} (eq : K → K → Bool) (laws : IsEquivalence eq) (kin
   -- what is written through the loan
   pub lent_replaces : (hash : ℕ) (loan : Option (MutBor V)) (s : TableView K V H) (v : V)
       → IfSome loan (λ lent. WritesUnder wants kind hash t lent.now v s)
-      → IfSome loan (λ lent. (own : K) × Replaces eq (map_of t) wants (own, lent.now) v (map_of s))
+      → IfSome loan (λ lent. (own : K) × Replaces eq (map_of t) wants (own, lent.now) v (map_of s) × KeepsSlots (map_of t) (map_of s))
   lent_replaces hash None s v wrote = tt
   lent_replaces hash (Some lent) s v wrote =
       let own = wrote.map.0 in
       let changed = wrote.map.2 in
-      let after = distinct_changed s (own, lent.now) v changed in
-      (own, replaces eq laws kind t s distinct after wants alike (own, lent.now) v wrote.map.1 changed)
+      let after = distinct_changed s (own, lent.now) v changed in (
+        own,
+        replaces eq laws kind t s distinct after wants alike (own, lent.now) v wrote.map.1 changed,
+        changed_keeps kind hash t s wants (λ bucket at. bucket_with_value bucket at v) true wrote.arrays,
+      )
 
   -- what is lent
   pub lent_value : (loan : Option (MutBor V)) → IfSome loan (λ lent. (own : K) × IsThere wants (pairs_of t.arrays) (own, lent.now))
@@ -46,10 +52,11 @@ module _ {K V H : Type 0} (eq : K → K → Bool) (laws : IsEquivalence eq) (kin
   -- where nothing is lent
   pub lent_none : (hash : ℕ) (loan : Option (MutBor V)) (s : TableView K V H) → IfNone loan (IsPrepared kind hash t s)
       → IfNone loan (IsAbsent wants (pairs_of t.arrays))
-      → IfNone loan ((get_by wants (map_of t) ≡ None) × Stays eq (map_of t) (map_of s))
+      → IfNone loan ((get_by wants (map_of t) ≡ None) × Stays eq (map_of t) (map_of s) × KeepsSlots (map_of t) (map_of s))
   lent_none hash None s prepared absent = (
     form_absent wants (pairs_of t.arrays) absent,
     stays eq laws kind t s distinct
         (distinct_permuted eq laws (pairs_of t.arrays) (pairs_of s.arrays) prepared.map.pairs distinct) prepared.map,
+    prepared_keeps t s kind hash s prepared (as_long s.arrays),
   )
   lent_none hash (Some lent) s prepared absent = tt

@@ -1,63 +1,73 @@
--- A key of a set is taken out, and another is put.
-use Rattle.std.proofs.Common.{ℕ, ◌≡◌, Bool, true, false, Option, Some, None, Ok, ◌∷◌, ap, is_some, sym, ◌∙◌, arith}
-use Rattle.std.proofs.lemmas.Bool.{true≢false}
+-- A key of a set is put where it is absent, or in the place of an equal one.
+use Rattle.std.proofs.Common.{ℕ, ◌≡◌, Bool, true, false, Result, Ok, Err, ◌∷◌, ap, is_some, refl}
+use Rattle.std.proofs.Common.{sym, ◌∙◌, arith, inl, inr}
+use Rattle.std.proofs.lemmas.Bool.{cases_Bool, true≢false}
+use Rattle.std.proofs.lemmas.List.Sorted.{Contains-permutation, IsPermutation-sym, length_permutation}
 use Rattle.std.specs.Cmp.{IsEquivalence}
-use Rattle.std.proofs.lemmas.List.Sorted.{IsPermutation-cons, IsPermutation-trans}
-use Rattle.collections.specs.Changes.{Adds, SetRemoves, Stays, Takes, Upserts}
-use Rattle.collections.specs.Crowding.{LacksRoom}
-use Rattle.collections.specs.Maps.{MapView, contains, get}
-use Rattle.collections.specs.SetChanges.{LacksRoomAfter, SetAdds, SetReplaces}
-use Rattle.collections.proofs.Staying.{adds_after, stays_after}
-use Rattle.collections.proofs.StoredKeys.{replaced_key}
+use Rattle.std.specs.List.{IsDistinct}
+use Rattle.std.specs.Map.{keys_of}
+use Rattle.bucket_table.specs.Views.ArraysView.{TableView, pairs_of}
+use Rattle.bucket_table.specs.Map.MapState.{state_of}
+use Rattle.bucket_table.specs.Map.Putting.{ReplacesPair}
+use Rattle.bucket_table.specs.Map.Replacing as replacing
+use Rattle.collections.specs.Changes.{Adds}
+use Rattle.collections.specs.Maps.{MapView, contains, map_of}
+use Rattle.collections.specs.SetChanges.{SetAdds, SwapsKey}
+use Rattle.collections.specs.StoredKeys.{ReplacesKey}
+use Rattle.collections.proofs.Lookups.{lookup_added, lookup_same, lookup_taken, lookup_there}
+use Rattle.collections.proofs.Steps.{absent, stays}
 
-module _ {K V H : Type 0} (eq : K → K → Bool) (old between new : MapView K V H) (key : K) (pair : K × V) where
-  -- a pair is taken, and then the map may move its pairs
-  pub takes_then : Takes eq old (eq key) pair between → Stays eq between new → Takes eq old (eq key) pair new
-  takes_then taken stays = record {
-    same = taken.same;
-    value = taken.value;
-    entries = IsPermutation-trans old.entries (pair ∷ between.entries) (pair ∷ new.entries) taken.entries
-        (IsPermutation-cons pair between.entries new.entries stays.entries);
-    len = omega (arith, taken.len, stays.len);
-    updates = λ q. stays.gets q ∙ taken.updates q;
-    kept = record {
-      unique = stays.kept.unique;
-      hasher = stays.kept.hasher ∙ taken.kept.hasher;
-      minimum = stays.kept.minimum ∙ taken.kept.minimum;
-      maximum = stays.kept.maximum ∙ taken.kept.maximum;
-    };
-  }
-
-  -- and a look-up finds none
-  pub none_after : IsEquivalence eq → Takes eq old (eq key) pair between → get eq between key ≡ None
-  none_after laws taken = rw (laws.refl key) at (taken.updates key)
-
-module _ {K H : Type 0} (eq : K → K → Bool) (laws : IsEquivalence eq) (key : K) (old between new : MapView K (Unit {0}) H) where
-  -- what was there is out, and the key is put
-  pub replaced : (earlier : Option K) (held : Option (Unit {0})) → SetRemoves eq (eq key) old earlier between
-      → Upserts eq key tt between (Ok held) new → SetReplaces eq key old (Ok earlier) new
-  replaced None None none added = adds_after eq old between new none.1 key tt added
-  replaced None (Some held) none put =
-      let there = sym put.1.value ∙ none.1.gets key ∙ none.0 in
-      absurd cc
-  replaced (Some own) None taken added = replaced_key eq laws key old between (own, tt) taken new added
-  replaced (Some own) (Some held) taken put =
-      let there = sym put.1.value ∙ none_after eq old between new key (own, tt) laws taken in
-      absurd cc
-
-  -- it isn't put
-  pub not_replaced : (earlier : Option K) → SetRemoves eq (eq key) old earlier between → Stays eq between new
-      → SetRemoves eq (eq key) old earlier new
-  not_replaced None none stays = (none.0, stays_after eq old between new none.1 stays)
-  not_replaced (Some own) taken stays = takes_then eq old between new key (own, tt) taken stays
-
+module _ {K H : Type 0} (eq : K → K → Bool) (laws : IsEquivalence eq) (key : K) where
   -- where the key was absent it was put
-  pub put_absent : (answer : Bool) → contains eq old key ≡ false → SetAdds eq key old (Ok answer) new → Adds eq old key tt new
-  put_absent true absent added = added
-  put_absent false absent (there, stays) = absurd (true≢false (sym there ∙ absent))
+  pub put_absent : (old new : MapView K (Unit {0}) H) (answer : Bool) → contains eq old key ≡ false
+      → SetAdds eq key old (Ok answer) new → Adds eq old key tt new
+  put_absent old new true there added = added
+  put_absent old new false there (some, same) = absurd (true≢false (sym some ∙ there))
 
-  -- room was lacking then
-  pub lacks_after : (hash_of : H → K → ℕ) (earlier : Option K) → contains eq old key ≡ true → SetRemoves eq (eq key) old earlier between
-      → LacksRoom hash_of key between → LacksRoomAfter eq key hash_of old earlier
-  lacks_after hash_of None there (absent, stays) lacks = absurd (true≢false (sym there ∙ ap is_some absent))
-  lacks_after hash_of (Some own) there taken lacks = (between, taken, lacks)
+  -- where one is there, the key doesn't come back
+  pub not_back : (old new : MapView K (Unit {0}) H) (back : K) → contains eq old key ≡ true → SwapsKey eq key old (Err back) new → ⊥
+  not_back old new back there (same, none, kept) = true≢false (sym there ∙ ap is_some none)
+
+  module _ (kind : ℕ) (t s : TableView K (Unit {0}) H) (distinct : IsDistinct eq (keys_of (pairs_of t.arrays)))
+      (after : IsDistinct eq (keys_of (pairs_of s.arrays))) where
+    replaces_key : (p : K × Unit {0}) → eq p.0 key ≡ true → ReplacesPair (state_of kind t) p (key, tt) (state_of kind s)
+        → ReplacesKey eq (map_of t) (p.0, tt) key (map_of s)
+    replaces_key p same done =
+        let were = pairs_of t.arrays in
+        let are = pairs_of s.arrays in
+        let there = Contains-permutation (p ∷ done.rest) were p (IsPermutation-sym were (p ∷ done.rest) done.before) (0, omega arith, refl) in
+        let found = lookup_there eq laws key were p distinct there (laws.symm key p.0 ∙ same) in
+        let before = length_permutation were (p ∷ done.rest) done.before in
+        let later = length_permutation ((key, tt) ∷ done.rest) are done.after.pairs in
+        record {
+          same = same;
+          value = found;
+          rest = done.rest;
+          before = done.before;
+          after = done.after.pairs;
+          len = omega (arith, before, later);
+          gets = λ q.
+              let now = lookup_added eq laws q (key, tt) done.rest are after done.after.pairs in
+              let rest = lookup_taken eq laws key q p were done.rest distinct done.before same in
+              elim (cases_Bool (eq key q)) [
+                | inl hit ↦ rw hit at now ∙ sym (sym (lookup_same eq laws key q were hit) ∙ found)
+                | inr miss ↦ rw miss at now ∙ rw miss at rest
+              ];
+          kept = record {
+            unique = after;
+            hasher = ap (λ z. z.hasher) done.after.others;
+            minimum = ap (λ z. z.minimum) done.after.others;
+            maximum = ap (λ z. z.maximum) done.after.others;
+          };
+        }
+
+    -- a table's answer, without the values
+    abbrev pub key_answer : Result (K × Unit {0}) (K × Unit {0}) → Result K K
+    key_answer (Ok p) = Ok p.0
+    key_answer (Err p) = Err p.0
+
+    pub swaps_key : (r : Result (K × Unit {0}) (K × Unit {0})) → replacing.Replaces eq key tt (state_of kind t) r (state_of kind s)
+        → SwapsKey eq key (map_of t) (key_answer r) (map_of s)
+    swaps_key (Ok p) done = replaces_key p done.0 done.1
+    swaps_key (Err p) done =
+        (ap (λ x. x.0) done.0, absent eq laws kind t s distinct after key done.1, stays eq laws kind t s distinct after done.2)

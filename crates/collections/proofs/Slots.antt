@@ -1,10 +1,10 @@
 -- What becomes of the slots where a bucket is found for an insertion.
-use Rattle.std.proofs.Common.{ℕ, ◌≡◌, ◌<◌, ◌≤◌, ◌+◌, ◌*◌, ◌/◌, ◌%◌, Bool, true, false, Option, Some, None, Result, Ok, Err, List, [], ◌∷◌, ◌⊎◌, inl, inr}
+use Rattle.std.proofs.Common.{ℕ, ◌≡◌, ◌<◌, ◌≤◌, ◌+◌, ◌*◌, ◌/◌, ◌%◌, Bool, true, false, Option, Some, None, Result, Ok, Err, List, ◌∷◌, ◌⊎◌, inl, inr}
 use Rattle.std.proofs.Common.{length, refl, sym, subst, ap, ◌∙◌, arith, set, length-set}
 use Rattle.std.specs.List.Sorted.{IsPermutation}
 use Rattle.std.proofs.lemmas.List.Sorted.{length_permutation}
 use Rattle.std.proofs.lemmas.Bool.{cases_eq, cases_lt}
-use Rattle.std.proofs.lemmas.List.{get_or-set_other, get_or-set_same, nil_from_length}
+use Rattle.std.proofs.lemmas.List.{get_or-set_other, get_or-set_same, length-map, nil_from_length}
 use Rattle.bucket_slots.specs.ArrayView.{bucket_at}
 use Rattle.bucket_slots.specs.BucketView.{BucketView, Place, bucket_with_value, empty_bucket, entries_in, pairs_in, slot_in}
 use Rattle.bucket_slots.specs.Homes.{IsHome}
@@ -13,15 +13,16 @@ use Rattle.bucket_slots.specs.Clearing.{slots_after_insertion}
 use Rattle.bucket_slots.specs.Slots.{live_pair}
 use Rattle.bucket_slots.proofs.CallerLemmas.{length-entries_in, rewritten}
 use Rattle.bucket_slots.proofs.MarkCallerLemmas.{entries_in-slots_after_insertion}
-use Rattle.bucket_table.specs.Map.ByKey.{ChangesAt, Inserts, InsertsAt, PreparesThen, Upserts, UpsertsAt}
-use Rattle.bucket_table.specs.Map.Finding.{Finds, FindsBucket, FindsThen, MakesReady, ReadiesThenGrows}
+use Rattle.bucket_table.specs.Map.ByKey.{ChangesAt, Inserts, InsertsAt, PreparesThen, ShrinksAt, Upserts, UpsertsAt, WritesAt}
+use Rattle.bucket_table.specs.Map.Finding.{Finds, FindsBucket, MakesReady, ReadiesThenGrows}
 use Rattle.bucket_table.specs.Map.MapState.{ChangesValue, KeepsPairs, state_of}
 use Rattle.bucket_table.specs.Map.Preparing.{IsPrepared}
 use Rattle.bucket_table.specs.Rehash.Relocation.{home_of, homed_len}
 use Rattle.bucket_table.specs.Rehash.State.{first_tickets}
 use Rattle.bucket_table.specs.Rehash.Units.{WorksUnits}
-use Rattle.bucket_table.specs.Resize.Asking.{ResizesIf}
-use Rattle.bucket_table.specs.Resize.Growing.{Grows, WriterAsksGrowth}
+use Rattle.bucket_table.specs.Resize.Asking.{AsksShrinking, RemovesAndShrinks}
+use Rattle.bucket_table.specs.Resize.Resizing.{TriesResize}
+use Rattle.bucket_table.specs.Resize.Growing.{Grows}
 use Rattle.bucket_table.specs.Views.ArraysView.{ArePlaced, ArraysView, TableView, pairs_of}
 use Rattle.bucket_table.specs.Views.Sides.{arrays_with, bucket_on, buckets_on, with_bucket}
 use Rattle.bucket_table.specs.declared.arrays.side.Side.{Side}
@@ -33,8 +34,8 @@ use Rattle.bucket_table.proofs.Moves.MovingPairs.{homed-permutation, homed_here}
 use Rattle.collections.specs.Changes.{Stays}
 use Rattle.collections.specs.Crowding.{HasAtHome, LacksBucket}
 use Rattle.collections.specs.Maps.{MapView, map_of}
-use Rattle.collections.specs.Slots.{ChangesSlots, GrowsSlots, KeepsSlots, MakesSlots}
-use Rattle.collections.proofs.Crowding.{at_home, before_on, ready_len}
+use Rattle.collections.specs.Slots.{ChangesSlots, GrowsSlots, KeepsSlots, LosesSlots, MakesSlots, ShrinksSlots}
+use Rattle.collections.proofs.Crowding.{at_home, ready_len}
 
 module _ {K V : Type 0} where
   -- another bucket leaves as many
@@ -214,6 +215,117 @@ changed_keeps {K} {V} {H} kind hash old new wants change false moved =
     prepared_keeps old new kind hash moved.between moved.prepared
     (subst (λ (t : TableView K V H). AreAsLong moved.between.arrays t.arrays) (sym moved.done) (as_long moved.between.arrays))
 
+min_with : {K V : Type 0} (a : ArraysView K V) (side : Side) (i : ℕ) (b : BucketView K V) → (arrays_with a side i b).minimum ≡ a.minimum
+min_with a Current i b = refl
+min_with a Old i b = refl
+
+-- a call that takes a pair out where one is wanted, after a bucket was made ready
+pub taken_loses : {K V H : Type 0} (kind hash : ℕ) (old new : TableView K V H) (wants : K → Bool)
+    (change : BucketView K V → Place → BucketView K V) (is_there : Bool) → PreparesThen kind hash old (λ between. ShrinksAt wants change is_there between new)
+    → LosesSlots is_there (map_of old) (map_of new)
+unfolding LosesSlots
+taken_loses {K} {V} {H} kind hash old new wants change false moved =
+    prepared_keeps old new kind hash moved.between moved.prepared
+    (subst (λ (t : TableView K V H). AreAsLong moved.between.arrays t.arrays) (sym moved.done) (as_long moved.between.arrays))
+taken_loses {K} {V} {H} kind hash old new wants change true moved = from moved.done
+  where
+    between : ArraysView K V
+    between = moved.between.arrays
+
+    from : ShrinksAt wants change true moved.between new → KeepsSlots (map_of old) (map_of new) ⊎ ShrinksSlots (map_of old) (map_of new)
+    from (side, i, at, stands, shrinks) = by shrinks
+      where
+        b : BucketView K V
+        b = change (bucket_on between side i) at
+
+        stays : new.arrays ≡ arrays_with between side i b → KeepsSlots (map_of old) (map_of new) ⊎ ShrinksSlots (map_of old) (map_of new)
+        stays same = inl (prepared_keeps old new kind hash moved.between moved.prepared
+            (subst (λ (a : ArraysView K V). AreAsLong between a) (sym same) (as_long_with between side i b)))
+
+        more : AsksShrinking (arrays_with between side i b) i → old.arrays.minimum < 32 * length old.arrays.current
+        more asks = omega (
+          arith,
+          asks.more,
+          length-map (arrays_with between side i b).current (λ bucket. length (pairs_in bucket)),
+          (as_long_with between side i b).current,
+          min_with between side i b,
+          moved.prepared.kept.current_len,
+          moved.prepared.kept.keeps.minimum,
+        )
+
+        tried : AsksShrinking (arrays_with between side i b) i → (answer : Result Bool (Unit {0}))
+            → TriesResize (arrays_with between side i b) answer new.arrays
+            → KeepsSlots (map_of old) (map_of new) ⊎ ShrinksSlots (map_of old) (map_of new)
+        tried asks (Ok false) plan = stays plan.1
+        tried asks (Err e) plan = stays plan.2
+        tried asks (Ok true) (inl (plan, given)) = inr (record {
+          more = more asks;
+          went = inr (
+            omega (arith, ap (λ (a : ArraysView K V). length a.current) given.new_is),
+            omega (arith, ap (λ (a : ArraysView K V). length a.linked) given.new_is, given.alone),
+          );
+        })
+        tried asks (Ok true) (inr (capacity, plan, pushed)) = inr (record {
+          more = more asks;
+          went = inl (omega (
+            arith,
+            ap (λ (a : ArraysView K V). length a.linked) pushed.new_is,
+            (as_long_with between side i b).current,
+            moved.prepared.kept.current_len,
+          ));
+        })
+
+        by : RemovesAndShrinks between side i b new.arrays → KeepsSlots (map_of old) (map_of new) ⊎ ShrinksSlots (map_of old) (map_of new)
+        by (inr (none, same)) = stays same
+        by (inl (asked, (answer, tries))) = tried asked.1 answer tries
+
+-- a call that writes a value where a pair is wanted
+pub written_keeps : {K V H : Type 0} (kind hash : ℕ) (old new : TableView K V H) (wants : K → Bool) (is_there : Bool)
+    → PreparesThen kind hash old (λ between. WritesAt wants is_there between new) → KeepsSlots (map_of old) (map_of new)
+written_keeps kind hash old new wants true moved =
+    changed_keeps kind hash old new wants (λ bucket at. bucket_with_value bucket at moved.done.0) true
+    (record { between = moved.between; prepared = moved.prepared; done = moved.done.1 })
+written_keeps kind hash old new wants false moved =
+    changed_keeps kind hash old new wants (λ bucket at. bucket) false
+    (record { between = moved.between; prepared = moved.prepared; done = moved.done })
+
+module _ {K V H : Type 0} (hash_of : H → K → ℕ) (key : K) where
+  -- slots that stay are no more than an insertion may leave
+  pub keeps_grows : (old new : MapView K V H) → KeepsSlots old new → GrowsSlots hash_of key old new
+  unfolding GrowsSlots
+  keeps_grows old new keeps = inl keeps
+
+  -- nor is a table in which no bucket was found
+  pub unfound_grows : (kind hash : ℕ) (old new : TableView K V H) → IsPrepared kind hash old new
+      → GrowsSlots hash_of key (map_of old) (map_of new)
+  unfound_grows kind hash old new prepared =
+      keeps_grows (map_of old) (map_of new) (prepared_keeps old new kind hash new prepared (as_long new.arrays))
+
+  -- and only the numbers of slots count
+  pub grows_as : (old new later : MapView K V H) → later.slots ≡ new.slots → later.old_slots ≡ new.old_slots
+      → GrowsSlots hash_of key old new → GrowsSlots hash_of key old later
+  unfolding GrowsSlots
+  grows_as old new later slots old_slots grows = elim grows [
+    | inl keeps ↦ inl (record {
+      slots = slots ∙ keeps.slots;
+      old_slots = elim keeps.old_slots [ inl same ↦ inl (old_slots ∙ same) | inr gone ↦ inr (old_slots ∙ gone) ];
+    })
+    | inr (inl makes) ↦ inr (inl (record {
+      none = makes.none;
+      slots = subst (λ (n : ℕ). IsLengthFor old.minimum (n / 32)) (sym slots) makes.slots;
+      old_slots = old_slots ∙ makes.old_slots;
+    }))
+    | inr (inr changes) ↦ inr (inr (record {
+      crowded = changes.crowded;
+      old_slots = old_slots ∙ changes.old_slots;
+      slots = omega (arith, slots, changes.slots);
+    }))
+  ]
+
+-- as many slots, and as many old ones
+pub slots_same : {K V H : Type 0} (old new : MapView K V H) → new.slots ≡ old.slots → new.old_slots ≡ old.old_slots → KeepsSlots old new
+slots_same old new slots old_slots = record { slots = slots; old_slots = inl old_slots }
+
 -- a call that keeps the slots leaves a bucket as hard to find
 pub lacks_before : {K V H : Type 0} (eq : K → K → Bool) (hash_of : H → K → ℕ) (key : K) (old new : MapView K V H) → Stays eq old new
     → KeepsSlots old new → LacksBucket hash_of key new → LacksBucket hash_of key old
@@ -226,8 +338,11 @@ lacks_before {K} {V} {H} eq hash_of key old new stays keeps lacks = elim lacks [
   | inr many ↦ elim keeps.old_slots [
     | inl same ↦
         let there = rw (same, stays.kept.hasher) at many in
-        inr (there.0, rw (← homed-permutation (hash_of old.hasher) (old.old_slots / 32) (home_of (old.old_slots / 32) (hash_of old.hasher key))
-            old.entries new.entries stays.entries) there.1)
+        inr (
+          there.0,
+          rw (← homed-permutation (hash_of old.hasher) (old.old_slots / 32) (home_of (old.old_slots / 32) (hash_of old.hasher key))
+              old.entries new.entries stays.entries) there.1,
+        )
     | inr gone ↦ absurd (omega (arith, many.0, gone))
   ]
 ]

@@ -57,7 +57,7 @@ module _ {K V H : Type 0} (eq : K → K → Bool) (laws : IsEquivalence eq) (t s
         → IfSome loan (λ lent. ((own : K) × Replaces eq (map_of t) wants (own, lent.now) v (map_of s)) × IsWritten eq wants true t s)
     lent_written None v wrote = tt
     lent_written (Some lent) v wrote = (
-      lent_replaces eq laws 67 t distinct wants alike hash (Some lent) s v wrote,
+      (let both = lent_replaces eq laws 67 t distinct wants alike hash (Some lent) s v wrote in (both.0, both.1)),
       written true (record { between = wrote.arrays.between; prepared = wrote.arrays.prepared; done = (v, wrote.arrays.done) }),
     )
 

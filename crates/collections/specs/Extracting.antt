@@ -2,6 +2,7 @@
 use Rattle.std.specs.Prelude.{◌≡◌, Bool, List, Option, option_map}
 use Rattle.std.specs.Borrow.{Bor, MutBor}
 use Rattle.std.specs.Fn.{CalledAt, Mut}
+use Rattle.bucket_slots.specs.declared.bucket.TheConstants.{MAP}
 use Rattle.bucket_table.specs.Walking.Extracting.{AsksPair, ExtractView, Extracts}
 use Rattle.collections.specs.Changes.{Keeps}
 use Rattle.collections.specs.Maps.{MapView, map_of}
@@ -28,7 +29,7 @@ module _ {K V H F : Type 0} {puts : put_back.Ghosts (ExtractView K V) (MapView K
   pub record ExtractsIf (step : F → Bor K → MutBor V → Bool → MutBor V → F → Type 0)
       (old : Extraction (MapView K V H) F (ExtractView K V) puts) (picked : Option (K × V)) (new : Extraction (MapView K V H) F (ExtractView K V) puts) : Type 0 where
     pub same_map : new.from.ghost_name ≡ old.from.ghost_name
-    pub extracted : Extracts (AsksPair step) old.test old.taken picked new.taken new.test
+    pub extracted : Extracts MAP (AsksPair step) old.test old.taken picked new.taken new.test
     pub keeps : KeepsSlots eq (extract_map old) (extract_map new)
 
 -- a function is asked of a set's key, and answers; the key stays as it is
@@ -42,5 +43,5 @@ module _ {K H F : Type 0} {puts : put_back.Ghosts (ExtractView K (Unit {0})) (Ma
     pub same_set : new.from.ghost_name ≡ old.from.ghost_name
     pub gone : Option (K × Unit {0})
     pub picked_is : picked ≡ option_map (λ pair. pair.0) gone
-    pub extracted : Extracts (AsksKey asks) old.test old.taken gone new.taken new.test
+    pub extracted : Extracts MAP (AsksKey asks) old.test old.taken gone new.taken new.test
     pub keeps : KeepsSlots eq (extract_map old) (extract_map new)

@@ -6,6 +6,7 @@ use Rattle.bucket_table.specs.declared.key_hash.KeyHash as key_hash
 use Rattle.collections.specs.Maps.{MapView, get, get_by, map_with_value}
 use Rattle.collections.specs.Changes.{Adds, Replaces, Stays, Updates}
 use Rattle.collections.specs.Crowding.{LacksRoom}
+use Rattle.collections.specs.Slots.{GrowsSlots, KeepsSlots}
 use Rattle.collections.specs.contracts.hash_map.HashMap.{the_row}
 
 -- the value stands under the key: a pair more, or beside the key that is there
@@ -28,70 +29,78 @@ module _ {K V H : Type 0} (eq : K → K → Bool) (old : MapView K V H) (wants :
 
 module _ (K V H : RattleType) (equal : equals.Ghosts K.Denot) (hashing : key_hash.Ghosts H.Denot K.Denot)
     (map : MutBor (MapView K.Denot V.Denot H.Denot)) where
-  -- the value beside the key that is wanted is the last one written through the loan; where there is none no key is wanted, and all stays
+  -- the value beside the key that is wanted is the last one written through the loan; where there is none no key is wanted, and all stays;
+  -- the slots stay in either case
   abbrev pub LendsValue : (K.Denot → Bool) → Option (MutBor V.Denot) → Fml
   LendsValue wants loan =
       LendsSo (the_row K V H (record {}) equal hashing) V map loan
-      (λ new value. IfSome loan (λ lent. (own : K.Denot) × Replaces equal.eq map.now wants (own, lent.now) value new))
-      (λ new. IfNone loan ((get_by wants map.now ≡ None) × Stays equal.eq map.now new))
+      (λ new value. IfSome loan (λ lent. (own : K.Denot) × Replaces equal.eq map.now wants (own, lent.now) value new × KeepsSlots map.now new))
+      (λ new. IfNone loan ((get_by wants map.now ≡ None) × Stays equal.eq map.now new × KeepsSlots map.now new))
 
   -- the value beside the key that is wanted is the last one written through the loan
   abbrev pub LendsThere : (K.Denot → Bool) → MutBor V.Denot → Fml
   LendsThere wants lent =
       Lends (the_row K V H (record {}) equal hashing) V map lent (map_with_value wants map.now)
 
-  -- a pair more, which has the last value written through the loan; where nothing is lent all stays, and room is lacking
+  -- a pair more, which has the last value written through the loan; where nothing is lent all stays, and room is lacking; the slots are
+  -- those that an insertion leaves
   abbrev pub LendsAdded : {E : Type 0} → K.Denot → Result (MutBor V.Denot) E → Fml
   LendsAdded key loan =
       LendsSoOk (the_row K V H (record {}) equal hashing) V map loan
-      (λ new value. Adds equal.eq map.now key value new)
-      (λ new. Stays equal.eq map.now new × LacksRoom hashing.hash_of key map.now)
+      (λ new value. Adds equal.eq map.now key value new × GrowsSlots hashing.hash_of key map.now new)
+      (λ new. Stays equal.eq map.now new × LacksRoom hashing.hash_of key map.now × GrowsSlots hashing.hash_of key map.now new)
 
   -- the same of a key that is wanted; where it isn't nothing is lent, and all stays
   abbrev pub LendsWanted : {E : Type 0} → (K.Denot → Bool) → K.Denot → Result (MutBor V.Denot) E → Fml
   LendsWanted wants key loan =
       LendsSoOk (the_row K V H (record {}) equal hashing) V map loan
-      (λ new value. (wants key ≡ true) × Adds equal.eq map.now key value new)
-      (λ new. Stays equal.eq map.now new × (wants key ≡ true → LacksRoom hashing.hash_of key map.now))
+      (λ new value. (wants key ≡ true) × Adds equal.eq map.now key value new × GrowsSlots hashing.hash_of key map.now new)
+      (λ new. Stays equal.eq map.now new × (wants key ≡ true → LacksRoom hashing.hash_of key map.now)
+      × GrowsSlots hashing.hash_of key map.now new)
 
   -- the value under the key is the last one written through the loan, whether the map had the key or not; where nothing is
   -- lent all stays, and room is lacking
   abbrev pub LendsPut : {E : Type 0} → K.Denot → Result (MutBor V.Denot) E → Fml
   LendsPut key loan =
       LendsSoOk (the_row K V H (record {}) equal hashing) V map loan
-      (λ new value. Puts equal.eq map.now key value new)
-      (λ new. Stays equal.eq map.now new × LacksRoom hashing.hash_of key map.now)
+      (λ new value. Puts equal.eq map.now key value new × GrowsSlots hashing.hash_of key map.now new)
+      (λ new. Stays equal.eq map.now new × LacksRoom hashing.hash_of key map.now × GrowsSlots hashing.hash_of key map.now new)
 
   -- the same; where nothing is lent all stays, and what came of it may be no allocation
   abbrev pub LendsTried : {E : Type 0} → K.Denot → Result (MutBor V.Denot) E → Fml
   LendsTried key loan =
       LendsSoOk (the_row K V H (record {}) equal hashing) V map loan
-      (λ new value. Puts equal.eq map.now key value new)
-      (λ new. Stays equal.eq map.now new)
+      (λ new value. Puts equal.eq map.now key value new × GrowsSlots hashing.hash_of key map.now new)
+      (λ new. Stays equal.eq map.now new × GrowsSlots hashing.hash_of key map.now new)
 
   -- a pair more; where nothing is lent all stays, and what came of it may be no allocation
   abbrev pub LendsTriedNew : {E : Type 0} → K.Denot → Result (MutBor V.Denot) E → Fml
   LendsTriedNew key loan =
       LendsSoOk (the_row K V H (record {}) equal hashing) V map loan
-      (λ new value. Adds equal.eq map.now key value new)
-      (λ new. Stays equal.eq map.now new)
+      (λ new value. Adds equal.eq map.now key value new × GrowsSlots hashing.hash_of key map.now new)
+      (λ new. Stays equal.eq map.now new × GrowsSlots hashing.hash_of key map.now new)
 
   -- no pair of a key that is wanted is put: it may be that none can be made, or room for one is lacking
   abbrev pub LacksPair : Type 0 → (K.Denot → Bool) → Type 0
   LacksPair MayLackKey wants = MayLackKey ⊎ ((key : K.Denot) × (wants key ≡ true) × LacksRoom hashing.hash_of key map.now)
+
+  -- the slots stay, or are those that an insertion of a key that is wanted leaves
+  abbrev pub GrowsWanted : (K.Denot → Bool) → MapView K.Denot V.Denot H.Denot → Type 0
+  GrowsWanted wants new = KeepsSlots map.now new
+      ⊎ ((key : K.Denot) × (wants key ≡ true) × GrowsSlots hashing.hash_of key map.now new)
 
   -- a pair more, whose key is one that is wanted, with the last value written through the loan; where nothing is lent all stays, and a
   -- key or room is lacking
   abbrev pub LendsMade : {E : Type 0} → Type 0 → (K.Denot → Bool) → Result (MutBor V.Denot) E → Fml
   LendsMade MayLackKey wants loan =
       LendsSoOk (the_row K V H (record {}) equal hashing) V map loan
-      (λ new value. AddsWanted equal.eq map.now wants value new)
-      (λ new. Stays equal.eq map.now new × LacksPair MayLackKey wants)
+      (λ new value. AddsWanted equal.eq map.now wants value new × GrowsWanted wants new)
+      (λ new. Stays equal.eq map.now new × LacksPair MayLackKey wants × GrowsWanted wants new)
 
   -- the value under a key that is wanted is the last one written through the loan, whether the map had one or not; where
   -- nothing is lent all stays, and a key or room is lacking
   abbrev pub LendsPutWanted : {E : Type 0} → Type 0 → (K.Denot → Bool) → Result (MutBor V.Denot) E → Fml
   LendsPutWanted MayLackKey wants loan =
       LendsSoOk (the_row K V H (record {}) equal hashing) V map loan
-      (λ new value. PutsWanted equal.eq map.now wants value new)
-      (λ new. Stays equal.eq map.now new × LacksPair MayLackKey wants)
+      (λ new value. PutsWanted equal.eq map.now wants value new × GrowsWanted wants new)
+      (λ new. Stays equal.eq map.now new × LacksPair MayLackKey wants × GrowsWanted wants new)

@@ -1,5 +1,5 @@
 -- What calls do to the slots of a map.
-use Rattle.std.specs.Prelude.{ℕ, ◌≡◌, ◌<◌, ◌/◌, ◌⊎◌}
+use Rattle.std.specs.Prelude.{ℕ, ◌≡◌, ◌<◌, ◌/◌, ◌⊎◌, Bool, true, false}
 use Rattle.bucket_slots.specs.Sizing.{IsLengthFor}
 use Rattle.collections.specs.Crowding.{HasAtHome}
 use Rattle.collections.specs.Maps.{MapView}
@@ -21,6 +21,16 @@ module _ {K V H : Type 0} where
     pub crowded : HasAtHome 31 hash key old.slots old.entries
     pub old_slots : new.old_slots ≡ old.slots
     pub slots : 0 < new.slots
+
+  -- the slots were more than the minimum, and are the old ones now, or there are none
+  pub record ShrinksSlots (old new : MapView K V H) : Type 0 where
+    pub more : old.minimum < old.slots
+    pub went : (new.old_slots ≡ old.slots) ⊎ ((new.slots ≡ 0) × (new.old_slots ≡ 0))
+
+  -- a removal keeps the slots, or where it took a pair out they may shrink; a caller that needs it unfolds it
+  unfoldable pub LosesSlots : Bool → MapView K V H → MapView K V H → Type 0
+  LosesSlots true old new = KeepsSlots old new ⊎ ShrinksSlots old new
+  LosesSlots false old new = KeepsSlots old new
 
   -- an insertion of a key keeps the slots, or makes the first, or the key's bucket is nearly full and they are the old ones now; a caller
   -- that needs it unfolds it

@@ -22,6 +22,7 @@ ghost use Rattle.collections.specs.Changes.{Inserts, ReadsOut, Reserves, Stays, 
 ghost use Rattle.collections.specs.Crowding.{LacksSlots};
 ghost use Rattle.collections.specs.Maps.{contains_by, get_by, IsEmpty, map_len, map_of};
 ghost use Rattle.collections.specs.Marks.{KeepsMarks, LosesNoKeptMark, MarksRemoved};
+ghost use Rattle.collections.specs.Slots.{GrowsSlots, LosesSlots};
 
 mod emptied;
 mod iterating;
@@ -195,6 +196,7 @@ impl<K: Eq + Drop, V: Drop, H: KeyHash<K>> HashIndex<K, V, H> {
         ensures map { Inserts K.eq key value (map_of self.old) result (map_of self.new) }
         ensures marks { HasNoNewMark (marks_of self.old.arrays) (marks_of self.new.arrays) }
         ensures kept { LosesNoKeptMark (G.keeps generation.now) self.old.arrays self.new.arrays }
+        ensures slots { GrowsSlots H.hash_of key (map_of self.old) (map_of self.new) }
         ensures memory { result ≡ Err (Memory key value)
             → LacksSlots (G.keeps generation.now) H.hash_of key self.old self.new }
     {
@@ -219,6 +221,7 @@ impl<K: Eq + Drop, V: Drop, H: KeyHash<K>> HashIndex<K, V, H> {
             (marks_of self.new.arrays) }
         ensures marked { MarksRemoved (Q.stands_for key) (G.epoch_of generation.now) result
             self.old.arrays self.new.arrays }
+        ensures slots { LosesSlots result (map_of self.old) (map_of self.new) }
     {
         let removed = self.remove_with(key, generation, |_own: &K, _value: &V| ());
         removed.is_some()
@@ -248,6 +251,7 @@ impl<K: Eq + Drop, V: Drop, H: KeyHash<K>> HashIndex<K, V, H> {
             (marks_of self.new.arrays) }
         ensures marked { MarksRemoved (Q.stands_for key) (G.epoch_of generation.now) (is_some result)
             self.old.arrays self.new.arrays }
+        ensures slots { LosesSlots (is_some result) (map_of self.old) (map_of self.new) }
     {
         self.room.learn();
         self.table.sound();

@@ -4,7 +4,7 @@
 //! map answers as std's `HashMap` does: `get` is a look-up of the pairs.
 //!
 //! Ports scc's `src/hash_map.rs` to an owned map: a borrow stands where scc locks.
-ghost use Rattle.std.specs.Prelude.{◌≡◌, ◌↔◌, ◌-◌, ◌^◌, ◌&&◌, [], Err, IsTrue, OnErr, Some, min};
+ghost use Rattle.std.specs.Prelude.{◌≡◌, ◌↔◌, ◌-◌, ◌^◌, ◌&&◌, [], Err, IsTrue, OnErr, Some, is_some, min};
 ghost use Rattle.std.specs.Option.{option_copied, option_eq};
 ghost use Rattle.std.specs.Borrow.{Bor, MutBor};
 ghost use Rattle.bucket_slots.specs.Walking.{CallsEach};
@@ -14,7 +14,7 @@ ghost use Rattle.collections.specs.Crowding.{LacksRoom};
 ghost use Rattle.collections.specs.Equality.{is_within};
 ghost use Rattle.collections.specs.Maps.{contains_by, get, get_by, IsEmpty, map_len};
 ghost use Rattle.collections.specs.Changes.{Inserts, Removes, Retains, Rewrites, Upserts};
-ghost use Rattle.collections.specs.Slots.{GrowsSlots};
+ghost use Rattle.collections.specs.Slots.{GrowsSlots, KeepsSlots, LosesSlots};
 
 mod cloning;
 mod collecting;
@@ -30,6 +30,7 @@ mod iterating;
 mod lending;
 mod reading;
 mod removing;
+mod replacing;
 mod sizing;
 
 use crate::default_hash::DefaultHash;
@@ -217,7 +218,8 @@ impl<K: Eq + Drop, V: Drop, H: KeyHash<K>> HashMap<K, V, H> {
     /// Never refused. O(1) expected, beside a resize. scc: `HashMap::remove_sync`.
     #[inline(always)]
     pub fn remove<Q: KeyForm<K, H>>(&mut self, key: Q) -> Option<(K, V)>
-        ensures { Removes K.eq (Q.stands_for key) self.old result self.new }
+        ensures map { Removes K.eq (Q.stands_for key) self.old result self.new }
+        ensures slots { LosesSlots (is_some result) self.old self.new }
     {
         let hash = key.hash_by(self.hasher());
         self.remove_hashed(hash, key)
@@ -265,9 +267,10 @@ impl<K: Eq + Drop, V: Drop, H: KeyHash<K>> HashMap<K, V, H> {
         requires callable { (own : Bor K) (value : MutBor V)
             → IsThere (Q.stands_for key) self.old.entries (own.now, value.now)
             → F.pre change own value }
-        ensures { Rewrites K.eq (Q.stands_for key)
+        ensures map { Rewrites K.eq (Q.stands_for key)
             (λ own before answer after. F.post change own before answer after)
             self.old result self.new }
+        ensures slots { KeepsSlots self.old self.new }
     {
         self.room.learn();
         self.table.sound();

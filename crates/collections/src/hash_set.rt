@@ -3,14 +3,14 @@
 //! Model: `MapView`, whose pairs are the keys beside `()`.
 //!
 //! Ports scc's `src/hash_set.rs` to an owned set.
-ghost use Rattle.std.specs.Prelude.{◌≡◌, ◌↔◌, ◌-◌, ◌^◌, [], Err, IfOk, IsOk, IsTrue, min, true};
+ghost use Rattle.std.specs.Prelude.{◌≡◌, ◌↔◌, ◌-◌, ◌^◌, [], Err, IfOk, IsOk, IsTrue, is_some, min, true};
 ghost use Rattle.std.specs.Fn.{CalledAt};
 ghost use Rattle.std.specs.Map.{keys_of};
 ghost use Rattle.bucket_table.specs.declared.hash_table.NotInserted.TheVariants.{Memory};
 ghost use Rattle.collections.specs.Changes.{Inserts, SetRemoves};
 ghost use Rattle.collections.specs.Copies.{IsCopy};
 ghost use Rattle.collections.specs.Crowding.{LacksRoom};
-ghost use Rattle.collections.specs.Slots.{GrowsSlots};
+ghost use Rattle.collections.specs.Slots.{GrowsSlots, LosesSlots};
 ghost use Rattle.collections.specs.Keys.{CallsEachKey, RetainsKeys};
 ghost use Rattle.collections.specs.Maps.{contains_by, IsEmpty, map_len};
 
@@ -176,7 +176,8 @@ impl<K: Eq + Drop, H: KeyHash<K>> HashSet<K, H> {
     /// Never refused. O(1) expected, beside a resize. scc: `HashSet::remove_sync`; std's
     /// `HashSet::take`.
     pub fn take<Q: KeyForm<K, H>>(&mut self, key: Q) -> Option<K>
-        ensures { SetRemoves K.eq (Q.stands_for key) self.old result self.new }
+        ensures set { SetRemoves K.eq (Q.stands_for key) self.old result self.new }
+        ensures slots { LosesSlots (is_some result) self.old self.new }
     {
         match self.map.remove(key) {
             Some((own, _)) => Some(own),

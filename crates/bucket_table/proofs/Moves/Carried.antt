@@ -1,13 +1,14 @@
 -- Recency that was carried: what the targets list once the pairs of a bucket have landed and their slots were listed.
-use Rattle.bucket_table.proofs.Words.{AreHome, Bool, BucketView, CACHE, HasNoNewMark, IsBucketOf, KeepsEntries, List}
+use Rattle.bucket_table.proofs.Words.{All, AreHome, Bool, BucketView, CACHE, HasNoNewMark, IsBucketOf, KeepsEntries, List}
 use Rattle.bucket_table.proofs.Words.{MovesInto, None, Option, Slot, Some, [], ap, append-nil, arith, bucket_at, cases_Bool, cases_eq}
-use Rattle.bucket_table.proofs.Words.{entries_among, entries_in, false, false≢true, free, homed_len, if◌then◌else◌, inl, inr, is_listed}
+use Rattle.bucket_table.proofs.Words.{entries_among, entries_in, false, false≢true, free, get_or, homed_len, if◌then◌else◌, inl, inr, is_listed}
 use Rattle.bucket_table.proofs.Words.{landing_of, length, listed_pairs, live, live_pair, live_pairs, map, map-append, marked, marks_among}
 use Rattle.bucket_table.proofs.Words.{marks_in, nil_from_length, pairs_in, refl, replicate, slot_at, slot_in, subst, sym, take, true, ℕ}
 use Rattle.bucket_table.proofs.Words.{◌++◌, ◌-◌, ◌<◌, ◌==◌, ◌∙◌, ◌∷◌, ◌≡◌}
 use Rattle.std.proofs.Common.{IsPermutation}
 use Rattle.std.proofs.Math.Seq.{take-append_seam}
 use Rattle.std.proofs.lemmas.Bool.{eqb-true}
+use Rattle.std.proofs.lemmas.List.{get_or_default}
 use Rattle.std.proofs.lemmas.List.Elements.{filter_map-append}
 use Rattle.std.specs.List.{filter}
 use Rattle.bucket_slots.proofs.RecencyCallerLemmas.{listed_below}
@@ -16,11 +17,12 @@ use Rattle.bucket_slots.specs.Recency.{order_and_zeros}
 use Rattle.bucket_table.specs.Layout.Landings.{CarriesRecency, HasLanded, HaveLanded, ListsArrivals, arrivals, carried_to, is_own_of}
 use Rattle.bucket_table.specs.Layout.Landings.{slot_there}
 use Rattle.bucket_table.specs.Layout.Moving.{CanMoveInto}
+use Rattle.bucket_table.specs.Rehash.Carrying.{WentFirst, chained_pairs}
 use Rattle.bucket_table.specs.Rehash.Relocation.{KeepsPlaces}
 use Rattle.bucket_table.specs.declared.arrays.moving.Landing.{Landing}
 use Rattle.bucket_table.proofs.Moves.Arriving.{with_more}
 use Rattle.bucket_table.proofs.Moves.Landings.{none_left}
-use Rattle.bucket_table.proofs.Moves.Staying.{contains_at, place_listed, stay_both, stay_same}
+use Rattle.bucket_table.proofs.Moves.Staying.{contains_at, each_listed, place_listed, stay_both, stay_same}
 use Rattle.bucket_table.proofs.Views.MarksKept.{marks_alike}
 use Rattle.bucket_table.proofs.Moves.Relocating.{entries_alike}
 
@@ -98,6 +100,8 @@ module _ {K V : Type 0} where
   carries_none s c d same_lists none stay = record {
     landing = λ slot. None;
     landed = λ slot pair listed here. absurd (none slot pair listed here);
+    first = each_listed (λ pair. All (λ other. WentFirst d pair other) (chained_pairs s)) (slot_at s.own) s.listed
+        (λ slot pair listed here. absurd (none slot pair listed here));
     stay = stay;
     order = λ j.
         let nothing : carried_to s (λ slot. None) j ≡ [] =
@@ -124,6 +128,7 @@ module _ {K V : Type 0} where
   carries_since s c0 c d kept carried = record {
     landing = carried.landing;
     landed = carried.landed;
+    first = carried.first;
     stay = stay_both c0 c d kept.stay carried.stay;
     order = λ j.
         let before : listed_pairs (bucket_at c j) ≡ listed_pairs (bucket_at c0 j) = rw (kept.own j, kept.listed j) refl in
@@ -179,10 +184,23 @@ module _ {K V : Type 0} where
     has_landed slot pair (Some at) below said here =
         rw (listed.each at.home) (contains_at live_pair refl (bucket_at d at.home).own at.slot pair (landed.same_pair slot at said ∙ here))
 
+    went_listed : (p q : K × V) → WentFirst d p q → WentFirst e p q
+    went_listed p q (inl (j, own)) = inl (j, rw (listed.each j) own)
+    went_listed p q (inr (inl (j, chain))) = inr (inl (j, rw (listed.each j) chain))
+    went_listed p q (inr (inr (i, j, apart, one, two))) = inr (inr (i, j, apart, rw (listed.each i) one, rw (listed.each j) two))
+
+    went_first : (slot : ℕ) (p : K × V) → live_pair (slot_at s.own slot) ≡ Some p → All (λ q. WentFirst e p q) (chained_pairs s)
+    went_first slot p here k default below =
+        let q = get_or (chained_pairs s) k default in
+        went_listed p q (landed.first p q (contains_at live_pair refl s.own slot p here)
+        (k, below, get_or_default (chained_pairs s) k q default below))
+
     pub carries_recency : CarriesRecency s c e
     carries_recency = record {
       landing = λ slot. home_of_landing (landing_of landings slot);
       landed = λ slot pair is here. has_landed slot pair (landing_of landings slot) (listed_below kind s slot laws is) refl here;
+      first = each_listed (λ pair. All (λ other. WentFirst e pair other) (chained_pairs s)) (slot_at s.own) s.listed
+          (λ slot pair is here. went_first slot pair here);
       stay = stay_both c d e landed.stay (λ j at occupied.
           ap (λ (b : BucketView K V). slot_in b at) (listed.each j) ∙ place_listed (bucket_at d j)
           ((bucket_at d j).listed ++ arrivals landings j s.listed) at.block at.pos);

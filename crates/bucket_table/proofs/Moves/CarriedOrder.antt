@@ -2,19 +2,20 @@
 use Rattle.bucket_table.proofs.Words.{All, All-head, All-nil, All-tail, ArraysView, Bool, BucketView, Contains, Contains-append_left}
 use Rattle.bucket_table.proofs.Words.{Contains-append_right, IsDistinct, IsDistinct-IsPermutation, IsEquivalence, IsPermutation}
 use Rattle.bucket_table.proofs.Words.{IsPermutation-map, List, None, Option, Some, [], ap, append-nil, append_assoc, arith}
-use Rattle.bucket_table.proofs.Words.{bucket_at, cases_eq, entries_among, entries_of, filter, filter-append, get_or, inl, inr, length, suc, zero}
-use Rattle.bucket_table.proofs.Words.{listed_pairs, live_from_pair, live_not_free, live_pair, map, map-append, pairs_in, pairs_of, refl, slot_at, subst}
-use Rattle.bucket_table.proofs.Words.{sym, ℕ, ◌++◌, ◌<◌, ◌∙◌, ◌∷◌, ◌≡◌, ◌⊎◌}
+use Rattle.bucket_table.proofs.Words.{bucket_at, cases_eq, entries_among, entries_of, filter, filter-append, flattened, get_or, inl, inr, length}
+use Rattle.bucket_table.proofs.Words.{length-append, live_pairs, nil_from_length, suc, zero}
+use Rattle.bucket_table.proofs.Words.{listed_pairs, live_pair, map, map-append, pairs_in, pairs_of, refl, slot_at, subst}
+use Rattle.bucket_table.proofs.Words.{sym, ℕ, ◌++◌, ◌∙◌, ◌∷◌, ◌≡◌, ◌⊎◌}
 use Rattle.std.proofs.lemmas.List.Concat.{flat_map-append}
-use Rattle.std.proofs.lemmas.List.Elements.{All-append, Contains-append_cases}
+use Rattle.std.proofs.lemmas.List.Elements.{All-append, Contains-append_cases, filter_map-append}
 use Rattle.std.specs.Prelude.{flat_map}
-use Rattle.bucket_slots.specs.BucketView.{row_at}
 use Rattle.bucket_table.specs.Layout.Landings.{CarriesRecency, HasLanded}
-use Rattle.bucket_table.specs.Rehash.Carrying.{CarriesOrder, CarriesPairs, has_own_key, listed_among}
+use Rattle.bucket_table.specs.Rehash.Carrying.{CarriesOrder, CarriesPairs, ListedWentFirst, WentFirst, chained_pairs, has_own_key, listed_among}
 use Rattle.bucket_table.specs.Rehash.Relocation.{KeepsPlaces}
 use Rattle.bucket_table.proofs.Moves.CarriedPairs.{carries_pairs, in_chain, in_own, landing_tells, pairs_among}
+use Rattle.bucket_table.proofs.Moves.GoingFirst.{chain_still, own_still, went_still}
 use Rattle.bucket_table.proofs.Moves.Landings.{none_left}
-use Rattle.bucket_table.proofs.Moves.Staying.{contains_at, each_listed, from_row, in_row, own_or_chain, slot_of, stay_both, stay_same}
+use Rattle.bucket_table.proofs.Moves.Staying.{each_listed, own_or_chain, stay_both, stay_same}
 
 filter_alike : {A : Type 0} (p q : A → Bool) (xs : List A) → All (λ x. p x ≡ q x) xs → filter p xs ≡ filter q xs
 filter_alike p q [] all = refl
@@ -27,31 +28,37 @@ only first i (zero, below, here) = here
 only first i (suc k, below, here) = absurd (omega (arith, below))
 
 -- of the lists under some numbers, those that are the same under another function, and none of the others has anything
-kept_only : {A : Type 0} (f g : ℕ → List A) → ((i : ℕ) → (g i ≡ []) ⊎ (g i ≡ f i)) → (more : List ℕ)
-    → (less : List ℕ) × (flat_map g more ≡ flat_map f less) × ((i : ℕ) → Contains more i → Contains less i ⊎ (g i ≡ []))
-kept_only f g each [] = ([], refl, λ i has. absurd (omega (arith, has.1)))
-kept_only {A} f g each (first ∷ more) =
-    let (less, same, rest) = kept_only f g each more in
-    let later = λ (i k : ℕ) (below : k < length more) (here : get_or more k i ≡ i). rest i (k, below, here) in
+kept_only : {A : Type 0} (f g : ℕ → List A) (Gone : ℕ → Type 0) → ((i : ℕ) → Gone i → g i ≡ [])
+    → ((i : ℕ) → Gone i ⊎ (g i ≡ f i)) → (more : List ℕ)
+    → (less : List ℕ) × (flat_map g more ≡ flat_map f less) × ((i : ℕ) → Contains more i → Contains less i ⊎ Gone i)
+    × ((i : ℕ) → Contains less i → Contains more i)
+kept_only f g Gone nothing_there each [] = ([], refl, (λ i has. absurd (omega (arith, has.1))), (λ i has. has))
+kept_only {A} f g Gone nothing_there each (first ∷ more) =
+    let (less, same, rest, back) = kept_only f g Gone nothing_there each more in
     elim (each first) [
-      | inl none ↦ (
+      | inl gone ↦ (
         less,
-        ap (λ (those : List A). those ++ flat_map g more) none ∙ same,
-        λ i has. elim (Contains-append_cases (first ∷ []) more i has) [
-          | inl here ↦ inr (subst (λ (k : ℕ). g k ≡ []) (only first i here) none)
+        ap (λ (those : List A). those ++ flat_map g more) (nothing_there first gone) ∙ same,
+        (λ i has. elim (Contains-append_cases (first ∷ []) more i has) [
+          | inl here ↦ inr (subst Gone (only first i here) gone)
           | inr there ↦ rest i there
-        ],
+        ]),
+        (λ i has. Contains-append_right (first ∷ []) more i (back i has)),
       )
       | inr alike ↦ (
         first ∷ less,
         ap (λ (those : List A). those ++ flat_map g more) alike ∙ ap (λ (those : List A). f first ++ those) same,
-        λ i has. elim (Contains-append_cases (first ∷ []) more i has) [
+        (λ i has. elim (Contains-append_cases (first ∷ []) more i has) [
           | inl here ↦ inl (subst (λ (k : ℕ). Contains (first ∷ less) k) (only first i here) (0, omega arith, refl))
           | inr there ↦ elim (rest i there) [
             | inl among ↦ inl (Contains-append_right (first ∷ []) less i among)
             | inr none ↦ inr none
           ]
-        ],
+        ]),
+        (λ i has. elim (Contains-append_cases (first ∷ []) less i has) [
+          | inl here ↦ subst (λ (k : ℕ). Contains (first ∷ more) k) (only first i here) (0, omega arith, refl)
+          | inr there ↦ Contains-append_right (first ∷ []) more i (back i there)
+        ]),
       )
     ]
 
@@ -66,9 +73,16 @@ module _ {K V : Type 0} where
       let never = each_listed (λ p. ⊥) (slot_at b.own) b.listed (λ slot p listed here. none_left b slot p none here) in
       nothing (listed_pairs b) never
 
+  -- nor has it one in its chain
+  pub unchained_empty : (b : BucketView K V) → pairs_in b ≡ [] → chained_pairs b ≡ []
+  unchained_empty b none =
+      let parts = ap length (filter_map-append live_pair b.own (flattened b.chain)) in
+      nil_from_length (chained_pairs b) (omega (arith, ap length none, parts, length-append (live_pairs b.own) (chained_pairs b)))
+
   -- no bucket has moved on
   pub carries_unmoved : (old new : ArraysView K V)
-      → ((i : ℕ) → listed_pairs (bucket_at new.linked i) ≡ listed_pairs (bucket_at old.linked i))
+      → ((i : ℕ) → (listed_pairs (bucket_at new.linked i) ≡ listed_pairs (bucket_at old.linked i))
+      × (chained_pairs (bucket_at new.linked i) ≡ chained_pairs (bucket_at old.linked i)))
       → KeepsPlaces old.current new.current
       → ((j : ℕ) → listed_pairs (bucket_at new.current j) ≡ listed_pairs (bucket_at old.current j)) → CarriesOrder old new
   carries_unmoved old new left stay same = record {
@@ -77,10 +91,11 @@ module _ {K V : Type 0} where
     stay = stay;
     arrived = All-nil (λ (pair : K × V). (j : ℕ) × Contains (pairs_in (bucket_at new.current j)) pair);
     carried = λ eq laws once j. same j ∙ sym (append-nil (listed_pairs (bucket_at old.current j)));
+    first = λ i has. absurd (omega (arith, has.1));
   }
 
   pub order_same : (a : ArraysView K V) → CarriesOrder a a
-  order_same a = carries_unmoved a a (λ i. refl) (stay_same a.current) (λ j. refl)
+  order_same a = carries_unmoved a a (λ i. (refl, refl)) (stay_same a.current) (λ j. refl)
 
   -- a pair that has landed stands in some bucket
   stands : (d : List (BucketView K V)) (p : K × V) (landing : Option ℕ) → HasLanded d p landing
@@ -98,15 +113,8 @@ module _ {K V : Type 0} where
   -- where all pairs stay, one that has landed stays where it is
   landed_still : (c d : List (BucketView K V)) → KeepsPlaces c d → (p : K × V) (landing : Option ℕ) → HasLanded c p landing
       → HasLanded d p landing
-  landed_still c d stay p (Some j) has =
-      let (slot, here) = slot_of live_pair (bucket_at c j).own p has in
-      let occupied = live_not_free (slot_at (bucket_at c j).own slot) (live_from_pair (slot_at (bucket_at c j).own slot) p here) in
-      contains_at live_pair refl (bucket_at d j).own slot p (ap live_pair (stay j (record { block = 0; pos = slot }) occupied) ∙ here)
-  landed_still c d stay p None (j, has) =
-      let (i, pos, here) = in_row live_pair (bucket_at c j).chain p has in
-      let x = slot_at (row_at (bucket_at c j).chain i) pos in
-      let occupied = live_not_free x (live_from_pair x p here) in
-      (j, from_row live_pair refl (bucket_at d j).chain i pos p (ap live_pair (stay j (record { block = suc i; pos = pos }) occupied) ∙ here))
+  landed_still c d stay p (Some j) has = own_still c d stay j p has
+  landed_still c d stay p None (j, has) = (j, chain_still c d stay j p has)
 
   -- no two keys are equal in the one and in the other
   once_after : (eq : K → K → Bool) → IsEquivalence eq → (old new : ArraysView K V) → IsPermutation (entries_of old) (entries_of new)
@@ -136,7 +144,7 @@ module _ {K V : Type 0} where
             subst (λ (k : ℕ). Contains (index ∷ []) k) (sym same) (0, omega arith, refl),
             rw same (unlisted_empty (bucket_at new.linked index) none),
           )
-          | inr apart ↦ inr (ap listed_pairs (others i apart))
+          | inr apart ↦ inr (ap listed_pairs (others i apart), ap chained_pairs (others i apart))
         ];
         stay = recency.stay;
         arrived = subst (λ (ps : List (K × V)). All there ps) one (each_listed there (slot_at source.own) source.listed
@@ -145,6 +153,7 @@ module _ {K V : Type 0} where
             subst (λ (ps : List (K × V)). CarriesPairs eq ps old.current new.current) one
             (carries_pairs eq laws source old.current new.current (pairs_among new.linked)
             (once_in_parts eq new (once_after eq laws old new pairs once)) recency);
+        first = λ i has. subst (λ (k : ℕ). ListedWentFirst (bucket_at old.linked k) new.current) (only index i has) recency.first;
       }
 
   -- one step after another
@@ -156,12 +165,15 @@ module _ {K V : Type 0} where
     abbrev is : ℕ → List (K × V)
     is i = listed_pairs (bucket_at mid.linked i)
 
+    abbrev HasGone : ℕ → Type 0
+    HasGone i = Contains first.moved i × (is i ≡ [])
+
     -- those that moved in the second step and hadn't in the first
     later : (less : List ℕ) × (flat_map is second.moved ≡ flat_map was less)
-        × ((i : ℕ) → Contains second.moved i → Contains less i ⊎ (is i ≡ []))
-    later = kept_only was is (λ i. elim (first.left i) [
-      | inl gone ↦ inl gone.1
-      | inr same ↦ inr same
+        × ((i : ℕ) → Contains second.moved i → Contains less i ⊎ HasGone i) × ((i : ℕ) → Contains less i → Contains second.moved i)
+    later = kept_only was is HasGone (λ i gone. gone.1) (λ i. elim (first.left i) [
+      | inl gone ↦ inl gone
+      | inr same ↦ inr same.0
     ]) second.moved
 
     abbrev came : List (K × V)
@@ -174,20 +186,38 @@ module _ {K V : Type 0} where
     all = flat_map-append was first.moved later.0 ∙ ap (λ (ps : List (K × V)). came ++ ps) (sym later.1)
 
     left_both : (i : ℕ) → (Contains (first.moved ++ later.0) i × (listed_pairs (bucket_at new.linked i) ≡ []))
-        ⊎ (listed_pairs (bucket_at new.linked i) ≡ listed_pairs (bucket_at old.linked i))
+        ⊎ ((listed_pairs (bucket_at new.linked i) ≡ listed_pairs (bucket_at old.linked i))
+        × (chained_pairs (bucket_at new.linked i) ≡ chained_pairs (bucket_at old.linked i)))
     left_both i = elim (first.left i) [
       | inl gone ↦
           let among = Contains-append_left first.moved later.0 i gone.0 in
           elim (second.left i) [
             | inl gone_later ↦ inl (among, gone_later.1)
-            | inr same ↦ inl (among, same ∙ gone.1)
+            | inr same ↦ inl (among, same.0 ∙ gone.1)
           ]
       | inr before ↦ elim (second.left i) [
         | inl gone ↦ elim (later.2 i gone.0) [
           | inl among ↦ inl (Contains-append_right first.moved later.0 i among, gone.1)
-          | inr none ↦ inr (gone.1 ∙ sym none ∙ before)
+          | inr before_that ↦ inl (Contains-append_left first.moved later.0 i before_that.0, gone.1)
         ]
-        | inr same ↦ inr (same ∙ before)
+        | inr same ↦ inr (same.0 ∙ before.0, same.1 ∙ before.1)
+      ]
+    ]
+
+    -- those of the first step stay where they stood, and those of the second were as they had been
+    first_still : (i : ℕ) → Contains first.moved i → ListedWentFirst (bucket_at old.linked i) new.current
+    first_still i has k d below n e within =
+        went_still mid.current new.current second.stay _ _ (first.first i has k d below n e within)
+
+    first_both : (i : ℕ) → Contains (first.moved ++ later.0) i → ListedWentFirst (bucket_at old.linked i) new.current
+    first_both i has = elim (Contains-append_cases first.moved later.0 i has) [
+      | inl moved ↦ first_still i moved
+      | inr more ↦ elim (first.left i) [
+        | inl gone ↦ first_still i gone.0
+        | inr same ↦
+            subst (λ (ps : List (K × V)). All (λ p. All (λ q. WentFirst new.current p q) (chained_pairs (bucket_at old.linked i))) ps) same.0
+            (subst (λ (qs : List (K × V)). All (λ p. All (λ q. WentFirst new.current p q) qs) (is i)) same.1
+            (second.first i (later.3 i more)))
       ]
     ]
 
@@ -236,4 +266,5 @@ module _ {K V : Type 0} where
       stay = stay_both old.current mid.current new.current first.stay second.stay;
       arrived = subst (λ (ps : List (K × V)). All There ps) (sym all) (All-append There came came_later still_there second.arrived);
       carried = carried_both;
+      first = first_both;
     }

@@ -5,10 +5,10 @@ use Rattle.bucket_table.proofs.Words.{false, first_tickets, killed_flags, length
 use Rattle.bucket_table.proofs.Words.{bucket_at, listed_pairs, pairs_in, refl, subst, suc, sym, true, zero, ℕ, ◌*◌, ◌/◌, ◌↔◌, ◌∷◌, ◌≡◌}
 use Rattle.bucket_slots.proofs.MarkCallerLemmas.{no_new-append, no_new-none}
 use Rattle.bucket_table.specs.Rehash.Covered.{AreAllKilled, IsUnitKilled}
-use Rattle.bucket_table.specs.Rehash.Carrying.{CarriesOrder}
+use Rattle.bucket_table.specs.Rehash.Carrying.{CarriesOrder, chained_pairs}
 use Rattle.bucket_table.specs.declared.tickets.TicketError.{TicketError}
 use Rattle.bucket_table.specs.declared.tickets.TicketError.TheVariants.{NotDone, NotOpen}
-use Rattle.bucket_table.proofs.Moves.CarriedOrder.{carries_unmoved, unlisted_empty}
+use Rattle.bucket_table.proofs.Moves.CarriedOrder.{carries_unmoved, unchained_empty, unlisted_empty}
 use Rattle.bucket_table.proofs.Moves.Staying.{stay_same}
 use Rattle.bucket_table.proofs.Rehash.Covering.{all_killed, covered_end, covered_start, going_on_end, going_on_start}
 use Rattle.bucket_table.proofs.Views.Killed.{no_pairs}
@@ -68,10 +68,11 @@ module _ {K V : Type 0} where
 
   unlisted_all : (buckets : List (BucketView K V)) → AreAllKilled (killed_flags buckets)
       → All (λ (bucket : BucketView K V). bucket.killed ≡ true → pairs_in bucket ≡ []) buckets
-      → (i : ℕ) → listed_pairs (bucket_at buckets i) ≡ []
-  unlisted_all [] killed emptied i = refl
+      → (i : ℕ) → (listed_pairs (bucket_at buckets i) ≡ []) × (chained_pairs (bucket_at buckets i) ≡ [])
+  unlisted_all [] killed emptied i = (refl, refl)
   unlisted_all (bucket ∷ buckets) killed emptied zero =
-      unlisted_empty bucket (emptied 0 bucket (omega arith) (killed 0 (omega arith)))
+      let none = emptied 0 bucket (omega arith) (killed 0 (omega arith)) in
+      (unlisted_empty bucket none, unchained_empty bucket none)
   unlisted_all (bucket ∷ buckets) killed emptied (suc i) =
       unlisted_all buckets (λ k below. killed (suc k) (omega arith)) (λ k d below. emptied (suc k) d (omega arith)) i
 
@@ -80,11 +81,11 @@ module _ {K V : Type 0} where
       → LosesNoUnit old.linked old.tickets → EndsRehash old ticket success answer new → CarriesOrder old new
   ended_order old new ticket success (Ok true) kept ends = rw ends.2
       (carries_unmoved old (record old { linked = []; tickets = first_tickets 0 })
-      (λ i. sym (unlisted_all old.linked ends.1 kept.emptied i)) (stay_same old.current) (λ j. refl))
+      (λ i. let none = unlisted_all old.linked ends.1 kept.emptied i in (sym none.0, sym none.1)) (stay_same old.current) (λ j. refl))
   ended_order old new ticket success (Ok false) kept ends = rw ends.1
-      (carries_unmoved old (record old { tickets = new.tickets }) (λ i. refl) (stay_same old.current) (λ j. refl))
+      (carries_unmoved old (record old { tickets = new.tickets }) (λ i. (refl, refl)) (stay_same old.current) (λ j. refl))
   ended_order old new ticket success (Err error) kept ends = rw ends.1
-      (carries_unmoved old (record old { tickets = new.tickets }) (λ i. refl) (stay_same old.current) (λ j. refl))
+      (carries_unmoved old (record old { tickets = new.tickets }) (λ i. (refl, refl)) (stay_same old.current) (λ j. refl))
 
   -- the old array goes
   pub ended_gone : (now : ArraysView K V) (minimum maximum ticket : ℕ) (current linked : List (BucketView K V))

@@ -98,6 +98,7 @@ module _ {K V : Type 0} (old worked last : ArraysView K V) (started : TicketStat
           stay = kept.order.stay;
           arrived = kept.order.arrived;
           carried = kept.order.carried;
+          first = kept.order.first;
         }) ended;
       }
 

@@ -16,7 +16,7 @@ module _ {K V H : Type 0} where
   pub kept : (a : MapState K V H) → KeepsPairs a a
   kept a = record { pairs = IsPermutation-refl a.pairs; others = refl }
 
-  others_after : (a b d : MapState K V H) → KeepsPairs a b → d ≡ record b { pairs = d.pairs } → d ≡ record a { pairs = d.pairs }
+  pub others_after : (a b d : MapState K V H) → KeepsPairs a b → d ≡ record b { pairs = d.pairs } → d ≡ record a { pairs = d.pairs }
   others_after a b d keeps others = others ∙ ap (λ (m : MapState K V H). record {
     kind = m.kind;
     hasher = m.hasher;

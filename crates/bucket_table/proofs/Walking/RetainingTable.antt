@@ -84,7 +84,7 @@ module _ {K V : Type 0} where
       flat_map-append (λ (c : BucketView K V). marks_in c) xs (b ∷ []) ∙ ap (λ l. marks_among xs ++ l) (append-nil (marks_in b))
 
 -- a bucket of the first of two lists, or of the second
-left_ahead : {K V : Type 0} (kind epoch : ℕ) (xs ys us vs : List (BucketView K V)) → length us ≡ length xs
+pub left_ahead : {K V : Type 0} (kind epoch : ℕ) (xs ys us vs : List (BucketView K V)) → length us ≡ length xs
     → AreLeftOf kind epoch (xs ++ ys) (us ++ vs) → AreLeftOf kind epoch xs us
 left_ahead kind epoch xs ys us vs len all = record {
   len = len;
@@ -98,7 +98,7 @@ left_ahead kind epoch xs ys us vs len all = record {
   ];
 }
 
-left_behind : {K V : Type 0} (kind epoch : ℕ) (xs ys us vs : List (BucketView K V)) → length us ≡ length xs
+pub left_behind : {K V : Type 0} (kind epoch : ℕ) (xs ys us vs : List (BucketView K V)) → length us ≡ length xs
     → AreLeftOf kind epoch (xs ++ ys) (us ++ vs) → AreLeftOf kind epoch ys vs
 left_behind kind epoch xs ys us vs len all = record {
   len = omega (arith, len, all.len, length-append xs ys, length-append us vs);

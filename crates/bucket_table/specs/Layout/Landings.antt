@@ -3,15 +3,16 @@ use Rattle.std.specs.Prelude.{ℕ, ◌≡◌, ◌==◌, ◌<◌, ◌&&◌, ◌++
 use Rattle.std.specs.Prelude.{flat_map, map, slice_index_or, slice_set}
 use Rattle.std.specs.List.{Contains, filter}
 use Rattle.bucket_slots.specs.ArrayView.{bucket_at}
-use Rattle.bucket_slots.specs.BucketView.{BucketView, Place, flattened, listed_pairs, pairs_in}
+use Rattle.bucket_slots.specs.BucketView.{BucketView, Place, listed_pairs, pairs_in}
 use Rattle.bucket_slots.specs.Recency.{is_listed}
 use Rattle.bucket_slots.specs.Slots.{is_live, live_pair, live_pairs, slot_at}
 use Rattle.bucket_table.specs.declared.arrays.moving.Landing.{Landing}
+use Rattle.bucket_table.specs.Rehash.Carrying.{ListedWentFirst, WentFirst, chained_pairs}
 use Rattle.bucket_table.specs.Rehash.Relocation.{KeepsPlaces, homed_len}
 
 -- the pair stands in a bucket's chain
 abbrev pub StandsInChain : {K V : Type 0} → BucketView K V → K × V → Type 0
-StandsInChain bucket pair = Contains (live_pairs (flattened bucket.chain)) pair
+StandsInChain bucket pair = Contains (chained_pairs bucket) pair
 
 -- where a pair has landed in an array: in an own slot of this bucket, or else in the chain of some bucket
 abbrev pub HasLanded : {K V : Type 0} → List (BucketView K V) → K × V → Option ℕ → Type 0
@@ -28,11 +29,12 @@ abbrev pub carried_to : {K V : Type 0} → BucketView K V → (ℕ → Option �
 carried_to source landing j =
     live_pairs (map (slot_at source.own) (filter (λ slot. is_own_of j (landing slot)) source.listed))
 
--- recency is carried from a bucket into an array: each of its listed pairs has landed somewhere, no other pair moves, and every bucket lists its own pairs, followed by those of the source that landed in own slots there, in the source's order
+-- recency is carried from a bucket into an array: each of its listed pairs has landed somewhere, before those of its chain, no other pair moves, and every bucket lists its own pairs, followed by those of the source that landed in own slots there, in the source's order
 pub record CarriesRecency {K V : Type 0} (source : BucketView K V) (current new_current : List (BucketView K V)) : Type 0 where
   pub landing : ℕ → Option ℕ
   pub landed : (slot : ℕ) (pair : K × V) → is_listed source.listed slot ≡ true → live_pair (slot_at source.own slot) ≡ Some pair
       → HasLanded new_current pair (landing slot)
+  pub first : ListedWentFirst source new_current
   pub stay : KeepsPlaces current new_current
   pub order : (j : ℕ) → listed_pairs (bucket_at new_current j) ≡ listed_pairs (bucket_at current j) ++ carried_to source landing j
 
@@ -56,7 +58,7 @@ pub record AreListable {K V : Type 0} (landings : List (Option Landing)) (bucket
   pub each : (slot : ℕ) (at : Landing) → landing_of landings slot ≡ Some at → IsListable buckets at
   pub once : (one two : ℕ) (at : Landing) → landing_of landings one ≡ Some at → landing_of landings two ≡ Some at → one ≡ two
 
--- the pairs of a bucket's own slots have landed as a table says, and those of which it says nothing in a chain, as far as the table goes; no other pair has moved, and no list has changed
+-- the pairs of a bucket's own slots have landed as a table says, and those of which it says nothing in a chain, as far as the table goes, all before those of the bucket's chain; no other pair has moved, and no list has changed
 pub record HaveLanded {K V : Type 0} (hash : K → ℕ) (source : BucketView K V) (current new_current : List (BucketView K V)) (landings : List (Option Landing)) : Type 0 where
   pub table : AreListable landings new_current
   pub same_pair : (slot : ℕ) (at : Landing) → landing_of landings slot ≡ Some at
@@ -64,6 +66,7 @@ pub record HaveLanded {K V : Type 0} (hash : K → ℕ) (source : BucketView K V
   pub homed : (slot : ℕ) (at : Landing) → landing_of landings slot ≡ Some at → homed_len hash (length current) at.home (pairs_in source) ≡ 0 → ⊥
   pub in_chain : (slot : ℕ) (pair : K × V) → slot < length landings → live_pair (slot_at source.own slot) ≡ Some pair
       → landing_of landings slot ≡ None → (j : ℕ) × StandsInChain (bucket_at new_current j) pair
+  pub first : (pair other : K × V) → Contains (live_pairs source.own) pair → StandsInChain source other → WentFirst new_current pair other
   pub stay : KeepsPlaces current new_current
   pub same_lists : (j : ℕ) → listed_pairs (bucket_at new_current j) ≡ listed_pairs (bucket_at current j)
 

@@ -1,9 +1,9 @@
 -- Recency that goes along: what the current buckets list once the pairs of old ones have moved on.
-use Rattle.std.specs.Prelude.{ℕ, ◌≡◌, ◌++◌, ◌⊎◌, Bool, List, [], flat_map, map}
+use Rattle.std.specs.Prelude.{ℕ, ◌≡◌, ◌≢◌, ◌++◌, ◌⊎◌, Bool, List, [], flat_map, map}
 use Rattle.std.specs.Cmp.{IsEquivalence}
 use Rattle.std.specs.List.{All, Contains, IsDistinct, filter, list_any}
 use Rattle.bucket_slots.specs.ArrayView.{bucket_at}
-use Rattle.bucket_slots.specs.BucketView.{BucketView, listed_pairs, pairs_in}
+use Rattle.bucket_slots.specs.BucketView.{BucketView, flattened, listed_pairs, pairs_in}
 use Rattle.bucket_slots.specs.Slots.{live_pairs}
 use Rattle.bucket_table.specs.Rehash.Relocation.{KeepsPlaces}
 use Rattle.bucket_table.specs.Views.ArraysView.{ArraysView, pairs_of}
@@ -21,13 +21,32 @@ abbrev pub CarriesPairs : {K V : Type 0} → (K → K → Bool) → List (K × V
 CarriesPairs eq listed current new_current = (j : ℕ) → listed_pairs (bucket_at new_current j)
     ≡ listed_pairs (bucket_at current j) ++ filter (λ pair. has_own_key eq (bucket_at new_current j) pair.0) listed
 
+-- the pairs of a bucket's chain
+abbrev pub chained_pairs : {K V : Type 0} → BucketView K V → List (K × V)
+chained_pairs bucket = live_pairs (flattened bucket.chain)
+
+-- a pair went before another one: it stands in an own slot, or the other one in a chain, or they stand in different buckets
+abbrev pub WentFirst : {K V : Type 0} → List (BucketView K V) → K × V → K × V → Type 0
+WentFirst buckets pair other =
+    ((j : ℕ) × Contains (live_pairs (bucket_at buckets j).own) pair)
+    ⊎ (((j : ℕ) × Contains (chained_pairs (bucket_at buckets j)) other)
+    ⊎ ((i j : ℕ) × (i ≢ j) × Contains (pairs_in (bucket_at buckets i)) pair × Contains (pairs_in (bucket_at buckets j)) other))
+
+-- the listed pairs of a bucket that moved went before those of its chain
+abbrev pub ListedWentFirst : {K V : Type 0} → BucketView K V → List (BucketView K V) → Type 0
+ListedWentFirst bucket buckets =
+    All (λ pair. All (λ other. WentFirst buckets pair other) (chained_pairs bucket)) (listed_pairs bucket)
+
 -- old buckets have moved on, one after another, and carried their LRU order: each of the others lists what it listed, no pair of the
--- current array leaves its place, and each listed pair of those that moved stands there now, listed where it has an own slot
+-- current array leaves its place, and each listed pair of those that moved stands there now, listed where it has an own slot, which it
+-- has before a pair of its bucket's chain
 pub record CarriesOrder {K V : Type 0} (old new : ArraysView K V) : Type 0 where
   pub moved : List ℕ
   pub left : (i : ℕ) → (Contains moved i × (listed_pairs (bucket_at new.linked i) ≡ []))
-      ⊎ (listed_pairs (bucket_at new.linked i) ≡ listed_pairs (bucket_at old.linked i))
+      ⊎ ((listed_pairs (bucket_at new.linked i) ≡ listed_pairs (bucket_at old.linked i))
+      × (chained_pairs (bucket_at new.linked i) ≡ chained_pairs (bucket_at old.linked i)))
   pub stay : KeepsPlaces old.current new.current
   pub arrived : All (λ pair. (j : ℕ) × Contains (pairs_in (bucket_at new.current j)) pair) (listed_among old.linked moved)
   pub carried : (eq : K → K → Bool) → IsEquivalence eq → IsDistinct eq (map (λ pair. pair.0) (pairs_of old))
       → CarriesPairs eq (listed_among old.linked moved) old.current new.current
+  pub first : (i : ℕ) → Contains moved i → ListedWentFirst (bucket_at old.linked i) new.current

@@ -9,7 +9,7 @@ use Rattle.bucket_slots.specs.Walking.{pairs_ahead}
 use Rattle.bucket_slots.specs.declared.bucket.TheConstants.{INDEX}
 use Rattle.bucket_table.specs.Views.ArraysView.{ArraysView, IsOneMap, pairs_of}
 use Rattle.bucket_table.specs.Walking.Row.{row_of, row_with}
-use Rattle.bucket_table.specs.Walking.Retains.{IsLeftOf}
+use Rattle.bucket_table.specs.Walking.Retains.{AreLeftOf, IsLeftOf}
 
 -- what contracts see of an extraction: the arrays, and the pairs that weren't asked for yet, which come last in them
 pub record ExtractView (K V : Type 0) : Type 0 where
@@ -31,14 +31,16 @@ pub record KeepsShape {K V : Type 0} (old new : ArraysView K V) : Type 0 where
   pub linked_len : length new.linked ≡ length old.linked
 
 -- a function is asked of the pairs that are left, in turn, up to the first that it picks, which is taken out; those that it refused stay in
--- their order, as it left them, and no other pair changes
-pub record Extracts {S K V : Type 0} (asks : S → K × V → Bool → S → K × V → Type 0) (first : S) (old : ExtractView K V)
+-- their order, as it left them, and no other pair changes; each bucket keeps its other slots and its LRU order
+pub record Extracts {S K V : Type 0} (kind : ℕ) (asks : S → K × V → Bool → S → K × V → Type 0) (first : S) (old : ExtractView K V)
     (picked : Option (K × V)) (new : ExtractView K V) (last : S) : Type 0 where
   pub kept : List (K × V)
   pub asked : ExtractsNext asks first old.left picked last kept new.left
   pub stay : (front : List (K × V)) → pairs_of old.arrays ≡ front ++ old.left → pairs_of new.arrays ≡ front ++ (kept ++ new.left)
   pub one_map : (eq : K → K → Bool) → IsEquivalence eq → (hash : K → ℕ) → IsOneMap eq hash old.arrays → IsOneMap eq hash new.arrays
   pub others : KeepsShape old.arrays new.arrays
+  pub current : AreLeftOf kind 0 old.arrays.current new.arrays.current
+  pub linked : AreLeftOf kind 0 old.arrays.linked new.arrays.linked
 
 -- the pair in a live slot is asked for: where the answer is the one that keeps it, it is there with the value last written, else it is
 -- gone, and handed out unless the kind is an index; the pairs before it and those ahead stay

@@ -23,6 +23,7 @@ ghost use Rattle.bucket_table.specs.Views.Locking.{IsLocked};
 mod by_probe;
 mod evicting;
 mod lending;
+mod replacing;
 mod updating;
 
 use crate::arrays::{Side, Spot};

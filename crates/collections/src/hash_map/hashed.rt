@@ -1,10 +1,11 @@
 //! The calls by a hash that is known, for an entry: it hashes its key once.
-ghost use Rattle.std.specs.Prelude.{◌≡◌, IsSome, Some};
+ghost use Rattle.std.specs.Prelude.{◌≡◌, IsSome, Some, is_some};
 ghost use Rattle.std.specs.Borrow.{sem};
 ghost use Rattle.std.specs.Option.{option_copied, option_copied_mut};
 ghost use Rattle.collections.specs.Changes.{Holds, Removes};
 ghost use Rattle.collections.specs.Hashes.{HaveHash};
 ghost use Rattle.collections.specs.Maps.{get_by, map_with_value};
+ghost use Rattle.collections.specs.Slots.{LosesSlots};
 
 use crate::hash_map::HashMap;
 use crate::key_form::{FormProbe, KeyForm, value_hashed};
@@ -76,7 +77,8 @@ impl<K: Eq + Drop, V: Drop, H: KeyHash<K>> HashMap<K, V, H> {
     #[inline(always)]
     pub(super) fn remove_hashed<Q: KeyForm<K, H>>(&mut self, hash: u64, key: Q) -> Option<(K, V)>
         requires hashed { HaveHash (Q.stands_for key) (H.hash_of self.old.hasher) hash }
-        ensures { Removes K.eq (Q.stands_for key) self.old result self.new }
+        ensures map { Removes K.eq (Q.stands_for key) self.old result self.new }
+        ensures slots { LosesSlots (is_some result) self.old self.new }
     {
         self.room.learn();
         self.table.sound();

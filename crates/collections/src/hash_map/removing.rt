@@ -1,7 +1,9 @@
 //! The removal that asks first.
+ghost use Rattle.std.specs.Prelude.{is_some};
 ghost use Rattle.std.specs.Borrow.{Bor};
 ghost use Rattle.bucket_table.specs.Map.LookingUp.{IsThere};
 ghost use Rattle.collections.specs.Removals.{AsksThere, RemovesIf};
+ghost use Rattle.collections.specs.Slots.{LosesSlots};
 
 use crate::hash_map::HashMap;
 use crate::key_form::{FormProbe, KeyForm};
@@ -22,8 +24,9 @@ impl<K: Eq + Drop, V: Drop, H: KeyHash<K>> HashMap<K, V, H> {
         requires callable { (own : Bor K) (value : Bor V)
             → IsThere (Q.stands_for key) self.old.entries (own.now, value.now)
             → F.pre condition own value }
-        ensures { RemovesIf K.eq (Q.stands_for key)
+        ensures map { RemovesIf K.eq (Q.stands_for key)
             (λ own value answer. F.post condition own value answer) self.old result self.new }
+        ensures slots { LosesSlots (is_some result) self.old self.new }
     {
         self.sound();
         if self.asks(key, condition) {

@@ -1,11 +1,11 @@
 //! The calls of std's `HashSet` that answer with a key of the set, or by a truth value.
-ghost use Rattle.std.specs.Prelude.{◌≡◌, IfErr, IfSome, IsTrue, OnErr, is_some};
+ghost use Rattle.std.specs.Prelude.{◌≡◌, IfSome, IsTrue, OnErr, is_some};
 ghost use Rattle.std.specs.Option.{option_copied};
 ghost use Rattle.collections.specs.Changes.{TakesOut};
 ghost use Rattle.collections.specs.Crowding.{LacksRoom};
-ghost use Rattle.collections.specs.Slots.{GrowsSlots};
+ghost use Rattle.collections.specs.Slots.{GrowsSlots, LosesSlots};
 ghost use Rattle.collections.specs.Maps.{contains_by};
-ghost use Rattle.collections.specs.SetChanges.{LacksRoomAfter, SetAdds, SetReplaces};
+ghost use Rattle.collections.specs.SetChanges.{SetAdds, SetReplaces};
 ghost use Rattle.collections.specs.StoredKeys.{key_by};
 
 use crate::hash_map::NotInserted;
@@ -56,7 +56,8 @@ impl<K: Eq + Drop, H: KeyHash<K>> HashSet<K, H> {
     ///
     /// Never refused. O(1) expected, beside a resize. std: `HashSet::remove`.
     pub fn remove<Q: KeyForm<K, H>>(&mut self, key: Q) -> bool
-        ensures { TakesOut K.eq (Q.stands_for key) self.old result self.new }
+        ensures set { TakesOut K.eq (Q.stands_for key) self.old result self.new }
+        ensures slots { LosesSlots result self.old self.new }
     {
         let Some(pair) = self.map.remove(key) else {
             return false;
@@ -66,37 +67,27 @@ impl<K: Eq + Drop, H: KeyHash<K>> HashSet<K, H> {
     }
 
     /// Inserts a key, in the place of the one that is equal, which it returns; `None` where the set
-    /// had none.
+    /// had none. Where an equal key is there it is never refused.
     ///
     /// # Errors
     ///
-    /// Allocation failed, as in `insert`, for the key, or once the equal one was out: it comes back,
-    /// and beside it the equal one, which is taken out, or `None` where the set had none.
+    /// Allocation failed, as in `insert`, and the set has no equal key: the key comes back.
     ///
     /// O(1) expected, beside a resize. std: `HashSet::replace`.
-    pub fn replace(&mut self, key: K) -> Result<Option<K>, AllocFailed<(K, Option<K>)>>
+    pub fn replace(&mut self, key: K) -> Result<Option<K>, AllocFailed<K>>
         ensures set { SetReplaces K.eq key self.old result self.new }
-        ensures memory { IfErr result (λ back.
-            LacksRoomAfter K.eq key H.hash_of self.old back.value.1) }
+        ensures slots { GrowsSlots H.hash_of key self.old self.new }
+        ensures memory { OnErr result (LacksRoom H.hash_of key self.old) }
     {
         if !self.contains(&key) {
             return match self.insert(key) {
                 Ok(_added) => Ok(None),
-                Err(back) => Err(AllocFailed {
-                    value: (back.value, None),
-                }),
+                Err(back) => Err(back),
             };
         }
-        let earlier = self.take(&key);
-        let _held = match self.map.upsert(key, ()) {
-            Ok(held) => held,
-            Err(back) => {
-                let (key, ()) = back.value;
-                return Err(AllocFailed {
-                    value: (key, earlier),
-                });
-            }
+        let Ok(own) = self.map.swap_key(key) else {
+            unreachable!()
         };
-        Ok(earlier)
+        Ok(Some(own))
     }
 }

@@ -16,10 +16,10 @@ loop-key-preserved g c =
     elim c.else-is_none.branch [
       | else-is_none-via-then-is_none+else-is_err w ↦ rw w.counts-is (counts_put eq laws keys at.key-index c.key-item.result at.counts
           c.loop-key-test.true c.key-item.is at.invariant.0 _ raised.result raised.new.self w.insert.new.self w.insert.result
-          (c.is_none.ensures ∙ ap not w.if-is_none.true) (search (rules, w.is_err.ensures, w.if-is_err.false)) raised.ensures
+          (c.is_none.ensures ∙ ap not w.if-is_none.true) (search (rules, w.is_err.ensures, w.if-is_err.false)) raised.ensures.map
           w.insert.ensures.map)
       | else-is_none-via-else-is_none w ↦ rw w.counts-is (counts_raised eq laws keys at.key-index c.key-item.result at.counts
           c.loop-key-test.true c.key-item.is at.invariant.0 _ (search rules)
           (λ own before after changed. first_of (search (rules, changed), grind (arith, changed)))
-          raised.result raised.new.self (c.is_none.ensures ∙ ap not w.if-is_none.false) raised.ensures)
+          raised.result raised.new.self (c.is_none.ensures ∙ ap not w.if-is_none.false) raised.ensures.map)
     ]

@@ -1,8 +1,9 @@
 //! The calls of an occupied entry.
-ghost use Rattle.std.specs.Prelude.{◌≡◌, Some};
+ghost use Rattle.std.specs.Prelude.{◌≡◌, Some, true};
 ghost use Rattle.std.specs.Borrow.{MutBor, sem};
 ghost use Rattle.collections.specs.Maps.{get, map_with_value};
 ghost use Rattle.collections.specs.Changes.{Holds, Replaces, Takes};
+ghost use Rattle.collections.specs.Slots.{KeepsSlots, LosesSlots};
 
 use crate::hash_map::entry::OccupiedEntry;
 use bucket_table::key_hash::KeyHash;
@@ -41,6 +42,7 @@ impl<'a, K: Eq + Drop, V: Drop, H: KeyHash<K>> OccupiedEntry<'a, K, V, H> {
         ensures updated { (own : K) × (before after : MutBor V) × F.post change before result after
             × Replaces K.eq self.old.map.now (K.eq self.old.key) (own, before.now) after.now
             self.new.map.now }
+        ensures slots { KeepsSlots self.old.map.now self.new.map.now }
     {
         match self.map.get_mut_hashed(self.hash, &self.key) {
             Some(value) => change(value),
@@ -73,6 +75,7 @@ impl<'a, K: Eq + Drop, V: Drop, H: KeyHash<K>> OccupiedEntry<'a, K, V, H> {
         ensures replaced { (own : K)
             × Replaces K.eq self.old.map.now (K.eq self.old.key) (own, result) value
             self.new.map.now }
+        ensures slots { KeepsSlots self.old.map.now self.new.map.now }
     {
         self.update(|held| mem::replace(held, value))
     }
@@ -81,7 +84,8 @@ impl<'a, K: Eq + Drop, V: Drop, H: KeyHash<K>> OccupiedEntry<'a, K, V, H> {
     ///
     /// Never refused. O(1) expected, beside a resize. std: `OccupiedEntry::remove_entry`.
     pub fn remove_entry(self) -> (K, V)
-        ensures { Takes K.eq self.entry.map.now (K.eq self.entry.key) result self.exit.0.now }
+        ensures map { Takes K.eq self.entry.map.now (K.eq self.entry.key) result self.exit.0.now }
+        ensures slots { LosesSlots true self.entry.map.now self.exit.0.now }
     {
         let hash = self.hash;
         let key = self.key;
@@ -92,8 +96,9 @@ impl<'a, K: Eq + Drop, V: Drop, H: KeyHash<K>> OccupiedEntry<'a, K, V, H> {
     ///
     /// Never refused. O(1) expected, beside a resize. std: `OccupiedEntry::remove`.
     pub fn remove(self) -> V
-        ensures { (own : K)
+        ensures map { (own : K)
             × Takes K.eq self.entry.map.now (K.eq self.entry.key) (own, result) self.exit.0.now }
+        ensures slots { LosesSlots true self.entry.map.now self.exit.0.now }
     {
         let (_own, value) = self.remove_entry();
         value

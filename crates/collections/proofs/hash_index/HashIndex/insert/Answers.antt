@@ -1,6 +1,7 @@
 use Rattle.std.proofs.Common.{◌%◌}
 use Rattle.collections.proofs.KeptMarks.{inserted_keeps}
 use Rattle.collections.proofs.Marks.{no_new-inserted}
+use Rattle.collections.proofs.Slots.{insertion_grows}
 use Rattle.collections.proofs.Steps.{inserts}
 use Rattle.collections.proofs.IndexRoom.{index_lacks}
 use Rattle.collections.proofs.hash_index.HashIndex.insert.Goals as goal
@@ -29,3 +30,10 @@ returns-clause-memory g c = λ is. rw (← c.self.view_is) (index_lacks g.H.KeyH
     (c.learn_refused.ensures.old c.args.key c.args.value is) (g.G.Generation.keeps c.args.generation.now) c.args.value
     g.K.PartialEq.eq c.insert_pair-outcome.result c.args.key c.args.value c.insert_pair-outcome.ensures.map
     c.insert_pair-outcome.ensures.arrays is)
+
+pub returns-clause-slots : goal.returns-clause-slots
+returns-clause-slots g c =
+    let puts = c.insert_pair-outcome.ensures.arrays in
+    rw (← c.self.view_is) (insertion_grows g.H.KeyHash.hash_of c.args.key c.self.inside.table c.insert_pair-outcome.new.self
+    c.sound-2.ensures.one_map.placed c.sound-2.ensures.beside g.K.PartialEq.eq 79 (g.G.Generation.keeps c.args.generation.now) c.args.value
+    c.insert_pair-outcome.result puts.answer puts.between puts.found puts.done c.insert_pair-outcome.ensures.map)

@@ -8,3 +8,6 @@ returns-clause-map g c = rw c.is_some.ensures (takes_out g.K.PartialEq.eq _ (g.Q
 
 pub returns-clause-marked : goal.returns-clause-marked
 returns-clause-marked g c = rw c.is_some.ensures c.remove_with-removed.ensures.marked
+
+pub returns-clause-slots : goal.returns-clause-slots
+returns-clause-slots g c = rw c.is_some.ensures c.remove_with-removed.ensures.slots

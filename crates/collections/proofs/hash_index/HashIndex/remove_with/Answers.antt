@@ -1,5 +1,8 @@
+use Rattle.std.proofs.Common.{is_some}
+use Rattle.bucket_slots.specs.Marking.{slots_marked}
 use Rattle.collections.proofs.IndexSteps.{reads_out}
 use Rattle.collections.proofs.RemovedMarks.{marks_removed}
+use Rattle.collections.proofs.Slots.{taken_loses}
 use Rattle.collections.proofs.hash_index.HashIndex.remove_with.Goals as goal
 
 pub returns-clause-map : goal.returns-clause-map
@@ -16,3 +19,10 @@ returns-clause-marked g c =
     let marks = c.mark_by-outcome.ensures.arrays in
     rw (← c.self.view_is, ← c.new.ensures.form) (marks_removed (g.Q.KeyForm.stands_for c.new.result.form) _ _ c.self.inside.table
     marks.between c.mark_by-outcome.new.self marks.prepared _ marks.done)
+
+pub returns-clause-slots : goal.returns-clause-slots
+returns-clause-slots g c =
+    let epoch = g.G.Generation.epoch_of c.args.generation.now in
+    rw (← c.self.view_is) (taken_loses 79 c.hash_by-hash.result c.self.inside.table c.mark_by-outcome.new.self
+    (g.Q.KeyForm.stands_for c.new.result.form) (λ bucket at. slots_marked bucket at epoch) (is_some c.mark_by-outcome.result)
+    c.mark_by-outcome.ensures.arrays)

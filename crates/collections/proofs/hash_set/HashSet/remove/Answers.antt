@@ -1,4 +1,4 @@
 use Rattle.collections.proofs.hash_set.HashSet.remove.Goals as goal
 
-pub returns : goal.returns
-returns g c = rw (← c.self.view_is) (c.in-Some.pair, c.in-Some.ensures)
+pub returns-clause-set : goal.returns-clause-set
+returns-clause-set g c = rw (← c.self.view_is) (c.in-Some.pair, c.in-Some.ensures.map)

@@ -3,6 +3,7 @@ ghost use Rattle.std.specs.Prelude.{◌≡◌, Some};
 ghost use Rattle.std.specs.Borrow.{MutBor, sem};
 ghost use Rattle.collections.specs.Maps.{get_by, map_with_value};
 ghost use Rattle.collections.specs.Changes.{Holds, Replaces};
+ghost use Rattle.collections.specs.Slots.{KeepsSlots};
 
 use crate::hash_map::entry::by_form::OccupiedEntryRef;
 use crate::key_form::KeyForm;
@@ -50,6 +51,7 @@ impl<'a, K: Eq + Drop, V: Drop, H: KeyHash<K>, Q: KeyForm<K, H>> OccupiedEntryRe
         ensures updated { (own : K) × (before after : MutBor V) × F.post change before result after
             × Replaces K.eq self.old.map.now (Q.stands_for self.old.form) (own, before.now)
             after.now self.new.map.now }
+        ensures slots { KeepsSlots self.old.map.now self.new.map.now }
     {
         match self.map.get_mut_hashed(self.hash, self.form) {
             Some(value) => change(value),
@@ -84,6 +86,7 @@ impl<'a, K: Eq + Drop, V: Drop, H: KeyHash<K>, Q: KeyForm<K, H>> OccupiedEntryRe
         ensures replaced { (own : K)
             × Replaces K.eq self.old.map.now (Q.stands_for self.old.form) (own, result) value
             self.new.map.now }
+        ensures slots { KeepsSlots self.old.map.now self.new.map.now }
     {
         self.update(|held| mem::replace(held, value))
     }

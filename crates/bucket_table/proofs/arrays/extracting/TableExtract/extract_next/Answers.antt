@@ -5,15 +5,15 @@ use Rattle.bucket_table.proofs.Walking.Row.{none_without}
 use Rattle.bucket_table.proofs.arrays.extracting.TableExtract.extract_next.Goals as goal
 
 pub slots-init : goal.slots-init
-slots-init g c = (c.requires.callable, sets_out _ c.args.pick.now c.args.self.now _ c.self.view_is)
+slots-init g c = (c.requires.callable, sets_out _ g.row.TYPE c.args.pick.now c.args.self.now _ c.self.view_is)
 
 pub returns-then-not-has_row-clause-extracted : goal.returns-then-not-has_row-clause-extracted
 returns-then-not-has_row-clause-extracted g c =
     let inside = c.self.inside in
     let none = none_without (row_of inside.arrays) inside.index inside.at (c.has_row.ensures.none c.if-not-has_row.true) in
     rw (← c.self.view_is)
-    (picks_none _ c.args.pick.now c.args.pick.now _ inside.arrays inside.index inside.index inside.at inside.at
-    (sets_out _ c.args.pick.now _ _ refl) none none)
+    (picks_none _ g.row.TYPE c.args.pick.now c.args.pick.now _ inside.arrays inside.index inside.index inside.at inside.at
+    (sets_out _ g.row.TYPE c.args.pick.now _ _ refl) none none)
 
 pub returns-in-Some-ask_at-clause-extracted : goal.returns-in-Some-ask_at-clause-extracted
 returns-in-Some-ask_at-clause-extracted g c =
@@ -41,5 +41,5 @@ slots-preserved g c =
 pub returns-clause-extracted : goal.returns-clause-extracted
 returns-clause-extracted g c =
     let end = c.in_default.ensures.end in
-    picks_none _ c.args.pick.now c.slots.pick c.args.self.now c.slots.self-inside.arrays c.slots.self-inside.index
+    picks_none _ g.row.TYPE c.args.pick.now c.slots.pick c.args.self.now c.slots.self-inside.arrays c.slots.self-inside.index
     c.next_slot.new.index c.slots.self-inside.at c.next_slot.new.at c.slots.invariant.1 end.0 end.1

@@ -3,6 +3,7 @@ use Rattle.collections.specs.Maps.{get}
 use Rattle.collections.proofs.Collecting.{upsert_puts}
 use Rattle.collections.proofs.Entries.{puts_held}
 use Rattle.collections.proofs.EntryMaking.{lent_vacant, none_refused, same_as_held}
+use Rattle.collections.proofs.Slots.{keeps_grows, slots_same}
 use Rattle.collections.proofs.hash_map.entry.Entry.or_try_insert_with.Goals as goal
 
 pub returns-in-Occupied : goal.returns-in-Occupied
@@ -12,8 +13,11 @@ returns-in-Occupied g c =
     rw c.in-Occupied.is (
       (
         refl,
-        λ value is. puts_held g.K.PartialEq.eq place.map.now _ (g.K.PartialEq.eq place.key) c.into_mut.result.now value _ lent.value
-            (lent.written value),
+        λ value is. (
+          puts_held g.K.PartialEq.eq place.map.now _ (g.K.PartialEq.eq place.key) c.into_mut.result.now value _ lent.value
+              (lent.written value),
+          keeps_grows g.H.KeyHash.hash_of place.key place.map.now _ (slots_same place.map.now _ refl refl),
+        ),
         tt,
       ),
       record {
@@ -34,7 +38,7 @@ returns-in-Vacant g c =
     rw c.in-Vacant.is (
       (
         refl,
-        λ value is. upsert_puts eq place.map.now (lent.lender value) place.key value None (lent.holds value is),
+        λ value is. (upsert_puts eq place.map.now (lent.lender value) place.key value None (lent.holds value is).0, (lent.holds value is).1),
         lent.holds-at-none,
       ),
       record {

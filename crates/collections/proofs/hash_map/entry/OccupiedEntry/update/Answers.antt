@@ -1,4 +1,4 @@
-use Rattle.collections.proofs.Entries.{hash_stays, replaces_there, still_there}
+use Rattle.collections.proofs.Entries.{hash_stays, replaces_there, slots_there, still_there}
 use Rattle.collections.proofs.hash_map.entry.OccupiedEntry.update.Goals as goal
 
 pub invariant_of-self : goal.invariant_of-self
@@ -24,3 +24,11 @@ returns-clause-updated g c =
     let found = replaces_there g.K.PartialEq.eq place.map.now (lent.lender after) (g.K.PartialEq.eq place.key) c.get_mut_hashed.result c.in-Some.value
     after c.in-Some.is (lent.holds after) in
     (found.0, c.in-Some.value, _, c.change.ensures, found.1)
+
+pub returns-clause-slots : goal.returns-clause-slots
+returns-clause-slots g c =
+    let place = c.args.self.now in
+    let after = c.change.new.arg2 in
+    let lent = c.get_mut_hashed.follows in
+    slots_there g.K.PartialEq.eq place.map.now (lent.lender after) (g.K.PartialEq.eq place.key) c.get_mut_hashed.result c.in-Some.value after c.in-Some.is
+    (lent.holds after)

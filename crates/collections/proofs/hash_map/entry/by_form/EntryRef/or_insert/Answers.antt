@@ -1,7 +1,8 @@
-use Rattle.std.proofs.Common.{◌≡◌, Option, ap, refl, subst, sym}
+use Rattle.std.proofs.Common.{◌≡◌, Option, ap, inl, refl, subst, sym}
 use Rattle.std.specs.Prelude.{IfOk, unwrap_or}
 use Rattle.collections.specs.Maps.{get_by}
 use Rattle.collections.proofs.EntryMaking.{back_new, puts_new, puts_over}
+use Rattle.collections.proofs.Slots.{slots_same}
 use Rattle.collections.proofs.hash_map.entry.by_form.EntryRef.or_insert.Goals as goal
 
 pub returns-in-Occupied : goal.returns-in-Occupied
@@ -11,8 +12,11 @@ returns-in-Occupied g c =
     rw c.in-Occupied.is (
       (
         refl,
-        λ value is. puts_over g.K.PartialEq.eq place.map.now (g.Q.KeyForm.stands_for place.form) value _ c.into_mut.result.now lent.value
-            (lent.written value),
+        λ value is. (
+          puts_over g.K.PartialEq.eq place.map.now (g.Q.KeyForm.stands_for place.form) value _ c.into_mut.result.now lent.value
+              (lent.written value),
+          inl (slots_same place.map.now _ refl refl),
+        ),
         tt,
       ),
       record {
@@ -32,7 +36,10 @@ returns-in-Vacant g c =
     rw c.in-Vacant.is (
       (
         refl,
-        λ value is. puts_new g.K.PartialEq.eq place.map.now wants value (lent.lender value) place.absent (lent.holds value is),
+        λ value is. (
+          puts_new g.K.PartialEq.eq place.map.now wants value (lent.lender value) place.absent (lent.holds value is).0,
+          (lent.holds value is).1,
+        ),
         lent.holds-at-none,
       ),
       record {
