@@ -13,6 +13,7 @@ pub mod Upserting
 pub mod Evicting
 pub mod PutSlots
 pub mod Putting
+pub mod AfterSearch
 pub mod Finding
 pub mod Preparing
 pub mod SlotSteps

@@ -11,5 +11,6 @@ pub mod Preparing
 pub mod Refusing
 pub mod Refusals
 pub mod Taking
+pub mod Vacancies
 pub mod Free
 pub mod StdHashes

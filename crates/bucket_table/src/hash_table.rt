@@ -69,6 +69,17 @@ pub enum NotInserted<K, V> {
     Memory(K, V),
 }
 
+/// Where a key is absent, what its home is for a pair that is to be put there.
+#[derive(Debug, Drop)]
+pub enum Vacancy {
+    /// Each of its sources is killed.
+    Ready,
+    /// There is no array.
+    NoArray,
+    /// Allocation failed for one of its sources.
+    NoMemory,
+}
+
 /// A map from keys to values, in one array or two.
 #[derive(Drop)]
 pub struct HashTable<K: Eq, V, H: KeyHash<K>, L: LruList, const TYPE: u8> {

@@ -133,9 +133,11 @@ module _ {K V H : Type 0} (kind : ℕ) (hash_of : H → K → ℕ) (key : K) (n 
   before_on count side index len kept same home many =
       let now = at_home (hash_of new.hasher) new.arrays side index placed count key
       (subst (λ (h : ℕ). IsHome (length (buckets_on new.arrays side)) h index) own home) many in
-      let there = rw (same, hasher_kept _ _ kept) at now in
-      (there.0, rw (← homed-permutation (hash_of old.hasher) ((32 * len) / 32) (home_of ((32 * len) / 32) (hash_of old.hasher key))
-          (pairs_of old.arrays) (pairs_of new.arrays) kept.pairs) there.1)
+      let there = rw (same, hasher_kept _ _ kept) at now in (
+        there.0,
+        rw (← homed-permutation (hash_of old.hasher) ((32 * len) / 32) (home_of ((32 * len) / 32) (hash_of old.hasher key))
+            (pairs_of old.arrays) (pairs_of new.arrays) kept.pairs) there.1,
+      )
 
   pub laws_on : (side : Side) (index : ℕ) → IsHome (length (buckets_on new.arrays side)) n index
       → IsBucketOf kind (bucket_on new.arrays side index)

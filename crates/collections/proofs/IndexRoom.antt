@@ -21,7 +21,7 @@ use Rattle.bucket_table.specs.declared.arrays.side.Side.{Side}
 use Rattle.bucket_table.proofs.Map.MapKept.{hasher_kept}
 use Rattle.bucket_table.specs.declared.hash_table.NotInserted.{NotInserted}
 use Rattle.bucket_table.specs.declared.hash_table.NotInserted.TheVariants.{Memory}
-use Rattle.collections.specs.Crowding.{IsFull, KeepsHome, LacksSlots}
+use Rattle.collections.specs.Crowding.{KeepsHome, LacksSlots}
 use Rattle.collections.proofs.Crowding.{found_len, found_none, found_some, laws_on, none_found}
 use Rattle.collections.proofs.InsertedMarks.{kept}
 

@@ -21,7 +21,7 @@ use Rattle.collections.proofs.Steps.{replaces, stays}
 module _ {K V H : Type 0} (eq : K → K → Bool) (laws : IsEquivalence eq) (kind : ℕ) (t : TableView K V H)
     (distinct : IsDistinct eq (keys_of (pairs_of t.arrays))) (wants : K → Bool) (alike : IsForm eq wants) where
   -- another value beside a key leaves the keys distinct
-  distinct_changed : (s : TableView K V H) (p : K × V) (v : V) → ChangesValue (state_of kind t) p v (state_of kind s)
+  pub distinct_changed : (s : TableView K V H) (p : K × V) (v : V) → ChangesValue (state_of kind t) p v (state_of kind s)
       → IsDistinct eq (keys_of (pairs_of s.arrays))
   distinct_changed s p v changed =
       distinct_permuted eq laws ((p.0, v) ∷ changed.rest) (pairs_of s.arrays) changed.after.pairs

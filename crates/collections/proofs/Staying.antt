@@ -1,10 +1,8 @@
 -- The map stays, and then a call does something to it: so it does that to the map of before.
-use Rattle.std.proofs.Common.{Bool, cond, Option, Some, None, ◌∷◌, ◌≡◌, sym, ap, ◌+◌, ◌∙◌}
-use Rattle.std.specs.Cmp.{IsEquivalence}
-use Rattle.std.proofs.lemmas.List.Sorted.{IsPermutation-cons, IsPermutation-sym, IsPermutation-trans}
-use Rattle.collections.specs.Changes.{Adds, Displaces, Keeps, Replaces, Stays}
+use Rattle.std.proofs.Common.{Bool, cond, Option, Some, ◌∷◌, ◌≡◌, sym, ap, ◌+◌, ◌∙◌}
+use Rattle.std.proofs.lemmas.List.Sorted.{IsPermutation-cons, IsPermutation-trans}
+use Rattle.collections.specs.Changes.{Adds, Keeps, Replaces, Stays}
 use Rattle.collections.specs.Maps.{MapView, get_by}
-use Rattle.collections.proofs.Lookups.{IsForm, distinct_permuted, form_permuted}
 
 module _ {K V H : Type 0} (eq : K → K → Bool) (old between new : MapView K V H) (first : Stays eq old between) where
   keeps_after : Keeps eq between new → Keeps eq old new
@@ -45,24 +43,3 @@ module _ {K V H : Type 0} (eq : K → K → Bool) (old between new : MapView K V
     updates = λ q. replaced.updates q ∙ ap (λ (o : Option V). cond (wants q) (Some v) o) (first.gets q);
     kept = keeps_after replaced.kept;
   }
-
-  pub displaces_after : (gone : K × V) (k : K) (v : V) → Displaces eq between gone k v new → Displaces eq old gone k v new
-  displaces_after gone k v displaced = record {
-    absent = sym (first.gets k) ∙ displaced.absent;
-    went = sym (first.gets gone.0) ∙ displaced.went;
-    rest = displaced.rest;
-    before = IsPermutation-trans old.entries between.entries (gone ∷ displaced.rest) first.entries displaced.before;
-    after = displaced.after;
-    len = displaced.len ∙ first.len;
-    gets = λ q. displaced.gets q
-        ∙ ap (λ (o : Option V). cond (eq k q) (Some v) (cond (eq gone.0 q) None o)) (first.gets q);
-    kept = keeps_after displaced.kept;
-  }
-
--- what stands for keys finds the same once the map has stayed
-pub gets_by : {K V H : Type 0} (eq : K → K → Bool) (laws : IsEquivalence eq) (wants : K → Bool) → IsForm eq wants
-    → (old new : MapView K V H) → Stays eq old new → get_by wants new ≡ get_by wants old
-gets_by eq laws wants alike old new stays =
-    let distinct = distinct_permuted eq laws new.entries old.entries (IsPermutation-sym old.entries new.entries stays.entries)
-    stays.kept.unique in
-    form_permuted eq laws wants alike old.entries new.entries distinct stays.entries

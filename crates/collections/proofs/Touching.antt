@@ -1,35 +1,103 @@
--- What a touch of a pair of a cache says of the map.
-use Rattle.std.proofs.Common.{ℕ, ◌≡◌, Bool, true, false, refl, subst}
+-- The pair under a wanted key of a cache was touched where it stands, or none is wanted.
+use Rattle.std.proofs.Common.{ℕ, ◌≡◌, Bool, true, false, Some, None, refl, sym, ap, ◌∙◌}
 use Rattle.std.specs.Cmp.{IsEquivalence}
 use Rattle.std.specs.List.{IsDistinct}
 use Rattle.std.specs.Map.{keys_of}
+use Rattle.std.proofs.lemmas.List.Sorted.{All-permutation, IsPermutation-sym}
+use Rattle.bucket_slots.specs.BucketView.{BucketView, Place, bucket_with_value, slot_in}
 use Rattle.bucket_slots.specs.Evicting.{slots_touched}
+use Rattle.bucket_slots.specs.Slots.{live_pair}
+use Rattle.bucket_table.specs.Map.ByKey.{ChangesPlace, PreparesThen, StandsAt}
+use Rattle.bucket_table.specs.Map.Lending.{with_value}
+use Rattle.bucket_table.specs.Map.LookingUp.{IsAbsent, IsThere}
+use Rattle.bucket_table.specs.Map.MapState.{ChangesValue, KeepsPairs, state_of}
+use Rattle.bucket_table.specs.Map.Preparing.{IsPrepared}
 use Rattle.bucket_table.specs.Views.ArraysView.{TableView, pairs_of}
-use Rattle.bucket_table.specs.Map.ByKey.{ChangesAt, PreparesThen, Touches}
-use Rattle.bucket_table.specs.Map.MapState.{KeepsPairs, state_of}
-use Rattle.collections.specs.Maps.{contains_by, map_of}
+use Rattle.bucket_table.specs.Views.Sides.{bucket_on, with_bucket}
+use Rattle.bucket_table.specs.declared.arrays.side.Side.{Side}
+use Rattle.bucket_table.proofs.Map.LockedSteps.{put_there}
+use Rattle.bucket_table.proofs.Map.MapSteps.{set_again}
+use Rattle.bucket_table.proofs.Scripts.CallSteps.{then_changed, there_before}
+use Rattle.collections.specs.CacheWrites.{IsWritten}
+use Rattle.collections.specs.Changes.{Replaces, Stays}
+use Rattle.collections.specs.Maps.{get_by, map_of}
 use Rattle.collections.specs.Orders.{IsTouched}
-use Rattle.collections.proofs.Lookups.{IsForm, form_absent, form_there}
-use Rattle.collections.proofs.Steps.{stays}
+use Rattle.collections.proofs.InPlace.{found_is}
+use Rattle.collections.proofs.Loans.{distinct_changed}
+use Rattle.collections.proofs.Lookups.{IsForm, distinct_permuted, form_absent, form_there}
+use Rattle.collections.proofs.Steps.{replaces, stays}
 
-module _ {K V H : Type 0} (eq : K → K → Bool) (laws : IsEquivalence eq) (t s : TableView K V H)
-    (distinct : IsDistinct eq (keys_of (pairs_of t.arrays))) (after : IsDistinct eq (keys_of (pairs_of s.arrays))) (wants : K → Bool)
-    (alike : IsForm eq wants) where
-  keeps : (r : Bool) → Touches wants (state_of 67 t) r (state_of 67 s) → KeepsPairs (state_of 67 t) (state_of 67 s)
-  keeps true done = done.1
-  keeps false done = done.1
+module _ {K V H : Type 0} (eq : K → K → Bool) (laws : IsEquivalence eq) (t b : TableView K V H)
+    (distinct : IsDistinct eq (keys_of (pairs_of t.arrays))) (wants : K → Bool) (alike : IsForm eq wants)
+    (keeps : KeepsPairs (state_of 67 t) (state_of 67 b)) where
+  pub kept : Stays eq (map_of t) (map_of b)
+  kept = stays eq laws 67 t b distinct (distinct_permuted eq laws (pairs_of t.arrays) (pairs_of b.arrays) keeps.pairs distinct) keeps
 
-  -- whether there is a pair to touch
-  pub touch_tells : (r : Bool) → Touches wants (state_of 67 t) r (state_of 67 s) → r ≡ contains_by wants (map_of t)
-  touch_tells true done = rw (form_there eq laws wants alike (pairs_of t.arrays) done.0.0 distinct done.0.1.0 done.0.1.1) refl
-  touch_tells false done = rw (form_absent wants (pairs_of t.arrays) done.0) refl
+  -- no key is wanted
+  pub missed : IsAbsent wants (pairs_of b.arrays) → get_by wants (map_of t) ≡ None
+  missed absent = form_absent wants (pairs_of t.arrays) (All-permutation (λ (p : K × V). wants p.0 ≡ false) (pairs_of b.arrays)
+      (pairs_of t.arrays) (IsPermutation-sym (pairs_of t.arrays) (pairs_of b.arrays) keeps.pairs) absent)
 
-  pub touched : (hash : ℕ) (r is_there : Bool) → r ≡ is_there → Touches wants (state_of 67 t) r (state_of 67 s)
-      → PreparesThen 67 hash t (λ between. ChangesAt wants (slots_touched true) r between s) → IsTouched eq wants is_there t s
-  touched hash r is_there is done moved = record {
-    map = stays eq laws 67 t s distinct after (keeps r done);
-    between = moved.between;
-    carried = moved.prepared.kept;
-    alone = moved.prepared.alone;
-    touched = subst (λ b. ChangesAt wants (slots_touched true) b moved.between s) is moved.done;
-  }
+  module _ (hash : ℕ) where
+    -- no pair is there to touch
+    pub untouched : IsPrepared 67 hash t b → IsTouched eq wants false t b
+    untouched prepared = record { map = kept; between = b; carried = prepared.kept; alone = prepared.alone; touched = refl }
+
+    -- nor is one lent
+    pub unwritten : IsPrepared 67 hash t b → IsAbsent wants (pairs_of b.arrays)
+        → (get_by wants (map_of t) ≡ None) × Stays eq (map_of t) (map_of b) × IsWritten true wants eq false t b
+    unwritten prepared absent = (
+      missed absent,
+      kept,
+      record { between = b; map = kept; carried = prepared.kept; alone = prepared.alone; written = refl },
+    )
+
+    module _ (side : Side) (index : ℕ) (at : Place)
+        (moved : PreparesThen 67 hash t (λ between. ChangesPlace wants (slots_touched true) side index at between b))
+        (stands : StandsAt wants b.arrays side index at) where
+      pub touched : IsTouched eq wants true t b
+      touched = record {
+        map = kept;
+        between = moved.between;
+        carried = moved.prepared.kept;
+        alone = moved.prepared.alone;
+        touched = (side, index, at, moved.done.0, moved.done.1);
+      }
+
+      module _ (p : K × V) (here : live_pair (slot_in (bucket_on b.arrays side index) at) ≡ Some p) where
+        there : IsThere wants (pairs_of t.arrays) p
+        there = there_before wants (state_of 67 t) (state_of 67 b) p keeps
+            (found_is wants (pairs_of b.arrays) stands.pair p _ stands.slot here stands.there)
+
+        -- its value is what the map has
+        pub shown : Some p.1 ≡ get_by wants (map_of t)
+        shown = sym (form_there eq laws wants alike (pairs_of t.arrays) p distinct there.0 there.1)
+
+        -- another value is written there
+        pub replaced : (v : V) (s : TableView K V H) → ChangesValue (state_of 67 b) p v (state_of 67 s)
+            → Replaces eq (map_of t) wants p v (map_of s)
+        replaced v s changed =
+            let whole = then_changed (state_of 67 t) (state_of 67 b) (state_of 67 s) p v keeps changed in
+            replaces eq laws 67 t s distinct (distinct_changed eq laws 67 t distinct wants alike s p v whole) wants alike p v there.1 whole
+
+      -- and where it stands
+      pub written_there : (v : V) → IsWritten true wants eq true t (with_value b side index at v)
+      written_there v = record {
+        between = moved.between;
+        map = stays eq laws 67 t moved.between distinct (distinct_permuted eq laws (pairs_of t.arrays) (pairs_of moved.between.arrays)
+            moved.prepared.map.pairs distinct) moved.prepared.map;
+        carried = moved.prepared.kept;
+        alone = moved.prepared.alone;
+        written = (v, (side, index, at, moved.done.0, twice));
+      }
+        where
+          touched_bucket : BucketView K V
+          touched_bucket = slots_touched true (bucket_on moved.between.arrays side index) at
+
+          twice : with_value b side index at v ≡ with_bucket moved.between side index (bucket_with_value touched_bucket at v)
+          twice =
+              ap (λ (z : TableView K V H). with_value z side index at v) moved.done.1
+              ∙ ap (λ (c : BucketView K V). with_bucket (with_bucket moved.between side index touched_bucket) side index (bucket_with_value c at v))
+              (put_there moved.between.arrays side index touched_bucket moved.done.0.within)
+              ∙ ap (λ arrays. record { hasher = moved.between.hasher; arrays = arrays })
+              (set_again moved.between.arrays side index touched_bucket (bucket_with_value touched_bucket at v))

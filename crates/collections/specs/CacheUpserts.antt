@@ -3,8 +3,11 @@ use Rattle.std.specs.Prelude.{ℕ, ◌≡◌, ◌⊎◌, Bool, true, Option, Som
 use Rattle.std.specs.Borrow.{Bor}
 use Rattle.std.specs.declared.alloc.AllocFailed.{AllocFailed}
 use Rattle.bucket_table.specs.Views.ArraysView.{TableView}
-use Rattle.collections.specs.CacheWrites.{IsTouchedAndWritten}
+use Rattle.bucket_table.specs.declared.hash_table.NotInserted.{NotInserted}
+use Rattle.bucket_table.specs.declared.hash_table.NotInserted.TheVariants.{Memory, Present}
+use Rattle.collections.specs.CacheWrites.{IsWritten}
 use Rattle.collections.specs.Changes.{Adds, Displaces, Puts, Replaces, Stays}
+use Rattle.collections.specs.Crowding.{LacksBucket}
 use Rattle.collections.specs.Maps.{MapView, get, map_of}
 use Rattle.collections.specs.Orders.{IsTouched, LeavesArray, PutsInHome}
 use Rattle.collections.specs.declared.hash_cache.putting.Upserted.{Upserted}
@@ -24,8 +27,17 @@ module _ {K V H : Type 0} (eq : K → K → Bool) where
   abbrev pub UpsertsInOrder : K × V → ℕ → TableView K V H → Result (Upserted K V) (AllocFailed (K × V)) → TableView K V H → Type 0
   UpsertsInOrder pair hash old (Ok Added) new = PutsInHome eq pair hash None old new.arrays
   UpsertsInOrder pair hash old (Ok (Evicted k v)) new = PutsInHome eq pair hash (Some (k, v)) old new.arrays
-  UpsertsInOrder pair hash old (Ok (Replaced earlier)) new = IsTouchedAndWritten eq (eq pair.0) true old new
+  UpsertsInOrder pair hash old (Ok (Replaced earlier)) new = IsWritten true (eq pair.0) eq true old new
   UpsertsInOrder pair hash old (Err back) new = LeavesArray old.arrays new.arrays
+
+  -- a pair whose key is absent is put into its home, after what goes for it; or it comes back for want of memory, and all stays. No public
+  -- clause cites it
+  abbrev pub PutsVacant : (H → K → ℕ) → K → V → ℕ → TableView K V H → Result (Option (K × V)) (NotInserted K V) → TableView K V H → Type 0
+  PutsVacant hash_of key value hash old (Ok gone) new =
+      Puts eq key value (map_of old) (Ok gone) (map_of new) × PutsInHome eq (key, value) hash gone old new.arrays
+  PutsVacant hash_of key value hash old (Err (Memory k v)) new = (k ≡ key) × (v ≡ value) × (get eq (map_of old) key ≡ None)
+      × Stays eq (map_of old) (map_of new) × LeavesArray old.arrays new.arrays × LacksBucket hash_of key (map_of old)
+  PutsVacant hash_of key value hash old (Err (Present k v)) new = ⊥
 
   -- the pair under the key is touched, and its value is read; or a value is made, read and put, after what goes for it; at allocation
   -- failure the key comes back with what was made, and all stays

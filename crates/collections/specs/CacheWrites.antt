@@ -1,28 +1,30 @@
 -- What becomes of a cache's buckets, and of their LRU order, where values are written and pairs are taken out.
-use Rattle.std.specs.Prelude.{◌≡◌, Bool, length}
-use Rattle.bucket_table.specs.Map.ByKey.{WritesAt}
+use Rattle.std.specs.Prelude.{◌≡◌, Bool, true, false, length}
+use Rattle.bucket_slots.specs.BucketView.{bucket_with_value}
+use Rattle.bucket_slots.specs.Evicting.{slots_touched}
+use Rattle.bucket_table.specs.Map.ByKey.{ChangesAt}
 use Rattle.bucket_table.specs.Views.ArraysView.{ArraysView, TableView}
 use Rattle.bucket_table.specs.Views.Keeping.{KeepsArrays}
 use Rattle.bucket_table.specs.Walking.Retains.{AreLeftOf}
 use Rattle.collections.specs.Changes.{Stays}
 use Rattle.collections.specs.Maps.{map_of}
-use Rattle.collections.specs.Orders.{IsTouched}
+
+-- where a wanted pair was found its value is another one, and the pair is touched if the call touches; nothing else is changed; else all
+-- stays
+abbrev pub WritesPlace : {K V H : Type 0} → Bool → (K → Bool) → Bool → TableView K V H → TableView K V H → Type 0
+WritesPlace {K} {V} touches wants true old new =
+    (value : V) × ChangesAt wants (λ bucket at. bucket_with_value (slots_touched touches bucket at) at value) true old new
+WritesPlace touches wants false old new = new ≡ old
 
 -- old pairs may move on with their LRU order, and none does where no old array stands; then the value beside the wanted key, if one is
--- there, is another one where it stands, and nothing else changes: the pair isn't touched
-pub record IsWritten {K V H : Type 0} (eq : K → K → Bool) (wants : K → Bool) (is_there : Bool) (old new : TableView K V H) : Type 0 where
+-- there, is another one where it stands, and the pair is touched there if the call touches; nothing else changes
+pub record IsWritten {K V H : Type 0} (touches : Bool) (wants : K → Bool) (eq : K → K → Bool) (is_there : Bool) (old new : TableView K V H)
+    : Type 0 where
   pub between : TableView K V H
   pub map : Stays eq (map_of old) (map_of between)
   pub carried : KeepsArrays old.arrays between.arrays
   pub alone : length old.arrays.linked ≡ 0 → between ≡ old
-  pub written : WritesAt wants is_there between new
-
--- the pair whose key is wanted, if one is there, is touched as by a look-up, and then its value is another one; no old array comes
-pub record IsTouchedAndWritten {K V H : Type 0} (eq : K → K → Bool) (wants : K → Bool) (is_there : Bool) (old new : TableView K V H) : Type 0 where
-  pub between : TableView K V H
-  pub touched : IsTouched eq wants is_there old between
-  pub alone : length old.arrays.linked ≡ 0 → length between.arrays.linked ≡ 0
-  pub written : IsWritten eq wants is_there between new
+  pub written : WritesPlace touches wants is_there between new
 
 -- each bucket of both arrays is left as it was, but for values that were written and pairs that were taken out: the LRU order of the
 -- others stays; and the incremental rehash goes on from where it was

@@ -213,7 +213,7 @@ impl<K: Eq + Drop, V: Drop, H: KeyHash<K>> HashCache<K, V, H> {
     /// one of its bucket touched last; a pair that doesn't stand in an own slot of its bucket isn't
     /// listed. `None` where the cache hasn't the key.
     ///
-    /// `HashTable::touch` says where the incremental rehash happens.
+    /// `HashTable::touch_place` says where the incremental rehash happens.
     ///
     /// Never refused. O(1) expected. scc: `HashCache::get_sync`.
     #[inline(always)]
@@ -222,8 +222,16 @@ impl<K: Eq + Drop, V: Drop, H: KeyHash<K>> HashCache<K, V, H> {
         ensures* ends { sem 𝓛 (EndsSo K.row V.row H.row K.PartialEq H.KeyHash self.entry
             (IsTouched K.eq (Q.stands_for key) (is_some result) self.old)) }
     {
-        let _there = self.touch(key);
-        self.peek(key)
+        self.room.learn();
+        self.table.sound();
+        let hash = key.hash_by(self.table.hasher());
+        match self
+            .table
+            .touch_place(hash, &mut FormProbe::<Q, H>::new(key))
+        {
+            Ok(spot) => Some(self.table.entry_at(&spot).1),
+            Err(_) => None,
+        }
     }
 
     /// Puts a pair whose key the cache hasn't, as the one of its bucket touched last. Where no own

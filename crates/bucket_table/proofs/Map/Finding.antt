@@ -3,12 +3,16 @@ use Rattle.bucket_table.proofs.Words.{ArraysView, Err, IfOk, IsHome, IsLocked, K
 use Rattle.bucket_table.proofs.Words.{Side, TableView, WorksUnits, ap, arith, buckets_on, cases_lt, inl, inr, length, refl, subst}
 use Rattle.bucket_table.proofs.Words.{sym, ℕ, ◌<◌, ◌≡◌, ◌⊎◌}
 use Rattle.std.proofs.Common.{IfErr}
-use Rattle.bucket_table.specs.Map.Finding.{Finds, FindsNone, ReadiesThenGrows}
+use Rattle.bucket_table.specs.Map.Finding.{Finds, FindsBucket, FindsNone, MakesReady, ReadiesThenGrows}
+use Rattle.bucket_table.specs.Map.MapState.{state_of}
+use Rattle.bucket_table.specs.Resize.Asking.{ResizesIf}
+use Rattle.bucket_table.specs.Resize.Growing.{Grows, WriterAsksGrowth}
 use Rattle.bucket_table.specs.Map.Preparing.{HomeWantsMemory, IsMissing, IsPrepared, IsReady}
 use Rattle.bucket_table.specs.declared.arrays.Missing.{Missing}
 use Rattle.bucket_table.specs.declared.arrays.Missing.TheVariants.{Nothing, Memory}
 use Rattle.bucket_table.proofs.Rehash.UnitRuns.{units_wider}
-use Rattle.bucket_table.proofs.Views.Keeping.{kept_none}
+use Rattle.bucket_table.proofs.Scripts.CallSteps.{then_kept}
+use Rattle.bucket_table.proofs.Views.Keeping.{keeps_both, kept_none}
 use Rattle.bucket_table.proofs.Map.MapKept.{state_found}
 
 module _ {K V : Type 0} where
@@ -75,3 +79,28 @@ module _ {K V H : Type 0} (kind hash : ℕ) (hasher : H) (a new : ArraysView K V
     alone = λ gone. (none.alone gone).0;
     home = none.home;
   }
+
+  -- a bucket that was ready, and may have grown
+  module _ (first : TableView K V H) where
+    pub found_ready : (side : Side) (index : ℕ) → IsPrepared kind hash first (over a) → IsReady a hash
+        → IsHome (length a.current) hash index → Keeps a new → ResizesIf (WriterAsksGrowth kind hash a index) a new → Grows side a new
+        → IsLocked new side index → IsHome (length (buckets_on new side)) hash index
+        → FindsBucket kind hash first side index (over new)
+    unfolding ReadiesThenGrows
+    found_ready side index prepared ready home kept asked grown locked at_home =
+        let readies : MakesReady first.arrays index a = record {
+          first = λ none.
+              let same = ap (λ (t : TableView K V H). t.arrays) (prepared.alone none) in
+              ((λ stands. same), (λ lacks. absurd (omega (arith, ready.stands, lacks, prepared.kept.current_len))));
+          beside = λ some. prepared.kept;
+          units = one_home hash index first.arrays a home prepared.units;
+          killed = ready.killed index home;
+        } in
+        record {
+          map = then_kept (state_of kind first) (state_of kind (over a)) (state_of kind (over new)) prepared.map
+              (state_found kind hasher a new kept);
+          kept = keeps_both first.arrays a new prepared.kept.keeps kept;
+          home = at_home;
+          locked = locked;
+          found = (a, readies, asked, grown);
+        }

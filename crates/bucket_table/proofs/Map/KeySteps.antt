@@ -2,12 +2,15 @@
 use Rattle.bucket_table.proofs.Words.{ArePlaced, ArraysView, Bool, BucketView, HasNoNewMark, IfNone, IsAbsent, IsHome, List, MarksBy, None}
 use Rattle.bucket_table.proofs.Words.{Option, Place, Side, Some, ap, arrays_with, bucket_at, bucket_on, buckets_on, by-no_new, by-trans}
 use Rattle.bucket_table.proofs.Words.{length, marks_in, marks_of, pairs_of, subst, true, ℕ, ◌%◌, ◌<◌, ◌∙◌, ◌≡◌}
+use Rattle.bucket_table.proofs.Words.{Contains-permutation, IsPermutation, length-set, slots_touched}
 use Rattle.bucket_slots.specs.BucketView.{pair_at}
 use Rattle.bucket_slots.specs.Searching.{pair_wanted, place_wanted}
 use Rattle.bucket_table.specs.Map.ByKey.{StandsAt}
 use Rattle.bucket_table.specs.Map.LookingUp.{home_bucket}
 use Rattle.bucket_table.proofs.Map.LookUps.{home_bucket-is, searched_found, unwanted_from_homes}
+use Rattle.bucket_table.proofs.Map.LockedSteps.{put_there}
 use Rattle.bucket_table.proofs.Views.MarksKept.{by-bucket}
+use Rattle.bucket_table.proofs.Views.SideChanges.{buckets_on-arrays_with}
 
 module _ {K V : Type 0} where
   -- what a search of one side's home finds
@@ -19,6 +22,21 @@ module _ {K V : Type 0} where
       let r = searched_found wants arrays side b byte index at
       (lent ∙ ap (λ (bs : List (BucketView K V)). bucket_at bs index) is) found in
       record { pair = r.0; within = subst (λ (bs : List (BucketView K V)). index < length bs) is within; slot = r.1; there = r.2 }
+
+  -- and so it stands once it was touched
+  pub stands_touched : (wants : K → Bool) (arrays : ArraysView K V) (side : Side) (index : ℕ) (at : Place) (keeps : Bool)
+      → StandsAt wants arrays side index at
+      → IsPermutation (pairs_of arrays) (pairs_of (arrays_with arrays side index (slots_touched keeps (bucket_on arrays side index) at)))
+      → StandsAt wants (arrays_with arrays side index (slots_touched keeps (bucket_on arrays side index) at)) side index at
+  stands_touched wants arrays side index at keeps stands moved =
+      let b = slots_touched keeps (bucket_on arrays side index) at in
+      let same = put_there arrays side index b stands.within in
+      record {
+        pair = stands.pair;
+        within = rw (buckets_on-arrays_with arrays side index b, length-set) stands.within;
+        slot = rw same stands.slot;
+        there = (Contains-permutation (pairs_of arrays) (pairs_of (arrays_with arrays side index b)) stands.pair moved stands.there.0, stands.there.1);
+      }
 
   -- and where it finds nothing
   pub none_at_home : (wants : K → Bool) (arrays : ArraysView K V) (side : Side) (array : List (BucketView K V)) (b : BucketView K V)

@@ -1,6 +1,6 @@
 -- What is left of a table's arrays once one bucket is another one.
-use Rattle.bucket_table.proofs.Words.{ArraysView, AsksShrinking, BucketView, Err, IfNone, IsPermutation-cons, IsPermutation-trans, Keeps}
-use Rattle.bucket_table.proofs.Words.{KeepsPairs, MapState, None, Ok, OnErr, OnOk, Option, Place, Result, Side, Slot, Some, TableView, []}
+use Rattle.bucket_table.proofs.Words.{ArraysView, AsksShrinking, BucketView, Err, IsPermutation-cons, IsPermutation-trans, Keeps}
+use Rattle.bucket_table.proofs.Words.{KeepsPairs, MapState, Ok, OnErr, OnOk, Place, Result, Side, Slot, Some, TableView, []}
 use Rattle.bucket_table.proofs.Words.{ap, arrays_with, bucket_at, buckets_on, empty_bucket, free, get_or-set_same, is_live, length, live}
 use Rattle.bucket_table.proofs.Words.{live_pair, pairs_in, refl, slot_in, subst, true, ℕ, ◌<◌, ◌∙◌, ◌∷◌, ◌≡◌}
 use Rattle.bucket_slots.specs.Slots.{marked as marked_slot}
@@ -21,10 +21,6 @@ pub pair_there : {K V : Type 0} (b : BucketView K V) (place : Place)
 pair_there b place h = live_has (slot_in b place) h
 
 -- what follows for one answer
-pub if_none : {A P Q : Type 0} (r : Option A) → (P → Q) → IfNone r P → IfNone r Q
-if_none None f h = f h
-if_none (Some x) f h = tt
-
 pub on_err : {A E P Q : Type 0} (r : Result A E) → (P → Q) → OnErr r P → OnErr r Q
 on_err (Ok x) f h = tt
 on_err (Err e) f h = f h

@@ -1,6 +1,7 @@
 -- What a put does to the slots of a cache's bucket: it is never refused there, and it leaves the chain.
 use Rattle.bucket_table.proofs.Words.{Bool, BucketView, CACHE, IfNone, IfSome, None, Option, Place, Some, ap, flattened, free, is_free}
 use Rattle.bucket_table.proofs.Words.{length-set, live_from_pair, live_pair, refl, slot_at, slots_after_insertion, slots_touched, subst}
+use Rattle.bucket_table.proofs.Words.{false, true}
 use Rattle.bucket_table.proofs.Words.{Contains-append_left, get_or-set_same, ℕ, ◌↔◌, ◌∙◌, ◌∷◌, ◌≡◌}
 use Rattle.std.proofs.Common.{IsNone, OnSome}
 use Rattle.std.specs.List.{Contains, position}
@@ -29,10 +30,19 @@ module _ {K V : Type 0} where
       let within = live_inside s.own pos (live_from_pair (slot_at s.own pos) pair went.1) in
       (pos, rw length-set within, get_or-set_same s.own pos free free within)
 
-  placed_own : (t : BucketView K V) (pair : K × V) (byte : ℕ) (found : Option ℕ) → position is_free t.own ≡ found → Contains t.own free
-      → (slots_with t pair byte).chain ≡ t.chain
-  placed_own t pair byte None is has = absurd (none_free t.own is has)
-  placed_own t pair byte (Some pos) is has = rw is refl
+  placed_own : (keeps : Bool) (t : BucketView K V) (pair : K × V) (byte : ℕ) (found : Option ℕ) → position is_free t.own ≡ found
+      → Contains t.own free → slots_touched keeps (slots_with t pair byte) (place_for_next t) ≡ slots_put keeps t pair byte
+  placed_own keeps t pair byte None is has = absurd (none_free t.own is has)
+  placed_own true t pair byte (Some pos) is has = rw is refl
+  placed_own false t pair byte (Some pos) is has = rw is refl
+
+  -- so a pair that is placed and touched stands in an own slot
+  pub touched_own : (keeps : Bool) (s : BucketView K V) (gone : Option (K × V)) (pair : K × V) (byte : ℕ) → Goes s gone
+      → slots_touched keeps (slots_with (slots_left s gone) pair byte) (place_for_next (slots_left s gone))
+      ≡ slots_put keeps (slots_left s gone) pair byte
+  touched_own keeps s gone pair byte went =
+      let t = slots_left s gone in
+      placed_own keeps t pair byte (position is_free t.own) refl (left_free s gone went)
 
   same_chain : (s : BucketView K V) (gone : Option (K × V)) → (slots_left s gone).chain ≡ s.chain
   same_chain s None = refl
@@ -41,9 +51,7 @@ module _ {K V : Type 0} where
   -- the pair stands there, so the chain stays
   pub chain-slots_put : (keeps : Bool) (s : BucketView K V) (gone : Option (K × V)) (pair : K × V) (byte : ℕ) → Goes s gone
       → (slots_put keeps (slots_left s gone) pair byte).chain ≡ s.chain
-  chain-slots_put keeps s gone pair byte went =
-      let t = slots_left s gone in
-      placed_own t pair byte (position is_free t.own) refl (left_free s gone went) ∙ same_chain s gone
+  chain-slots_put keeps s gone pair byte went = same_chain s gone
 
   -- and a place is
   left_room : (s : BucketView K V) (gone : Option (K × V)) → Goes s gone → first_place is_free (slots_left s gone) ≡ None → ⊥
@@ -70,14 +78,14 @@ module _ {K V : Type 0} (kind : ℕ) (marks : ℕ → Bool) (s t : BucketView K 
       (subst (λ (b : BucketView K V). first_place is_free b ≡ None) (for_insertion-cache kind marks t cache ∙ is) none)
 
   -- and what it leaves, once the pair is touched
-  pub put_is : (keeps : Bool) (pair : K × V) (byte : ℕ) (at : Place) (after new : BucketView K V)
+  pub put_is : Goes s gone → (keeps : Bool) (pair : K × V) (byte : ℕ) (at : Place) (after new : BucketView K V)
       → at ≡ place_for_next (slots_for_insertion kind marks t) → after ≡ slots_after_insertion kind marks t pair byte
       → new ≡ slots_touched keeps after at → new ≡ slots_put keeps (slots_left s gone) pair byte
-  put_is keeps pair byte at after new place put touched =
+  put_is went keeps pair byte at after new place put touched =
       let b = slots_left s gone in
       let in_it : after ≡ slots_with b pair byte = put ∙ after_insertion-cache kind marks t pair byte cache
       ∙ ap (λ (u : BucketView K V). slots_with u pair byte) is in
       let there : at ≡ place_for_next b = place
       ∙ ap (λ (u : BucketView K V). place_for_next u) (for_insertion-cache kind marks t cache ∙ is) in
       touched ∙ ap (λ (u : BucketView K V). slots_touched keeps u at) in_it
-      ∙ ap (λ (q : Place). slots_touched keeps (slots_with b pair byte) q) there
+      ∙ ap (λ (q : Place). slots_touched keeps (slots_with b pair byte) q) there ∙ touched_own keeps s gone pair byte went

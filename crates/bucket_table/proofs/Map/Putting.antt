@@ -20,7 +20,7 @@ use Rattle.bucket_table.proofs.Map.MapSteps.{Leaves, evicted, inserted, set_agai
 use Rattle.bucket_table.proofs.Map.TakeSteps.{absent_before}
 use Rattle.bucket_table.proofs.Scripts.CallSteps.{then_added, then_kept}
 use Rattle.bucket_table.proofs.Views.SideChanges.{buckets_on-arrays_with, changeable_locked}
-use Rattle.bucket_table.proofs.Map.PutSlots.{after_insertion-cache}
+use Rattle.bucket_table.proofs.Map.PutSlots.{after_insertion-cache, touched_own}
 
 module _ {K V H : Type 0} where
   others_after : (a b d : MapState K V H) → b ≡ record a { pairs = b.pairs } → d ≡ record b { pairs = d.pairs }
@@ -126,7 +126,14 @@ module _ {K V H : Type 0} {eq : K → K → Bool} (laws : IsEquivalence eq) (has
         within = z.within;
         locked = z.locked;
       } in
-      subst (λ (s : BucketView K V). LeavesWith (Puts eq key value (state a) (Ok gone)) (slots_touched keeps s at)) is all
+      subst (λ (s : BucketView K V). LeavesWith (Puts eq key value (state a) (Ok gone)) s) (touched_own keeps was gone (key, value) (h % 256) went)
+      (subst (λ (s : BucketView K V). LeavesWith (Puts eq key value (state a) (Ok gone)) (slots_touched keeps s at)) is all)
+
+  -- the pair is in, where its key was absent
+  pub absent_put : (gone : Option (K × V)) (b : BucketView K V) (keeps : Bool) (key : K) (value : V) (h : ℕ) → h ≡ hash hasher key
+      → IsHome (length (buckets_on a side)) h i → IsAbsent (λ own. eq own key) (pairs_of a) → kind ≡ CACHE → Goes was gone
+      → b ≡ slots_put keeps (slots_left was gone) (key, value) (h % 256) → LeavesWith (Puts eq key value (state a) (Ok gone)) b
+  absent_put gone b keeps key value h own home absent cache went is = rw is (puts gone keeps key value h own home absent cache went)
 
   pub put_leaves : (r : Result (Option (K × V)) (NotInserted K V)) (b : BucketView K V) (keeps : Bool) (key : K) (value : V) (h : ℕ)
       → ((own : K) → eq own key ≡ true → hash hasher own ≡ h) → h ≡ hash hasher key → IsHome (length (buckets_on a side)) h i

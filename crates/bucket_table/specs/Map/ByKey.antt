@@ -115,6 +115,11 @@ pub record PreparesThen {K V H : Type 0} (kind hash : ℕ) (old : TableView K V 
   pub done : Then between
 
 module _ {K V H : Type 0} (wants : K → Bool) (change : BucketView K V → Place → BucketView K V) where
+  -- a place with a wanted pair is changed, and nothing else is
+  abbrev pub ChangesPlace : Side → ℕ → Place → TableView K V H → TableView K V H → Type 0
+  ChangesPlace side index at old new = StandsAt wants old.arrays side index at
+      × (new ≡ with_bucket old side index (change (bucket_on old.arrays side index) at))
+
   -- where a wanted pair was found its place is changed, and nothing else is; else all stays
   abbrev pub ChangesAt : Bool → TableView K V H → TableView K V H → Type 0
   ChangesAt true old new = (side : Side) × (index : ℕ) × (at : Place) × StandsAt wants old.arrays side index at

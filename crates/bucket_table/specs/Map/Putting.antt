@@ -1,13 +1,13 @@
 -- What a put does to a cache: a pair goes in where its key is absent, and where its home has no free own slot another goes out.
-use Rattle.std.specs.Prelude.{ℕ, ◌≡◌, ◌⊎◌, Bool, Option, Some, None, Result, Ok, Err, List, ◌∷◌, if◌then◌else◌, is_some, length}
-use Rattle.std.specs.List.{Contains}
+use Rattle.std.specs.Prelude.{ℕ, ◌≡◌, ◌⊎◌, Bool, Option, Some, None, Result, Ok, Err, List, ◌∷◌, if◌then◌else◌, is_some, length, slice_set, unwrap_or}
+use Rattle.std.specs.List.{Contains, position}
 use Rattle.std.specs.List.Sorted.{IsPermutation}
 use Rattle.bucket_slots.specs.BucketView.{BucketView, Place}
-use Rattle.bucket_slots.specs.Evicting.{slot_to_evict, slots_evicted, slots_touched}
+use Rattle.bucket_slots.specs.Recency.{order_after_touch}
+use Rattle.bucket_slots.specs.Evicting.{slot_to_evict, slots_evicted}
 use Rattle.bucket_slots.specs.Homes.{IsHome}
-use Rattle.bucket_slots.specs.Placing.{place_for_next, slots_with}
 use Rattle.bucket_slots.specs.Searching.{place_wanted}
-use Rattle.bucket_slots.specs.Slots.{free, live_pair, slot_at}
+use Rattle.bucket_slots.specs.Slots.{free, is_free, live, live_pair, slot_at}
 use Rattle.bucket_table.specs.Views.ArraysView.{TableView}
 use Rattle.bucket_table.specs.Map.ByKey.{HandsBack}
 use Rattle.bucket_table.specs.Map.LookingUp.{IsAbsent}
@@ -42,9 +42,16 @@ module _ {K V : Type 0} where
   abbrev pub slots_left : BucketView K V → Option (K × V) → BucketView K V
   slots_left bucket gone = if is_some gone then slots_evicted bucket else bucket
 
-  -- the bucket with a pair in its first free slot, touched: the newest of its list where that keeps slots
+  -- the first own slot that is free
+  abbrev pub free_own : BucketView K V → ℕ
+  free_own bucket = unwrap_or (position is_free bucket.own) 0
+
+  -- the bucket with a pair there, the newest of its list where that keeps slots
   abbrev pub slots_put : Bool → BucketView K V → K × V → ℕ → BucketView K V
-  slots_put keeps bucket pair byte = slots_touched keeps (slots_with bucket pair byte) (place_for_next bucket)
+  slots_put keeps bucket pair byte = record bucket {
+    own = slice_set bucket.own (free_own bucket) (live pair byte);
+    listed = if keeps then order_after_touch bucket.listed (free_own bucket) else bucket.listed;
+  }
 
   -- a put into a bucket: the pair is in where no live slot has an equal key, after what goes for it; memory is never wanted
   abbrev pub PutsIn : (K → K → Bool) → Bool → K → V → ℕ → BucketView K V → Result (Option (K × V)) (NotInserted K V) → BucketView K V

@@ -74,7 +74,7 @@ impl<K: Eq + Drop, V: Drop, L: LruList + Drop, const TYPE: u8> Arrays<K, V, L, T
     /// Resizes where the bucket that a writer was given asks for it. Returns the side that its
     /// array is on then: the old one after a growth.
     #[inline(always)]
-    fn grow_at(&mut self, hash: u64, index: usize) -> Side
+    pub(crate) fn grow_at(&mut self, hash: u64, index: usize) -> Side
         requires within { index < length self.old.current }
         ensures asked { ResizesIf (WriterAsksGrowth TYPE hash self.old index) self.old self.new }
         ensures grown { Grows result self.old self.new }

@@ -23,6 +23,7 @@ use std::mem;
 
 impl<K, V, L: LruList, const TYPE: u8> Arrays<K, V, L, TYPE> {
     /// Returns the pair in a live slot.
+    #[inline(always)]
     pub(crate) fn entry_of(&self, side: Side, index: usize, at: &EntryPtr<K, V, TYPE>) -> (&K, &V)
         requires within { index < length (buckets_on self.now side) }
         requires live_slot { IsTrue (is_live (slot_in (bucket_on self.now side index) at.now)) }
@@ -34,6 +35,7 @@ impl<K, V, L: LruList, const TYPE: u8> Arrays<K, V, L, TYPE> {
     }
 
     /// Makes the pair in a live slot the one of its bucket touched last.
+    #[inline(always)]
     pub(crate) fn touch_slot(&mut self, side: Side, index: usize, at: &EntryPtr<K, V, TYPE>)
         requires cache { TYPE ≡ CACHE }
         requires within { index < length (buckets_on self.old side) }
@@ -46,6 +48,7 @@ impl<K, V, L: LruList, const TYPE: u8> Arrays<K, V, L, TYPE> {
     }
 
     /// Writes a value into a live slot, and returns the earlier one.
+    #[inline(always)]
     pub(crate) fn swap_slot(
         &mut self,
         side: Side,

@@ -24,6 +24,7 @@ mod by_probe;
 mod evicting;
 mod lending;
 mod replacing;
+mod touching;
 mod updating;
 
 use crate::arrays::{Side, Spot};
@@ -212,7 +213,10 @@ impl<K: Eq + Drop, V: Drop, H: KeyHash<K>, L: LruList + Drop, const TYPE: u8> Ha
     }
 
     /// Writes a value into a live slot, and returns the earlier one.
-    fn swap_at(&mut self, spot: &Spot<K, V, TYPE>, value: V) -> V
+    ///
+    /// O(blocks of the chain). Own.
+    #[inline(always)]
+    pub fn swap_at(&mut self, spot: &Spot<K, V, TYPE>, value: V) -> V
         requires within { spot.now.index < length (buckets_on self.old.arrays spot.now.side) }
         requires live_slot { IsTrue (is_live
             (slot_in (bucket_on self.old.arrays spot.now.side spot.now.index) spot.now.at)) }

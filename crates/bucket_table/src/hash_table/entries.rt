@@ -1,4 +1,4 @@
-//! The pair in a live slot of a bucket of one side, lent for writing.
+//! The pair in a live slot of a bucket of one side, lent for reading or for writing.
 //!
 //! Own.
 ghost use Rattle.std.specs.Prelude.{◌≡◌, ◌<◌, IsTrue, Some, length};
@@ -8,7 +8,7 @@ ghost use Rattle.bucket_slots.specs.Slots.{is_live, live_pair};
 ghost use Rattle.bucket_table.specs.Map.MapState.{ChangesValue, state_of};
 ghost use Rattle.bucket_table.specs.Views.Sides.{bucket_on, buckets_on};
 
-use crate::arrays::Side;
+use crate::arrays::{Side, Spot};
 use crate::hash_table::HashTable;
 use crate::key_hash::KeyHash;
 use bucket_slots::bucket::EntryPtr;
@@ -17,10 +17,25 @@ use bucket_slots::lru::LruList;
 impl<K: Eq, V, H: KeyHash<K>, L: LruList, const TYPE: u8> HashTable<K, V, H, L, TYPE> {
     ghost use Rattle.bucket_table.specs.Map.Lending.{LendsSlot, with_value};
 
+    /// Returns the pair in a live slot.
+    ///
+    /// O(blocks of the chain). Own.
+    #[inline(always)]
+    pub fn entry_at(&self, spot: &Spot<K, V, TYPE>) -> (&K, &V)
+        requires within { spot.now.index < length (buckets_on self.now.arrays spot.now.side) }
+        requires live_slot { IsTrue (is_live
+            (slot_in (bucket_on self.now.arrays spot.now.side spot.now.index) spot.now.at)) }
+        ensures { live_pair (slot_in (bucket_on self.now.arrays spot.now.side spot.now.index) spot.now.at)
+            ≡ Some (result.0.now, result.1.now) }
+    {
+        self.arrays.entry_of(spot.side, spot.index, &spot.at)
+    }
+
     /// Lends the pair in a live slot of a bucket of one side, its value for
     /// writing: what is written stands in the table.
     ///
     /// O(blocks of the chain). Own.
+    #[inline(always)]
     pub fn entry_mut_at(
         &mut self,
         side: Side,

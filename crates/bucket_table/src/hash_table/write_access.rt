@@ -9,9 +9,10 @@
 ghost use Rattle.std.specs.Prelude.{ℕ, ◌≡◌, ◌<◌, [], Err, IfErr, IfOk, IfSome, IfNone, IsOk, OnOk, length};
 ghost use Rattle.std.specs.Borrow.{RestsIfErr, RestsIfNone, sem};
 ghost use Rattle.bucket_slots.specs.Homes.{IsHome};
-ghost use Rattle.bucket_table.specs.Views.ArraysView.{pairs_of};
+ghost use Rattle.bucket_table.specs.Views.ArraysView.{TableView, pairs_of};
 ghost use Rattle.bucket_table.specs.Map.Finding.{Finds, FindsBucket};
 ghost use Rattle.bucket_table.specs.Map.Free.{MayLockAtOnce};
+ghost use Rattle.bucket_table.specs.Map.MapState.{KeepsPairs, state_of};
 ghost use Rattle.bucket_table.specs.Map.Refusing.{IsRefused};
 ghost use Rattle.bucket_table.specs.Views.TableRow.{table_row};
 ghost use Rattle.bucket_table.specs.Views.Locking.{IsLocked};
@@ -72,6 +73,24 @@ impl<K: Eq + Drop, V: Drop, H: KeyHash<K>, L: LruList + Drop, const TYPE: u8> Ha
         ensures { Finds TYPE hash self.old result self.new }
     {
         self.arrays.find(&self.hasher, hash)
+    }
+
+    /// Finds the bucket for a writer of a hash whose home is ready, and returns its side and its
+    /// index: as `find` does, once the unit was worked.
+    ///
+    /// O(buckets that a resize makes). Own.
+    #[inline(always)]
+    pub(super) fn find_ready(&mut self, hash: u64) -> (Side, usize)
+        requires ready { IsReady self.old.arrays hash }
+        ensures map { KeepsPairs (state_of TYPE self.old) (state_of TYPE self.new) }
+        ensures locked { IsLocked self.new.arrays result.0 result.1 }
+        ensures home { IsHome (length (buckets_on self.new.arrays result.0)) hash result.1 }
+        ensures found { (first : TableView K V H) → IsPrepared TYPE hash first self.old
+            → FindsBucket TYPE hash first result.0 result.1 self.new }
+    {
+        let index = self.arrays.home(hash);
+        let side = self.arrays.grow_at(hash, index);
+        (side, index)
     }
 
     /// Locks a bucket of one side.

@@ -1,14 +1,12 @@
 //! Calls that change values of a cache, or take out the pairs that a function refuses.
-ghost use Rattle.std.specs.Prelude.{◌≡◌, ◌<◌, is_some, length};
+ghost use Rattle.std.specs.Prelude.{◌≡◌, is_some, false, true};
 ghost use Rattle.std.specs.Borrow.{Bor, MutBor, sem};
 ghost use Rattle.std.specs.Option.{option_copied_mut};
 ghost use Rattle.bucket_table.specs.Map.LookingUp.{IsThere};
 ghost use Rattle.bucket_table.specs.Views.ArraysView.{pairs_of};
-ghost use Rattle.collections.specs.CacheWrites.{IsTouchedAndWritten, IsWritten, LeavesBuckets};
+ghost use Rattle.collections.specs.CacheWrites.{IsWritten, LeavesBuckets};
 ghost use Rattle.collections.specs.Changes.{Retains, Rewrites};
-ghost use Rattle.collections.specs.Maps.{contains_by, get_by, map_of};
-ghost use Rattle.collections.specs.Orders.{IsTouched};
-ghost use Rattle.collections.specs.Slots.{KeepsSlots};
+ghost use Rattle.collections.specs.Maps.{get_by, map_of};
 
 use crate::hash_cache::HashCache;
 use crate::key_form::{FormProbe, KeyForm};
@@ -34,7 +32,8 @@ impl<K: Eq + Drop, V: Drop, H: KeyHash<K>> HashCache<K, V, H> {
         ensures map { Rewrites K.eq (Q.stands_for key)
             (λ own before answer after. F.post change own before answer after) (map_of self.old)
             result (map_of self.new) }
-        ensures place { IsWritten K.eq (Q.stands_for key) (is_some result) self.old self.new }
+        ensures place { IsWritten false (Q.stands_for key) K.eq (is_some result) self.old
+            self.new }
     {
         self.room.learn();
         self.table.sound();
@@ -55,11 +54,19 @@ impl<K: Eq + Drop, V: Drop, H: KeyHash<K>> HashCache<K, V, H> {
     pub fn get_mut<Q: KeyForm<K, H>>(&mut self, key: Q) -> Option<&mut V>
         ensures* writes_back { sem 𝓛
             (LendsValue K.row V.row H.row K.PartialEq H.KeyHash self.entry (Q.stands_for key) result
-            (IsTouchedAndWritten K.eq (Q.stands_for key))) }
+            (IsWritten true (Q.stands_for key) K.eq)) }
         ensures value { option_copied_mut result ≡ get_by (Q.stands_for key) (map_of self.old) }
     {
-        let _there = self.touch(key);
-        self.peek_mut(key)
+        self.room.learn();
+        self.table.sound();
+        let hash = key.hash_by(self.table.hasher());
+        match self
+            .table
+            .touch_place(hash, &mut FormProbe::<Q, H>::new(key))
+        {
+            Ok(spot) => Some(self.table.entry_mut_at(spot.side, spot.index, &spot.at).1),
+            Err(_) => None,
+        }
     }
 
     /// Lends the value under a key, or under the keys that a form stands for, for writing, and
@@ -71,7 +78,7 @@ impl<K: Eq + Drop, V: Drop, H: KeyHash<K>> HashCache<K, V, H> {
     pub fn peek_mut<Q: KeyForm<K, H>>(&mut self, key: Q) -> Option<&mut V>
         ensures* writes_back { sem 𝓛
             (LendsValue K.row V.row H.row K.PartialEq H.KeyHash self.entry (Q.stands_for key) result
-            (IsWritten K.eq (Q.stands_for key))) }
+            (IsWritten false (Q.stands_for key) K.eq)) }
         ensures value { option_copied_mut result ≡ get_by (Q.stands_for key) (map_of self.old) }
     {
         self.room.learn();
@@ -99,22 +106,5 @@ impl<K: Eq + Drop, V: Drop, H: KeyHash<K>> HashCache<K, V, H> {
         self.room.learn();
         let _ = self.table.retain(f, &());
         self.table.sound();
-    }
-
-    /// Makes the pair under the keys that a form stands for the one of its bucket touched last.
-    /// Returns whether there is one.
-    #[inline(always)]
-    pub(super) fn touch<Q: KeyForm<K, H>>(&mut self, key: Q) -> bool
-        ensures there { result ≡ contains_by (Q.stands_for key) (map_of self.old) }
-        ensures touched { IsTouched K.eq (Q.stands_for key) result self.old self.new }
-        ensures beside { 0 < length self.old.arrays.linked → 0 < length self.old.arrays.current }
-        ensures slots { KeepsSlots (map_of self.old) (map_of self.new) }
-    {
-        self.room.learn();
-        self.table.sound();
-        let hash = key.hash_by(self.table.hasher());
-        let is_there = self.table.touch_by(hash, &mut FormProbe::<Q, H>::new(key));
-        self.table.sound();
-        is_there
     }
 }

@@ -1,14 +1,23 @@
 //! Calls that put a pair into a cache where its key is absent, and do something else where it is
 //! there.
-ghost use Rattle.std.specs.Prelude.{◌≡◌, OnErr, false};
+ghost use Rattle.std.specs.Prelude.{◌≡◌, Err, OnErr, false};
 ghost use Rattle.std.specs.Borrow.{Bor};
+ghost use Rattle.bucket_slots.specs.declared.bucket.TheConstants.{CACHE};
+ghost use Rattle.bucket_table.specs.Map.LookingUp.{IsAbsent};
+ghost use Rattle.bucket_table.specs.Map.Preparing.{IsPrepared, IsReady};
+ghost use Rattle.bucket_table.specs.Map.Vacancies.{IsVacancy};
+ghost use Rattle.bucket_table.specs.Views.ArraysView.{TableView, pairs_of};
+ghost use Rattle.bucket_table.specs.declared.hash_table.NotInserted.TheVariants.{Present};
+ghost use Rattle.bucket_table.specs.declared.hash_table.Vacancy.TheVariants.{Ready};
 ghost use Rattle.collections.specs.Crowding.{LacksBucket};
 ghost use Rattle.collections.specs.Maps.{contains, map_of};
 
 use crate::hash_cache::{HashCache, NotInserted};
+use crate::homes::learn_refused;
+use crate::key_form::FormProbe;
+use bucket_table::hash_table::Vacancy;
 use bucket_table::key_hash::KeyHash;
 use std::alloc::AllocFailed;
-use std::mem;
 
 /// What an upsert did.
 #[derive(Debug, Drop)]
@@ -22,7 +31,7 @@ pub enum Upserted<K, V> {
 }
 
 impl<K: Eq + Drop, V: Drop, H: KeyHash<K>> HashCache<K, V, H> {
-    ghost use Rattle.collections.specs.CacheUpserts.{GetsOrInserts, UpsertsInOrder, UpsertsOrEvicts};
+    ghost use Rattle.collections.specs.CacheUpserts.{GetsOrInserts, PutsVacant, UpsertsInOrder, UpsertsOrEvicts};
 
     /// Puts a pair whose key the cache hasn't, as `put` does, or writes its value beside the key
     /// that is equal, which stays. Either way its pair is now the one of its bucket touched last.
@@ -42,19 +51,22 @@ impl<K: Eq + Drop, V: Drop, H: KeyHash<K>> HashCache<K, V, H> {
             result self.new }
         ensures memory { OnErr result (LacksBucket H.hash_of key (map_of self.old)) }
     {
-        if self.touch(&key) {
-            return match self.peek_mut(&key) {
-                Some(held) => Ok(Upserted::Replaced(mem::replace(held, value))),
-                None => unreachable!(),
-            };
-        }
-        match self.put(key, value) {
-            Ok(None) => Ok(Upserted::Added),
-            Ok(Some((key, value))) => Ok(Upserted::Evicted(key, value)),
-            Err(NotInserted::Memory(key, value)) => Err(AllocFailed {
-                value: (key, value),
-            }),
-            Err(NotInserted::Present(_key, _value)) => unreachable!(),
+        self.room.learn();
+        self.table.sound();
+        let hash = self.table.hash(&key);
+        match self
+            .table
+            .touch_place(hash, &mut FormProbe::<&K, H>::new(&key))
+        {
+            Ok(spot) => Ok(Upserted::Replaced(self.table.swap_at(&spot, value))),
+            Err(home) => match self.put_vacant(home, hash, key, value) {
+                Ok(None) => Ok(Upserted::Added),
+                Ok(Some((key, value))) => Ok(Upserted::Evicted(key, value)),
+                Err(NotInserted::Memory(key, value)) => Err(AllocFailed {
+                    value: (key, value),
+                }),
+                Err(NotInserted::Present(_key, _value)) => unreachable!(),
+            },
         }
     }
 
@@ -84,18 +96,48 @@ impl<K: Eq + Drop, V: Drop, H: KeyHash<K>> HashCache<K, V, H> {
             self.new }
         ensures memory { OnErr result (LacksBucket H.hash_of key (map_of self.old)) }
     {
-        if self.touch(&key) {
-            return match self.peek(&key) {
-                Some(value) => Ok((reader(value), None)),
-                None => unreachable!(),
-            };
+        self.room.learn();
+        self.table.sound();
+        let hash = self.table.hash(&key);
+        match self
+            .table
+            .touch_place(hash, &mut FormProbe::<&K, H>::new(&key))
+        {
+            Ok(spot) => Ok((reader(self.table.entry_at(&spot).1), None)),
+            Err(home) => {
+                let made = make();
+                let answer = reader(&made);
+                match self.put_vacant(home, hash, key, made) {
+                    Ok(gone) => Ok((answer, gone)),
+                    Err(NotInserted::Memory(key, made)) => Err(AllocFailed { value: (key, made) }),
+                    Err(NotInserted::Present(_key, _made)) => unreachable!(),
+                }
+            }
         }
-        let made = make();
-        let answer = reader(&made);
-        match self.put(key, made) {
-            Ok(gone) => Ok((answer, gone)),
-            Err(NotInserted::Memory(key, made)) => Err(AllocFailed { value: (key, made) }),
-            Err(NotInserted::Present(_key, _made)) => unreachable!(),
-        }
+    }
+
+    /// Puts a pair whose key the cache hasn't, of this hash, after a search that met none.
+    #[inline(always)]
+    fn put_vacant(
+        &mut self,
+        home: Vacancy,
+        hash: u64,
+        key: K,
+        value: V,
+    ) -> Result<Option<(K, V)>, NotInserted<K, V>>
+        requires own_hash { hash ≡ H.hash_of self.old.hasher key }
+        requires absent { IsAbsent (K.eq key) (pairs_of self.old.arrays) }
+        requires ready { home ≡ Ready → IsReady self.old.arrays hash }
+        ensures absent { (k : K) (v : V) → result ≡ Err (Present k v) → ⊥ }
+        ensures put { (first : TableView K V H) → IsPrepared CACHE hash first self.old
+            → IsVacancy home hash first.arrays self.old.arrays
+            → PutsVacant K.eq H.hash_of key value hash first result self.new }
+    {
+        self.room.learn();
+        self.table.sound();
+        let outcome = self.table.put_vacant(home, hash, key, value);
+        learn_refused(&self.table, &outcome);
+        self.table.sound();
+        outcome
     }
 }

@@ -3,20 +3,19 @@
 //! Own.
 ghost use Rattle.std.specs.Prelude.{◌≡◌, ◌≢◌, IfNone, IfSome, is_some, true};
 ghost use Rattle.std.specs.Borrow.{Bor};
-ghost use Rattle.bucket_slots.specs.Evicting.{slots_touched};
 ghost use Rattle.bucket_slots.specs.Marking.{MarksBy, slots_marked};
 ghost use Rattle.bucket_slots.specs.Removing.{slots_without};
-ghost use Rattle.bucket_table.specs.Map.ByKey.{ChangesAt, Marks, PreparesThen, ShrinksAt};
-ghost use Rattle.bucket_table.specs.Map.ByKey.{StandsAt, Takes, Touches};
+ghost use Rattle.bucket_table.specs.Map.ByKey.{Marks, PreparesThen, ShrinksAt};
+ghost use Rattle.bucket_table.specs.Map.ByKey.{StandsAt, Takes};
 ghost use Rattle.bucket_table.specs.Map.LookingUp.{IsAbsent, IsThere};
 ghost use Rattle.bucket_table.specs.Map.MapState.{state_of};
-ghost use Rattle.bucket_table.specs.Map.Preparing.{IsPrepared, IsReady};
+ghost use Rattle.bucket_table.specs.Map.Preparing.{IsReady};
 ghost use Rattle.bucket_table.specs.Views.ArraysView.{marks_of, pairs_of};
 
 use crate::arrays::{Side, Spot};
 use crate::hash_table::HashTable;
 use crate::key_hash::KeyHash;
-use bucket_slots::bucket::{CACHE, Generation, INDEX, KeyProbe};
+use bucket_slots::bucket::{Generation, INDEX, KeyProbe};
 use bucket_slots::lru::LruList;
 
 impl<K: Eq + Drop, V: Drop, H: KeyHash<K>, L: LruList + Drop, const TYPE: u8> HashTable<
@@ -95,58 +94,6 @@ impl<K: Eq + Drop, V: Drop, H: KeyHash<K>, L: LruList + Drop, const TYPE: u8> Ha
             None => None,
         }
     }
-
-    /// Makes the first pair of a cache that a probe wants the one of its bucket touched last; a slot
-    /// of the chain isn't listed. Returns whether there is one. The probe wants keys of this hash
-    /// alone.
-    ///
-    /// Beside an old array it works one unit first, and moves the sources of the hash's home. May
-    /// take memory, and is never refused: without it a pair is touched in the old array.
-    ///
-    /// O(slots of a unit, of the sources and of their targets). Own.
-    #[inline(always)]
-    pub fn touch_by<P: KeyProbe<K>>(&mut self, hash: u64, probe: &mut P) -> bool
-        requires cache { TYPE ≡ CACHE }
-        requires own_hash { (key : K)
-            → P.wants probe.old key ≡ true
-            → H.hash_of self.old.hasher key ≡ hash }
-        ensures map { Touches (P.wants probe.old) (state_of TYPE self.old) result
-            (state_of TYPE self.new) }
-        ensures arrays { PreparesThen TYPE hash self.old (λ between.
-            ChangesAt (P.wants probe.old) (slots_touched L.KEEPS) result between self.new) }
-        ensures fixed { P.wants probe.new ≡ P.wants probe.old }
-    {
-        match self.fetch_spot(hash, probe) {
-            Some(spot) => {
-                self.arrays.touch_slot(spot.side, spot.index, &spot.at);
-                true
-            }
-            None => false,
-        }
-    }
-
-    /// Works a unit, moves the sources of a hash's home, and returns the first live slot that a
-    /// probe wants, on either side; `None` where the map has none.
-    #[inline(always)]
-    pub(super) fn fetch_spot<P: KeyProbe<K>>(
-        &mut self,
-        hash: u64,
-        probe: &mut P,
-    ) -> Option<Spot<K, V, TYPE>>
-        requires own_hash { (key : K)
-            → P.wants probe.old key ≡ true
-            → H.hash_of self.old.hasher key ≡ hash }
-        ensures prepared { IsPrepared TYPE hash self.old self.new }
-        ensures found { IfSome result (λ spot.
-            StandsAt (P.wants probe.old) self.new.arrays spot.side spot.index spot.at) }
-        ensures absent { IfNone result (IsAbsent (P.wants probe.old) (pairs_of self.old.arrays)) }
-        ensures fixed { P.wants probe.new ≡ P.wants probe.old }
-    {
-        match self.fetch_home(hash) {
-            Ok(()) => self.spot_at_home(hash, probe),
-            Err(_) => self.spot_by(hash, probe),
-        }
-    }
 }
 
 impl<K: Eq, V, H: KeyHash<K>, L: LruList, const TYPE: u8> HashTable<K, V, H, L, TYPE> {
@@ -173,7 +120,11 @@ impl<K: Eq, V, H: KeyHash<K>, L: LruList, const TYPE: u8> HashTable<K, V, H, L, 
     /// Returns the first live slot that a probe wants, where each source of the hash's home is
     /// killed; `None` where the map has none.
     #[inline(always)]
-    fn spot_at_home<P: KeyProbe<K>>(&self, hash: u64, probe: &mut P) -> Option<Spot<K, V, TYPE>>
+    pub(super) fn spot_at_home<P: KeyProbe<K>>(
+        &self,
+        hash: u64,
+        probe: &mut P,
+    ) -> Option<Spot<K, V, TYPE>>
         requires own_hash { (key : K)
             → P.wants probe.old key ≡ true
             → H.hash_of self.now.hasher key ≡ hash }

@@ -1,19 +1,25 @@
 //! Calls by key that evict a pair of a cache.
 //!
 //! Own.
-ghost use Rattle.std.specs.Prelude.{◌≡◌, ◌%◌, ℕ, Bool, IsOk, Option, length};
+ghost use Rattle.std.specs.Prelude.{◌≡◌, ◌%◌, ℕ, Bool, Err, IsOk, Ok, Option, length};
 ghost use Rattle.bucket_slots.specs.BucketView.{BucketView};
 ghost use Rattle.bucket_slots.specs.Homes.{IsHome};
 ghost use Rattle.bucket_table.specs.Map.ByKey.{Evicts, PreparesThen};
 ghost use Rattle.bucket_table.specs.Map.Finding.{FindsThen};
+ghost use Rattle.bucket_table.specs.Map.LookingUp.{IsAbsent};
 ghost use Rattle.bucket_table.specs.Map.MapState.{state_of};
+ghost use Rattle.bucket_table.specs.Map.Preparing.{IsPrepared, IsReady};
 ghost use Rattle.bucket_table.specs.Map.Putting.{EvictsAt, Goes, Puts, PutsAt, PutsIn};
 ghost use Rattle.bucket_table.specs.Map.Putting.{slots_left, slots_put};
+ghost use Rattle.bucket_table.specs.Map.Vacancies.{IsVacancy};
+ghost use Rattle.bucket_table.specs.Views.ArraysView.{TableView, pairs_of};
 ghost use Rattle.bucket_table.specs.Views.Locking.{IsLocked};
 ghost use Rattle.bucket_table.specs.Views.Sides.{bucket_on, buckets_on, with_bucket};
+ghost use Rattle.bucket_table.specs.declared.hash_table.NotInserted.TheVariants.{Present};
+ghost use Rattle.bucket_table.specs.declared.hash_table.Vacancy.TheVariants.{Ready};
 
 use crate::arrays::Side;
-use crate::hash_table::{HashTable, Missing, NotInserted};
+use crate::hash_table::{HashTable, Missing, NotInserted, Vacancy};
 use crate::key_hash::KeyHash;
 use bucket_slots::bucket::{AllocError, Bucket, CACHE};
 use bucket_slots::lru::LruList;
@@ -73,10 +79,90 @@ impl<K: Eq + Drop, V: Drop, H: KeyHash<K>, L: LruList + Drop, const TYPE: u8> Ha
             self.new) }
     {
         let hash = self.hash(&key);
+        self.put_hashed(hash, key, value)
+    }
+
+    /// Puts a pair whose key the map hasn't into a cache, as `put` does, after `touch_place` met no
+    /// equal key: nothing is searched, and no unit is worked again.
+    ///
+    /// # Errors
+    ///
+    /// Allocation failed: the pair comes back, and none goes.
+    ///
+    /// O(1), and buckets that a resize makes. Own.
+    #[inline(always)]
+    pub fn put_vacant(
+        &mut self,
+        home: Vacancy,
+        hash: u64,
+        key: K,
+        value: V,
+    ) -> Result<Option<(K, V)>, NotInserted<K, V>>
+        requires cache { TYPE ≡ CACHE }
+        requires own_hash { hash ≡ H.hash_of self.old.hasher key }
+        requires absent { IsAbsent (K.eq key) (pairs_of self.old.arrays) }
+        requires ready { home ≡ Ready → IsReady self.old.arrays hash }
+        ensures map { Puts K.eq key value (state_of TYPE self.old) result (state_of TYPE self.new) }
+        ensures absent { (k : K) (v : V) → result ≡ Err (Present k v) → ⊥ }
+        ensures succeeds { home ≡ Ready → IsOk result }
+        ensures arrays { (first : TableView K V H) → IsPrepared TYPE hash first self.old
+            → IsVacancy home hash first.arrays self.old.arrays
+            → FindsThen TYPE hash first (λ answer between.
+            PutsAt L.KEEPS (key, value) (hash % 256) between result answer self.new) }
+    {
+        match home {
+            Vacancy::Ready => {
+                let (side, index) = self.find_ready(hash);
+                Ok(self.put_absent(side, index, hash, key, value))
+            }
+            Vacancy::NoArray => self.put_hashed(hash, key, value),
+            Vacancy::NoMemory => Err(NotInserted::Memory(key, value)),
+        }
+    }
+
+    /// Puts a pair whose key the map hasn't, of this hash.
+    fn put_hashed(
+        &mut self,
+        hash: u64,
+        key: K,
+        value: V,
+    ) -> Result<Option<(K, V)>, NotInserted<K, V>>
+        requires cache { TYPE ≡ CACHE }
+        requires own_hash { hash ≡ H.hash_of self.old.hasher key }
+        ensures map { Puts K.eq key value (state_of TYPE self.old) result (state_of TYPE self.new) }
+        ensures arrays { FindsThen TYPE hash self.old (λ answer between.
+            PutsAt L.KEEPS (key, value) (hash % 256) between result answer self.new) }
+    {
         let Ok((side, index)) = self.find(hash) else {
             return Err(self.not_inserted(hash, key, value));
         };
         self.put_at(side, index, hash, key, value)
+    }
+
+    /// Puts a pair into a locked bucket, where its key is absent. Returns the pair that went for it.
+    #[inline(always)]
+    fn put_absent(
+        &mut self,
+        side: Side,
+        index: usize,
+        hash: u64,
+        key: K,
+        value: V,
+    ) -> Option<(K, V)>
+        requires cache { TYPE ≡ CACHE }
+        requires locked { IsLocked self.old.arrays side index }
+        requires own_hash { hash ≡ H.hash_of self.old.hasher key }
+        requires home { IsHome (length (buckets_on self.old.arrays side)) hash index }
+        requires absent { IsAbsent (λ own. K.eq own key) (pairs_of self.old.arrays) }
+        ensures map { Puts K.eq key value (state_of TYPE self.old) (Ok result)
+            (state_of TYPE self.new) }
+        ensures goes { Goes (bucket_on self.old.arrays side index) result }
+        ensures put { self.new ≡ with_bucket self.old side index (slots_put L.KEEPS
+            (slots_left (bucket_on self.old.arrays side index) result) (key, value) (hash % 256)) }
+    {
+        self.arrays.room_of(side);
+        let bucket = self.arrays.bucket_of_mut(side, index);
+        put_absent_in(bucket, hash, key, value)
     }
 
     /// Puts a pair into a locked bucket.
@@ -118,12 +204,28 @@ fn put_in<K: Eq + Drop, V: Drop, L: LruList, const TYPE: u8>(
     if bucket.get_entry_ptr(&key, hash).is_valid() {
         return Err(NotInserted::Present(key, value));
     }
+    Ok(put_absent_in(bucket, hash, key, value))
+}
+
+/// Puts a pair into a bucket, as the one touched last, and returns the pair that went for it.
+#[inline(always)]
+fn put_absent_in<K: Drop, V: Drop, L: LruList, const TYPE: u8>(
+    bucket: &mut Bucket<K, V, L, TYPE>,
+    hash: u64,
+    key: K,
+    value: V,
+) -> Option<(K, V)>
+    requires cache { TYPE ≡ CACHE }
+    ensures goes { Goes bucket.old result }
+    ensures put { bucket.new
+        ≡ slots_put L.KEEPS (slots_left bucket.old result) (key, value) (hash % 256) }
+{
     let gone = bucket.evict_lru_head();
     let Ok(at) = bucket.insert(hash, (key, value), &()) else {
         unreachable!()
     };
     bucket.update_lru_tail(&at);
-    Ok(gone)
+    gone
 }
 
 /// No work: a put stands its pair in an own slot, so that it changes no chain. Own.

@@ -1,9 +1,6 @@
 use Rattle.bucket_table.proofs.Views.Lent.{current_taken, current_takes, linked_taken, linked_takes}
 use Rattle.bucket_table.proofs.arrays.Arrays.take_home.Goals as goal
 
-
-
-
 pub invariant_of-self : goal.invariant_of-self
 invariant_of-self g c = current_taken _ _ _ _ _ _ c.self.inside.current c.take_in.new.held _ _ c.take_in.ensures.taken c.self.invariant
 

@@ -1,19 +1,37 @@
-use Rattle.std.proofs.Common.{refl, ◌∙◌}
-use Rattle.std.specs.Option.{option_copied}
-use Rattle.collections.specs.Maps.{map_of}
-use Rattle.collections.proofs.Staying.{gets_by}
-use Rattle.collections.proofs.Writing.{is_some-copied, shown_before}
+use Rattle.std.proofs.Common.{refl, sym}
+use Rattle.collections.proofs.Touching.{missed, shown, touched, untouched}
 use Rattle.collections.proofs.hash_cache.HashCache.get.Goals as goal
 
-pub returns : goal.returns
-returns g c =
-    let wants = g.Q.KeyForm.stands_for c.args.key in
-    let t = c.args.self.now in
-    let b = c.touch-there.new.self in
-    let tells = c.touch-there.ensures.there in
-    let touched = c.touch-there.ensures.touched in
-    let same = gets_by g.K.PartialEq.eq g.met.K.Eq.laws wants (g.met.Q.KeyForm.alike c.args.key) (map_of t) (map_of b) touched.map in
-    let is = c.peek.ensures in
-    let there = shown_before g.K.PartialEq.eq wants t b b _ tells touched same (option_copied c.peek.result) is
-    ∙ is_some-copied c.peek.result in
-    ((refl, λ _. tt, rw there at touched), record { ends = tt; value = is ∙ same })
+pub returns-in-Ok : goal.returns-in-Ok
+returns-in-Ok g c =
+    let eq = g.K.PartialEq.eq in
+    let laws = g.met.K.Eq.laws in
+    let t = c.self.inside.table in
+    let b = c.touch_place.new.self in
+    let distinct = c.sound.ensures.one_map.distinct in
+    let wants = g.Q.KeyForm.stands_for c.new.result.form in
+    let alike = g.met.Q.KeyForm.alike c.new.result.form in
+    let e = c.in-Ok.ensures in
+    let o = c.in-Ok.spot in
+    rw (← c.self.view_is, ← c.new.ensures.form) (
+      (refl, λ _. tt, touched eq laws t b distinct wants alike c.touch_place.ensures.map _ o.side o.index o.at e.touched e.found),
+      record {
+        ends = tt;
+        value = shown eq laws t b distinct wants alike c.touch_place.ensures.map _ o.side o.index o.at e.touched e.found _ c.entry_at.ensures;
+      },
+    )
+
+pub returns-in-Err : goal.returns-in-Err
+returns-in-Err g c =
+    let eq = g.K.PartialEq.eq in
+    let laws = g.met.K.Eq.laws in
+    let t = c.self.inside.table in
+    let b = c.touch_place.new.self in
+    let distinct = c.sound.ensures.one_map.distinct in
+    let wants = g.Q.KeyForm.stands_for c.new.result.form in
+    let alike = g.met.Q.KeyForm.alike c.new.result.form in
+    let e = c.in-Err.ensures in
+    rw (← c.self.view_is, ← c.new.ensures.form) (
+      (refl, λ _. tt, untouched eq laws t b distinct wants alike c.touch_place.ensures.map _ e.prepared),
+      record { ends = tt; value = sym (missed eq laws t b distinct wants alike c.touch_place.ensures.map e.absent) },
+    )

@@ -1,25 +1,52 @@
-use Rattle.std.proofs.Common.{refl, ◌∙◌}
-use Rattle.collections.specs.Maps.{map_of}
-use Rattle.collections.proofs.Staying.{gets_by}
-use Rattle.collections.proofs.Writing.{lent_touched, lent_untouched}
+use Rattle.std.proofs.Common.{refl, sym}
+use Rattle.bucket_table.specs.Map.Lending.{with_value}
+use Rattle.collections.proofs.Touching.{missed, replaced, shown, unwritten, written_there}
 use Rattle.collections.proofs.hash_cache.HashCache.get_mut.Goals as goal
 
-pub returns : goal.returns
-returns g c =
+pub returns-in-Ok : goal.returns-in-Ok
+returns-in-Ok g c =
     let eq = g.K.PartialEq.eq in
-    let wants = g.Q.KeyForm.stands_for c.args.key in
-    let t = c.args.self.now in
-    let b = c.touch-there.new.self in
-    let tells = c.touch-there.ensures.there in
-    let touched = c.touch-there.ensures.touched in
-    let same = gets_by eq g.met.K.Eq.laws wants (g.met.Q.KeyForm.alike c.args.key) (map_of t) (map_of b) touched.map in
-    let loan = c.peek_mut.result in
-    let lent = c.peek_mut.follows in
-    let is = c.peek_mut.ensures.value in (
+    let laws = g.met.K.Eq.laws in
+    let t = c.self.inside.table in
+    let b = c.touch_place.new.self in
+    let distinct = c.sound.ensures.one_map.distinct in
+    let wants = g.Q.KeyForm.stands_for c.new.result.form in
+    let alike = g.met.Q.KeyForm.alike c.new.result.form in
+    let keeps = c.touch_place.ensures.map in
+    let e = c.in-Ok.ensures in
+    let o = c.in-Ok.spot in
+    let lent = c.entry_mut_at.ensures in
+    rw (← c.self.view_is, ← c.new.ensures.form) (
       (
         refl,
-        λ value. lent_touched eq wants t b (lent.lender value) _ tells touched same loan value is (lent.holds value),
-        lent_untouched eq wants t b lent.lender-at-none _ tells touched same loan is lent.holds-at-none,
+        λ value. (
+          (
+            _,
+            replaced eq laws t b distinct wants alike keeps _ o.side o.index o.at e.touched e.found _ lent.pair value
+                (with_value b o.side o.index o.at value) (lent.map value),
+          ),
+          written_there eq laws t b distinct wants alike keeps _ o.side o.index o.at e.touched e.found value,
+        ),
+        tt,
       ),
-      record { writes_back = tt; value = is ∙ same },
+      record {
+        writes_back = tt;
+        value = shown eq laws t b distinct wants alike keeps _ o.side o.index o.at e.touched e.found _ lent.pair;
+      },
+    )
+
+pub returns-in-Err : goal.returns-in-Err
+returns-in-Err g c =
+    let eq = g.K.PartialEq.eq in
+    let laws = g.met.K.Eq.laws in
+    let t = c.self.inside.table in
+    let b = c.touch_place.new.self in
+    let distinct = c.sound.ensures.one_map.distinct in
+    let wants = g.Q.KeyForm.stands_for c.new.result.form in
+    let alike = g.met.Q.KeyForm.alike c.new.result.form in
+    let keeps = c.touch_place.ensures.map in
+    let e = c.in-Err.ensures in
+    rw (← c.self.view_is, ← c.new.ensures.form) (
+      (refl, λ _. tt, unwritten eq laws t b distinct wants alike keeps _ e.prepared e.absent),
+      record { writes_back = tt; value = sym (missed eq laws t b distinct wants alike keeps e.absent) },
     )

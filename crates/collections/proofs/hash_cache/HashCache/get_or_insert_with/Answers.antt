@@ -1,42 +1,56 @@
-use Rattle.std.proofs.Common.{inl, inr, ap, refl, sym, ◌∙◌}
-use Rattle.collections.specs.Maps.{map_of}
-use Rattle.collections.proofs.Slots.{lacks_before}
-use Rattle.collections.proofs.Upserting.{came_back, for_memory, puts_after, refused_parts, went_home}
+use Rattle.std.proofs.Common.{ap, inl, inr, is_some, refl, sym}
+use Rattle.bucket_table.proofs.Map.AfterSearch.{own_kept}
+use Rattle.collections.proofs.Touching.{missed, shown, touched}
 use Rattle.collections.proofs.hash_cache.HashCache.get_or_insert_with.Goals as goal
-
-pub returns-then-touch-clause-done : goal.returns-then-touch-clause-done
-returns-then-touch-clause-done g c =
-    let touched = c.if-touch.ensures.touched in
-    (c.in-Some.value, c.reader.ensures, inl (sym (c.in-Some.ensures ∙ touched.map.gets c.args.key), refl, touched))
 
 pub returns-in-Ok-clause-done : goal.returns-in-Ok-clause-done
 returns-in-Ok-clause-done g c =
-    let touched = c.if-touch.ensures.touched in
     let eq = g.K.PartialEq.eq in
-    let t = c.args.self.now in
-    let b = c.touch.new.self in
-    let own = ap (λ h. g.H.KeyHash.hash_of h c.args.key) touched.map.kept.hasher in
-    let puts = puts_after eq c.args.key t b touched c.make-made.result c.put.new.self c.put.result c.put.ensures.map
-    c.in-Ok.gone c.in-Ok.is in
-    let home = went_home eq c.args.key t b touched _ _ own c.make-made.result c.put.new.self.arrays c.put.result c.put.ensures.home
-    c.touch.ensures.beside c.in-Ok.gone _ c.in-Ok.is refl in
-    (_, c.reader-answer.ensures, inr (c.make-made.ensures, puts, home))
+    let laws = g.met.K.Eq.laws in
+    let t = c.self.inside.table in
+    let b = c.touch_place.new.self in
+    let distinct = c.sound.ensures.one_map.distinct in
+    let keeps = c.touch_place.ensures.map in
+    let e = rw c.new.ensures.form at c.in-Ok.ensures in
+    let o = c.in-Ok.spot in
+    let is = touched eq laws t b distinct (eq c.args.key) (laws.congr c.args.key) keeps _ o.side o.index o.at e.touched e.found in
+    let value = shown eq laws t b distinct (eq c.args.key) (laws.congr c.args.key) keeps _ o.side o.index o.at e.touched e.found _
+    c.entry_at.ensures in
+    rw (← c.self.view_is) (_, c.reader.ensures, inl (sym value, refl, is))
+
+pub make-made-requires : goal.make-made-requires
+make-made-requires g c =
+    let e = rw c.new.ensures.form at c.in-Err.ensures in
+    let none = missed g.K.PartialEq.eq g.met.K.Eq.laws c.self.inside.table c.touch_place.new.self c.sound.ensures.one_map.distinct
+    (g.K.PartialEq.eq c.args.key) (g.met.K.Eq.laws.congr c.args.key) c.touch_place.ensures.map e.absent in
+    (rw (← c.self.view_is) at c.requires.makes) (ap (λ value. is_some value) none)
+
+pub put_vacant-requires : goal.put_vacant-requires
+put_vacant-requires g c =
+    let e = rw c.new.ensures.form at c.in-Err.ensures in
+    record {
+      own_hash = own_kept g.H.KeyHash.hash_of c.args.key c.hash-hash.result 67 c.self.inside.table c.touch_place.new.self
+          c.touch_place.ensures.map c.hash-hash.ensures;
+      absent = e.absent;
+      ready = λ is. rw is at e.vacancy;
+    }
+
+pub returns-in-Ok-put_vacant-clause-done : goal.returns-in-Ok-put_vacant-clause-done
+returns-in-Ok-put_vacant-clause-done g c =
+    let e = c.in-Err.ensures in
+    let put = c.put_vacant.ensures.put c.args.self.now (rw c.self.view_is at e.prepared) (rw c.self.view_is at e.vacancy) in
+    let own = rw c.self.view_is at c.hash-hash.ensures in
+    let went = rw (c.in-Ok-put_vacant.is, own) at put in
+    (_, c.reader-answer.ensures, inr (c.make-made.ensures, went.0, went.1))
 
 pub returns-in-Err-Memory-clause-done : goal.returns-in-Err-Memory-clause-done
 returns-in-Err-Memory-clause-done g c =
-    let touched = c.if-touch.ensures.touched in
-    let eq = g.K.PartialEq.eq in
-    let t = c.args.self.now in
-    let b = c.touch.new.self in
-    let own = ap (λ h. g.H.KeyHash.hash_of h c.args.key) touched.map.kept.hasher in
-    let back = refused_parts eq c.args.key t b touched c.make-made.result c.put.new.self c.put.result
-    c.put.ensures.map _ _ _ c.in-Err-Memory.is c.in-Err-Memory.field-0-is in
-    let stays = came_back eq c.args.key t b touched _ _ own c.make-made.result c.put.new.self.arrays c.put.result c.put.ensures.home
-    c.touch.ensures.beside _ c.in-Err-Memory.is in
-    (back.0, rw back.1 c.make-made.ensures, back.2, back.3, stays)
+    let e = c.in-Err.ensures in
+    let put = rw (c.in-Err-Memory.is, c.in-Err-Memory.field-0-is) at (c.put_vacant.ensures.put c.self.inside.table e.prepared e.vacancy) in
+    rw (← c.self.view_is) (put.0, rw put.1 c.make-made.ensures, put.2, put.3, put.4)
 
 pub returns-in-Err-Memory-clause-memory : goal.returns-in-Err-Memory-clause-memory
 returns-in-Err-Memory-clause-memory g c =
-    for_memory g.K.PartialEq.eq c.args.key c.args.self.now c.touch.new.self c.if-touch.ensures.touched c.make-made.result c.put.new.self
-    c.put.result c.put.ensures.map (λ is. lacks_before g.K.PartialEq.eq g.H.KeyHash.hash_of c.args.key (map_of c.args.self.now)
-    (map_of c.touch.new.self) c.if-touch.ensures.touched.map c.touch.ensures.slots (c.put.ensures.memory is)) _ _ _ c.in-Err-Memory.is c.in-Err-Memory.field-0-is
+    let e = c.in-Err.ensures in
+    let put = rw (c.in-Err-Memory.is, c.in-Err-Memory.field-0-is) at (c.put_vacant.ensures.put c.self.inside.table e.prepared e.vacancy) in
+    rw (← c.self.view_is) put.5

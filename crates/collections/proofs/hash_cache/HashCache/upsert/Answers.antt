@@ -1,66 +1,77 @@
-use Rattle.std.proofs.Common.{Some, ap}
-use Rattle.collections.specs.Maps.{map_of}
-use Rattle.collections.proofs.Slots.{lacks_before}
-use Rattle.collections.proofs.Upserting.{added, came_back, displaced, for_memory, refused, went_home}
-use Rattle.collections.proofs.Writing.{lent_touched}
+use Rattle.bucket_table.proofs.Map.AfterSearch.{own_kept}
+use Rattle.collections.proofs.Touching.{replaced, written_there}
 use Rattle.collections.proofs.hash_cache.HashCache.upsert.Goals as goal
 
-pub returns-then-touch-clause-map : goal.returns-then-touch-clause-map
-returns-then-touch-clause-map g c =
-    let later = c.replace.new.dest in
-    let lent = c.peek_mut.follows in
-    let done = lent_touched g.K.PartialEq.eq (g.K.PartialEq.eq c.args.key) c.args.self.now c.touch.new.self (lent.lender later) _
-    c.touch.ensures.there c.touch.ensures.touched (c.touch.ensures.touched.map.gets c.args.key) (Some c.in-Some.held) later
-    c.in-Some.ensures.value (rw c.in-Some.is at (lent.holds later)) in
-    rw (c.replace.ensures.value, ← c.replace.ensures.after) done.0
+pub returns-in-Ok-clause-map : goal.returns-in-Ok-clause-map
+returns-in-Ok-clause-map g c =
+    let eq = g.K.PartialEq.eq in
+    let laws = g.met.K.Eq.laws in
+    let t = c.self.inside.table in
+    let b = c.touch_place.new.self in
+    let distinct = c.sound.ensures.one_map.distinct in
+    let keeps = c.touch_place.ensures.map in
+    let e = rw c.new.ensures.form at c.in-Ok.ensures in
+    let o = c.in-Ok.spot in
+    let (own, here, changed) = c.swap_at.ensures.map in
+    rw (← c.self.view_is) (
+      own,
+      replaced eq laws t b distinct (eq c.args.key) (laws.congr c.args.key) keeps _ o.side o.index o.at e.touched e.found
+          (own, c.swap_at.result) here c.args.value c.swap_at.new.self changed,
+    )
 
-pub returns-then-touch-clause-order : goal.returns-then-touch-clause-order
-returns-then-touch-clause-order g c =
-    let later = c.replace.new.dest in
-    let lent = c.peek_mut.follows in
-    let done = lent_touched g.K.PartialEq.eq (g.K.PartialEq.eq c.args.key) c.args.self.now c.touch.new.self (lent.lender later) _
-    c.touch.ensures.there c.touch.ensures.touched (c.touch.ensures.touched.map.gets c.args.key) (Some c.in-Some.held) later
-    c.in-Some.ensures.value (rw c.in-Some.is at (lent.holds later)) in
-    done.1
+pub returns-in-Ok-clause-order : goal.returns-in-Ok-clause-order
+returns-in-Ok-clause-order g c =
+    let eq = g.K.PartialEq.eq in
+    let laws = g.met.K.Eq.laws in
+    let t = c.self.inside.table in
+    let b = c.touch_place.new.self in
+    let distinct = c.sound.ensures.one_map.distinct in
+    let keeps = c.touch_place.ensures.map in
+    let e = rw c.new.ensures.form at c.in-Ok.ensures in
+    let o = c.in-Ok.spot in
+    rw (← c.self.view_is, c.swap_at.ensures.table) (written_there eq laws t b distinct (eq c.args.key) (laws.congr c.args.key) keeps _ o.side
+    o.index o.at e.touched e.found c.args.value)
+
+pub put_vacant-requires : goal.put_vacant-requires
+put_vacant-requires g c =
+    let e = rw c.new.ensures.form at c.in-Err.ensures in
+    record {
+      own_hash = own_kept g.H.KeyHash.hash_of c.args.key c.hash-hash.result 67 c.self.inside.table c.touch_place.new.self
+          c.touch_place.ensures.map c.hash-hash.ensures;
+      absent = e.absent;
+      ready = λ is. rw is at e.vacancy;
+    }
 
 pub returns-in-Ok-None-clause-map : goal.returns-in-Ok-None-clause-map
 returns-in-Ok-None-clause-map g c =
-    added g.K.PartialEq.eq c.args.key c.args.self.now c.touch.new.self c.if-touch.ensures.touched c.args.value c.put.new.self c.put.result
-    c.put.ensures.map c.in-Ok-None.field-0 c.in-Ok-None.is c.in-Ok-None.field-0-is
+    let e = c.in-Err.ensures in
+    let put = rw (c.in-Ok-None.is, c.in-Ok-None.field-0-is) at (c.put_vacant.ensures.put c.self.inside.table e.prepared e.vacancy) in
+    rw (← c.self.view_is) put.0
 
 pub returns-in-Ok-None-clause-order : goal.returns-in-Ok-None-clause-order
 returns-in-Ok-None-clause-order g c =
-    let touched = c.if-touch.ensures.touched in
-    went_home g.K.PartialEq.eq c.args.key c.args.self.now c.touch.new.self touched _ _
-    (ap (λ h. g.H.KeyHash.hash_of h c.args.key) touched.map.kept.hasher) c.args.value c.put.new.self.arrays c.put.result c.put.ensures.home
-    c.touch.ensures.beside c.in-Ok-None.field-0 _ c.in-Ok-None.is c.in-Ok-None.field-0-is
+    let e = c.in-Err.ensures in
+    let put = rw (c.in-Ok-None.is, c.in-Ok-None.field-0-is, c.hash-hash.ensures) at (c.put_vacant.ensures.put c.self.inside.table e.prepared e.vacancy) in
+    rw (← c.self.view_is) put.1
 
 pub returns-in-Ok-Some-clause-map : goal.returns-in-Ok-Some-clause-map
 returns-in-Ok-Some-clause-map g c =
-    displaced g.K.PartialEq.eq c.args.key c.args.self.now c.touch.new.self c.if-touch.ensures.touched c.args.value c.put.new.self
-    c.put.result c.put.ensures.map c.in-Ok-Some.field-0 _ c.in-Ok-Some.is c.in-Ok-Some.field-0-is
+    let e = c.in-Err.ensures in
+    let put = rw (c.in-Ok-Some.is, c.in-Ok-Some.field-0-is) at (c.put_vacant.ensures.put c.self.inside.table e.prepared e.vacancy) in
+    rw (← c.self.view_is) put.0
 
 pub returns-in-Ok-Some-clause-order : goal.returns-in-Ok-Some-clause-order
 returns-in-Ok-Some-clause-order g c =
-    let touched = c.if-touch.ensures.touched in
-    went_home g.K.PartialEq.eq c.args.key c.args.self.now c.touch.new.self touched _ _
-    (ap (λ h. g.H.KeyHash.hash_of h c.args.key) touched.map.kept.hasher) c.args.value c.put.new.self.arrays c.put.result c.put.ensures.home
-    c.touch.ensures.beside c.in-Ok-Some.field-0 _ c.in-Ok-Some.is c.in-Ok-Some.field-0-is
+    let e = c.in-Err.ensures in
+    let put = rw (c.in-Ok-Some.is, c.in-Ok-Some.field-0-is, c.hash-hash.ensures) at (c.put_vacant.ensures.put c.self.inside.table e.prepared e.vacancy) in
+    rw (← c.self.view_is) put.1
 
-pub returns-in-Err-Memory-clause-map : goal.returns-in-Err-Memory-clause-map
-returns-in-Err-Memory-clause-map g c =
-    refused g.K.PartialEq.eq c.args.key c.args.self.now c.touch.new.self c.if-touch.ensures.touched c.args.value c.put.new.self
-    c.put.result c.put.ensures.map _ _ _ c.in-Err-Memory.is c.in-Err-Memory.field-0-is
-
-pub returns-in-Err-Memory-clause-order : goal.returns-in-Err-Memory-clause-order
-returns-in-Err-Memory-clause-order g c =
-    let touched = c.if-touch.ensures.touched in
-    came_back g.K.PartialEq.eq c.args.key c.args.self.now c.touch.new.self touched _ _
-    (ap (λ h. g.H.KeyHash.hash_of h c.args.key) touched.map.kept.hasher) c.args.value c.put.new.self.arrays c.put.result c.put.ensures.home
-    c.touch.ensures.beside _ c.in-Err-Memory.is
-
-pub returns-in-Err-Memory-clause-memory : goal.returns-in-Err-Memory-clause-memory
-returns-in-Err-Memory-clause-memory g c =
-    for_memory g.K.PartialEq.eq c.args.key c.args.self.now c.touch.new.self c.if-touch.ensures.touched c.args.value c.put.new.self
-    c.put.result c.put.ensures.map (λ is. lacks_before g.K.PartialEq.eq g.H.KeyHash.hash_of c.args.key (map_of c.args.self.now)
-    (map_of c.touch.new.self) c.if-touch.ensures.touched.map c.touch.ensures.slots (c.put.ensures.memory is)) _ _ _ c.in-Err-Memory.is c.in-Err-Memory.field-0-is
+pub returns-in-Err-Memory : goal.returns-in-Err-Memory
+returns-in-Err-Memory g c =
+    let e = c.in-Err.ensures in
+    let put = rw (c.in-Err-Memory.is, c.in-Err-Memory.field-0-is) at (c.put_vacant.ensures.put c.self.inside.table e.prepared e.vacancy) in
+    rw (← c.self.view_is) (record {
+      map = ((λ i. (put.0 i, put.1 i)), put.2, put.3);
+      order = put.4;
+      memory = put.5;
+    })

@@ -8,16 +8,18 @@ use Rattle.collections.proofs.hash_set.HashSet.try_extend.Goals as goal
 
 pub loop-key-init : goal.loop-key-init
 loop-key-init g c =
-    it.begun c.requires.can c.requires.finite (no_key_put g.K.PartialEq.eq g.met.K.Eq.laws c.args.self.now
-    (rw (← c.self.view_is) c.sound.ensures), refl)
+    it.begun c.requires.can c.requires.finite (
+      no_key_put g.K.PartialEq.eq g.met.K.Eq.laws c.args.self.now
+          (rw (← c.self.view_is) c.sound.ensures),
+      refl,
+    )
 
 pub loop-key-preserved : goal.loop-key-preserved
 loop-key-preserved g c =
     let eq = g.K.PartialEq.eq in
     let inv = c.loop-key.invariant in
     let key = c.in-Some.key in
-    it.again inv key c.in-Some.is (c.next.ensures.steps, c.next.ensures.goes)
-    (
+    it.again inv key c.in-Some.is (c.next.ensures.steps, c.next.ensures.goes) (
       one_more_key eq g.met.K.Eq.laws c.args.self.now c.loop-key.self c.insert.new.self inv.seen key inv.holds.0 (added_put eq g.met.K.Eq.laws c.loop-key.self c.insert.new.self key c.in-Ok._added c.in-Ok.ensures.set),
       chained_more (λ before k after. PutsKey eq before k after × GrowsSlots g.H.KeyHash.hash_of k before after) c.args.self.now
           inv.seen c.loop-key.self key c.insert.new.self inv.holds.1 ((added_put eq g.met.K.Eq.laws c.loop-key.self c.insert.new.self key c.in-Ok._added c.in-Ok.ensures.set), c.insert.ensures.slots),

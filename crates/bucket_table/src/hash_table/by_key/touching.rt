@@ -1,0 +1,155 @@
+//! Where a pair that a probe wants stands, once its home was readied; and a touch there.
+//!
+//! Own.
+ghost use Rattle.std.specs.Prelude.{◌≡◌, IfErr, IfNone, IfOk, IfSome, OnErr, true};
+ghost use Rattle.bucket_slots.specs.Evicting.{slots_touched};
+ghost use Rattle.bucket_table.specs.Map.ByKey.{ChangesAt, ChangesPlace, PreparesThen, StandsAt, Touches};
+ghost use Rattle.bucket_table.specs.Map.LookingUp.{IsAbsent};
+ghost use Rattle.bucket_table.specs.Map.MapState.{KeepsPairs, state_of};
+ghost use Rattle.bucket_table.specs.Map.Preparing.{IsPrepared};
+ghost use Rattle.bucket_table.specs.Map.Vacancies.{IsVacancy};
+ghost use Rattle.bucket_table.specs.Views.ArraysView.{pairs_of};
+
+use crate::arrays::{Missing, Spot};
+use crate::hash_table::{HashTable, Vacancy};
+use crate::key_hash::KeyHash;
+use bucket_slots::bucket::{CACHE, KeyProbe};
+use bucket_slots::lru::LruList;
+
+impl<K: Eq + Drop, V: Drop, H: KeyHash<K>, L: LruList + Drop, const TYPE: u8> HashTable<
+    K,
+    V,
+    H,
+    L,
+    TYPE,
+> {
+    /// Makes the first pair of a cache that a probe wants the one of its bucket touched last; a slot
+    /// of the chain isn't listed. Returns whether there is one. The probe wants keys of this hash
+    /// alone.
+    ///
+    /// Beside an old array it works one unit first, and moves the sources of the hash's home. May
+    /// take memory, and is never refused: without it a pair is touched in the old array.
+    ///
+    /// O(slots of a unit, of the sources and of their targets). Own.
+    #[inline(always)]
+    pub fn touch_by<P: KeyProbe<K>>(&mut self, hash: u64, probe: &mut P) -> bool
+        requires cache { TYPE ≡ CACHE }
+        requires own_hash { (key : K)
+            → P.wants probe.old key ≡ true
+            → H.hash_of self.old.hasher key ≡ hash }
+        ensures map { Touches (P.wants probe.old) (state_of TYPE self.old) result
+            (state_of TYPE self.new) }
+        ensures arrays { PreparesThen TYPE hash self.old (λ between.
+            ChangesAt (P.wants probe.old) (slots_touched L.KEEPS) result between self.new) }
+        ensures fixed { P.wants probe.new ≡ P.wants probe.old }
+    {
+        let Ok(_) = self.touch_place(hash, probe) else {
+            return false;
+        };
+        true
+    }
+
+    /// Makes the first pair of a cache that a probe wants the one of its bucket touched last, as
+    /// `touch_by` does, and returns its place. The probe wants keys of this hash alone.
+    ///
+    /// Beside an old array it works one unit first, and moves the sources of the hash's home. May
+    /// take memory, and is never refused: without it a pair is touched in the old array.
+    ///
+    /// # Errors
+    ///
+    /// The map has no such pair. What is returned then is for `put_vacant`.
+    ///
+    /// O(slots of a unit, of the sources and of their targets). Own.
+    #[inline(always)]
+    pub fn touch_place<P: KeyProbe<K>>(
+        &mut self,
+        hash: u64,
+        probe: &mut P,
+    ) -> Result<Spot<K, V, TYPE>, Vacancy>
+        requires cache { TYPE ≡ CACHE }
+        requires own_hash { (key : K)
+            → P.wants probe.old key ≡ true
+            → H.hash_of self.old.hasher key ≡ hash }
+        ensures map { KeepsPairs (state_of TYPE self.old) (state_of TYPE self.new) }
+        ensures touched { IfOk result (λ spot. PreparesThen TYPE hash self.old (λ between.
+            ChangesPlace (P.wants probe.old) (slots_touched L.KEEPS) spot.side spot.index spot.at
+            between self.new)) }
+        ensures found { IfOk result (λ spot.
+            StandsAt (P.wants probe.old) self.new.arrays spot.side spot.index spot.at) }
+        ensures absent { OnErr result (IsAbsent (P.wants probe.old) (pairs_of self.new.arrays)) }
+        ensures prepared { OnErr result (IsPrepared TYPE hash self.old self.new) }
+        ensures vacancy { IfErr result (λ home.
+            IsVacancy home hash self.old.arrays self.new.arrays) }
+        ensures fixed { P.wants probe.new ≡ P.wants probe.old }
+    {
+        match self.fetch_place(hash, probe) {
+            Ok(spot) => {
+                self.arrays.touch_slot(spot.side, spot.index, &spot.at);
+                Ok(spot)
+            }
+            Err(home) => Err(home),
+        }
+    }
+
+    /// Works a unit, moves the sources of a hash's home, and returns the first live slot that a
+    /// probe wants, on either side; `None` where the map has none.
+    #[inline(always)]
+    pub(super) fn fetch_spot<P: KeyProbe<K>>(
+        &mut self,
+        hash: u64,
+        probe: &mut P,
+    ) -> Option<Spot<K, V, TYPE>>
+        requires own_hash { (key : K)
+            → P.wants probe.old key ≡ true
+            → H.hash_of self.old.hasher key ≡ hash }
+        ensures prepared { IsPrepared TYPE hash self.old self.new }
+        ensures found { IfSome result (λ spot.
+            StandsAt (P.wants probe.old) self.new.arrays spot.side spot.index spot.at) }
+        ensures absent { IfNone result (IsAbsent (P.wants probe.old) (pairs_of self.old.arrays)) }
+        ensures fixed { P.wants probe.new ≡ P.wants probe.old }
+    {
+        match self.fetch_place(hash, probe) {
+            Ok(spot) => Some(spot),
+            Err(_) => None,
+        }
+    }
+
+    /// Works a unit, moves the sources of a hash's home, and returns the first live slot that a
+    /// probe wants, on either side.
+    ///
+    /// # Errors
+    ///
+    /// The map has none. What is returned then says whether the home is ready.
+    #[inline(always)]
+    fn fetch_place<P: KeyProbe<K>>(
+        &mut self,
+        hash: u64,
+        probe: &mut P,
+    ) -> Result<Spot<K, V, TYPE>, Vacancy>
+        requires own_hash { (key : K)
+            → P.wants probe.old key ≡ true
+            → H.hash_of self.old.hasher key ≡ hash }
+        ensures prepared { IsPrepared TYPE hash self.old self.new }
+        ensures found { IfOk result (λ spot.
+            StandsAt (P.wants probe.old) self.new.arrays spot.side spot.index spot.at) }
+        ensures absent { OnErr result (IsAbsent (P.wants probe.old) (pairs_of self.new.arrays)) }
+        ensures vacancy { IfErr result (λ home.
+            IsVacancy home hash self.old.arrays self.new.arrays) }
+        ensures fixed { P.wants probe.new ≡ P.wants probe.old }
+    {
+        self.sound();
+        match self.fetch_home(hash) {
+            Ok(()) => match self.spot_at_home(hash, probe) {
+                Some(spot) => Ok(spot),
+                None => Err(Vacancy::Ready),
+            },
+            Err(missing) => match self.spot_by(hash, probe) {
+                Some(spot) => Ok(spot),
+                None => Err(match missing {
+                    Missing::Nothing => Vacancy::NoArray,
+                    Missing::Memory => Vacancy::NoMemory,
+                }),
+            },
+        }
+    }
+}

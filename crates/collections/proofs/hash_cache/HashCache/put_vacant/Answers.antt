@@ -1,0 +1,20 @@
+use Rattle.std.proofs.Common.{refl, rules}
+use Rattle.collections.proofs.Upserting.{put_vacant}
+use Rattle.collections.proofs.hash_cache.HashCache.put_vacant.Goals as goal
+
+pub put_vacant-outcome-requires : goal.put_vacant-outcome-requires
+put_vacant-outcome-requires g c = (
+  search rules,
+  (refl, (rw (← c.self.view_is) at c.requires.own_hash, (rw (← c.self.view_is) at c.requires.absent, rw (← c.self.view_is) at c.requires.ready))),
+)
+
+pub returns-clause-put : goal.returns-clause-put
+returns-clause-put g c =
+    let b = c.self.inside.table in
+    let s = c.put_vacant-outcome.new.self in
+    let e = c.put_vacant-outcome.ensures in
+    rw (← c.self.view_is) (λ first prepared vacancy. put_vacant g.K.PartialEq.eq g.met.K.Eq.laws g.H.KeyHash.hash_of c.args.key c.args.value
+    c.args.hash first b s prepared (rw (← c.self.view_is) at c.requires.own_hash) c.sound.ensures.one_map.distinct
+    c.sound-2.ensures.one_map.distinct c.put_vacant-outcome.result e.map (e.arrays first prepared vacancy)
+    c.sound-2.ensures.one_map.placed (c.learn_refused.ensures.current c.args.key c.args.value)
+    (c.learn_refused.ensures.old c.args.key c.args.value) e.absent)
