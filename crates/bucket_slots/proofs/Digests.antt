@@ -1,21 +1,24 @@
 -- What digests say of buckets, and how it holds after a change.
 use Rattle.bucket_slots.proofs.Words.{BucketView, IsMaskOf, List, SetsBit, Slot, Some, [], ap, arith, bit_and, bit_at, bit_at_and, byte_of}
 use Rattle.bucket_slots.proofs.Words.{cases_eq, cond, empty_bucket, false, free, get_or, get_or-map, get_or-set_other, get_or-set_same, has_byte, is_free, is_marked, IsBucketOf, INDEX, IsLowest, IsTrue, Place, position, sum_by-append, trailing_zeros, get_or-le-sum_by, bit_at_not, w32, slots_without, slots_with, slots_after_insertion, ne_eqb, is_wanted, place_wanted, first_from, None}
-use Rattle.bucket_slots.proofs.Words.{Bool, cases_lt, inl, inr, is_live, length, length-set, live, marked, min, refl, set, slot_at, subst, sym, true}
-use Rattle.bucket_slots.proofs.Words.{common_steps, flattened, part_at, replicate, ◌++◌, ◌≤◌, ◌/◌, ◌%◌, suc, with_unmade, zero, ℕ, ◌-◌, ◌<◌, ◌==◌, ◌^◌, ◌∙◌, ◌≡◌, ◌≢◌}
-use Rattle.std.proofs.lemmas.List.{get_or_append_left}
+use Rattle.bucket_slots.proofs.Words.{Bool, cases_lt, inl, inr, is_live, length, length-set, live, live_pairs, marked, min, ones, pairs_in, refl, set, slot_at, subst, sym, true}
+use Rattle.bucket_slots.proofs.Words.{common_steps, flattened, part_at, replicate, ◌≤◌, ◌/◌, ◌%◌, suc, with_unmade, zero, ℕ, ◌-◌, ◌<◌, ◌==◌, ◌^◌, ◌∙◌, ◌≡◌, ◌≢◌}
+use Rattle.std.specs.Int.Count.{ones-ones}
 use Rattle.bucket_slots.specs.ArrayView.{bucket_at}
+use Rattle.bucket_slots.specs.BucketView.{block_at, bucket_with_value, row_at, slot_in, with_slot_at}
+use Rattle.bucket_slots.specs.Evicting.{slots_touched}
+use Rattle.bucket_slots.specs.Slots.{slot_with_value}
 use Rattle.bucket_slots.specs.Layout.ArrayParts.{AreParts}
 use Rattle.bucket_slots.specs.Layout.Digests.{Settles, AreDigests, ChangesOne, Digest, DigestLists, IsDigest, IsLost, KnowsNone, digest_at}
 use Rattle.bucket_slots.specs.declared.bucket.TheConstants.{BUCKET_LEN}
-use Rattle.bucket_slots.proofs.Counting.{tally}
+use Rattle.bucket_slots.proofs.Counting.{length-live_pairs, length-live_pairs-append, tally}
 use Rattle.bucket_slots.proofs.Bitmaps.{lowest}
 use Rattle.bucket_slots.proofs.Positions.{position_at}
 use Rattle.bucket_slots.proofs.ArrayParts.{IsPlace, part_unmade, place_is}
 use Rattle.bucket_slots.proofs.Spreading.{put_in_own}
 use Rattle.bucket_slots.proofs.FirstPlaces.{first_chain}
 use Rattle.bucket_slots.proofs.RowMasks.{candidate_live, unwanted}
-use Rattle.bucket_slots.proofs.Masks.{lowest_passes, IsLeft-first, position-none_left, IsMaskOf-from, IsMaskOf-set, bit-mask, within}
+use Rattle.bucket_slots.proofs.Masks.{lowest_passes, IsLeft-first, ones-mask, position-none_left, IsMaskOf-from, IsMaskOf-set, bit-mask, within}
 
 module _ {K V : Type 0} where
   -- nothing is said of any bucket
@@ -69,8 +72,11 @@ module _ {K V : Type 0} where
     mask = IsMaskOf-set is_live bucket.own digest.live d.mask pos new.live (live pair byte) (omega (arith, d.own_long, below)) bits;
     bytes = λ i alive. rw bytes (elim (cases_eq i pos) [
       | inl same ↦
-          rw (same, get_or-set_same bucket.own pos (live pair byte) free (omega (arith, d.own_long, below)),
-          get_or-set_same digest.bytes pos byte 0 (omega (arith, d.bytes_long, below))) refl
+          rw (
+            same,
+            get_or-set_same bucket.own pos (live pair byte) free (omega (arith, d.own_long, below)),
+            get_or-set_same digest.bytes pos byte 0 (omega (arith, d.bytes_long, below)),
+          ) refl
       | inr other ↦
           let there = get_or-set_other bucket.own pos i (live pair byte) free other in
           rw (there, get_or-set_other digest.bytes pos i byte 0 other) (d.bytes i (rw there at alive))
@@ -135,6 +141,61 @@ module _ {K V : Type 0} where
         → AreDigests new (flattened (set parts part (set (part_at parts part) offset bucket)))
     lost_there lost bucket = set_there bucket (λ said. absurd (said lost))
 
+  -- a bucket changes, and what its digest says of it stays
+  pub kept_there : (parts : List (List (BucketView K V))) (spare : List (BucketView K V)) (len bits part offset index : ℕ)
+      (buckets : List (BucketView K V)) → IsPlace parts spare len bits part offset index buckets → flattened parts ≡ buckets
+      → index < length buckets → (digests : DigestLists) → AreDigests digests (flattened parts) → (bucket : BucketView K V)
+      → ((digest : Digest) → IsDigest digest (bucket_at (part_at parts part) offset) → IsDigest digest bucket)
+      → AreDigests digests (flattened (set parts part (set (part_at parts part) offset bucket)))
+  kept_there parts spare len bits part offset index buckets place view below digests kept bucket stays =
+      let read = ap (λ (xs : List (BucketView K V)). bucket_at xs index) view ∙ sym place.read in
+      set_there parts spare len bits part offset index buckets place view below digests digests kept (λ i other. refl) bucket
+      (λ said. stays (digest_at digests index) (subst (λ (b : BucketView K V). IsDigest (digest_at digests index) b) read (kept index said)))
+
+  valued : (slot : Slot K V) (value : V)
+      → (is_live (slot_with_value slot value) ≡ is_live slot) × (byte_of (slot_with_value slot value) ≡ byte_of slot)
+  valued free value = (refl, refl)
+  valued (live pair byte) value = (refl, refl)
+  valued (marked pair byte) value = (refl, refl)
+
+  -- the value in a live slot changes
+  pub IsDigest-valued : (digest : Digest) (b : BucketView K V) (at : Place) (value : V) → is_live (slot_in b at) ≡ true
+      → IsDigest digest b → IsDigest digest (bucket_with_value b at value)
+  IsDigest-valued digest b at value alive d = go at.block alive
+    where
+      go : (block : ℕ) → is_live (slot_at (block_at b block) at.pos) ≡ true
+          → IsDigest digest (with_slot_at b block at.pos (slot_with_value (slot_at (block_at b block) at.pos) value))
+      go zero here =
+          let new = set b.own at.pos (slot_with_value (slot_at b.own at.pos) value) in
+          let below = within is_live b.own at.pos free refl here in
+          let same : (i : ℕ) → (is_live (slot_at new i) ≡ is_live (slot_at b.own i)) × (byte_of (slot_at new i) ≡ byte_of (slot_at b.own i)) =
+          λ i. elim (cases_eq i at.pos) [
+            | inl e ↦ rw (e, get_or-set_same b.own at.pos (slot_with_value (slot_at b.own at.pos) value) free below)
+                (valued (slot_at b.own at.pos) value)
+            | inr other ↦ rw (get_or-set_other b.own at.pos i (slot_with_value (slot_at b.own at.pos) value) free other) (refl, refl)
+          ] in record {
+            mask = IsMaskOf-from is_live new digest.live free refl
+                (λ i. bit-mask is_live b.own digest.live d.mask i free refl ∙ ap (λ x. cond x 1 0) (sym (same i).0));
+            bytes = λ i stays. (same i).1 ∙ d.bytes i (sym (same i).0 ∙ stays);
+            bytes_long = d.bytes_long;
+            own_long = length-set b.own at.pos _ ∙ d.own_long;
+            chainless = d.chainless;
+          }
+      go (suc i) here =
+          let none : is_live (slot_at (row_at b.chain i) at.pos) ≡ false = rw d.chainless refl in
+          absurd cc
+
+  -- a slot is touched
+  pub IsDigest-touched : (digest : Digest) (keeps : Bool) (b : BucketView K V) (at : Place) → IsDigest digest b
+      → IsDigest digest (slots_touched keeps b at)
+  IsDigest-touched digest keeps b at d = record {
+    mask = d.mask;
+    bytes = d.bytes;
+    bytes_long = d.bytes_long;
+    own_long = d.own_long;
+    chainless = d.chainless;
+  }
+
   -- nothing is said from an index on, and the buckets before it stay
   pub AreDigests-front : (digests : DigestLists) (old new : List (BucketView K V)) (start : ℕ) → AreDigests digests old → KnowsNone start digests
       → ((i : ℕ) → i < start → bucket_at new i ≡ bucket_at old i) → AreDigests digests new
@@ -179,8 +240,12 @@ module _ {K V : Type 0} where
       let marks : Slot K V → ℕ = λ x. tally (is_marked x) in
       let unmarked = laws.unmarked other in
       let none : (i : ℕ) → i < 32 → tally (is_marked (slot_at b.own i)) ≤ 0 = λ i below.
-      omega (arith, get_or-le-sum_by marks b.own i free (omega (arith, laws.own_long, below)), unmarked,
-      sum_by-append marks b.own (flattened b.chain)) in
+      omega (
+        arith,
+        get_or-le-sum_by marks b.own i free (omega (arith, laws.own_long, below)),
+        unmarked,
+        sum_by-append marks b.own (flattened b.chain),
+      ) in
       let bit : (i : ℕ) → i < 32 → bit_at (2 ^ 32 - 1 - bits) i ≡ 1 - cond (is_live (slot_at b.own i)) 1 0 = λ i below.
       bit_at_not w32 bits i fits below ∙ ap (λ n. 1 - n) (bit-mask is_live b.own bits mask i free refl) in
       let within = low.within in
@@ -251,6 +316,19 @@ module _ {K V : Type 0} where
   pub after_put : (kind : ℕ) (keeps : ℕ → Bool) (b : BucketView K V) (pair : K × V) (byte : ℕ) → kind ≢ INDEX
       → slots_after_insertion kind keeps b pair byte ≡ slots_with b pair byte
   after_put kind keeps b pair byte other = let e : (kind == INDEX) ≡ false = ne_eqb kind INDEX other in rw e refl
+
+  -- as many pairs are there as bits are set
+  pub live_counted : (digest : Digest) (bucket : BucketView K V) → IsDigest digest bucket → ones digest.live ≡ length (pairs_in bucket)
+  live_counted digest bucket d =
+      let lives = length-live_pairs-append bucket.own (flattened bucket.chain) in
+      let none = ap (λ (c : List (List (Slot K V))). length (live_pairs (flattened c))) d.chainless in
+      omega (arith, lives, none, length-live_pairs bucket.own, ones-mask is_live bucket.own digest.live d.mask)
+
+  pub few_live : (digest : Digest) (bucket : BucketView K V) (len : ℕ) → (digest.live ≢ 2 ^ 32 - 1 → IsDigest digest bucket)
+      → len ≤ 32 → ones digest.live < len → length (pairs_in bucket) < len
+  few_live digest bucket len is most few =
+      let d = is (λ lost. let all = ones-ones 32 in omega (arith, rw lost at few, all, most)) in
+      omega (arith, few, live_counted digest bucket d)
 
 -- a bitmap that says something
 pub said_is : (lost : Bool) (bits : ℕ) → (bits ≡ 2 ^ 32 - 1 → IsTrue lost) → lost ≡ false → bits ≢ 2 ^ 32 - 1

@@ -1,8 +1,8 @@
 -- What calls on a bucket of an array do that search it and then take or put a pair.
 use Rattle.std.specs.Prelude.{ℕ, ◌≡◌, Bool, Option, Some, None, Result, Ok, Err, List, length, slice_set}
 use Rattle.bucket_slots.specs.ArrayView.{bucket_at}
-use Rattle.bucket_slots.specs.BucketView.{BucketView, Place, first_place, pairs_in, slot_in}
-use Rattle.bucket_slots.specs.Clearing.{slots_for_insertion}
+use Rattle.bucket_slots.specs.BucketView.{BucketView, Place, bucket_with_value, first_place, pairs_in, slot_in}
+use Rattle.bucket_slots.specs.Clearing.{slots_after_insertion, slots_for_insertion}
 use Rattle.bucket_slots.specs.Removing.{slots_without}
 use Rattle.bucket_slots.specs.Searching.{place_wanted}
 use Rattle.bucket_slots.specs.Slots.{is_free, live_pair}
@@ -32,3 +32,15 @@ AnswersPut eq key value byte kind keeps bucket (Err (Present k v)) =
 AnswersPut eq key value byte kind keeps bucket (Err (Memory k v)) =
     (k ≡ key) × (v ≡ value) × (place_wanted (λ own. eq own key) byte bucket ≡ None)
     × (first_place is_free (slots_for_insertion kind keeps bucket) ≡ None)
+
+-- a pair put into a bucket where no live slot has an equal key, or its value written where one has; what isn't put comes back, and then no
+-- slot is free
+abbrev pub UpsertsIn : {K V : Type 0} → (K → K → Bool) → K → V → ℕ → ℕ → (ℕ → Bool) → BucketView K V → Result (Option V) (K × V)
+    → BucketView K V → Type 0
+UpsertsIn eq key value byte kind keeps old (Ok None) new =
+    (place_wanted (λ own. eq own key) byte old ≡ None) × (new ≡ slots_after_insertion kind keeps old (key, value) byte)
+UpsertsIn {K} eq key value byte kind keeps old (Ok (Some earlier)) new =
+    (at : Place) × (found : K) × (place_wanted (λ own. eq own key) byte old ≡ Some at)
+    × (live_pair (slot_in old at) ≡ Some (found, earlier)) × (new ≡ bucket_with_value old at value)
+UpsertsIn eq key value byte kind keeps old (Err back) new =
+    (back ≡ (key, value)) × (place_wanted (λ own. eq own key) byte old ≡ None) × (new ≡ old) × (first_place is_free (slots_for_insertion kind keeps old) ≡ None)

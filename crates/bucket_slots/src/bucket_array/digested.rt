@@ -2,12 +2,14 @@
 //!
 //! Own.
 ghost use Rattle.std.specs.Prelude.{◌≡◌, ◌≢◌, ◌%◌, ◌+◌, ◌-◌, ◌^◌, ◌<◌, ◌≤◌, OnErr, OnOk, Some, [], IfSome, IsTrue, length, option_map, slice_set, vec_len};
+ghost use Rattle.std.specs.Borrow.{sem};
 ghost use Rattle.std.specs.List.{position};
 ghost use Rattle.bucket_slots.specs.ArrayRoom.{BucketFits};
 ghost use Rattle.bucket_slots.specs.ArrayView.{bucket_at};
-ghost use Rattle.bucket_slots.specs.BucketView.{pairs_in, slot_in};
+ghost use Rattle.bucket_slots.specs.BucketView.{BucketView, pairs_in, slot_in};
 ghost use Rattle.bucket_slots.specs.Clearing.{slots_after_insertion};
-ghost use Rattle.bucket_slots.specs.Digested.{AnswersPut, TakesWanted};
+ghost use Rattle.bucket_slots.specs.Evicting.{slots_touched};
+ghost use Rattle.bucket_slots.specs.Digested.{AnswersPut, TakesWanted, UpsertsIn};
 ghost use Rattle.bucket_slots.specs.Layout.ArrayParts.{part_at};
 ghost use Rattle.bucket_slots.specs.Masks.{IsMaskOf};
 ghost use Rattle.bucket_slots.specs.Places.{pair_lent};
@@ -17,9 +19,9 @@ ghost use Rattle.bucket_slots.specs.Searching.{has_byte, matching_len, pair_want
 ghost use Rattle.bucket_slots.specs.Slots.{is_free, is_live, live_pair};
 
 use super::digests::{Digests, is_lost};
-use super::part::{Part, bucket_in};
+use super::part::{Part, bucket_in, made_bucket_in};
 use super::{BucketArray, sizing};
-use crate::bucket::{EntryPtr, EqProbe, Generation, INDEX, KeyProbe};
+use crate::bucket::{CACHE, EntryPtr, EqProbe, Generation, INDEX, KeyProbe};
 use crate::lru::LruList;
 use std::alloc::Global;
 use std::mem;
@@ -33,6 +35,8 @@ pub enum NotPut<K, V> {
 }
 
 impl<K, V, L: LruList, const TYPE: u8> BucketArray<K, V, L, TYPE> {
+    ghost use Rattle.bucket_slots.specs.ArrayLoans.{LendsEntryOf};
+
     /// Returns what `Bucket::peek_entry_by` returns.
     #[inline(always)]
     pub fn peek_by<P: KeyProbe<K>>(
@@ -59,6 +63,73 @@ impl<K, V, L: LruList, const TYPE: u8> BucketArray<K, V, L, TYPE> {
         peek_in(&self.parts, part, offset, left, byte, probe)
     }
 
+    /// Whether a bucket's digest tells that it has fewer live slots than so many.
+    #[inline(always)]
+    pub fn has_fewer(&self, index: usize, len: u32) -> bool
+        requires { len ≤ 32 }
+        ensures { IsTrue result → length (pairs_in (bucket_at self.now index)) < len }
+    {
+        self.digests.live(index).count_ones() < len
+    }
+
+    /// Returns the place of the slot whose pair `peek_by` returns.
+    #[inline(always)]
+    pub fn find_by<P: KeyProbe<K>>(
+        &self,
+        index: usize,
+        hash: u64,
+        probe: &mut P,
+    ) -> Option<EntryPtr<K, V, TYPE>>
+        requires { index < length self.now }
+        ensures place { result
+            ≡ place_wanted (P.wants probe.old) (hash % 256) (bucket_at self.now index) }
+        ensures fixed { P.wants probe.new ≡ P.wants probe.old }
+    {
+        self.room();
+        let live = self.digests.live(index);
+        if is_lost(live) {
+            let at = self.bucket(index).get_entry_ptr_by(hash, probe);
+            return if at.is_valid() { Some(at) } else { None };
+        }
+        let byte = (hash % 256) as u8;
+        let left = self.digests.candidates(index, live, byte);
+        let (part, offset) = sizing::place_of(index, self.part_bits, self.part_mask);
+        match find_in(&self.parts, part, offset, left, byte, probe) {
+            Some((at, _, _)) => Some(at),
+            None => None,
+        }
+    }
+
+    /// Lends the pair in a live slot of a bucket, its value for writing. The digest stays.
+    #[inline(always)]
+    pub fn entry_mut(&mut self, index: usize, at: &EntryPtr<K, V, TYPE>) -> (&K, &mut V)
+        requires within { index < length self.old }
+        requires live_slot { IsTrue (is_live (slot_in (bucket_at self.old index) at.now)) }
+        ensures* writes_back { sem 𝓛
+            (LendsEntryOf K.row V.row L.row TYPE.row
+            (record { KEEPS = L.KEEPS; listed = L.listed; IsTail = L.IsTail }) L.Default
+            self.entry index at.now result) }
+        ensures pair { live_pair (slot_in (bucket_at self.old index) at.now)
+            ≡ Some (result.0.now, result.1.now) }
+    {
+        self.room();
+        let (part, offset) = sizing::place_of(index, self.part_bits, self.part_mask);
+        bucket_in(&mut self.parts, part, offset).entry_mut(at)
+    }
+
+    /// Makes the pair in a live slot the one of its bucket touched last. The digest stays.
+    pub fn touch(&mut self, index: usize, at: &EntryPtr<K, V, TYPE>)
+        requires cache { TYPE ≡ CACHE }
+        requires within { index < length self.old }
+        requires live_slot { IsTrue (is_live (slot_in (bucket_at self.old index) at.now)) }
+        ensures { self.new ≡ slice_set self.old index
+            (slots_touched L.KEEPS (bucket_at self.old index) at.now) }
+    {
+        self.room();
+        let (part, offset) = sizing::place_of(index, self.part_bits, self.part_mask);
+        bucket_in(&mut self.parts, part, offset).update_lru_tail(at);
+    }
+
     /// Writes the digest of a bucket anew. No bucket changes.
     pub fn settle(&mut self, index: usize)
         requires { index < length self.old }
@@ -68,6 +139,17 @@ impl<K, V, L: LruList, const TYPE: u8> BucketArray<K, V, L, TYPE> {
         let (part, offset) = sizing::place_of(index, self.part_bits, self.part_mask);
         let (live, bytes) = self.parts[part].bucket(offset, &self.spare).digest();
         self.digests.settle(index, live, bytes);
+    }
+
+    /// Writes the digest of a bucket that has none. No bucket changes.
+    #[inline(always)]
+    fn heal(&mut self, index: usize)
+        requires { index < length self.old }
+        ensures { self.new ≡ self.old }
+    {
+        if is_lost(self.digests.live(index)) {
+            self.settle(index);
+        }
     }
 
     /// Takes the memory of another array's digests for its own. No bucket changes.
@@ -127,9 +209,9 @@ impl<K: Drop, V: Drop, L: LruList, const TYPE: u8> BucketArray<K, V, L, TYPE> {
             None => return None,
         };
         let pos = at.pos() as u32;
-        let taken = remove_in(&mut self.parts, part, offset, at);
-        self.digests.free(index, live, pos);
-        Some(taken)
+        let pair = remove_in(&mut self.parts, part, offset, at);
+        let left = self.digests.free(index, live, pos);
+        Some((pair, left))
     }
 
     /// Does what `take_by` does, where the bucket has no digest.
@@ -185,14 +267,51 @@ impl<K: Drop, V: Drop, L: LruList, const TYPE: u8> BucketArray<K, V, L, TYPE> {
         let byte = (hash % 256) as u8;
         let left = self.digests.candidates(index, live, byte);
         let (part, offset) = sizing::place_of(index, self.part_bits, self.part_mask);
-        if let Some(_found) =
-            find_in(&self.parts, part, offset, left, byte, &mut EqProbe::new(&key))
-        {
+        if let Some(_found) = find_in(
+            &self.parts,
+            part,
+            offset,
+            left,
+            byte,
+            &mut EqProbe::new(&key),
+        ) {
             return Err(NotPut::Present(key, value));
         }
         let pos = fill_in(&mut self.parts, part, offset, live, byte, (key, value));
         self.digests.fill(index, live, pos, byte);
         Ok(())
+    }
+
+    /// Inserts a pair into a bucket, or writes its value beside the key that is equal.
+    #[inline(always)]
+    pub fn upsert<G: Generation>(
+        &mut self,
+        index: usize,
+        hash: u64,
+        key: K,
+        value: V,
+        generation: &G,
+    ) -> Result<Option<V>, (K, V)>
+    where
+        K: Eq,
+        requires { index < length self.old }
+        ensures { (left : BucketView K V)
+            × UpsertsIn K.eq key value (hash % 256) TYPE (G.keeps generation.now)
+            (bucket_at self.old index) result left
+            × (self.new ≡ slice_set self.old index left) }
+    {
+        self.heal(index);
+        match self.find_by(index, hash, &mut EqProbe::new(&key)) {
+            Some(at) => {
+                let (_own, old) = self.entry_mut(index, &at);
+                Ok(Some(mem::replace(old, value)))
+            }
+            None => match self.insert_absent(index, hash, key, value, generation) {
+                Ok(()) => Ok(None),
+                Err(NotPut::Present(_key, _value)) => unreachable!(),
+                Err(NotPut::Memory(key, value)) => Err((key, value)),
+            },
+        }
     }
 
     /// Does what `insert_absent` does, where the bucket has no digest or is an index's.
@@ -294,33 +413,29 @@ fn peek_in<'a, K, V, L: LruList, const TYPE: u8, P: KeyProbe<K>>(
     }
 }
 
-/// Takes the pair out of a live slot of a bucket in one of the parts. Returns it, and how many live
-/// pairs are left in the bucket.
+/// Takes the pair out of a live own slot of a bucket in one of the parts.
 #[inline(always)]
 fn remove_in<K: Drop, V: Drop, L: LruList, const TYPE: u8>(
     parts: &mut Vec<Part<K, V, L, TYPE>>,
     part: usize,
     offset: usize,
     at: EntryPtr<K, V, TYPE>,
-) -> ((K, V), usize)
+) -> (K, V)
     requires fits { BucketFits K.row V.row L.row TYPE.row
         (record { KEEPS = L.KEEPS; listed = L.listed; IsTail = L.IsTail }) L.Default }
     requires not_index { TYPE ≢ INDEX }
     requires within { part < vec_len parts.old }
     requires offset { offset < length (part_at parts.old.items part) }
+    requires own { at.block ≡ 0 }
     requires live_slot { IsTrue (is_live (slot_in (bucket_at (part_at parts.old.items part) offset) at)) }
     ensures pair { live_pair (slot_in (bucket_at (part_at parts.old.items part) offset) at)
-        ≡ Some result.0 }
-    ensures left { result.1
-        ≡ length (pairs_in (slots_without (bucket_at (part_at parts.old.items part) offset) at)) }
+        ≡ Some result }
     ensures parts { parts.new.items ≡ slice_set parts.old.items part
         (slice_set (part_at parts.old.items part) offset
         (slots_without (bucket_at (part_at parts.old.items part) offset) at)) }
 {
     let mut at = at;
-    let bucket = bucket_in(parts, part, offset);
-    let pair = bucket.remove(&mut at);
-    (pair, bucket.len())
+    made_bucket_in(parts, part, offset).remove(&mut at)
 }
 
 /// Puts a live pair into the lowest free own slot of a bucket in one of the parts, where the live ones

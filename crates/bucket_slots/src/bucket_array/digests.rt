@@ -5,6 +5,7 @@
 //!
 //! Own.
 ghost use Rattle.std.specs.Prelude.{◌≡◌, ◌≢◌, ◌==◌, ℕ, ◌-◌, ◌^◌, ◌<◌, IsTrue, ◌↔◌, bit_and, slice_set};
+ghost use Rattle.std.specs.Int.Count.{ones};
 ghost use Rattle.bucket_slots.specs.Layout.Bitmaps.{SetsBit};
 ghost use Rattle.bucket_slots.specs.Layout.Digests.{ChangesOne, IsLost, KnowsNone, Settles, digest_at};
 ghost use Rattle.bucket_slots.specs.Masks.{IsMaskOf};
@@ -135,17 +136,20 @@ impl Digests {
         row[pos as usize] = byte;
     }
 
-    /// Writes down that an own slot was left.
+    /// Writes down that an own slot was left. Returns how many are live.
     #[inline(always)]
-    pub(crate) fn free(&mut self, index: usize, live: u32, pos: u32)
+    pub(crate) fn free(&mut self, index: usize, live: u32, pos: u32) -> usize
         requires known { (digest_at self.old index).live ≢ 2 ^ 32 - 1 }
         requires live { live ≡ (digest_at self.old index).live }
         requires pos { pos < 32 }
         ensures live { SetsBit (digest_at self.old index).live pos 0 (digest_at self.new index).live }
         ensures bytes { (digest_at self.new index).bytes ≡ (digest_at self.old index).bytes }
         ensures others { ChangesOne index self.old self.new }
+        ensures left { result ≡ ones (digest_at self.new index).live }
     {
-        self.lives[index] = without_bit(live, pos);
+        let left = without_bit(live, pos);
+        self.lives[index] = left;
+        left.count_ones() as usize
     }
 }
 

@@ -104,6 +104,20 @@ impl<K, V, L: LruList, const TYPE: u8> Part<K, V, L, TYPE> {
         &self.made[offset]
     }
 
+    /// Lends a bucket with a live own slot for writing: it is made.
+    #[inline(always)]
+    pub(crate) fn made_bucket_mut(&mut self, offset: usize) -> &mut Bucket<K, V, L, TYPE>
+        requires within { offset < length self.old }
+        requires live_slot { (pos : ℕ) × (is_live (slot_at (bucket_at self.old offset).own pos) ≡ true) }
+        ensures* writes_back { sem 𝓛
+            (LendsBucketOf K.row V.row L.row TYPE.row
+            (record { KEEPS = L.KEEPS; listed = L.listed; IsTail = L.IsTail }) L.Default
+            self.entry offset result) }
+        ensures bucket { result.now ≡ bucket_at self.old offset }
+    {
+        &mut self.made[offset]
+    }
+
     /// Lends the bucket with an offset for writing. It is made if need be, with those before it.
     #[inline(always)]
     pub(crate) fn bucket_mut(&mut self, offset: usize) -> &mut Bucket<K, V, L, TYPE>
@@ -318,6 +332,29 @@ pub(crate) fn bucket_in<K, V, L: LruList, const TYPE: u8>(
 {
     let lent = &mut parts[part];
     lent.bucket_mut(offset)
+}
+
+/// Lends a bucket with a live own slot in one of the parts for writing.
+#[inline(always)]
+pub(crate) fn made_bucket_in<K, V, L: LruList, const TYPE: u8>(
+    parts: &mut Vec<Part<K, V, L, TYPE>>,
+    part: usize,
+    offset: usize,
+) -> &mut Bucket<K, V, L, TYPE>
+    requires fits { BucketFits K.row V.row L.row TYPE.row
+        (record { KEEPS = L.KEEPS; listed = L.listed; IsTail = L.IsTail }) L.Default }
+    requires within { part < vec_len parts.old }
+    requires offset { offset < length (part_at parts.old.items part) }
+    requires live_slot { (pos : ℕ)
+        × (is_live (slot_at (bucket_at (part_at parts.old.items part) offset).own pos) ≡ true) }
+    ensures* writes_back { sem 𝓛
+        (LendsBucketIn K.row V.row L.row TYPE.row
+        (record { KEEPS = L.KEEPS; listed = L.listed; IsTail = L.IsTail }) L.Default
+        parts.entry part offset result) }
+    ensures bucket { result.now ≡ bucket_at (part_at parts.old.items part) offset }
+{
+    let lent = &mut parts[part];
+    lent.made_bucket_mut(offset)
 }
 
 /// Lets the buckets of one of the parts go, where every one is killed and holds nothing. What is

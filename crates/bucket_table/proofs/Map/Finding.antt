@@ -1,5 +1,5 @@
 -- What finding a bucket for a writer, and preparing a home, leave of a table.
-use Rattle.bucket_table.proofs.Words.{ArraysView, Err, IfOk, IsHome, IsLocked, Keeps, KeepsArrays, Ok, OnErr, OnOk, Result}
+use Rattle.bucket_table.proofs.Words.{AreSourcesKilled, ArraysView, Current, Err, IfOk, IfSome, IsHome, IsLocked, Keeps, KeepsArrays, None, Ok, OnErr, OnOk, Option, Result, Some}
 use Rattle.bucket_table.proofs.Words.{Side, TableView, WorksUnits, ap, arith, buckets_on, cases_lt, inl, inr, length, refl, subst}
 use Rattle.bucket_table.proofs.Words.{sym, ℕ, ◌<◌, ◌≡◌, ◌⊎◌}
 use Rattle.std.proofs.Common.{IfErr}
@@ -7,12 +7,14 @@ use Rattle.bucket_table.specs.Map.Finding.{Finds, FindsBucket, FindsNone, MakesR
 use Rattle.bucket_table.specs.Map.MapState.{state_of}
 use Rattle.bucket_table.specs.Resize.Asking.{ResizesIf}
 use Rattle.bucket_table.specs.Resize.Growing.{Grows, WriterAsksGrowth}
+use Rattle.bucket_table.specs.Map.Free.{IsRoomy}
 use Rattle.bucket_table.specs.Map.Preparing.{HomeWantsMemory, IsMissing, IsPrepared, IsReady}
 use Rattle.bucket_table.specs.declared.arrays.Missing.{Missing}
 use Rattle.bucket_table.specs.declared.arrays.Missing.TheVariants.{Nothing, Memory}
 use Rattle.bucket_table.proofs.Rehash.UnitRuns.{units_wider}
 use Rattle.bucket_table.proofs.Scripts.CallSteps.{then_kept}
-use Rattle.bucket_table.proofs.Views.Keeping.{keeps_both, kept_none}
+use Rattle.bucket_table.proofs.Views.Keeping.{keeps_both, keeps_same, kept_none}
+use Rattle.bucket_table.proofs.Resize.Settling.{stays_unasked}
 use Rattle.bucket_table.proofs.Map.MapKept.{state_found}
 
 module _ {K V : Type 0} where
@@ -104,3 +106,32 @@ module _ {K V H : Type 0} (kind hash : ℕ) (hasher : H) (a new : ArraysView K V
           locked = locked;
           found = (a, readies, asked, grown);
         }
+
+  -- a roomy home is found as it stands
+  pub roomy_found : (index : ℕ) → IsRoomy a hash index → FindsBucket kind hash (over a) Current index (over a)
+  unfolding ReadiesThenGrows
+  roomy_found index roomy =
+      let no_old : (i : ℕ) → i < length a.linked → ⊥ = λ i below. omega (arith, below, roomy.alone) in
+      let killed : AreSourcesKilled a index = λ i below source. absurd (no_old i below) in
+      let some = roomy.home.within in record {
+        map = state_found kind hasher a a (keeps_same a);
+        kept = keeps_same a;
+        home = roomy.home;
+        locked = record { within = some; killed = λ e. killed; alive = λ e. absurd cc; vacant = λ e. absurd cc };
+        found = (
+          a,
+          record {
+            first = λ alone. (λ stands. refl, λ none. absurd (omega arith));
+            beside = λ stands. kept_none a;
+            units = record { stands = λ stands. absurd (omega (arith, stands, roomy.alone)); only = λ i alive. inr alive };
+            killed = killed;
+          },
+          stays_unasked a (λ asks. let full = asks.full in let few = roomy.few in omega arith),
+          refl,
+        );
+      }
+
+  pub roomy_finds : (found : Option ℕ) → IfSome found (λ index. IsRoomy a hash index)
+      → IfSome found (λ index. FindsBucket kind hash (over a) Current index (over a))
+  roomy_finds None none = tt
+  roomy_finds (Some index) roomy = roomy_found index roomy

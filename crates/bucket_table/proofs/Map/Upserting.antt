@@ -2,7 +2,8 @@
 use Rattle.bucket_table.proofs.Words.{ArraysView, Bool, BucketView, Err, IsEquivalence, IsHome, IsLocked, IsOneMap, IsPermutation-refl}
 use Rattle.bucket_table.proofs.Words.{KeepsPairs, MapState, None, Ok, Option, Result, Side, Some, TableView, ap, bucket_at, buckets_on}
 use Rattle.bucket_table.proofs.Words.{length, pairs_of, refl, true, ℕ, ◌%◌, ◌∙◌, ◌≡◌}
-use Rattle.bucket_table.specs.Map.ByKey.{Upserts, UpsertsAt, UpsertsIn}
+use Rattle.bucket_slots.specs.Digested.{UpsertsIn}
+use Rattle.bucket_table.specs.Map.ByKey.{Upserts, UpsertsAt}
 use Rattle.bucket_table.specs.Map.Finding.{FindsBucket, FindsThen}
 use Rattle.bucket_table.specs.Map.MapState.{state_of}
 use Rattle.bucket_table.specs.Views.Sides.{bucket_on, with_bucket}

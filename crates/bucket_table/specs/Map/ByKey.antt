@@ -96,18 +96,6 @@ InsertsIn {K} {V} eq key value byte kind keeps old result Ends =
     (left : BucketView K V) × AnswersInsertion eq key value byte kind keeps old result
     × OnOk result (left ≡ slots_after_insertion kind keeps old (key, value) byte) × OnErr result (left ≡ old) × Ends left
 
--- a pair put into a bucket where no live slot has an equal key, or its value written where one has; what isn't put comes back, and then no
--- slot is free
-abbrev pub UpsertsIn : {K V : Type 0} → (K → K → Bool) → K → V → ℕ → ℕ → (ℕ → Bool) → BucketView K V → Result (Option V) (K × V)
-    → BucketView K V → Type 0
-UpsertsIn eq key value byte kind keeps old (Ok None) new =
-    (place_wanted (λ own. eq own key) byte old ≡ None) × (new ≡ slots_after_insertion kind keeps old (key, value) byte)
-UpsertsIn {K} eq key value byte kind keeps old (Ok (Some earlier)) new =
-    (at : Place) × (found : K) × (place_wanted (λ own. eq own key) byte old ≡ Some at)
-    × (live_pair (slot_in old at) ≡ Some (found, earlier)) × (new ≡ bucket_with_value old at value)
-UpsertsIn eq key value byte kind keeps old (Err back) new =
-    (back ≡ (key, value)) × (place_wanted (λ own. eq own key) byte old ≡ None) × (new ≡ old) × HasNoSlot kind keeps old
-
 -- a unit is worked first and the sources of a hash's home move, as for a look-up, and then this is done
 pub record PreparesThen {K V H : Type 0} (kind hash : ℕ) (old : TableView K V H) (Then : TableView K V H → Type 0) : Type 0 where
   pub between : TableView K V H

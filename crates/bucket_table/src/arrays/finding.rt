@@ -4,7 +4,7 @@ ghost use Rattle.bucket_slots.specs.Homes.{IsHome};
 ghost use Rattle.bucket_table.specs.Views.ArraysView.{ArePlaced};
 ghost use Rattle.bucket_table.specs.Resize.Asking.{ResizesIf};
 ghost use Rattle.bucket_table.specs.Map.Finding.{FindsNone, ReadiesThenGrows};
-ghost use Rattle.bucket_table.specs.Map.Free.{MayLockAtOnce};
+ghost use Rattle.bucket_table.specs.Map.Free.{IsRoomy, MayLockAtOnce};
 ghost use Rattle.bucket_table.specs.Resize.Growing.{Grows, WriterAsksGrowth};
 ghost use Rattle.bucket_table.specs.Views.Locking.{IsLocked};
 ghost use Rattle.bucket_table.specs.Map.Preparing.{HomeWantsMemory, IsReady};
@@ -133,6 +133,25 @@ impl<K, V, L: LruList, const TYPE: u8> Arrays<K, V, L, TYPE> {
         let index = self.home(hash);
         self.room_of(Side::Current);
         if is_checked && self.bucket_of(Side::Current, index).len() >= BUCKET_LEN {
+            return None;
+        }
+        Some(index)
+    }
+
+    /// Returns the index of a hash's home in the current array, where no old one stands and the
+    /// home's digest tells that a writer asks for no growth there.
+    #[inline(always)]
+    pub(crate) fn roomy_home(&self, hash: u64) -> Option<usize>
+        ensures { IfSome result (λ index. IsRoomy self.now hash index) }
+    {
+        if self.has_old() {
+            return None;
+        }
+        let Some(array) = &self.current else {
+            return None;
+        };
+        let index = array.bucket_index(hash);
+        if !array.has_fewer(index, BUCKET_LEN as u32 - 1) {
             return None;
         }
         Some(index)

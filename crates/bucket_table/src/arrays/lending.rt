@@ -1,22 +1,25 @@
 //! A bucket of one side, read or lent for writing.
-ghost use Rattle.std.specs.Prelude.{◌≡◌, ◌≢◌, ◌%◌, ◌<◌, length};
+ghost use Rattle.std.specs.Prelude.{◌≡◌, ◌≢◌, ◌%◌, ◌<◌, IsTrue, Some, length};
 ghost use Rattle.std.specs.Borrow.{sem};
 ghost use Rattle.bucket_slots.specs.ArrayRoom.{BucketFits};
 ghost use Rattle.bucket_slots.specs.ArrayView.{bucket_at};
-ghost use Rattle.bucket_slots.specs.Digested.{TakesWanted};
+ghost use Rattle.bucket_slots.specs.BucketView.{BucketView, slot_in};
+ghost use Rattle.bucket_slots.specs.Slots.{is_live, live_pair};
+ghost use Rattle.bucket_slots.specs.Evicting.{slots_touched};
+ghost use Rattle.bucket_slots.specs.Digested.{TakesWanted, UpsertsIn};
 ghost use Rattle.bucket_table.specs.Map.ByKey.{InsertsIn};
-ghost use Rattle.bucket_table.specs.Views.ArrayLoan.{LendsBucketOf, array_with};
+ghost use Rattle.bucket_table.specs.Views.ArrayLoan.{LendsBucketOf, LendsEntryOf, array_with};
 ghost use Rattle.bucket_table.specs.Views.ArraysView.{list_of};
-ghost use Rattle.bucket_table.specs.Views.Sides.{buckets_on};
+ghost use Rattle.bucket_table.specs.Views.Sides.{bucket_on, buckets_on};
 
 use super::{Arrays, Side};
 use crate::hash_table::NotInserted;
-use bucket_slots::bucket::{Bucket, Generation, INDEX, KeyProbe};
+use bucket_slots::bucket::{Bucket, CACHE, EntryPtr, Generation, INDEX, KeyProbe};
 use bucket_slots::bucket_array::{BucketArray, NotPut};
 use bucket_slots::lru::LruList;
 
 impl<K, V, L: LruList, const TYPE: u8> Arrays<K, V, L, TYPE> {
-    ghost use Rattle.bucket_table.specs.Views.ArraysLoan.{LendsBucketOn};
+    ghost use Rattle.bucket_table.specs.Views.ArraysLoan.{LendsBucketOn, LendsEntryOn};
 
     /// Returns a bucket of one side.
     #[inline(always)]
@@ -52,6 +55,29 @@ impl<K, V, L: LruList, const TYPE: u8> Arrays<K, V, L, TYPE> {
         }
     }
 
+    /// Lends the pair in a live slot of that bucket, its value for writing.
+    #[inline(always)]
+    pub(crate) fn entry_of_mut(
+        &mut self,
+        side: Side,
+        index: usize,
+        at: &EntryPtr<K, V, TYPE>,
+    ) -> (&K, &mut V)
+        requires within { index < length (buckets_on self.old side) }
+        requires live_slot { IsTrue (is_live (slot_in (bucket_on self.old side index) at.now)) }
+        ensures* writes_back { sem 𝓛
+            (LendsEntryOn K.row V.row L.row TYPE.row
+            (record { KEEPS = L.KEEPS; listed = L.listed; IsTail = L.IsTail }) L.Default
+            self.entry side index at.now result) }
+        ensures pair { live_pair (slot_in (bucket_on self.old side index) at.now)
+            ≡ Some (result.0.now, result.1.now) }
+    {
+        match side {
+            Side::Current => entry_in(&mut self.current, index, at),
+            Side::Old => entry_in(&mut self.linked, index, at),
+        }
+    }
+
     /// No work: a proof of generic code learns that a bucket fits in memory.
     #[inline(always)]
     pub(crate) fn room_of(&self, side: Side)
@@ -82,6 +108,47 @@ fn bucket_in<K, V, L: LruList, const TYPE: u8>(
     }
 }
 
+/// Lends the pair in a live slot of a bucket of one side, its value for writing.
+#[inline(always)]
+fn entry_in<'a, K, V, L: LruList, const TYPE: u8>(
+    held: &'a mut Option<BucketArray<K, V, L, TYPE>>,
+    index: usize,
+    at: &EntryPtr<K, V, TYPE>,
+) -> (&'a K, &'a mut V)
+    requires within { index < length (list_of held.old) }
+    requires live_slot { IsTrue (is_live (slot_in (bucket_at (list_of held.old) index) at.now)) }
+    ensures* writes_back { sem 𝓛
+        (LendsEntryOf K.row V.row L.row TYPE.row
+        (record { KEEPS = L.KEEPS; listed = L.listed; IsTail = L.IsTail }) L.Default
+        held.entry index at.now result) }
+    ensures pair { live_pair (slot_in (bucket_at (list_of held.old) index) at.now)
+        ≡ Some (result.0.now, result.1.now) }
+{
+    match held {
+        Some(array) => array.entry_mut(index, at),
+        None => unreachable!(),
+    }
+}
+
+/// Makes the pair in a live slot of a bucket of one side the one of its bucket touched last.
+#[inline(always)]
+pub(super) fn touch_in<K, V, L: LruList, const TYPE: u8>(
+    held: &mut Option<BucketArray<K, V, L, TYPE>>,
+    index: usize,
+    at: &EntryPtr<K, V, TYPE>,
+)
+    requires cache { TYPE ≡ CACHE }
+    requires within { index < length (list_of held.old) }
+    requires live_slot { IsTrue (is_live (slot_in (bucket_at (list_of held.old) index) at.now)) }
+    ensures { held.new ≡ array_with held.old index
+        (slots_touched L.KEEPS (bucket_at (list_of held.old) index) at.now) }
+{
+    match held {
+        Some(array) => array.touch(index, at),
+        None => unreachable!(),
+    }
+}
+
 /// Puts a pair into a bucket of one side where no live slot of it has an equal key.
 #[inline(always)]
 pub(super) fn insert_in<K: Eq + Drop, V: Drop, L: LruList, G: Generation, const TYPE: u8>(
@@ -102,6 +169,28 @@ pub(super) fn insert_in<K: Eq + Drop, V: Drop, L: LruList, G: Generation, const 
             Err(NotPut::Present(key, value)) => Err(NotInserted::Present(key, value)),
             Err(NotPut::Memory(key, value)) => Err(NotInserted::Memory(key, value)),
         },
+        None => unreachable!(),
+    }
+}
+
+/// Inserts a pair into a bucket of one side, or writes its value beside the key that is equal.
+#[inline(always)]
+pub(super) fn upsert_in<K: Eq + Drop, V: Drop, L: LruList, G: Generation, const TYPE: u8>(
+    held: &mut Option<BucketArray<K, V, L, TYPE>>,
+    index: usize,
+    hash: u64,
+    key: K,
+    value: V,
+    generation: &G,
+) -> Result<Option<V>, (K, V)>
+    requires { index < length (list_of held.old) }
+    ensures { (left : BucketView K V)
+        × UpsertsIn K.eq key value (hash % 256) TYPE (G.keeps generation.now)
+        (bucket_at (list_of held.old) index) result left
+        × (held.new ≡ array_with held.old index left) }
+{
+    match held {
+        Some(array) => array.upsert(index, hash, key, value, generation),
         None => unreachable!(),
     }
 }

@@ -1,7 +1,8 @@
 //! Pairs touched, marked and taken out where they stand, in a bucket of either side: what calls by
 //! key and locked buckets do.
 ghost use Rattle.std.specs.Prelude.{◌≡◌, ◌≢◌, ◌%◌, ◌<◌, ℕ, Some, IsTrue, length};
-ghost use Rattle.bucket_slots.specs.BucketView.{bucket_with_value, pairs_in, slot_in};
+ghost use Rattle.bucket_slots.specs.BucketView.{BucketView, bucket_with_value, pairs_in, slot_in};
+ghost use Rattle.bucket_slots.specs.Digested.{UpsertsIn};
 ghost use Rattle.bucket_slots.specs.Evicting.{slots_touched};
 ghost use Rattle.bucket_slots.specs.Marking.{slots_marked};
 ghost use Rattle.bucket_slots.specs.Removing.{place_after, slots_without};
@@ -14,7 +15,7 @@ ghost use Rattle.bucket_table.specs.Resize.Asking.{RemovesAndShrinks};
 ghost use Rattle.bucket_table.specs.Views.Sides.{arrays_with, bucket_on, buckets_on};
 ghost use Rattle.bucket_table.specs.Views.Keeping.{Keeps};
 
-use super::lending::{insert_in, take_in};
+use super::lending::{insert_in, take_in, touch_in, upsert_in};
 use super::{Arrays, Side};
 use crate::hash_table::NotInserted;
 use bucket_slots::bucket::{CACHE, EntryPtr, Generation, INDEX, KeyProbe};
@@ -43,8 +44,10 @@ impl<K, V, L: LruList, const TYPE: u8> Arrays<K, V, L, TYPE> {
         ensures { self.new ≡ arrays_with self.old side index
             (slots_touched L.KEEPS (bucket_on self.old side index) at.now) }
     {
-        self.room_of(side);
-        self.bucket_of_mut(side, index).update_lru_tail(at);
+        match side {
+            Side::Current => touch_in(&mut self.current, index, at),
+            Side::Old => touch_in(&mut self.linked, index, at),
+        }
     }
 
     /// Writes a value into a live slot, and returns the earlier one.
@@ -63,9 +66,7 @@ impl<K, V, L: LruList, const TYPE: u8> Arrays<K, V, L, TYPE> {
         ensures arrays { self.new ≡ arrays_with self.old side index
             (bucket_with_value (bucket_on self.old side index) at.now value) }
     {
-        self.room_of(side);
-        let bucket = self.bucket_of_mut(side, index);
-        mem::replace(bucket.entry_mut(at).1, value)
+        mem::replace(self.entry_of_mut(side, index, at).1, value)
     }
 
     /// Marks the pair in a live slot. Returns how many live pairs are left in the bucket.
@@ -89,7 +90,9 @@ impl<K, V, L: LruList, const TYPE: u8> Arrays<K, V, L, TYPE> {
         self.room_of(side);
         let bucket = self.bucket_of_mut(side, index);
         bucket.mark_removed(at, generation);
-        bucket.len()
+        let left = bucket.len();
+        self.settle_on(side, index);
+        left
     }
 }
 
@@ -115,6 +118,31 @@ impl<K: Drop, V: Drop, L: LruList, const TYPE: u8> Arrays<K, V, L, TYPE> {
         match side {
             Side::Current => insert_in(&mut self.current, index, hash, key, value, generation),
             Side::Old => insert_in(&mut self.linked, index, hash, key, value, generation),
+        }
+    }
+
+    /// Inserts a pair into a bucket, or writes its value beside the key that is equal.
+    #[inline(always)]
+    pub(crate) fn upsert_home<G: Generation>(
+        &mut self,
+        side: Side,
+        index: usize,
+        hash: u64,
+        key: K,
+        value: V,
+        generation: &G,
+    ) -> Result<Option<V>, (K, V)>
+    where
+        K: Eq,
+        requires { index < length (buckets_on self.old side) }
+        ensures { (left : BucketView K V)
+            × UpsertsIn K.eq key value (hash % 256) TYPE (G.keeps generation.now)
+            (bucket_on self.old side index) result left
+            × (self.new ≡ arrays_with self.old side index left) }
+    {
+        match side {
+            Side::Current => upsert_in(&mut self.current, index, hash, key, value, generation),
+            Side::Old => upsert_in(&mut self.linked, index, hash, key, value, generation),
         }
     }
 
@@ -164,6 +192,7 @@ impl<K: Drop, V: Drop, L: LruList, const TYPE: u8> Arrays<K, V, L, TYPE> {
         let bucket = self.bucket_of_mut(side, index);
         let pair = bucket.remove(at);
         let left = bucket.len();
+        self.settle_on(side, index);
         (pair, left)
     }
 }

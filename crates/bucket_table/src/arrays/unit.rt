@@ -2,11 +2,12 @@
 ghost use Rattle.std.specs.Prelude.{◌≡◌, ◌+◌, ◌*◌, ◌<◌, [], false, IfNone, None, length};
 ghost use Rattle.bucket_slots.specs.Homes.{IsInRange};
 ghost use Rattle.bucket_table.specs.Views.ArraysView.{ArePlaced};
+ghost use Rattle.bucket_table.specs.Views.Sides.{buckets_on};
 ghost use Rattle.bucket_table.specs.Views.Keeping.{KeepsArrays};
 ghost use Rattle.bucket_table.specs.Rehash.Finishing.{Finishes};
 ghost use Rattle.bucket_table.specs.Rehash.Units.{KillsOnly, SpendsSome, WantsMemory, WorksUnit, WorksUnits};
 
-use super::Arrays;
+use super::{Arrays, Side};
 use crate::capacity::from_index_to_range;
 use crate::key_hash::KeyHash;
 use crate::tickets::{REHASHING_UNIT_LEN, TICKET_STEP};
@@ -70,17 +71,6 @@ impl<K: Eq + Drop, V: Drop, L: LruList + Drop, const TYPE: u8> Arrays<K, V, L, T
         }
     }
 
-    /// Writes the digest of a current bucket. No bucket changes.
-    fn settle_current(&mut self, index: usize)
-        requires { index < length self.old.current }
-        ensures { self.new ≡ self.old }
-    {
-        let Some(array) = &mut self.current else {
-            unreachable!()
-        };
-        array.settle(index);
-    }
-
     /// Lets the old buckets around one go, where they are killed and hold nothing.
     fn release_old(&mut self, index: usize)
         requires { index < length self.old.linked }
@@ -93,5 +83,29 @@ impl<K: Eq + Drop, V: Drop, L: LruList + Drop, const TYPE: u8> Arrays<K, V, L, T
             Some(current) => linked.release_into(index, current),
             None => linked.release_around(index),
         }
+    }
+}
+
+impl<K, V, L: LruList, const TYPE: u8> Arrays<K, V, L, TYPE> {
+    /// Writes the digest of a bucket, which only a current one has. No bucket changes.
+    pub(crate) fn settle_on(&mut self, side: Side, index: usize)
+        requires { index < length (buckets_on self.old side) }
+        ensures { self.new ≡ self.old }
+    {
+        match side {
+            Side::Current => self.settle_current(index),
+            Side::Old => {}
+        }
+    }
+
+    /// Writes the digest of a current bucket. No bucket changes.
+    fn settle_current(&mut self, index: usize)
+        requires { index < length self.old.current }
+        ensures { self.new ≡ self.old }
+    {
+        let Some(array) = &mut self.current else {
+            unreachable!()
+        };
+        array.settle(index);
     }
 }

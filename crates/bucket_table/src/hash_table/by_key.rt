@@ -160,11 +160,14 @@ impl<K: Eq + Drop, V: Drop, H: KeyHash<K>, L: LruList + Drop, const TYPE: u8> Ha
             (H.hash_of self.old.hasher key % 256) between result answer self.new) }
     {
         let hash = self.hash(&key);
+        if let Some(index) = self.roomy_home(hash) {
+            return self.insert_at(Side::Current, index, hash, key, value, generation);
+        }
         self.insert_found(hash, key, value, generation)
     }
 
     /// Finds a bucket for a pair, and puts it there.
-    #[inline(always)]
+    #[inline(never)]
     fn insert_found<G: Generation>(
         &mut self,
         hash: u64,

@@ -54,8 +54,6 @@ impl<K: Eq, V, H: KeyHash<K>, L: LruList, const TYPE: u8> HashTable<K, V, H, L, 
             (result.0.now, result.1.now) value
             (state_of TYPE (with_value self.old side index at.now value)) }
     {
-        self.arrays.room_of(side);
-        let bucket = self.arrays.bucket_of_mut(side, index);
-        bucket.entry_mut(at)
+        self.arrays.entry_of_mut(side, index, at)
     }
 }

@@ -131,9 +131,7 @@ impl<'a, K: Eq, V, H: KeyHash<K>, L: LruList, const TYPE: u8> LockedBucket<'a, K
         let side = self.side;
         let index = self.index;
         let table = &mut *self.table;
-        table.arrays.room_of(side);
-        let bucket = table.arrays.bucket_of_mut(side, index);
-        bucket.entry_mut(at)
+        table.arrays.entry_of_mut(side, index, at)
     }
 
     /// Makes a live own slot the one touched last; a slot of the chain isn't listed.
@@ -169,7 +167,9 @@ impl<'a, K: Eq, V, H: KeyHash<K>, L: LruList, const TYPE: u8> LockedBucket<'a, K
         let index = self.index;
         let table = &mut *self.table;
         table.arrays.room_of(side);
-        table.arrays.bucket_of_mut(side, index).evict_lru_head()
+        let gone = table.arrays.bucket_of_mut(side, index).evict_lru_head();
+        table.arrays.settle_on(side, index);
+        gone
     }
 
     /// Makes the live slot of an index a tombstone; the table isn't shrunk.
@@ -234,10 +234,12 @@ impl<'a, K: Eq + Drop, V: Drop, H: KeyHash<K>, L: LruList, const TYPE: u8> Locke
         let index = self.index;
         let table = &mut *self.table;
         table.arrays.room_of(side);
-        table
+        let placed = table
             .arrays
             .bucket_of_mut(side, index)
-            .insert(hash, pair, generation)
+            .insert(hash, pair, generation);
+        table.arrays.settle_on(side, index);
+        placed
     }
 
     /// Takes the pair out of a live slot and returns it; the table isn't shrunk.

@@ -93,6 +93,15 @@ impl<K: Eq + Drop, V: Drop, H: KeyHash<K>, L: LruList + Drop, const TYPE: u8> Ha
         (side, index)
     }
 
+    /// Returns the bucket that `find` finds for a writer of a hash, a current one, where its digest
+    /// tells that it changes nothing.
+    #[inline(always)]
+    pub(super) fn roomy_home(&self, hash: u64) -> Option<usize>
+        ensures { IfSome result (λ index. FindsBucket TYPE hash self.now Current index self.now) }
+    {
+        self.arrays.roomy_home(hash)
+    }
+
     /// Locks a bucket of one side.
     ///
     /// O(1). Own.

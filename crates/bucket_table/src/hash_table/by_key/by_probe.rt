@@ -136,15 +136,17 @@ impl<K: Eq, V, H: KeyHash<K>, L: LruList, const TYPE: u8> HashTable<K, V, H, L, 
     {
         self.arrays.room_of(Side::Current);
         let index = self.arrays.home(hash);
-        let bucket = self.arrays.bucket_of(Side::Current, index);
-        let at = bucket.get_entry_ptr_by(hash, probe);
-        if !at.is_valid() {
-            return None;
+        match self
+            .arrays
+            .array_of(Side::Current)
+            .find_by(index, hash, probe)
+        {
+            Some(at) => Some(Spot {
+                side: Side::Current,
+                index,
+                at,
+            }),
+            None => None,
         }
-        Some(Spot {
-            side: Side::Current,
-            index,
-            at,
-        })
     }
 }

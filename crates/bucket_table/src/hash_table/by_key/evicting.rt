@@ -186,7 +186,9 @@ impl<K: Eq + Drop, V: Drop, H: KeyHash<K>, L: LruList + Drop, const TYPE: u8> Ha
     {
         self.arrays.room_of(side);
         let bucket = self.arrays.bucket_of_mut(side, index);
-        put_in(bucket, hash, key, value)
+        let done = put_in(bucket, hash, key, value);
+        self.arrays.settle_on(side, index);
+        done
     }
 }
 

@@ -4,10 +4,11 @@
 ghost use Rattle.std.specs.Prelude.{◌≡◌, ◌%◌, ◌<◌, IsTrue, Some, is_some, length, true};
 ghost use Rattle.std.specs.Borrow.{Bor, MutBor};
 ghost use Rattle.bucket_slots.specs.BucketView.{BucketView, bucket_with_value, slot_in};
+ghost use Rattle.bucket_slots.specs.Digested.{UpsertsIn};
 ghost use Rattle.bucket_slots.specs.Homes.{IsHome};
 ghost use Rattle.bucket_slots.specs.Slots.{is_live, live_pair};
 ghost use Rattle.bucket_table.specs.Map.ByKey.{PreparesThen, Rewrites, WritesAt};
-ghost use Rattle.bucket_table.specs.Map.ByKey.{Upserts, UpsertsAt, UpsertsIn};
+ghost use Rattle.bucket_table.specs.Map.ByKey.{Upserts, UpsertsAt};
 ghost use Rattle.bucket_table.specs.Map.Finding.{FindsThen};
 ghost use Rattle.bucket_table.specs.Map.LookingUp.{IsThere};
 ghost use Rattle.bucket_table.specs.Map.MapState.{ChangesValue, state_of};
@@ -18,9 +19,8 @@ ghost use Rattle.bucket_table.specs.Views.Sides.{bucket_on, buckets_on, with_buc
 use crate::arrays::{Side, Spot};
 use crate::hash_table::HashTable;
 use crate::key_hash::KeyHash;
-use bucket_slots::bucket::{Bucket, EqProbe, Generation, KeyProbe};
+use bucket_slots::bucket::{EqProbe, Generation, KeyProbe};
 use bucket_slots::lru::LruList;
-use std::mem;
 
 impl<K: Eq + Drop, V: Drop, H: KeyHash<K>, L: LruList + Drop, const TYPE: u8> HashTable<
     K,
@@ -111,6 +111,28 @@ impl<K: Eq + Drop, V: Drop, H: KeyHash<K>, L: LruList + Drop, const TYPE: u8> Ha
             (H.hash_of self.old.hasher key % 256) between result answer self.new) }
     {
         let hash = self.hash(&key);
+        if let Some(index) = self.roomy_home(hash) {
+            return self.upsert_at(Side::Current, index, hash, key, value, generation);
+        }
+        self.upsert_found(hash, key, value, generation)
+    }
+
+    /// Finds a bucket for a pair, and puts it there, or writes its value.
+    #[inline(never)]
+    fn upsert_found<G: Generation>(
+        &mut self,
+        hash: u64,
+        key: K,
+        value: V,
+        generation: &G,
+    ) -> Result<Option<V>, (K, V)>
+        requires own_hash { hash ≡ H.hash_of self.old.hasher key }
+        ensures map { Upserts K.eq key value (state_of TYPE self.old) result
+            (state_of TYPE self.new) }
+        ensures arrays { FindsThen TYPE (H.hash_of self.old.hasher key) self.old (λ answer between.
+            UpsertsAt K.eq TYPE (G.keeps generation.now) key value
+            (H.hash_of self.old.hasher key % 256) between result answer self.new) }
+    {
         match self.find(hash) {
             Ok((side, index)) => self.upsert_at(side, index, hash, key, value, generation),
             Err(_) => match self.spot_of(&key, hash) {
@@ -141,9 +163,8 @@ impl<K: Eq + Drop, V: Drop, H: KeyHash<K>, L: LruList + Drop, const TYPE: u8> Ha
             (bucket_on self.old.arrays side index) result left
             × (self.new ≡ with_bucket self.old side index left) }
     {
-        self.arrays.room_of(side);
-        let bucket = self.arrays.bucket_of_mut(side, index);
-        upsert_in(bucket, hash, key, value, generation)
+        self.arrays
+            .upsert_home(side, index, hash, key, value, generation)
     }
 
     /// Hands the pair in a live slot to a closure, its value for writing.
@@ -166,33 +187,7 @@ impl<K: Eq + Drop, V: Drop, H: KeyHash<K>, L: LruList + Drop, const TYPE: u8> Ha
             spot.now.index (bucket_with_value (bucket_on self.old.arrays spot.now.side spot.now.index)
             spot.now.at value)) }
     {
-        let side = spot.side;
-        let index = spot.index;
-        self.arrays.room_of(side);
-        let bucket = self.arrays.bucket_of_mut(side, index);
-        let (key, value) = bucket.entry_mut(&spot.at);
+        let (key, value) = self.arrays.entry_of_mut(spot.side, spot.index, &spot.at);
         change(key, value)
-    }
-}
-
-/// Puts a pair into a bucket, or writes its value beside the key that is equal.
-#[inline(always)]
-fn upsert_in<K: Eq + Drop, V: Drop, L: LruList, G: Generation, const TYPE: u8>(
-    bucket: &mut Bucket<K, V, L, TYPE>,
-    hash: u64,
-    key: K,
-    value: V,
-    generation: &G,
-) -> Result<Option<V>, (K, V)>
-    ensures { UpsertsIn K.eq key value (hash % 256) TYPE (G.keeps generation.now) bucket.old result
-        bucket.new }
-{
-    let at = bucket.get_entry_ptr(&key, hash);
-    if at.is_valid() {
-        return Ok(Some(mem::replace(bucket.entry_mut(&at).1, value)));
-    }
-    match bucket.insert(hash, (key, value), generation) {
-        Ok(_) => Ok(None),
-        Err(pair) => Err(pair),
     }
 }

@@ -12,8 +12,7 @@ bucket_in-requires g c =
 pub invariant_of-self-lent : goal.invariant_of-self-lent
 invariant_of-self-lent g c w =
     let at = c.place_of-part.ensures in
-    let place = place_is _ _ _ _ c.self.invariant.1 _ _ _ _ c.self.view_is c.requires at.part at.offset in
-    (
+    let place = place_is _ _ _ _ c.self.invariant.1 _ _ _ _ c.self.view_is c.requires at.part at.offset in (
       c.self.invariant.0,
       place.kept w,
       c.self.invariant.2,

@@ -1,5 +1,5 @@
 use Rattle.bucket_slots.proofs.Words.{IsMaskOf, ap, arith, flattened, is_live, part_at}
-use Rattle.bucket_slots.proofs.Words.{place_wanted, refl, rules, set, slots_with, subst, sym, vec_len, ℕ, ◌%◌, ◌<◌, ◌∙◌, ◌≡◌}
+use Rattle.bucket_slots.proofs.Words.{place_wanted, refl, rules, set, slots_with, subst, sym, vec_len, ℕ, ◌%◌, ◌<◌, ◌∙◌}
 use Rattle.bucket_slots.specs.ArrayView.{bucket_at}
 use Rattle.bucket_slots.proofs.Digests.{IsDigest-put, after_put, ready_there, said_is, set_there}
 use Rattle.bucket_slots.proofs.bucket_array.BucketArray.insert_absent.Goals as goal
@@ -20,9 +20,15 @@ returns-in-Some-clause-answer g c =
     let ready = ready_there _ _ _ _ _ _ _ _ _ _ _ _ c.self.invariant.1 c.self.view_is c.requires at.part at.offset c.self.invariant.3
     c.live-live.ensures known c.candidates-left.ensures in
     let b = bucket_at (part_at c.self.inside.parts.items c.place_of-part.result.0) c.place_of-part.result.1 in
-    let place = ap (λ key. place_wanted (λ own. g.K.PartialEq.eq own key) (c.args.hash % 256) b) c.new.ensures.key in
-    (refl, refl, (c.in-Some._found.0, ap (place_wanted (λ own. g.K.PartialEq.eq own c.args.key) (c.args.hash % 256)) (sym ready.place.read)
-    ∙ sym place ∙ sym c.in-Some.ensures.place))
+    let place = ap (λ key. place_wanted (λ own. g.K.PartialEq.eq own key) (c.args.hash % 256) b) c.new.ensures.key in (
+      refl,
+      refl,
+      (
+        c.in-Some._found.0,
+        ap (place_wanted (λ own. g.K.PartialEq.eq own c.args.key) (c.args.hash % 256)) (sym ready.place.read)
+            ∙ sym place ∙ sym c.in-Some.ensures.place,
+      ),
+    )
 
 pub fill_in-pos-requires : goal.fill_in-pos-requires
 fill_in-pos-requires g c =

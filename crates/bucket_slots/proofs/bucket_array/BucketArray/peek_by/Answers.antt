@@ -1,4 +1,4 @@
-use Rattle.bucket_slots.proofs.Words.{ap, arith, length, place_wanted, refl, rules, sym, vec_len, ◌%◌, ◌<◌, ◌∙◌, ◌≡◌}
+use Rattle.bucket_slots.proofs.Words.{arith, rules, vec_len, ◌<◌}
 use Rattle.bucket_slots.proofs.Digests.{ready_there, said_is}
 use Rattle.bucket_slots.proofs.bucket_array.BucketArray.peek_by.Goals as goal
 

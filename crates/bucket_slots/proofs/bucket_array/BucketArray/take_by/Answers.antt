@@ -1,5 +1,5 @@
-use Rattle.bucket_slots.proofs.Words.{ap, arith, flattened, part_at, set, slots_without, length, place_wanted, refl, rules, sym, vec_len, ◌%◌, ◌<◌, ◌∙◌, ◌≡◌}
-use Rattle.bucket_slots.proofs.Digests.{IsDigest-freed, ready_there, said_is, set_there, without_own}
+use Rattle.bucket_slots.proofs.Words.{ap, arith, flattened, part_at, set, slots_without, place_wanted, refl, rules, sym, vec_len, ◌%◌, ◌<◌, ◌∙◌}
+use Rattle.bucket_slots.proofs.Digests.{IsDigest-freed, live_counted, ready_there, said_is, set_there, without_own}
 use Rattle.bucket_slots.specs.ArrayView.{bucket_at}
 use Rattle.bucket_slots.proofs.CallerLemmas.{live_from_pair}
 use Rattle.bucket_slots.proofs.bucket_array.BucketArray.take_by.Goals as goal
@@ -23,18 +23,18 @@ returns-in-None-clause-taken g c =
     c.live-live.ensures known c.candidates-left.ensures in
     (refl, ap (place_wanted (g.P.KeyProbe.wants c.args.probe.now) (c.args.hash % 256)) (sym ready.place.read) ∙ sym c.in-None.ensures.place)
 
-pub remove_in-taken-requires : goal.remove_in-taken-requires
-remove_in-taken-requires g c =
+pub remove_in-pair-requires : goal.remove_in-pair-requires
+remove_in-pair-requires g c =
     let at = c.place_of-part.ensures in
     let known = said_is _ c.live-live.result c.is_lost.ensures.1 c.if-is_lost.false in
     let ready = ready_there _ _ _ _ _ _ _ _ _ _ _ _ c.self.invariant.1 c.self.view_is c.requires.within at.part at.offset c.self.invariant.3
     c.live-live.ensures known c.candidates-left.ensures in
     let within : c.place_of-part.result.0 < vec_len c.self.inside.parts = omega (arith, c.self.inside.parts.ok.0, ready.place.within) in
     let alive = live_from_pair _ _ c.in-Some.ensures.pair in
-    (search rules, (search rules, (c.room.ensures.fits, (c.requires.not_index, (within, (ready.place.inside, alive))))))
+    (search rules, (search rules, (c.room.ensures.fits, (c.requires.not_index, (within, (ready.place.inside, (c.in-Some.ensures.own.0, alive)))))))
 
-pub free-requires-clause-known : goal.free-requires-clause-known
-free-requires-clause-known g c =
+pub free-left-requires-clause-known : goal.free-left-requires-clause-known
+free-left-requires-clause-known g c =
     let known = said_is _ c.live-live.result c.is_lost.ensures.1 c.if-is_lost.false in
     λ lost. known (c.live-live.ensures ∙ lost)
 
@@ -47,14 +47,14 @@ invariant_of-self g c =
     let own = c.in-Some.ensures.own in
     let b = bucket_at (part_at c.self.inside.parts.items c.place_of-part.result.0) c.place_of-part.result.1 in
     let left = slots_without b c.in-Some.at in
-    let bits = rw c.pos-pos.ensures at c.free.ensures.live in
+    let bits = rw c.pos-pos.ensures at c.free-left.ensures.live in
     let without = without_own b c.in-Some.at own.0 in
-    let after = set_there _ _ _ _ _ _ _ _ ready.place c.self.view_is c.requires.within _ _ c.self.invariant.3 c.free.ensures.others left
-    (λ said. IsDigest-freed _ _ b left _ ready.digest_is own.1 bits c.free.ensures.bytes without.0 without.1) in (
+    let after = set_there _ _ _ _ _ _ _ _ ready.place c.self.view_is c.requires.within _ _ c.self.invariant.3 c.free-left.ensures.others left
+    (λ said. IsDigest-freed _ _ b left _ ready.digest_is own.1 bits c.free-left.ensures.bytes without.0 without.1) in (
       c.self.invariant.0,
-      rw c.remove_in-taken.ensures.parts (ready.place.kept left),
+      rw c.remove_in-pair.ensures.parts (ready.place.kept left),
       c.self.invariant.2,
-      rw c.remove_in-taken.ensures.parts after,
+      rw c.remove_in-pair.ensures.parts after,
     )
 
 pub returns-clause-taken : goal.returns-clause-taken
@@ -63,11 +63,16 @@ returns-clause-taken g c =
     let known = said_is _ c.live-live.result c.is_lost.ensures.1 c.if-is_lost.false in
     let ready = ready_there _ _ _ _ _ _ _ _ _ _ _ _ c.self.invariant.1 c.self.view_is c.requires.within at.part at.offset c.self.invariant.3
     c.live-live.ensures known c.candidates-left.ensures in
+    let own = c.in-Some.ensures.own in
+    let b = bucket_at (part_at c.self.inside.parts.items c.place_of-part.result.0) c.place_of-part.result.1 in
+    let bits = rw c.pos-pos.ensures at c.free-left.ensures.live in
+    let without = without_own b c.in-Some.at own.0 in
     let read = ready.place.read in record {
       at = c.in-Some.at;
       found = ap (place_wanted (g.P.KeyProbe.wants c.args.probe.now) (c.args.hash % 256)) (sym read) ∙ sym c.in-Some.ensures.place;
-      taken = rw (← read) c.remove_in-taken.ensures.pair;
-      changed = ap flattened c.remove_in-taken.ensures.parts ∙ ready.place.written _
+      taken = rw (← read) c.remove_in-pair.ensures.pair;
+      changed = ap flattened c.remove_in-pair.ensures.parts ∙ ready.place.written _
           ∙ ap (λ b. set c.args.self.now c.args.index (slots_without b c.in-Some.at)) read;
-      left_is = rw (← read) c.remove_in-taken.ensures.left;
+      left_is = rw (← read) (c.free-left.ensures.left ∙ live_counted _ (slots_without b c.in-Some.at)
+          (IsDigest-freed _ _ b (slots_without b c.in-Some.at) _ ready.digest_is own.1 bits c.free-left.ensures.bytes without.0 without.1));
     }

@@ -1,4 +1,4 @@
-use Rattle.bucket_slots.proofs.Words.{ap, length, pairs_in, rules, set, set-get_or, slots_without, sym, ◌%◌, ◌∙◌}
+use Rattle.bucket_slots.proofs.Words.{ap, length, pairs_in, rules, set, set-get_or, ◌%◌, ◌∙◌}
 use Rattle.bucket_slots.proofs.CallerLemmas.{live_from_pair}
 use Rattle.bucket_slots.proofs.Digests.{null_at}
 use Rattle.bucket_slots.proofs.SearchCallerLemmas.{found_pair}

@@ -1,7 +1,10 @@
-use Rattle.bucket_slots.proofs.Words.{ap, length, pairs_in, slots_without, ◌∙◌}
+use Rattle.bucket_slots.proofs.Words.{rules}
+use Rattle.bucket_slots.specs.ArrayView.{bucket_at}
+use Rattle.bucket_slots.specs.Layout.ArrayParts.{part_at}
 use Rattle.bucket_slots.proofs.bucket_array.digested.remove_in.Goals as goal
 
-pub returns-clause-left : goal.returns-clause-left
-returns-clause-left g c =
-    c.len.ensures ∙ ap (λ b. length (pairs_in b))
-    (c.remove-pair.ensures.slots ∙ ap (λ b. slots_without b c.args.at) c.bucket_in-bucket.ensures.bucket)
+pub made_bucket_in-requires : goal.made_bucket_in-requires
+made_bucket_in-requires g c =
+    let b = bucket_at (part_at c.args.parts.now.items c.args.part) c.args.offset in
+    let alive = rw c.requires.own at c.requires.live_slot in
+    (search rules, (search rules, (c.requires.fits, (c.requires.within, (c.requires.offset, (c.args.at.pos, alive))))))

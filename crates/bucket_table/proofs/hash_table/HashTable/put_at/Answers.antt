@@ -1,4 +1,5 @@
-use Rattle.bucket_table.proofs.Words.{arith, refl, sym, ◌∙◌}
+use Rattle.bucket_table.proofs.Words.{arith, length-set, refl, sym, ◌∙◌}
+use Rattle.bucket_table.proofs.Views.SideChanges.{buckets_on-arrays_with}
 use Rattle.bucket_table.proofs.Map.Putting.{put_leaves}
 use Rattle.bucket_table.proofs.hash_table.HashTable.put_at.Goals as goal
 
@@ -8,19 +9,24 @@ bucket_of_mut-bucket-requires g c = (omega arith, (c.room_of.ensures, rw (← c.
 pub invariant_of-self : goal.invariant_of-self
 invariant_of-self g c =
     let own = rw (← c.self.view_is) at c.requires.own_hash in
-    (put_leaves g.met.K.Eq.laws g.H.KeyHash.hash_of g.row.TYPE c.args.side c.args.index c.self.invariant
-    (rw (← c.self.view_is) at c.requires.locked) c.put_in.result c.put_in.new.bucket g.L.LruList.KEEPS c.args.key c.args.value c.args.hash
+    rw c.settle_on.ensures (put_leaves g.met.K.Eq.laws g.H.KeyHash.hash_of g.row.TYPE c.args.side c.args.index c.self.invariant
+    (rw (← c.self.view_is) at c.requires.locked) c.put_in-done.result c.put_in-done.new.bucket g.L.LruList.KEEPS c.args.key c.args.value c.args.hash
     (λ found equal. g.met.H.KeyHash.alike c.self.inside.hasher found c.args.key equal ∙ sym own) own
-    (rw (← c.self.view_is) at c.requires.home) c.requires.cache (rw c.bucket_of_mut-bucket.ensures.bucket at c.put_in.ensures)).one_map
+    (rw (← c.self.view_is) at c.requires.home) c.requires.cache (rw c.bucket_of_mut-bucket.ensures.bucket at c.put_in-done.ensures)).one_map
 
 pub returns-clause-map : goal.returns-clause-map
 returns-clause-map g c =
     let own = rw (← c.self.view_is) at c.requires.own_hash in
-    rw (← c.self.view_is) (put_leaves g.met.K.Eq.laws g.H.KeyHash.hash_of g.row.TYPE c.args.side c.args.index c.self.invariant
-    (rw (← c.self.view_is) at c.requires.locked) c.put_in.result c.put_in.new.bucket g.L.LruList.KEEPS c.args.key c.args.value c.args.hash
+    rw (c.settle_on.ensures, ← c.self.view_is) (put_leaves g.met.K.Eq.laws g.H.KeyHash.hash_of g.row.TYPE c.args.side c.args.index c.self.invariant
+    (rw (← c.self.view_is) at c.requires.locked) c.put_in-done.result c.put_in-done.new.bucket g.L.LruList.KEEPS c.args.key c.args.value c.args.hash
     (λ found equal. g.met.H.KeyHash.alike c.self.inside.hasher found c.args.key equal ∙ sym own) own
-    (rw (← c.self.view_is) at c.requires.home) c.requires.cache (rw c.bucket_of_mut-bucket.ensures.bucket at c.put_in.ensures)).map
+    (rw (← c.self.view_is) at c.requires.home) c.requires.cache (rw c.bucket_of_mut-bucket.ensures.bucket at c.put_in-done.ensures)).map
 
 pub returns-clause-bucket : goal.returns-clause-bucket
 returns-clause-bucket g c =
-    rw (← c.self.view_is) (c.put_in.new.bucket, rw c.bucket_of_mut-bucket.ensures.bucket at c.put_in.ensures, refl)
+    rw (c.settle_on.ensures, ← c.self.view_is) (c.put_in-done.new.bucket, rw c.bucket_of_mut-bucket.ensures.bucket at c.put_in-done.ensures, refl)
+
+pub settle_on-requires : goal.settle_on-requires
+settle_on-requires g c =
+    let within = rw (← c.self.view_is) at c.requires.locked.within in
+    (omega arith, rw (buckets_on-arrays_with c.self.inside.arrays c.args.side c.args.index _) (simp length-set within))

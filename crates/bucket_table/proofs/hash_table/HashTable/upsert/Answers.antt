@@ -1,45 +1,10 @@
-use Rattle.bucket_table.proofs.Words.{Err, refl}
-use Rattle.bucket_table.specs.Map.MapState.{state_of}
-use Rattle.bucket_table.proofs.Map.TakeSteps.{absent_before, same_taken}
-use Rattle.bucket_table.proofs.Map.Upserting.{found_upserted, then_upserted}
-use Rattle.bucket_table.proofs.Scripts.CallSteps.{then_changed}
+use Rattle.bucket_table.specs.declared.arrays.side.Side.TheVariants.{Current}
+use Rattle.bucket_table.proofs.Map.Upserting.{found_upserted}
 use Rattle.bucket_table.proofs.hash_table.HashTable.upsert.Goals as goal
 
-pub returns-in-Ok-clause-map : goal.returns-in-Ok-clause-map
-returns-in-Ok-clause-map g c =
-    then_upserted g.K.PartialEq.eq c.args.key c.args.value (state_of g.row.TYPE c.args.self.now) (state_of g.row.TYPE c.find.new.self) _
-    c.upsert_at.result c.in-Ok.ensures.map c.upsert_at.ensures.map
-
-pub returns-in-Ok-clause-arrays : goal.returns-in-Ok-clause-arrays
-returns-in-Ok-clause-arrays g c =
+pub returns-in-Some-clause-arrays : goal.returns-in-Some-clause-arrays
+returns-in-Some-clause-arrays g c =
     let (left, put, is) = c.upsert_at.ensures.bucket in
     found_upserted g.K.PartialEq.eq g.row.TYPE c.hash-hash.result (g.H.KeyHash.hash_of c.args.self.now.hasher c.args.key)
-    (g.G.Generation.keeps c.args.generation.now) c.args.key c.args.value c.args.self.now c.find.new.self c.upsert_at.new.self
-    c.in-Ok.side c.in-Ok.index c.upsert_at.result left c.hash-hash.ensures c.in-Ok.ensures put is
-
-pub returns-in-Some-clause-map : goal.returns-in-Some-clause-map
-returns-in-Some-clause-map g c =
-    let stands = c.in-Some.ensures.found in
-    let wrote = c.swap_at.ensures.map in (
-      wrote.0,
-      same_taken (λ own. g.K.PartialEq.eq own c.args.key) _ _ stands.pair (wrote.0, c.swap_at.result) stands.slot stands.there wrote.1,
-      then_changed (state_of g.row.TYPE c.args.self.now) (state_of g.row.TYPE c.find.new.self)
-          (state_of g.row.TYPE c.swap_at.new.self) (wrote.0, c.swap_at.result) c.args.value c.in-Err.ensures.prepared.map wrote.2,
-    )
-
-pub returns-in-Some-clause-arrays : goal.returns-in-Some-clause-arrays
-returns-in-Some-clause-arrays g c = record {
-  answer = Err tt;
-  between = c.find.new.self;
-  found = rw c.hash-hash.ensures at c.in-Err.ensures;
-  done = (c.in-Some.spot.side, c.in-Some.spot.index, c.in-Some.spot.at, c.in-Some.ensures.found, c.swap_at.ensures.table);
-}
-
-pub returns-in-None-clause-map : goal.returns-in-None-clause-map
-returns-in-None-clause-map g c =
-    let keeps = c.in-Err.ensures.prepared.map in
-    (refl, absent_before (λ own. g.K.PartialEq.eq own c.args.key) _ _ keeps c.in-None.ensures.absent, keeps)
-
-pub returns-in-None-clause-arrays : goal.returns-in-None-clause-arrays
-returns-in-None-clause-arrays g c =
-    record { answer = Err tt; between = c.find.new.self; found = rw c.hash-hash.ensures at c.in-Err.ensures; done = refl }
+    (g.G.Generation.keeps c.args.generation.now) c.args.key c.args.value c.args.self.now c.args.self.now c.upsert_at.new.self
+    Current c.in-Some.index c.upsert_at.result left c.hash-hash.ensures c.in-Some.ensures put is

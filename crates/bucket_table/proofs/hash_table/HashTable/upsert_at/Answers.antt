@@ -1,28 +1,28 @@
-use Rattle.bucket_table.proofs.Words.{arith, refl, sym, ◌∙◌}
+use Rattle.bucket_table.proofs.Words.{refl, sym, ◌∙◌}
 use Rattle.bucket_table.proofs.Map.Upserting.{upserted}
 use Rattle.bucket_table.proofs.hash_table.HashTable.upsert_at.Goals as goal
-
-pub bucket_of_mut-bucket-requires : goal.bucket_of_mut-bucket-requires
-bucket_of_mut-bucket-requires g c = (omega arith, (c.room_of.ensures, rw (← c.self.view_is) at c.requires.locked.within))
 
 pub invariant_of-self : goal.invariant_of-self
 invariant_of-self g c =
     let own = rw (← c.self.view_is) at c.requires.own_hash in
-    (upserted g.met.K.Eq.laws g.H.KeyHash.hash_of g.row.TYPE c.args.side c.args.index c.self.invariant
-    (rw (← c.self.view_is) at c.requires.locked) c.upsert_in.result c.upsert_in.new.bucket
+    let (left, put, is) = c.upsert_home.ensures in
+    rw is (upserted g.met.K.Eq.laws g.H.KeyHash.hash_of g.row.TYPE c.args.side c.args.index c.self.invariant
+    (rw (← c.self.view_is) at c.requires.locked) c.upsert_home.result left
     (g.G.Generation.keeps c.args.generation.now) c.args.key c.args.value c.args.hash
     (λ found equal. g.met.H.KeyHash.alike c.self.inside.hasher found c.args.key equal ∙ sym own) own
-    (rw (← c.self.view_is) at c.requires.home) (rw c.bucket_of_mut-bucket.ensures.bucket at c.upsert_in.ensures)).one_map
+    (rw (← c.self.view_is) at c.requires.home) put).one_map
 
 pub returns-clause-map : goal.returns-clause-map
 returns-clause-map g c =
     let own = rw (← c.self.view_is) at c.requires.own_hash in
-    rw (← c.self.view_is) (upserted g.met.K.Eq.laws g.H.KeyHash.hash_of g.row.TYPE c.args.side c.args.index c.self.invariant
-    (rw (← c.self.view_is) at c.requires.locked) c.upsert_in.result c.upsert_in.new.bucket
+    let (left, put, is) = c.upsert_home.ensures in
+    rw (← c.self.view_is, is) (upserted g.met.K.Eq.laws g.H.KeyHash.hash_of g.row.TYPE c.args.side c.args.index c.self.invariant
+    (rw (← c.self.view_is) at c.requires.locked) c.upsert_home.result left
     (g.G.Generation.keeps c.args.generation.now) c.args.key c.args.value c.args.hash
     (λ found equal. g.met.H.KeyHash.alike c.self.inside.hasher found c.args.key equal ∙ sym own) own
-    (rw (← c.self.view_is) at c.requires.home) (rw c.bucket_of_mut-bucket.ensures.bucket at c.upsert_in.ensures)).map
+    (rw (← c.self.view_is) at c.requires.home) put).map
 
 pub returns-clause-bucket : goal.returns-clause-bucket
 returns-clause-bucket g c =
-    rw (← c.self.view_is) (c.upsert_in.new.bucket, rw c.bucket_of_mut-bucket.ensures.bucket at c.upsert_in.ensures, refl)
+    let (left, put, is) = c.upsert_home.ensures in
+    rw (← c.self.view_is, is) (left, put, refl)

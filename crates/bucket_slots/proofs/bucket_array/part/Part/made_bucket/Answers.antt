@@ -1,4 +1,4 @@
-use Rattle.bucket_slots.proofs.Words.{arith, ◌∙◌}
+use Rattle.bucket_slots.proofs.Words.{arith}
 use Rattle.bucket_slots.proofs.ArrayParts.{part_read}
 use Rattle.bucket_slots.proofs.Digests.{made_there}
 use Rattle.bucket_slots.proofs.bucket_array.part.Part.made_bucket.Goals as goal

@@ -4,28 +4,23 @@ use Rattle.bucket_table.proofs.Map.MapSteps.{wrote}
 use Rattle.bucket_table.proofs.Views.SideChanges.{changeable_locked}
 use Rattle.bucket_table.proofs.hash_table.locked_bucket.LockedBucket.entry_mut.Goals as goal
 
-pub bucket_of_mut-bucket-requires : goal.bucket_of_mut-bucket-requires
-bucket_of_mut-bucket-requires g c = (omega arith, (c.room_of.ensures, rw (← c.table.view_is) at c.args.self.now.locked.within))
-
-pub entry_mut-requires : goal.entry_mut-requires
-entry_mut-requires g c =
-    (c.room_of.ensures, (omega arith, rw c.bucket_of_mut-bucket.ensures.bucket (rw (← c.table.view_is) at c.requires.live_slot)))
+pub entry_of_mut-requires : goal.entry_of_mut-requires
+entry_of_mut-requires g c =
+    (omega arith, (omega arith, (rw (← c.table.view_is) at c.args.self.now.locked.within, rw (← c.table.view_is) at c.requires.live_slot)))
 
 pub invariant_of-table-lent : goal.invariant_of-table-lent
 invariant_of-table-lent g c w =
     let o = c.args.self.now in
     let locked = rw (← c.table.view_is) at o.locked in
-    rw c.bucket_of_mut-bucket.ensures.bucket (wrote g.met.K.Eq.laws g.H.KeyHash.hash_of g.row.TYPE o.side o.index c.table.invariant
-    (changeable_locked _ _ _ locked) (c.entry_mut.result.0.now, c.entry_mut.result.1.now) w c.args.at.now
-    (rw c.bucket_of_mut-bucket.ensures.bucket at c.entry_mut.ensures.pair)).one_map
+    (wrote g.met.K.Eq.laws g.H.KeyHash.hash_of g.row.TYPE o.side o.index c.table.invariant (changeable_locked _ _ _ locked)
+    (c.entry_of_mut.result.0.now, c.entry_of_mut.result.1.now) w c.args.at.now c.entry_of_mut.ensures.pair).one_map
 
 pub invariant_of-self-lent : goal.invariant_of-self-lent
 invariant_of-self-lent g c w =
     let o = c.args.self.now in
     let locked = rw (← c.table.view_is) at o.locked in (
-      rw c.bucket_of_mut-bucket.ensures.bucket ((wrote g.met.K.Eq.laws g.H.KeyHash.hash_of g.row.TYPE o.side o.index c.table.invariant
-          (changeable_locked _ _ _ locked) (c.entry_mut.result.0.now, c.entry_mut.result.1.now) w c.args.at.now
-          (rw c.bucket_of_mut-bucket.ensures.bucket at c.entry_mut.ensures.pair)).locked locked),
+      (wrote g.met.K.Eq.laws g.H.KeyHash.hash_of g.row.TYPE o.side o.index c.table.invariant (changeable_locked _ _ _ locked)
+          (c.entry_of_mut.result.0.now, c.entry_of_mut.result.1.now) w c.args.at.now c.entry_of_mut.ensures.pair).locked locked,
       tt,
     )
 
@@ -33,13 +28,13 @@ pub returns : goal.returns
 returns g c =
     let o = c.args.self.now in
     let locked = rw (← c.table.view_is) at o.locked in
-    let same : (w : g.row.V.Denot) → _ ≡ _ = λ w. rw (← c.table.view_is, c.bucket_of_mut-bucket.ensures.bucket) refl in (
+    let same : (w : g.row.V.Denot) → _ ≡ _ = λ w. rw (← c.table.view_is) refl in (
       (refl, λ w. locked_over-same c.args.self.now _ _ _ _ (same w)),
       record {
         writes_back = tt;
-        pair = rw (← c.table.view_is) (rw c.bucket_of_mut-bucket.ensures.bucket at c.entry_mut.ensures.pair);
+        pair = rw (← c.table.view_is) c.entry_of_mut.ensures.pair;
         map = λ w. rw (← c.table.view_is) (wrote g.met.K.Eq.laws g.H.KeyHash.hash_of g.row.TYPE o.side o.index c.table.invariant
-            (changeable_locked _ _ _ locked) (c.entry_mut.result.0.now, c.entry_mut.result.1.now) w c.args.at.now
-            (rw c.bucket_of_mut-bucket.ensures.bucket at c.entry_mut.ensures.pair)).map;
+            (changeable_locked _ _ _ locked) (c.entry_of_mut.result.0.now, c.entry_of_mut.result.1.now) w c.args.at.now
+            c.entry_of_mut.ensures.pair).map;
       },
     )
