@@ -40,7 +40,7 @@ use crate::data_block::DataBlock;
 use crate::lru::LruList;
 pub use digested::NotPut;
 use digests::Digests;
-use part::{Part, bucket_in, release_in, release_to_in, spare_buckets, spread_in};
+use part::{Part, bucket_in, place_in, release_in, release_to_in, spare_buckets, spread_in};
 use sizing::{LEAST_PART_BITS, MINIMUM_CAPACITY};
 pub use sizing::{MAXIMUM_SLOTS, full_sample_size_of, large_sample_size_of, small_sample_size_of};
 use std::alloc::Global;
@@ -154,7 +154,7 @@ impl<K: Drop, V: Drop, L: LruList, const TYPE: u8> BucketArray<K, V, L, TYPE> {
         ensures { SpreadsSome TYPE (λ key answer. F.post hash_of.now key answer)
             (IsHome (length self.old)) 0 source.old self.old source.new self.new }
     {
-        let len = end.saturating_sub(start);
+        let len = sizing::span(start, end);
         if len < 2 {
             return;
         }
@@ -165,7 +165,14 @@ impl<K: Drop, V: Drop, L: LruList, const TYPE: u8> BucketArray<K, V, L, TYPE> {
             return;
         }
         self.room();
-        let (part, offset) = sizing::place_of(start, self.part_bits, self.part_mask);
+        let (part, offset) = place_in(
+            &self.parts,
+            &self.spare,
+            self.len,
+            self.part_bits,
+            self.part_mask,
+            start,
+        );
         spread_in(
             &mut self.parts,
             part,
@@ -190,11 +197,20 @@ impl<K: Drop, V: Drop, L: LruList + Drop, const TYPE: u8> BucketArray<K, V, L, T
         requires { index < length self.old }
         ensures { self.new ≡ self.old }
     {
-        self.room();
-        if LEAST_PART_BITS < self.part_bits {
-            let (part, _offset) = sizing::place_of(index, self.part_bits, self.part_mask);
-            release_in(&mut self.parts, part);
+        if self.part_bits <= LEAST_PART_BITS {
+            return;
         }
+        self.room();
+        sizing::below(index, self.len);
+        let (part, _offset) = place_in(
+            &self.parts,
+            &self.spare,
+            self.len,
+            self.part_bits,
+            self.part_mask,
+            index,
+        );
+        release_in(&mut self.parts, part);
     }
 
     /// Lets the buckets of the part around a bucket go, where every one is killed and holds
@@ -212,12 +228,23 @@ impl<K: Drop, V: Drop, L: LruList + Drop, const TYPE: u8> BucketArray<K, V, L, T
             self.release_around(index);
             return;
         }
-        self.room();
-        let (part, _offset) = sizing::place_of(index, self.part_bits, self.part_mask);
-        if release_to_in(&mut self.parts, part, &mut to.parts) {
+        if self.exchange_around(index, to) {
             return;
         }
         self.release_around(index);
+    }
+
+    /// Lets the buckets of the part around a bucket go, and exchanges their memory with that of a
+    /// part of another array that has none made. Returns whether there is such a part. No bucket
+    /// changes.
+    fn exchange_around(&mut self, index: usize, to: &mut Self) -> bool
+        requires { index < length self.old }
+        ensures kept { self.new ≡ self.old }
+        ensures other { to.new ≡ to.old }
+    {
+        self.room();
+        let (part, _offset) = sizing::place_of(index, self.part_bits, self.part_mask);
+        release_to_in(&mut self.parts, part, &mut to.parts)
     }
 }
 
@@ -318,7 +345,15 @@ impl<K, V, L: LruList, const TYPE: u8> BucketArray<K, V, L, TYPE> {
         ensures bucket { result.now ≡ bucket_at self.old index }
     {
         self.room();
-        let (part, offset) = sizing::place_of(index, self.part_bits, self.part_mask);
+        sizing::below(index, self.len);
+        let (part, offset) = place_in(
+            &self.parts,
+            &self.spare,
+            self.len,
+            self.part_bits,
+            self.part_mask,
+            index,
+        );
         self.digests.lose(index);
         bucket_in(&mut self.parts, part, offset)
     }

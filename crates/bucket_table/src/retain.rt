@@ -1,5 +1,5 @@
 //! Taking out of a bucket what a test refuses.
-ghost use Rattle.std.specs.Prelude.{◌≡◌, ◌≢◌, Some, IsTrue, ℕ};
+ghost use Rattle.std.specs.Prelude.{◌≡◌, ◌≢◌, Some, IsTrue, ℕ, length};
 ghost use Rattle.bucket_slots.specs.BucketView.{slot_in};
 ghost use Rattle.bucket_slots.specs.Slots.{is_live, live_pair};
 ghost use Rattle.bucket_slots.specs.Walking.{pairs_ahead};
@@ -76,7 +76,6 @@ pub(crate) fn retain_each_in<
     ensures left { IsLeftOf TYPE (G.epoch_of generation.now) bucket.old bucket.new }
 {
     let before = bucket.len();
-    bucket.sound();
     let mut at = retain_front(bucket, keep);
     'own: while at.find_next_here(bucket) {
         drop(ask_slot(bucket, &mut at, keep, true, generation));
@@ -101,6 +100,7 @@ fn retain_front<K: Drop, V: Drop, L: LruList, F: FnMut(&K, &mut V) -> bool, cons
         (λ state own before answer after last. F.step state own before answer after last)
         keep.old bucket.old result bucket.new keep.new }
     ensures left { (epoch : ℕ) → IsLeftOf TYPE epoch bucket.old bucket.new }
+    ensures own_long { length bucket.old.own ≡ BUCKET_LEN }
 {
     bucket.sound();
     if TYPE == INDEX || TYPE == CACHE {

@@ -1,16 +1,17 @@
 //! Calls on a bucket of an array that ask its digest first.
 //!
 //! Own.
-ghost use Rattle.std.specs.Prelude.{◌≡◌, ◌≢◌, ◌%◌, ◌+◌, ◌-◌, ◌^◌, ◌<◌, ◌≤◌, OnErr, OnOk, Some, [], IfSome, IsTrue, length, option_map, slice_set, vec_len};
+ghost use Rattle.std.specs.Prelude.{◌≡◌, ◌≢◌, ◌==◌, ◌/◌, ◌%◌, ◌+◌, ◌-◌, ◌^◌, ◌<◌, ◌≤◌, bit_and, OnErr, OnOk, Some, ℕ, [], IfSome, IsTrue, length, option_map, slice_set, vec_len};
 ghost use Rattle.std.specs.Borrow.{sem};
 ghost use Rattle.std.specs.List.{position};
 ghost use Rattle.bucket_slots.specs.ArrayRoom.{BucketFits};
 ghost use Rattle.bucket_slots.specs.ArrayView.{bucket_at};
-ghost use Rattle.bucket_slots.specs.BucketView.{BucketView, pairs_in, slot_in};
+ghost use Rattle.bucket_slots.specs.BucketView.{BucketView, flattened, pairs_in, slot_in};
 ghost use Rattle.bucket_slots.specs.Clearing.{slots_after_insertion};
 ghost use Rattle.bucket_slots.specs.Evicting.{slots_touched};
 ghost use Rattle.bucket_slots.specs.Digested.{AnswersPut, TakesWanted, UpsertsIn};
-ghost use Rattle.bucket_slots.specs.Layout.ArrayParts.{part_at};
+ghost use Rattle.bucket_slots.specs.Layout.ArrayParts.{AreParts, part_at};
+ghost use Rattle.bucket_slots.specs.Layout.Digests.{AreDigests, digest_at};
 ghost use Rattle.bucket_slots.specs.Masks.{IsMaskOf};
 ghost use Rattle.bucket_slots.specs.Places.{pair_lent};
 ghost use Rattle.bucket_slots.specs.Placing.{slots_with};
@@ -19,9 +20,9 @@ ghost use Rattle.bucket_slots.specs.Searching.{has_byte, matching_len, pair_want
 ghost use Rattle.bucket_slots.specs.Slots.{is_free, is_live, live_pair};
 
 use super::digests::{Digests, is_lost};
-use super::part::{Part, bucket_in, made_bucket_in};
+use super::part::{Part, bucket_in, made_bucket_in, place_in};
 use super::{BucketArray, sizing};
-use crate::bucket::{CACHE, EntryPtr, EqProbe, Generation, INDEX, KeyProbe};
+use crate::bucket::{Bucket, CACHE, EntryPtr, EqProbe, Generation, INDEX, KeyProbe};
 use crate::lru::LruList;
 use std::alloc::Global;
 use std::mem;
@@ -59,7 +60,20 @@ impl<K, V, L: LruList, const TYPE: u8> BucketArray<K, V, L, TYPE> {
         }
         let byte = (hash % 256) as u8;
         let left = self.digests.candidates(index, live, byte);
-        let (part, offset) = sizing::place_of(index, self.part_bits, self.part_mask);
+        sizing::below(index, self.len);
+        prove!(live != u32::MAX);
+        let (part, offset) = known_in(
+            &self.parts,
+            &self.spare,
+            &self.digests,
+            self.len,
+            self.part_bits,
+            self.part_mask,
+            index,
+            live,
+            left,
+            byte,
+        );
         peek_in(&self.parts, part, offset, left, byte, probe)
     }
 
@@ -93,7 +107,20 @@ impl<K, V, L: LruList, const TYPE: u8> BucketArray<K, V, L, TYPE> {
         }
         let byte = (hash % 256) as u8;
         let left = self.digests.candidates(index, live, byte);
-        let (part, offset) = sizing::place_of(index, self.part_bits, self.part_mask);
+        sizing::below(index, self.len);
+        prove!(live != u32::MAX);
+        let (part, offset) = known_in(
+            &self.parts,
+            &self.spare,
+            &self.digests,
+            self.len,
+            self.part_bits,
+            self.part_mask,
+            index,
+            live,
+            left,
+            byte,
+        );
         match find_in(&self.parts, part, offset, left, byte, probe) {
             Some((at, _, _)) => Some(at),
             None => None,
@@ -113,7 +140,15 @@ impl<K, V, L: LruList, const TYPE: u8> BucketArray<K, V, L, TYPE> {
             ≡ Some (result.0.now, result.1.now) }
     {
         self.room();
-        let (part, offset) = sizing::place_of(index, self.part_bits, self.part_mask);
+        sizing::below(index, self.len);
+        let (part, offset) = place_in(
+            &self.parts,
+            &self.spare,
+            self.len,
+            self.part_bits,
+            self.part_mask,
+            index,
+        );
         bucket_in(&mut self.parts, part, offset).entry_mut(at)
     }
 
@@ -126,7 +161,15 @@ impl<K, V, L: LruList, const TYPE: u8> BucketArray<K, V, L, TYPE> {
             (slots_touched L.KEEPS (bucket_at self.old index) at.now) }
     {
         self.room();
-        let (part, offset) = sizing::place_of(index, self.part_bits, self.part_mask);
+        sizing::below(index, self.len);
+        let (part, offset) = place_in(
+            &self.parts,
+            &self.spare,
+            self.len,
+            self.part_bits,
+            self.part_mask,
+            index,
+        );
         bucket_in(&mut self.parts, part, offset).update_lru_tail(at);
     }
 
@@ -203,7 +246,20 @@ impl<K: Drop, V: Drop, L: LruList, const TYPE: u8> BucketArray<K, V, L, TYPE> {
         }
         let byte = (hash % 256) as u8;
         let left = self.digests.candidates(index, live, byte);
-        let (part, offset) = sizing::place_of(index, self.part_bits, self.part_mask);
+        sizing::below(index, self.len);
+        prove!(live != u32::MAX);
+        let (part, offset) = known_in(
+            &self.parts,
+            &self.spare,
+            &self.digests,
+            self.len,
+            self.part_bits,
+            self.part_mask,
+            index,
+            live,
+            left,
+            byte,
+        );
         let at = match find_in(&self.parts, part, offset, left, byte, probe) {
             Some((at, _, _)) => at,
             None => return None,
@@ -266,7 +322,20 @@ impl<K: Drop, V: Drop, L: LruList, const TYPE: u8> BucketArray<K, V, L, TYPE> {
         }
         let byte = (hash % 256) as u8;
         let left = self.digests.candidates(index, live, byte);
-        let (part, offset) = sizing::place_of(index, self.part_bits, self.part_mask);
+        sizing::below(index, self.len);
+        prove!(live != u32::MAX);
+        let (part, offset) = known_in(
+            &self.parts,
+            &self.spare,
+            &self.digests,
+            self.len,
+            self.part_bits,
+            self.part_mask,
+            index,
+            live,
+            left,
+            byte,
+        );
         if let Some(_found) = find_in(
             &self.parts,
             part,
@@ -348,6 +417,42 @@ impl<K: Drop, V: Drop, L: LruList, const TYPE: u8> BucketArray<K, V, L, TYPE> {
     }
 }
 
+/// Returns the part in which a bucket stands whose digest is known, and its offset there: its live own
+/// slots, those of them with a byte, and that it has no chain.
+#[inline(always)]
+fn known_in<K, V, L: LruList, const TYPE: u8>(
+    parts: &Vec<Part<K, V, L, TYPE>>,
+    spare: &Vec<Bucket<K, V, L, TYPE>>,
+    digests: &Digests,
+    len: usize,
+    part_bits: u32,
+    part_mask: usize,
+    index: usize,
+    live: u32,
+    candidates: u32,
+    byte: u8,
+) -> (usize, usize)
+    requires parts { AreParts parts.now.items spare.now.items len part_bits }
+    requires part_mask { part_mask ≡ 2 ^ part_bits - 1 }
+    requires digests { AreDigests digests.now (flattened parts.now.items) }
+    requires within { index < len }
+    requires live { live ≡ (digest_at digests.now index).live }
+    requires known { live ≢ 2 ^ 32 - 1 }
+    requires candidates { (mask : ℕ)
+        × IsMaskOf (λ own. own == byte) (digest_at digests.now index).bytes mask
+        × (candidates ≡ bit_and mask live) }
+    ensures part { result.0 ≡ index / 2 ^ part_bits }
+    ensures offset { result.1 ≡ index % 2 ^ part_bits }
+    ensures within { result.0 < vec_len parts.now }
+    ensures inside { result.1 < length (part_at parts.now.items result.0) }
+    ensures mask { IsMaskOf (has_byte byte)
+        (bucket_at (part_at parts.now.items result.0) result.1).own candidates }
+    ensures lives { IsMaskOf is_live (bucket_at (part_at parts.now.items result.0) result.1).own live }
+    ensures chainless { (bucket_at (part_at parts.now.items result.0) result.1).chain ≡ [] }
+{
+    place_in(parts, spare, len, part_bits, part_mask, index)
+}
+
 /// Returns the place and the pair of the first wanted slot of a bucket in one of the parts, where the
 /// live own slots with the hash's low byte are known, and there is no chain.
 #[inline(always)]
@@ -372,6 +477,8 @@ fn find_in<'a, K, V, L: LruList, const TYPE: u8, P: KeyProbe<K>>(
         live_pair (slot_in (bucket_at (part_at parts.now.items part) offset) found.0)
         ≡ Some (found.1.now, found.2.now)) }
     ensures own { IfSome result (λ found. (found.0.block ≡ 0) × (found.0.pos < 32)) }
+    ensures live { IfSome result (λ found. IsTrue (is_live
+        (slot_in (bucket_at (part_at parts.now.items part) offset) found.0))) }
     ensures few { P.asked probe.new ≤ P.asked probe.old
         + matching_len byte (bucket_at (part_at parts.now.items part) offset) }
     ensures fixed { P.wants probe.new ≡ P.wants probe.old }

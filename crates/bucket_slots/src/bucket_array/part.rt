@@ -5,17 +5,18 @@
 //! nothing is released: its buckets go, and those that aren't made are killed ones from then on.
 //!
 //! Own.
-ghost use Rattle.std.specs.Prelude.{◌≡◌, ℕ, ◌+◌, ◌<◌, ◌≤◌, ◌^◌, ◌∷◌, [], List, true, false, IfOk, IfSome, length, replicate, slice_set};
+ghost use Rattle.std.specs.Prelude.{◌≡◌, ℕ, ◌+◌, ◌-◌, ◌/◌, ◌%◌, ◌<◌, ◌≤◌, ◌^◌, ◌∷◌, [], List, true, false, IfOk, IfSome, length, replicate, slice_set};
 ghost use Rattle.std.specs.Prelude.{vec_capacity, vec_len};
 ghost use Rattle.std.specs.Borrow.{sem};
 ghost use Rattle.bucket_slots.specs.ArrayRoom.{BucketFits};
 ghost use Rattle.bucket_slots.specs.ArrayView.{bucket_at};
 ghost use Rattle.bucket_slots.specs.BucketView.{BucketView, empty_bucket};
-ghost use Rattle.bucket_slots.specs.Layout.ArrayParts.{part_at, unmade_bucket, with_unmade};
+ghost use Rattle.bucket_slots.specs.Layout.ArrayParts.{AreParts, part_at, unmade_bucket, with_unmade};
 ghost use Rattle.bucket_slots.specs.Layout.PartLoans.{LendsBucketIn};
 ghost use Rattle.bucket_slots.specs.Slots.{is_live, slot_at};
 ghost use Rattle.bucket_slots.specs.Spreading.{IsShifted, SpreadsSome};
 
+use super::sizing::place_of;
 use crate::bucket::room::fits_in_memory;
 use crate::bucket::{AllocError, Bucket};
 use crate::lru::LruList;
@@ -163,14 +164,21 @@ impl<K: Drop, V: Drop, L: LruList + Drop, const TYPE: u8> Part<K, V, L, TYPE> {
         ensures kept { self.new ≡ self.old }
         ensures fresh { fresh.new ≡ fresh.old }
     {
-        if !fresh.made.is_empty() || fresh.made.capacity() != self.made.capacity() {
+        if !fresh.made.is_empty() {
             return;
         }
-        if self.made.len() == self.made.capacity() && are_spent(&self.made) {
-            self.made.clear();
-            mem::swap(&mut self.made, &mut fresh.made);
-            self.released = true;
+        if fresh.made.capacity() != self.made.capacity() {
+            return;
         }
+        if self.made.len() != self.made.capacity() {
+            return;
+        }
+        if !are_spent(&self.made) {
+            return;
+        }
+        self.made.clear();
+        mem::swap(&mut self.made, &mut fresh.made);
+        self.released = true;
     }
 
     /// Returns so many parts of this length.
@@ -311,6 +319,27 @@ fn make_more<K, V, L: LruList, const TYPE: u8>(
     while made.len() < len {
         made.push_reserved(Bucket::empty(alloc, released));
     }
+}
+
+/// Returns the part in which the bucket with an index stands, and its offset there.
+#[inline(always)]
+pub(crate) fn place_in<K, V, L: LruList, const TYPE: u8>(
+    parts: &Vec<Part<K, V, L, TYPE>>,
+    spare: &Vec<Bucket<K, V, L, TYPE>>,
+    len: usize,
+    part_bits: u32,
+    part_mask: usize,
+    index: usize,
+) -> (usize, usize)
+    requires parts { AreParts parts.now.items spare.now.items len part_bits }
+    requires mask { part_mask ≡ 2 ^ part_bits - 1 }
+    requires within { index < len }
+    ensures part { result.0 ≡ index / 2 ^ part_bits }
+    ensures offset { result.1 ≡ index % 2 ^ part_bits }
+    ensures within { result.0 < vec_len parts.now }
+    ensures inside { result.1 < length (part_at parts.now.items result.0) }
+{
+    place_of(index, part_bits, part_mask)
 }
 
 /// Lends the bucket with an offset in one of the parts for writing.

@@ -3,7 +3,7 @@
 //!
 //! Ports the arithmetic of scc's `src/hash_table/bucket_array.rs`, and `HashTable`'s test whether
 //! and to what capacity it is resized.
-ghost use Rattle.std.specs.Prelude.{◌≡◌, ◌*◌, ◌-◌, ◌/◌, ◌%◌, ◌^◌, ◌<◌, ◌≤◌, ◌↔◌, IsTrue};
+ghost use Rattle.std.specs.Prelude.{◌≡◌, ◌*◌, ◌+◌, ◌-◌, ◌/◌, ◌%◌, ◌^◌, ◌<◌, ◌≤◌, ◌↔◌, IsTrue};
 ghost use Rattle.bucket_slots.specs.Sampling.{IsLargeSample, IsSmallSample, full_sample};
 ghost use Rattle.bucket_slots.specs.Sizing.{
   IsGrownCapacity,
@@ -96,6 +96,21 @@ pub(crate) fn place_of(index: usize, part_bits: u32, part_mask: usize) -> (usize
     ensures offset { result.1 ≡ index % 2 ^ part_bits }
 {
     (index >> part_bits, index & part_mask)
+}
+
+/// No work: a proof is told that an index is below a length.
+#[inline(always)]
+pub(crate) fn below(index: usize, len: usize)
+    requires { index < len }
+    ensures { index < len }
+{}
+
+/// Returns how many buckets there are from one up to below another.
+#[inline(always)]
+pub(crate) fn span(start: usize, end: usize) -> usize
+    ensures { start + result ≤ 2 ^ 64 }
+{
+    end.saturating_sub(start)
 }
 
 /// Whether the slots are too full for a number of entries.

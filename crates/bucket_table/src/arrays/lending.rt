@@ -27,16 +27,7 @@ impl<K, V, L: LruList, const TYPE: u8> Arrays<K, V, L, TYPE> {
         requires { index < length (buckets_on self.now side) }
         ensures { result.now ≡ bucket_at (buckets_on self.now side) index }
     {
-        match side {
-            Side::Current => match &self.current {
-                Some(array) => array.bucket(index),
-                None => unreachable!(),
-            },
-            Side::Old => match &self.linked {
-                Some(array) => array.bucket(index),
-                None => unreachable!(),
-            },
-        }
+        self.array_of(side).bucket(index)
     }
 
     /// Lends that bucket for writing.

@@ -224,6 +224,7 @@ fn move_pairs<K: Eq + Drop, V: Drop, H: KeyHash<K>, L: LruList, const TYPE: u8>(
 /// Moves the pair that a pointer stands at to its home, and says in `landings` where it landed. The
 /// pointer stays.
 #[inline(always)]
+#[tactic(auto, using(crate::proofs::Words::live_not_free))]
 fn move_pair<K: Eq + Drop, V: Drop, H: KeyHash<K>, L: LruList, const TYPE: u8>(
     hasher: &H,
     current: &mut BucketArray<K, V, L, TYPE>,

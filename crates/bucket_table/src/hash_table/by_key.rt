@@ -260,21 +260,4 @@ impl<K: Eq, V, H: KeyHash<K>, L: LruList, const TYPE: u8> HashTable<K, V, H, L, 
             None => NotInserted::Memory(key, value),
         }
     }
-
-    /// Hands the pair in a live slot to a reader.
-    fn read_at<R, F: FnOnce(&K, &V) -> R>(&self, spot: &Spot<K, V, TYPE>, reader: F) -> R
-        requires within { spot.now.index < length (buckets_on self.now.arrays spot.now.side) }
-        requires live_slot { IsTrue (is_live
-            (slot_in (bucket_on self.now.arrays spot.now.side spot.now.index) spot.now.at)) }
-        requires callable { (own : Bor K) (value : Bor V)
-            → live_pair (slot_in (bucket_on self.now.arrays spot.now.side spot.now.index) spot.now.at)
-            ≡ Some (own.now, value.now)
-            → F.pre reader own value }
-        ensures { (own : Bor K) × (value : Bor V)
-            × (live_pair (slot_in (bucket_on self.now.arrays spot.now.side spot.now.index) spot.now.at)
-            ≡ Some (own.now, value.now)) × F.post reader own value result }
-    {
-        let (key, value) = self.arrays.entry_of(spot.side, spot.index, &spot.at);
-        reader(key, value)
-    }
 }

@@ -1,6 +1,5 @@
-use Rattle.bucket_table.proofs.Words.{ap, arith, length, rules}
+use Rattle.bucket_table.proofs.Words.{ap, arith, length}
 use Rattle.bucket_table.proofs.Walking.Leaving.{left_both}
-use Rattle.bucket_table.proofs.Walking.Retaining.{next_live}
 use Rattle.bucket_table.proofs.Walking.RetainingEach.{all_asked, asks, fewer}
 use Rattle.bucket_table.proofs.Walking.AskingOwn.{asking_front}
 use Rattle.bucket_table.proofs.retain.retain_each_in.Goals as goal
@@ -10,14 +9,9 @@ own-init g c =
     let epoch = g.G.Generation.epoch_of c.args.generation.now in (
       c.retain_front-at.ensures.again,
       asking_front _ c.args.keep.now c.retain_front-at.new.keep c.args.bucket.now c.retain_front-at.new.bucket c.retain_front-at.result
-          c.sound.ensures.own_long c.retain_front-at.ensures.asked,
+          c.retain_front-at.ensures.own_long c.retain_front-at.ensures.asked,
       c.retain_front-at.ensures.left epoch,
     )
-
-pub ask_slot-requires-in-pairs : goal.ask_slot-requires-in-pairs
-ask_slot-requires-in-pairs g c =
-    let live = next_live c.pairs.bucket c.pairs.at c.find_next.new.self (c.find_next.ensures.ahead c.pairs-test.true) in
-    (search rules, (search rules, (c.pairs.invariant.0, live)))
 
 pub own-smaller : goal.own-smaller
 own-smaller g c =

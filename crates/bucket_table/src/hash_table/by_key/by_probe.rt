@@ -86,7 +86,8 @@ impl<K: Eq + Drop, V: Drop, H: KeyHash<K>, L: LruList + Drop, const TYPE: u8> Ha
     {
         match self.fetch_spot(hash, probe) {
             Some(mut spot) => {
-                let answer = self.read_at(&spot, reader);
+                let (key, value) = self.arrays.entry_of(spot.side, spot.index, &spot.at);
+                let answer = reader(key, value);
                 self.arrays
                     .mark_at(spot.side, spot.index, &mut spot.at, generation);
                 Some(answer)

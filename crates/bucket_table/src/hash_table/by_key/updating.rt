@@ -1,22 +1,21 @@
 //! Calls by key that write a value where a pair is there: such a call is never refused.
 //!
 //! Own.
-ghost use Rattle.std.specs.Prelude.{◌≡◌, ◌%◌, ◌<◌, IsTrue, Some, is_some, length, true};
+ghost use Rattle.std.specs.Prelude.{◌≡◌, ◌%◌, ◌<◌, Some, is_some, length, true};
 ghost use Rattle.std.specs.Borrow.{Bor, MutBor};
-ghost use Rattle.bucket_slots.specs.BucketView.{BucketView, bucket_with_value, slot_in};
+ghost use Rattle.bucket_slots.specs.BucketView.{BucketView};
 ghost use Rattle.bucket_slots.specs.Digested.{UpsertsIn};
 ghost use Rattle.bucket_slots.specs.Homes.{IsHome};
-ghost use Rattle.bucket_slots.specs.Slots.{is_live, live_pair};
 ghost use Rattle.bucket_table.specs.Map.ByKey.{PreparesThen, Rewrites, WritesAt};
 ghost use Rattle.bucket_table.specs.Map.ByKey.{Upserts, UpsertsAt};
 ghost use Rattle.bucket_table.specs.Map.Finding.{FindsThen};
 ghost use Rattle.bucket_table.specs.Map.LookingUp.{IsThere};
-ghost use Rattle.bucket_table.specs.Map.MapState.{ChangesValue, state_of};
+ghost use Rattle.bucket_table.specs.Map.MapState.{state_of};
 ghost use Rattle.bucket_table.specs.Views.ArraysView.{pairs_of};
 ghost use Rattle.bucket_table.specs.Views.Locking.{IsLocked};
 ghost use Rattle.bucket_table.specs.Views.Sides.{bucket_on, buckets_on, with_bucket};
 
-use crate::arrays::{Side, Spot};
+use crate::arrays::Side;
 use crate::hash_table::HashTable;
 use crate::key_hash::KeyHash;
 use bucket_slots::bucket::{EqProbe, Generation, KeyProbe};
@@ -80,7 +79,10 @@ impl<K: Eq + Drop, V: Drop, H: KeyHash<K>, L: LruList + Drop, const TYPE: u8> Ha
         ensures fixed { P.wants probe.new ≡ P.wants probe.old }
     {
         match self.fetch_spot(hash, probe) {
-            Some(spot) => Some(self.update_at(&spot, change)),
+            Some(spot) => {
+                let (key, value) = self.entry_mut_at(spot.side, spot.index, &spot.at);
+                Some(change(key, value))
+            }
             None => None,
         }
     }
@@ -165,29 +167,5 @@ impl<K: Eq + Drop, V: Drop, H: KeyHash<K>, L: LruList + Drop, const TYPE: u8> Ha
     {
         self.arrays
             .upsert_home(side, index, hash, key, value, generation)
-    }
-
-    /// Hands the pair in a live slot to a closure, its value for writing.
-    #[inline(always)]
-    fn update_at<R, F: FnOnce(&K, &mut V) -> R>(&mut self, spot: &Spot<K, V, TYPE>, change: F) -> R
-        requires within { spot.now.index < length (buckets_on self.old.arrays spot.now.side) }
-        requires live_slot { IsTrue (is_live
-            (slot_in (bucket_on self.old.arrays spot.now.side spot.now.index) spot.now.at)) }
-        requires callable { (own : Bor K) (value : MutBor V)
-            → live_pair (slot_in (bucket_on self.old.arrays spot.now.side spot.now.index) spot.now.at)
-            ≡ Some (own.now, value.now)
-            → F.pre change own value }
-        ensures map { (own : Bor K) × (before after : MutBor V)
-            × F.post change own before result after
-            × (live_pair (slot_in (bucket_on self.old.arrays spot.now.side spot.now.index) spot.now.at)
-            ≡ Some (own.now, before.now))
-            × ChangesValue (state_of TYPE self.old) (own.now, before.now) after.now
-            (state_of TYPE self.new) }
-        ensures table { (value : V) × (self.new ≡ with_bucket self.old spot.now.side
-            spot.now.index (bucket_with_value (bucket_on self.old.arrays spot.now.side spot.now.index)
-            spot.now.at value)) }
-    {
-        let (key, value) = self.arrays.entry_of_mut(spot.side, spot.index, &spot.at);
-        change(key, value)
     }
 }

@@ -1,6 +1,7 @@
 use Rattle.bucket_slots.proofs.Words.{ap, arith, first_from, flattened, has_byte, is_wanted, refl, sum_by-append, sym, ◌∙◌}
 use Rattle.bucket_slots.proofs.Counting.{tally}
 use Rattle.bucket_slots.proofs.FirstPlaces.{first_chain}
+use Rattle.bucket_slots.proofs.CallerLemmas.{live_from_pair}
 use Rattle.bucket_slots.proofs.bucket.Bucket.find_among.Goals as goal
 
 pub returns-in-Some-clause-place : goal.returns-in-Some-clause-place
@@ -25,3 +26,6 @@ pub returns-in-None-clause-few : goal.returns-in-None-clause-few
 returns-in-None-clause-few g c =
     let parts = sum_by-append (λ x. tally (has_byte c.args.byte x)) c.self.inside.own (flattened c.self.inside.chain) in
     rw (← c.self.view_is) (omega (arith, c.find_among.ensures.few, parts))
+
+pub returns-in-Some-clause-live : goal.returns-in-Some-clause-live
+returns-in-Some-clause-live g c = rw (c.at.ensures, ← c.self.view_is) (live_from_pair _ _ c.in-Some.ensures.pair)

@@ -1,27 +1,21 @@
-use Rattle.bucket_slots.proofs.Words.{ap, arith, bucket_with_value, is_live, refl, rules, set, slot_in, true, ◌∙◌, ◌≡◌}
+use Rattle.bucket_slots.proofs.Words.{ap, arith, bucket_with_value, is_live, length, refl, rules, set, slot_in, true, ◌∙◌, ◌≡◌}
 use Rattle.bucket_slots.specs.ArrayView.{bucket_at}
 use Rattle.bucket_slots.specs.Layout.ArrayParts.{part_at}
 use Rattle.bucket_slots.proofs.ArrayParts.{place_is}
 use Rattle.bucket_slots.proofs.Digests.{IsDigest-valued, kept_there}
 use Rattle.bucket_slots.proofs.bucket_array.BucketArray.entry_mut.Goals as goal
 
-pub bucket_in-requires : goal.bucket_in-requires
-bucket_in-requires g c =
-    let at = c.place_of-part.ensures in
-    let place = place_is _ _ _ _ c.self.invariant.1 _ _ _ _ c.self.view_is c.requires.within at.part at.offset in
-    (search rules, (search rules, (c.room.ensures.fits, (omega (arith, c.self.inside.parts.ok.0, place.within), place.inside))))
-
 pub entry_mut-requires : goal.entry_mut-requires
 entry_mut-requires g c =
-    let at = c.place_of-part.ensures in
+    let at = c.place_in-part.ensures in
     let place = place_is _ _ _ _ c.self.invariant.1 _ _ _ _ c.self.view_is c.requires.within at.part at.offset in
     (search rules, (omega arith, rw (c.bucket_in.ensures.bucket ∙ place.read) c.requires.live_slot))
 
 pub invariant_of-self-lent : goal.invariant_of-self-lent
 invariant_of-self-lent g c w =
-    let at = c.place_of-part.ensures in
+    let at = c.place_in-part.ensures in
     let place = place_is _ _ _ _ c.self.invariant.1 _ _ _ _ c.self.view_is c.requires.within at.part at.offset in
-    let b = bucket_at (part_at c.self.inside.parts.items c.place_of-part.result.0) c.place_of-part.result.1 in
+    let b = bucket_at (part_at c.self.inside.parts.items c.place_in-part.result.0) c.place_in-part.result.1 in
     let alive : is_live (slot_in b c.args.at.now) ≡ true = rw place.read c.requires.live_slot in
     rw c.bucket_in.ensures.bucket (
       c.self.invariant.0,
@@ -33,7 +27,7 @@ invariant_of-self-lent g c w =
 
 pub returns : goal.returns
 returns g c =
-    let at = c.place_of-part.ensures in
+    let at = c.place_in-part.ensures in
     let place = place_is _ _ _ _ c.self.invariant.1 _ _ _ _ c.self.view_is c.requires.within at.part at.offset in
     let read = c.bucket_in.ensures.bucket ∙ place.read in (
       (
@@ -42,3 +36,6 @@ returns g c =
       ),
       record { writes_back = tt; pair = rw (← read) c.entry_mut.ensures.pair },
     )
+
+pub below-requires : goal.below-requires
+below-requires g c = omega (arith, c.requires.within, ap length c.self.view_is, c.self.invariant.1.len_is)

@@ -1,19 +1,10 @@
-use Rattle.bucket_slots.proofs.Words.{ap, arith, place_wanted, rules, sym, vec_len, ◌%◌, ◌<◌, ◌∙◌}
+use Rattle.bucket_slots.proofs.Words.{ap, arith, length, place_wanted, sym, ◌%◌, ◌∙◌}
 use Rattle.bucket_slots.proofs.Digests.{null_at, ready_there, said_is}
 use Rattle.bucket_slots.proofs.bucket_array.BucketArray.find_by.Goals as goal
 
-pub find_in-requires : goal.find_in-requires
-find_in-requires g c =
-    let at = c.place_of-part.ensures in
-    let known = said_is _ c.live-live.result c.is_lost.ensures.1 c.if-is_lost.false in
-    let ready = ready_there _ _ _ _ _ _ _ _ _ _ _ _ c.self.invariant.1 c.self.view_is c.requires at.part at.offset c.self.invariant.3
-    c.live-live.ensures known c.candidates-left.ensures in
-    let within : c.place_of-part.result.0 < vec_len c.self.inside.parts = omega (arith, c.self.inside.parts.ok.0, ready.place.within) in
-    (search rules, (search rules, (c.room.ensures.fits, (within, (ready.place.inside, (ready.mask, ready.digest_is.chainless))))))
-
 pub returns-in-Some-clause-place : goal.returns-in-Some-clause-place
 returns-in-Some-clause-place g c =
-    let at = c.place_of-part.ensures in
+    let at = c.known_in-part.ensures in
     let known = said_is _ c.live-live.result c.is_lost.ensures.1 c.if-is_lost.false in
     let ready = ready_there _ _ _ _ _ _ _ _ _ _ _ _ c.self.invariant.1 c.self.view_is c.requires at.part at.offset c.self.invariant.3
     c.live-live.ensures known c.candidates-left.ensures in
@@ -21,7 +12,7 @@ returns-in-Some-clause-place g c =
 
 pub returns-in-None-clause-place : goal.returns-in-None-clause-place
 returns-in-None-clause-place g c =
-    let at = c.place_of-part.ensures in
+    let at = c.known_in-part.ensures in
     let known = said_is _ c.live-live.result c.is_lost.ensures.1 c.if-is_lost.false in
     let ready = ready_there _ _ _ _ _ _ _ _ _ _ _ _ c.self.invariant.1 c.self.view_is c.requires at.part at.offset c.self.invariant.3
     c.live-live.ensures known c.candidates-left.ensures in
@@ -34,3 +25,11 @@ returns-then-is_valid-clause-place g c =
 pub returns-else-is_valid-clause-place : goal.returns-else-is_valid-clause-place
 returns-else-is_valid-clause-place g c =
     sym (rw c.bucket.ensures at (c.get_entry_ptr_by-at.ensures.absent (null_at _ _ c.is_valid.ensures.1 c.if-is_valid.false)))
+
+pub below-requires : goal.below-requires
+below-requires g c = omega (arith, c.requires, ap length c.self.view_is, c.self.invariant.1.len_is)
+
+pub prove-unreachable-requires : goal.prove-unreachable-requires
+prove-unreachable-requires g c =
+    let known = said_is _ c.live-live.result c.is_lost.ensures.1 c.if-is_lost.false in
+    known c.if-prove.true

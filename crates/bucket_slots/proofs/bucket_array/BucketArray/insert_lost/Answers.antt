@@ -1,4 +1,4 @@
-use Rattle.bucket_slots.proofs.Words.{ap}
+use Rattle.bucket_slots.proofs.Words.{ap, set, set-get_or, ◌∙◌}
 use Rattle.bucket_slots.proofs.Digests.{null_at}
 use Rattle.bucket_slots.proofs.bucket_array.BucketArray.insert_lost.Goals as goal
 
@@ -16,3 +16,15 @@ returns-clause-answer g c =
       rw lent at (c.get_entry_ptr.ensures.absent (null_at _ _ c.is_valid.ensures.1 c.if-is_valid.false)),
       rw lent at c.in-Err.ensures.refused.no_free_slot,
     )
+
+pub returns-then-is_valid-clause-unchanged : goal.returns-then-is_valid-clause-unchanged
+returns-then-is_valid-clause-unchanged g c = rw c.bucket_mut-bucket.ensures.bucket (set-get_or c.args.self.now c.args.index _)
+
+pub returns-in-Ok-clause-put : goal.returns-in-Ok-clause-put
+returns-in-Ok-clause-put g c =
+    c.settle.ensures ∙ ap (set c.args.self.now c.args.index) (rw c.bucket_mut-bucket.ensures.bucket at c.in-Ok.ensures.slots)
+
+pub returns-clause-unchanged : goal.returns-clause-unchanged
+returns-clause-unchanged g c =
+    c.settle.ensures ∙ ap (set c.args.self.now c.args.index) c.in-Err.ensures.refused.unchanged
+    ∙ rw c.bucket_mut-bucket.ensures.bucket (set-get_or c.args.self.now c.args.index _)

@@ -1,9 +1,11 @@
-use Rattle.bucket_slots.proofs.Words.{arith, rules}
-use Rattle.bucket_slots.proofs.ArrayParts.{place_is}
+use Rattle.bucket_slots.proofs.Words.{ap, arith, flattened, length, ◌∙◌}
 use Rattle.bucket_slots.proofs.bucket_array.BucketArray.release_around.Goals as goal
 
-pub release_in-requires : goal.release_in-requires
-release_in-requires g c =
-    let at = c.place_of-part.ensures in
-    let place = place_is _ _ _ _ c.self.invariant.1 _ _ _ _ c.self.view_is c.requires at.part at.offset in
-    (search rules, (c.room.ensures.fits, omega (arith, c.self.inside.parts.ok.0, place.within)))
+pub below-requires : goal.below-requires
+below-requires g c = omega (arith, c.requires, ap length c.self.view_is, c.self.invariant.1.len_is)
+
+pub invariant_of-self : goal.invariant_of-self
+invariant_of-self g c = rw c.release_in.ensures c.self.invariant
+
+pub returns : goal.returns
+returns g c = ap flattened c.release_in.ensures ∙ c.self.view_is

@@ -1,4 +1,4 @@
-use Rattle.bucket_slots.proofs.Words.{ap, arith, rules, set, ◌∙◌}
+use Rattle.bucket_slots.proofs.Words.{ap, arith, length, set, ◌∙◌}
 use Rattle.bucket_slots.specs.ArrayView.{bucket_at}
 use Rattle.bucket_slots.specs.Evicting.{slots_touched}
 use Rattle.bucket_slots.specs.Layout.ArrayParts.{part_at}
@@ -6,23 +6,17 @@ use Rattle.bucket_slots.proofs.ArrayParts.{place_is}
 use Rattle.bucket_slots.proofs.Digests.{IsDigest-touched, kept_there}
 use Rattle.bucket_slots.proofs.bucket_array.BucketArray.touch.Goals as goal
 
-pub bucket_in-requires : goal.bucket_in-requires
-bucket_in-requires g c =
-    let at = c.place_of-part.ensures in
-    let place = place_is _ _ _ _ c.self.invariant.1 _ _ _ _ c.self.view_is c.requires.within at.part at.offset in
-    (search rules, (search rules, (c.room.ensures.fits, (omega (arith, c.self.inside.parts.ok.0, place.within), place.inside))))
-
 pub update_lru_tail-requires : goal.update_lru_tail-requires
 update_lru_tail-requires g c =
-    let at = c.place_of-part.ensures in
+    let at = c.place_in-part.ensures in
     let place = place_is _ _ _ _ c.self.invariant.1 _ _ _ _ c.self.view_is c.requires.within at.part at.offset in
     (c.room.ensures.fits, (omega arith, (c.requires.cache, rw (c.bucket_in.ensures.bucket ∙ place.read) c.requires.live_slot)))
 
 pub invariant_of-self : goal.invariant_of-self
 invariant_of-self g c =
-    let at = c.place_of-part.ensures in
+    let at = c.place_in-part.ensures in
     let place = place_is _ _ _ _ c.self.invariant.1 _ _ _ _ c.self.view_is c.requires.within at.part at.offset in
-    let b = bucket_at (part_at c.self.inside.parts.items c.place_of-part.result.0) c.place_of-part.result.1 in
+    let b = bucket_at (part_at c.self.inside.parts.items c.place_in-part.result.0) c.place_in-part.result.1 in
     let left = slots_touched g.L.LruList.KEEPS b c.args.at.now in
     rw (c.update_lru_tail.ensures, c.bucket_in.ensures.bucket) (
       c.self.invariant.0,
@@ -34,8 +28,11 @@ invariant_of-self g c =
 
 pub returns : goal.returns
 returns g c =
-    let at = c.place_of-part.ensures in
+    let at = c.place_in-part.ensures in
     let place = place_is _ _ _ _ c.self.invariant.1 _ _ _ _ c.self.view_is c.requires.within at.part at.offset in
     let read = c.bucket_in.ensures.bucket ∙ place.read in
     place.written _ ∙ ap (set c.args.self.now c.args.index)
     (c.update_lru_tail.ensures ∙ ap (λ b. slots_touched g.L.LruList.KEEPS b c.args.at.now) read)
+
+pub below-requires : goal.below-requires
+below-requires g c = omega (arith, c.requires.within, ap length c.self.view_is, c.self.invariant.1.len_is)

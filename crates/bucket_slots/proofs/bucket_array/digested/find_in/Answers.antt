@@ -47,3 +47,10 @@ returns-clause-few g c =
     let here = get_or_read c.args.parts.now.items c.args.part c.index-held.result.now within c.index-held.ensures [] in
     let read = c.made_bucket-bucket.ensures ∙ ap (λ part. get_or part c.args.offset empty_bucket) here in
     rw (← read) c.find_among.ensures.few
+
+pub returns-clause-live : goal.returns-clause-live
+returns-clause-live g c =
+    let within : c.args.part < length c.args.parts.now.items = omega (arith, c.args.parts.now.ok.0, c.requires.within) in
+    let here = get_or_read c.args.parts.now.items c.args.part c.index-held.result.now within c.index-held.ensures [] in
+    let read = c.made_bucket-bucket.ensures ∙ ap (λ part. get_or part c.args.offset empty_bucket) here in
+    rw (← read) c.find_among.ensures.live

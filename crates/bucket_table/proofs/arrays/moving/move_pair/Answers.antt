@@ -1,14 +1,9 @@
-use Rattle.bucket_table.proofs.Words.{ap, live_not_free, rules, slot_in}
+use Rattle.bucket_table.proofs.Words.{ap, rules}
 use Rattle.std.proofs.Common.{slice_set}
 use Rattle.bucket_slots.proofs.RoomCallerLemmas.{refused_full}
 use Rattle.bucket_table.proofs.Map.LockedSteps.{pair_there}
 use Rattle.bucket_table.proofs.Moves.MovingPairs.{home_has_room}
 use Rattle.bucket_table.proofs.arrays.moving.move_pair.Goals as goal
-
-pub way_of-home-requires : goal.way_of-home-requires
-way_of-home-requires g c =
-    let occupied = live_not_free (slot_in c.args.source.now c.args.at.now) c.requires.live_slot in
-    (search rules, (search rules, (search rules, (c.requires.ready, occupied))))
 
 pub bucket_mut-target-requires : goal.bucket_mut-target-requires
 bucket_mut-target-requires g c =

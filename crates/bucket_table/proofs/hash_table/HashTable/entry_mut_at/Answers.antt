@@ -1,10 +1,6 @@
-use Rattle.bucket_table.proofs.Words.{arith, refl}
+use Rattle.bucket_table.proofs.Words.{refl}
 use Rattle.bucket_table.proofs.Map.SlotSteps.{writes}
 use Rattle.bucket_table.proofs.hash_table.HashTable.entry_mut_at.Goals as goal
-
-pub entry_of_mut-requires : goal.entry_of_mut-requires
-entry_of_mut-requires g c =
-    (omega arith, (omega arith, (rw (← c.self.view_is) at c.requires.within, rw (← c.self.view_is) at c.requires.live_slot)))
 
 pub invariant_of-self-lent : goal.invariant_of-self-lent
 invariant_of-self-lent g c value =

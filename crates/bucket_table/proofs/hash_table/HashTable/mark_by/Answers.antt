@@ -1,9 +1,8 @@
-use Rattle.bucket_table.proofs.Words.{bucket_on, by-no_new, by-trans, marks_in, marks_of, refl, rules}
+use Rattle.bucket_table.proofs.Words.{bucket_on, by-no_new, by-trans, marks_in, marks_of, refl}
 use Rattle.bucket_slots.proofs.MarkCallerLemmas.{by-one, marks_in-slots_marked}
 use Rattle.bucket_table.proofs.Map.KeySteps.{marks_through}
 use Rattle.bucket_table.proofs.Map.SlotSteps.{marks}
 use Rattle.bucket_table.specs.Map.MapState.{state_of}
-use Rattle.bucket_slots.proofs.CallerLemmas.{live_from_pair}
 use Rattle.bucket_table.proofs.Map.TakeSteps.{same_taken, shown_before, then_taken}
 use Rattle.bucket_table.proofs.hash_table.HashTable.mark_by.Goals as goal
 
@@ -20,11 +19,13 @@ returns-in-Some-clause-map g c =
     let o = c.in-Some.spot in
     let stands = rw (← c.self.view_is) at c.in-Some.ensures.found in
     let keeps = rw (← c.self.view_is) at c.fetch_spot.ensures.prepared.map in
-    let (own, value, there, reads) = rw (← c.self.view_is) at c.read_at-answer.ensures in
+    let own = c.entry_of.result.0 in
+    let value = c.entry_of.result.1 in
+    let there = c.entry_of.ensures in
     let e = c.mark_at.ensures in (
       own,
       value,
-      reads,
+      c.reader-answer.ensures,
       same_taken (g.P.KeyProbe.wants c.args.probe.now) _ _ stands.pair (own.now, value.now) stands.slot stands.there there,
       then_taken _ _ _ (own.now, value.now) keeps (marks g.met.K.Eq.laws g.H.KeyHash.hash_of g.row.TYPE o.side o.index c.self.invariant
           stands.within o.at (own.now, value.now) there _ _ e.kept e.placed).map,
@@ -64,21 +65,9 @@ returns-in-None-clause-arrays g c = record { between = c.fetch_spot.new.self; pr
 pub returns-in-None-clause-marks : goal.returns-in-None-clause-marks
 returns-in-None-clause-marks g c = by-no_new _ _ _ c.fetch_spot.ensures.prepared.kept.keeps.marks
 
-pub read_at-answer-requires : goal.read_at-answer-requires
-read_at-answer-requires g c =
-    let stands = c.in-Some.ensures.found in
-    let live = live_from_pair _ stands.pair stands.slot in (
-      search rules,
-      (
-        search rules,
-        (
-          stands.within,
-          (
-            live,
-            λ own value shown. c.requires.callable own value (shown_before (g.P.KeyProbe.wants c.args.probe.now)
-                (state_of g.row.TYPE c.args.self.now) (state_of g.row.TYPE c.fetch_spot.new.self) _ stands.pair (own.now, value.now)
-                c.fetch_spot.ensures.prepared.map stands.slot stands.there shown),
-          ),
-        ),
-      ),
-    )
+pub reader-answer-requires : goal.reader-answer-requires
+reader-answer-requires g c =
+    let stands = rw (← c.self.view_is) at c.in-Some.ensures.found in
+    let keeps = rw (← c.self.view_is) at c.fetch_spot.ensures.prepared.map in
+    c.requires.callable _ _ (shown_before (g.P.KeyProbe.wants c.args.probe.now) (state_of g.row.TYPE c.args.self.now) _ _ stands.pair _ keeps
+    stands.slot stands.there c.entry_of.ensures)

@@ -3,9 +3,6 @@ use Rattle.bucket_table.proofs.Views.SideChanges.{buckets_on-arrays_with}
 use Rattle.bucket_table.proofs.Map.Putting.{put_leaves}
 use Rattle.bucket_table.proofs.hash_table.HashTable.put_at.Goals as goal
 
-pub bucket_of_mut-bucket-requires : goal.bucket_of_mut-bucket-requires
-bucket_of_mut-bucket-requires g c = (omega arith, (c.room_of.ensures, rw (← c.self.view_is) at c.requires.locked.within))
-
 pub invariant_of-self : goal.invariant_of-self
 invariant_of-self g c =
     let own = rw (← c.self.view_is) at c.requires.own_hash in

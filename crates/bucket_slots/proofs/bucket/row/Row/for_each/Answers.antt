@@ -1,5 +1,5 @@
-use Rattle.bucket_slots.proofs.Words.{of_calls, ◌∙◌}
-use Rattle.bucket_slots.proofs.LiveMasks.{calling_done, calling_first, calling_next, live_read}
+use Rattle.bucket_slots.proofs.Words.{of_calls, rules, ◌∙◌}
+use Rattle.bucket_slots.proofs.LiveMasks.{calling_done, calling_first, calling_next, live_read, named_filled}
 use Rattle.bucket_slots.proofs.bucket.row.Row.for_each.Goals as goal
 
 pub loop-left-init : goal.loop-left-init
@@ -18,3 +18,6 @@ pub returns-clause-calls : goal.returns-clause-calls
 returns-clause-calls g c =
     let calling = c.loop-left.invariant.1 in
     calling_done _ c.args.f.now c.loop-left.f c.args.self.now (rw c.loop-left-test.false at calling)
+
+pub pair-requires : goal.pair-requires
+pair-requires g c = (search rules, named_filled c.args.self.now _ _ _ c.loop-left.invariant.1.names c.lowest_bit-pos.ensures)

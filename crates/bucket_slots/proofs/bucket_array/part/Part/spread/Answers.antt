@@ -1,5 +1,6 @@
-use Rattle.bucket_slots.proofs.Words.{Bor, arith, sym, vec_capacity, ℕ, ◌∙◌}
+use Rattle.bucket_slots.proofs.Words.{Bor, arith, rules, sym, vec_capacity, ℕ, ◌∙◌}
 use Rattle.bucket_slots.specs.Spreading.{IsShifted}
+use Rattle.bucket_slots.proofs.ArrayParts.{length-part}
 use Rattle.bucket_slots.proofs.Spreading.{front_same, part_over, spread_len, spread_within}
 use Rattle.bucket_slots.proofs.bucket_array.part.Part.spread.Goals as goal
 
@@ -32,3 +33,14 @@ returns-clause-front g c = λ i before.
     c.spread_own.new.targets made.ok.0 (omega (arith, made.ok.0, c.make_to.ensures.made)) c.slice_mut.ensures.value same in
     let was = sym over.was ∙ c.make_to.ensures.same ∙ c.self.view_is in
     rw (← was, over.is) (front_same over.front _ _ i (omega (arith, before, over.front_len)))
+
+pub make_to-requires : goal.make_to-requires
+make_to-requires g c =
+    let made = c.self.inside.made in
+    let long = length-part made.items c.args.self.now _ _ c.self.view_is in (
+      search rules,
+      (
+        c.requires.fits,
+        omega (arith, long, c.requires.within, made.ok.0, made.ok.1, c.if-capacity-offset.false, c.capacity.ensures),
+      ),
+    )

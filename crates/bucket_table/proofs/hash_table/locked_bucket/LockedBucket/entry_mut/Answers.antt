@@ -1,12 +1,8 @@
-use Rattle.bucket_table.proofs.Words.{arith, refl, ◌≡◌}
+use Rattle.bucket_table.proofs.Words.{refl, ◌≡◌}
 use Rattle.bucket_table.proofs.Views.LockedValues.{locked_over-same}
 use Rattle.bucket_table.proofs.Map.MapSteps.{wrote}
 use Rattle.bucket_table.proofs.Views.SideChanges.{changeable_locked}
 use Rattle.bucket_table.proofs.hash_table.locked_bucket.LockedBucket.entry_mut.Goals as goal
-
-pub entry_of_mut-requires : goal.entry_of_mut-requires
-entry_of_mut-requires g c =
-    (omega arith, (omega arith, (rw (← c.table.view_is) at c.args.self.now.locked.within, rw (← c.table.view_is) at c.requires.live_slot)))
 
 pub invariant_of-table-lent : goal.invariant_of-table-lent
 invariant_of-table-lent g c w =

@@ -31,9 +31,6 @@ returns-clause-map g c =
     rw (c.settle_on.ensures, ← c.table.view_is) (evicted g.met.K.Eq.laws g.H.KeyHash.hash_of g.row.TYPE o.side o.index c.table.invariant
     (changeable_locked _ _ _ locked) c.evict_lru_head-gone.result c.evict_lru_head-gone.new.self e.pair e.slots e.unchanged).map
 
-pub bucket_of_mut-requires : goal.bucket_of_mut-requires
-bucket_of_mut-requires g c = (omega arith, (c.room_of.ensures, rw (← c.table.view_is) at c.args.self.now.locked.within))
-
 pub returns-clause-changed : goal.returns-clause-changed
 returns-clause-changed g c =
     let e = rw c.bucket_of_mut.ensures.bucket at c.evict_lru_head-gone.ensures in

@@ -10,48 +10,53 @@ pub invariant_of-table : goal.invariant_of-table
 invariant_of-table g c =
     let o = c.args.self.now in
     let locked = rw (← c.table.view_is) at o.locked in
-    let e = rw c.bucket_of_mut.ensures.bucket at c.insert-placed.ensures in
+    let lent = c.bucket_of_mut.ensures.bucket in
+    let slots = rw lent at c.insert-placed.ensures.slots in
+    let same = rw lent at (refused_unchanged c.insert-placed.result _ _ _ c.insert-placed.ensures.refused) in
     let x = inserted_or g.met.K.Eq.laws g.H.KeyHash.hash_of g.row.TYPE o.side o.index c.table.invariant (changeable_locked _ _ _ locked)
     c.insert-placed.result c.insert-placed.new.self (g.G.Generation.keeps c.args.generation.now) c.args.pair c.args.hash
     (rw (← c.table.view_is) at c.requires.own_hash) (rw (← c.table.view_is) at c.requires.home)
-    (rw (← c.table.view_is) at c.requires.key_absent) e.slots (refused_unchanged c.insert-placed.result _ _ _ e.refused) in
+    (rw (← c.table.view_is) at c.requires.key_absent) slots same in
     rw c.settle_on.ensures x.one_map
 
 pub invariant_of-self : goal.invariant_of-self
 invariant_of-self g c =
     let o = c.args.self.now in
     let locked = rw (← c.table.view_is) at o.locked in
-    let e = rw c.bucket_of_mut.ensures.bucket at c.insert-placed.ensures in
+    let lent = c.bucket_of_mut.ensures.bucket in
+    let slots = rw lent at c.insert-placed.ensures.slots in
+    let same = rw lent at (refused_unchanged c.insert-placed.result _ _ _ c.insert-placed.ensures.refused) in
     let x = inserted_or g.met.K.Eq.laws g.H.KeyHash.hash_of g.row.TYPE o.side o.index c.table.invariant (changeable_locked _ _ _ locked)
     c.insert-placed.result c.insert-placed.new.self (g.G.Generation.keeps c.args.generation.now) c.args.pair c.args.hash
     (rw (← c.table.view_is) at c.requires.own_hash) (rw (← c.table.view_is) at c.requires.home)
-    (rw (← c.table.view_is) at c.requires.key_absent) e.slots (refused_unchanged c.insert-placed.result _ _ _ e.refused) in
+    (rw (← c.table.view_is) at c.requires.key_absent) slots same in
     record { locked = rw c.settle_on.ensures (x.locked locked) }
 
 pub returns-clause-map : goal.returns-clause-map
 returns-clause-map g c =
     let o = c.args.self.now in
     let locked = rw (← c.table.view_is) at o.locked in
-    let e = rw c.bucket_of_mut.ensures.bucket at c.insert-placed.ensures in
+    let lent = c.bucket_of_mut.ensures.bucket in
+    let slots = rw lent at c.insert-placed.ensures.slots in
+    let same = rw lent at (refused_unchanged c.insert-placed.result _ _ _ c.insert-placed.ensures.refused) in
     let x = inserted_or g.met.K.Eq.laws g.H.KeyHash.hash_of g.row.TYPE o.side o.index c.table.invariant (changeable_locked _ _ _ locked)
     c.insert-placed.result c.insert-placed.new.self (g.G.Generation.keeps c.args.generation.now) c.args.pair c.args.hash
     (rw (← c.table.view_is) at c.requires.own_hash) (rw (← c.table.view_is) at c.requires.home)
-    (rw (← c.table.view_is) at c.requires.key_absent) e.slots (refused_unchanged c.insert-placed.result _ _ _ e.refused) in
+    (rw (← c.table.view_is) at c.requires.key_absent) slots same in
     rw (c.settle_on.ensures, ← c.table.view_is) x.map
-
-pub bucket_of_mut-requires : goal.bucket_of_mut-requires
-bucket_of_mut-requires g c = (omega arith, (c.room_of.ensures, rw (← c.table.view_is) at c.args.self.now.locked.within))
 
 pub returns-clause-changed : goal.returns-clause-changed
 returns-clause-changed g c =
-    let e = rw c.bucket_of_mut.ensures.bucket at c.insert-placed.ensures in
+    let lent = c.bucket_of_mut.ensures.bucket in
+    let slots = rw lent at c.insert-placed.ensures.slots in
+    let same = rw lent at (refused_unchanged c.insert-placed.result _ _ _ c.insert-placed.ensures.refused) in
     record {
       same_table = refl;
       same_side = refl;
       same_index = refl;
       table = rw c.settle_on.ensures (put_or_same c.insert-placed.result _ c.args.self.now.table.now _ _ c.insert-placed.new.self
           (λ b. slots_after_insertion g.row.TYPE (g.G.Generation.keeps c.args.generation.now) b c.args.pair (c.args.hash % 256))
-          c.table.view_is e.slots (refused_unchanged c.insert-placed.result _ _ _ e.refused));
+          c.table.view_is slots same);
     }
 
 pub returns-clause-answer : goal.returns-clause-answer

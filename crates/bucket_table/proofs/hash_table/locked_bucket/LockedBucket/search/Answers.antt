@@ -1,4 +1,4 @@
-use Rattle.bucket_table.proofs.Words.{ap, arith, sym, ◌∙◌}
+use Rattle.bucket_table.proofs.Words.{ap, sym, ◌∙◌}
 use Rattle.bucket_slots.specs.BucketView.{place_or_null}
 use Rattle.bucket_table.proofs.Map.LookUps.{searched_absent, searched_found}
 use Rattle.bucket_table.proofs.hash_table.locked_bucket.LockedBucket.search.Goals as goal
@@ -23,6 +23,3 @@ returns-clause-absent g c =
 
 pub returns-clause-null : goal.returns-clause-null
 returns-clause-null g c = λ null. c.get_entry_ptr.ensures.place ∙ ap place_or_null (c.get_entry_ptr.ensures.absent null)
-
-pub bucket_of-requires : goal.bucket_of-requires
-bucket_of-requires g c = (omega arith, (c.room_of.ensures, rw (← c.table.view_is) at c.args.self.now.locked.within))
