@@ -5,18 +5,15 @@
 //! nothing is released: its buckets go, and those that aren't made are killed ones from then on.
 //!
 //! Own.
-ghost use Rattle.std.specs.Prelude.{◌≡◌, ℕ, ◌+◌, ◌-◌, ◌/◌, ◌%◌, ◌<◌, ◌≤◌, ◌^◌, ◌∷◌, [], List, true, false, IfOk, IfSome, length, replicate, slice_set};
-ghost use Rattle.std.specs.Prelude.{vec_capacity, vec_len};
+ghost use Rattle.std.specs.Prelude.{◌≡◌, ℕ, ◌+◌, ◌<◌, ◌≤◌, ◌^◌, ◌∷◌, [], List, true, false, IfOk, IfSome, length, replicate, vec_capacity, vec_len};
 ghost use Rattle.std.specs.Borrow.{sem};
 ghost use Rattle.bucket_slots.specs.ArrayRoom.{BucketFits};
 ghost use Rattle.bucket_slots.specs.ArrayView.{bucket_at};
 ghost use Rattle.bucket_slots.specs.BucketView.{BucketView, empty_bucket};
-ghost use Rattle.bucket_slots.specs.Layout.ArrayParts.{AreParts, part_at, unmade_bucket, with_unmade};
-ghost use Rattle.bucket_slots.specs.Layout.PartLoans.{LendsBucketIn};
+ghost use Rattle.bucket_slots.specs.Layout.ArrayParts.{unmade_bucket, with_unmade};
 ghost use Rattle.bucket_slots.specs.Slots.{is_live, slot_at};
 ghost use Rattle.bucket_slots.specs.Spreading.{IsShifted, SpreadsSome};
 
-use super::sizing::place_of;
 use crate::bucket::room::fits_in_memory;
 use crate::bucket::{AllocError, Bucket};
 use crate::lru::LruList;
@@ -158,7 +155,7 @@ impl<K: Drop, V: Drop, L: LruList + Drop, const TYPE: u8> Part<K, V, L, TYPE> {
 
     /// Lets the buckets go, where every one is killed and holds nothing, and exchanges their memory
     /// with that of a part as long that has none made. What is read of both stays.
-    fn release_to(&mut self, fresh: &mut Self)
+    pub(crate) fn release_to(&mut self, fresh: &mut Self)
         requires { BucketFits K.row V.row L.row TYPE.row
             (record { KEEPS = L.KEEPS; listed = L.listed; IsTail = L.IsTail }) L.Default }
         ensures kept { self.new ≡ self.old }
@@ -321,109 +318,8 @@ fn make_more<K, V, L: LruList, const TYPE: u8>(
     }
 }
 
-/// Returns the part in which the bucket with an index stands, and its offset there.
-#[inline(always)]
-pub(crate) fn place_in<K, V, L: LruList, const TYPE: u8>(
-    parts: &Vec<Part<K, V, L, TYPE>>,
-    spare: &Vec<Bucket<K, V, L, TYPE>>,
-    len: usize,
-    part_bits: u32,
-    part_mask: usize,
-    index: usize,
-) -> (usize, usize)
-    requires parts { AreParts parts.now.items spare.now.items len part_bits }
-    requires mask { part_mask ≡ 2 ^ part_bits - 1 }
-    requires within { index < len }
-    ensures part { result.0 ≡ index / 2 ^ part_bits }
-    ensures offset { result.1 ≡ index % 2 ^ part_bits }
-    ensures within { result.0 < vec_len parts.now }
-    ensures inside { result.1 < length (part_at parts.now.items result.0) }
-{
-    place_of(index, part_bits, part_mask)
-}
-
-/// Lends the bucket with an offset in one of the parts for writing.
-#[inline(always)]
-pub(crate) fn bucket_in<K, V, L: LruList, const TYPE: u8>(
-    parts: &mut Vec<Part<K, V, L, TYPE>>,
-    part: usize,
-    offset: usize,
-) -> &mut Bucket<K, V, L, TYPE>
-    requires fits { BucketFits K.row V.row L.row TYPE.row
-        (record { KEEPS = L.KEEPS; listed = L.listed; IsTail = L.IsTail }) L.Default }
-    requires within { part < vec_len parts.old }
-    requires offset { offset < length (part_at parts.old.items part) }
-    ensures* writes_back { sem 𝓛
-        (LendsBucketIn K.row V.row L.row TYPE.row
-        (record { KEEPS = L.KEEPS; listed = L.listed; IsTail = L.IsTail }) L.Default
-        parts.entry part offset result) }
-    ensures bucket { result.now ≡ bucket_at (part_at parts.old.items part) offset }
-{
-    let lent = &mut parts[part];
-    lent.bucket_mut(offset)
-}
-
-/// Lends a bucket with a live own slot in one of the parts for writing.
-#[inline(always)]
-pub(crate) fn made_bucket_in<K, V, L: LruList, const TYPE: u8>(
-    parts: &mut Vec<Part<K, V, L, TYPE>>,
-    part: usize,
-    offset: usize,
-) -> &mut Bucket<K, V, L, TYPE>
-    requires fits { BucketFits K.row V.row L.row TYPE.row
-        (record { KEEPS = L.KEEPS; listed = L.listed; IsTail = L.IsTail }) L.Default }
-    requires within { part < vec_len parts.old }
-    requires offset { offset < length (part_at parts.old.items part) }
-    requires live_slot { (pos : ℕ)
-        × (is_live (slot_at (bucket_at (part_at parts.old.items part) offset).own pos) ≡ true) }
-    ensures* writes_back { sem 𝓛
-        (LendsBucketIn K.row V.row L.row TYPE.row
-        (record { KEEPS = L.KEEPS; listed = L.listed; IsTail = L.IsTail }) L.Default
-        parts.entry part offset result) }
-    ensures bucket { result.now ≡ bucket_at (part_at parts.old.items part) offset }
-{
-    let lent = &mut parts[part];
-    lent.made_bucket_mut(offset)
-}
-
-/// Lets the buckets of one of the parts go, where every one is killed and holds nothing. What is
-/// read of the parts stays.
-pub(crate) fn release_in<K: Drop, V: Drop, L: LruList + Drop, const TYPE: u8>(
-    parts: &mut Vec<Part<K, V, L, TYPE>>,
-    part: usize,
-)
-    requires fits { BucketFits K.row V.row L.row TYPE.row
-        (record { KEEPS = L.KEEPS; listed = L.listed; IsTail = L.IsTail }) L.Default }
-    requires within { part < vec_len parts.old }
-    ensures { parts.new.items ≡ parts.old.items }
-{
-    parts[part].release();
-}
-
-/// Lets the buckets of one of the parts go, where every one is killed and holds nothing, and
-/// exchanges their memory with that of a part of other ones that has none made: the first among a
-/// few that pairs move to next. What is read of both stays. Returns whether there is such a part.
-pub(crate) fn release_to_in<K: Drop, V: Drop, L: LruList + Drop, const TYPE: u8>(
-    parts: &mut Vec<Part<K, V, L, TYPE>>,
-    part: usize,
-    others: &mut Vec<Part<K, V, L, TYPE>>,
-) -> bool
-    requires fits { BucketFits K.row V.row L.row TYPE.row
-        (record { KEEPS = L.KEEPS; listed = L.listed; IsTail = L.IsTail }) L.Default }
-    requires within { part < vec_len parts.old }
-    ensures kept { parts.new.items ≡ parts.old.items }
-    ensures others { others.new.items ≡ others.old.items }
-{
-    let next = (part + 1).saturating_mul(others.len()) / parts.len();
-    let Some(fresh) = first_fresh(others, next) else {
-        return false;
-    };
-    parts[part].release_to(&mut others[fresh]);
-    true
-}
-
 /// Returns the first of a few parts from an index on of which no bucket is made.
-fn first_fresh<K, V, L: LruList, const TYPE: u8>(
+pub(crate) fn first_fresh<K, V, L: LruList, const TYPE: u8>(
     parts: &Vec<Part<K, V, L, TYPE>>,
     start: usize,
 ) -> Option<usize>
@@ -436,34 +332,4 @@ fn first_fresh<K, V, L: LruList, const TYPE: u8>(
         }
     }
     None
-}
-
-/// Moves pairs of own slots of a bucket to buckets of one of the parts, as `Part::spread` does.
-#[inline(always)]
-pub(crate) fn spread_in<K: Drop, V: Drop, L: LruList, F: Fn(&K) -> u64, const TYPE: u8>(
-    parts: &mut Vec<Part<K, V, L, TYPE>>,
-    part: usize,
-    source: &mut Bucket<K, V, L, TYPE>,
-    offset: usize,
-    len: usize,
-    start: usize,
-    shift: u32,
-    hash_of: &F,
-)
-    requires fits { BucketFits K.row V.row L.row TYPE.row
-        (record { KEEPS = L.KEEPS; listed = L.listed; IsTail = L.IsTail }) L.Default }
-    requires callable { F.IsAlwaysCallable hash_of.now }
-    requires within { part < vec_len parts.old }
-    requires offset { offset < length (part_at parts.old.items part) }
-    requires shift { shift < 64 }
-    requires bounded { start + len ≤ 2 ^ 64 }
-    ensures { (left : List (BucketView K V)) × (parts.new.items ≡ slice_set parts.old.items part left)
-        × ((first : ℕ) → start ≡ first + offset
-        → SpreadsSome TYPE (λ key answer. F.post hash_of.now key answer) (IsShifted shift) first
-        source.old (part_at parts.old.items part) source.new left)
-        × ((i : ℕ) → i < offset
-        → bucket_at left i ≡ bucket_at (part_at parts.old.items part) i) }
-{
-    let lent = &mut parts[part];
-    lent.spread(source, offset, len, start, shift, hash_of);
 }

@@ -2,7 +2,7 @@ use Rattle.bucket_slots.proofs.Words.{IsMaskOf, [], ap, arith, empty_bucket, get
 use Rattle.bucket_slots.proofs.Words.{◌<◌, ℕ, ◌∙◌}
 use Rattle.bucket_slots.specs.ArrayView.{bucket_at}
 use Rattle.bucket_slots.proofs.Digests.{none_by_mask, some_in_mask}
-use Rattle.bucket_slots.proofs.bucket_array.digested.find_in.Goals as goal
+use Rattle.bucket_slots.proofs.bucket_array.known.find_in.Goals as goal
 
 pub returns-then-candidates-eq0-clause-place : goal.returns-then-candidates-eq0-clause-place
 returns-then-candidates-eq0-clause-place g c =

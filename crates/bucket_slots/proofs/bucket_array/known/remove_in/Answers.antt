@@ -1,7 +1,7 @@
 use Rattle.bucket_slots.proofs.Words.{rules}
 use Rattle.bucket_slots.specs.ArrayView.{bucket_at}
 use Rattle.bucket_slots.specs.Layout.ArrayParts.{part_at}
-use Rattle.bucket_slots.proofs.bucket_array.digested.remove_in.Goals as goal
+use Rattle.bucket_slots.proofs.bucket_array.known.remove_in.Goals as goal
 
 pub made_bucket_in-requires : goal.made_bucket_in-requires
 made_bucket_in-requires g c =

@@ -1,7 +1,7 @@
 use Rattle.bucket_slots.proofs.Words.{IsMaskOf, arith, is_live, part_at, refl, subst, sym, ℕ}
 use Rattle.bucket_slots.specs.ArrayView.{bucket_at}
 use Rattle.bucket_slots.proofs.Digests.{ready_there}
-use Rattle.bucket_slots.proofs.bucket_array.digested.known_in.Goals as goal
+use Rattle.bucket_slots.proofs.bucket_array.known.known_in.Goals as goal
 
 pub returns : goal.returns
 returns g c =

@@ -1,6 +1,6 @@
 use Rattle.bucket_slots.proofs.Words.{arith, refl}
 use Rattle.bucket_slots.proofs.ArrayParts.{place_is}
-use Rattle.bucket_slots.proofs.bucket_array.part.place_in.Goals as goal
+use Rattle.bucket_slots.proofs.bucket_array.parts.place_in.Goals as goal
 
 pub returns : goal.returns
 returns g c =

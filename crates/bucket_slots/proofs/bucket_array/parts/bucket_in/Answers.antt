@@ -1,5 +1,5 @@
 use Rattle.bucket_slots.proofs.Words.{[], arith, get_or_read, refl, rules}
-use Rattle.bucket_slots.proofs.bucket_array.part.bucket_in.Goals as goal
+use Rattle.bucket_slots.proofs.bucket_array.parts.bucket_in.Goals as goal
 
 pub returns : goal.returns
 returns g c =

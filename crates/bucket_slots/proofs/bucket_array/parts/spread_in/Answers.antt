@@ -1,5 +1,5 @@
 use Rattle.bucket_slots.proofs.Words.{[], arith, get_or_read, refl}
-use Rattle.bucket_slots.proofs.bucket_array.part.spread_in.Goals as goal
+use Rattle.bucket_slots.proofs.bucket_array.parts.spread_in.Goals as goal
 
 pub returns : goal.returns
 returns g c =

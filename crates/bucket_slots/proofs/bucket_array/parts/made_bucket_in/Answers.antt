@@ -1,5 +1,5 @@
 use Rattle.bucket_slots.proofs.Words.{[], arith, get_or_read, refl, rules}
-use Rattle.bucket_slots.proofs.bucket_array.part.made_bucket_in.Goals as goal
+use Rattle.bucket_slots.proofs.bucket_array.parts.made_bucket_in.Goals as goal
 
 pub made_bucket_mut-requires : goal.made_bucket_mut-requires
 made_bucket_mut-requires g c =

@@ -1,0 +1,215 @@
+//! Pairs put into a bucket of an array and taken out of it, by its digest.
+//!
+//! Own.
+ghost use Rattle.std.specs.Prelude.{◌≡◌, ◌≢◌, ◌%◌, ◌<◌, OnErr, OnOk, length, slice_set};
+ghost use Rattle.bucket_slots.specs.ArrayView.{bucket_at};
+ghost use Rattle.bucket_slots.specs.BucketView.{BucketView};
+ghost use Rattle.bucket_slots.specs.Clearing.{slots_after_insertion};
+ghost use Rattle.bucket_slots.specs.Digested.{AnswersPut, TakesWanted, UpsertsIn};
+
+use super::digests::is_lost;
+use super::known::{fill_in, find_in, known_in, remove_in};
+use super::{BucketArray, sizing};
+use crate::bucket::{EqProbe, Generation, INDEX, KeyProbe};
+use crate::lru::LruList;
+use std::mem;
+
+/// Why a pair was not put; it comes back.
+pub enum NotPut<K, V> {
+    /// An equal key is in the bucket.
+    Present(K, V),
+    /// Allocation failed.
+    Memory(K, V),
+}
+
+impl<K: Drop, V: Drop, L: LruList, const TYPE: u8> BucketArray<K, V, L, TYPE> {
+    /// Takes the first pair that a probe wants out of a bucket. Returns it, and how many are left.
+    #[inline(always)]
+    pub fn take_by<P: KeyProbe<K>>(
+        &mut self,
+        index: usize,
+        hash: u64,
+        probe: &mut P,
+    ) -> Option<((K, V), usize)>
+        requires not_index { TYPE ≢ INDEX }
+        requires within { index < length self.old }
+        ensures taken { TakesWanted (P.wants probe.old) (hash % 256) index self.old result self.new }
+        ensures fixed { P.wants probe.new ≡ P.wants probe.old }
+    {
+        self.room();
+        let live = self.digests.live(index);
+        if is_lost(live) {
+            return self.take_lost(index, hash, probe);
+        }
+        let byte = (hash % 256) as u8;
+        let left = self.digests.candidates(index, live, byte);
+        sizing::below(index, self.len);
+        prove!(live != u32::MAX);
+        let (part, offset) = known_in(
+            &self.parts,
+            &self.spare,
+            &self.digests,
+            self.len,
+            self.part_bits,
+            self.part_mask,
+            index,
+            live,
+            left,
+            byte,
+        );
+        let at = match find_in(&self.parts, part, offset, left, byte, probe) {
+            Some((at, _, _)) => at,
+            None => return None,
+        };
+        let pos = at.pos() as u32;
+        let pair = remove_in(&mut self.parts, part, offset, at);
+        let left = self.digests.free(index, live, pos);
+        Some((pair, left))
+    }
+
+    /// Does what `take_by` does, where the bucket has no digest.
+    #[inline(always)]
+    fn take_lost<P: KeyProbe<K>>(
+        &mut self,
+        index: usize,
+        hash: u64,
+        probe: &mut P,
+    ) -> Option<((K, V), usize)>
+        requires not_index { TYPE ≢ INDEX }
+        requires within { index < length self.old }
+        ensures taken { TakesWanted (P.wants probe.old) (hash % 256) index self.old result self.new }
+        ensures fixed { P.wants probe.new ≡ P.wants probe.old }
+    {
+        self.room();
+        let bucket = self.bucket_mut(index);
+        let mut at = bucket.get_entry_ptr_by(hash, probe);
+        if !at.is_valid() {
+            return None;
+        }
+        let pair = bucket.remove(&mut at);
+        let left = bucket.len();
+        self.settle(index);
+        Some((pair, left))
+    }
+
+    /// Inserts a pair into a bucket where no live slot has an equal key.
+    #[inline(always)]
+    pub fn insert_absent<G: Generation>(
+        &mut self,
+        index: usize,
+        hash: u64,
+        key: K,
+        value: V,
+        generation: &G,
+    ) -> Result<(), NotPut<K, V>>
+    where
+        K: Eq,
+        requires { index < length self.old }
+        ensures answer { AnswersPut K.eq key value (hash % 256) TYPE (G.keeps generation.now)
+            (bucket_at self.old index) result }
+        ensures put { OnOk result (self.new ≡ slice_set self.old index
+            (slots_after_insertion TYPE (G.keeps generation.now) (bucket_at self.old index)
+            (key, value) (hash % 256))) }
+        ensures unchanged { OnErr result (self.new ≡ self.old) }
+    {
+        self.room();
+        let live = self.digests.live(index);
+        if TYPE == INDEX || is_lost(live) {
+            return self.insert_lost(index, hash, key, value, generation);
+        }
+        let byte = (hash % 256) as u8;
+        let left = self.digests.candidates(index, live, byte);
+        sizing::below(index, self.len);
+        prove!(live != u32::MAX);
+        let (part, offset) = known_in(
+            &self.parts,
+            &self.spare,
+            &self.digests,
+            self.len,
+            self.part_bits,
+            self.part_mask,
+            index,
+            live,
+            left,
+            byte,
+        );
+        if let Some(_found) = find_in(
+            &self.parts,
+            part,
+            offset,
+            left,
+            byte,
+            &mut EqProbe::new(&key),
+        ) {
+            return Err(NotPut::Present(key, value));
+        }
+        let pos = fill_in(&mut self.parts, part, offset, live, byte, (key, value));
+        self.digests.fill(index, live, pos, byte);
+        Ok(())
+    }
+
+    /// Inserts a pair into a bucket, or writes its value beside the key that is equal.
+    #[inline(always)]
+    pub fn upsert<G: Generation>(
+        &mut self,
+        index: usize,
+        hash: u64,
+        key: K,
+        value: V,
+        generation: &G,
+    ) -> Result<Option<V>, (K, V)>
+    where
+        K: Eq,
+        requires { index < length self.old }
+        ensures { (left : BucketView K V)
+            × UpsertsIn K.eq key value (hash % 256) TYPE (G.keeps generation.now)
+            (bucket_at self.old index) result left
+            × (self.new ≡ slice_set self.old index left) }
+    {
+        self.heal(index);
+        match self.find_by(index, hash, &mut EqProbe::new(&key)) {
+            Some(at) => {
+                let (_own, old) = self.entry_mut(index, &at);
+                Ok(Some(mem::replace(old, value)))
+            }
+            None => match self.insert_absent(index, hash, key, value, generation) {
+                Ok(()) => Ok(None),
+                Err(NotPut::Present(_key, _value)) => unreachable!(),
+                Err(NotPut::Memory(key, value)) => Err((key, value)),
+            },
+        }
+    }
+
+    /// Does what `insert_absent` does, where the bucket has no digest or is an index's.
+    #[inline(never)]
+    fn insert_lost<G: Generation>(
+        &mut self,
+        index: usize,
+        hash: u64,
+        key: K,
+        value: V,
+        generation: &G,
+    ) -> Result<(), NotPut<K, V>>
+    where
+        K: Eq,
+        requires { index < length self.old }
+        ensures answer { AnswersPut K.eq key value (hash % 256) TYPE (G.keeps generation.now)
+            (bucket_at self.old index) result }
+        ensures put { OnOk result (self.new ≡ slice_set self.old index
+            (slots_after_insertion TYPE (G.keeps generation.now) (bucket_at self.old index)
+            (key, value) (hash % 256))) }
+        ensures unchanged { OnErr result (self.new ≡ self.old) }
+    {
+        self.room();
+        let bucket = self.bucket_mut(index);
+        if bucket.get_entry_ptr(&key, hash).is_valid() {
+            return Err(NotPut::Present(key, value));
+        }
+        let placed = bucket.insert(hash, (key, value), generation);
+        self.settle(index);
+        match placed {
+            Ok(_) => Ok(()),
+            Err((key, value)) => Err(NotPut::Memory(key, value)),
+        }
+    }
+}
