@@ -4,20 +4,20 @@
 //! map answers as std's `HashMap` does: `get` is a look-up of the pairs.
 //!
 //! Ports scc's `src/hash_map.rs` to an owned map: a borrow stands where scc locks.
-ghost use Rattle.std.specs.Prelude.{◌≡◌, ◌↔◌, ◌-◌, ◌^◌, ◌&&◌, [], Err, IsTrue, OnErr, Some, is_some, min};
-ghost use Rattle.std.specs.Option.{option_copied, option_eq};
+ghost use Rattle.std.specs.Prelude.{◌≡◌, ◌↔◌, ◌-◌, ◌^◌, [], Err, IsTrue, OnErr, is_some, min};
+ghost use Rattle.std.specs.Option.{option_copied};
 ghost use Rattle.std.specs.Borrow.{Bor, MutBor};
 ghost use Rattle.bucket_slots.specs.Walking.{CallsEach};
 ghost use Rattle.bucket_table.specs.Map.LookingUp.{IsThere};
 ghost use Rattle.bucket_table.specs.declared.hash_table.NotInserted.TheVariants.{Memory};
 ghost use Rattle.collections.specs.Crowding.{LacksRoom};
-ghost use Rattle.collections.specs.Equality.{is_within};
-ghost use Rattle.collections.specs.Maps.{contains_by, get, get_by, IsEmpty, map_len};
+ghost use Rattle.collections.specs.Maps.{contains_by, get_by, IsEmpty, map_len};
 ghost use Rattle.collections.specs.Changes.{Inserts, Removes, Retains, Rewrites, Upserts};
 ghost use Rattle.collections.specs.Slots.{GrowsSlots, KeepsSlots, LosesSlots};
 
 mod cloning;
 mod collecting;
+mod comparing;
 mod copying;
 mod draining;
 mod emptied;
@@ -364,63 +364,4 @@ impl<K: Eq + Hash, V> HashMap<K, V, StdHash<RandomState>> {
     {
         Self::with_hasher(alloc, StdHash::new(state))
     }
-}
-
-impl<K: Eq, V: PartialEq, H: KeyHash<K>> HashMap<K, V, H> {
-    /// Tests whether the map has an equal value under a key.
-    fn has_value(&self, key: &K, value: &V) -> bool
-        ensures { result ≡ option_eq V.eq (Some value.now) (get K.eq self.now key.now) }
-    {
-        match self.get(key) {
-            Some(own) => value.eq(own),
-            None => false,
-        }
-    }
-
-    /// Tests whether another map has each key of this one, beside an equal value.
-    fn is_within(&self, other: &Self) -> bool
-        ensures { result ≡ is_within K.eq V.eq self.now other.now }
-    {
-        self.room.learn();
-        self.table.sound();
-        let mut all = true;
-        let mut visit = |key: &K, value: &V|
-            ensures { all.exit ≡ (all.entry
-                && option_eq V.eq (Some value.now) (get K.eq other.entry.now key.now)) }
-        {
-            if all {
-                all = other.has_value(key, value);
-            }
-        };
-        self.for_each_ref(&mut visit);
-        all
-    }
-}
-
-/// As std's maps: `==` is whether each has the keys of the other, beside equal values.
-impl<K: Eq, V: PartialEq, H: KeyHash<K>> PartialEq for HashMap<K, V, H> {
-    ghost use Rattle.collections.specs.Equality.{map_eq};
-    ghost use Rattle.collections.specs.EqualityLaws.{map_eq_joined, map_eq_turned};
-
-    ghost eq = { map_eq K.eq V.eq };
-
-    ghost laws = { let v = V.laws in record {
-      symm = map_eq_turned K.eq V.eq;
-      trans = map_eq_joined K.eq K.Eq.laws V.eq v.symm v.trans;
-    } };
-
-    fn eq(&self, other: &HashMap<K, V, H>) -> bool {
-        self.is_within(other) && other.is_within(self)
-    }
-}
-
-impl<K: Eq, V: Eq, H: KeyHash<K>> Eq for HashMap<K, V, H> {
-    ghost use Rattle.collections.specs.EqualityLaws.{map_eq_itself, map_eq_joined, map_eq_turned};
-    ghost use Rattle.std.specs.Cmp.{equiv, partial_equiv_from_equiv};
-
-    ghost laws = { let v = V.Eq.laws in equiv (record {
-      symm = map_eq_turned K.eq V.eq;
-      trans = map_eq_joined K.eq K.Eq.laws V.eq v.symm (partial_equiv_from_equiv v).trans;
-    })
-        (map_eq_itself K.eq V.eq v.refl) };
 }
