@@ -6,8 +6,8 @@ use Rattle.bucket_slots.specs.Clearing.{slots_after_insertion, slots_for_inserti
 use Rattle.bucket_slots.specs.Removing.{slots_without}
 use Rattle.bucket_slots.specs.Searching.{place_wanted}
 use Rattle.bucket_slots.specs.Slots.{is_free, live_pair}
-use Rattle.bucket_slots.specs.declared.bucket_array.digested.NotPut.{NotPut}
-use Rattle.bucket_slots.specs.declared.bucket_array.digested.NotPut.TheVariants.{Memory, Present}
+use Rattle.bucket_slots.specs.declared.bucket_array.writing.NotPut.{NotPut}
+use Rattle.bucket_slots.specs.declared.bucket_array.writing.NotPut.TheVariants.{Memory, Present}
 
 -- the pair of the first wanted slot of a bucket is taken out, and so many are left there
 pub record TakesFirst {K V : Type 0} (wants : K → Bool) (byte index : ℕ) (old : List (BucketView K V)) (pair : K × V) (left : ℕ)
