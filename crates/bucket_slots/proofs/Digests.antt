@@ -26,19 +26,23 @@ module _ {K V : Type 0} where
   AreDigests-none digests buckets none index said = absurd (said (none index (omega arith)))
 
   -- one digest and its bucket change, and the digest says nothing or is the bucket's
-  pub AreDigests-set : (old new : DigestLists) (buckets : List (BucketView K V)) (index : ℕ) (bucket : BucketView K V) → AreDigests old buckets
-      → index < length buckets → ChangesOne index old new → ((digest_at new index).live ≢ 2 ^ 32 - 1 → IsDigest (digest_at new index) bucket)
+  pub AreDigests-set : (old new : DigestLists) (buckets : List (BucketView K V)) (index : ℕ) (bucket : BucketView K V)
+      → AreDigests old buckets
+      → index < length buckets → ChangesOne index old new → ((digest_at new index).live ≢ 2 ^ 32 - 1
+      → IsDigest (digest_at new index) bucket)
       → AreDigests new (set buckets index bucket)
   AreDigests-set old new buckets index bucket kept below others here i said = elim (cases_eq i index) [
     | inl same ↦
         let there = get_or-set_same buckets index bucket empty_bucket below in
         rw (same, there) (here (λ lost. said (ap (λ k. (digest_at new k).live) same ∙ lost)))
     | inr other ↦
-        rw (others i other, get_or-set_other buckets index i bucket empty_bucket other) (kept i (λ lost. said (ap (λ d. d.live) (others i other) ∙ lost)))
+        rw (others i other, get_or-set_other buckets index i bucket empty_bucket other)
+        (kept i (λ lost. said (ap (λ d. d.live) (others i other) ∙ lost)))
   ]
 
   -- one digest is lost, and its bucket changes
-  pub AreDigests-lost : (old new : DigestLists) (buckets : List (BucketView K V)) (index : ℕ) (bucket : BucketView K V) → AreDigests old buckets
+  pub AreDigests-lost : (old new : DigestLists) (buckets : List (BucketView K V)) (index : ℕ) (bucket : BucketView K V)
+      → AreDigests old buckets
       → index < length buckets → ChangesOne index old new → IsLost (digest_at new index) → AreDigests new (set buckets index bucket)
   AreDigests-lost old new buckets index bucket kept below others lost =
       AreDigests-set old new buckets index bucket kept below others (λ said. absurd (said lost))
@@ -127,7 +131,8 @@ module _ {K V : Type 0} where
   free_from free is = refl
   free_from slot is = cc
 
-  module _ (parts : List (List (BucketView K V))) (spare : List (BucketView K V)) (len bits part offset index : ℕ) (buckets : List (BucketView K V))
+  module _ (parts : List (List (BucketView K V))) (spare : List (BucketView K V)) (len bits part offset index : ℕ)
+      (buckets : List (BucketView K V))
       (place : IsPlace parts spare len bits part offset index buckets) (view : flattened parts ≡ buckets) (below : index < length buckets)
       (old new : DigestLists) (kept : AreDigests old (flattened parts)) (others : ChangesOne index old new) where
     -- one digest and its bucket change, where the parts hold it
@@ -135,7 +140,8 @@ module _ {K V : Type 0} where
         → AreDigests new (flattened (set parts part (set (part_at parts part) offset bucket)))
     set_there bucket here =
         subst (λ (xs : List (BucketView K V)). AreDigests new xs) (sym (place.written bucket))
-        (AreDigests-set old new buckets index bucket (subst (λ (xs : List (BucketView K V)). AreDigests old xs) view kept) below others here)
+        (AreDigests-set old new buckets index bucket (subst (λ (xs : List (BucketView K V)). AreDigests old xs) view kept) below
+        others here)
 
     pub lost_there : IsLost (digest_at new index) → (bucket : BucketView K V)
         → AreDigests new (flattened (set parts part (set (part_at parts part) offset bucket)))
@@ -150,7 +156,8 @@ module _ {K V : Type 0} where
   kept_there parts spare len bits part offset index buckets place view below digests kept bucket stays =
       let read = ap (λ (xs : List (BucketView K V)). bucket_at xs index) view ∙ sym place.read in
       set_there parts spare len bits part offset index buckets place view below digests digests kept (λ i other. refl) bucket
-      (λ said. stays (digest_at digests index) (subst (λ (b : BucketView K V). IsDigest (digest_at digests index) b) read (kept index said)))
+      (λ said. stays (digest_at digests index) (subst (λ (b : BucketView K V). IsDigest (digest_at digests index) b) read
+      (kept index said)))
 
   valued : (slot : Slot K V) (value : V)
       → (is_live (slot_with_value slot value) ≡ is_live slot) × (byte_of (slot_with_value slot value) ≡ byte_of slot)
@@ -168,7 +175,8 @@ module _ {K V : Type 0} where
       go zero here =
           let new = set b.own at.pos (slot_with_value (slot_at b.own at.pos) value) in
           let below = within is_live b.own at.pos free refl here in
-          let same : (i : ℕ) → (is_live (slot_at new i) ≡ is_live (slot_at b.own i)) × (byte_of (slot_at new i) ≡ byte_of (slot_at b.own i)) =
+          let same : (i : ℕ) → (is_live (slot_at new i) ≡ is_live (slot_at b.own i))
+          × (byte_of (slot_at new i) ≡ byte_of (slot_at b.own i)) =
           λ i. elim (cases_eq i at.pos) [
             | inl e ↦ rw (e, get_or-set_same b.own at.pos (slot_with_value (slot_at b.own at.pos) value) free below)
                 (valued (slot_at b.own at.pos) value)
@@ -197,7 +205,8 @@ module _ {K V : Type 0} where
   }
 
   -- nothing is said from an index on, and the buckets before it stay
-  pub AreDigests-front : (digests : DigestLists) (old new : List (BucketView K V)) (start : ℕ) → AreDigests digests old → KnowsNone start digests
+  pub AreDigests-front : (digests : DigestLists) (old new : List (BucketView K V)) (start : ℕ) → AreDigests digests old
+      → KnowsNone start digests
       → ((i : ℕ) → i < start → bucket_at new i ≡ bucket_at old i) → AreDigests digests new
   AreDigests-front digests old new start kept none same i said = elim (cases_lt i start) [
     | inl before ↦ rw (same i before) (kept i said)
@@ -228,7 +237,8 @@ module _ {K V : Type 0} where
       let nowhere = position-none_left (has_byte byte) want free bucket.own left in
       sym (first_chain want bucket.own bucket.chain (sym nowhere)) ∙ ap (first_from want 1) none
 
-  clear_bit : (slot : Slot K V) → tally (is_marked slot) ≤ 0 → (is_live slot ≡ true → is_free slot ≡ false) × (is_live slot ≡ false → is_free slot ≡ true)
+  clear_bit : (slot : Slot K V) → tally (is_marked slot) ≤ 0 → (is_live slot ≡ true → is_free slot ≡ false)
+      × (is_live slot ≡ false → is_free slot ≡ true)
   clear_bit free none = (λ e. cc, λ e. refl)
   clear_bit (live pair byte) none = (λ e. refl, λ e. cc)
   clear_bit (marked pair byte) none = absurd (omega arith)
@@ -275,12 +285,14 @@ module _ {K V : Type 0} where
     pub mask : IsMaskOf (has_byte byte) (bucket_at (part_at parts part) offset).own left
 
   pub ready_there : (parts : List (List (BucketView K V))) (spare : List (BucketView K V)) (len bits part offset index : ℕ)
-      (buckets : List (BucketView K V)) (digests : DigestLists) (byte lives left : ℕ) → AreParts parts spare len bits → flattened parts ≡ buckets
+      (buckets : List (BucketView K V)) (digests : DigestLists) (byte lives left : ℕ) → AreParts parts spare len bits → flattened parts
+      ≡ buckets
       → index < length buckets → part ≡ index / 2 ^ bits → offset ≡ index % 2 ^ bits → AreDigests digests (flattened parts)
       → lives ≡ (digest_at digests index).live → lives ≢ 2 ^ 32 - 1
       → (mask : ℕ) × IsMaskOf (λ own. own == byte) (digest_at digests index).bytes mask × (left ≡ bit_and mask lives)
       → IsReady parts spare len bits part offset index buckets (digest_at digests index) byte left
-  ready_there parts spare len bits part offset index buckets digests byte lives left kept view below part_is offset_is are said known found =
+  ready_there parts spare len bits part offset index buckets digests byte lives left kept view below part_is offset_is are said
+      known found =
       let place = place_is parts spare len bits kept part offset index buckets view below part_is offset_is in
       let is = are index (λ lost. known (said ∙ lost)) in
       let read : bucket_at (flattened parts) index ≡ bucket_at (part_at parts part) offset =

@@ -10,7 +10,8 @@ use Rattle.bucket_slots.specs.Replacing.{slots_replaced}
 
 module _ {K V : Type 0} where
   -- a vacated slot is free
-  vacated_block : (s : BucketView K V) (block pos : ℕ) → block_at (slots_vacated_at s block pos) block ≡ block_at (with_slot_at s block pos free) block
+  vacated_block : (s : BucketView K V) (block pos : ℕ) → block_at (slots_vacated_at s block pos) block
+      ≡ block_at (with_slot_at s block pos free) block
   vacated_block s zero pos = refl
   vacated_block s (suc i) pos = refl
 

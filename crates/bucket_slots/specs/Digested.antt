@@ -25,7 +25,8 @@ TakesWanted wants byte index old None new = (new ≡ old) × (place_wanted wants
 
 -- no live slot has an equal key where a pair was put, or allocation failed, and then no slot is free; one has where the answer says so;
 -- what isn't put comes back
-abbrev pub AnswersPut : {K V : Type 0} → (K → K → Bool) → K → V → ℕ → ℕ → (ℕ → Bool) → BucketView K V → Result (Unit {0}) (NotPut K V) → Type 0
+abbrev pub AnswersPut : {K V : Type 0} → (K → K → Bool) → K → V → ℕ → ℕ → (ℕ → Bool) → BucketView K V
+    → Result (Unit {0}) (NotPut K V) → Type 0
 AnswersPut eq key value byte kind keeps bucket (Ok done) = place_wanted (λ own. eq own key) byte bucket ≡ None
 AnswersPut eq key value byte kind keeps bucket (Err (Present k v)) =
     (k ≡ key) × (v ≡ value) × ((at : Place) × (place_wanted (λ own. eq own key) byte bucket ≡ Some at))
@@ -43,4 +44,5 @@ UpsertsIn {K} eq key value byte kind keeps old (Ok (Some earlier)) new =
     (at : Place) × (found : K) × (place_wanted (λ own. eq own key) byte old ≡ Some at)
     × (live_pair (slot_in old at) ≡ Some (found, earlier)) × (new ≡ bucket_with_value old at value)
 UpsertsIn eq key value byte kind keeps old (Err back) new =
-    (back ≡ (key, value)) × (place_wanted (λ own. eq own key) byte old ≡ None) × (new ≡ old) × (first_place is_free (slots_for_insertion kind keeps old) ≡ None)
+    (back ≡ (key, value)) × (place_wanted (λ own. eq own key) byte old ≡ None) × (new ≡ old)
+    × (first_place is_free (slots_for_insertion kind keeps old) ≡ None)

@@ -37,7 +37,8 @@ module _ {K V H : Type 0} (eq : K → K → Bool) (hash_of : H → K → ℕ) wh
       | inr none ↦ absurd (has.enough (omega (arith, none, some)))
     ]
 
-    more_there : (key k : K) (v : V) → IsPermutation ((k, v) ∷ old.entries) new.entries → HasAtHome 31 (hash_of hasher) key slots old.entries
+    more_there : (key k : K) (v : V) → IsPermutation ((k, v) ∷ old.entries) new.entries
+        → HasAtHome 31 (hash_of hasher) key slots old.entries
         → HasAtHome 31 (hash_of hasher) key slots new.entries
     more_there key k v moved crowded =
         let len = slots / 32 in

@@ -78,7 +78,8 @@ full_there {K} {V} {H} keeps t s side to index at same here there none =
     (subst (λ (i : ℕ). HasNoSlot 83 keeps (bucket_on t.arrays side i)) there none))
 
 -- a bucket that was changed, named otherwise
-pub changed_there : {K V H : Type 0} (added t s : TableView K V H) (side to : Side) (index at : ℕ) (change : BucketView K V → BucketView K V)
+pub changed_there : {K V H : Type 0} (added t s : TableView K V H) (side to : Side) (index at : ℕ)
+    (change : BucketView K V → BucketView K V)
     → t ≡ s → side ≡ to → index ≡ at → added ≡ with_bucket t side index (change (bucket_on t.arrays side index))
     → added ≡ with_bucket s to at (change (bucket_on s.arrays to at))
 changed_there {K} {V} {H} added t s side to index at change same here there is =
@@ -133,7 +134,8 @@ pub added_lent_grows : {K V H : Type 0} (hash_of : H → K → ℕ) (key : K) (t
     → GrowsSlots hash_of key (map_of t) (map_of (with_value added side index at w))
 added_lent_grows {K} {V} {H} hash_of key t between added placed beside keeps v w side index byte hash at own finds puts is =
     let same = sym (ap (λ z. z.hasher) puts.others ∙ ap (λ z. z.hasher) finds.map.others) in
-    let pairs = IsPermutation-trans _ _ _ (IsPermutation-cons (key, v) (pairs_of t.arrays) (pairs_of between.arrays) finds.map.pairs) puts.pairs in
+    let pairs = IsPermutation-trans _ _ _ (IsPermutation-cons (key, v) (pairs_of t.arrays) (pairs_of between.arrays) finds.map.pairs)
+    puts.pairs in
     let there = subst (λ (h : ℕ). FindsBucket 83 h t side index between) own finds in
     let grows = added_grows hash_of key t added placed beside 83 keeps v between side index byte there same pairs is in
     let long = as_long_with added.arrays side index (bucket_with_value (bucket_on added.arrays side index) at w) in

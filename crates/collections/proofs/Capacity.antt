@@ -149,7 +149,8 @@ settled_slots slots arrays is settled =
     (slots_of_len slots (length arrays.current) is settled.len, omega (arith, alone))
 
 -- an array that has its length, or that for a capacity which isn't less, has no fewer slots
-pub none_fewer : (slots was len : ℕ) → IsPowerIn 64 (2 ^ 62) slots → (len ≡ was) ⊎ IsLengthFor slots len → 32 * was ≤ slots → 32 * was ≤ 32 * len
+pub none_fewer : (slots was len : ℕ) → IsPowerIn 64 (2 ^ 62) slots → (len ≡ was) ⊎ IsLengthFor slots len → 32 * was ≤ slots
+    → 32 * was ≤ 32 * len
 none_fewer slots was len is (inl same) least = omega (arith, same)
 none_fewer slots was len is (inr for) least = omega (arith, slots_of_len slots len is for, least)
 

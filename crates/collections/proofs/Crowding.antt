@@ -243,7 +243,8 @@ module _ {K V H : Type 0} (hash_of : H → K → ℕ) (key : K) (old new : Table
     (linked : 0 < length new.arrays.linked → KeepsHome 67 (hash_of new.hasher key) new.arrays.linked) (keeps : Bool) (value : V) where
   put_by : (k : K) (v : V) (answer : Result (Side × ℕ) (Unit {0})) (between : TableView K V H)
       → KeepsPairs (state_of 67 old) (state_of 67 new) → Finds 67 (hash_of old.hasher key) old answer between
-      → PutsAt keeps (key, value) (hash_of old.hasher key % 256) between (Err (Memory k v)) answer new → LacksBucket hash_of key (map_of old)
+      → PutsAt keeps (key, value) (hash_of old.hasher key % 256) between (Err (Memory k v)) answer new
+      → LacksBucket hash_of key (map_of old)
   put_by k v (Ok at) between kept found none = absurd none
   put_by k v (Err e) between kept refused is = none_found 67 hash_of key (hash_of new.hasher key) old new refl placed current linked
       (found_none 67 hash_of key old between new kept is refused)

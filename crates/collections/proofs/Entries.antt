@@ -31,7 +31,8 @@ puts_held {K} {V} eq map new wants before value P is holds =
     subst (λ (o : Option V). MatchOption o P (λ held. (own : K) × Replaces eq map wants (own, held) value new)) (sym is) holds
 
 module _ {K V H : Type 0} (eq : K → K → Bool) (map new : MapView K V H) (wants : K → Bool) (loan : Option (MutBor V)) (lent : MutBor V)
-    (value : V) (is : loan ≡ Some lent) (holds : IfSome loan (λ l. (own : K) × Replaces eq map wants (own, l.now) value new × KeepsSlots map new)) where
+    (value : V) (is : loan ≡ Some lent) (holds : IfSome loan
+    (λ l. (own : K) × Replaces eq map wants (own, l.now) value new × KeepsSlots map new)) where
   -- a loan that is there replaces
   pub replaces_there : (own : K) × Replaces eq map wants (own, lent.now) value new
   replaces_there = let both = rw is at holds in (both.0, both.1)

@@ -174,7 +174,8 @@ module _ {K V : Type 0} (eq : K → K → Bool) (laws : IsEquivalence eq) (wants
       }
 
   -- and another value stands beside the key
-  pub holds_in_place : {H : Type 0} (kind : ℕ) (t : TableView K V H) (side : Side) (i : ℕ) (at : Place) → i < length (buckets_on t.arrays side)
+  pub holds_in_place : {H : Type 0} (kind : ℕ) (t : TableView K V H) (side : Side) (i : ℕ) (at : Place)
+      → i < length (buckets_on t.arrays side)
       → live_pair (slot_in (bucket_on t.arrays side i) at) ≡ Some p → IsDistinct eq (keys_of (pairs_of t.arrays))
       → ChangesValue (state_of kind t) p w (state_of kind (with_value t side i at w))
       → Holds eq wants (map_of t) p.1 w (map_with_value wants (map_of t) w)

@@ -112,7 +112,8 @@ module _ {K H : Type 0} (eq : K → K → Bool) (laws : IsEquivalence eq) (IsKey
         let kept : made.hasher ≡ first.hasher = put.puts.kept.hasher in
         let begun : first ≡ empty_map made.hasher = empty ∙ ap (λ h. empty_map h) (sym kept) in
         let into : PutsClones eq IsKey (empty_map made.hasher) keys made =
-        subst (λ l. PutsClones eq IsKey (empty_map made.hasher) l made) all (subst (λ m. PutsClones eq IsKey m (map (λ (k : Bor K). k.now) lent) made) begun put) in
+        subst (λ l. PutsClones eq IsKey (empty_map made.hasher) l made) all
+        (subst (λ m. PutsClones eq IsKey m (map (λ (k : Bor K). k.now) lent) made) begun put) in
         record {
           puts = into;
           has = λ q. into.puts.has q ∙ any_clone eq laws IsKey q keys into.clones into.one_each ∙ any q;

@@ -35,7 +35,8 @@ module _ {K H : Type 0} (eq : K → K → Bool) (laws : IsEquivalence eq) (key :
     replaces_key p same done =
         let were = pairs_of t.arrays in
         let are = pairs_of s.arrays in
-        let there = Contains-permutation (p ∷ done.rest) were p (IsPermutation-sym were (p ∷ done.rest) done.before) (0, omega arith, refl) in
+        let there = Contains-permutation (p ∷ done.rest) were p (IsPermutation-sym were (p ∷ done.rest) done.before)
+        (0, omega arith, refl) in
         let found = lookup_there eq laws key were p distinct there (laws.symm key p.0 ∙ same) in
         let before = length_permutation were (p ∷ done.rest) done.before in
         let later = length_permutation ((key, tt) ∷ done.rest) are done.after.pairs in

@@ -146,7 +146,8 @@ module _ {K V H : Type 0} (old new : TableView K V H) where
                 } → 31 ≤ length (pairs_in (bucket_at ready.current index)) → ChangesSlots (hash_of old.hasher) key (map_of old) (map_of new)
                 changed pushed_is many =
                     let array : between.arrays.linked ≡ ready.current = ap (λ (a : ArraysView K V). a.linked) pushed_is in
-                    let nearly = full is (subst (λ (bs : List (BucketView K V)). 31 ≤ length (pairs_in (bucket_at bs index))) (sym array) many) in
+                    let nearly = full is (subst (λ (bs : List (BucketView K V)). 31 ≤ length (pairs_in (bucket_at bs index)))
+                    (sym array) many) in
                     let len : length between.arrays.linked ≡ length old.arrays.current = ap length array ∙ current_len nearly in
                     record {
                       crowded = subst (λ (n : ℕ). IsNearlyFull n) len nearly;
@@ -204,7 +205,8 @@ module _ {K V : Type 0} where
 
 -- a call that changes a place, where a pair is wanted, after a bucket was made ready
 pub changed_keeps : {K V H : Type 0} (kind hash : ℕ) (old new : TableView K V H) (wants : K → Bool)
-    (change : BucketView K V → Place → BucketView K V) (is_there : Bool) → PreparesThen kind hash old (λ between. ChangesAt wants change is_there between new)
+    (change : BucketView K V → Place → BucketView K V) (is_there : Bool)
+    → PreparesThen kind hash old (λ between. ChangesAt wants change is_there between new)
     → KeepsSlots (map_of old) (map_of new)
 changed_keeps {K} {V} {H} kind hash old new wants change true moved =
     let (side, i, at, stands, is) = moved.done in
@@ -221,7 +223,8 @@ min_with a Old i b = refl
 
 -- a call that takes a pair out where one is wanted, after a bucket was made ready
 pub taken_loses : {K V H : Type 0} (kind hash : ℕ) (old new : TableView K V H) (wants : K → Bool)
-    (change : BucketView K V → Place → BucketView K V) (is_there : Bool) → PreparesThen kind hash old (λ between. ShrinksAt wants change is_there between new)
+    (change : BucketView K V → Place → BucketView K V) (is_there : Bool)
+    → PreparesThen kind hash old (λ between. ShrinksAt wants change is_there between new)
     → LosesSlots is_there (map_of old) (map_of new)
 unfolding LosesSlots
 taken_loses {K} {V} {H} kind hash old new wants change false moved =
@@ -377,7 +380,8 @@ module _ {K V H : Type 0} (hash_of : H → K → ℕ) (key : K) (old new : Table
       let home : IsHome len (hash_of old.hasher key) index =
       subst (λ (s : Side). IsHome (length (buckets_on between.arrays s)) (hash_of old.hasher key) index) on finds.home in
       let there : bucket_on new.arrays Old index ≡ slots_after_insertion kind keeps (bucket_on between.arrays Old index) (key, value) byte =
-      subst (λ (s : Side). bucket_on new.arrays s index ≡ slots_after_insertion kind keeps (bucket_on between.arrays s index) (key, value) byte)
+      subst (λ (s : Side). bucket_on new.arrays s index ≡ slots_after_insertion kind keeps (bucket_on between.arrays s index)
+      (key, value) byte)
       on (ap (λ (t : TableView K V H). bucket_on t.arrays side index) is ∙ bucket_with between.arrays side index b finds.home.within) in
       let more = homed-permutation (hash_of old.hasher) ((32 * len) / 32) (home_of ((32 * len) / 32) (hash_of old.hasher key))
       ((key, value) ∷ pairs_of old.arrays) (pairs_of new.arrays) pairs in
@@ -424,7 +428,8 @@ module _ {K V H : Type 0} (hash_of : H → K → ℕ) (key : K) (old new : Table
     insertion_grows (Err (Memory k v)) (Ok at) between finds is map = kept_grows kind (Ok at) between finds map.1 is.1
     insertion_grows (Err (Memory k v)) (Err e) between finds is map = kept_grows kind (Err e) between finds map.1 is
 
-    rewritten_grows : (answer : Result (Side × ℕ) (Unit {0})) (between : TableView K V H) → Finds kind (hash_of old.hasher key) old answer between
+    rewritten_grows : (answer : Result (Side × ℕ) (Unit {0})) (between : TableView K V H)
+        → Finds kind (hash_of old.hasher key) old answer between
         → ChangesAt (λ own. eq own key) (λ bucket at. bucket_with_value bucket at value) true between new → (pair : K × V)
         → ChangesValue (state_of kind old) pair value (state_of kind new) → GrowsSlots hash_of key (map_of old) (map_of new)
     unfolding GrowsSlots
@@ -442,9 +447,11 @@ module _ {K V H : Type 0} (hash_of : H → K → ℕ) (key : K) (old new : Table
         let home : IsHome len (hash_of old.hasher key) found.1 =
         subst (λ (s : Side). IsHome (length (buckets_on between.arrays s)) (hash_of old.hasher key) found.1) on finds.home in
         let count = ap (λ (t : TableView K V H). length (pairs_in (bucket_on t.arrays Old found.1))) is
-        ∙ len-elsewhere between.arrays side Old i found.1 b (len-with_value (bucket_on between.arrays side i) at stands.pair value stands.slot)
+        ∙ len-elsewhere between.arrays side Old i found.1 b (len-with_value (bucket_on between.arrays side i) at stands.pair value
+        stands.slot)
         stands.within in
-        let was = homed-permutation (hash_of old.hasher) ((32 * len) / 32) index (pairs_of old.arrays) (pair ∷ changed.rest) changed.before in
+        let was = homed-permutation (hash_of old.hasher) ((32 * len) / 32) index (pairs_of old.arrays) (pair ∷ changed.rest)
+        changed.before in
         let now = homed-permutation (hash_of old.hasher) ((32 * len) / 32) index ((pair.0, value) ∷ changed.rest) (pairs_of new.arrays)
         changed.after.pairs in
         let long = ap (λ (t : TableView K V H). length t.arrays.linked) is ∙ len_with between.arrays side Old i b in

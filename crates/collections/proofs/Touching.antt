@@ -97,7 +97,8 @@ module _ {K V H : Type 0} (eq : K → K → Bool) (laws : IsEquivalence eq) (t b
           twice : with_value b side index at v ≡ with_bucket moved.between side index (bucket_with_value touched_bucket at v)
           twice =
               ap (λ (z : TableView K V H). with_value z side index at v) moved.done.1
-              ∙ ap (λ (c : BucketView K V). with_bucket (with_bucket moved.between side index touched_bucket) side index (bucket_with_value c at v))
+              ∙ ap (λ (c : BucketView K V). with_bucket (with_bucket moved.between side index touched_bucket) side index
+              (bucket_with_value c at v))
               (put_there moved.between.arrays side index touched_bucket moved.done.0.within)
               ∙ ap (λ arrays. record { hasher = moved.between.hasher; arrays = arrays })
               (set_again moved.between.arrays side index touched_bucket (bucket_with_value touched_bucket at v))

@@ -43,8 +43,8 @@ module _ {K V H : Type 0} where
     pub none : IsEmpty map → map.slots ≡ 0
     pub some : (IsEmpty map → ⊥) → IsSlotsFor (map_len map) map.slots
 
-  -- room is made for so many pairs more, by the least number of slots for them all, or those that there are, unless allocation fails, and no slot goes;
-  -- where there is room already, and where they are too many, nothing changes
+  -- room is made for so many pairs more, by the least number of slots for them all, or those that there are, unless allocation fails, and
+  -- no slot goes; where there is room already, and where they are too many, nothing changes
   pub record MakesRoom {E : Type 0} (eq : K → K → Bool) (more : ℕ) (old : MapView K V H) (answer : Result (Unit {0}) E) (new : MapView K V H) : Type 0 where
     pub stays : Stays eq old new
     pub room : OnOk answer (HasRoomFor more new)
@@ -63,7 +63,8 @@ module _ {K V H : Type 0} where
 
   -- the minimum is 0, and there are as few slots as so many pairs take, or as before where those were fewer, unless allocation fails; where
   -- the pairs of the map are as many, those count
-  pub record ShrinksTo {E : Type 0} (eq : K → K → Bool) (pairs : ℕ) (old : MapView K V H) (answer : Result (Unit {0}) E) (new : MapView K V H) : Type 0 where
+  pub record ShrinksTo {E : Type 0} (eq : K → K → Bool) (pairs : ℕ) (old : MapView K V H) (answer : Result (Unit {0}) E)
+      (new : MapView K V H) : Type 0 where
     pub stays : Stays eq (record old { minimum = 0 }) new
     pub fitted : pairs ≤ map_len old → ShrinksToFit eq old answer new
     pub slots : map_len old < pairs → OnOk answer ((least : ℕ) → IsSlotsFor pairs least → new.slots ≡ min least old.slots)

@@ -52,14 +52,16 @@ module _ {K H : Type 0} (eq : K → K → Bool) (IsKey : K → K → Type 0) whe
     pub puts : PutsKeys eq old clones new
 
   -- clones of keys that an iterator lends are put in turn, all of them
-  abbrev pub PutsClonesFrom : {S : Type 0} → (S → Option (Bor K) → S → Type 0) → S → MapView K (Unit {0}) H → MapView K (Unit {0}) H → Type 0
+  abbrev pub PutsClonesFrom : {S : Type 0} → (S → Option (Bor K) → S → Type 0) → S → MapView K (Unit {0}) H
+      → MapView K (Unit {0}) H → Type 0
   PutsClonesFrom steps first old new =
       (lent : List (Bor K)) × Drains steps first lent × PutsClones old (map (λ key. key.now) lent) new
 
 module _ {K H : Type 0} (eq : K → K → Bool) (IsKey : K → K → Type 0) (IsHasher : H → H → Type 0) where
   -- a set that was made empty has clones of some keys of two others, which the test of both says of each key; its hasher is a clone
   -- of the first one's
-  pub record JoinsClones (own other : MapView K (Unit {0}) H) (keys : List K) (joins : Bool → Bool → Bool) (made : MapView K (Unit {0}) H) : Type 0 where
+  pub record JoinsClones (own other : MapView K (Unit {0}) H) (keys : List K) (joins : Bool → Bool → Bool)
+      (made : MapView K (Unit {0}) H) : Type 0 where
     pub puts : PutsClones {H = H} eq IsKey (empty_map made.hasher) keys made
     pub has : (key : K) → contains eq made key ≡ joins (contains eq own key) (contains eq other key)
     pub hasher : IsHasher own.hasher made.hasher

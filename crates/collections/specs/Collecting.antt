@@ -38,7 +38,8 @@ module _ {K V H : Type 0} (eq : K → K → Bool) where
   -- room in the map of that moment, and the iterator has what follows it
   abbrev pub PutsFrom : {S : Type 0} → (H → K → ℕ) → (S → Option (K × V) → S → Type 0) → S → MapView K V H
       → Result (Unit {0}) (AllocFailed (K × V)) → MapView K V H → S → Type 0
-  PutsFrom hash_of steps first old (Ok done) new last = (pairs : List (K × V)) × YieldsThen steps first pairs None last × PutsAll old pairs new
+  PutsFrom hash_of steps first old (Ok done) new last = (pairs : List (K × V)) × YieldsThen steps first pairs None last
+      × PutsAll old pairs new
       × UpsertsEach hash_of old pairs new
   PutsFrom hash_of steps first old (Err back) new last = (pairs : List (K × V)) × YieldsThen steps first pairs (Some back.value) last
       × PutsAll old pairs new × (get eq new back.value.0 ≡ None)
@@ -59,7 +60,8 @@ module _ {K H : Type 0} (eq : K → K → Bool) where
 
   -- each is put as an insertion puts it, from one set to the next
   abbrev pub InsertsEach : (H → K → ℕ) → MapView K (Unit {0}) H → List K → MapView K (Unit {0}) H → Type 0
-  InsertsEach hash_of old keys new = FoldsTo (λ before key after. PutsKey before key after × GrowsSlots hash_of key before after) old keys new
+  InsertsEach hash_of old keys new = FoldsTo (λ before key after. PutsKey before key after × GrowsSlots hash_of key before after)
+      old keys new
 
   -- what an iterator gives is put, as pairs are into a map
   abbrev pub PutsKeysFrom : {S : Type 0} → (H → K → ℕ) → (S → Option K → S → Type 0) → S → MapView K (Unit {0}) H
@@ -68,4 +70,5 @@ module _ {K H : Type 0} (eq : K → K → Bool) where
       × InsertsEach hash_of old keys new
   PutsKeysFrom hash_of steps first old (Err back) new last = (keys : List K) × YieldsThen steps first keys (Some back.value) last
       × PutsKeys old keys new × (get eq new back.value ≡ None)
-      × ((between : MapView K (Unit {0}) H) × InsertsEach hash_of old keys between × Stays eq between new × LacksRoom hash_of back.value between)
+      × ((between : MapView K (Unit {0}) H) × InsertsEach hash_of old keys between × Stays eq between new
+      × LacksRoom hash_of back.value between)

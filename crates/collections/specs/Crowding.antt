@@ -18,7 +18,8 @@ HasAtHome count hash key slots pairs = (0 < slots) × (count ≤ homed_len hash 
 -- to find a bucket for a key may need memory that isn't there: the map has no slots, or moves to fewer slots than it had, or the key's old
 -- bucket was the home of more pairs than it has slots
 abbrev pub LacksBucket : {K V H : Type 0} → (H → K → ℕ) → K → MapView K V H → Type 0
-LacksBucket hash_of key map = ((map.slots ≡ 0) ⊎ (map.slots < map.old_slots)) ⊎ HasAtHome 33 (hash_of map.hasher) key map.old_slots map.entries
+LacksBucket hash_of key map = ((map.slots ≡ 0) ⊎ (map.slots < map.old_slots))
+    ⊎ HasAtHome 33 (hash_of map.hasher) key map.old_slots map.entries
 
 -- and so may an insertion of a key, or else its bucket is the home of as many pairs as it has slots; a caller that needs it unfolds it,
 -- since the search of one that doesn't would go through all of it

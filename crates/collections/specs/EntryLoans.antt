@@ -40,7 +40,8 @@ module _ {K V H : Type 0} {equal : equals.Ghosts K} {hashing : key_hash.Ghosts H
 module _ (K V H : RattleType) (equal : equals.Ghosts K.Denot) (hashing : key_hash.Ghosts H.Denot K.Denot) where
   -- the value under the key is the last one written through the loan. The entry's lifetime is the second of the signature
   abbrev pub LendsHeld : MutBor (OccupiedEntry K.Denot V.Denot H.Denot equal hashing) → MutBor V.Denot → Fml
-  LendsHeld place lent = Lends (occupied.the_row (record { mir = named 1; lft = [] }) K V H equal hashing (record {})) V place lent (with_entry_value place.now)
+  LendsHeld place lent = Lends (occupied.the_row (record { mir = named 1; lft = [] }) K V H equal hashing (record {})) V place lent
+      (with_entry_value place.now)
 
 module _ {K V H Q : Type 0} {equal : equals.Ghosts K} {hashing : key_hash.Ghosts H K} {form : key_form.Ghosts Q K H} where
   -- an entry by a form, once its key has another value
@@ -58,4 +59,5 @@ module _ (K V H Q : RattleType) (equal : equals.Ghosts K.Denot) (hashing : key_h
   -- the same of an entry by a form
   abbrev pub LendsHeldRef : MutBor (OccupiedEntryRef K.Denot V.Denot H.Denot Q.Denot equal hashing form) → MutBor V.Denot → Fml
   LendsHeldRef place lent =
-      Lends (occupied_ref.the_row (record { mir = named 1; lft = [] }) K V H Q equal hashing form (record {})) V place lent (with_ref_value place.now)
+      Lends (occupied_ref.the_row (record { mir = named 1; lft = [] }) K V H Q equal hashing form (record {})) V place lent
+      (with_ref_value place.now)

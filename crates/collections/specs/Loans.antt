@@ -34,7 +34,8 @@ module _ (K V H : RattleType) (equal : equals.Ghosts K.Denot) (hashing : key_has
   abbrev pub LendsValue : (K.Denot → Bool) → Option (MutBor V.Denot) → Fml
   LendsValue wants loan =
       LendsSo (the_row K V H (record {}) equal hashing) V map loan
-      (λ new value. IfSome loan (λ lent. (own : K.Denot) × Replaces equal.eq map.now wants (own, lent.now) value new × KeepsSlots map.now new))
+      (λ new value. IfSome loan (λ lent. (own : K.Denot) × Replaces equal.eq map.now wants (own, lent.now) value new
+      × KeepsSlots map.now new))
       (λ new. IfNone loan ((get_by wants map.now ≡ None) × Stays equal.eq map.now new × KeepsSlots map.now new))
 
   -- the value beside the key that is wanted is the last one written through the loan

@@ -103,9 +103,9 @@ impl<K: Eq, V, H: KeyHash<K>> HashCache<K, V, H> {
         }
     }
 
-    /// Returns an empty cache whose array has its full size from the first insertion on: the least
-    /// power of two that is at least this number of slots and 64, or 2^63. It never resizes, so a
-    /// pair goes only where 32 pairs stand in a bucket of the full size. Takes no memory.
+    /// Returns an empty cache whose minimum and maximum are the same number of slots: the least
+    /// power of two that is at least this number and 64, or 2^63. The first insertion makes the
+    /// array in its full size. Takes no memory.
     ///
     /// O(1). Own: scc's `with_capacity_and_hasher`, its two capacities the same.
     pub fn with_size(alloc: Global, hasher: H, slots: usize) -> Self
@@ -244,7 +244,8 @@ impl<K: Eq + Drop, V: Drop, H: KeyHash<K>> HashCache<K, V, H> {
     /// # Errors
     ///
     /// An equal key is there; or allocation failed, and then none is: the pair comes back, and none
-    /// goes. Allocation can't fail where a map's insertion can't.
+    /// goes. Allocation can't fail while the cache has slots, no fewer than old ones, and the key's
+    /// bucket among the old slots, if any, is the home of at most 32 pairs.
     ///
     /// O(1) expected, beside a resize. scc: `HashCache::put_sync`.
     pub fn put(&mut self, key: K, value: V) -> Result<Option<(K, V)>, NotInserted<K, V>>

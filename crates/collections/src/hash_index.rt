@@ -5,7 +5,8 @@
 //! Model: the table's own view, since tombstones are no part of a map. The map is `map_of` it, and
 //! answers as std's `HashMap` does; its tombstones, which no look-up, walk or count sees, are
 //! `marks_of` its arrays. Only a removal leaves a tombstone, with the epoch of the generation that
-//! it is given; a tombstone may go in any call that changes the index, with its array.
+//! it is given. It goes in an insertion whose generation lets it go, with all arrays where the
+//! minimum is 0, or with an old array in a call that moves pairs on.
 //!
 //! Ports scc's `src/hash_index.rs` to an owned index: a generation that the caller hands in stands
 //! where scc asks its collector.
@@ -181,9 +182,10 @@ impl<K: Eq + Drop, V: Drop, H: KeyHash<K>> HashIndex<K, V, H> {
     ///
     /// # Errors
     ///
-    /// An equal key is there; or allocation failed, and then none is: the pair comes back. Allocation
-    /// can't fail while the index has slots, no fewer than old ones, and the pairs in the key's
-    /// bucket and the tombstones there that the generation keeps are fewer than 32.
+    /// An equal key is there; or allocation failed, and then none is: the pair comes back.
+    /// Allocation can't fail while the index has slots, no fewer than old ones, the pairs in the
+    /// key's bucket and the tombstones there that the generation keeps are fewer than 32, and its
+    /// bucket among the old slots, if any, is the home of at most 32 pairs.
     ///
     /// O(1) expected, beside a resize. scc: `HashIndex::insert_sync`.
     #[inline(always)]

@@ -193,9 +193,9 @@ impl<K: Eq + Drop, V: Drop, H: KeyHash<K>> HashMap<K, V, H> {
     ///
     /// # Errors
     ///
-    /// An equal key is there; or allocation failed, and then none is: the pair comes back. Allocation
-    /// can't fail while the map has slots, no fewer than old ones, and the key's bucket is the home
-    /// of fewer than 32 pairs.
+    /// An equal key is there; or allocation failed, and then none is: the pair comes back.
+    /// Allocation can't fail while the map has slots, no fewer than old ones, the key's bucket is
+    /// the home of fewer than 32 pairs, and its bucket among the old slots, if any, of at most 32.
     ///
     /// O(1) expected, beside a resize. scc: `HashMap::insert_sync`.
     #[inline(always)]

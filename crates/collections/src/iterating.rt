@@ -3,7 +3,8 @@
 //!
 //! The last parameter is as that of the table's own iterator: a loan of the kind of table, which no
 //! field holds. A `size_hint` counts the pairs that are left, slot by slot. No iterator is an
-//! `ExactSizeIterator`, since no clause bounds the pairs by 2^64.
+//! `ExactSizeIterator`: `len` would have to count them all, and no clause says that they are fewer
+//! than 2^64.
 ghost use Rattle.std.specs.Prelude.{◌≡◌};
 ghost use Rattle.std.specs.Iterator.{YieldsFirstRef, item_count};
 

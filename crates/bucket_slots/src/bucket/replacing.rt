@@ -8,8 +8,8 @@ use crate::bucket::{Bucket, EntryPtr};
 use crate::lru::LruList;
 
 impl<K: Drop, V: Drop, L: LruList, const TYPE: u8> Bucket<K, V, L, TYPE> {
-    /// Puts a pair, under `hash`, in the place of the one in a live slot, which it returns. The slot
-    /// leaves the LRU list.
+    /// Puts a pair, under `hash`, in the place of the one in a live slot, which it returns. The
+    /// slot leaves the LRU list.
     ///
     /// Takes no memory. O(1) in the own slots, else O(blocks in the chain). Own.
     #[inline(always)]

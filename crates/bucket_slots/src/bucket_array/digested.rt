@@ -23,6 +23,8 @@ impl<K, V, L: LruList, const TYPE: u8> BucketArray<K, V, L, TYPE> {
     ghost use Rattle.bucket_slots.specs.ArrayLoans.{LendsEntryOf};
 
     /// Returns what `Bucket::peek_entry_by` returns.
+    ///
+    /// O(1), but O(blocks in the chain) where the digest says nothing.
     #[inline(always)]
     pub fn peek_by<P: KeyProbe<K>>(
         &self,
@@ -61,7 +63,9 @@ impl<K, V, L: LruList, const TYPE: u8> BucketArray<K, V, L, TYPE> {
         peek_in(&self.parts, part, offset, left, byte, probe)
     }
 
-    /// Whether a bucket's digest tells that it has fewer live slots than so many.
+    /// Tests whether a bucket's digest tells that it has fewer live slots than so many.
+    ///
+    /// O(1).
     #[inline(always)]
     pub fn has_fewer(&self, index: usize, len: u32) -> bool
         requires { len ≤ 32 }
@@ -70,7 +74,7 @@ impl<K, V, L: LruList, const TYPE: u8> BucketArray<K, V, L, TYPE> {
         self.digests.live(index).count_ones() < len
     }
 
-    /// Returns the place of the slot whose pair `peek_by` returns.
+    /// Returns the place of the slot whose pair `peek_by` returns, at the same cost.
     #[inline(always)]
     pub fn find_by<P: KeyProbe<K>>(
         &self,
@@ -112,6 +116,8 @@ impl<K, V, L: LruList, const TYPE: u8> BucketArray<K, V, L, TYPE> {
     }
 
     /// Lends the pair in a live slot of a bucket, its value for writing. The digest stays.
+    ///
+    /// Takes no memory. O(1), but O(blocks in the chain) for a slot there.
     #[inline(always)]
     pub fn entry_mut(&mut self, index: usize, at: &EntryPtr<K, V, TYPE>) -> (&K, &mut V)
         requires within { index < length self.old }
@@ -137,6 +143,8 @@ impl<K, V, L: LruList, const TYPE: u8> BucketArray<K, V, L, TYPE> {
     }
 
     /// Makes the pair in a live slot the one of its bucket touched last. The digest stays.
+    ///
+    /// Takes no memory. O(1).
     pub fn touch(&mut self, index: usize, at: &EntryPtr<K, V, TYPE>)
         requires cache { TYPE ≡ CACHE }
         requires within { index < length self.old }
@@ -157,7 +165,9 @@ impl<K, V, L: LruList, const TYPE: u8> BucketArray<K, V, L, TYPE> {
         bucket_in(&mut self.parts, part, offset).update_lru_tail(at);
     }
 
-    /// Writes the digest of a bucket anew. No bucket changes.
+    /// Settles a bucket's digest: writes it anew of what the bucket holds. No bucket changes.
+    ///
+    /// Takes no memory. O(own slots).
     pub fn settle(&mut self, index: usize)
         requires { index < length self.old }
         ensures { self.new ≡ self.old }
@@ -168,7 +178,7 @@ impl<K, V, L: LruList, const TYPE: u8> BucketArray<K, V, L, TYPE> {
         self.digests.settle(index, live, bytes);
     }
 
-    /// Writes the digest of a bucket that has none. No bucket changes.
+    /// Settles a bucket's digest where that says nothing. No bucket changes.
     #[inline(always)]
     pub(super) fn heal(&mut self, index: usize)
         requires { index < length self.old }
@@ -179,7 +189,10 @@ impl<K, V, L: LruList, const TYPE: u8> BucketArray<K, V, L, TYPE> {
         }
     }
 
-    /// Takes the memory of another array's digests for its own. No bucket changes.
+    /// Takes the memory of another array's digests for its own, which say nothing then, and asks
+    /// for what is missing. No bucket changes.
+    ///
+    /// Never refused: a digest for which there is no memory says nothing. O(1).
     pub fn adopt_digests(&mut self, alloc: Global, from: &mut Self)
         ensures own { self.new ≡ self.old }
         ensures other { from.new ≡ from.old }
@@ -189,9 +202,9 @@ impl<K, V, L: LruList, const TYPE: u8> BucketArray<K, V, L, TYPE> {
         self.digests = digests;
     }
 
-    /// Asks for memory for digests, and writes them. No bucket changes.
+    /// Asks for memory for digests, and settles them. No bucket changes.
     ///
-    /// O(buckets). Own.
+    /// Never refused: a digest for which there is no memory says nothing. O(buckets).
     pub fn start_digests(&mut self, alloc: Global)
         ensures { self.new ≡ self.old }
     {

@@ -1,7 +1,7 @@
 //! Digests of buckets: of each bucket a bitmap of its live own slots, and their bytes.
 //!
 //! Model: the digest of each index. A bitmap with all bits says nothing of its bucket, and so does
-//! an index past the end.
+//! an index past the end: that digest is lost.
 //!
 //! Own.
 ghost use Rattle.std.specs.Prelude.{◌≡◌, ◌≢◌, ◌==◌, ℕ, ◌-◌, ◌^◌, ◌<◌, IsTrue, ◌↔◌, bit_and, slice_set};
@@ -74,7 +74,7 @@ impl Digests {
         }
     }
 
-    /// Whether nothing is said of a bucket, nor of those behind it.
+    /// Tests whether nothing is said of a bucket, nor of those behind it.
     #[inline(always)]
     pub(crate) fn is_lost_from(&self, index: usize) -> bool
         ensures { IsTrue result → KnowsNone index self.now }
@@ -127,8 +127,10 @@ impl Digests {
         requires known { (digest_at self.old index).live ≢ 2 ^ 32 - 1 }
         requires live { live ≡ (digest_at self.old index).live }
         requires pos { pos < 32 }
-        ensures live { SetsBit (digest_at self.old index).live pos 1 (digest_at self.new index).live }
-        ensures bytes { (digest_at self.new index).bytes ≡ slice_set (digest_at self.old index).bytes pos byte }
+        ensures live { SetsBit (digest_at self.old index).live pos 1
+            (digest_at self.new index).live }
+        ensures bytes { (digest_at self.new index).bytes
+            ≡ slice_set (digest_at self.old index).bytes pos byte }
         ensures others { ChangesOne index self.old self.new }
     {
         self.lives[index] = with_bit(live, pos);
@@ -142,7 +144,8 @@ impl Digests {
         requires known { (digest_at self.old index).live ≢ 2 ^ 32 - 1 }
         requires live { live ≡ (digest_at self.old index).live }
         requires pos { pos < 32 }
-        ensures live { SetsBit (digest_at self.old index).live pos 0 (digest_at self.new index).live }
+        ensures live { SetsBit (digest_at self.old index).live pos 0
+            (digest_at self.new index).live }
         ensures bytes { (digest_at self.new index).bytes ≡ (digest_at self.old index).bytes }
         ensures others { ChangesOne index self.old self.new }
         ensures left { result ≡ ones (digest_at self.new index).live }
@@ -153,7 +156,7 @@ impl Digests {
     }
 }
 
-/// Whether a bitmap says nothing of its bucket.
+/// Tests whether a bitmap says nothing of its bucket.
 #[inline(always)]
 pub(crate) fn is_lost(live: u32) -> bool
     ensures { IsTrue result ↔ (live ≡ 2 ^ 32 - 1) }

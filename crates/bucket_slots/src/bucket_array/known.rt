@@ -21,8 +21,8 @@ use super::parts::{bucket_in, made_bucket_in, place_in};
 use crate::bucket::{Bucket, EntryPtr, INDEX, KeyProbe};
 use crate::lru::LruList;
 
-/// Returns the part in which a bucket stands whose digest is known, and its offset there: its live own
-/// slots, those of them with a byte, and that it has no chain.
+/// Returns the part in which a bucket stands whose digest is known, and its offset there. It has no
+/// chain, and its live own slots, and those of them with a byte, are as the digest says.
 #[inline(always)]
 pub(super) fn known_in<K, V, L: LruList, const TYPE: u8>(
     parts: &Vec<Part<K, V, L, TYPE>>,
@@ -51,14 +51,15 @@ pub(super) fn known_in<K, V, L: LruList, const TYPE: u8>(
     ensures inside { result.1 < length (part_at parts.now.items result.0) }
     ensures mask { IsMaskOf (has_byte byte)
         (bucket_at (part_at parts.now.items result.0) result.1).own candidates }
-    ensures lives { IsMaskOf is_live (bucket_at (part_at parts.now.items result.0) result.1).own live }
+    ensures lives { IsMaskOf is_live
+        (bucket_at (part_at parts.now.items result.0) result.1).own live }
     ensures chainless { (bucket_at (part_at parts.now.items result.0) result.1).chain ≡ [] }
 {
     place_in(parts, spare, len, part_bits, part_mask, index)
 }
 
-/// Returns the place and the pair of the first wanted slot of a bucket in one of the parts, where the
-/// live own slots with the hash's low byte are known, and there is no chain.
+/// Returns the place and the pair of the first wanted slot of a bucket in one of the parts, where
+/// the live own slots with the hash's low byte are known, and there is no chain.
 #[inline(always)]
 pub(super) fn find_in<'a, K, V, L: LruList, const TYPE: u8, P: KeyProbe<K>>(
     parts: &'a Vec<Part<K, V, L, TYPE>>,
@@ -138,7 +139,8 @@ pub(super) fn remove_in<K: Drop, V: Drop, L: LruList, const TYPE: u8>(
     requires within { part < vec_len parts.old }
     requires offset { offset < length (part_at parts.old.items part) }
     requires own { at.block ≡ 0 }
-    requires live_slot { IsTrue (is_live (slot_in (bucket_at (part_at parts.old.items part) offset) at)) }
+    requires live_slot { IsTrue (is_live
+        (slot_in (bucket_at (part_at parts.old.items part) offset) at)) }
     ensures pair { live_pair (slot_in (bucket_at (part_at parts.old.items part) offset) at)
         ≡ Some result }
     ensures parts { parts.new.items ≡ slice_set parts.old.items part
@@ -149,8 +151,8 @@ pub(super) fn remove_in<K: Drop, V: Drop, L: LruList, const TYPE: u8>(
     made_bucket_in(parts, part, offset).remove(&mut at)
 }
 
-/// Puts a live pair into the lowest free own slot of a bucket in one of the parts, where the live ones
-/// are known, and returns its position.
+/// Puts a live pair into the lowest free own slot of a bucket in one of the parts, where the live
+/// ones are known, and returns its position.
 #[inline(always)]
 pub(super) fn fill_in<K: Drop, V: Drop, L: LruList, const TYPE: u8>(
     parts: &mut Vec<Part<K, V, L, TYPE>>,

@@ -15,9 +15,8 @@ use crate::lru::LruList;
 impl<K: Drop, V: Drop, L: LruList, const TYPE: u8> BucketArray<K, V, L, TYPE> {
     /// Moves pairs of own slots of a bucket, the first ones in slot order, to own slots of their
     /// homes, where these are some of the buckets from `start` up to below `end`. Which pairs move
-    /// is left open: it may stop at any pair, and where there is one such bucket alone none moves, nor
-    /// where one of them may have a digest.
-    /// The slots that they leave are free.
+    /// is left open: it may stop at any pair, and where there is one such bucket alone none moves,
+    /// nor where one of them may have a digest. The slots that they leave are free.
     ///
     /// Takes no memory. O(own slots), but O(buckets of a part) where buckets are made. Own.
     #[inline(always)]
@@ -65,8 +64,9 @@ impl<K: Drop, V: Drop, L: LruList, const TYPE: u8> BucketArray<K, V, L, TYPE> {
 }
 
 impl<K: Drop, V: Drop, L: LruList + Drop, const TYPE: u8> BucketArray<K, V, L, TYPE> {
-    /// Lets the buckets of the part around a bucket go, where every one is killed and holds nothing.
-    /// No bucket changes. An array whose parts are as short as can be goes at once, and stays here.
+    /// Lets the buckets of the part around a bucket go, where every one is killed and holds
+    /// nothing. No bucket changes. An array whose parts are as short as can be goes at once, and
+    /// stays here.
     ///
     /// Untouched memory takes the place of theirs; where it is refused, theirs is kept.
     ///

@@ -96,7 +96,8 @@ impl<K, V, L: LruList, const TYPE: u8> Part<K, V, L, TYPE> {
     #[inline(always)]
     pub(crate) fn made_bucket(&self, offset: usize) -> &Bucket<K, V, L, TYPE>
         requires within { offset < length self.now }
-        requires live_slot { (pos : ℕ) × (is_live (slot_at (bucket_at self.now offset).own pos) ≡ true) }
+        requires live_slot { (pos : ℕ)
+            × (is_live (slot_at (bucket_at self.now offset).own pos) ≡ true) }
         ensures { result.now ≡ bucket_at self.now offset }
     {
         &self.made[offset]
@@ -106,7 +107,8 @@ impl<K, V, L: LruList, const TYPE: u8> Part<K, V, L, TYPE> {
     #[inline(always)]
     pub(crate) fn made_bucket_mut(&mut self, offset: usize) -> &mut Bucket<K, V, L, TYPE>
         requires within { offset < length self.old }
-        requires live_slot { (pos : ℕ) × (is_live (slot_at (bucket_at self.old offset).own pos) ≡ true) }
+        requires live_slot { (pos : ℕ)
+            × (is_live (slot_at (bucket_at self.old offset).own pos) ≡ true) }
         ensures* writes_back { sem 𝓛
             (LendsBucketOf K.row V.row L.row TYPE.row
             (record { KEEPS = L.KEEPS; listed = L.listed; IsTail = L.IsTail }) L.Default

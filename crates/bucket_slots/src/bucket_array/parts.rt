@@ -1,4 +1,5 @@
-//! The parts of an array, one after another: where a bucket stands among them, and what is done there.
+//! The parts of an array, one after another: where a bucket stands among them, and what is done
+//! there.
 //!
 //! Own.
 ghost use Rattle.std.specs.Prelude.{◌≡◌, ℕ, ◌+◌, ◌-◌, ◌/◌, ◌%◌, ◌<◌, ◌≤◌, ◌^◌, List, true, length, slice_set, vec_len};
@@ -136,7 +137,8 @@ pub(crate) fn spread_in<K: Drop, V: Drop, L: LruList, F: Fn(&K) -> u64, const TY
     requires offset { offset < length (part_at parts.old.items part) }
     requires shift { shift < 64 }
     requires bounded { start + len ≤ 2 ^ 64 }
-    ensures { (left : List (BucketView K V)) × (parts.new.items ≡ slice_set parts.old.items part left)
+    ensures { (left : List (BucketView K V))
+        × (parts.new.items ≡ slice_set parts.old.items part left)
         × ((first : ℕ) → start ≡ first + offset
         → SpreadsSome TYPE (λ key answer. F.post hash_of.now key answer) (IsShifted shift) first
         source.old (part_at parts.old.items part) source.new left)

@@ -23,7 +23,10 @@ pub enum NotPut<K, V> {
 }
 
 impl<K: Drop, V: Drop, L: LruList, const TYPE: u8> BucketArray<K, V, L, TYPE> {
-    /// Takes the first pair that a probe wants out of a bucket. Returns it, and how many are left.
+    /// Takes the first pair that a probe wants out of a bucket. Returns it, and how many are left;
+    /// `None` where none is wanted.
+    ///
+    /// Takes no memory. O(1), but O(blocks in the chain) where the digest says nothing.
     #[inline(always)]
     pub fn take_by<P: KeyProbe<K>>(
         &mut self,
@@ -33,7 +36,8 @@ impl<K: Drop, V: Drop, L: LruList, const TYPE: u8> BucketArray<K, V, L, TYPE> {
     ) -> Option<((K, V), usize)>
         requires not_index { TYPE ≢ INDEX }
         requires within { index < length self.old }
-        ensures taken { TakesWanted (P.wants probe.old) (hash % 256) index self.old result self.new }
+        ensures taken { TakesWanted (P.wants probe.old) (hash % 256) index self.old result
+            self.new }
         ensures fixed { P.wants probe.new ≡ P.wants probe.old }
     {
         self.room();
@@ -77,7 +81,8 @@ impl<K: Drop, V: Drop, L: LruList, const TYPE: u8> BucketArray<K, V, L, TYPE> {
     ) -> Option<((K, V), usize)>
         requires not_index { TYPE ≢ INDEX }
         requires within { index < length self.old }
-        ensures taken { TakesWanted (P.wants probe.old) (hash % 256) index self.old result self.new }
+        ensures taken { TakesWanted (P.wants probe.old) (hash % 256) index self.old result
+            self.new }
         ensures fixed { P.wants probe.new ≡ P.wants probe.old }
     {
         self.room();
@@ -93,6 +98,13 @@ impl<K: Drop, V: Drop, L: LruList, const TYPE: u8> BucketArray<K, V, L, TYPE> {
     }
 
     /// Inserts a pair into a bucket where no live slot has an equal key.
+    ///
+    /// # Errors
+    ///
+    /// An equal key is there, or allocation failed: the pair comes back, and no bucket changes.
+    /// Allocation can't fail while a slot is free.
+    ///
+    /// O(1), but O(blocks in the chain) where the digest says nothing.
     #[inline(always)]
     pub fn insert_absent<G: Generation>(
         &mut self,
@@ -148,7 +160,14 @@ impl<K: Drop, V: Drop, L: LruList, const TYPE: u8> BucketArray<K, V, L, TYPE> {
         Ok(())
     }
 
-    /// Inserts a pair into a bucket, or writes its value beside the key that is equal.
+    /// Inserts a pair into a bucket, or writes its value beside the key that is equal, and returns
+    /// the earlier one.
+    ///
+    /// # Errors
+    ///
+    /// Allocation failure, and the key is new: the pair comes back, and no bucket changes.
+    ///
+    /// O(1), but O(blocks in the chain) where there is one.
     #[inline(always)]
     pub fn upsert<G: Generation>(
         &mut self,

@@ -35,7 +35,10 @@ module _ {K V : Type 0} where
         pair = stands.pair;
         within = rw (buckets_on-arrays_with arrays side index b, length-set) stands.within;
         slot = rw same stands.slot;
-        there = (Contains-permutation (pairs_of arrays) (pairs_of (arrays_with arrays side index b)) stands.pair moved stands.there.0, stands.there.1);
+        there = (
+          Contains-permutation (pairs_of arrays) (pairs_of (arrays_with arrays side index b)) stands.pair moved stands.there.0,
+          stands.there.1,
+        );
       }
 
   -- and where it finds nothing

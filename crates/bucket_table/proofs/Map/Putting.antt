@@ -126,7 +126,8 @@ module _ {K V H : Type 0} {eq : K → K → Bool} (laws : IsEquivalence eq) (has
         within = z.within;
         locked = z.locked;
       } in
-      subst (λ (s : BucketView K V). LeavesWith (Puts eq key value (state a) (Ok gone)) s) (touched_own keeps was gone (key, value) (h % 256) went)
+      subst (λ (s : BucketView K V). LeavesWith (Puts eq key value (state a) (Ok gone)) s)
+      (touched_own keeps was gone (key, value) (h % 256) went)
       (subst (λ (s : BucketView K V). LeavesWith (Puts eq key value (state a) (Ok gone)) (slots_touched keeps s at)) is all)
 
   -- the pair is in, where its key was absent

@@ -87,7 +87,8 @@ module _ {K V H : Type 0} {eq : K → K → Bool} (laws : IsEquivalence eq) (has
       record {
         one_map = record {
           distinct = distinct_kept eq laws (q ∷ rest) (pairs_of new) keys after;
-          placed = placed_after (hash hasher) a side i left one.placed (changeable_holding (hash hasher) a side i at p one.placed within here)
+          placed = placed_after (hash hasher) a side i left one.placed
+              (changeable_holding (hash hasher) a side i at p one.placed within here)
               (homes_moved (hash hasher) (length (buckets_on a side)) i (f ∷ []) (e ∷ []) was left moved homes
               (All-cons P f [] home (All-nil P))) r.alive;
         };

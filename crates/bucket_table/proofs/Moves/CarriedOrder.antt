@@ -215,7 +215,8 @@ module _ {K V : Type 0} where
       | inr more ↦ elim (first.left i) [
         | inl gone ↦ first_still i gone.0
         | inr same ↦
-            subst (λ (ps : List (K × V)). All (λ p. All (λ q. WentFirst new.current p q) (chained_pairs (bucket_at old.linked i))) ps) same.0
+            subst (λ (ps : List (K × V)). All (λ p. All (λ q. WentFirst new.current p q) (chained_pairs (bucket_at old.linked i)))
+            ps) same.0
             (subst (λ (qs : List (K × V)). All (λ p. All (λ q. WentFirst new.current p q) qs) (is i)) same.1
             (second.first i (later.3 i more)))
       ]

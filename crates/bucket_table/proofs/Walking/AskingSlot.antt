@@ -75,7 +75,8 @@ module _ {S K V : Type 0} (step : S → Bor K → MutBor V → Bool → MutBor V
         }
 
     -- or it goes
-    pub goes_at : (epoch : ℕ) (picked : Option (K × V)) (new : BucketView K V) (to : Place) → beq answer keeps ≡ false → IsBucketOf kind changed
+    pub goes_at : (epoch : ℕ) (picked : Option (K × V)) (new : BucketView K V) (to : Place) → beq answer keeps ≡ false
+        → IsBucketOf kind changed
         → (kind ≢ INDEX → picked ≡ live_pair (slot_in changed at)) → new ≡ slots_taken kind epoch changed at
         → pairs_ahead new to ≡ pairs_ahead changed at → AsksAt step kind keeps first pair s at picked new to last
     goes_at epoch picked new to apart kept pair_is slots ahead =
@@ -89,7 +90,8 @@ module _ {S K V : Type 0} (step : S → Bor K → MutBor V → Bool → MutBor V
           outcome = inr (other_answer answer keeps apart, refl, λ free. pair_is free ∙ v.here ∙ ap (λ (k : K). Some (k, after.now)) key);
           pairs = λ front was.
               ap pairs_in slots
-              ∙ taken_order (kind == INDEX) kind epoch changed at p kept v.here front (v.pairs front was ∙ ap (λ l. front ++ p ∷ l) (sym v.ahead))
+              ∙ taken_order (kind == INDEX) kind epoch changed at p kept v.here front
+              (v.pairs front was ∙ ap (λ l. front ++ p ∷ l) (sym v.ahead))
               ∙ ap (λ l. front ++ l) v.ahead;
           ahead = ahead ∙ v.ahead;
         }

@@ -26,7 +26,8 @@ module _ {K V : Type 0} where
   refused_by kind answer later stay frees (inl (is, there, none)) = (is, there)
   refused_by kind answer later stay frees (inr (is, gone, out)) = absurd (none-some later (out frees))
 
-  picked_by : (kind : ℕ) (answer : Bool) (later pair : K × V) (stay : List (K × V)) → kind ≢ INDEX → Outcome kind answer later stay (Some pair)
+  picked_by : (kind : ℕ) (answer : Bool) (later pair : K × V) (stay : List (K × V)) → kind ≢ INDEX
+      → Outcome kind answer later stay (Some pair)
       → (answer ≡ true) × (stay ≡ []) × (later ≡ pair)
   picked_by kind answer later pair stay frees (inl (is, there, none)) = absurd (none-some pair (sym none))
   picked_by kind answer later pair stay frees (inr (is, gone, out)) = (is, gone, sym (same_Some pair later (out frees)))
@@ -85,7 +86,8 @@ module _ {S K V : Type 0} (step : S → Bor K → MutBor V → Bool → MutBor V
       ∙ ap (λ (bs : List (BucketView K V)). pairs_from bs index to) (row_of-row_with a index e.left)
       ∙ same_left (row_of a) index within e.left at to e.slot.ahead
 
-  module _ (frees : kind ≢ INDEX) (first state last : S) (old : ExtractView K V) (a new : ArraysView K V) (from_index index : ℕ) (from at to : Place)
+  module _ (frees : kind ≢ INDEX) (first state last : S) (old : ExtractView K V) (a new : ArraysView K V) (from_index index : ℕ)
+      (from at to : Place)
       (b : BucketView K V) (m : MovesOn (row_of a) from_index from b index at)
       (amid : IsExtracting first old state (record { arrays = a; left = pairs_from (row_of a) from_index from }))
     where
@@ -164,7 +166,8 @@ module _ {S K V : Type 0} (step : S → Bor K → MutBor V → Bool → MutBor V
             asked = subst (λ kept. ExtractsNext (AsksPair step) first old.left (Some pair) last kept (pairs_from (row_of new) index to))
                 (append-nil amid.kept)
                 (amid.asked (Some pair) last [] (pairs_from (row_of new) index to)
-                (subst (λ left. ExtractsNext (AsksPair step) state left (Some pair) last [] (pairs_from (row_of new) index to)) (sym m.first)
+                (subst (λ left. ExtractsNext (AsksPair step) state left (Some pair) last [] (pairs_from (row_of new) index to))
+                (sym m.first)
                 (true, last, pair, call, (refl, refl, refl, after state last m.moves.pair a new index at to (Some pair) m.within e))));
             stay = λ front were.
                 stay_after (Some pair) e [] front by.1 were

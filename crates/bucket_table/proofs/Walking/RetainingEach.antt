@@ -50,8 +50,18 @@ module _ {S K V : Type 0} (step : S → Bor K → MutBor V → Bool → MutBor V
   one_asked : (kind : ℕ) (first last : S) (pair : K × V) (old new : BucketView K V) (at to : Place) (picked : Option (K × V))
       (r : AsksAt step kind true first pair old at picked new to last) → RetainsEach step first (pair ∷ []) r.stay last
   one_asked kind first last pair old new at to picked r =
-      let (own, before, after, same, call, later_is) = r.asked in
-      (own, before, after, r.answer, last, [], same, call, stay_by r.answer (own.now, after.now) r.later r.stay later_is r.outcome, (refl, refl))
+      let (own, before, after, same, call, later_is) = r.asked in (
+        own,
+        before,
+        after,
+        r.answer,
+        last,
+        [],
+        same,
+        call,
+        stay_by r.answer (own.now, after.now) r.later r.stay later_is r.outcome,
+        (refl, refl),
+      )
 
   -- what is no more ahead was asked for
   pub record IsAsking (first : S) (old : BucketView K V) (state : S) (now : BucketView K V) (at : Place) : Type 0 where

@@ -29,7 +29,8 @@ abbrev pub carried_to : {K V : Type 0} → BucketView K V → (ℕ → Option �
 carried_to source landing j =
     live_pairs (map (slot_at source.own) (filter (λ slot. is_own_of j (landing slot)) source.listed))
 
--- recency is carried from a bucket into an array: each of its listed pairs has landed somewhere, before those of its chain, no other pair moves, and every bucket lists its own pairs, followed by those of the source that landed in own slots there, in the source's order
+-- recency is carried from a bucket into an array: each of its listed pairs has landed somewhere, before those of its chain, no other pair
+-- moves, and every bucket lists its own pairs, followed by those of the source that landed in own slots there, in the source's order
 pub record CarriesRecency {K V : Type 0} (source : BucketView K V) (current new_current : List (BucketView K V)) : Type 0 where
   pub landing : ℕ → Option ℕ
   pub landed : (slot : ℕ) (pair : K × V) → is_listed source.listed slot ≡ true → live_pair (slot_at source.own slot) ≡ Some pair
@@ -58,7 +59,8 @@ pub record AreListable {K V : Type 0} (landings : List (Option Landing)) (bucket
   pub each : (slot : ℕ) (at : Landing) → landing_of landings slot ≡ Some at → IsListable buckets at
   pub once : (one two : ℕ) (at : Landing) → landing_of landings one ≡ Some at → landing_of landings two ≡ Some at → one ≡ two
 
--- the pairs of a bucket's own slots have landed as a table says, and those of which it says nothing in a chain, as far as the table goes, all before those of the bucket's chain; no other pair has moved, and no list has changed
+-- the pairs of a bucket's own slots have landed as a table says, and those of which it says nothing in a chain, as far as the table goes,
+-- all before those of the bucket's chain; no other pair has moved, and no list has changed
 pub record HaveLanded {K V : Type 0} (hash : K → ℕ) (source : BucketView K V) (current new_current : List (BucketView K V)) (landings : List (Option Landing)) : Type 0 where
   pub table : AreListable landings new_current
   pub same_pair : (slot : ℕ) (at : Landing) → landing_of landings slot ≡ Some at

@@ -29,7 +29,8 @@ TakesOn wants hash side old None new =
     (new ≡ old) × (pair_wanted wants (hash % 256) (home_bucket hash (buckets_on old side)) ≡ None)
 
 -- the pair of the first wanted slot of a bucket of one side is taken out, and so many live pairs are left there
-pub record TakesHomePair {K V : Type 0} (wants : K → Bool) (byte : ℕ) (side : Side) (index : ℕ) (old : ArraysView K V) (pair : K × V) (left : ℕ)
+pub record TakesHomePair {K V : Type 0} (wants : K → Bool) (byte : ℕ) (side : Side) (index : ℕ) (old : ArraysView K V) (pair : K × V)
+    (left : ℕ)
     (new : ArraysView K V) : Type 0 where
   pub at : Place
   pub found : place_wanted wants byte (bucket_on old side index) ≡ Some at

@@ -25,4 +25,5 @@ module _ (K V L TYPE : RattleType) (listing : list.Ghosts L.Denot) (fresh : defa
 
   -- so has that bucket of the row
   abbrev pub LendsNth : ℕ → MutBor (BucketView K.Denot V.Denot) → Fml
-  LendsNth index loan = Lends (the_row K V L TYPE listing fresh) (bucket_row K V L TYPE listing fresh) arrays loan (row_with arrays.now index)
+  LendsNth index loan = Lends (the_row K V L TYPE listing fresh) (bucket_row K V L TYPE listing fresh) arrays loan
+      (row_with arrays.now index)

@@ -53,7 +53,8 @@ pub record AsksAt {S K V : Type 0} (step : S → Bor K → MutBor V → Bool →
   pub asked : AsksPair step first pair answer last later
   pub outcome : ((answer ≡ keeps) × (stay ≡ later ∷ []) × (picked ≡ None))
       ⊎ ((answer ≡ not keeps) × (stay ≡ []) × (kind ≢ INDEX → picked ≡ Some later))
-  pub pairs : (front : List (K × V)) → pairs_in old ≡ front ++ pair ∷ pairs_ahead old at → pairs_in new ≡ front ++ (stay ++ pairs_ahead old at)
+  pub pairs : (front : List (K × V)) → pairs_in old ≡ front ++ pair ∷ pairs_ahead old at → pairs_in new ≡ front
+      ++ (stay ++ pairs_ahead old at)
   pub ahead : pairs_ahead new to ≡ pairs_ahead old at
 
 -- and nothing changes but a bucket of the row

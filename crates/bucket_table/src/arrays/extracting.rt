@@ -32,7 +32,10 @@ impl<K, V, L: LruList, const TYPE: u8> Model for TableExtract<K, V, L, TYPE> {
 
     ghost Value = { ExtractView K V };
 
-    ghost view = { λ taken. record { arrays = taken.arrays; left = pairs_from (row_of taken.arrays) taken.index taken.at } };
+    ghost view = { λ taken. record {
+      arrays = taken.arrays;
+      left = pairs_from (row_of taken.arrays) taken.index taken.at;
+    } };
 }
 
 impl<K: Drop, V: Drop, L: LruList, const TYPE: u8> TableExtract<K, V, L, TYPE> {
@@ -70,7 +73,8 @@ impl<K, V, L: LruList, const TYPE: u8> TableExtract<K, V, L, TYPE> {
     }
 }
 
-/// Asks `pick` of the pair in a live slot of a bucket of the row, and takes it out where it is picked.
+/// Asks `pick` of the pair in a live slot of a bucket of the row, and takes it out where it is
+/// picked.
 #[inline(always)]
 fn ask_at<K: Drop, V: Drop, L: LruList, F: FnMut(&K, &mut V) -> bool, const TYPE: u8>(
     arrays: &mut Arrays<K, V, L, TYPE>,

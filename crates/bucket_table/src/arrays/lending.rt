@@ -152,7 +152,8 @@ pub(super) fn insert_in<K: Eq + Drop, V: Drop, L: LruList, G: Generation, const 
 ) -> Result<(), NotInserted<K, V>>
     requires { index < length (list_of held.old) }
     ensures { InsertsIn K.eq key value (hash % 256) TYPE (G.keeps generation.now)
-        (bucket_at (list_of held.old) index) result (λ left. held.new ≡ array_with held.old index left) }
+        (bucket_at (list_of held.old) index) result
+        (λ left. held.new ≡ array_with held.old index left) }
 {
     match held {
         Some(array) => match array.insert_absent(index, hash, key, value, generation) {

@@ -146,8 +146,8 @@ impl<K: Drop, V: Drop, L: LruList, const TYPE: u8> Arrays<K, V, L, TYPE> {
         }
     }
 
-    /// Takes the first pair that a probe wants out of a bucket. Returns it, and how many live pairs are
-    /// left there.
+    /// Takes the first pair that a probe wants out of a bucket. Returns it, and how many live pairs
+    /// are left there.
     #[inline(always)]
     pub(crate) fn take_home<P: KeyProbe<K>>(
         &mut self,
@@ -158,7 +158,8 @@ impl<K: Drop, V: Drop, L: LruList, const TYPE: u8> Arrays<K, V, L, TYPE> {
     ) -> Option<((K, V), usize)>
         requires not_index { TYPE ≢ INDEX }
         requires within { index < length (buckets_on self.old side) }
-        ensures taken { TakesHome (P.wants probe.old) (hash % 256) side index self.old result self.new }
+        ensures taken { TakesHome (P.wants probe.old) (hash % 256) side index self.old result
+            self.new }
         ensures fixed { P.wants probe.new ≡ P.wants probe.old }
     {
         match side {

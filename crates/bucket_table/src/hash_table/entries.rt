@@ -25,7 +25,8 @@ impl<K: Eq, V, H: KeyHash<K>, L: LruList, const TYPE: u8> HashTable<K, V, H, L, 
         requires within { spot.now.index < length (buckets_on self.now.arrays spot.now.side) }
         requires live_slot { IsTrue (is_live
             (slot_in (bucket_on self.now.arrays spot.now.side spot.now.index) spot.now.at)) }
-        ensures { live_pair (slot_in (bucket_on self.now.arrays spot.now.side spot.now.index) spot.now.at)
+        ensures { live_pair
+            (slot_in (bucket_on self.now.arrays spot.now.side spot.now.index) spot.now.at)
             ≡ Some (result.0.now, result.1.now) }
     {
         self.arrays.entry_of(spot.side, spot.index, &spot.at)

@@ -8,8 +8,8 @@ use std::alloc::{AllocError, Global};
 use std::default::{Emptied, MadeWith};
 use std::hash::Hash;
 
-/// So `mem::try_take(&mut cache)` takes a cache, and leaves an empty one with the same capacities and
-/// a clone of its hasher.
+/// So `mem::try_take(&mut cache)` takes a cache, and leaves an empty one with the same capacities
+/// and a clone of its hasher. It fails only where that clone does. O(1).
 impl<K: Eq, V, H: KeyHash<K> + Clone> Emptied for HashCache<K, V, H> {
     ghost is_emptied = { λ cache. IsEmpty (map_of cache) };
 

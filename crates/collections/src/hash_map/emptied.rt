@@ -9,8 +9,8 @@ use std::alloc::{AllocError, Global};
 use std::default::{Emptied, MadeWith};
 use std::hash::Hash;
 
-/// So `mem::try_take(&mut map)` takes a map, and leaves an empty one with a clone of its hasher. Its
-/// minimum is 0.
+/// So `mem::try_take(&mut map)` takes a map, and leaves an empty one with a clone of its hasher.
+/// Its minimum is 0. It fails only where that clone does. O(1).
 impl<K: Eq, V, H: KeyHash<K> + Clone> Emptied for HashMap<K, V, H> {
     ghost is_emptied = { λ map. map ≡ empty_map map.hasher };
 

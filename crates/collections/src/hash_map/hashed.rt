@@ -47,8 +47,8 @@ impl<K: Eq + Drop, V: Drop, H: KeyHash<K>> HashMap<K, V, H> {
             .get_mut_by(hash, &mut FormProbe::<Q, H>::new(key))
     }
 
-    /// Lends the value under the keys that a form stands for, which have this hash, and one of which
-    /// the map has, for writing, where it stands.
+    /// Lends the value under the keys that a form stands for, which have this hash, and one of
+    /// which the map has, for writing, where it stands.
     ///
     /// Moves nothing, and takes no memory. O(1) expected.
     #[inline(always)]

@@ -41,7 +41,8 @@ impl<K: Eq + Drop, V: Drop, H: KeyHash<K>> HashMap<K, V, H> {
         self.for_each_mut_ref(&mut f);
     }
 
-    /// As `for_each_mut`, of a function that is lent: a proof knows in which state it is afterwards.
+    /// As `for_each_mut`, of a function that is lent: a proof knows in which state it is
+    /// afterwards.
     ///
     /// Never refused, and takes no memory. O(slots), and the function's calls. Own: std's loop over
     /// `iter_mut`.

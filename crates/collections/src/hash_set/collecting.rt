@@ -9,8 +9,8 @@ use std::alloc::{AllocError, AllocFailed};
 use std::iter::{Extend, IntoIterator};
 
 impl<K: Eq + Drop, H: KeyHash<K>> HashSet<K, H> {
-    /// Puts the keys that an iterator gives, one after the other, as `insert` does: where an equal key
-    /// is there that one stays, and the other is dropped.
+    /// Puts the keys that an iterator gives, one after the other, as `insert` does: where an equal
+    /// key is there that one stays, and the other is dropped.
     ///
     /// # Errors
     ///

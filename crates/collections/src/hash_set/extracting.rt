@@ -91,7 +91,8 @@ fn next_key<K: Drop, F: FnMut(&K) -> bool>(
 ) -> Option<(K, ())>
     requires callable { F.IsAlwaysCallable test.old }
     ensures again { F.IsAlwaysCallable test.new }
-    ensures extracted { Extracts MAP (AsksKey F.FnMut) test.old taken.old result taken.new test.new }
+    ensures extracted { Extracts MAP (AsksKey F.FnMut) test.old taken.old result taken.new
+        test.new }
 {
     let mut pick = |key: &K, _value: &mut ()|
         requires { F.IsAlwaysCallable test.now }

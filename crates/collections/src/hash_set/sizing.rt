@@ -15,7 +15,7 @@ impl<K: Eq, H: KeyHash<K>> HashSet<K, H> {
     ghost use Rattle.collections.specs.Room.{SetFits};
 
     /// Returns an empty set, whose first insertion makes room for this number of keys, as
-    /// `HashMap::with_capacity` does. Takes no memory.
+    /// `HashMap::with_capacity_and_hasher` does. Takes no memory.
     ///
     /// O(1). Own: std's `with_capacity_and_hasher`, which takes memory.
     pub fn with_capacity_and_hasher(alloc: Global, keys: usize, hasher: H) -> Self
@@ -105,7 +105,8 @@ impl<K: Eq + Drop, H: KeyHash<K>> HashSet<K, H> {
         self.map.shrink_to_fit()
     }
 
-    /// Leaves no more slots than so many keys take, as `HashMap::shrink_to` does. The keys stay.
+    /// Sets the minimum to 0, and leaves no more slots than so many keys take, as
+    /// `HashMap::shrink_to` does. The keys stay.
     ///
     /// # Errors
     ///

@@ -41,7 +41,8 @@ impl<'s, T: Eq + Hash, A: Allocator, S: BuildHasher> KeyForm<BoxedSlice<T, A>, S
         hasher.builder.hash_one(self)
     }
 
-    ghost alike = { λ form key other. (lists_equiv T.Eq.laws).congr form.now (boxed_slice_items key) (boxed_slice_items other) };
+    ghost alike = { λ form key other. (lists_equiv T.Eq.laws).congr form.now
+        (boxed_slice_items key) (boxed_slice_items other) };
 }
 
 /// A slice stands for the slices, borrowed or owned, that have its items.
@@ -59,5 +60,6 @@ impl<'s, 'b, T: Eq + Hash, A: Allocator, S: BuildHasher> KeyForm<CowSlice<'b, T,
         hasher.builder.hash_one(self)
     }
 
-    ghost alike = { λ form key other. (lists_equiv T.Eq.laws).congr form.now (cow_slice_items key) (cow_slice_items other) };
+    ghost alike = { λ form key other. (lists_equiv T.Eq.laws).congr form.now
+        (cow_slice_items key) (cow_slice_items other) };
 }

@@ -47,7 +47,8 @@ impl<'s, A: Allocator, S: BuildHasher> KeyForm<BoxedStr<A>, StdHash<S>> for &'s 
         hasher.builder.hash_one(self)
     }
 
-    ghost alike = { λ form key other. nat_list_eq_equiv.congr form.now (boxed_str_bytes key) (boxed_str_bytes other) };
+    ghost alike = { λ form key other. nat_list_eq_equiv.congr form.now
+        (boxed_str_bytes key) (boxed_str_bytes other) };
 }
 
 /// A text stands for the shared texts that have its bytes.
@@ -64,7 +65,8 @@ impl<'s, A: Allocator, S: BuildHasher> KeyForm<RcStr<A>, StdHash<S>> for &'s str
         hasher.builder.hash_one(self)
     }
 
-    ghost alike = { λ form key other. nat_list_eq_equiv.congr form.now (rc_str_bytes key) (rc_str_bytes other) };
+    ghost alike = { λ form key other. nat_list_eq_equiv.congr form.now
+        (rc_str_bytes key) (rc_str_bytes other) };
 }
 
 /// A text stands for the texts, borrowed or owned, that have its bytes.
@@ -84,5 +86,6 @@ impl<'s, 'b, A: Allocator, S: BuildHasher> KeyForm<CowStr<'b, A>, StdHash<S>> fo
         hasher.builder.hash_one(self)
     }
 
-    ghost alike = { λ form key other. nat_list_eq_equiv.congr form.now (cow_str_bytes key) (cow_str_bytes other) };
+    ghost alike = { λ form key other. nat_list_eq_equiv.congr form.now
+        (cow_str_bytes key) (cow_str_bytes other) };
 }

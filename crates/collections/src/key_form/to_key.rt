@@ -8,7 +8,7 @@ use std::hash::{BuildHasher, Hash};
 
 /// A form of which a key can be made. Own; hashbrown has `From` there.
 pub trait ToKey<K: Eq, H: KeyHash<K>>: KeyForm<K, H> {
-    /// Whether it may be that no key is made of the form.
+    /// Whether the call may fail for the form.
     ghost may_lack: { Self → Type 0 };
 
     /// Returns a key for which the form stands, whose memory comes from the allocator.

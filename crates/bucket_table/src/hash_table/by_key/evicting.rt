@@ -83,7 +83,8 @@ impl<K: Eq + Drop, V: Drop, H: KeyHash<K>, L: LruList + Drop, const TYPE: u8> Ha
     }
 
     /// Puts a pair whose key the map hasn't into a cache, as `put` does, after `touch_place` met no
-    /// equal key: nothing is searched, and no unit is worked again.
+    /// equal key: nothing is searched, and no unit is worked again. Returns the pair that went for
+    /// it, if one did.
     ///
     /// # Errors
     ///
@@ -139,7 +140,8 @@ impl<K: Eq + Drop, V: Drop, H: KeyHash<K>, L: LruList + Drop, const TYPE: u8> Ha
         self.put_at(side, index, hash, key, value)
     }
 
-    /// Puts a pair into a locked bucket, where its key is absent. Returns the pair that went for it.
+    /// Puts a pair into a locked bucket, where its key is absent. Returns the pair that went for
+    /// it.
     #[inline(always)]
     fn put_absent(
         &mut self,

@@ -1,4 +1,4 @@
-//! The call by key that puts a pair in the place of the one whose key is equal: it is never refused.
+//! The call by key that puts a pair in the place of the one whose key is equal.
 //!
 //! Own.
 ghost use Rattle.std.specs.Prelude.{◌≡◌, ◌%◌, Some, is_ok};
@@ -24,8 +24,8 @@ impl<K: Eq + Drop, V: Drop, H: KeyHash<K>, L: LruList + Drop, const TYPE: u8> Ha
     L,
     TYPE,
 > {
-    /// Puts a pair in the place of the one whose key is equal, and returns that one. The slot leaves
-    /// the LRU list.
+    /// Puts a pair in the place of the one whose key is equal, and returns that one. The slot
+    /// leaves the LRU list.
     ///
     /// Beside an old array it works one unit first, and moves the sources of the hash's home. May
     /// take memory, and is never refused: without it the pair is put into the old array.
@@ -41,7 +41,8 @@ impl<K: Eq + Drop, V: Drop, H: KeyHash<K>, L: LruList + Drop, const TYPE: u8> Ha
             (state_of TYPE self.new) }
         ensures arrays { PreparesThen TYPE (H.hash_of self.old.hasher key) self.old (λ between.
             ChangesAt (λ own. K.eq own key)
-            (λ bucket at. slots_replaced bucket at (key, value) (H.hash_of self.old.hasher key % 256))
+            (λ bucket at. slots_replaced bucket at (key, value)
+            (H.hash_of self.old.hasher key % 256))
             (is_ok result) between self.new) }
     {
         let hash = self.hash(&key);

@@ -23,9 +23,9 @@ impl<K: Eq + Drop, V: Drop, H: KeyHash<K>, L: LruList + Drop, const TYPE: u8> Ha
     L,
     TYPE,
 > {
-    /// Makes the first pair of a cache that a probe wants the one of its bucket touched last; a slot
-    /// of the chain isn't listed. Returns whether there is one. The probe wants keys of this hash
-    /// alone.
+    /// Makes the first pair of a cache that a probe wants the one of its bucket touched last; a
+    /// slot of the chain isn't listed. Returns whether there is one. The probe wants keys of this
+    /// hash alone.
     ///
     /// Beside an old array it works one unit first, and moves the sources of the hash's home. May
     /// take memory, and is never refused: without it a pair is touched in the old array.

@@ -54,13 +54,13 @@ impl<'a, K: Eq + Drop, V: Drop, H: KeyHash<K>> Entry<'a, K, V, H> {
 
     /// Lends the value under the key for writing; where the map hasn't the key, it inserts it with
     /// what the function makes first. Once the loan ends, the key has the value last written, and
-    /// each other key what it had. Where the map has the key the function isn't called, and it never
-    /// fails.
+    /// each other key what it had. Where the map has the key the function isn't called, and the
+    /// call never fails.
     ///
     /// # Errors
     ///
-    /// The function's error; or allocation failed, and then it is made of the key and of what was
-    /// made. The map hasn't the key, and has the pairs that it had.
+    /// The function's error; or allocation failed, and then `E::from` makes the error of the key
+    /// and of what was made. The map hasn't the key, and has the pairs that it had.
     ///
     /// O(1) expected, beside a resize. Own: as the kit's `Entry::or_try_insert_with`.
     pub fn or_try_insert_with<E: From<AllocFailed<(K, V)>>, F: FnOnce() -> Result<V, E>>(
@@ -91,7 +91,8 @@ impl<'a, K: Eq + Drop, V: Drop, H: KeyHash<K>> Entry<'a, K, V, H> {
 impl<'a, K: Eq + Drop, V: Drop, H: KeyHash<K>> VacantEntry<'a, K, V, H> {
     ghost use Rattle.collections.specs.Loans.{LendsAdded, LendsTriedNew};
 
-    /// Inserts the key with what a function makes, and lends that for writing.
+    /// Inserts the key with what a function makes, and lends that for writing; returns the
+    /// function's error, or one of the refused insertion.
     fn insert_tried<E: From<AllocFailed<(K, V)>>, F: FnOnce() -> Result<V, E>>(
         self,
         make: F,

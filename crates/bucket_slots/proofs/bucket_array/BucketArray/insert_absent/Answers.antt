@@ -62,7 +62,8 @@ returns-clause-put g c =
     c.live-live.ensures known c.candidates-left.ensures in
     ap flattened c.fill_in-pos.ensures.parts ∙ ready.place.written _
     ∙ ap (λ b. set c.args.self.now c.args.index (slots_with b (c.args.key, c.args.value) (c.args.hash % 256))) ready.place.read
-    ∙ ap (set c.args.self.now c.args.index) (sym (after_put g.row.TYPE (g.G.Generation.keeps c.args.generation.now) (bucket_at c.args.self.now c.args.index) (c.args.key, c.args.value) (c.args.hash % 256) c.if-this-eq-INDEX.false))
+    ∙ ap (set c.args.self.now c.args.index) (sym (after_put g.row.TYPE (g.G.Generation.keeps c.args.generation.now)
+    (bucket_at c.args.self.now c.args.index) (c.args.key, c.args.value) (c.args.hash % 256) c.if-this-eq-INDEX.false))
 
 pub below-requires : goal.below-requires
 below-requires g c = omega (arith, c.requires, ap length c.self.view_is, c.self.invariant.1.len_is)

@@ -27,7 +27,8 @@ invariant_of-self g c =
     let left = slots_without b c.in-Some.at in
     let bits = rw c.pos-pos.ensures at c.free-left.ensures.live in
     let without = without_own b c.in-Some.at own.0 in
-    let after = set_there _ _ _ _ _ _ _ _ ready.place c.self.view_is c.requires.within _ _ c.self.invariant.3 c.free-left.ensures.others left
+    let after = set_there _ _ _ _ _ _ _ _ ready.place c.self.view_is c.requires.within _ _ c.self.invariant.3
+    c.free-left.ensures.others left
     (λ said. IsDigest-freed _ _ b left _ ready.digest_is own.1 bits c.free-left.ensures.bytes without.0 without.1) in (
       c.self.invariant.0,
       rw c.remove_in-pair.ensures.parts (ready.place.kept left),

@@ -20,7 +20,14 @@ returns-in-Some g c =
     let key = ap (λ key. place_wanted (λ own. g.K.PartialEq.eq own key) (c.args.hash % 256) b) c.new.ensures.key in
     let found = rw c.heal.ensures at c.in-Some.ensures.place ∙ key in (
       bucket_with_value b c.in-Some.at c.args.value,
-      (c.in-Some.at, c.entry_mut-old.result.0.now, sym found, rw c.replace.ensures.value (rw c.heal.ensures at c.entry_mut-old.ensures.pair), refl),
+      (
+        c.in-Some.at,
+        c.entry_mut-old.result.0.now,
+        sym found,
+        rw c.replace.ensures.value
+            (rw c.heal.ensures at c.entry_mut-old.ensures.pair),
+        refl,
+      ),
       rw (c.heal.ensures, c.replace.ensures.after) refl,
     )
 

@@ -12,4 +12,5 @@ returns-clause-pairs_ahead g c =
 
 pub returns-clause-left : goal.returns-clause-left
 returns-clause-left g c =
-    rw (c.settle_on.ensures, put_there c.args.self.now c.args.side c.args.index c.mark_removed.new.self c.requires.within) c.len-left.ensures
+    rw (c.settle_on.ensures, put_there c.args.self.now c.args.side c.args.index c.mark_removed.new.self c.requires.within)
+    c.len-left.ensures

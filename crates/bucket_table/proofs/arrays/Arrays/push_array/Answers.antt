@@ -10,7 +10,8 @@ invariant_of-self g c =
     let stood = ap (λ o. length (list_of o)) (sym c.in-Some.ensures.value) in
     let current = ap (λ a. length a.current) c.self.view_is in
     let tickets = ap (λ t. t.len) c.in-Ok.ensures in
-    rw (c.adopt_digests.ensures.own, c.adopt_digests.ensures.other) (fresh_fits c.args.capacity _ _ _ _ c.in_ok-fresh.fresh _ _ _ c.self.invariant (omega (arith, maximum, c.requires.capacity))
+    rw (c.adopt_digests.ensures.own, c.adopt_digests.ensures.other)
+    (fresh_fits c.args.capacity _ _ _ _ c.in_ok-fresh.fresh _ _ _ c.self.invariant (omega (arith, maximum, c.requires.capacity))
     c.in_ok-fresh.ensures
     (omega (arith, tickets, stood, current, c.len.ensures.value)))
 

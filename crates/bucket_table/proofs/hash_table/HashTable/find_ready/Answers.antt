@@ -11,7 +11,8 @@ invariant_of-self g c =
 
 pub returns-clause-map : goal.returns-clause-map
 returns-clause-map g c =
-    rw (← c.self.view_is) (state_found g.row.TYPE c.self.inside.hasher c.self.inside.arrays c.grow_at-side.new.self c.grow_at-side.ensures.kept)
+    rw (← c.self.view_is) (state_found g.row.TYPE c.self.inside.hasher c.self.inside.arrays c.grow_at-side.new.self
+    c.grow_at-side.ensures.kept)
 
 pub returns-clause-locked : goal.returns-clause-locked
 returns-clause-locked g c =

@@ -69,5 +69,6 @@ pub reader-answer-requires : goal.reader-answer-requires
 reader-answer-requires g c =
     let stands = rw (← c.self.view_is) at c.in-Some.ensures.found in
     let keeps = rw (← c.self.view_is) at c.fetch_spot.ensures.prepared.map in
-    c.requires.callable _ _ (shown_before (g.P.KeyProbe.wants c.args.probe.now) (state_of g.row.TYPE c.args.self.now) _ _ stands.pair _ keeps
+    c.requires.callable _ _ (shown_before (g.P.KeyProbe.wants c.args.probe.now) (state_of g.row.TYPE c.args.self.now) _ _
+    stands.pair _ keeps
     stands.slot stands.there c.entry_of.ensures)

@@ -18,7 +18,8 @@ invariant_of-self g c =
 pub returns-clause-map : goal.returns-clause-map
 returns-clause-map g c =
     let e = rw c.bucket_of_mut-bucket.ensures.bucket at c.put_absent_in.ensures in
-    subst (λ (t : TableView g.row.K.Denot g.row.V.Denot g.row.H.Denot). Puts g.K.PartialEq.eq c.args.key c.args.value (state_of g.row.TYPE t)
+    subst (λ (t : TableView g.row.K.Denot g.row.V.Denot g.row.H.Denot). Puts g.K.PartialEq.eq c.args.key c.args.value
+    (state_of g.row.TYPE t)
     (Ok c.put_absent_in.result) (state_of g.row.TYPE (record {
       hasher = c.self.inside.hasher;
       arrays = arrays_with c.self.inside.arrays c.args.side c.args.index c.put_absent_in.new.bucket;

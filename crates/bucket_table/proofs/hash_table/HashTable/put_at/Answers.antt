@@ -7,21 +7,29 @@ pub invariant_of-self : goal.invariant_of-self
 invariant_of-self g c =
     let own = rw (← c.self.view_is) at c.requires.own_hash in
     rw c.settle_on.ensures (put_leaves g.met.K.Eq.laws g.H.KeyHash.hash_of g.row.TYPE c.args.side c.args.index c.self.invariant
-    (rw (← c.self.view_is) at c.requires.locked) c.put_in-done.result c.put_in-done.new.bucket g.L.LruList.KEEPS c.args.key c.args.value c.args.hash
+    (rw (← c.self.view_is) at c.requires.locked) c.put_in-done.result c.put_in-done.new.bucket g.L.LruList.KEEPS c.args.key c.args.value
+    c.args.hash
     (λ found equal. g.met.H.KeyHash.alike c.self.inside.hasher found c.args.key equal ∙ sym own) own
     (rw (← c.self.view_is) at c.requires.home) c.requires.cache (rw c.bucket_of_mut-bucket.ensures.bucket at c.put_in-done.ensures)).one_map
 
 pub returns-clause-map : goal.returns-clause-map
 returns-clause-map g c =
     let own = rw (← c.self.view_is) at c.requires.own_hash in
-    rw (c.settle_on.ensures, ← c.self.view_is) (put_leaves g.met.K.Eq.laws g.H.KeyHash.hash_of g.row.TYPE c.args.side c.args.index c.self.invariant
-    (rw (← c.self.view_is) at c.requires.locked) c.put_in-done.result c.put_in-done.new.bucket g.L.LruList.KEEPS c.args.key c.args.value c.args.hash
+    rw (c.settle_on.ensures, ← c.self.view_is) (put_leaves g.met.K.Eq.laws g.H.KeyHash.hash_of g.row.TYPE c.args.side c.args.index
+    c.self.invariant
+    (rw (← c.self.view_is) at c.requires.locked) c.put_in-done.result c.put_in-done.new.bucket g.L.LruList.KEEPS c.args.key c.args.value
+    c.args.hash
     (λ found equal. g.met.H.KeyHash.alike c.self.inside.hasher found c.args.key equal ∙ sym own) own
     (rw (← c.self.view_is) at c.requires.home) c.requires.cache (rw c.bucket_of_mut-bucket.ensures.bucket at c.put_in-done.ensures)).map
 
 pub returns-clause-bucket : goal.returns-clause-bucket
 returns-clause-bucket g c =
-    rw (c.settle_on.ensures, ← c.self.view_is) (c.put_in-done.new.bucket, rw c.bucket_of_mut-bucket.ensures.bucket at c.put_in-done.ensures, refl)
+    rw (c.settle_on.ensures, ← c.self.view_is) (
+      c.put_in-done.new.bucket,
+      rw c.bucket_of_mut-bucket.ensures.bucket at
+          c.put_in-done.ensures,
+      refl,
+    )
 
 pub settle_on-requires : goal.settle_on-requires
 settle_on-requires g c =

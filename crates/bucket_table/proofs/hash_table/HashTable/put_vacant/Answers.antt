@@ -7,7 +7,8 @@ use Rattle.bucket_table.proofs.hash_table.HashTable.put_vacant.Goals as goal
 pub put_absent-requires : goal.put_absent-requires
 put_absent-requires g c =
     let e = c.find_ready-side.ensures in
-    let own = own_kept g.H.KeyHash.hash_of c.args.key c.args.hash g.row.TYPE c.args.self.now c.find_ready-side.new.self e.map c.requires.own_hash in
+    let own = own_kept g.H.KeyHash.hash_of c.args.key c.args.hash g.row.TYPE c.args.self.now c.find_ready-side.new.self e.map
+    c.requires.own_hash in
     let absent = absent_kept (λ own. g.K.PartialEq.eq own c.args.key) (state_of g.row.TYPE c.args.self.now)
     (state_of g.row.TYPE c.find_ready-side.new.self) e.map
     (absent_turned g.met.K.Eq.laws c.args.key (pairs_of c.args.self.now.arrays) c.requires.absent) in
@@ -15,7 +16,8 @@ put_absent-requires g c =
 
 pub returns-in-Ready-clause-map : goal.returns-in-Ready-clause-map
 returns-in-Ready-clause-map g c =
-    then_put g.K.PartialEq.eq c.args.key c.args.value (state_of g.row.TYPE c.args.self.now) (state_of g.row.TYPE c.find_ready-side.new.self) _
+    then_put g.K.PartialEq.eq c.args.key c.args.value (state_of g.row.TYPE c.args.self.now)
+    (state_of g.row.TYPE c.find_ready-side.new.self) _
     (Ok c.put_absent.result) c.find_ready-side.ensures.map c.put_absent.ensures.map
 
 pub returns-in-Ready-clause-arrays : goal.returns-in-Ready-clause-arrays
@@ -43,4 +45,5 @@ returns-in-NoArray-clause-arrays g c = λ first prepared vacant.
 
 pub returns-in-NoMemory-clause-arrays : goal.returns-in-NoMemory-clause-arrays
 returns-in-NoMemory-clause-arrays g c = λ first prepared vacant.
-    refused_vacant g.row.TYPE c.args.hash g.L.LruList.KEEPS c.args.key c.args.value first c.args.self.now prepared (rw c.in-NoMemory.is at vacant)
+    refused_vacant g.row.TYPE c.args.hash g.L.LruList.KEEPS c.args.key c.args.value first c.args.self.now prepared
+    (rw c.in-NoMemory.is at vacant)

@@ -13,7 +13,8 @@ pub returns-in-Some-clause-map : goal.returns-in-Some-clause-map
 returns-in-Some-clause-map g c =
     let keeps = c.fetch_spot-found.ensures.prepared.map in
     let stands = rw c.new.ensures.key at c.in-Some.ensures.found in (
-      same_taken (λ own. g.K.PartialEq.eq own c.args.key) _ _ stands.pair c.replace_at.result stands.slot stands.there c.replace_at.ensures.pair,
+      same_taken (λ own. g.K.PartialEq.eq own c.args.key) _ _ stands.pair c.replace_at.result stands.slot stands.there
+          c.replace_at.ensures.pair,
       then_replaced (state_of g.row.TYPE c.args.self.now) (state_of g.row.TYPE c.fetch_spot-found.new.self)
           (state_of g.row.TYPE c.replace_at.new.self) c.replace_at.result (c.args.key, c.args.value) keeps c.replace_at.ensures.map,
     )
@@ -33,4 +34,8 @@ returns-in-Some-clause-arrays g c =
 
 pub returns-in-None-clause-arrays : goal.returns-in-None-clause-arrays
 returns-in-None-clause-arrays g c =
-    rw (← c.hash-hash.ensures) (record { between = c.fetch_spot-found.new.self; prepared = c.fetch_spot-found.ensures.prepared; done = refl })
+    rw (← c.hash-hash.ensures) (record {
+      between = c.fetch_spot-found.new.self;
+      prepared = c.fetch_spot-found.ensures.prepared;
+      done = refl;
+    })

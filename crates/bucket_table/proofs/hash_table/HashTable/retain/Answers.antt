@@ -13,8 +13,10 @@ pub loop-bucket-preserved : goal.loop-bucket-preserved
 loop-bucket-preserved g c =
     let amid = c.loop-bucket.invariant in
     let row = ap (λ t. row_of t.arrays) c.self-in-loop-bucket.view_is in
-    let within : c.loop-bucket.index < length (row_of c.loop-bucket.self.arrays) = omega (arith, ap length row, c.in-Some.ensures.bucket.0) in
-    let live = c.len.ensures ∙ ap (λ b. length (pairs_in b)) (c.in-Some.ensures.bucket.1 ∙ ap (λ bs. bucket_at bs c.loop-bucket.index) row) in
+    let within : c.loop-bucket.index < length (row_of c.loop-bucket.self.arrays) = omega
+    (arith, ap length row, c.in-Some.ensures.bucket.0) in
+    let live = c.len.ensures ∙ ap (λ b. length (pairs_in b))
+    (c.in-Some.ensures.bucket.1 ∙ ap (λ bs. bucket_at bs c.loop-bucket.index) row) in
     elim c.if-len-ne0.branch [
       | then-len-ne0 w ↦ rw (w.self-is, w.keep-is, w.count-is) (
         w.retain_nth-gone.ensures.again,
@@ -34,7 +36,8 @@ loop-bucket-smaller g c =
     omega (arith, row, c.in-Some.ensures.bucket.0, c.loop-bucket.invariant.2.left.len, (loop-bucket-preserved g c).2.left.len)
 
 -- the whole row was gone through
-all_retained : (g : given.Over) (c : goal.In_default g) → IsRetained (λ state own before answer after last. given.F-step g state own before answer after last)
+all_retained : (g : given.Over) (c : goal.In_default g) → IsRetained
+    (λ state own before answer after last. given.F-step g state own before answer after last)
     g.row.TYPE (g.G.Generation.epoch_of c.args.generation.now) c.args.keep.now c.args.self.now.arrays c.loop-bucket.self.arrays
     c.loop-bucket.count c.loop-bucket.keep
 all_retained g c =

@@ -7,8 +7,14 @@ use Rattle.bucket_table.proofs.hash_table.HashTable.touch_by.Goals as goal
 pub returns-clause-map : goal.returns-clause-map
 returns-clause-map g c =
     let stands = c.in-Ok.ensures.found in
-    let keeps = c.touch_place.ensures.map in
-    ((stands.pair, there_before (g.P.KeyProbe.wants c.args.probe.now) (state_of g.row.TYPE c.args.self.now) _ stands.pair keeps stands.there), keeps)
+    let keeps = c.touch_place.ensures.map in (
+      (
+        stands.pair,
+        there_before (g.P.KeyProbe.wants c.args.probe.now) (state_of g.row.TYPE c.args.self.now) _ stands.pair keeps
+            stands.there,
+      ),
+      keeps,
+    )
 
 pub returns-clause-arrays : goal.returns-clause-arrays
 returns-clause-arrays g c =

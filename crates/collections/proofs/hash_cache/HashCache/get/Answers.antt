@@ -17,7 +17,8 @@ returns-in-Ok g c =
       (refl, λ _. tt, touched eq laws t b distinct wants alike c.touch_place.ensures.map _ o.side o.index o.at e.touched e.found),
       record {
         ends = tt;
-        value = shown eq laws t b distinct wants alike c.touch_place.ensures.map _ o.side o.index o.at e.touched e.found _ c.entry_at.ensures;
+        value = shown eq laws t b distinct wants alike c.touch_place.ensures.map _ o.side o.index o.at e.touched e.found _
+            c.entry_at.ensures;
       },
     )
 

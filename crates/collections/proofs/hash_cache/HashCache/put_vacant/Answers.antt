@@ -5,7 +5,17 @@ use Rattle.collections.proofs.hash_cache.HashCache.put_vacant.Goals as goal
 pub put_vacant-outcome-requires : goal.put_vacant-outcome-requires
 put_vacant-outcome-requires g c = (
   search rules,
-  (refl, (rw (← c.self.view_is) at c.requires.own_hash, (rw (← c.self.view_is) at c.requires.absent, rw (← c.self.view_is) at c.requires.ready))),
+  (
+    refl,
+    (
+      rw (← c.self.view_is) at c.requires.own_hash,
+      (
+        rw (← c.self.view_is) at c.requires.absent,
+        rw (← c.self.view_is) at
+            c.requires.ready,
+      ),
+    ),
+  ),
 )
 
 pub returns-clause-put : goal.returns-clause-put

@@ -29,7 +29,8 @@ returns-in-Ok-clause-order g c =
     let keeps = c.touch_place.ensures.map in
     let e = rw c.new.ensures.form at c.in-Ok.ensures in
     let o = c.in-Ok.spot in
-    rw (← c.self.view_is, c.swap_at.ensures.table) (written_there eq laws t b distinct (eq c.args.key) (laws.congr c.args.key) keeps _ o.side
+    rw (← c.self.view_is, c.swap_at.ensures.table) (written_there eq laws t b distinct (eq c.args.key) (laws.congr c.args.key)
+    keeps _ o.side
     o.index o.at e.touched e.found c.args.value)
 
 pub put_vacant-requires : goal.put_vacant-requires
@@ -51,7 +52,8 @@ returns-in-Ok-None-clause-map g c =
 pub returns-in-Ok-None-clause-order : goal.returns-in-Ok-None-clause-order
 returns-in-Ok-None-clause-order g c =
     let e = c.in-Err.ensures in
-    let put = rw (c.in-Ok-None.is, c.in-Ok-None.field-0-is, c.hash-hash.ensures) at (c.put_vacant.ensures.put c.self.inside.table e.prepared e.vacancy) in
+    let put = rw (c.in-Ok-None.is, c.in-Ok-None.field-0-is, c.hash-hash.ensures) at
+    (c.put_vacant.ensures.put c.self.inside.table e.prepared e.vacancy) in
     rw (← c.self.view_is) put.1
 
 pub returns-in-Ok-Some-clause-map : goal.returns-in-Ok-Some-clause-map
@@ -63,7 +65,8 @@ returns-in-Ok-Some-clause-map g c =
 pub returns-in-Ok-Some-clause-order : goal.returns-in-Ok-Some-clause-order
 returns-in-Ok-Some-clause-order g c =
     let e = c.in-Err.ensures in
-    let put = rw (c.in-Ok-Some.is, c.in-Ok-Some.field-0-is, c.hash-hash.ensures) at (c.put_vacant.ensures.put c.self.inside.table e.prepared e.vacancy) in
+    let put = rw (c.in-Ok-Some.is, c.in-Ok-Some.field-0-is, c.hash-hash.ensures) at
+    (c.put_vacant.ensures.put c.self.inside.table e.prepared e.vacancy) in
     rw (← c.self.view_is) put.1
 
 pub returns-in-Err-Memory : goal.returns-in-Err-Memory

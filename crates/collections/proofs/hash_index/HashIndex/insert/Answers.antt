@@ -25,7 +25,8 @@ returns-clause-kept g c =
     c.self.inside.table puts.between c.insert_pair-outcome.new.self c.insert_pair-outcome.result puts.answer puts.found puts.done)
 
 pub returns-clause-memory : goal.returns-clause-memory
-returns-clause-memory g c = λ is. rw (← c.self.view_is) (index_lacks g.H.KeyHash.hash_of c.args.key c.self.inside.table c.insert_pair-outcome.new.self
+returns-clause-memory g c = λ is. rw (← c.self.view_is) (index_lacks g.H.KeyHash.hash_of c.args.key c.self.inside.table
+    c.insert_pair-outcome.new.self
     c.sound-2.ensures.one_map.placed (c.learn_refused.ensures.current c.args.key c.args.value is)
     (c.learn_refused.ensures.old c.args.key c.args.value is) (g.G.Generation.keeps c.args.generation.now) c.args.value
     g.K.PartialEq.eq c.insert_pair-outcome.result c.args.key c.args.value c.insert_pair-outcome.ensures.map

@@ -14,8 +14,13 @@ returns-in_default g c =
     let lacks = none_found_room 83 g.H.KeyHash.hash_of c.args.key _ c.self.inside.table c.find_absent.new.table
     c.find_absent.ensures.hashed c.sound-in_default.ensures.one_map.placed c.learn_homes.ensures.current c.learn_homes.ensures.old
     c.in_default.ensures.found in
-    let grows = unfound_grows g.H.KeyHash.hash_of c.args.key 83 _ c.self.inside.table c.find_absent.new.table c.in_default.ensures.found.prepared in
-    rw (← c.self.view_is) ((refl, λ value is. absurd cc, (kept, lacks, grows)), record { writes_back = tt; value = tt; pair_returned = refl })
+    let grows = unfound_grows g.H.KeyHash.hash_of c.args.key 83 _ c.self.inside.table c.find_absent.new.table
+    c.in_default.ensures.found.prepared in
+    rw (← c.self.view_is) (
+      (refl, λ value is. absurd cc, (kept, lacks, grows)),
+      record
+          { writes_back = tt; value = tt; pair_returned = refl },
+    )
 
 pub returns-in-Err : goal.returns-in-Err
 returns-in-Err g c =
@@ -32,10 +37,14 @@ returns-in-Err g c =
     (λ e. omega arith) c.in-Ok.side c.in-Ok.index found none in
     let beside = rw same at c.sound-in-Err.ensures.beside in
     let own = rw (← c.self.view_is) at c.requires.hashed in
-    let grows = full_grows g.H.KeyHash.hash_of c.args.key c.self.inside.table c.find_absent.new.table placed beside c.in-Ok.side c.in-Ok.index
+    let grows = full_grows g.H.KeyHash.hash_of c.args.key c.self.inside.table c.find_absent.new.table placed beside c.in-Ok.side
+    c.in-Ok.index
     c.args.hash own found in
-    rw (← c.self.view_is, same)
-    ((refl, λ value is. absurd cc, (kept, lacks, grows)), record { writes_back = tt; value = tt; pair_returned = c.in-Err.ensures.answer.0 })
+    rw (← c.self.view_is, same) (
+      (refl, λ value is. absurd cc, (kept, lacks, grows)),
+      record
+          { writes_back = tt; value = tt; pair_returned = c.in-Err.ensures.answer.0 },
+    )
 
 pub returns : goal.returns
 returns g c =
@@ -47,7 +56,8 @@ returns g c =
     let pair = pair_named _ (c.args.key, c.args.value) _ _ names e.pair in
     let puts = rw c.lock.ensures.unchanged at put.map in
     let own = rw (← c.self.view_is) at c.requires.hashed in
-    let is = changed_there added c.lock.result.table.now c.find_absent.new.table c.lock.result.side c.in-Ok.side c.lock.result.index c.in-Ok.index
+    let is = changed_there added c.lock.result.table.now c.find_absent.new.table c.lock.result.side c.in-Ok.side c.lock.result.index
+    c.in-Ok.index
     (λ bucket. slots_after_insertion 83 (λ mark. true) bucket (c.args.key, c.args.value) (c.args.hash % 256)) c.lock.ensures.unchanged
     c.lock.ensures.side c.lock.ensures.index put.changed.table in
     rw (← c.self.view_is) (

@@ -10,7 +10,8 @@ returns-clause-map g c = rw (← c.self.view_is) (inserts g.K.PartialEq.eq g.met
     c.insert_pair-outcome.result c.insert_pair-outcome.ensures.map)
 
 pub returns-clause-memory : goal.returns-clause-memory
-returns-clause-memory g c = λ is. rw (← c.self.view_is) (insertion_lacks g.H.KeyHash.hash_of c.args.key c.self.inside.table c.insert_pair-outcome.new.self
+returns-clause-memory g c = λ is. rw (← c.self.view_is) (insertion_lacks g.H.KeyHash.hash_of c.args.key c.self.inside.table
+    c.insert_pair-outcome.new.self
     c.sound-2.ensures.one_map.placed (c.learn_refused.ensures.current c.args.key c.args.value is)
     (c.learn_refused.ensures.old c.args.key c.args.value is) (λ mark. true) c.args.value g.K.PartialEq.eq c.insert_pair-outcome.result
     c.args.key c.args.value c.insert_pair-outcome.ensures.map c.insert_pair-outcome.ensures.arrays is)

@@ -15,4 +15,5 @@ returns-clause-slots g c = elim c.match-outcome.branch [
 ]
 
 pub returns-clause-no_fewer : goal.returns-clause-no_fewer
-returns-clause-no_fewer g c = rw (← c.self.view_is) (none_fewer c.args.slots _ _ c.requires c.rehash_to-outcome.ensures.rehashed.current_len)
+returns-clause-no_fewer g c = rw (← c.self.view_is) (none_fewer c.args.slots _ _ c.requires
+    c.rehash_to-outcome.ensures.rehashed.current_len)

@@ -15,9 +15,13 @@ loop-pair-preserved g c =
     let inv = c.loop-pair.invariant in
     let pair = c.in-Some.pair in
     it.again inv pair c.in-Some.is (c.next.ensures.steps, c.next.ensures.goes) (
-      one_more_put eq c.args.self.now c.loop-pair.self c.upsert.new.self inv.seen pair inv.holds.0 (upsert_puts eq c.loop-pair.self c.upsert.new.self pair.0 pair.1 c.in-Ok.earlier c.in-Ok.ensures.map),
+      one_more_put eq c.args.self.now c.loop-pair.self c.upsert.new.self inv.seen pair inv.holds.0
+          (upsert_puts eq c.loop-pair.self c.upsert.new.self pair.0 pair.1 c.in-Ok.earlier c.in-Ok.ensures.map),
       chained_more (λ before p after. Puts eq before p.0 p.1 after × GrowsSlots g.H.KeyHash.hash_of p.0 before after) c.args.self.now
-          inv.seen c.loop-pair.self pair c.upsert.new.self inv.holds.1 ((upsert_puts eq c.loop-pair.self c.upsert.new.self pair.0 pair.1 c.in-Ok.earlier c.in-Ok.ensures.map), c.upsert.ensures.slots),
+          inv.seen c.loop-pair.self pair c.upsert.new.self inv.holds.1 (
+            (upsert_puts eq c.loop-pair.self c.upsert.new.self pair.0 pair.1 c.in-Ok.earlier c.in-Ok.ensures.map),
+            c.upsert.ensures.slots,
+          ),
     )
 
 pub returns-in-Err : goal.returns-in-Err

@@ -21,7 +21,8 @@ returns-then-has_linked_array g c =
     rw (← c.self.view_is) (makes g.K.PartialEq.eq c.args.additional (map_of c.self.inside.table)
     c.sound.ensures.one_map.distinct (slots_of_array _ c.sound.ensures.long) c.len.result c.len.ensures.count c.in-Some.pairs
     c.in-Some.ensures.1 c.make_room-then-has_linked_array.result c.make_room-then-has_linked_array.new.self
-    (rw (← c.self.view_is) at made.map) (rw (← c.self.view_is) at made.slots) (rw (← c.self.view_is) at made.no_fewer) (rw (← c.self.view_is) at made.too_many)
+    (rw (← c.self.view_is) at made.map) (rw (← c.self.view_is) at made.slots) (rw (← c.self.view_is) at made.no_fewer)
+    (rw (← c.self.view_is) at made.too_many)
     (λ enough alone. some_moving _ c.has_linked_array.result c.has_linked_array.ensures c.if-has_linked_array.true alone))
 
 pub returns : goal.returns

@@ -21,7 +21,8 @@ pub returns-in-Err-clause-memory : goal.returns-in-Err-clause-memory
 returns-in-Err-clause-memory g c =
     let here = ap (λ p. p.0) c.in-Err.ensures.map.0 in
     let homes = rw (c.hash.ensures, here) at c.learn_homes.ensures in
-    rw (← c.self.view_is) (upsertion_lacks g.H.KeyHash.hash_of c.args.key c.self.inside.table c.upsert-outcome.new.self c.sound-2.ensures.one_map.placed
+    rw (← c.self.view_is) (upsertion_lacks g.H.KeyHash.hash_of c.args.key c.self.inside.table c.upsert-outcome.new.self
+    c.sound-2.ensures.one_map.placed
     homes.current homes.old (λ mark. true) c.args.value g.K.PartialEq.eq c.in-Err.value c.in-Err.ensures.map c.in-Err.ensures.arrays)
 
 pub returns-clause-slots : goal.returns-clause-slots

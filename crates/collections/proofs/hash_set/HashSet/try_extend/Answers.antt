@@ -20,9 +20,13 @@ loop-key-preserved g c =
     let inv = c.loop-key.invariant in
     let key = c.in-Some.key in
     it.again inv key c.in-Some.is (c.next.ensures.steps, c.next.ensures.goes) (
-      one_more_key eq g.met.K.Eq.laws c.args.self.now c.loop-key.self c.insert.new.self inv.seen key inv.holds.0 (added_put eq g.met.K.Eq.laws c.loop-key.self c.insert.new.self key c.in-Ok._added c.in-Ok.ensures.set),
+      one_more_key eq g.met.K.Eq.laws c.args.self.now c.loop-key.self c.insert.new.self inv.seen key inv.holds.0
+          (added_put eq g.met.K.Eq.laws c.loop-key.self c.insert.new.self key c.in-Ok._added c.in-Ok.ensures.set),
       chained_more (λ before k after. PutsKey eq before k after × GrowsSlots g.H.KeyHash.hash_of k before after) c.args.self.now
-          inv.seen c.loop-key.self key c.insert.new.self inv.holds.1 ((added_put eq g.met.K.Eq.laws c.loop-key.self c.insert.new.self key c.in-Ok._added c.in-Ok.ensures.set), c.insert.ensures.slots),
+          inv.seen c.loop-key.self key c.insert.new.self inv.holds.1 (
+            (added_put eq g.met.K.Eq.laws c.loop-key.self c.insert.new.self key c.in-Ok._added c.in-Ok.ensures.set),
+            c.insert.ensures.slots,
+          ),
     )
 
 pub returns-in-Err : goal.returns-in-Err

@@ -31,7 +31,8 @@ impl<'a, K: Eq + Drop, V: Drop, H: KeyHash<K>, Q: KeyForm<K, H>> OccupiedEntryRe
     /// Moves nothing. O(1) expected. std: `OccupiedEntry::get_mut`.
     pub fn get_mut(&mut self) -> &mut V
         ensures* writes_back { sem 𝓛
-            (LendsHeldRef K.row V.row H.row Q.row K.PartialEq H.KeyHash Q.KeyForm self.entry result) }
+            (LendsHeldRef K.row V.row H.row Q.row K.PartialEq H.KeyHash Q.KeyForm self.entry
+            result) }
         ensures value { get_by (Q.stands_for self.old.form) self.old.map.now ≡ Some result.now }
         ensures written { (value : V) → Holds K.eq (Q.stands_for self.old.form) self.old.map.now
             result.now value (map_with_value (Q.stands_for self.old.form) self.old.map.now value) }
@@ -62,7 +63,7 @@ impl<'a, K: Eq + Drop, V: Drop, H: KeyHash<K>, Q: KeyForm<K, H>> OccupiedEntryRe
     /// Lends the value under the key for writing, for as long as the map is lent. Once the loan
     /// ends, the key has the value last written, and each other key what it had.
     ///
-    /// Never refused. O(1) expected. std: `OccupiedEntry::into_mut`.
+    /// Moves nothing. O(1) expected. std: `OccupiedEntry::into_mut`.
     pub fn into_mut(self) -> &'a mut V
         ensures* writes_back { sem 𝓛
             (LendsThere K.row V.row H.row K.PartialEq H.KeyHash self.entry.map

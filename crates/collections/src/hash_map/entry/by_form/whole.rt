@@ -129,9 +129,10 @@ impl<'a, K: Eq + Drop, V: Drop, H: KeyHash<K>, Q: ToKey<K, H>> EntryRef<'a, K, V
     }
 
     /// Lends the value under the key for writing; where the map has none of the keys, it makes one
-    /// of the form and inserts it with the default of values first. Once the loan ends, the key has
-    /// the value last written, and each other key what it had. Where the map has one no key is
-    /// made, and it is never refused.
+    /// of the form and inserts it with the default of values first: of a collection or a `String`
+    /// the empty one, whose memory comes from the allocator. Once the loan ends, the key has the
+    /// value last written, and each other key what it had. Where the map has one no key is made,
+    /// and it is never refused.
     ///
     /// # Errors
     ///

@@ -6,7 +6,8 @@ pub returns-clause-kept : goal.returns-clause-kept
 returns-clause-kept g c =
     let made = c.self.inside.made in
     let fresh = c.fresh.inside.made in
-    let full : length made.items ≡ vec_capacity made = omega (arith, made.ok.0, c.len.ensures, c.capacity-3.ensures, c.if-len-capacity.false) in
+    let full : length made.items ≡ vec_capacity made = omega
+    (arith, made.ok.0, c.len.ensures, c.capacity-3.ensures, c.if-len-capacity.false) in
     let none : fresh.items ≡ [] = grind (arith, common_steps) in
     let same : vec_capacity fresh ≡ vec_capacity made = omega (arith, c.capacity.ensures, c.capacity-2.ensures, c.if-capacity.false) in
     rw c.swap.ensures.x_after (released_part made.items fresh.items (vec_capacity made) (vec_capacity fresh) c.self.inside.released full

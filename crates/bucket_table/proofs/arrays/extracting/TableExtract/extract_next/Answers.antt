@@ -18,14 +18,16 @@ returns-then-not-has_row-clause-extracted g c =
 pub returns-in-Some-ask_at-clause-extracted : goal.returns-in-Some-ask_at-clause-extracted
 returns-in-Some-ask_at-clause-extracted g c =
     let m = c.in-Some.ensures.moves in
-    picks _ g.row.TYPE c.slots.self-inside.not_index c.args.pick.now c.slots.pick c.ask_at.new.pick c.args.self.now c.slots.self-inside.arrays c.ask_at.new.arrays
+    picks _ g.row.TYPE c.slots.self-inside.not_index c.args.pick.now c.slots.pick c.ask_at.new.pick c.args.self.now
+    c.slots.self-inside.arrays c.ask_at.new.arrays
     c.slots.self-inside.index c.next_slot.new.index c.slots.self-inside.at c.next_slot.new.at c.ask_at.new.at c.in-Some._bucket.now m
     c.slots.invariant.1 c.in-Some-ask_at.pair (rw c.in-Some-ask_at.is at (c.ask_at.ensures.asked m.moves.pair m.moves.here))
 
 pub slots-smaller : goal.slots-smaller
 slots-smaller g c =
     let m = c.in-Some.ensures.moves in
-    fewer _ g.row.TYPE c.slots.self-inside.not_index c.args.pick.now c.slots.pick c.ask_at.new.pick c.args.self.now c.slots.self-inside.arrays c.ask_at.new.arrays
+    fewer _ g.row.TYPE c.slots.self-inside.not_index c.args.pick.now c.slots.pick c.ask_at.new.pick c.args.self.now
+    c.slots.self-inside.arrays c.ask_at.new.arrays
     c.slots.self-inside.index c.next_slot.new.index c.slots.self-inside.at c.next_slot.new.at c.ask_at.new.at c.in-Some._bucket.now m
     c.slots.invariant.1 c.ask_at.result (c.ask_at.ensures.asked m.moves.pair m.moves.here)
 
@@ -33,7 +35,8 @@ pub slots-preserved : goal.slots-preserved
 slots-preserved g c =
     let m = c.in-Some.ensures.moves in (
       c.ask_at.ensures.again,
-      refuses _ g.row.TYPE c.slots.self-inside.not_index c.args.pick.now c.slots.pick c.ask_at.new.pick c.args.self.now c.slots.self-inside.arrays c.ask_at.new.arrays
+      refuses _ g.row.TYPE c.slots.self-inside.not_index c.args.pick.now c.slots.pick c.ask_at.new.pick c.args.self.now
+          c.slots.self-inside.arrays c.ask_at.new.arrays
           c.slots.self-inside.index c.next_slot.new.index c.slots.self-inside.at c.next_slot.new.at c.ask_at.new.at c.in-Some._bucket.now m
           c.slots.invariant.1 (rw c.in-None.is at (c.ask_at.ensures.asked m.moves.pair m.moves.here)),
     )

@@ -8,7 +8,8 @@ use Rattle.bucket_table.proofs.arrays.extracting.TableExtract.extract_next.Given
 abbrev pub invariant-slots : goal.invariant-slots
 invariant-slots g l =
     always_mut g.F.FnMut l.pick
-    × IsExtracting (λ state own before answer after last. goal.F-step g state own before answer after last) g.row.TYPE l.fn.pick l.fn.self l.pick
+    × IsExtracting (λ state own before answer after last. goal.F-step g state own before answer after last) g.row.TYPE l.fn.pick
+    l.fn.self l.pick
     (record {
       arrays = l.self-inside.arrays;
       left = pairs_from (row_of l.self-inside.arrays) l.self-inside.index l.self-inside.at;

@@ -10,7 +10,8 @@ invariant_of-table g c =
     let o = c.args.self.now in
     let locked = rw (← c.table.view_is) at o.locked in
     let e = rw c.bucket_of_mut.ensures.bucket at c.evict_lru_head-gone.ensures in
-    rw c.settle_on.ensures (evicted g.met.K.Eq.laws g.H.KeyHash.hash_of g.row.TYPE o.side o.index c.table.invariant (changeable_locked _ _ _ locked)
+    rw c.settle_on.ensures (evicted g.met.K.Eq.laws g.H.KeyHash.hash_of g.row.TYPE o.side o.index c.table.invariant
+    (changeable_locked _ _ _ locked)
     c.evict_lru_head-gone.result c.evict_lru_head-gone.new.self e.pair e.slots e.unchanged).one_map
 
 pub invariant_of-self : goal.invariant_of-self
@@ -20,7 +21,8 @@ invariant_of-self g c =
     let e = rw c.bucket_of_mut.ensures.bucket at c.evict_lru_head-gone.ensures in
     record {
       locked = rw c.settle_on.ensures ((evicted g.met.K.Eq.laws g.H.KeyHash.hash_of g.row.TYPE o.side o.index c.table.invariant
-          (changeable_locked _ _ _ locked) c.evict_lru_head-gone.result c.evict_lru_head-gone.new.self e.pair e.slots e.unchanged).locked locked);
+          (changeable_locked _ _ _ locked) c.evict_lru_head-gone.result c.evict_lru_head-gone.new.self e.pair e.slots
+          e.unchanged).locked locked);
     }
 
 pub returns-clause-map : goal.returns-clause-map
@@ -39,7 +41,8 @@ returns-clause-changed g c =
       same_table = refl;
       same_side = refl;
       same_index = refl;
-      table = rw (c.settle_on.ensures, ← c.table.view_is) (with_same c.table.inside.hasher c.table.inside.arrays _ _ c.evict_lru_head-gone.new.self _ is);
+      table = rw (c.settle_on.ensures, ← c.table.view_is) (with_same c.table.inside.hasher c.table.inside.arrays _ _
+          c.evict_lru_head-gone.new.self _ is);
     }
 
 pub returns-clause-answer : goal.returns-clause-answer

@@ -63,7 +63,8 @@ pub returns-clause-answer : goal.returns-clause-answer
 returns-clause-answer g c =
     let o = c.args.self.now in
     let e = rw c.bucket_of_mut.ensures.bucket at c.insert-placed.ensures in
-    rw (c.settle_on.ensures, ← c.table.view_is) (answers_placing g.row.TYPE (g.G.Generation.keeps c.args.generation.now) _ c.insert-placed.new.self _ c.args.pair
+    rw (c.settle_on.ensures, ← c.table.view_is) (answers_placing g.row.TYPE (g.G.Generation.keeps c.args.generation.now) _
+    c.insert-placed.new.self _ c.args.pair
     (c.args.hash % 256) c.insert-placed.result
     (put_there c.table.inside.arrays o.side o.index c.insert-placed.new.self (rw (← c.table.view_is) at o.locked.within))
     e.place e.names e.pair_returned e.refused)

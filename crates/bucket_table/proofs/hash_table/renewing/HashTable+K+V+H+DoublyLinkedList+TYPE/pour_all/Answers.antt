@@ -10,7 +10,8 @@ use Rattle.bucket_table.proofs.hash_table.renewing.HashTable+K+V+H+DoublyLinkedL
 
 pub buckets-init : goal.buckets-init
 buckets-init g c =
-    pour_begins g.met.K.Eq.laws g.H.KeyHash.hash_of c.args.self.now (arrays_by_age c.args.source.now) (all_by_age (row_of c.args.source.now))
+    pour_begins g.met.K.Eq.laws g.H.KeyHash.hash_of c.args.self.now (arrays_by_age c.args.source.now)
+    (all_by_age (row_of c.args.source.now))
     (sym (age_in_row c.args.source.now)) c.requires.awaits
 
 pub pour_bucket-requires : goal.pour_bucket-requires
@@ -42,7 +43,8 @@ buckets-preserved g c =
     pour_goes_on g.met.K.Eq.laws g.H.KeyHash.hash_of c.args.self.now (arrays_by_age c.args.source.now) c.buckets.self
     c.pour_bucket.new.self (all_by_age (drop index (row_of source))) (pairs_by_age (bucket_at (row_of source) index))
     (all_by_age (drop (index + 1) (row_of (row_with source index bucket)))) parts c.buckets.invariant
-    (subst (λ (b : BucketView g.row.K.Denot g.row.V.Denot). Pours g.H.KeyHash.hash_of c.buckets.self (pairs_by_age b) c.pour_bucket.new.self)
+    (subst (λ (b : BucketView g.row.K.Denot g.row.V.Denot). Pours g.H.KeyHash.hash_of c.buckets.self (pairs_by_age b)
+    c.pour_bucket.new.self)
     c.nth_mut.ensures.bucket c.pour_bucket.ensures)
 
 pub buckets-smaller : goal.buckets-smaller

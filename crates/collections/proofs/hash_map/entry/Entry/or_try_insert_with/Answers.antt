@@ -38,7 +38,10 @@ returns-in-Vacant g c =
     rw c.in-Vacant.is (
       (
         refl,
-        λ value is. (upsert_puts eq place.map.now (lent.lender value) place.key value None (lent.holds value is).0, (lent.holds value is).1),
+        λ value is. (
+          upsert_puts eq place.map.now (lent.lender value) place.key value None (lent.holds value is).0,
+          (lent.holds value is).1,
+        ),
         lent.holds-at-none,
       ),
       record {

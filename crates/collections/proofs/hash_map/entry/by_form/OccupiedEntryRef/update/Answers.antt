@@ -30,5 +30,6 @@ returns-clause-slots g c =
     let place = c.args.self.now in
     let after = c.change.new.arg2 in
     let lent = c.get_mut_hashed.follows in
-    slots_there g.K.PartialEq.eq place.map.now (lent.lender after) (g.Q.KeyForm.stands_for place.form) c.get_mut_hashed.result c.in-Some.value after c.in-Some.is
+    slots_there g.K.PartialEq.eq place.map.now (lent.lender after) (g.Q.KeyForm.stands_for place.form) c.get_mut_hashed.result
+    c.in-Some.value after c.in-Some.is
     (lent.holds after)
