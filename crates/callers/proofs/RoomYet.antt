@@ -1,10 +1,10 @@
 -- What an insertion into a map with room for it leaves.
-use Rattle.std.proofs.Common.{ℕ, ◌≡◌, ◌<◌, ◌≤◌, ◌+◌, ◌/◌, ◌==◌, ◌⊎◌, inl, inr, Bool, cond, Err, List, ◌∷◌, Ok, Result, length, arith, refl, sym, subst, ◌∙◌}
+use Rattle.std.proofs.Common.{ℕ, ◌≡◌, ◌<◌, ◌+◌, ◌/◌, ◌==◌, ◌⊎◌, inl, inr, Bool, cond, ◌∷◌, arith, refl, subst, ◌∙◌}
 use Rattle.std.specs.List.Sorted.{IsPermutation}
 use Rattle.std.proofs.lemmas.Bool.{cases_lt}
 use Rattle.std.proofs.lemmas.List.Sums.{sum_by-cons}
 use Rattle.bucket_slots.specs.Sizing.{IsTooFull}
-use Rattle.bucket_table.specs.Rehash.Relocation.{home_of, homed_len}
+use Rattle.bucket_table.specs.Rehash.Relocation.{home_of}
 use Rattle.bucket_table.specs.declared.hash_table.NotInserted.{NotInserted}
 use Rattle.bucket_table.specs.declared.hash_table.NotInserted.TheVariants.{Memory}
 use Rattle.bucket_table.proofs.Moves.MovingPairs.{homed-permutation}
