@@ -108,7 +108,8 @@ uint32_t bucket_map_new(bucket_handle *handle, size_t capacity, bucket_seed seed
 
 /* The answers of all calls below: also CLOSED and OTHER_KIND. All O(1). */
 
-/* Inserts a pair. OK, PRESENT; NO_MEMORY, only if there is no array, it shrinks, or the key's bucket is the home of 32 pairs. */
+/* Inserts a pair. OK, PRESENT; NO_MEMORY, only if there is no array, it shrinks, or the key's bucket is the home of 32 pairs, or its
+ * bucket of an old array of 33. */
 uint32_t bucket_map_insert(bucket_handle *handle, uint64_t key, uint64_t value);
 
 /* Inserts a pair: OK; or writes the value over an earlier one, which is written out: PRESENT. NO_MEMORY as of insert: the key is
