@@ -16,8 +16,8 @@ awk -v peeks="$peeks" 'BEGIN {
     for (at = 0; at < peeks; at++) print "peek", (at * 7) % 40
 }' >"$folder/input"
 
-# Builds the program where it has to be.
-"$root/bhtable" </dev/null
+# Proves and builds the program where it has to be.
+"$root/bhtable" --prove </dev/null
 
 # The peak is asked for while the program waits for the end of a pipe, all lines being answered.
 mkfifo "$folder/pipe"

@@ -40,8 +40,7 @@ done
 
 # A copy of the sources, where nothing is built.
 copy=$folder/copy
-mkdir "$copy"
-(cd "$root" && tar -c --exclude=out bhtable crates.txt HANDLES crates) | tar -x -C "$copy"
+copy_repository "$copy"
 "$copy/bhtable" <"$folder/lines" >"$folder/output" 2>"$folder/log"
 ran $? 0 "$folder/replies" "$unproved"
 [ "$(wc -l <"$folder/log")" = 1 ] || fail "it said more than one line"
@@ -57,8 +56,6 @@ ran $? 2 "$folder/told" "$unproved"
 } >"$folder/many"
 "$copy/bhtable" <"$folder/many" >"$folder/output" 2>"$folder/log"
 ran $? 1 "$folder/nothing" "--prove has no limit"
-"$copy/bhtable" --quickly <"$folder/lines" >"$folder/output" 2>"$folder/log"
-ran $? 1 "$folder/nothing" "usage"
 
 # The built program in the copy: a newer list of crates or another crate leaves it built, a newer source
 # of its own doesn't.

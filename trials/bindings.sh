@@ -11,6 +11,7 @@ set -u
 source "$(dirname "${BASH_SOURCE[0]}")/lib/running.sh"
 sources=$root/trials/lib/bindings
 bindings=$root/bindings
+need_rt
 
 "$bindings/build" "$folder" >"$folder/log" 2>&1 || fail "the library isn't built"
 
@@ -18,13 +19,6 @@ bindings=$root/bindings
 run() {
     "$@" >"$folder/output" 2>"$folder/log" || fail "$1 ended with status $?"
     cat "$folder/output"
-}
-
-is_there() {
-    command -v "$1" >/dev/null || {
-        echo "left out: $2, since $1 isn't there"
-        return 1
-    }
 }
 
 # The header names what the library exports, and no more.

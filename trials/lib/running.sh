@@ -5,6 +5,9 @@
 #   compare_run LINES REPLIES SECONDS    runs it on a file of lines: it has to end in time, with
 #                                        status 0 and these replies
 #   fail WHY                             ends the trial, and shows the last run
+#   need_rt                              ends the trial by one line, where there is no rt
+#   is_there COMMAND WHAT                whether a command is there; else a line says that WHAT is left out
+#   copy_repository FOLDER               makes the folder, a copy of the sources where nothing is built
 #
 # The trial's files go to $folder, the last run's output to $folder/output.
 
@@ -20,6 +23,7 @@ prepare() {
     if is_newest "$program"; then
         return
     fi
+    need_rt
     (cd "$crate" && rt run) </dev/null >"$folder/log" 2>&1 || fail "the program $1 isn't built"
 }
 
@@ -52,6 +56,25 @@ compare_run() {
         fail "the run ended with status $status"
     fi
     diff "$2" "$folder/output" >"$folder/log" || fail "wanted (<) and found (>) differ"
+}
+
+need_rt() {
+    command -v rt >/dev/null || {
+        echo "$0: the command rt isn't on the PATH" >&2
+        exit 1
+    }
+}
+
+is_there() {
+    command -v "$1" >/dev/null || {
+        echo "left out: $2, since $1 isn't there"
+        return 1
+    }
+}
+
+copy_repository() {
+    mkdir -p "$1" || exit 1
+    (cd "$root" && tar -c --exclude=out --exclude=target --exclude=.git .) | tar -x -C "$1"
 }
 
 fail() {
