@@ -56,7 +56,7 @@ fi
 if is_there cargo "Rust"; then
     (cd "$bindings/rust" && BUCKET_LIB_DIR=$folder CARGO_TARGET_DIR=$folder/target \
         cargo test --release --offline --quiet) >"$folder/log" 2>&1 || fail "a test of the Rust crate fails"
-    echo "$(grep -c '^#\[test\]' "$bindings/rust/tests/calls.rs") tests of the Rust crate pass"
+    echo "$(cat "$bindings"/rust/tests/*.rs | grep -c '^#\[test\]') tests of the Rust crate pass"
     rm -f "$bindings/rust/Cargo.lock"
 fi
 
