@@ -2,7 +2,9 @@
 # Links the proved library of bindings/ to programs of C, C++, Rust and Python, and runs them: each
 # call with each code; every allocation refused in turn, and what is held then; calls by chance beside
 # std's map and a dict; the order of pairs beside a SipHash of the trial's own; under valgrind, that
-# nothing is read or written that isn't allocated, and all is freed.
+# nothing is read or written that isn't allocated, and all is freed. The header names what is exported,
+# compiles without a warning, lets no null pointer through, refuses a machine of 32 bits
+# and warns of a code that is dropped.
 #
 # Needs rt, ar, nm, python3 and a C compiler cc on the PATH. A language whose compiler (c++, cargo) or
 # valgrind isn't there is left out, and a line says so. Ends with status 0 where all was right, else
@@ -21,14 +23,52 @@ run() {
     cat "$folder/output"
 }
 
-# The header names what the library exports, and no more.
+# The header compiles by a standard without a warning.
+is_clean() {
+    printf '#include "bucket.h"\nextern bucket_handle ages;\nbucket_handle ages = BUCKET_HANDLE;\n' >"$folder/header.c"
+    "$1" "-std=$2" -Wall -Wextra -Wpedantic -Werror "${@:4}" "-I$bindings" -fsyntax-only -x "$3" "$folder/header.c" \
+        2>"$folder/log" || fail "the header doesn't compile by $2"
+}
+
+# A dropped code warns, at each of the calls that answer one; left out where the compiler has no such warning.
+warns() {
+    echo '__attribute__((warn_unused_result)) int call(void); void drop(void); void drop(void) { call(); }' >"$folder/known.c"
+    if "$1" "-std=$2" -x "$3" -c "$folder/known.c" -o "$folder/dropped" -Werror=unused-result 2>"$folder/log"; then
+        echo "left out: a dropped code by $2, since $1 warns of none"
+        return
+    fi
+    "$1" "-std=$2" "-I$bindings" -x "$3" -c "$sources/dropped.c" -o "$folder/dropped" -Werror=unused-result 2>"$folder/log" &&
+        fail "a dropped code compiles by $2"
+    "$1" "-std=$2" "-I$bindings" -x "$3" -c "$sources/dropped.c" -o "$folder/dropped" 2>"$folder/log"
+    # All calls but two answer a code.
+    [ "$(grep -c 'unused-result\]' "$folder/log")" = "$(grep -vcx 'bucket_free\|bucket_len' "$folder/declared")" ] ||
+        fail "not each dropped code warns by $2"
+}
+
+# The header names what the library exports, and no more but its own guards.
 nm -g --defined-only "$folder/libbucket.so" | sed -n 's/^.* T \(bucket_[a-z_]*\)$/\1/p' | sort >"$folder/exported"
-grep -o '\bbucket_[a-z_]*(' "$bindings/bucket.h" | tr -d '(' | sort -u >"$folder/declared"
+grep -o '\bbucket_[a-z_]*(' "$bindings/bucket.h" | tr -d '(' | grep -v '^bucket_guarded_' | sort -u >"$folder/declared"
 diff "$folder/exported" "$folder/declared" >"$folder/log" || fail "exported (<) and declared (>) differ"
 echo "$(wc -l <"$folder/declared") calls exported and declared"
 
+for standard in c99 c11 c17; do
+    is_clean cc "$standard" c
+done
+warns cc c11 c
+if echo '#include <stdint.h>' | cc -m32 -ffreestanding -fsyntax-only -x c - 2>"$folder/log"; then
+    echo '#include "bucket.h"' | cc -m32 -ffreestanding "-I$bindings" -fsyntax-only -x c - 2>"$folder/log"
+    grep -q 'error.*64.bits' "$folder/log" || fail "the header doesn't refuse a machine of 32 bits"
+else
+    echo "left out: a machine of 32 bits, since cc compiles for none"
+fi
+echo "the header compiles without a warning, and a code that is dropped warns"
+
+# The programs below end with 1 where a null pointer comes to the library.
 strict=(-O2 -Wall -Wextra -Werror "-I$bindings")
-cc -std=c11 "${strict[@]}" "$sources/calls.c" "$folder/libbucket.a" -o "$folder/calls" 2>"$folder/log" || fail "no C links"
+mapfile -t watches < <(sed -n 's/^WATCH(\([a-z_]*\),.*/-Wl,--wrap=\1/p' "$sources/no_null.c")
+cc -std=c11 "${strict[@]}" -c "$sources/no_null.c" -o "$folder/no_null.o" 2>"$folder/log" || fail "no C compiles"
+watched=("$folder/no_null.o" "$folder/libbucket.a" "${watches[@]}")
+cc -std=c11 "${strict[@]}" "$sources/calls.c" "${watched[@]}" -o "$folder/calls" 2>"$folder/log" || fail "no C links"
 run "$folder/calls"
 wraps=-Wl,--wrap=malloc,--wrap=realloc,--wrap=free
 cc -std=c11 "${strict[@]}" "$sources/refused.c" "$folder/libbucket.a" "$wraps" -o "$folder/refused" 2>"$folder/log" ||
@@ -36,7 +76,13 @@ cc -std=c11 "${strict[@]}" "$sources/refused.c" "$folder/libbucket.a" "$wraps" -
 run "$folder/refused"
 
 if is_there c++ "C++"; then
-    c++ -std=c++11 "${strict[@]}" -x c++ "$sources/calls.c" -x none "$folder/libbucket.a" -o "$folder/calls++" \
+    is_clean c++ c++98 c++
+    for standard in c++11 c++17; do
+        is_clean c++ "$standard" c++ -Wzero-as-null-pointer-constant
+    done
+    warns c++ c++11 c++
+    warns c++ c++17 c++
+    c++ -std=c++11 "${strict[@]}" -x c++ "$sources/calls.c" -x none "${watched[@]}" -o "$folder/calls++" \
         2>"$folder/log" || fail "no C++ links"
     run "$folder/calls++"
 fi
@@ -50,7 +96,7 @@ fi
 if is_there cargo "Rust"; then
     (cd "$bindings/rust" && BUCKET_LIB_DIR=$folder CARGO_TARGET_DIR=$folder/target \
         cargo test --release --offline --quiet) >"$folder/log" 2>&1 || fail "a test of the Rust crate fails"
-    echo "$(grep -c '^#\[test\]' "$bindings/rust/tests/calls.rs") tests of the Rust crate pass"
+    echo "$(cat "$bindings"/rust/tests/*.rs | grep -c '^#\[test\]') tests of the Rust crate pass"
     rm -f "$bindings/rust/Cargo.lock"
 fi
 

@@ -66,7 +66,7 @@ fn ours(times: &mut Times, name: &str, seed: Seed, there: &[u64], others: &[u64]
     times.add(&format!("{name}: hit"), there, |key| map.get(*key).unwrap_or(1));
     times.add(&format!("{name}: miss"), others, |key| map.get(*key).unwrap_or(1));
     times.add(&format!("{name}: upsert"), there, |key| map.upsert(*key, 1).unwrap().unwrap_or(1));
-    times.add(&format!("{name}: all pairs"), &there[..1], |_| map.iter().map(|(key, _)| key & 1).sum::<u64>());
+    times.add(&format!("{name}: all pairs"), &there[..1], |_| map.iter().unwrap().map(|(key, _)| key & 1).sum::<u64>());
     times.add(&format!("{name}: remove"), there, |key| map.remove(*key).unwrap_or(1));
 }
 
@@ -76,13 +76,13 @@ fn std_map<S: std::hash::BuildHasher + Default>(times: &mut Times, name: &str, t
     times.add(&format!("{name}: hit"), there, |key| map.get(key).copied().unwrap_or(1));
     times.add(&format!("{name}: miss"), others, |key| map.get(key).copied().unwrap_or(1));
     times.add(&format!("{name}: upsert"), there, |key| map.insert(*key, 1).unwrap_or(1));
-    times.add(&format!("{name}: all pairs"), &there[..1], |_| map.iter().map(|(key, _)| key & 1).sum::<u64>());
+    times.add(&format!("{name}: all pairs"), &there[..1], |_| map.keys().map(|key| key & 1).sum::<u64>());
     times.add(&format!("{name}: remove"), there, |key| map.remove(key).unwrap_or(1));
 }
 
 fn texts(times: &mut Times, there: &[u64]) {
     let names: Vec<Vec<u8>> = there.iter().map(|key| format!("key {key}").into_bytes()).collect();
-    let mut map = TextMap::new().unwrap();
+    let mut map = TextMap::with_seed(Seed::FIXED).unwrap();
     times.add("bucket, texts: insert", &names, |key| map.insert(key, 1).is_ok().into());
     times.add("bucket, texts: hit", &names, |key| map.get(key).unwrap_or(1));
     let mut map: HashMap<Vec<u8>, u64> = HashMap::new();

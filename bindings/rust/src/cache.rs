@@ -1,6 +1,7 @@
 //! A cache from `u64` to `u64`.
 
 use crate::ffi::*;
+use crate::pieces::print_words;
 use crate::{Iter, NoMemory, NotInserted};
 use std::fmt;
 
@@ -21,16 +22,38 @@ pub struct Cache(Handle);
 
 impl Cache {
     /// An empty cache of at most this many slots, or the least power of two that is at least 64 and this.
+    /// It hashes by a random seed.
+    ///
+    /// # Errors
+    ///
+    /// An allocation failed.
     pub fn new(maximum: usize) -> Result<Cache, NoMemory> {
-        Cache::with_capacity_and_seed(0, maximum, Seed::FIXED)
+        Cache::with_seed(maximum, Seed::random())
+    }
+
+    /// The same, hashed by this seed.
+    ///
+    /// # Errors
+    ///
+    /// An allocation failed.
+    pub fn with_seed(maximum: usize, seed: Seed) -> Result<Cache, NoMemory> {
+        Cache::with_capacity_and_seed(0, maximum, seed)
     }
 
     /// An empty cache of at least and at most so many slots.
+    ///
+    /// # Errors
+    ///
+    /// An allocation failed.
     pub fn with_capacity_and_seed(minimum: usize, maximum: usize, seed: Seed) -> Result<Cache, NoMemory> {
         Ok(Cache(Handle::open(|handle| unsafe { bucket_cache_new(handle, minimum, maximum, seed) })?))
     }
 
     /// Puts a pair whose key is absent, and returns the pair that went for it.
+    ///
+    /// # Errors
+    ///
+    /// The key is there, or an allocation failed; the pairs are as they were.
     #[inline]
     pub fn put(&mut self, key: u64, value: u64) -> Result<Option<(u64, u64)>, NotInserted> {
         let mut gone = (0, 0);
@@ -41,6 +64,10 @@ impl Cache {
     }
 
     /// Puts a pair, or writes its value over an earlier one; either way it is touched.
+    ///
+    /// # Errors
+    ///
+    /// An allocation failed; the pairs are as they were.
     #[inline]
     pub fn upsert(&mut self, key: u64, value: u64) -> Result<Upserted<u64>, NoMemory> {
         let mut gone = (0, 0);
@@ -52,7 +79,11 @@ impl Cache {
         }
     }
 
-    /// Upserts pairs, up to one for which an allocation fails.
+    /// Upserts pairs, in their order.
+    ///
+    /// # Errors
+    ///
+    /// An allocation failed; the pairs before that one are in.
     pub fn try_extend(&mut self, pairs: impl IntoIterator<Item = (u64, u64)>) -> Result<(), NoMemory> {
         pairs.into_iter().try_for_each(|(key, value)| self.upsert(key, value).map(|_| ()))
     }
@@ -91,8 +122,12 @@ impl Cache {
         self.len() == 0
     }
 
-    /// The pairs, copied out in pieces; none is touched.
-    pub fn iter(&self) -> Iter<'_> {
+    /// The pairs, copied out in up to four pieces; none is touched. No step of the iterator takes memory.
+    ///
+    /// # Errors
+    ///
+    /// An allocation failed; there is no iterator.
+    pub fn iter(&self) -> Result<Iter<'_>, NoMemory> {
         Iter::new(&self.0)
     }
 
@@ -104,15 +139,6 @@ impl Cache {
 
 impl fmt::Debug for Cache {
     fn fmt(&self, f: &mut fmt::Formatter<'_>) -> fmt::Result {
-        f.debug_map().entries(self.iter()).finish()
-    }
-}
-
-impl<'a> IntoIterator for &'a Cache {
-    type Item = (u64, u64);
-    type IntoIter = Iter<'a>;
-
-    fn into_iter(self) -> Iter<'a> {
-        self.iter()
+        print_words(f, self.iter())
     }
 }

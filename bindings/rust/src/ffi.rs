@@ -2,30 +2,43 @@
 
 use std::cell::UnsafeCell;
 use std::collections::hash_map::RandomState;
-use std::hash::{BuildHasher, Hasher};
+use std::fmt;
+use std::hash::BuildHasher;
 use std::ptr::null_mut;
 
 use crate::{NoMemory, NotInserted};
 
-/// How keys are hashed: by SipHash-1-3 with these two keys, or, if both are 0, by a faster hash
-/// without a key.
+/// How keys are hashed: by SipHash-1-3 with two secret keys, or by a faster hash without a key. It is
+/// printed as `Seed(..)`.
 #[repr(C)]
-#[derive(Debug, Clone, Copy, PartialEq, Eq)]
+#[derive(Clone, Copy, PartialEq, Eq)]
 pub struct Seed {
-    /// The first eight bytes.
-    pub key0: u64,
-    /// The other eight.
-    pub key1: u64,
+    key0: u64,
+    key1: u64,
 }
 
 impl Seed {
-    /// The faster hash. Keys that an enemy chooses can be made to meet in one bucket.
-    pub const FIXED: Seed = Seed { key0: 0, key1: 0 };
+    /// The faster hash, the same in each run. Keys that an enemy chooses can be made to meet in one
+    /// bucket.
+    pub const FIXED: Seed = Seed::from_bytes([0; 16]);
 
-    /// A seed as random as the keys of std's maps.
+    /// A seed that is drawn from the secret keys of std's maps. It isn't `FIXED`.
     pub fn random() -> Seed {
-        let word = || RandomState::new().build_hasher().finish();
-        Seed { key0: word() | 1, key1: word() }
+        let keys = RandomState::new();
+        Seed { key0: keys.hash_one(0) | 1, key1: keys.hash_one(1) }
+    }
+
+    /// The seed of 16 bytes: each key is eight of them, the least significant first. If all are 0, it is
+    /// `FIXED`.
+    pub const fn from_bytes(bytes: [u8; 16]) -> Seed {
+        let word = u128::from_le_bytes(bytes);
+        Seed { key0: word as u64, key1: (word >> 64) as u64 }
+    }
+}
+
+impl fmt::Debug for Seed {
+    fn fmt(&self, f: &mut fmt::Formatter<'_>) -> fmt::Result {
+        f.write_str("Seed(..)")
     }
 }
 

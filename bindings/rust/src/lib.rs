@@ -1,7 +1,11 @@
 //! Hash maps, a set and caches that are proved to do what `bucket.h` says of them.
 //!
-//! Each fallible call answers by a `Result`: an allocation that fails changes nothing. Keys that an
-//! enemy chooses need a [`Seed::random`]; a `new` takes [`Seed::FIXED`].
+//! Each fallible call answers by a `Result`: an allocation that fails changes nothing. An iterator takes
+//! its memory as it is made, so it is `iter` that may fail, and `for pair in map.iter()?` that visits
+//! the pairs. [`Debug`](std::fmt::Debug) prints `<allocation failed>` then.
+//!
+//! A `new` draws a [`Seed::random`], as std's maps do, so that nobody can choose keys that meet in one
+//! bucket. `with_seed` takes another: [`Seed::FIXED`] is faster, for keys that nobody chooses.
 //!
 //! The declarations below and the `unsafe` round them are not proved. The calls ask nothing of their
 //! caller but what the types say, and a handle that only they change.
@@ -12,6 +16,7 @@
 mod cache;
 mod ffi;
 mod map;
+mod memory;
 mod pieces;
 mod text_cache;
 mod text_map;

@@ -1,6 +1,7 @@
 //! A map from `u64` to `u64`.
 
 use crate::ffi::*;
+use crate::pieces::print_words;
 use crate::{Iter, NoMemory, NotInserted};
 use std::fmt;
 
@@ -8,17 +9,34 @@ use std::fmt;
 pub struct Map(Handle);
 
 impl Map {
-    /// An empty map.
+    /// An empty map that hashes by a random seed.
+    ///
+    /// # Errors
+    ///
+    /// An allocation failed.
     pub fn new() -> Result<Map, NoMemory> {
-        Map::with_capacity_and_seed(0, Seed::FIXED)
+        Map::with_seed(Seed::random())
+    }
+
+    /// An empty map that hashes by this seed.
+    ///
+    /// # Errors
+    ///
+    /// An allocation failed.
+    pub fn with_seed(seed: Seed) -> Result<Map, NoMemory> {
+        Map::with_capacity_and_seed(0, seed)
     }
 
     /// An empty map whose first array has room for this many pairs.
+    ///
+    /// # Errors
+    ///
+    /// An allocation failed.
     pub fn with_capacity_and_seed(capacity: usize, seed: Seed) -> Result<Map, NoMemory> {
         Ok(Map(Handle::open(|handle| unsafe { bucket_map_new(handle, capacity, seed) })?))
     }
 
-    /// A map of these pairs; of two with one key, the later.
+    /// A map of these pairs, by a random seed; of two with one key, the later.
     ///
     /// # Errors
     ///
@@ -29,18 +47,30 @@ impl Map {
         Ok(map)
     }
 
-    /// Upserts pairs, up to one for which an allocation fails.
+    /// Upserts pairs, in their order.
+    ///
+    /// # Errors
+    ///
+    /// An allocation failed; the pairs before that one are in.
     pub fn try_extend(&mut self, pairs: impl IntoIterator<Item = (u64, u64)>) -> Result<(), NoMemory> {
         pairs.into_iter().try_for_each(|(key, value)| self.upsert(key, value).map(|_| ()))
     }
 
     /// Inserts a pair whose key is absent.
+    ///
+    /// # Errors
+    ///
+    /// The key is there, or an allocation failed; the pairs are as they were.
     #[inline]
     pub fn insert(&mut self, key: u64, value: u64) -> Result<(), NotInserted> {
         inserted(unsafe { bucket_map_insert(self.0.raw(), key, value) })
     }
 
     /// Puts a value at a key, and returns the earlier one.
+    ///
+    /// # Errors
+    ///
+    /// An allocation failed; the pairs are as they were.
     #[inline]
     pub fn upsert(&mut self, key: u64, value: u64) -> Result<Option<u64>, NoMemory> {
         upserted(|earlier| unsafe { bucket_map_upsert(self.0.raw(), key, value, earlier) })
@@ -74,17 +104,29 @@ impl Map {
         self.len() == 0
     }
 
-    /// The pairs, copied out in pieces.
-    pub fn iter(&self) -> Iter<'_> {
+    /// The pairs, copied out in up to four pieces. No step of the iterator takes memory.
+    ///
+    /// # Errors
+    ///
+    /// An allocation failed; there is no iterator.
+    pub fn iter(&self) -> Result<Iter<'_>, NoMemory> {
         Iter::new(&self.0)
     }
 
     /// Makes room for so many more pairs.
+    ///
+    /// # Errors
+    ///
+    /// An allocation failed, or no array has so many slots; the pairs are as they were.
     pub fn try_reserve(&mut self, additional: usize) -> Result<(), NoMemory> {
         self.0.try_reserve(additional)
     }
 
     /// Leaves as few slots as the pairs take.
+    ///
+    /// # Errors
+    ///
+    /// An allocation failed; the pairs are as they were.
     pub fn shrink_to_fit(&mut self) -> Result<(), NoMemory> {
         self.0.shrink_to_fit()
     }
@@ -97,15 +139,6 @@ impl Map {
 
 impl fmt::Debug for Map {
     fn fmt(&self, f: &mut fmt::Formatter<'_>) -> fmt::Result {
-        f.debug_map().entries(self.iter()).finish()
-    }
-}
-
-impl<'a> IntoIterator for &'a Map {
-    type Item = (u64, u64);
-    type IntoIter = Iter<'a>;
-
-    fn into_iter(self) -> Iter<'a> {
-        self.iter()
+        print_words(f, self.iter())
     }
 }

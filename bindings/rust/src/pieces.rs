@@ -1,37 +1,49 @@
-//! Iterators, which copy pairs out in pieces.
+//! Iterators, whose pairs are copied out in pieces, and how they are printed.
 
 use crate::ffi::{bucket_pairs, bucket_texts, Handle, Pair, TextPair};
+use crate::memory::{copied, defaults, with_room};
+use crate::NoMemory;
+use std::fmt;
+use std::ops::Range;
 use std::vec::IntoIter;
 
 /// The least number of pairs that a piece has room for. A piece walks the whole table, so there are at
-/// most four of them.
+/// most four of them, unless keys are long.
 const LEAST_PIECE: usize = 256;
 const MOST_PIECES: usize = 4;
 
+/// How many bytes of keys a pair of a piece has room for at first.
+const KEY_ROOM: usize = 32;
+
+/// How many pairs a piece has room for.
 fn room_for(len: usize) -> usize {
-    LEAST_PIECE.max(len.div_ceil(MOST_PIECES))
+    LEAST_PIECE.max(len.div_ceil(MOST_PIECES)).min(len)
 }
 
 /// The pairs of a map or a cache that are left, in no promised order.
 pub struct Iter<'a> {
     handle: &'a Handle,
-    start: usize,
     len: usize,
-    piece: IntoIter<Pair>,
+    /// How many pairs have been copied out.
+    copied: usize,
+    piece: Vec<Pair>,
+    /// Where the pairs that are left stand in the piece.
+    left: Range<usize>,
 }
 
 impl<'a> Iter<'a> {
-    pub(crate) fn new(handle: &'a Handle) -> Iter<'a> {
-        Iter { handle, start: 0, len: handle.len(), piece: Vec::new().into_iter() }
+    /// Takes all memory that the iterator needs.
+    pub(crate) fn new(handle: &'a Handle) -> Result<Iter<'a>, NoMemory> {
+        let len = handle.len();
+        Ok(Iter { handle, len, copied: 0, piece: defaults(room_for(len))?, left: 0..0 })
     }
 
     fn fetch(&mut self) {
-        let mut piece = vec![Pair::default(); room_for(self.len).min(self.len - self.start)];
         let mut count = 0;
-        unsafe { bucket_pairs(self.handle.raw(), self.start, piece.as_mut_ptr(), piece.len(), &mut count) };
-        piece.truncate(count);
-        self.start += count;
-        self.piece = piece.into_iter();
+        let (out, room) = (self.piece.as_mut_ptr(), self.piece.len());
+        unsafe { bucket_pairs(self.handle.raw(), self.copied, out, room, &mut count) };
+        self.copied += count;
+        self.left = 0..count;
     }
 }
 
@@ -39,84 +51,99 @@ impl Iterator for Iter<'_> {
     type Item = (u64, u64);
 
     fn next(&mut self) -> Option<(u64, u64)> {
-        if self.piece.len() == 0 && self.start < self.len {
+        if self.left.is_empty() && self.copied < self.len {
             self.fetch();
         }
-        self.piece.next().map(|pair| (pair.key, pair.value))
+        let pair = self.piece[self.left.next()?];
+        Some((pair.key, pair.value))
     }
 
     fn size_hint(&self) -> (usize, Option<usize>) {
-        let left = self.piece.len() + (self.len - self.start);
+        let left = self.left.len() + (self.len - self.copied);
         (left, Some(left))
     }
 }
 
 impl ExactSizeIterator for Iter<'_> {}
 
-/// The pairs of a text map or a text cache that are left, in no promised order.
-pub struct TextIter<'a> {
-    handle: &'a Handle,
-    start: usize,
-    len: usize,
-    bytes_room: usize,
-    rows: IntoIter<TextPair>,
-    bytes: IntoIter<u8>,
-}
+/// Copies of the pairs of a text map or a text cache that are left, in no promised order.
+pub struct TextIter(IntoIter<(Vec<u8>, u64)>);
 
-impl<'a> TextIter<'a> {
-    pub(crate) fn new(handle: &'a Handle) -> TextIter<'a> {
+impl TextIter {
+    /// Copies all pairs, so that no later step needs memory.
+    pub(crate) fn new(handle: &Handle) -> Result<TextIter, NoMemory> {
         let len = handle.len();
-        TextIter {
-            handle,
-            start: 0,
-            len,
-            bytes_room: 32 * room_for(len),
-            rows: Vec::new().into_iter(),
-            bytes: Vec::new().into_iter(),
+        let mut pairs = with_room(len)?;
+        let mut rows = defaults(room_for(len))?;
+        let mut bytes = defaults(KEY_ROOM * rows.len())?;
+        while pairs.len() < len {
+            rows.truncate(len - pairs.len());
+            let count = copy_piece(handle, &mut pairs, &mut rows, &mut bytes)?;
+            if count < rows.len() {
+                bytes = defaults(bytes.len().saturating_mul(2))?;
+            }
         }
-    }
-
-    /// Fetches a piece that has a pair. Where the next key is too long, there is more room for bytes.
-    fn fetch(&mut self) {
-        let mut rows = vec![TextPair::default(); room_for(self.len).min(self.len - self.start)];
-        let mut count = 0;
-        while count == 0 {
-            let mut bytes = vec![0; self.bytes_room];
-            unsafe {
-                bucket_texts(
-                    self.handle.raw(),
-                    self.start,
-                    rows.as_mut_ptr(),
-                    rows.len(),
-                    bytes.as_mut_ptr(),
-                    bytes.len(),
-                    &mut count,
-                )
-            };
-            self.bytes_room *= if count < rows.len() { 2 } else { 1 };
-            self.bytes = bytes.into_iter();
-        }
-        rows.truncate(count);
-        self.start += count;
-        self.rows = rows.into_iter();
+        Ok(TextIter(pairs.into_iter()))
     }
 }
 
-impl Iterator for TextIter<'_> {
+/// Adds copies of the next pairs, as many as `rows` and `bytes` have room for, and returns how many.
+fn copy_piece(
+    handle: &Handle,
+    pairs: &mut Vec<(Vec<u8>, u64)>,
+    rows: &mut [TextPair],
+    bytes: &mut [u8],
+) -> Result<usize, NoMemory> {
+    let mut count = 0;
+    let (out, room) = (rows.as_mut_ptr(), rows.len());
+    unsafe { bucket_texts(handle.raw(), pairs.len(), out, room, bytes.as_mut_ptr(), bytes.len(), &mut count) };
+    let mut start = 0;
+    for row in &rows[..count] {
+        let end = start + row.len;
+        pairs.push((copied(&bytes[start..end])?, row.value));
+        start = end;
+    }
+    Ok(count)
+}
+
+impl Iterator for TextIter {
     type Item = (Vec<u8>, u64);
 
     fn next(&mut self) -> Option<(Vec<u8>, u64)> {
-        if self.rows.len() == 0 && self.start < self.len {
-            self.fetch();
-        }
-        let row = self.rows.next()?;
-        Some((self.bytes.by_ref().take(row.len).collect(), row.value))
+        self.0.next()
     }
 
     fn size_hint(&self) -> (usize, Option<usize>) {
-        let left = self.rows.len() + (self.len - self.start);
-        (left, Some(left))
+        self.0.size_hint()
     }
 }
 
-impl ExactSizeIterator for TextIter<'_> {}
+impl ExactSizeIterator for TextIter {}
+
+/// A key as it is printed: as text, or, if it isn't UTF-8, as a byte string. Takes no memory.
+pub(crate) struct Text(pub Vec<u8>);
+
+impl fmt::Debug for Text {
+    fn fmt(&self, f: &mut fmt::Formatter<'_>) -> fmt::Result {
+        match std::str::from_utf8(&self.0) {
+            Ok(text) => text.fmt(f),
+            Err(_) => write!(f, "b\"{}\"", self.0.escape_ascii()),
+        }
+    }
+}
+
+/// Prints pairs as a map, or that they could not be copied out.
+pub(crate) fn print_words(f: &mut fmt::Formatter<'_>, pairs: Result<Iter<'_>, NoMemory>) -> fmt::Result {
+    match pairs {
+        Ok(pairs) => f.debug_map().entries(pairs).finish(),
+        Err(error) => write!(f, "<{error}>"),
+    }
+}
+
+/// The same of pairs whose keys are byte strings.
+pub(crate) fn print_texts(f: &mut fmt::Formatter<'_>, pairs: Result<TextIter, NoMemory>) -> fmt::Result {
+    match pairs {
+        Ok(pairs) => f.debug_map().entries(pairs.map(|(key, value)| (Text(key), value))).finish(),
+        Err(error) => write!(f, "<{error}>"),
+    }
+}

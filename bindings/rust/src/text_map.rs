@@ -1,6 +1,7 @@
 //! A map from byte strings to `u64`.
 
 use crate::ffi::*;
+use crate::pieces::print_texts;
 use crate::{NoMemory, NotInserted, TextIter};
 use std::fmt;
 
@@ -8,17 +9,34 @@ use std::fmt;
 pub struct TextMap(Handle);
 
 impl TextMap {
-    /// An empty map.
+    /// An empty map that hashes by a random seed.
+    ///
+    /// # Errors
+    ///
+    /// An allocation failed.
     pub fn new() -> Result<TextMap, NoMemory> {
-        TextMap::with_capacity_and_seed(0, Seed::FIXED)
+        TextMap::with_seed(Seed::random())
+    }
+
+    /// An empty map that hashes by this seed.
+    ///
+    /// # Errors
+    ///
+    /// An allocation failed.
+    pub fn with_seed(seed: Seed) -> Result<TextMap, NoMemory> {
+        TextMap::with_capacity_and_seed(0, seed)
     }
 
     /// An empty map whose first array has room for this many pairs.
+    ///
+    /// # Errors
+    ///
+    /// An allocation failed.
     pub fn with_capacity_and_seed(capacity: usize, seed: Seed) -> Result<TextMap, NoMemory> {
         Ok(TextMap(Handle::open(|handle| unsafe { bucket_text_map_new(handle, capacity, seed) })?))
     }
 
-    /// A map of these pairs; of two with one key, the later.
+    /// A map of these pairs, by a random seed; of two with one key, the later.
     ///
     /// # Errors
     ///
@@ -29,12 +47,20 @@ impl TextMap {
         Ok(map)
     }
 
-    /// Upserts pairs, up to one for which an allocation fails.
+    /// Upserts pairs, in their order.
+    ///
+    /// # Errors
+    ///
+    /// An allocation failed; the pairs before that one are in.
     pub fn try_extend<K: AsRef<[u8]>>(&mut self, pairs: impl IntoIterator<Item = (K, u64)>) -> Result<(), NoMemory> {
         pairs.into_iter().try_for_each(|(key, value)| self.upsert(key, value).map(|_| ()))
     }
 
     /// Inserts a pair whose key is absent.
+    ///
+    /// # Errors
+    ///
+    /// The key is there, or an allocation failed; the pairs are as they were.
     #[inline]
     pub fn insert(&mut self, key: impl AsRef<[u8]>, value: u64) -> Result<(), NotInserted> {
         let key = key.as_ref();
@@ -42,6 +68,10 @@ impl TextMap {
     }
 
     /// Puts a value at a key, and returns the earlier one.
+    ///
+    /// # Errors
+    ///
+    /// An allocation failed; the pairs are as they were.
     #[inline]
     pub fn upsert(&mut self, key: impl AsRef<[u8]>, value: u64) -> Result<Option<u64>, NoMemory> {
         let key = key.as_ref();
@@ -79,17 +109,29 @@ impl TextMap {
         self.len() == 0
     }
 
-    /// The pairs, copied out in pieces.
-    pub fn iter(&self) -> TextIter<'_> {
+    /// Copies of all pairs, made at once. No step of the iterator takes memory.
+    ///
+    /// # Errors
+    ///
+    /// An allocation failed; there is no iterator.
+    pub fn iter(&self) -> Result<TextIter, NoMemory> {
         TextIter::new(&self.0)
     }
 
     /// Makes room for so many more pairs.
+    ///
+    /// # Errors
+    ///
+    /// An allocation failed, or no array has so many slots; the pairs are as they were.
     pub fn try_reserve(&mut self, additional: usize) -> Result<(), NoMemory> {
         self.0.try_reserve(additional)
     }
 
     /// Leaves as few slots as the pairs take.
+    ///
+    /// # Errors
+    ///
+    /// An allocation failed; the pairs are as they were.
     pub fn shrink_to_fit(&mut self) -> Result<(), NoMemory> {
         self.0.shrink_to_fit()
     }
@@ -102,16 +144,6 @@ impl TextMap {
 
 impl fmt::Debug for TextMap {
     fn fmt(&self, f: &mut fmt::Formatter<'_>) -> fmt::Result {
-        let text = |(key, value): (Vec<u8>, u64)| (String::from_utf8_lossy(&key).into_owned(), value);
-        f.debug_map().entries(self.iter().map(text)).finish()
-    }
-}
-
-impl<'a> IntoIterator for &'a TextMap {
-    type Item = (Vec<u8>, u64);
-    type IntoIter = TextIter<'a>;
-
-    fn into_iter(self) -> TextIter<'a> {
-        self.iter()
+        print_texts(f, self.iter())
     }
 }

@@ -1,6 +1,7 @@
 //! A set of byte strings.
 
 use crate::ffi::*;
+use crate::pieces::Text;
 use crate::{NoMemory, TextIter};
 use std::fmt;
 
@@ -8,17 +9,25 @@ use std::fmt;
 pub struct TextSet(Handle);
 
 impl TextSet {
-    /// An empty set.
+    /// An empty set that hashes by a random seed.
+    ///
+    /// # Errors
+    ///
+    /// An allocation failed.
     pub fn new() -> Result<TextSet, NoMemory> {
-        TextSet::with_seed(Seed::FIXED)
+        TextSet::with_seed(Seed::random())
     }
 
-    /// An empty set that hashes by a seed.
+    /// An empty set that hashes by this seed.
+    ///
+    /// # Errors
+    ///
+    /// An allocation failed.
     pub fn with_seed(seed: Seed) -> Result<TextSet, NoMemory> {
         Ok(TextSet(Handle::open(|handle| unsafe { bucket_text_set_new(handle, seed) })?))
     }
 
-    /// A set of these keys.
+    /// A set of these keys, by a random seed.
     ///
     /// # Errors
     ///
@@ -29,12 +38,20 @@ impl TextSet {
         Ok(set)
     }
 
-    /// Inserts keys, up to one for which an allocation fails.
+    /// Inserts keys, in their order.
+    ///
+    /// # Errors
+    ///
+    /// An allocation failed; the keys before that one are in.
     pub fn try_extend<K: AsRef<[u8]>>(&mut self, keys: impl IntoIterator<Item = K>) -> Result<(), NoMemory> {
         keys.into_iter().try_for_each(|key| self.insert(key).map(|_| ()))
     }
 
     /// Inserts a key, and returns whether it was absent.
+    ///
+    /// # Errors
+    ///
+    /// An allocation failed; the keys are as they were.
     #[inline]
     pub fn insert(&mut self, key: impl AsRef<[u8]>) -> Result<bool, NoMemory> {
         let key = key.as_ref();
@@ -69,17 +86,29 @@ impl TextSet {
         self.len() == 0
     }
 
-    /// The keys, copied out in pieces.
-    pub fn iter(&self) -> Keys<'_> {
-        Keys(TextIter::new(&self.0))
+    /// Copies of all keys, made at once. No step of the iterator takes memory.
+    ///
+    /// # Errors
+    ///
+    /// An allocation failed; there is no iterator.
+    pub fn iter(&self) -> Result<Keys, NoMemory> {
+        TextIter::new(&self.0).map(Keys)
     }
 
     /// Makes room for so many more keys.
+    ///
+    /// # Errors
+    ///
+    /// An allocation failed, or no array has so many slots; the keys are as they were.
     pub fn try_reserve(&mut self, additional: usize) -> Result<(), NoMemory> {
         self.0.try_reserve(additional)
     }
 
     /// Leaves as few slots as the keys take.
+    ///
+    /// # Errors
+    ///
+    /// An allocation failed; the keys are as they were.
     pub fn shrink_to_fit(&mut self) -> Result<(), NoMemory> {
         self.0.shrink_to_fit()
     }
@@ -90,10 +119,10 @@ impl TextSet {
     }
 }
 
-/// The keys of a set that are left, in no promised order.
-pub struct Keys<'a>(TextIter<'a>);
+/// Copies of the keys of a set that are left, in no promised order.
+pub struct Keys(TextIter);
 
-impl Iterator for Keys<'_> {
+impl Iterator for Keys {
     type Item = Vec<u8>;
 
     fn next(&mut self) -> Option<Vec<u8>> {
@@ -105,20 +134,13 @@ impl Iterator for Keys<'_> {
     }
 }
 
-impl ExactSizeIterator for Keys<'_> {}
+impl ExactSizeIterator for Keys {}
 
 impl fmt::Debug for TextSet {
     fn fmt(&self, f: &mut fmt::Formatter<'_>) -> fmt::Result {
-        let text = |key: Vec<u8>| String::from_utf8_lossy(&key).into_owned();
-        f.debug_set().entries(self.iter().map(text)).finish()
-    }
-}
-
-impl<'a> IntoIterator for &'a TextSet {
-    type Item = Vec<u8>;
-    type IntoIter = Keys<'a>;
-
-    fn into_iter(self) -> Keys<'a> {
-        self.iter()
+        match self.iter() {
+            Ok(keys) => f.debug_set().entries(keys.map(Text)).finish(),
+            Err(error) => write!(f, "<{error}>"),
+        }
     }
 }

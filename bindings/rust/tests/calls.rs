@@ -32,7 +32,7 @@ impl Chance {
 
 #[test]
 fn a_map_answers_as_std_does() {
-    for seed in [Seed::FIXED, Seed { key0: 1, key1: 2 }, Seed::random()] {
+    for seed in [Seed::FIXED, Seed::from_bytes([7; 16]), Seed::random()] {
         let mut chance = Chance(1);
         let mut map = Map::with_capacity_and_seed(0, seed).unwrap();
         let mut std = HashMap::new();
@@ -51,8 +51,8 @@ fn a_map_answers_as_std_does() {
             }
             if call % 40_000 == 39_999 {
                 assert_eq!(map.len(), std.len());
-                assert_eq!(map.iter().collect::<HashMap<_, _>>(), std);
-                assert_eq!(map.iter().count(), std.len());
+                assert_eq!(map.iter().unwrap().collect::<HashMap<_, _>>(), std);
+                assert_eq!(map.iter().unwrap().count(), std.len());
                 assert_eq!(map.shrink_to_fit(), Ok(()));
             }
         }
@@ -84,7 +84,7 @@ fn a_text_map_answers_as_std_does() {
             }
             if call % 40_000 == 39_999 {
                 assert_eq!(map.len(), std.len());
-                assert_eq!(map.iter().collect::<HashMap<_, _>>(), std);
+                assert_eq!(map.iter().unwrap().collect::<HashMap<_, _>>(), std);
             }
         }
     }
@@ -103,7 +103,7 @@ fn a_set_answers_as_std_does() {
             _ => assert_eq!(set.contains(&key), std.contains(&key)),
         }
     }
-    assert_eq!(set.iter().collect::<HashSet<_>>(), std);
+    assert_eq!(set.iter().unwrap().collect::<HashSet<_>>(), std);
 }
 
 #[test]
@@ -137,7 +137,7 @@ fn a_cache_is_a_map_less_what_it_evicts() {
         }
     }
     assert!(evicted > 1000);
-    assert_eq!(cache.iter().collect::<HashMap<_, _>>(), std);
+    assert_eq!(cache.iter().unwrap().collect::<HashMap<_, _>>(), std);
 }
 
 #[test]
@@ -171,14 +171,14 @@ fn a_text_cache_is_a_map_less_what_it_evicts() {
         }
     }
     assert!(evicted > 1000);
-    assert_eq!(cache.iter().collect::<HashMap<_, _>>(), std);
+    assert_eq!(cache.iter().unwrap().collect::<HashMap<_, _>>(), std);
 }
 
 #[test]
 fn collections_are_made_of_iterators_and_printed() {
     let mut map = Map::try_from_iter((0..5000).map(|key| (key, key * key))).unwrap();
     assert_eq!((map.len(), map.get(70)), (5000, Some(4900)));
-    assert_eq!(map.iter().size_hint(), (5000, Some(5000)));
+    assert_eq!(map.iter().unwrap().size_hint(), (5000, Some(5000)));
     map.clear();
     map.try_extend([(1, 2)]).unwrap();
     assert_eq!(format!("{map:?}"), "{1: 2}");
@@ -188,7 +188,7 @@ fn collections_are_made_of_iterators_and_printed() {
     assert_eq!(format!("{set:?}"), "{\"a\"}");
     // A key that is longer than a piece has room for at first.
     let long = TextMap::try_from_iter([(vec![7; 1_000_000], 1), (vec![8; 3], 2)]).unwrap();
-    assert_eq!(long.into_iter().map(|(key, value)| key.len() as u64 * value).max(), Some(1_000_000));
+    assert_eq!(long.iter().unwrap().map(|(key, value)| key.len() as u64 * value).max(), Some(1_000_000));
 }
 
 #[test]
@@ -210,4 +210,52 @@ fn collections_go_to_another_thread_and_back() {
     assert_eq!((map.len(), map.get(70), map.remove(71)), (5000, Some(1), Some(71)));
     assert_eq!((texts.get("Ann"), set.len()), (Some(31), 2));
     assert_eq!((cache.get(1), text_cache.get("Bob")), (Some(2), Some(27)));
+}
+
+#[test]
+fn a_seed_does_not_print_its_keys() {
+    assert_eq!(format!("{:?} {:?}", Seed::from_bytes([7; 16]), Seed::FIXED), "Seed(..) Seed(..)");
+    assert!(Seed::from_bytes([0; 16]) == Seed::FIXED && Seed::random() != Seed::random());
+}
+
+/// The values of pairs, in their order.
+fn values<K>(pairs: impl Iterator<Item = (K, u64)>) -> Vec<u64> {
+    pairs.map(|(_, value)| value).collect()
+}
+
+#[test]
+fn a_new_collection_has_a_seed_of_its_own() {
+    let pairs = || (0..1000).map(|number| (number, number));
+    let texts = || (0..1000).map(|number: u64| (number.to_string(), number));
+    let maps = |seed: Option<Seed>| {
+        let mut map = seed.map_or_else(Map::new, Map::with_seed).unwrap();
+        map.try_extend(pairs()).unwrap();
+        map.iter().map(values).unwrap()
+    };
+    let text_maps = |seed: Option<Seed>| {
+        let mut map = seed.map_or_else(TextMap::new, TextMap::with_seed).unwrap();
+        map.try_extend(texts()).unwrap();
+        map.iter().map(values).unwrap()
+    };
+    let sets = |seed: Option<Seed>| {
+        let mut set = seed.map_or_else(TextSet::new, TextSet::with_seed).unwrap();
+        set.try_extend(texts().map(|(key, _)| key)).unwrap();
+        set.iter().unwrap().map(|key| String::from_utf8(key).unwrap().parse().unwrap()).collect()
+    };
+    let caches = |seed: Option<Seed>| {
+        let mut cache = seed.map_or_else(|| Cache::new(1 << 14), |seed| Cache::with_seed(1 << 14, seed)).unwrap();
+        cache.try_extend(pairs()).unwrap();
+        cache.iter().map(values).unwrap()
+    };
+    let text_caches = |seed: Option<Seed>| {
+        let mut cache = seed.map_or_else(|| TextCache::new(1 << 14), |seed| TextCache::with_seed(1 << 14, seed)).unwrap();
+        cache.try_extend(texts()).unwrap();
+        cache.iter().map(values).unwrap()
+    };
+    let kinds: [&dyn Fn(Option<Seed>) -> Vec<u64>; 5] = [&maps, &text_maps, &sets, &caches, &text_caches];
+    for order in kinds {
+        assert_ne!(order(None), order(None));
+        assert_eq!(order(Some(Seed::FIXED)), order(Some(Seed::FIXED)));
+        assert_eq!(order(Some(Seed::from_bytes([7; 16]))), order(Some(Seed::from_bytes([7; 16]))));
+    }
 }

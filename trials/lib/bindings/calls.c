@@ -307,6 +307,67 @@ static int recent_texts(bucket_seed seed) {
     return 0;
 }
 
+// A pointer is null beside the length or the room 0, as that of an empty std::string_view; a pointer to a call allows it too.
+static int null_texts(bucket_seed seed) {
+    uint32_t (*contains)(bucket_handle *, const uint8_t *, size_t) = bucket_text_map_contains;
+    bucket_handle map = BUCKET_HANDLE, set = BUCKET_HANDLE;
+    bucket_text_pair row = {7, 8};
+    uint64_t value = 77;
+    size_t count = 79;
+
+    CHECK(bucket_text_map_new(&map, 0, seed) == BUCKET_OK);
+    CHECK(bucket_text_map_get(&map, NULL, 0, &value) == BUCKET_ABSENT);
+    CHECK(bucket_text_map_contains(&map, NULL, 0) == BUCKET_ABSENT && contains(&map, NULL, 0) == BUCKET_ABSENT);
+    CHECK(bucket_text_map_remove(&map, NULL, 0, &value) == BUCKET_ABSENT && value == 77);
+    CHECK(bucket_text_map_insert(&map, NULL, 0, 5) == BUCKET_OK);
+    CHECK(bucket_text_map_insert(&map, text(""), 0, 5) == BUCKET_PRESENT);
+    CHECK(bucket_text_map_upsert(&map, NULL, 0, 6, &value) == BUCKET_PRESENT && value == 5);
+    CHECK(bucket_text_map_get(&map, NULL, 0, &value) == BUCKET_OK && value == 6);
+    CHECK(bucket_text_map_contains(&map, NULL, 0) == BUCKET_OK && contains(&map, NULL, 0) == BUCKET_OK);
+    CHECK(bucket_texts(&map, 0, NULL, 0, NULL, 0, &count) == BUCKET_OK && count == 0);
+    CHECK(bucket_texts(&map, 0, &row, 1, NULL, 0, &count) == BUCKET_OK && count == 1 && row.len == 0 && row.value == 6);
+    CHECK(bucket_text_map_remove(&map, NULL, 0, &value) == BUCKET_OK && value == 6 && bucket_len(&map) == 0);
+    bucket_free(&map);
+
+    CHECK(bucket_text_set_new(&set, seed) == BUCKET_OK);
+    CHECK(bucket_text_set_contains(&set, NULL, 0) == BUCKET_ABSENT && bucket_text_set_remove(&set, NULL, 0) == BUCKET_ABSENT);
+    CHECK(bucket_text_set_insert(&set, NULL, 0) == BUCKET_OK && bucket_text_set_insert(&set, text(""), 0) == BUCKET_PRESENT);
+    CHECK(bucket_text_set_contains(&set, NULL, 0) == BUCKET_OK && bucket_text_set_remove(&set, NULL, 0) == BUCKET_OK);
+    bucket_free(&set);
+    return 0;
+}
+
+static int null_caches(bucket_seed seed) {
+    bucket_handle cache = BUCKET_HANDLE, words = BUCKET_HANDLE;
+    uint64_t value = 77, before = 0;
+    size_t count = 79, gone_len = 3, evicted = 0;
+    uint8_t key[16] = "";
+
+    CHECK(bucket_text_cache_new(&cache, 0, 64, seed) == BUCKET_OK);
+    CHECK(bucket_text_cache_get(&cache, NULL, 0, &value) == BUCKET_ABSENT);
+    CHECK(bucket_text_cache_put(&cache, NULL, 0, 5, NULL, 0, &gone_len, &value) == BUCKET_OK);
+    CHECK(bucket_text_cache_put(&cache, text(""), 0, 5, NULL, 0, &gone_len, &value) == BUCKET_PRESENT && gone_len == 3);
+    CHECK(bucket_text_cache_upsert(&cache, NULL, 0, 6, NULL, 0, &gone_len, &before) == BUCKET_PRESENT && before == 5);
+    CHECK(bucket_text_cache_get(&cache, NULL, 0, &value) == BUCKET_OK && value == 6);
+    CHECK(bucket_text_cache_peek(&cache, NULL, 0, &value) == BUCKET_OK && value == 6);
+    CHECK(bucket_text_cache_contains(&cache, NULL, 0) == BUCKET_OK);
+    CHECK(bucket_text_cache_remove(&cache, NULL, 0, &value) == BUCKET_OK && value == 6 && bucket_len(&cache) == 0);
+    for (unsigned i = 0; i < 1000; i++) {
+        size_t len = (size_t)snprintf((char *)key, sizeof key, "key %03u", i);
+        uint32_t code = i % 2 == 0 ? bucket_text_cache_put(&cache, key, len, i, NULL, 0, &gone_len, &value)
+                                   : bucket_text_cache_upsert(&cache, key, len, i, NULL, 0, &gone_len, &value);
+        CHECK(code == BUCKET_OK || (code == BUCKET_EVICTED && gone_len == 7 && value < i));
+        evicted += code == BUCKET_EVICTED;
+    }
+    CHECK(bucket_len(&cache) + evicted == 1000 && evicted >= 1000 - 64);
+    bucket_free(&cache);
+
+    CHECK(bucket_map_new(&words, 0, seed) == BUCKET_OK && bucket_map_insert(&words, 1, 2) == BUCKET_OK);
+    CHECK(bucket_pairs(&words, 0, NULL, 0, &count) == BUCKET_OK && count == 0);
+    bucket_free(&words);
+    return 0;
+}
+
 int main(void) {
     bucket_seed keyed = {0x0706050403020100u, 0x0f0e0d0c0b0a0908u};
     bucket_seed fixed = BUCKET_FIXED_SEED;
@@ -315,7 +376,7 @@ int main(void) {
     }
     for (int round = 0; round < 2; round++) {
         bucket_seed seed = round == 0 ? fixed : keyed;
-        if (words(seed) || texts(seed) || sets(seed) || recent(seed) || recent_texts(seed)) {
+        if (words(seed) || texts(seed) || sets(seed) || recent(seed) || recent_texts(seed) || null_texts(seed) || null_caches(seed)) {
             return 1;
         }
     }
