@@ -2,11 +2,15 @@
 # repository, as a reader pastes them.
 #
 #   block DOCUMENT WORD NUMBER    prints the text of the NUMBERth block whose head is ```WORD
-#   blocks DOCUMENT               how many ```sh blocks there are
+#   blocks DOCUMENT [WORD]        how many blocks have that head, or ```sh
 #   play DOCUMENT NUMBER FOLDER   runs the lines of a ```sh block in one shell, at FOLDER: each has to
 #                                 end with status 0. The output goes to $folder/output, and that of
 #                                 lines after `$ ` has to be the lines below them
 #   check_unplayed DOCUMENT       each line of $unplayed has to be in the document
+#   play_programs DOCUMENT COPY   runs the ```rust blocks, each a program, in turn without proof: one
+#                                 crate in a copy of the repository. Their output has to be what their
+#                                 comments `// prints ..` say
+#   check_excerpts DOCUMENT WORD FILES    each ```WORD block has to be a part of one of the files
 #
 # $unplayed has the commands that aren't played, a line each.
 
@@ -18,7 +22,7 @@ block() {
 }
 
 blocks() {
-    grep -c '^```sh$' "$root/$1"
+    grep -c "^\`\`\`${2:-sh}\$" "$root/$1"
 }
 
 # The commands of a block, without comments.
@@ -51,4 +55,42 @@ check_unplayed() {
     while read -r line; do
         grep -qxF -- "$line" "$folder/all" || fail "$1 has no command '$line'"
     done <<<"$unplayed"
+}
+
+play_programs() {
+    local number crate=$2/crates/pages
+    programs=$(blocks "$1" rust)
+    rm -rf "$crate"
+    mkdir -p "$crate/src"
+    : >"$folder/told"
+    grep -q '^pages:' "$2/crates.txt" || echo 'pages: collections bucket_table bucket_slots' >>"$2/crates.txt"
+    {
+        echo '#![tactic(auto)]'
+        for ((number = 1; number <= programs; number++)); do
+            echo "mod program_$number;"
+        done
+        printf '%s\n' 'use std::io;' 'fn main(rt: HostRuntime) -> io::Result<()> {'
+        for ((number = 1; number <= programs; number++)); do
+            block "$1" rust "$number" | sed '/^#!\[tactic(auto)\]$/d; s/^fn main(/pub fn main(/' \
+                >"$crate/src/program_$number.rt"
+            sed -n 's|^.*// prints ||p' "$crate/src/program_$number.rt" >>"$folder/told"
+            echo "    program_$number::main(rt)?;"
+        done
+        printf '%s\n' '    Ok(())' '}'
+    } >"$crate/src/main.rt"
+    [ "$programs" != 0 ] && [ -s "$folder/told" ] || fail "$1 has no program that prints"
+    (cd "$crate" && rt try) >"$folder/output" 2>"$folder/log" </dev/null || fail "$1: a program failed"
+    diff "$folder/told" "$folder/output" >"$folder/log" || fail "$1: told (<) and printed (>) differ"
+}
+
+check_excerpts() {
+    local number text file document=$1 word=$2
+    shift 2
+    for ((number = 1; number <= $(blocks "$document" "$word"); number++)); do
+        text=$(block "$document" "$word" "$number")
+        for file in "$@"; do
+            [[ $(cat "$file") == *"$text"* ]] && continue 2
+        done
+        fail "$document: block $number of $word isn't in the sources"
+    done
 }
