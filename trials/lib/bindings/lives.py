@@ -73,9 +73,9 @@ def test_a_copy_of_a_subclass_has_its_attributes():
 
 
 def in_threads(*works):
-    """Runs these side by side, and lets them take turns as often as can be."""
+    """Runs these side by side, and lets them take turns often."""
     interval = sys.getswitchinterval()
-    sys.setswitchinterval(1e-6)
+    sys.setswitchinterval(1e-5)
     threads = [threading.Thread(target=work) for work in works]
     for thread in threads:
         thread.start()
@@ -114,7 +114,8 @@ def test_a_map_is_resized_while_three_threads_write():
             ended.append(thread)
 
         in_four_threads(work)
-        assert dict(made) == {kind.key(number): number for number in range(30_000) if number % 4}, kind.name
+        wanted = {kind.key(number): number for number in range(30_000) if number % 4}
+        assert dict(made) == wanted, kind.name
 
 
 def test_four_threads_write_one_cache_and_each_key_that_goes_is_whole():
