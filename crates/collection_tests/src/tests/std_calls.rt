@@ -1,0 +1,196 @@
+//! Calls that are named and answer as the standard library's do: room, functions by value, pairs and
+//! keys that come by `extend`, and iterators.
+use super::check_same;
+use collections::DefaultHash;
+use collections::hash_map::HashMap;
+use collections::hash_set::HashSet;
+use std::alloc::AllocError;
+use std::process::Abort;
+use std::test::Fail;
+
+type Map = HashMap<u64, u64>;
+
+type Set = HashSet<u64>;
+
+#[test]
+fn a_set_answers_as_that_of_std(rt: HostRuntime) -> Result<(), Fail> {
+    answer(&rt, &mut HashSet::new(rt.alloc()));
+    Ok(())
+}
+
+// A key comes twice, and goes twice.
+fn answer(rt: &impl Abort, set: &mut Set) {
+    let came = (set.insert(1).ok(), set.insert(1).ok());
+    check_same(rt, came, (Some(true), Some(false)), "insert");
+    check_same(
+        rt,
+        (set.remove(&1), set.remove(&1)),
+        (true, false),
+        "remove",
+    );
+    check_same(rt, set.take(&1), None, "take");
+}
+
+/// The numbers of pairs for which a map with one shrinks in turn, and its slots then: so many pairs
+/// take no more than 13 of 16, and a half of the slots would be too few, or fewer than 64.
+const SHRINKING: [(usize, usize); 3] = [(100, 128), (50, 64), (0, 64)];
+
+#[test]
+fn a_map_with_room_for_pairs_shrinks(rt: HostRuntime) -> Result<(), Fail> {
+    let hasher = DefaultHash::default();
+    let mut map = HashMap::with_capacity_and_hasher(rt.alloc(), 100, hasher);
+    shrink_map(&rt, &mut map);
+    shrink_map(&rt, &mut HashMap::with_capacity(rt.alloc(), 100));
+    Ok(())
+}
+
+fn shrink_map(rt: &impl Abort, map: &mut Map) {
+    check_same(rt, map.upsert(1, 1).ok(), Some(None), "new");
+    let found = (map.contains_key(&1), map.contains_key(&2), map.capacity());
+    check_same(rt, found, (true, false, 128), "room");
+    for (pairs, slots) in SHRINKING.iter() {
+        let found = (map.shrink_to(*pairs).is_ok(), map.capacity(), map.len());
+        check_same(rt, found, (true, *slots, 1), *pairs);
+    }
+}
+
+#[test]
+fn a_set_with_room_for_keys_shrinks(rt: HostRuntime) -> Result<(), Fail> {
+    let hasher = DefaultHash::default();
+    let mut set = HashSet::with_capacity_and_hasher(rt.alloc(), 100, hasher);
+    shrink_set(&rt, &mut set);
+    shrink_set(&rt, &mut HashSet::with_capacity(rt.alloc(), 100));
+    Ok(())
+}
+
+fn shrink_set(rt: &impl Abort, set: &mut Set) {
+    check_same(rt, set.insert(1).ok(), Some(true), "new");
+    check_same(rt, set.capacity(), 128, "room");
+    for (keys, slots) in SHRINKING.iter() {
+        let found = (set.shrink_to(*keys).is_ok(), set.capacity(), set.len());
+        check_same(rt, found, (true, *slots, 1), *keys);
+    }
+}
+
+#[test]
+fn functions_go_to_a_map_by_value(rt: HostRuntime) -> Result<(), Fail> {
+    let mut map = HashMap::from_array(rt.alloc(), [(1, 10), (2, 20), (3, 30)])?;
+    change(&mut map);
+    check_same(&rt, sum(&map), 46, "sum");
+    Ok(())
+}
+
+// Drops the pair of key 2, and adds one to the other values.
+fn change(map: &mut Map) {
+    map.retain(|key: &u64, _value: &mut u64| *key != 2);
+    map.for_each_mut(|_key: &u64, value: &mut u64| *value = value.wrapping_add(1));
+}
+
+// The sum of the keys and the values.
+fn sum(map: &Map) -> u64 {
+    let mut sum = 0u64;
+    map.for_each(|key: &u64, value: &u64| sum = sum.wrapping_add(*key).wrapping_add(*value));
+    sum
+}
+
+#[test]
+fn functions_go_to_a_set_by_value(rt: HostRuntime) -> Result<(), Fail> {
+    let mut set = HashSet::from_array(rt.alloc(), [1, 2, 3])?;
+    set.retain(|key: &u64| *key != 2);
+    check_same(&rt, sum_of_keys(&set), 4, "sum");
+    Ok(())
+}
+
+fn sum_of_keys(set: &Set) -> u64 {
+    let mut sum = 0u64;
+    set.for_each(|key: &u64| sum = sum.wrapping_add(*key));
+    sum
+}
+
+#[test]
+fn a_map_is_extended(rt: HostRuntime) -> Result<(), Fail> {
+    let mut map: Map = HashMap::new(rt.alloc());
+    map.extend([(1, 10), (2, 20), (1, 11)])?;
+    let mut more: Map = HashMap::new(rt.alloc());
+    check_same(&rt, extend_map(&mut more, &map), Ok((2, 3)), "len");
+    check_same(&rt, more.get(&1).copied(), Some(11), "last");
+    Ok(())
+}
+
+// Copies the pairs of a map into another, and one pair more. How many the other has before it and
+// then.
+fn extend_map(more: &mut Map, map: &Map) -> Result<(usize, usize), AllocError> {
+    more.extend(map)?;
+    let copied = more.len();
+    more.extend([(3, 30)])?;
+    Ok((copied, more.len()))
+}
+
+#[test]
+fn a_set_is_extended(rt: HostRuntime) -> Result<(), Fail> {
+    let mut set: Set = HashSet::new(rt.alloc());
+    set.extend([1, 2, 1])?;
+    let mut more: Set = HashSet::new(rt.alloc());
+    check_same(&rt, extend_set(&mut more, &set), Ok((2, 3)), "len");
+    Ok(())
+}
+
+// Copies the keys of a set into another, and one key more. How many the other has before it and
+// then.
+fn extend_set(more: &mut Set, set: &Set) -> Result<(usize, usize), AllocError> {
+    more.extend(set)?;
+    let copied = more.len();
+    more.extend([3])?;
+    Ok((copied, more.len()))
+}
+
+/// How many are left.
+type Hint = (usize, Option<usize>);
+
+// What is left of an iterator that stepped once, and of a copy that was made before; and how many
+// the copy gives.
+macro_rules! stepped {
+    ($left:expr) => {{
+        let mut left = $left;
+        let copy = left.clone()?;
+        let _first = left.next();
+        Ok((left.size_hint(), copy.size_hint(), copy.count()))
+    }};
+}
+
+type Stepped = Result<(Hint, Hint, usize), AllocError>;
+
+fn step_pairs(map: &Map) -> Stepped {
+    stepped!(map.iter())
+}
+
+fn step_keys(map: &Map) -> Stepped {
+    stepped!(map.keys())
+}
+
+fn step_values(map: &Map) -> Stepped {
+    stepped!(map.values())
+}
+
+fn step_set(set: &Set) -> Stepped {
+    stepped!(set.iter())
+}
+
+/// Of three.
+const STEPPED: Stepped = Ok(((2, Some(2)), (3, Some(3)), 3));
+
+#[test]
+fn iterators_are_cloned_and_hint_their_sizes(rt: HostRuntime) -> Result<(), Fail> {
+    let map = HashMap::from_array(rt.alloc(), [(1, 10), (2, 20), (3, 30)])?;
+    check_same(&rt, step_pairs(&map), STEPPED, "pairs");
+    check_same(&rt, step_keys(&map), STEPPED, "keys");
+    check_same(&rt, step_values(&map), STEPPED, "values");
+    Ok(())
+}
+
+#[test]
+fn an_iterator_of_a_set_is_cloned_and_hints_its_size(rt: HostRuntime) -> Result<(), Fail> {
+    let set = HashSet::from_array(rt.alloc(), [4, 5, 6])?;
+    check_same(&rt, step_set(&set), STEPPED, "set");
+    Ok(())
+}
