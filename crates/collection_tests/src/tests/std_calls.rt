@@ -144,6 +144,29 @@ fn extend_set(more: &mut Set, set: &Set) -> Result<(usize, usize), AllocError> {
     Ok((copied, more.len()))
 }
 
+#[test]
+fn the_allocator_of_a_collection_serves_others(rt: HostRuntime) -> Result<(), Fail> {
+    let map = list_pairs(&mut HashMap::new(rt.alloc()));
+    check_same(&rt, map, Ok(1), "map");
+    let set = list_keys(&mut HashSet::new(rt.alloc()));
+    check_same(&rt, set, Ok(1), "set");
+    Ok(())
+}
+
+// Puts a pair, and has the allocator of the map serve a list of its keys. How many that has.
+fn list_pairs(map: &mut Map) -> Result<usize, AllocError> {
+    map.upsert(1, 10)?;
+    let keys: Vec<&u64> = map.keys().collect(map.allocator())?;
+    Ok(keys.len())
+}
+
+// Inserts a key, and has the allocator of the set serve a list of its keys. How many that has.
+fn list_keys(set: &mut Set) -> Result<usize, AllocError> {
+    set.insert(1)?;
+    let keys: Vec<&u64> = set.iter().collect(set.allocator())?;
+    Ok(keys.len())
+}
+
 /// How many are left.
 type Hint = (usize, Option<usize>);
 
