@@ -96,9 +96,13 @@ fn sum(map: &Map) -> u64 {
 #[test]
 fn functions_go_to_a_set_by_value(rt: HostRuntime) -> Result<(), Fail> {
     let mut set = HashSet::from_array(rt.alloc(), [1, 2, 3])?;
-    set.retain(|key: &u64| *key != 2);
+    drop_two(&mut set);
     check_same(&rt, sum_of_keys(&set), 4, "sum");
     Ok(())
+}
+
+fn drop_two(set: &mut Set) {
+    set.retain(|key: &u64| *key != 2);
 }
 
 fn sum_of_keys(set: &Set) -> u64 {
@@ -108,60 +112,80 @@ fn sum_of_keys(set: &Set) -> u64 {
 }
 
 #[test]
-fn a_map_is_extended(rt: HostRuntime) -> Result<(), Fail> {
-    let mut map: Map = HashMap::new(rt.alloc());
-    map.extend([(1, 10), (2, 20), (1, 11)])?;
-    let mut more: Map = HashMap::new(rt.alloc());
-    check_same(&rt, extend_map(&mut more, &map), Ok((2, 3)), "len");
-    check_same(&rt, more.get(&1).copied(), Some(11), "last");
+fn pairs_extend_a_map(rt: HostRuntime) -> Result<(), Fail> {
+    let mut map = HashMap::new(rt.alloc());
+    check_same(&rt, put_pairs(&mut map), Ok(2), "len");
+    check_same(&rt, map.get(&1).copied(), Some(11), "last");
     Ok(())
 }
 
-// Copies the pairs of a map into another, and one pair more. How many the other has before it and
-// then.
-fn extend_map(more: &mut Map, map: &Map) -> Result<(usize, usize), AllocError> {
-    more.extend(map)?;
-    let copied = more.len();
-    more.extend([(3, 30)])?;
-    Ok((copied, more.len()))
+fn put_pairs(map: &mut Map) -> Result<usize, AllocError> {
+    map.extend([(1, 10), (2, 20), (1, 11)])?;
+    Ok(map.len())
 }
 
 #[test]
-fn a_set_is_extended(rt: HostRuntime) -> Result<(), Fail> {
-    let mut set: Set = HashSet::new(rt.alloc());
-    set.extend([1, 2, 1])?;
-    let mut more: Set = HashSet::new(rt.alloc());
-    check_same(&rt, extend_set(&mut more, &set), Ok((2, 3)), "len");
+fn a_map_extends_another(rt: HostRuntime) -> Result<(), Fail> {
+    let map = HashMap::from_array(rt.alloc(), [(1, 11), (2, 20)])?;
+    let found = copy_pairs(&mut HashMap::new(rt.alloc()), &map);
+    check_same(&rt, found, Ok((2, 3, Some(11))), "copied");
     Ok(())
 }
 
-// Copies the keys of a set into another, and one key more. How many the other has before it and
-// then.
-fn extend_set(more: &mut Set, set: &Set) -> Result<(usize, usize), AllocError> {
-    more.extend(set)?;
-    let copied = more.len();
-    more.extend([3])?;
-    Ok((copied, more.len()))
+// Extends a map by another, and by a pair. How many pairs it has before that and then, and the value
+// of key 1.
+fn copy_pairs(own: &mut Map, map: &Map) -> Result<(usize, usize, Option<u64>), AllocError> {
+    own.extend(map)?;
+    let copied = own.len();
+    own.extend([(3, 30)])?;
+    Ok((copied, own.len(), own.get(&1).copied()))
+}
+
+#[test]
+fn keys_extend_a_set(rt: HostRuntime) -> Result<(), Fail> {
+    check_same(&rt, put_keys(&mut HashSet::new(rt.alloc())), Ok(2), "len");
+    Ok(())
+}
+
+fn put_keys(set: &mut Set) -> Result<usize, AllocError> {
+    set.extend([1, 2, 1])?;
+    Ok(set.len())
+}
+
+#[test]
+fn a_set_extends_another(rt: HostRuntime) -> Result<(), Fail> {
+    let set = HashSet::from_array(rt.alloc(), [1, 2])?;
+    let found = copy_keys(&mut HashSet::new(rt.alloc()), &set);
+    check_same(&rt, found, Ok((2, 3)), "copied");
+    Ok(())
+}
+
+// Extends a set by another, and by a key. How many keys it has before that and then.
+fn copy_keys(own: &mut Set, set: &Set) -> Result<(usize, usize), AllocError> {
+    own.extend(set)?;
+    let copied = own.len();
+    own.extend([3])?;
+    Ok((copied, own.len()))
 }
 
 #[test]
 fn the_allocator_of_a_collection_serves_others(rt: HostRuntime) -> Result<(), Fail> {
-    let map = list_pairs(&mut HashMap::new(rt.alloc()));
+    let map = list_map(&mut HashMap::new(rt.alloc()));
     check_same(&rt, map, Ok(1), "map");
-    let set = list_keys(&mut HashSet::new(rt.alloc()));
+    let set = list_set(&mut HashSet::new(rt.alloc()));
     check_same(&rt, set, Ok(1), "set");
     Ok(())
 }
 
 // Puts a pair, and has the allocator of the map serve a list of its keys. How many that has.
-fn list_pairs(map: &mut Map) -> Result<usize, AllocError> {
+fn list_map(map: &mut Map) -> Result<usize, AllocError> {
     map.upsert(1, 10)?;
     let keys: Vec<&u64> = map.keys().collect(map.allocator())?;
     Ok(keys.len())
 }
 
 // Inserts a key, and has the allocator of the set serve a list of its keys. How many that has.
-fn list_keys(set: &mut Set) -> Result<usize, AllocError> {
+fn list_set(set: &mut Set) -> Result<usize, AllocError> {
     set.insert(1)?;
     let keys: Vec<&u64> = set.iter().collect(set.allocator())?;
     Ok(keys.len())
