@@ -1,6 +1,7 @@
 //! Collections that are taken and leave empty ones, and collections that are the values of a map's
 //! places.
 use super::check_same;
+use collections::DefaultHash;
 use collections::hash_cache::HashCache;
 use collections::hash_index::HashIndex;
 use collections::hash_map::HashMap;
@@ -49,6 +50,21 @@ fn take_cache(cache: &mut HashCache<u64, u64>) -> Left {
     cache.upsert(1, 10)?;
     let taken = mem::try_take(cache)?;
     Ok((cache.len(), taken.peek(&1).copied() == Some(10)))
+}
+
+#[test]
+fn a_taken_cache_leaves_its_capacities(rt: HostRuntime) -> Result<(), Fail> {
+    let mut cache = HashCache::with_size(rt.alloc(), DefaultHash::default(), 1024);
+    check_same(&rt, slots_once_taken(&mut cache), Ok(1024), "slots");
+    Ok(())
+}
+
+// Takes a cache, and puts a pair into what is left. How many slots that has.
+fn slots_once_taken(cache: &mut HashCache<u64, u64>) -> Result<usize, AllocError> {
+    let taken = mem::try_take(cache)?;
+    drop(taken);
+    cache.upsert(1, 10)?;
+    Ok(cache.capacity())
 }
 
 #[test]

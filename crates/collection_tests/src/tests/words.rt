@@ -94,7 +94,7 @@ fn lists_are_looked_up_by_slices(rt: HostRuntime) -> Result<(), Fail> {
 fn insert_list(alloc: Global, lists: &mut HashSet<Vec<u64>>, list: &[u64]) -> (bool, bool, bool) {
     let was_there = lists.contains(list);
     let came = match Vec::from_slice(alloc, list) {
-        Ok(own) => lists.insert(own).is_ok(),
+        Ok(own) => lists.insert_new(own).is_ok(),
         Err(_) => false,
     };
     (was_there, came, lists.contains(list))
