@@ -195,13 +195,13 @@ fn list_set(set: &mut Set) -> Result<usize, AllocError> {
 type Hint = (usize, Option<usize>);
 
 // What is left of an iterator that stepped once, and of a copy that was made before; and how many
-// the copy gives.
+// the copy gives, up to nine.
 macro_rules! stepped {
     ($left:expr) => {{
         let mut left = $left;
         let copy = left.clone()?;
         let _first = left.next();
-        Ok((left.size_hint(), copy.size_hint(), copy.count()))
+        Ok((left.size_hint(), copy.size_hint(), copy.take(9).count()))
     }};
 }
 
