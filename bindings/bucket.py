@@ -5,322 +5,164 @@
     for name, age in ages.items(): ..
 
 Map and Cache are from int to int, both from 0 up to 2**64 - 1; TextMap and TextCache from bytes to
-int; TextSet has bytes. Allocation failure raises MemoryError, and changes nothing. A collection
-hashes by a random seed, which keys that an enemy chooses need, or by the fixed one: seed=FIXED_SEED.
+int; TextSet has bytes. An int is whatever has `__index__`. A collection hashes by a random seed,
+which keys that an enemy chooses need, or by the fixed one: seed=FIXED_SEED.
 
-The declarations below aren't proved. An object is for one thread.
+A look-up or a removal takes a key of another type, or out of range, for an absent one. What inserts
+raises TypeError, or OverflowError. Allocation failure raises MemoryError, and changes nothing. A
+negative size raises ValueError, as does each call on a collection whose `__init__` wasn't called; a
+second `__init__` begins anew.
+
+An iteration copies all pairs out first: O(n) of time and memory. It raises RuntimeError once a key is
+added or removed; values may be written meanwhile. Of a cache, `get` touches a pair, and `cache[key]`
+doesn't; its class says it of each call.
+
+`copy`, `copy.copy` and `copy.deepcopy` give a collection with a table of its own, hashed by the same
+seed. A pickle has the pairs, and of seeds the fixed one alone.
+
+Several threads may use one object: calls come one at a time, by the interpreter's lock.
 """
 
 import ctypes
-import os
-from collections.abc import ItemsView, MutableMapping, MutableSet
+import threading
+from collections.abc import MutableSet
+from ctypes import byref, c_size_t, c_uint64
+
+from _bucket_calls import EVICTED, OK, PRESENT, check, failure, is_done, lib
+from _bucket_tables import FIXED_SEED, PairTable, Table, Texts, Words, random_seed, size, word
 
 __all__ = ["Cache", "Map", "TextCache", "TextMap", "TextSet", "FIXED_SEED", "random_seed"]
 
-OK, ABSENT, PRESENT, NO_MEMORY, CLOSED, OPEN, OTHER_KIND, EVICTED = range(8)
-FIXED_SEED = bytes(16)
 
-# A piece of an iteration walks the whole table, so there are at most four of them.
-LEAST_PIECE = 256
-MOST_PIECES = 4
+class _Map(PairTable):
+    __slots__ = ()
 
-
-class Handle(ctypes.Structure):
-    _fields_ = [("held", ctypes.c_void_p), ("live", ctypes.c_bool)]
-
-
-class Seed(ctypes.Structure):
-    _fields_ = [("key0", ctypes.c_uint64), ("key1", ctypes.c_uint64)]
-
-
-class Pair(ctypes.Structure):
-    _fields_ = [("key", ctypes.c_uint64), ("value", ctypes.c_uint64)]
-
-
-class TextPair(ctypes.Structure):
-    _fields_ = [("len", ctypes.c_size_t), ("value", ctypes.c_uint64)]
-
-
-def _library():
-    folder = os.path.dirname(os.path.abspath(__file__))
-    path = os.environ.get("BUCKET_LIB", os.path.join(folder, "out", "libbucket.so"))
-    library = ctypes.CDLL(path)
-    word, size = ctypes.c_uint64, ctypes.c_size_t
-    to_word, to_size = ctypes.POINTER(word), ctypes.POINTER(size)
-    text = [ctypes.c_char_p, size]
-    pieces = [size, ctypes.POINTER(Pair), size, to_size]
-    text_pieces = [size, ctypes.POINTER(TextPair), size, ctypes.c_char_p, size, to_size]
-    calls = {
-        "free": [],
-        "len": [],
-        "clear": [],
-        "reserve": [size],
-        "shrink": [],
-        "pairs": pieces,
-        "texts": text_pieces,
-        "map_new": [size, Seed],
-        "text_map_new": [size, Seed],
-        "text_set_new": [Seed],
-        "text_set_insert": text,
-        "text_set_contains": text,
-        "text_set_remove": text,
-    }
-    for kind, key in ("map", [word]), ("text_map", text):
-        calls[f"{kind}_insert"] = [*key, word]
-        calls[f"{kind}_upsert"] = [*key, word, to_word]
-        calls[f"{kind}_get"] = calls[f"{kind}_remove"] = [*key, to_word]
-        calls[f"{kind}_contains"] = key
-    for kind, key, gone in (
-        ("cache", [word], [to_word]),
-        ("text_cache", text, [ctypes.c_char_p, size, to_size]),
-    ):
-        calls[f"{kind}_new"] = [size, size, Seed]
-        calls[f"{kind}_put"] = calls[f"{kind}_upsert"] = [*key, word, *gone, to_word]
-        for call in "get", "peek", "remove":
-            calls[f"{kind}_{call}"] = [*key, to_word]
-        calls[f"{kind}_contains"] = key
-    results = {"free": None, "len": size}
-    for name, arguments in calls.items():
-        function = getattr(library, f"bucket_{name}")
-        function.argtypes = [ctypes.POINTER(Handle), *arguments]
-        function.restype = results.get(name, ctypes.c_uint32)
-    return library
-
-
-_lib = _library()
-
-
-def random_seed():
-    """16 bytes of the system's randomness."""
-    return os.urandom(16)
-
-
-def _seed(seed):
-    seed = random_seed() if seed is None else seed
-    if len(seed) != 16:
-        raise ValueError("a seed has 16 bytes")
-    return Seed(int.from_bytes(seed[:8], "little"), int.from_bytes(seed[8:], "little"))
-
-
-def _word(value):
-    if not isinstance(value, int):
-        raise TypeError(f"an int is wanted, not {type(value).__name__}")
-    if not 0 <= value < 1 << 64:
-        raise OverflowError("an int is from 0 up to 2**64 - 1 here")
-    return value
-
-
-def _text(key):
-    if not isinstance(key, bytes):
-        raise TypeError(f"bytes are wanted, not {type(key).__name__}")
-    return key
-
-
-class _Table:
-    """A handle, and the calls that each kind has."""
-
-    def _open(self, new, *arguments):
-        self._handle = Handle()
-        self._ref = ctypes.byref(self._handle)
-        if new(self._ref, *arguments) != OK:
-            raise MemoryError
-
-    def __del__(self):
-        if "_ref" in self.__dict__:
-            _lib.bucket_free(self._ref)
-
-    def __len__(self):
-        return _lib.bucket_len(self._ref)
-
-    def clear(self):
-        """Drops all pairs and slots."""
-        _lib.bucket_clear(self._ref)
-
-    def _room(self, length):
-        return max(LEAST_PIECE, -(-length // MOST_PIECES))
-
-
-class _Words:
-    """Keys that are ints."""
-
-    def _key(self, key):
-        return (_word(key),)
-
-    def _pairs(self):
-        length, start, count = len(self), 0, ctypes.c_size_t()
-        room = self._room(length)
-        piece = (Pair * room)()
-        while start < length:
-            _lib.bucket_pairs(self._ref, start, piece, room, ctypes.byref(count))
-            if count.value == 0:
-                return
-            start += count.value
-            for pair in piece[: count.value]:
-                yield pair.key, pair.value
-
-
-class _Texts:
-    """Keys that are bytes."""
-
-    def _key(self, key):
-        return _text(key), len(key)
-
-    def _pairs(self):
-        length, start, count = len(self), 0, ctypes.c_size_t()
-        room = self._room(length)
-        rows, bytes_room = (TextPair * room)(), 32 * room
-        while start < length:
-            piece = ctypes.create_string_buffer(bytes_room)
-            _lib.bucket_texts(self._ref, start, rows, room, piece, bytes_room, ctypes.byref(count))
-            if count.value < room:
-                bytes_room *= 2
-            start += count.value
-            at, text = 0, piece.raw
-            for row in rows[: count.value]:
-                yield text[at : at + row.len], row.value
-                at += row.len
-            if start > len(self):
-                return
-
-
-class _Items(ItemsView):
-    def __iter__(self):
-        return self._mapping._pairs()
-
-
-class _Mapping(_Table, MutableMapping):
-    """What maps and caches have in common; a cache looks its keys up by `peek`."""
-
-    def __contains__(self, key):
-        return self._contains(self._ref, *self._key(key)) == OK
-
-    def __getitem__(self, key):
-        value = ctypes.c_uint64()
-        self._check(self._get(self._ref, *self._key(key), ctypes.byref(value)), key)
-        return value.value
-
-    def __delitem__(self, key):
-        self.pop(key)
-
-    def pop(self, key, *default):
-        """Removes a pair, and returns its value, or the default."""
-        value = ctypes.c_uint64()
-        code = self._remove(self._ref, *self._key(key), ctypes.byref(value))
-        if code == ABSENT and default:
-            return default[0]
-        self._check(code, key)
-        return value.value
-
-    def __iter__(self):
-        return (key for key, _ in self._pairs())
-
-    def items(self):
-        """A view of the pairs, which an iteration copies out in pieces."""
-        return _Items(self)
-
-    def __repr__(self):
-        return f"{type(self).__name__}({dict(self._pairs())!r})"
-
-    @staticmethod
-    def _check(code, key):
-        if code == ABSENT:
-            raise KeyError(key)
-        if code == NO_MEMORY:
-            raise MemoryError
-
-
-class _Map(_Mapping):
     def __init__(self, pairs=(), *, capacity=0, seed=None):
-        self._open(self._new, capacity, _seed(seed))
+        """A map of these pairs, whose first array has room for `capacity` pairs."""
+        self._open(seed, size(capacity))
         self.update(pairs)
 
-    def __setitem__(self, key, value):
-        self.upsert(key, value)
+    def _sizes(self):
+        return (len(self),)
 
     def insert(self, key, value):
         """Inserts a pair whose key is absent, and returns whether it is."""
-        code = self._insert(self._ref, *self._key(key), _word(value))
-        self._check(code, key)
-        return code == OK
+        is_new = is_done(self._insert(self._ref, *self._key(key), word(value)), PRESENT)
+        if is_new:
+            self._change()
+        return is_new
 
     def upsert(self, key, value):
         """Puts a value at a key, and returns the earlier one, or None."""
-        earlier = ctypes.c_uint64()
-        code = self._upsert(self._ref, *self._key(key), _word(value), ctypes.byref(earlier))
-        self._check(code, key)
-        return earlier.value if code == PRESENT else None
+        earlier = c_uint64()
+        code = self._upsert(self._ref, *self._key(key), word(value), byref(earlier))
+        if not is_done(code, PRESENT):
+            return earlier.value
+        self._change()
+        return None
 
     def reserve(self, additional):
-        """Makes room for so many more pairs."""
-        self._check(_lib.bucket_reserve(self._ref, additional), additional)
+        """Makes room for so many more pairs. O(n)."""
+        check(lib.bucket_reserve(self._ref, size(additional)))
 
     def shrink(self):
-        """Leaves as few slots as the pairs take."""
-        self._check(_lib.bucket_shrink(self._ref), None)
+        """Leaves as few slots as the pairs take. O(n)."""
+        check(lib.bucket_shrink(self._ref))
 
 
-class Map(_Words, _Map):
+class Map(Words, _Map):
     """A map from int to int."""
 
-    _new, _insert, _upsert = _lib.bucket_map_new, _lib.bucket_map_insert, _lib.bucket_map_upsert
-    _get, _contains, _remove = _lib.bucket_map_get, _lib.bucket_map_contains, _lib.bucket_map_remove
+    _new, _insert, _upsert = lib.bucket_map_new, lib.bucket_map_insert, lib.bucket_map_upsert
+    _get = _peek = lib.bucket_map_get
+    _contains, _remove = lib.bucket_map_contains, lib.bucket_map_remove
 
 
-class TextMap(_Texts, _Map):
+class TextMap(Texts, _Map):
     """A map from bytes to int."""
 
-    _new, _insert = _lib.bucket_text_map_new, _lib.bucket_text_map_insert
-    _upsert, _get = _lib.bucket_text_map_upsert, _lib.bucket_text_map_get
-    _contains, _remove = _lib.bucket_text_map_contains, _lib.bucket_text_map_remove
+    _new, _insert = lib.bucket_text_map_new, lib.bucket_text_map_insert
+    _upsert, _remove = lib.bucket_text_map_upsert, lib.bucket_text_map_remove
+    _get = _peek = lib.bucket_text_map_get
+    _contains = lib.bucket_text_map_contains
 
 
-class TextSet(_Texts, _Table, MutableSet):
+class TextSet(Texts, Table, MutableSet):
     """A set of bytes."""
 
+    _new, _insert = lib.bucket_text_set_new, lib.bucket_text_set_insert
+    _contains, _remove = lib.bucket_text_set_contains, lib.bucket_text_set_remove
+
     def __init__(self, keys=(), *, seed=None):
-        self._open(_lib.bucket_text_set_new, _seed(seed))
+        """A set of these keys."""
+        self._open(seed)
         for key in keys:
             self.add(key)
 
-    def __contains__(self, key):
-        return _lib.bucket_text_set_contains(self._ref, *self._key(key)) == OK
+    def _sizes(self):
+        return ()
 
-    def __iter__(self):
-        return (key for key, _ in self._pairs())
+    def _fill(self, pairs):
+        for key, _ in pairs:
+            self.add(key)
 
     def add(self, key):
         """Inserts a key, and returns whether it was absent."""
-        code = _lib.bucket_text_set_insert(self._ref, *self._key(key))
-        if code == NO_MEMORY:
-            raise MemoryError
-        return code == OK
+        is_new = is_done(self._insert(self._ref, *self._key(key)), PRESENT)
+        if is_new:
+            self._change()
+        return is_new
 
     def discard(self, key):
         """Removes a key, and returns whether it was there."""
-        return _lib.bucket_text_set_remove(self._ref, *self._key(key)) == OK
+        was_there = self._ask(self._remove, key)
+        if was_there:
+            self._change()
+        return was_there
+
+    def pop(self):
+        """Removes some key, and returns it. The cost is that of a map's `popitem`."""
+        for key in self._some_keys():
+            if self.discard(key):
+                return key
+        raise KeyError("there is no key")
 
     def __repr__(self):
-        return f"TextSet({set(self)!r})"
+        return f"{type(self).__name__}({set(self)!r})"
 
 
-class _Cache(_Mapping):
+class _Cache(PairTable):
+    """Where a key's bucket is full, the pair of it that was touched longest ago goes.
+
+    `get`, `setdefault`, `cache[key] = value`, `update`, `upsert`, and `put` of an absent key touch a
+    pair. `cache[key]` looks up without a touch, as `peek` does, since `dict(cache)` and `{**cache}`
+    read by it. `in`, iterations, views, comparisons and copies touch none either.
+
+    A copy has the same pairs, but for one whose bucket is full there. They count as touched in the
+    order of an iteration, and the slots that they need are its minimum.
+    """
+
+    __slots__ = ("_minimum", "_maximum")
+
     def __init__(self, maximum=256, *, minimum=0, seed=None):
-        self._open(self._new, minimum, maximum, _seed(seed))
+        """A cache of `minimum` to `maximum` slots, or the least power of two that is at least `maximum`
+        and 64."""
+        self._open(seed, size(minimum), size(maximum))
 
-    def __setitem__(self, key, value):
-        self.upsert(key, value)
+    def _open(self, seed, minimum, maximum):
+        super()._open(seed, minimum, maximum)
+        self._minimum, self._maximum = minimum, maximum
 
-    def __getitem__(self, key):
-        """The value at a key, whose pair is touched."""
-        value = ctypes.c_uint64()
-        self._check(self._touch(self._ref, *self._key(key), ctypes.byref(value)), key)
-        return value.value
+    def _sizes(self):
+        # A table has at most some 8 slots a pair. A copy with as many from the start, and with the same
+        # seed, has room in each bucket.
+        slots = 8 * len(self)
+        return min(self._maximum, max(self._minimum, slots)), self._maximum
 
     def peek(self, key, default=None):
         """The value at a key, whose pair isn't touched, or the default."""
-        value = ctypes.c_uint64()
-        code = self._get(self._ref, *self._key(key), ctypes.byref(value))
-        return value.value if code == OK else default
+        value = self._value(self._peek, key)
+        return default if value is None else value
 
     def put(self, key, value):
         """Puts a pair whose key is absent. Returns whether it is, and the pair that went, or None."""
@@ -333,38 +175,50 @@ class _Cache(_Mapping):
         code, gone = self._write(self._upsert, key, value)
         return gone[1] if code == PRESENT else None, gone if code == EVICTED else None
 
+    def _written(self, code):
+        if code in (OK, EVICTED):
+            self._change()
+        elif code != PRESENT:
+            raise failure(code)
+        return code
 
-class Cache(_Words, _Cache):
-    """A cache from int to int."""
 
-    _new, _put, _upsert = _lib.bucket_cache_new, _lib.bucket_cache_put, _lib.bucket_cache_upsert
-    _touch, _get = _lib.bucket_cache_get, _lib.bucket_cache_peek
-    _contains, _remove = _lib.bucket_cache_contains, _lib.bucket_cache_remove
+class Cache(Words, _Cache):
+    __doc__ = f"A cache from int to int. {_Cache.__doc__}"
+
+    _new, _put, _upsert = lib.bucket_cache_new, lib.bucket_cache_put, lib.bucket_cache_upsert
+    _get, _peek = lib.bucket_cache_get, lib.bucket_cache_peek
+    _contains, _remove = lib.bucket_cache_contains, lib.bucket_cache_remove
 
     def _write(self, call, key, value):
-        gone, before = ctypes.c_uint64(), ctypes.c_uint64()
-        code = call(self._ref, *self._key(key), _word(value), ctypes.byref(gone), ctypes.byref(before))
-        self._check(code, key)
-        return code, (gone.value, before.value)
+        gone, before = c_uint64(), c_uint64()
+        code = call(self._ref, *self._key(key), word(value), byref(gone), byref(before))
+        return self._written(code), (gone.value, before.value)
 
 
-class TextCache(_Texts, _Cache):
-    """A cache from bytes to int."""
+class TextCache(Texts, _Cache):
+    __doc__ = f"A cache from bytes to int. {_Cache.__doc__}"
 
-    _new, _put = _lib.bucket_text_cache_new, _lib.bucket_text_cache_put
-    _upsert, _touch = _lib.bucket_text_cache_upsert, _lib.bucket_text_cache_get
-    _get, _contains = _lib.bucket_text_cache_peek, _lib.bucket_text_cache_contains
-    _remove = _lib.bucket_text_cache_remove
+    # Where a key that goes is written, as long as any that was put; a lock, since writers share it.
+    __slots__ = ("_gone", "_lock", "__dict__")
 
-    # Where a key that goes is written: as long as the longest key that was put.
-    _longest = 1
+    _new, _put = lib.bucket_text_cache_new, lib.bucket_text_cache_put
+    _upsert, _get = lib.bucket_text_cache_upsert, lib.bucket_text_cache_get
+    _peek, _contains = lib.bucket_text_cache_peek, lib.bucket_text_cache_contains
+    _remove = lib.bucket_text_cache_remove
+
+    def __new__(cls, *arguments, **options):
+        made = super().__new__(cls)
+        made._gone, made._lock = ctypes.create_string_buffer(64), threading.RLock()
+        return made
 
     def _write(self, call, key, value):
         text, length = self._key(key)
-        self._longest = max(self._longest, length)
-        gone = ctypes.create_string_buffer(self._longest)
-        gone_len, before = ctypes.c_size_t(), ctypes.c_uint64()
-        outs = gone, self._longest, ctypes.byref(gone_len), ctypes.byref(before)
-        code = call(self._ref, text, length, _word(value), *outs)
-        self._check(code, key)
-        return code, (gone.raw[: gone_len.value], before.value)
+        value, gone_len, before = word(value), c_size_t(), c_uint64()
+        with self._lock:
+            if length > len(self._gone):
+                self._gone = ctypes.create_string_buffer(2 * length)
+            gone = self._gone
+            outs = gone, len(gone), byref(gone_len), byref(before)
+            code = self._written(call(self._ref, text, length, value, *outs))
+            return code, (gone[: gone_len.value], before.value)

@@ -1,10 +1,11 @@
 #!/usr/bin/env bash
 # Links the proved library of bindings/ to programs of C, C++, Rust and Python, and runs them: each
 # call with each code; every allocation refused in turn, and what is held then; calls by chance beside
-# std's map and a dict; the order of pairs beside a SipHash of the trial's own; under valgrind, that
-# nothing is read or written that isn't allocated, and all is freed. The header names what is exported,
-# compiles without a warning, lets no null pointer through, refuses a machine of 32 bits
-# and warns of a code that is dropped.
+# std's map and a dict; the Python module's copies, threads, iterations and arguments, and what it makes
+# of each code; the order of pairs beside a SipHash of the trial's own; under valgrind, that nothing is
+# read or written that isn't allocated, and all is freed. The header names what is exported, compiles
+# without a warning, lets no null pointer through, refuses a machine of 32 bits and warns of a code that
+# is dropped.
 #
 # Needs rt, ar, nm, python3 and a C compiler cc on the PATH. A language whose compiler (c++, cargo) or
 # valgrind isn't there is left out, and a line says so. Ends with status 0 where all was right, else
@@ -102,4 +103,14 @@ fi
 
 export BUCKET_LIB=$folder/libbucket.so PYTHONPATH=$bindings PYTHONDONTWRITEBYTECODE=1
 run python3 "$sources/beside_dict.py"
+run python3 "$sources/module_tests.py"
 run python3 "$sources/seeds.py"
+
+# A library whose calls answer what BUCKET_CODE says, but for those that open a handle.
+{
+    echo '#include <stdlib.h>'
+    sed 's/.*/unsigned long &(void) { return strtoul(getenv("BUCKET_CODE"), 0, 10); }/
+        s/\(.*_new(void) { return \).*;/\10;/' "$folder/declared"
+} >"$folder/answers.c"
+cc -shared -fPIC "$folder/answers.c" -o "$folder/answers.so" 2>"$folder/log" || fail "no library of answers links"
+BUCKET_LIB=$folder/answers.so run python3 "$sources/codes.py"

@@ -1,7 +1,8 @@
 #!/usr/bin/env bash
-# Plays the shell commands of README in a copy of the repository where nothing is built: its example,
-# which has to print what its comment says, and `./bhtable`, whose replies have to be those that it
-# shows.
+# Plays the shell commands of README and of docs/bhtable.md in a copy of the repository where nothing
+# is built: README's example, which has to print what its comments say, and `./bhtable`, whose replies
+# have to be those that its page shows. README's set and cache are run too, and its clauses have to be
+# those of the function that it names.
 #
 # Needs no proof.
 #
@@ -10,36 +11,55 @@ set -u
 source "$(dirname "${BASH_SOURCE[0]}")/lib/running.sh"
 source "$root/trials/lib/documents.sh"
 need_rt
-
-# `rt run` and `--prove` would prove the crates below anew in the copy, some 15 minutes: `./check`
-# proves and runs such programs, and bhtable_command.sh calls `--prove`. The last two run this trial.
-unplayed='rt run
-./bhtable --prove < FILE
-./check --quick
-./check'
-check_unplayed README.md
-
-# The file names of the commands: where README says that its program is saved, and lines of bhtable.
 copy=$folder/copy
 copy_repository "$copy"
-saved=$(sed -n 's/^To run it, save it as `\([^`]*\)`.*$/\1/p' "$root/README.md")
-[ -n "$saved" ] || fail "README doesn't say where its program is saved"
-mkdir -p "$copy/$(dirname "$saved")"
-block README.md rust 1 >"$copy/$saved"
-printed=$(sed -n 's|^.*// prints \(.*\)$|\1|p' "$copy/$saved")
-[ -n "$printed" ] || fail "README's program doesn't say what it prints"
-printf '%s\n' "new map id 0 64" "put 1 0" "put 1 5" "peek 1" "remove 1" >"$copy/FILE"
-printf '%s\n' ok ok present "value 0" "pair 1 0" >"$folder/replies"
 
-for ((number = 1; number <= $(blocks README.md); number++)); do
-    play README.md "$number" "$copy"
-    case $(cat "$folder/commands") in
-    *"rt try"*)
-        echo "$printed" | diff - "$folder/output" >"$folder/log" || fail "README's program: told (<) and printed (>) differ"
-        ;;
-    *"./bhtable < FILE"*)
-        diff "$folder/replies" "$folder/output" >"$folder/log" || fail "./bhtable < FILE: wanted (<) and found (>) differ"
-        ;;
-    esac
+# printed: standard input has to be what the last command wrote.
+printed() {
+    diff - "$folder/output" >"$folder/log" || fail "$1: told (<) and printed (>) differ"
+}
+
+# The clauses, each a line of the file that README links before them.
+file=$(sed -n 's/^The function .*](\([^)]*\)).*$/\1/p' "$root/README.md")
+[ -f "$root/$file" ] || fail "README names no file for its clauses"
+block README.md rust 1 >"$folder/clauses"
+[ -s "$folder/clauses" ] || fail "README shows no clause"
+while IFS= read -r line; do
+    grep -qxF -- "$line" "$root/$file" || fail "$file has no line '$line'"
+done <"$folder/clauses"
+
+# `rt run` and `--prove` would prove the crates below anew in the copy, some 15 minutes: `./check`
+# proves and runs such programs, and bhtable_command.sh calls `--prove`.
+unplayed='rt run'
+check_unplayed README.md
+[ "$(blocks README.md)" = 1 ] || fail "README has other than one block of commands"
+play README.md 1 "$copy"
+block README.md sh 1 | sed -n 's/^rt try.*: prints //p' | grep -o "'[^']*'" | tr -d "'" >"$folder/told"
+[ -s "$folder/told" ] || fail "README's example doesn't say what it prints"
+printed "README's example" <"$folder/told"
+
+# The set and the cache, in the main of the example's crate.
+block README.md rust 2 >"$folder/main"
+{
+    printf '%s\n' '#![tactic(auto)]' 'use std::io;' 'fn main(rt: HostRuntime) -> io::Result<()> {'
+    cat "$folder/main"
+    printf '%s\n' 'Ok(())' '}'
+} >"$copy/crates/ages/src/main.rt"
+(cd "$copy/crates/ages" && rt try) >"$folder/output" 2>"$folder/log" </dev/null ||
+    fail "README's set and cache failed"
+sed -n 's|^.*// prints \(.*\)$|\1|p' "$folder/main" >"$folder/told"
+[ -s "$folder/told" ] || fail "README's set and cache don't say what they print"
+printed "README's set and cache" <"$folder/told"
+
+# The lines of FILE, and their replies.
+page=docs/bhtable.md
+unplayed='./bhtable --prove < FILE'
+check_unplayed "$page"
+printf '%s\n' "new map id 0 64" "put 1 0" "put 1 5" "peek 1" "remove 1" >"$copy/FILE"
+for ((number = 1; number <= $(blocks "$page"); number++)); do
+    play "$page" "$number" "$copy"
+    if grep -qxF './bhtable < FILE' "$folder/commands"; then
+        printf '%s\n' ok ok present "value 0" "pair 1 0" | printed "./bhtable < FILE"
+    fi
 done
-echo "README: $played commands played, $(wc -l <<<"$unplayed") left out"
+echo "README and $page: $played commands played"

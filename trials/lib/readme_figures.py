@@ -1,11 +1,15 @@
-"""Compares the figures of README's sentences with those of its table. Called with README's path."""
+"""Compares the figures of README's sentences with its table, and with the files that they count.
+Called with README's path."""
 
 import re
 import sys
+from pathlib import Path
 
 # A row of the table, and how the sentence on ratios names it.
 ROWS = {"insert, grown": "an insertion takes", "hit": "a hit", "miss": "a miss"}
 PAIRS = "1,000,000 pairs"
+# The name of the map that the ratios are to, in the head of the table.
+STD = "std"
 
 # The longest insertion of these containers and of std's map, in ms: at the head of README, and below
 # the table.
@@ -13,6 +17,18 @@ LONGEST = [
     r"longest of 4,000,000 insertions took ([\d.]+) ms, in std's map ([\d.]+) ms",
     r"longest of 4,000,000 insertions took ([\d.]+) ms \(kit [\d.]+, std ([\d.]+)\)",
 ]
+
+# The crates whose lines README counts, and the sentence that tells how many.
+CRATES = ["bucket_slots", "bucket_table", "collections", "bucket_c"]
+LINES = r"have ([\d,]+) lines of code, ([\d,]+) of specs and ([\d,]+) of proofs"
+# They are told in thousands, and may be one thousand off.
+THOUSAND = 1000
+
+# The wrong bodies, and the calls by chance: all, those while allocations fail, and those on each
+# collection of the bindings.
+EDITS = r"([\d,]+) wrong bodies"
+CALLS = r"([\d,]+) calls by chance on the four collections .*? ([\d,]+) of them while allocations fail"
+BOUND_CALLS = r"([\d,]+) on each kind of collection from Rust and from Python"
 
 
 def fail(why):
@@ -25,6 +41,10 @@ def found(pattern, text):
     if len(matches) != 1:
         fail(f"{len(matches)} texts in place of one are as {pattern!r}")
     return matches[0]
+
+
+def number(digits):
+    return int(digits.replace(",", "").replace("_", ""))
 
 
 def figures(text):
@@ -43,14 +63,12 @@ def figures(text):
     return names[0], table
 
 
-def main(path):
-    with open(path) as file:
-        text = file.read()
+def compare_times(text):
     ours, table = figures(text)
     sentence = found(r"with a million pairs (an insertion takes [^(]*) \(\[Speed\]", text)
     for row, words in ROWS.items():
         told = found(words + r" (\d+(?:\.\d+)?)", sentence)
-        ratio = table[row][ours] / table[row]["Std"]
+        ratio = table[row][ours] / table[row][STD]
         # As exact as it is told.
         decimals = len(told.partition(".")[2])
         if f"{ratio:.{decimals}f}" != told:
@@ -59,6 +77,53 @@ def main(path):
     if head != below:
         fail(f"the longest insertions are {head} ms at its head, and {below} below its table")
     print(f"{len(ROWS)} ratios and {len(head)} longest insertions are those of the table")
+
+
+def lines_of(root, folder, ending):
+    """How many lines the files of this ending have, below this folder of each of the crates."""
+    files = [file for crate in CRATES for file in (root / "crates" / crate / folder).rglob(f"*{ending}")]
+    return sum(len(file.read_text().splitlines()) for file in files)
+
+
+def compare_lines(text, root):
+    counts = [lines_of(root, "src", ".rt"), lines_of(root, "specs", ".antt"), lines_of(root, "proofs", ".antt")]
+    told = [number(digits) for digits in found(LINES, text)]
+    if any(abs(count - figure) > THOUSAND for count, figure in zip(counts, told, strict=True)):
+        fail(f"it says {told} lines of code, specs and proofs; {' and '.join(CRATES)} have {counts}")
+
+
+def compare_exact(what, told, counts):
+    told = [number(digits) for digits in told]
+    if told != counts:
+        fail(f"it says {told} {what}; there are {counts}")
+
+
+def calls_by_chance(root):
+    """How many calls crates/refused_collections makes in a run, and in the runs that refuse memory."""
+    output = (root / "crates/refused_collections/stdout").read_text()
+    calls = sum(map(int, re.findall(r"(\d+) calls", output)))
+    runs = int(found(r"(?m)^runs=(\d+)$", (root / "trials/refused_collections.sh").read_text()))
+    return [calls * (runs + 1), calls * runs]
+
+
+def compare_counts(text, root):
+    compare_lines(text, root)
+    edits = len(list(root.glob("crates/*/must-fail/*.edit")))
+    compare_exact("wrong bodies", [found(EDITS, text)], [edits])
+    compare_exact("calls by chance", found(CALLS, text), calls_by_chance(root))
+    for file, pattern in (
+        ("bindings/rust/tests/calls.rs", r"const CALLS: usize = ([\d_]+);"),
+        ("trials/lib/bindings/beside_dict.py", r"(?m)^CALLS = ([\d_]+)$"),
+    ):
+        calls = number(found(pattern, (root / file).read_text()))
+        compare_exact(f"calls of {file}", [found(BOUND_CALLS, text)], [calls])
+    print("the lines, the wrong bodies and the calls by chance are those of the files")
+
+
+def main(path):
+    text = Path(path).read_text()
+    compare_times(text)
+    compare_counts(text, Path(path).resolve().parent)
 
 
 if __name__ == "__main__":

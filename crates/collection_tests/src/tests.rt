@@ -1,6 +1,7 @@
 //! Tests of what no clause says: that calls succeed where memory is there, that slots come and go,
 //! and that values are dropped once; calls by chance beside a map of the standard library; and what
 //! the tests of that library's maps and sets and of the crates `lru` and `hashbrown` check.
+mod borrowed_keys;
 mod by_chance;
 mod cache_changes;
 mod cache_drops;
@@ -8,6 +9,7 @@ mod caches;
 mod copies;
 mod draining;
 mod drops;
+mod emptied;
 mod entries;
 mod entries_by_text;
 mod equality;
@@ -24,6 +26,7 @@ mod maps;
 mod marks;
 mod printing;
 mod sets;
+mod std_calls;
 mod std_entries;
 mod std_maps;
 mod std_sets;

@@ -137,7 +137,7 @@ impl Course {
             came = came.saturating_add(1);
             are_there = are_there && self.std.get(key) == Some(value);
         };
-        self.map.for_each(&mut meet);
+        self.map.for_each_ref(&mut meet);
         let found = (came, are_there, self.map.len());
         check_same(rt, found, (self.std.len(), true, self.std.len()), "pairs");
         for (key, value) in &self.std {

@@ -24,6 +24,8 @@ enum Step {
     Writes(&'static str, u64, Option<u64>),
     /// One is added to a number that is there: what it was, and is.
     Raises(&'static str, Option<(u64, u64)>),
+    /// One is added to a number that its place lends: what it is then.
+    Lends(&'static str, Option<u64>),
     /// The number of the word that is taken out.
     Takes(&'static str, Option<u64>),
     /// The number of a word.
@@ -37,7 +39,7 @@ const STEPS: &[Step] = steps! {
     Raises("Ann", None), Len(0), Counts("Ann", 4, 5), Counts("Ann", 4, 6), Counts("An", 0, 1),
     Puts("Ann", 9, false), Puts("", 9, true), Puts("", 8, false), Len(3), Writes("Ann", 7, Some(6)),
     Raises("Ann", Some((7, 8))), Raises("ann", None), Holds("Ann", Some(8)), Holds("An", Some(1)),
-    Holds("", Some(9)), Takes("Ann", Some(8)), Takes("Ann", None), Holds("Ann", None),
+    Holds("", Some(9)), Lends("An", Some(2)), Lends("an", None), Holds("An", Some(2)), Takes("Ann", Some(8)), Takes("Ann", None), Holds("Ann", None),
     Counts("Ann", 2, 3), Len(3)
 };
 
@@ -75,6 +77,7 @@ fn change(rt: &impl Abort, words: &mut Words, at: At, step: &Step) {
     match *step {
         Writes(word, number, earlier) => check_same(rt, write(words, word, number), earlier, at),
         Raises(word, numbers) => check_same(rt, raise(words, word), numbers, at),
+        Lends(word, number) => check_same(rt, lend(words, word), number, at),
         Takes(word, number) => check_same(rt, take_out(words, word), number, at),
         Holds(word, number) => check_same(rt, number_of(words, word), number, at),
         Len(count) => check_same(rt, words.len(), count, at),
@@ -117,6 +120,17 @@ fn raise(words: &mut Words, word: &str) -> Option<(u64, u64)> {
             let before = *place.get();
             place.update(add_one);
             Some((before, *place.get()))
+        }
+        EntryRef::Vacant(_) => None,
+    }
+}
+
+// Adds one to a number that its place lends, and returns what it is then.
+fn lend(words: &mut Words, word: &str) -> Option<u64> {
+    match words.entry_ref(word) {
+        EntryRef::Occupied(mut place) => {
+            add_one(place.get_mut());
+            Some(*place.get())
         }
         EntryRef::Vacant(_) => None,
     }

@@ -200,7 +200,7 @@ fn retain(map: &mut Map, divisor: u64, rest: u64, more: u64) -> usize {
         *value = value.wrapping_add(more);
         divisor != 0 && *key % divisor == rest
     };
-    map.retain(&mut keep);
+    map.retain_ref(&mut keep);
     asked
 }
 
@@ -211,7 +211,7 @@ fn write_all(map: &mut Map) -> usize {
         lent = lent.saturating_add(1);
         *value = value.wrapping_add(1);
     };
-    map.for_each_mut(&mut write);
+    map.for_each_mut_ref(&mut write);
     lent
 }
 

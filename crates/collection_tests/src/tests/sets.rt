@@ -153,7 +153,7 @@ fn retain(set: &mut Set, divisor: u64) -> usize {
         asked = asked.saturating_add(1);
         divisor != 0 && *key % divisor == 0
     };
-    set.retain(&mut keep);
+    set.retain_ref(&mut keep);
     asked
 }
 

@@ -43,6 +43,8 @@ const ROWS: &[Row] = steps! {
         symmetric_difference: &[(1, 3)] },
     Row { one: &[(1, 2), (3, 4)], other: &[(3, 4), (5, 6)], union: &[(1, 2), (3, 4), (5, 6)],
         intersection: &[(3, 4)], difference: &[(1, 2)], symmetric_difference: &[(1, 2), (5, 6)] },
+    Row { one: &[(1, 4)], other: &[(2, 5)], union: &[(1, 5)], intersection: &[(2, 4)],
+        difference: &[(1, 2)], symmetric_difference: &[(1, 2), (4, 5)] },
     Row { one: &[(4, 9)], other: &[(4, 9)], union: &[(4, 9)], intersection: &[(4, 9)],
         difference: &[], symmetric_difference: &[] },
     Row { one: &[(4, 9)], other: &[(0, 20)], union: &[(0, 20)], intersection: &[(4, 9)],
@@ -75,6 +77,8 @@ fn check_row(rt: &impl Abort, alloc: Global, one: &Set, other: &Set, row: &Row, 
         check_listed(rt, alloc, found, ranges, (number, call));
         let found = collected(alloc, one, other, call);
         check_listed(rt, alloc, found, ranges, (number, call, "collected"));
+        let found = joined(alloc, one, other, call);
+        check_listed(rt, alloc, found, ranges, (number, call, "operator"));
     }
 }
 
@@ -135,10 +139,25 @@ fn collected(alloc: Global, one: &Set, other: &Set, call: Call) -> Vec<u64> {
     }
 }
 
+// The keys of a new set that an operator makes: none where memory runs out.
+fn joined(alloc: Global, one: &Set, other: &Set, call: Call) -> Vec<u64> {
+    let made = match call {
+        Call::ForEach => one.try_clone(alloc),
+        Call::Union => one | other,
+        Call::Intersection => one & other,
+        Call::Difference => one - other,
+        Call::SymmetricDifference => one ^ other,
+    };
+    match made {
+        Ok(set) => given(alloc, set.iter()),
+        Err(_) => Vec::new(alloc),
+    }
+}
+
 // The keys that a function is called with.
 fn called_with(alloc: Global, set: &Set) -> Vec<u64> {
     let mut keys = Vec::new(alloc);
-    set.for_each(&mut |key: &u64| put(&mut keys, Some(key)));
+    set.for_each_ref(&mut |key: &u64| put(&mut keys, Some(key)));
     keys
 }
 

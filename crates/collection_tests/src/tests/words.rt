@@ -94,7 +94,7 @@ fn lists_are_looked_up_by_slices(rt: HostRuntime) -> Result<(), Fail> {
 fn insert_list(alloc: Global, lists: &mut HashSet<Vec<u64>>, list: &[u64]) -> (bool, bool, bool) {
     let was_there = lists.contains(list);
     let came = match Vec::from_slice(alloc, list) {
-        Ok(own) => lists.insert(own).is_ok(),
+        Ok(own) => lists.insert_new(own).is_ok(),
         Err(_) => false,
     };
     (was_there, came, lists.contains(list))
@@ -146,25 +146,27 @@ fn shown<E: Error>(alloc: Global, error: &E) -> Result<String, AllocError> {
 // A word comes to a map once.
 fn check_insertions(rt: &impl Abort, alloc: Global) {
     let mut words = HashMap::new(alloc);
-    check_same(rt, kind(insert_once(&mut words)), None, "inserted");
+    check_same(rt, kind(words.insert("Ann", 1)), None, "inserted");
+    let there = Some(ErrorKind::AlreadyExists);
+    check_same(rt, kind(words.insert("Ann", 1)), there, "there");
+    let refused = Some(ErrorKind::OutOfMemory);
     check_same(
         rt,
-        kind(insert_once(&mut words)),
-        Some(ErrorKind::AlreadyExists),
-        "there",
+        kind(Err(NotInserted::Memory("Ann", 1))),
+        refused,
+        "refused",
     );
 }
 
-// The kind of an error.
-fn kind(outcome: io::Result<()>) -> Option<ErrorKind> {
-    match outcome {
+// The kind of the error that a refusal is where `?` passes it on.
+fn kind(outcome: Result<(), NotInserted<&'static str, u64>>) -> Option<ErrorKind> {
+    match passed_on(outcome) {
         Ok(()) => None,
         Err(why) => Some(why.kind()),
     }
 }
 
-// Inserts a word, and says why it can't.
-fn insert_once(words: &mut HashMap<&'static str, u64>) -> io::Result<()> {
-    words.insert("Ann", 1)?;
+fn passed_on(outcome: Result<(), NotInserted<&'static str, u64>>) -> io::Result<()> {
+    outcome?;
     Ok(())
 }

@@ -1,0 +1,12 @@
+#!/usr/bin/env bash
+# Compares the documents with the repository: links, anchors, paths and names of definitions exist,
+# the contracts' page is what the sources give, and all documents have at most so many words.
+#
+# Needs no proof.
+#
+# Needs git and python3 on the PATH. Ends with status 0 where all was right, else with 1.
+set -u
+source "$(dirname "${BASH_SOURCE[0]}")/lib/running.sh"
+
+python3 -B "$root/docs/contracts.py" --check || exit
+python3 -B "$root/trials/lib/document_links.py" "$root"
