@@ -1,0 +1,2 @@
+-- What the store's calls do to its sessions.
+pub mod Sessions
