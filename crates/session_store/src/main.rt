@@ -10,7 +10,8 @@ use crate::command::{Command, command_in};
 use crate::store::{NotLoggedIn, Store};
 use std::io::{self, BufRead, BufReader, ErrorKind};
 
-const USAGE: &str = "not one of: login TOKEN USER NOW, find TOKEN NOW, touch TOKEN NOW, logout TOKEN, expire NOW, count";
+const USAGE: &str =
+    "not one of: login TOKEN USER NOW, find TOKEN NOW, touch TOKEN NOW, logout TOKEN, expire NOW, count";
 
 /// How many slots the store has.
 const SLOTS: usize = 64;
@@ -67,7 +68,11 @@ fn login(rt: &HostRuntime, store: &mut Store, token: u64, user: &str, now: u64) 
     match store.login(token, user, now) {
         Ok(None) => println!(rt; "until {}", store.deadline(now)),
         Ok(Some((gone, session))) => {
-            println!(rt; "until {}, evicted {gone} of {}", store.deadline(now), session.user)
+            println!(rt;
+                "until {}, evicted {gone} of {}",
+                store.deadline(now),
+                session.user
+            )
         }
         Err(NotLoggedIn::Taken) => println!(rt; "token taken"),
         Err(NotLoggedIn::NoMemory) => println!(rt; "no memory"),
