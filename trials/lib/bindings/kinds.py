@@ -16,9 +16,10 @@ def word(number):
 
 
 MAPS = [Kind("Map", bucket.Map, word), Kind("TextMap", bucket.TextMap, text)]
+# Of 512 buckets from the start, so that few of thousands of pairs share one, and none is evicted.
 CACHES = [
-    Kind("Cache", lambda: bucket.Cache(1 << 14), word),
-    Kind("TextCache", lambda: bucket.TextCache(1 << 14), text),
+    Kind("Cache", lambda: bucket.Cache(1 << 14, minimum=1 << 14), word),
+    Kind("TextCache", lambda: bucket.TextCache(1 << 14, minimum=1 << 14), text),
 ]
 SET = Kind("TextSet", bucket.TextSet, text)
 KINDS = [*MAPS, *CACHES, SET]

@@ -7,6 +7,7 @@ import resource
 import subprocess
 import sys
 import threading
+import time
 
 import bucket
 from kinds import CACHES, KINDS, MAPS, SET, contents, filled, put, raised, text
@@ -149,6 +150,8 @@ def test_reading_all_while_another_thread_writes_gives_the_pairs_that_stay():
                 put(made, kind.key(number), number)
                 made.discard(kind.key(number)) if kind == SET else made.pop(kind.key(number))
                 number = 500 + (number + 1) % 1000
+                # Else hardly a reading ends without a change of the size.
+                time.sleep(0.001)
 
         def read():
             for _ in range(500):
