@@ -112,8 +112,8 @@ class Cache:
         for number, source in enumerate(old):
             keys = source.keys()
             if length < len(old) or len(keys) > OWN:
-                for index, number in Counter(self.index(key, length) for key in keys).items():
-                    self.buckets[index].reserve(number)
+                for index, needed in Counter(self.index(key, length) for key in keys).items():
+                    self.buckets[index].reserve(needed)
             for key in keys:
                 self.home(key).put(key)
                 if self.may_be_refused:
