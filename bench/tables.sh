@@ -23,15 +23,10 @@ while [[ ${1:-} == -* ]]; do
 done
 rounds=${1:-5}
 
-folder=$(mktemp -d)
-trap 'rm -r "$folder"' EXIT
-
-# The programs. That of the table and of the kit's map is proved and built where it has to be.
-if ! (cd "$root/crates/table_bench" && rt run) >"$folder/log" 2>&1; then
-    cat "$folder/log" >&2
-    exit 1
-fi
-program=$root/crates/table_bench/out/table_bench
+# Gives $folder, which goes at the end. The program of the table and of the kit's map is proved and
+# built where it has to be.
+source "$root/trials/lib/running.sh"
+prepare table_bench
 maps="table collections kit"
 if command -v rustc >/dev/null; then
     rustc -O --edition 2021 -o "$folder/std_map" "$root/bench/std_map.rs"
