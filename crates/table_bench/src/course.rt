@@ -8,7 +8,7 @@ use std::time::Instant;
 
 /// Prints what a call cost: its name, the time since `start`, and the number of calls. Without
 /// times it prints the name and the number.
-fn print_time(
+pub(crate) fn print_time(
     rt: &HostRuntime,
     wants_times: bool,
     name: &str,
@@ -128,7 +128,7 @@ fn slowest(times: &[u128], rank: usize) -> u128 {
 }
 
 /// The error of a run that did something else than was timed.
-fn require(holds: bool) -> io::Result<()> {
+pub(crate) fn require(holds: bool) -> io::Result<()> {
     if holds {
         Ok(())
     } else {

@@ -2,11 +2,13 @@
 //! same hash.
 //!
 //! The arguments say what runs: `table`, `collections` or `map`, then `calls`, `large` or `single`,
-//! and a number of pairs; or `arrays`. Small numbers of pairs run several times. Without arguments
-//! all courses run once, over few pairs, and nothing is printed that varies.
+//! and a number of pairs; `cache` or `lru`, then `calls` and a number of pairs; or `arrays`. Small
+//! numbers of pairs run several times. Without arguments all courses run once, over few pairs, and
+//! nothing is printed that varies.
 #![tactic(auto)]
 
 mod arrays;
+mod cached;
 mod collected;
 mod course;
 mod hashes;
@@ -14,6 +16,7 @@ mod measured;
 mod resident;
 
 use crate::arrays::run_arrays;
+use crate::cached::{Bucketed, Listed, run_cache};
 use crate::collected::Collected;
 use crate::course::{run_calls, run_large, run_single};
 use crate::measured::{Map, Measured, Table};
@@ -38,6 +41,8 @@ fn main(rt: HostRuntime) -> io::Result<()> {
     };
     for _ in 0..(PAIRS / pairs.max(1)).max(1) {
         match what.as_str() {
+            "cache" => run_cache::<Bucketed>(&rt, true, pairs)?,
+            "lru" => run_cache::<Listed>(&rt, true, pairs)?,
             "table" => run_course::<Table>(&rt, course.as_str(), pairs)?,
             "collections" => run_course::<Collected>(&rt, course.as_str(), pairs)?,
             "map" => run_course::<Map>(&rt, course.as_str(), pairs)?,
@@ -65,7 +70,11 @@ fn run_all(rt: &HostRuntime) -> io::Result<()> {
     println!(rt; "collections")?;
     run_small::<Collected>(rt)?;
     println!(rt; "map")?;
-    run_small::<Map>(rt)
+    run_small::<Map>(rt)?;
+    println!(rt; "cache")?;
+    run_cache::<Bucketed>(rt, false, 1000)?;
+    println!(rt; "lru")?;
+    run_cache::<Listed>(rt, false, 1000)
 }
 
 /// Runs the courses of one map without times.
