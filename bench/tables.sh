@@ -3,7 +3,8 @@
 # it, on the kit's and, where `rustc` is there, on that of Rust's standard library: one hash, the
 # same keys, the maps in turn in each round. A figure is a median, with the least and the greatest;
 # ratios are of medians. The machine's load stands in the first line: other work beside it changes
-# what a call costs. It asserts nothing.
+# what a call costs. It asserts nothing. A cache of the collections stands beside the kit's `lru`,
+# which evicts the least recently used pair of all.
 #
 # Called as `bench/tables.sh [-i] [-p] [ROUNDS]`. With -i it prints instructions a call as well,
 # where `valgrind` is there. With -p it draws docs/calls.svg and docs/insertions.svg anew, by
@@ -36,7 +37,7 @@ fi
 # run MAP COURSE PAIRS, with a command in front where there are more words: runs a course.
 run() {
     case $1 in
-        table | collections) "${@:4}" "$program" "$1" "$2" "$3" ;;
+        table | collections | cache | lru) "${@:4}" "$program" "$1" "$2" "$3" ;;
         kit) "${@:4}" "$program" map "$2" "$3" ;;
         std) "${@:4}" "$folder/std_map" "$2" "$3" ;;
     esac
@@ -65,6 +66,12 @@ for ((round = 0; round < rounds; round++)); do
                     '$1 != "bytes" || !seen++ { print pairs, $1, map, $2 / $3 }'
         done
     done
+    for pairs in 1000 64000 1000000; do
+        for map in cache lru; do
+            run "$map" calls "$pairs" |
+                awk -v map="$map" -v pairs="$pairs" '{ print pairs, $1, map, $2 / $3 }'
+        done
+    done
 done | sort -k1,3 -k4,4g >"$folder/figures"
 
 awk -v maps="$maps" '
@@ -83,7 +90,7 @@ awk -v maps="$maps" '
         }
         for (i = 2; i <= kinds; i++)
             text = text sprintf("%-11s", sprintf("x%.2f", \
-                median(pairs " " name " table") / median(pairs " " name " " kind[i])))
+                median(pairs " " name " " kind[1]) / median(pairs " " name " " kind[i])))
         sub(/ +$/, "", text)
         print text
     }
@@ -122,6 +129,14 @@ awk -v maps="$maps" '
             line(sizes[s], "bytes", "  bytes a pair", 1)
             line(sizes[s], "longest", "  longest insertion, us", 1000)
             line(sizes[s], "rarely", "  99.99th percentile of these, us", 1000)
+        }
+        kinds = split("cache lru", kind)
+        for (s = 1; s <= 3; s++) {
+            head("a cache for " sizes[s] " pairs")
+            line(sizes[s], "fill", "  put, the first half, ns", 1)
+            line(sizes[s], "touch", "  get, present, ns", 1)
+            line(sizes[s], "absent", "  get, absent, ns", 1)
+            line(sizes[s], "evict", "  put, mostly with an eviction, ns", 1)
         }
     }' "$folder/figures"
 
