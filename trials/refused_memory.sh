@@ -2,10 +2,30 @@
 # Runs crates/refused_memory with one request for memory refused after another, a request a run, and
 # at last with none. The program judges each run itself: see the head of its main.rt.
 #
+# Digests aren't needed: a refusal of theirs, and of no other memory, must leave a run done. An array
+# asks for them in two requests, one after the other, for 4 and for 32 bytes a bucket.
+#
 # Needs rt on the PATH. Ends with status 0 where every run was right, else with 1.
 set -u
 source "$(dirname "${BASH_SOURCE[0]}")/lib/refusing.sh"
 prepare_refusing refused_memory
+
+# The numbers of these requests, each with a space on both sides; where nothing can be preloaded, none
+# can be told.
+digests=
+if [ -n "$shim" ]; then
+    ASKED_BYTES=1 run_refusing "$most" </dev/null
+    digests=" $(awk '$1 == "asked" {
+            is_power = $2 >= 8
+            for (rest = $2; rest > 1; rest /= 2) if (rest % 2) is_power = 0
+            number++
+            if (first && $2 == 8 * first) print number - 1, number
+            first = first && $2 == 8 * first || !is_power ? 0 : $2
+        }' "$folder/log" | tr '\n' ' ')"
+fi
+is_of_digests() {
+    [ -z "$shim" ] || [[ $digests == *" $1 "* ]]
+}
 
 as_before=0
 not_resized=0
@@ -15,15 +35,17 @@ for ((request = 1; request <= most; request++)); do
     run_refusing "$request" </dev/null
     outcome=$(cat "$folder/output")
     case "$outcome, status $status" in
-        # Nothing fails because digests get no memory.
         "done, status 0") [ "$is_refused" = 1 ] || break
+            is_of_digests "$request" || fail "request $request refused, which isn't for digests: $outcome"
             unneeded=$((unneeded + 1))
+            continue
             ;;
         "as before, status 10") as_before=$((as_before + 1)) ;;
         "not resized, status 13") not_resized=$((not_resized + 1)) ;;
         "not moved, status 14") not_moved=$((not_moved + 1)) ;;
         *) fail "request $request refused: $outcome, status $status" ;;
     esac
+    [ -z "$shim" ] || ! is_of_digests "$request" || fail "request $request refused, for digests: $outcome"
     [ "$is_refused" = 1 ] || fail "request $request: not refused, and the run was $outcome"
 done
 

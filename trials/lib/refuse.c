@@ -3,13 +3,15 @@
 // Each request whose number, counted from 1, stands in REFUSED_REQUEST is answered as if no memory
 // were left; the numbers rise, with a comma between two. Where REFUSED_BYTES is given, REFUSED_REQUEST
 // is one number, and each request behind that one for so many bytes or more is so answered by chance,
-// one in four, by REFUSED_SEED. `refused` is said on standard error each time. Only what the
-// program's own code asks for is counted: what its libraries ask for on their own is not.
+// one in four, by REFUSED_SEED. `refused` is said on standard error each time. Where ASKED_BYTES is
+// given, `asked N` is said of each request for N bytes. Only what the program's own code asks for is
+// counted: what its libraries ask for on their own is not.
 #define _GNU_SOURCE
 #include <dlfcn.h>
 #include <errno.h>
 #include <link.h>
 #include <stdint.h>
+#include <stdio.h>
 #include <stdlib.h>
 #include <unistd.h>
 
@@ -24,6 +26,9 @@ static char *behind;
 // The state of chance, and the fewest bytes that it refuses; 0 where it refuses nothing.
 static uint64_t chance;
 static size_t fewest;
+
+// Whether each request is told.
+static int tells;
 
 // The first object is the program.
 static int note_program(struct dl_phdr_info *info, size_t size, void *unused) {
@@ -57,6 +62,7 @@ __attribute__((constructor)) static void begin(void) {
     next_refused();
     chance = number_of("REFUSED_SEED");
     fewest = number_of("REFUSED_BYTES");
+    tells = getenv("ASKED_BYTES") != NULL;
     dl_iterate_phdr(note_program, NULL);
 }
 
@@ -77,15 +83,27 @@ static int is_chosen(size_t size) {
     return 1;
 }
 
+// Says some bytes on standard error.
+static void say(const char *said, size_t len) {
+    if (write(STDERR_FILENO, said, len) < 0) {
+        _exit(99);
+    }
+}
+
 // Counts a request by the place that it is to return to.
 static int is_refused(void *back, size_t size) {
-    if ((uintptr_t)back < start || (uintptr_t)back >= end || !is_chosen(size)) {
+    if ((uintptr_t)back < start || (uintptr_t)back >= end) {
+        return 0;
+    }
+    if (tells) {
+        char line[40];
+        say(line, (size_t)snprintf(line, sizeof line, "asked %zu\n", size));
+    }
+    if (!is_chosen(size)) {
         return 0;
     }
     static const char said[] = "refused\n";
-    if (write(STDERR_FILENO, said, sizeof said - 1) < 0) {
-        _exit(99);
-    }
+    say(said, sizeof said - 1);
     return 1;
 }
 
