@@ -90,8 +90,9 @@ pub enum Vacancy {
 ///
 /// Calls by key or by a probe that borrow the table mutably work one unit, as do `reader_sync`,
 /// `fetch_home`, `find`, the writers, `num_entries` and `has_entry`; `put_vacant` works none. Walks
-/// and cursors work one before each bucket, and `finish_rehash` works all. In costs, `unit` stands
-/// for the slots of the unit, of the sources and of their targets.
+/// and cursors work one before each bucket, and move the pairs of the bucket's sources;
+/// `finish_rehash` works all. In costs, `unit` stands for the slots of the unit, of the sources and
+/// of their targets.
 #[derive(Drop)]
 pub struct HashTable<K: Eq, V, H: KeyHash<K>, L: LruList, const TYPE: u8> {
     pub(crate) hasher: H,

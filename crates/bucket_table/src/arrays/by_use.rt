@@ -1,6 +1,7 @@
 //! An iterator over the pairs of a cache's arrays: bucket by bucket, those of each by use.
 //!
-//! A bucket's own slots come first, the one touched last before the others, and then its chain.
+//! Of a bucket, the own slots are first, the one touched last before the others, and then its
+//! chain.
 ghost use Rattle.std.specs.Prelude.{◌≡◌, ◌∷◌, MatchOption, drop};
 ghost use Rattle.std.specs.Iterator.{YieldsFirstBy, item_count};
 ghost use Rattle.bucket_slots.specs.ByUse.{pairs_by_use};

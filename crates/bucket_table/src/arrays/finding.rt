@@ -71,8 +71,8 @@ impl<K: Eq + Drop, V: Drop, L: LruList + Drop, const TYPE: u8> Arrays<K, V, L, T
         Ok(())
     }
 
-    /// Resizes if the bucket found for a writer asks for it. Returns the side of the bucket's array
-    /// then: the old one after a growth.
+    /// Resizes if a writer of a hash tries a growth at this bucket. Returns the side of the
+    /// bucket's array then: the old one after a growth.
     #[inline(always)]
     pub(crate) fn grow_at(&mut self, hash: u64, index: usize) -> Side
         requires within { index < length self.old.current }
@@ -139,7 +139,7 @@ impl<K, V, L: LruList, const TYPE: u8> Arrays<K, V, L, TYPE> {
     }
 
     /// Returns the index of a hash's home in the current array, if there is no old one and the
-    /// home's digest shows that a writer asks for no growth there.
+    /// home's digest shows that a writer tries no growth there.
     #[inline(always)]
     pub(crate) fn roomy_home(&self, hash: u64) -> Option<usize>
         ensures { IfSome result (λ index. IsRoomy self.now hash index) }

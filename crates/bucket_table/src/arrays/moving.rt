@@ -21,7 +21,7 @@ use bucket_slots::bucket_array::BucketArray;
 use bucket_slots::lru::LruList;
 use std::alloc::Global;
 
-/// Up to so many targets, the pairs are counted without memory.
+/// Up to this number of targets, pairs are counted without memory.
 const COUNTED_TARGETS: usize = 8;
 
 /// Where the pair of an own slot has landed: the index of a bucket, and an own slot of it.

@@ -42,7 +42,7 @@ impl<K: Eq + Drop, V: Drop, L: LruList + Drop, const TYPE: u8> Arrays<K, V, L, T
         }
     }
 
-    /// Works a unit, and moves the sources of a current bucket. Without an old array it does nothing.
+    /// Works a unit, and moves the sources of a current bucket. Does nothing without an old array.
     ///
     /// # Errors
     ///

@@ -122,7 +122,7 @@ impl<K: Eq + Drop, V: Drop, H: KeyHash<K>, L: LruList + Drop, const TYPE: u8> Ha
 
     /// Moves a pointer to the first live pair, and locks that pair's bucket.
     ///
-    /// Before each bucket that it passes, it works a unit and moves the bucket's old pairs into it.
+    /// Works a unit before each bucket that it passes.
     ///
     /// # Errors
     ///
@@ -165,9 +165,8 @@ impl<'a, K: Eq + Drop, V: Drop, H: KeyHash<K>, L: LruList + Drop, const TYPE: u8
     /// Moves a pointer from where it is in the bucket to the next live pair, and locks that pair's
     /// bucket.
     ///
-    /// If it leaves a bucket without a live pair, the table may be resized. Before each bucket that
-    /// it passes then, it works a unit and moves the bucket's old pairs into it. A pair may be
-    /// visited twice.
+    /// If it leaves a bucket without a live pair, the table may be resized. It works a unit before
+    /// each bucket that it then passes. A pair may be visited twice.
     ///
     /// # Errors
     ///

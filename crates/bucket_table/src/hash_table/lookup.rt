@@ -39,7 +39,7 @@ impl<K: Eq, V, H: KeyHash<K>, L: LruList, const TYPE: u8> HashTable<K, V, H, L, 
     /// Returns a pair whose key the probe wants; `None` where the map has none. The probe wants
     /// keys of this hash alone.
     ///
-    /// Asks at most once for each live slot of the hash's two homes with its low byte. Moves
+    /// Asks at most once for each live slot of the hash's two homes with its fingerprint. Moves
     /// nothing, and takes no memory. O(blocks in two chains). Own.
     #[inline(always)]
     pub fn peek_entry_by<P: KeyProbe<K>>(&self, hash: u64, probe: &mut P) -> Option<(&K, &V)>

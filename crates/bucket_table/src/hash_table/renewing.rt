@@ -22,7 +22,7 @@ impl<K: Eq + Drop, V: Drop, H: KeyHash<K>, const TYPE: u8> HashTable<
     DoublyLinkedList,
     TYPE,
 > {
-    /// Puts all pairs of a cache into a new array of so many slots, which is the minimum and the
+    /// Puts all pairs of a cache into a new array for a capacity, which is the minimum and the
     /// maximum from then on. Each pair is put as `put` does: bucket by bucket, first those of the
     /// chain, and then those of the own slots, the one touched longest ago first. If a pair's new
     /// bucket has no free own slot, a pair is evicted from it and dropped.

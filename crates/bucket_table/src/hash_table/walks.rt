@@ -35,9 +35,8 @@ impl<K: Eq + Drop, V: Drop, H: KeyHash<K>, L: LruList + Drop, const TYPE: u8> Ha
     /// visitor returns false.
     ///
     /// If the current array hasn't the expected length, the walk begins at the bucket with the
-    /// first hash of that bucket `start`. Before each visit it works a unit and moves the bucket's
-    /// old pairs into it. If the visitor has set its flag and the first buckets have few pairs, the
-    /// walk ends with a resize.
+    /// first hash of that bucket `start`. Works a unit before each visit. If the visitor has set
+    /// its flag and the first buckets have few pairs, the walk ends with a resize.
     ///
     /// # Errors
     ///
@@ -83,7 +82,7 @@ impl<K: Eq + Drop, V: Drop, H: KeyHash<K>, L: LruList + Drop, const TYPE: u8> Ha
 
     /// Lends the current buckets for reading, one after the other, until the reader returns false.
     ///
-    /// Before each visit it works a unit and moves the bucket's old pairs into it.
+    /// Works a unit before each visit.
     ///
     /// # Errors
     ///
