@@ -52,7 +52,7 @@ use std::marker::Model;
 /// Why no bucket is locked.
 #[derive(Debug, Drop)]
 pub enum Missing {
-    /// There is nothing to lock: no array, or no live pair further on.
+    /// There is nothing to lock: no array, or no live pair ahead.
     Nothing,
     /// Allocation failure.
     Memory,

@@ -82,17 +82,17 @@ pub enum Vacancy {
 
 /// A map from keys to values, in one array or two.
 ///
-/// During an incremental rehash, a call that changes the table works a unit of the old array, if
-/// there is one: before anything else it moves the pairs of the next 64 old buckets to the current
-/// array. A call for a hash then also moves the pairs of the sources of the hash's home, the old
-/// buckets that share hashes with it. If allocation fails there, the pairs that haven't moved stay
-/// in the old array, where calls find them too.
+/// A unit is 64 buckets of the old array. A call that works a unit first moves the pairs of the
+/// next 64 old buckets to the current array; without an old array it moves none. A call for a hash
+/// then also moves the pairs of the sources of the hash's home, the old buckets that share hashes
+/// with it. If allocation fails there, the pairs that haven't moved stay in the old array, where
+/// the call finds them too.
 ///
-/// Calls by key or by a probe that borrow the table mutably work one unit, as do `reader_sync`,
-/// `fetch_home`, `find`, the writers, `num_entries` and `has_entry`; `put_vacant` works none. Walks
-/// and cursors work one before each bucket, and move the pairs of the bucket's sources;
-/// `finish_rehash` works all. In costs, `unit` stands for the slots of the unit, of the sources and
-/// of their targets.
+/// One unit is worked by each call by key or by a probe that borrows the table mutably, except
+/// `put_vacant`, and by `reader_sync`, `fetch_home`, `find`, `writer_sync`, `try_reserve_bucket`,
+/// `optional_writer_sync`, `num_entries` and `has_entry`. Walks and cursors work one before each
+/// bucket, and move the pairs of the bucket's sources. `finish_rehash` works all units. In costs,
+/// `unit` stands for the slots of the unit, of the sources and of their targets.
 #[derive(Drop)]
 pub struct HashTable<K: Eq, V, H: KeyHash<K>, L: LruList, const TYPE: u8> {
     pub(crate) hasher: H,

@@ -11,7 +11,7 @@ use bucket_slots::lru::LruList;
 
 impl<K: Eq + Drop, V: Drop, L: LruList + Drop, const TYPE: u8> Arrays<K, V, L, TYPE> {
     /// Ends the rehash that is under way, and moves all pairs into an array for a capacity, if the
-    /// current one hasn't that length.
+    /// current one doesn't have that length.
     ///
     /// # Errors
     ///

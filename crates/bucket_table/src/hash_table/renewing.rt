@@ -1,4 +1,4 @@
-//! Putting all pairs of a cache into a new array in turn.
+//! Putting all pairs of a cache into a new array, one after another.
 //!
 //! Own.
 ghost use Rattle.std.specs.Prelude.{◌≡◌, ◌≢◌, ◌≤◌, ℕ, [], ◌∷◌, OnErr, OnOk};

@@ -34,9 +34,10 @@ impl<K: Eq + Drop, V: Drop, H: KeyHash<K>, L: LruList + Drop, const TYPE: u8> Ha
     /// Lends the current buckets from `start` on for writing, one after the other, until the
     /// visitor returns false.
     ///
-    /// If the current array hasn't the expected length, the walk begins at the bucket with the
-    /// first hash of that bucket `start`. Works a unit before each visit. If the visitor has set
-    /// its flag and the first buckets have few pairs, the walk ends with a resize.
+    /// If the current array doesn't have the expected length, the walk begins at the bucket with
+    /// the first hash of bucket `start` of an array of that length. Works a unit before each visit.
+    /// If the visitor has set its flag and the first buckets have few pairs, the walk ends with a
+    /// resize.
     ///
     /// # Errors
     ///
@@ -182,8 +183,8 @@ impl<K: Eq + Drop, V: Drop, H: KeyHash<K>, L: LruList + Drop, const TYPE: u8> Ha
     }
 }
 
-/// Returns the index in an array of `len` buckets at which a walk begins that was meant for bucket
-/// `start` of one of `expected_len`.
+/// Returns the index in an array of `len` buckets at which a walk begins whose `start` is an index
+/// in an array of `expected_len` buckets.
 fn first_index(start: usize, expected_len: usize, len: usize) -> usize
     requires expected { expected_len ≢ 0 → IsPowerOfTwo expected_len × (start < expected_len) }
     requires length { 0 < len → IsLength len }
