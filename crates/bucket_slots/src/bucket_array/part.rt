@@ -249,7 +249,7 @@ impl<K: Drop, V: Drop, L: LruList, const TYPE: u8> Part<K, V, L, TYPE> {
 ///
 /// # Errors
 ///
-/// Allocation failure.
+/// Allocation failed.
 pub(crate) fn spare_buckets<K, V, L: LruList, const TYPE: u8>(
     alloc: Global,
 ) -> Result<Vec<Bucket<K, V, L, TYPE>>, AllocError>

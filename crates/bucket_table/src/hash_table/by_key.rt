@@ -1,4 +1,4 @@
-//! Calls by key. A call that reads or changes a pair of the map never fails: it finds the pair on
+//! Calls by key. A call that changes the pair of a key in the map never fails: it finds the pair on
 //! either side, moved or not. It searches by a probe that wants the keys equal to its own.
 //!
 //! Own.
