@@ -5,7 +5,7 @@ use Rattle.bucket_slots.specs.BucketView.{BucketView, flattened}
 use Rattle.bucket_slots.specs.Recency.{order_after_touch}
 use Rattle.bucket_slots.specs.Slots.{live_pairs, slot_at}
 
--- each slot once, where it comes first
+-- each slot once, at its first occurrence
 abbrev pub each_once : List ℕ → List ℕ
 each_once [] = []
 each_once (slot ∷ slots) = order_after_touch (each_once slots) slot

@@ -24,7 +24,7 @@ TakesWanted wants byte index old (Some found) new = TakesFirst wants byte index 
 TakesWanted wants byte index old None new = (new ≡ old) × (place_wanted wants byte (bucket_at old index) ≡ None)
 
 -- no live slot has an equal key where a pair was put, or allocation failed, and then no slot is free; one has where the answer says so;
--- what isn't put comes back
+-- what isn't put is returned
 abbrev pub AnswersPut : {K V : Type 0} → (K → K → Bool) → K → V → ℕ → ℕ → (ℕ → Bool) → BucketView K V
     → Result (Unit {0}) (NotPut K V) → Type 0
 AnswersPut eq key value byte kind keeps bucket (Ok done) = place_wanted (λ own. eq own key) byte bucket ≡ None
@@ -34,8 +34,8 @@ AnswersPut eq key value byte kind keeps bucket (Err (Memory k v)) =
     (k ≡ key) × (v ≡ value) × (place_wanted (λ own. eq own key) byte bucket ≡ None)
     × (first_place is_free (slots_for_insertion kind keeps bucket) ≡ None)
 
--- a pair put into a bucket where no live slot has an equal key, or its value written where one has; what isn't put comes back, and then no
--- slot is free
+-- a pair put into a bucket where no live slot has an equal key, or its value written where one has; what isn't put is returned, and then
+-- no slot is free
 abbrev pub UpsertsIn : {K V : Type 0} → (K → K → Bool) → K → V → ℕ → ℕ → (ℕ → Bool) → BucketView K V → Result (Option V) (K × V)
     → BucketView K V → Type 0
 UpsertsIn eq key value byte kind keeps old (Ok None) new =

@@ -2,13 +2,13 @@
 //!
 //! Model: the list of the buckets, in the order of the intervals of hashes that they are home to.
 //! Invariant (`IsArray`): the length is a power of two from 2 to 2^57, the stored offset shifts a
-//! hash to the index of its home, and the stored sample size is that of the length. The buckets
-//! stand in equally long parts, beside a spare empty one and a spare killed one (`AreParts`). Each
-//! digest that says something is its bucket's (`AreDigests`).
+//! hash to the index of its home, and the stored sample size is that of the length. The buckets are
+//! in parts of equal length, beside a spare empty bucket and a spare killed one (`AreParts`). Each
+//! digest that isn't lost is its bucket's (`AreDigests`).
 //!
-//! Ports scc's `src/hash_table/bucket_array.rs`. The buckets stand in vectors whose memory is asked
-//! for at once, and are made as they are lent for writing, where scc asks for raw memory that is
-//! zero, aligns it and writes data blocks into it.
+//! Ports scc's `src/hash_table/bucket_array.rs`. The buckets are in vectors whose memory is
+//! allocated at once, and a bucket is made when it is first lent for writing. scc allocates zeroed
+//! raw memory, aligns it and writes data blocks into it.
 ghost use Rattle.std.specs.Prelude.{◌≡◌, ◌*◌, ◌^◌, ◌<◌, ◌≤◌, ◌↔◌, IfOk, IsTrue, length};
 ghost use Rattle.std.specs.Borrow.{sem};
 ghost use Rattle.bucket_slots.specs.ArrayView.{IsNewArray, bucket_at};
@@ -94,13 +94,13 @@ impl<K: Drop, V: Drop, L: LruList + Drop, const TYPE: u8> Drop for BucketArray<K
 impl<K: Drop, V: Drop, L: LruList + Drop, const TYPE: u8> BucketArray<K, V, L, TYPE> {
     /// Returns an array for a capacity in slots, all of its buckets empty.
     ///
-    /// Its slots are the least power of two that is at least the capacity, from 64 to 2^62. The
-    /// allocator serves the buckets and their chains.
+    /// Its slots are the least power of two that is at least the capacity, from 64 to 2^62. Buckets
+    /// and chains are allocated from `alloc`.
     ///
     /// # Errors
     ///
-    /// Allocation failed: nothing is kept. All memory is asked for here, a request for each part
-    /// among others, and its buckets are made later.
+    /// Allocation failed: nothing is kept. The memory of all buckets is allocated here, part by
+    /// part; the buckets are made later.
     ///
     /// O(parts), which are 1,024 at most. scc: `BucketArray::new`.
     pub fn alloc(alloc: Global, capacity: usize) -> Result<Self, AllocError>
@@ -160,8 +160,8 @@ impl<K, V, L: LruList, const TYPE: u8> BucketArray<K, V, L, TYPE> {
         (hash >> self.hash_offset) as usize
     }
 
-    /// Returns whether an insertion under this hash samples the array: for one low byte of a hash
-    /// in as many as the large sample has buckets.
+    /// Returns whether an insertion under this hash samples the array: whether its low byte is a
+    /// multiple of the large sample size.
     ///
     /// O(1). scc: `BucketArray::initiate_sampling`.
     pub fn initiate_sampling(&self, hash: u64) -> bool
@@ -213,7 +213,7 @@ impl<K, V, L: LruList, const TYPE: u8> BucketArray<K, V, L, TYPE> {
 
     /// Lends the bucket with an index for writing. No other bucket changes.
     ///
-    /// O(1), but O(buckets of its part) where the bucket is made. Takes no memory. Own.
+    /// O(1), but O(buckets of its part) if the bucket isn't made yet. Takes no memory. Own.
     #[inline(always)]
     pub fn bucket_mut(&mut self, index: usize) -> &mut Bucket<K, V, L, TYPE>
         requires { index < length self.old }
@@ -237,8 +237,8 @@ impl<K, V, L: LruList, const TYPE: u8> BucketArray<K, V, L, TYPE> {
         bucket_in(&mut self.parts, part, offset)
     }
 
-    /// Returns the pairs of the own slots of the bucket with an index, those of tombstones among
-    /// them.
+    /// Returns the pairs of the own slots of the bucket with an index, including those of
+    /// tombstones.
     ///
     /// O(1). scc: `BucketArray::data_block`.
     pub fn data_block(&self, index: usize) -> &DataBlock<K, V, BUCKET_LEN>
@@ -294,8 +294,8 @@ impl<K, V, L: LruList, const TYPE: u8> BucketArray<K, V, L, TYPE> {
         sizing::optimal_capacity(capacity, num_entries, minimum_capacity, maximum_capacity)
     }
 
-    /// No work: a proof of generic code learns that a bucket takes fewer than 2^63 bytes, as each
-    /// slice's member, before it calls a method of one, and which lengths an array has.
+    /// States that a bucket takes fewer than 2^63 bytes, and which lengths an array has; does
+    /// nothing at run time. Generic code calls it before a method of a bucket.
     ///
     /// O(1). Own.
     #[inline(always)]

@@ -1,4 +1,4 @@
-//! The arrays of a table: a current one, and an old one while a rehash is on.
+//! The arrays of a table: a current one, and an old one during an incremental rehash.
 ghost use Rattle.std.specs.Prelude.{◌≡◌, ◌^◌, ◌≤◌, ◌<◌, ◌↔◌, [], IsTrue, MatchOption, length};
 ghost use Rattle.bucket_slots.specs.Homes.{IsHome};
 ghost use Rattle.bucket_slots.specs.Sizing.{IsLength, IsPowerIn};
@@ -52,7 +52,7 @@ use std::marker::Model;
 /// Why no bucket is locked.
 #[derive(Debug, Drop)]
 pub enum Missing {
-    /// There is nothing to lock: no array, or no live pair further on.
+    /// There is nothing to lock: no array, or no live pair ahead.
     Nothing,
     /// Allocation failure.
     Memory,
@@ -69,7 +69,7 @@ impl fmt::Display for Missing {
 
 impl Error for Missing {}
 
-/// A current array, and an old one with its tickets while a rehash is on.
+/// A current array, and an old one with its tickets during an incremental rehash.
 #[derive(Drop)]
 pub struct Arrays<K, V, L: LruList, const TYPE: u8> {
     alloc: Global,
@@ -91,7 +91,7 @@ impl<K, V, L: LruList, const TYPE: u8> Model for Arrays<K, V, L, TYPE> {
 }
 
 impl<K, V, L: LruList, const TYPE: u8> Arrays<K, V, L, TYPE> {
-    /// Returns arrays of which none stands.
+    /// Returns arrays with neither a current nor an old one.
     pub fn new(alloc: Global, minimum: usize, maximum: usize) -> Self
         requires power { IsPowerIn 64 (2 ^ 63) maximum }
         requires bounded { minimum ≤ maximum }
@@ -126,7 +126,7 @@ impl<K, V, L: LruList, const TYPE: u8> Arrays<K, V, L, TYPE> {
         self.maximum
     }
 
-    /// Tests whether an old array stands.
+    /// Tests whether there is an old array.
     #[inline(always)]
     pub(crate) fn has_old(&self) -> bool
         ensures { IsTrue result ↔ (0 < length self.now.linked) }
@@ -134,7 +134,7 @@ impl<K, V, L: LruList, const TYPE: u8> Arrays<K, V, L, TYPE> {
         stands(&self.linked)
     }
 
-    /// Tests whether a current array stands.
+    /// Tests whether there is a current array.
     #[inline(always)]
     pub(crate) fn has_current(&self) -> bool
         ensures { IsTrue result ↔ (0 < length self.now.current) }
@@ -142,7 +142,7 @@ impl<K, V, L: LruList, const TYPE: u8> Arrays<K, V, L, TYPE> {
         stands(&self.current)
     }
 
-    /// Returns the rehash word; `None` where no old array stands.
+    /// Returns the rehash word; `None` where there is no old array.
     pub(crate) fn word(&self) -> Option<usize>
         ensures { MatchOption result (length self.now.linked ≡ 0) (λ word. (0 < length self.now.linked)
             × (word ≡ word_of self.now.tickets) × (length self.now.tickets.open_units ≤ 2047)) }
@@ -153,7 +153,7 @@ impl<K, V, L: LruList, const TYPE: u8> Arrays<K, V, L, TYPE> {
         Some(self.tickets.word())
     }
 
-    /// No work: a proof learns what arrays keep.
+    /// States that the arrays and the tickets are within their bounds; does nothing at run time.
     pub(crate) fn sound(&self)
         ensures arrays { AreArrays self.now }
         ensures tickets { IsTicketState self.now.tickets }
@@ -241,7 +241,7 @@ impl<K, V, L: LruList, const TYPE: u8> Arrays<K, V, L, TYPE> {
     }
 }
 
-/// Tests whether an array stands.
+/// Tests whether there is an array.
 #[inline(always)]
 fn stands<K, V, L: LruList, const TYPE: u8>(held: &Option<BucketArray<K, V, L, TYPE>>) -> bool
     ensures { IsTrue result ↔ (0 < length (list_of held.now)) }

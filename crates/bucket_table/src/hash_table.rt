@@ -1,9 +1,9 @@
-//! A map from keys to values: a hasher, and the arrays of buckets, a current one and, while a
-//! rehash is on, an old one.
+//! A map from keys to values: a hasher, and the arrays of buckets, a current one and, during an
+//! incremental rehash, an old one.
 //!
 //! Model: `TableView`, the hasher and the arrays; the map is `pairs_of` the arrays.
-//! Invariant (`IsOneMap`): keys are distinct, each live pair of both arrays stands in its home with
-//! its byte, a killed bucket is empty, and no unit of the old array is forgotten.
+//! Invariant (`IsOneMap`): keys are distinct, each live pair of both arrays is in its home with its
+//! fingerprint, a killed bucket has no live pair, and no unit of the old array is forgotten.
 //!
 //! Ports scc's `src/hash_table.rs`. The table owns its arrays, and a lock is a borrow.
 ghost use Rattle.std.specs.Prelude.{◌≡◌, ◌↔◌, ◌<◌, ◌≤◌, ◌*◌, ◌^◌, [], IsTrue, MatchOption, length};
@@ -60,7 +60,7 @@ pub const MAXIMUM_CAPACITY_LIMIT: usize = 1 << 63;
 
 const _: () = prove!(MAXIMUM_CAPACITY_LIMIT == 9223372036854775808);
 
-/// Why a pair was not inserted; the pair comes back.
+/// Why a pair wasn't inserted, with the pair.
 #[derive(Debug, Drop)]
 pub enum NotInserted<K, V> {
     /// An equal key is in the map.
@@ -69,7 +69,7 @@ pub enum NotInserted<K, V> {
     Memory(K, V),
 }
 
-/// Where a key is absent, what its home is for a pair that is to be put there.
+/// The state of the home of an absent key, for a pair that is to be inserted there.
 #[derive(Debug, Drop)]
 pub enum Vacancy {
     /// Each of its sources is killed.
@@ -81,6 +81,18 @@ pub enum Vacancy {
 }
 
 /// A map from keys to values, in one array or two.
+///
+/// A unit is 64 buckets of the old array. A call that works a unit first moves the pairs of the
+/// next 64 old buckets to the current array; without an old array it moves none. A call for a hash
+/// then also moves the pairs of the sources of the hash's home, the old buckets that share hashes
+/// with it. If allocation fails there, the pairs that haven't moved stay in the old array, where
+/// the call finds them too.
+///
+/// One unit is worked by each call by key or by a probe that borrows the table mutably, except
+/// `put_vacant`, and by `reader_sync`, `fetch_home`, `find`, `writer_sync`, `try_reserve_bucket`,
+/// `optional_writer_sync`, `num_entries` and `has_entry`. Walks and cursors work one before each
+/// bucket, and move the pairs of the bucket's sources. `finish_rehash` works all units. In costs,
+/// `unit` stands for the slots of the unit, of the sources and of their targets.
 #[derive(Drop)]
 pub struct HashTable<K: Eq, V, H: KeyHash<K>, L: LruList, const TYPE: u8> {
     pub(crate) hasher: H,
@@ -100,8 +112,8 @@ impl<K: Eq, V, H: KeyHash<K>, L: LruList, const TYPE: u8> Model for HashTable<K,
 impl<K: Eq, V, H: KeyHash<K>, L: LruList, const TYPE: u8> HashTable<K, V, H, L, TYPE> {
     /// Returns a table with no array, and so no pair.
     ///
-    /// `minimum` and `maximum` are numbers of slots. The allocator serves all that the table
-    /// will hold. Takes no memory. O(1). Own.
+    /// `minimum` and `maximum` are numbers of slots. All memory of the table is allocated from
+    /// `alloc`. Takes no memory. O(1). Own.
     pub fn new(alloc: Global, hasher: H, minimum: usize, maximum: usize) -> Self
         requires power { IsPowerOfTwo maximum }
         requires large { 64 ≤ maximum }
@@ -119,7 +131,7 @@ impl<K: Eq, V, H: KeyHash<K>, L: LruList, const TYPE: u8> HashTable<K, V, H, L, 
     /// Returns a table with no array, and so no pair, that may shrink to none and grow as far as
     /// tables do: its minimum is 0, and its maximum `MAXIMUM_CAPACITY_LIMIT`.
     ///
-    /// The allocator serves all that the table will hold. Takes no memory. O(1). scc:
+    /// All memory of the table is allocated from `alloc`. Takes no memory. O(1). scc:
     /// `HashMap::with_hasher`.
     pub fn with_hasher(alloc: Global, hasher: H) -> Self
         ensures hasher { result.hasher ≡ hasher }
@@ -143,7 +155,7 @@ impl<K: Eq, V, H: KeyHash<K>, L: LruList, const TYPE: u8> HashTable<K, V, H, L, 
         &self.hasher
     }
 
-    /// Returns the allocator, which serves all that the table will hold.
+    /// Returns the allocator of the table's memory.
     ///
     /// O(1). Own.
     pub fn allocator(&self) -> Global {
@@ -187,7 +199,7 @@ impl<K: Eq, V, H: KeyHash<K>, L: LruList, const TYPE: u8> HashTable<K, V, H, L, 
         self.arrays.array()
     }
 
-    /// Returns the old array; `None` where no rehash is on.
+    /// Returns the old array; `None` where no incremental rehash is under way.
     ///
     /// O(1). scc: `BucketArray::linked_array`.
     pub fn linked_array(&self) -> Option<&BucketArray<K, V, L, TYPE>>
@@ -221,7 +233,7 @@ impl<K: Eq, V, H: KeyHash<K>, L: LruList, const TYPE: u8> HashTable<K, V, H, L, 
         self.arrays.len() * BUCKET_LEN
     }
 
-    /// Tests whether an old array stands.
+    /// Tests whether there is an old array.
     ///
     /// O(1). scc: `BucketArray::has_linked_array`.
     pub fn has_linked_array(&self) -> bool
@@ -231,7 +243,7 @@ impl<K: Eq, V, H: KeyHash<K>, L: LruList, const TYPE: u8> HashTable<K, V, H, L, 
     }
 
     /// Returns the rehash word: 2048 times the next unit to hand out, and the number of open
-    /// tickets, at most 2047; `None` where no old array stands.
+    /// tickets, at most 2047; `None` where there is no old array.
     ///
     /// O(1). scc: `BucketArray::rehashing_metadata`.
     pub fn rehashing_metadata(&self) -> Option<usize>
@@ -242,7 +254,8 @@ impl<K: Eq, V, H: KeyHash<K>, L: LruList, const TYPE: u8> HashTable<K, V, H, L, 
         self.arrays.word()
     }
 
-    /// No work: a proof learns what a table keeps. Own.
+    /// States that the table is one map, that its current array, if there is one, has the length of
+    /// an array, and that an old array has a current one beside it; does nothing at run time. Own.
     pub fn sound(&self)
         ensures one_map { IsOneMap K.eq (H.hash_of self.now.hasher) self.now.arrays }
         ensures long { 0 < length self.now.arrays.current

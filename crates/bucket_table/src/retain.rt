@@ -1,4 +1,4 @@
-//! Taking out of a bucket what a test refuses.
+//! Removing the pairs of a bucket for which a test returns false.
 ghost use Rattle.std.specs.Prelude.{◌≡◌, ◌≢◌, Some, IsTrue, ℕ, length};
 ghost use Rattle.bucket_slots.specs.BucketView.{slot_in};
 ghost use Rattle.bucket_slots.specs.Slots.{is_live, live_pair};
@@ -10,7 +10,8 @@ ghost use Rattle.bucket_table.specs.Walking.Retains.{RetainsBucket, RetainsPair,
 use bucket_slots::bucket::{BUCKET_LEN, Bucket, CACHE, EntryPtr, Generation, INDEX};
 use bucket_slots::lru::LruList;
 
-/// Takes out each pair that the test refuses; in an index it leaves a tombstone. Returns how many.
+/// Removes each pair for which the test returns false; in an index it becomes a tombstone. Returns
+/// how many.
 #[tactic(auto, using(crate::proofs::Walking::Retaining::next_live))]
 pub(crate) fn retain_in<
     K: Drop,
@@ -36,7 +37,8 @@ pub(crate) fn retain_in<
     before - bucket.len()
 }
 
-/// Takes the pair out of a live slot, or leaves a tombstone in an index, where the test refuses it.
+/// Takes the pair out of a live slot, or makes it a tombstone in an index, if the test returns
+/// false.
 #[inline(always)]
 fn retain_at<K: Drop, V: Drop, L: LruList, F: Fn(&K, &V) -> bool, G: Generation, const TYPE: u8>(
     bucket: &mut Bucket<K, V, L, TYPE>,
@@ -57,8 +59,8 @@ fn retain_at<K: Drop, V: Drop, L: LruList, F: Fn(&K, &V) -> bool, G: Generation,
     drop(take_at(bucket, at, generation));
 }
 
-/// Lends `keep` the value of each live pair, in slot order, and takes out each pair that it
-/// refuses, or leaves a tombstone in an index. Returns how many.
+/// Calls `keep` with each live pair, in slot order, its value lent for writing, and removes each
+/// pair for which it returns false; in an index it becomes a tombstone. Returns how many.
 #[tactic(auto, using(crate::proofs::Walking::Retaining::next_live))]
 pub(crate) fn retain_each_in<
     K: Drop,
@@ -86,8 +88,9 @@ pub(crate) fn retain_each_in<
     before - bucket.len()
 }
 
-/// Lends `keep` the values of the own slots at once, where nothing is marked or listed in this kind
-/// of bucket, and drops each pair that it refuses. Returns the pointer behind which the others are.
+/// Calls `keep` with the pairs of the own slots at once, if this kind of bucket has neither
+/// tombstones nor an LRU list, and drops each pair for which it returns false. Returns the pointer
+/// behind which the remaining pairs are.
 #[inline(always)]
 #[tactic(auto, unfolding(crate::specs::Walking::Retains::AsksFront))]
 fn retain_front<K: Drop, V: Drop, L: LruList, F: FnMut(&K, &mut V) -> bool, const TYPE: u8>(
@@ -110,8 +113,8 @@ fn retain_front<K: Drop, V: Drop, L: LruList, F: FnMut(&K, &mut V) -> bool, cons
     EntryPtr::own_slot(BUCKET_LEN - 1)
 }
 
-/// Asks for the pair in a live slot, with its value lent. Where the answer isn't `keeps`, takes the
-/// pair out and returns it, or leaves a tombstone in an index.
+/// Calls a function with the pair in a live slot, its value lent for writing. If the answer isn't
+/// `keeps`, takes the pair out and returns it, or makes it a tombstone in an index.
 #[inline(always)]
 #[tactic(auto, using(crate::proofs::Walking::AskingSlot::stays_live))]
 pub(crate) fn ask_slot<
@@ -145,7 +148,7 @@ pub(crate) fn ask_slot<
     take_at(bucket, at, generation)
 }
 
-/// Takes the pair out of a live slot and returns it, or leaves a tombstone in an index.
+/// Takes the pair out of a live slot and returns it, or makes it a tombstone in an index.
 pub(crate) fn take_at<K: Drop, V: Drop, L: LruList, G: Generation, const TYPE: u8>(
     bucket: &mut Bucket<K, V, L, TYPE>,
     at: &mut EntryPtr<K, V, TYPE>,

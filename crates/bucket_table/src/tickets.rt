@@ -49,7 +49,7 @@ impl Model for Tickets {
 }
 
 impl Tickets {
-    /// No unit is handed out.
+    /// Returns tickets with no unit handed out.
     pub fn new(alloc: Global, len: usize) -> Result<Tickets, AllocError>
         requires { len ≤ 2 ^ 58 }
         ensures { IfOk result (λ tickets. tickets ≡ first_tickets len) }
@@ -62,7 +62,7 @@ impl Tickets {
         })
     }
 
-    /// No unit is handed out, and none will be: there is no old array.
+    /// Returns the tickets of no old array: no unit is handed out, and none will be.
     pub fn none(alloc: Global) -> Tickets
         ensures { result ≡ first_tickets 0 }
     {
@@ -73,7 +73,8 @@ impl Tickets {
         }
     }
 
-    /// No work: a proof learns what tickets keep.
+    /// States that the position and the number of open tickets are within their bounds; does
+    /// nothing at run time.
     pub fn sound(&self)
         ensures { IsTicketState self.now }
     {
@@ -108,7 +109,7 @@ impl Tickets {
         Some(unit * TICKET_STEP)
     }
 
-    /// Ends every ticket, and hands no unit out: each is to be worked again.
+    /// Ends every ticket, so that each unit is to be handed out again.
     pub fn reset(&mut self)
         ensures { self.new ≡ first_tickets self.old.len }
     {
@@ -116,7 +117,7 @@ impl Tickets {
         self.position = 0;
     }
 
-    /// Ends a ticket, and returns whether the old array goes.
+    /// Ends a ticket, and returns whether the old array is to be dropped.
     pub fn end(
         &mut self,
         ticket: usize,
@@ -141,7 +142,7 @@ impl Tickets {
     }
 }
 
-/// Returns a place where the ticket's unit is open.
+/// Returns a position of the ticket's unit in the list of open units.
 fn place_of(open_units: &[usize], ticket: usize) -> Option<usize>
     ensures { MatchOption result ((unit : ℕ) → ticket ≡ 2048 * unit → Contains open_units.now unit → ⊥) (λ place. (place < length open_units.now) × (ticket ≡ 2048 * slice_index open_units.now place)) }
 {

@@ -17,7 +17,7 @@ abbrev pub UnlinksBehind : List (ℕ × ℕ) → List (ℕ × ℕ) → ℕ → T
 UnlinksBehind old new slot =
     (order : List ℕ) → Links old order → is_newest order slot ≡ false → Links new (order_without order slot)
 
--- a slot that isn't listed comes before the newest one
+-- a slot that isn't listed is put before the newest one
 abbrev pub LinksBefore : List (ℕ × ℕ) → List (ℕ × ℕ) → ℕ → ℕ → Type 0
 LinksBefore old new newest slot =
     (order : List ℕ)

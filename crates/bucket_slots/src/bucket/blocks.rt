@@ -42,7 +42,7 @@ impl<T> Model for Blocks<T> {
     ghost size_decreases = { λ a h. Prim.grind arith };
 }
 
-/// Gives the blocks up one after the other: a long chain takes no stack.
+/// Drops the blocks one after the other, so that a long chain can't overflow the stack.
 impl<T: Drop> Drop for Blocks<T> {
     fn drop(self) {
         let Blocks { first: mut at } = self;
@@ -55,7 +55,7 @@ impl<T: Drop> Drop for Blocks<T> {
 }
 
 impl<T> Block<T> {
-    /// Returns the row and those behind it.
+    /// Returns the row and the blocks behind it.
     pub(super) fn into_parts(self) -> (T, Blocks<T>)
         ensures { self ≡ record { row = result.0; next = result.1 } }
     {
@@ -142,7 +142,7 @@ impl<T: Drop> Blocks<T> {
     ///
     /// # Errors
     ///
-    /// Allocation failed: the blocks are as they were.
+    /// Allocation failed: the blocks are unchanged.
     pub(super) fn push_front(&mut self, alloc: Global, row: T) -> Result<(), AllocError>
         ensures rows { OnOk result (self.new ≡ row ∷ self.old) }
         ensures unchanged { OnErr result (self.new ≡ self.old) }
@@ -179,7 +179,7 @@ impl<T: Drop> Blocks<T> {
         *link = more.into_first();
     }
 
-    /// Gives up the rows behind the first `count`.
+    /// Drops the rows behind the first `count`.
     pub(super) fn truncate(&mut self, count: usize)
         requires within { count ≤ length self.old }
         requires few { count < 2 ^ 28 }
@@ -190,15 +190,15 @@ impl<T: Drop> Blocks<T> {
     }
 }
 
-/// A walk down some blocks. A function that lends is proved only where it calls no function of its
-/// own name: so a walk is made of two shorter ones, of another type.
+/// A walk down some blocks. A function that returns a mutable reference can't be proved if it calls
+/// itself, so a walk is made of two shorter ones of another type.
 pub(super) trait Walk {
     ghost use Rattle.std.specs.Prelude.{ℕ};
 
-    /// The most blocks that it goes past.
+    /// The greatest number of blocks that it passes.
     ghost reach: { ℕ };
 
-    /// Lends what owns the block behind the first `count`.
+    /// Lends the option that owns the block behind the first `count`.
     fn walk<T>(blocks: &mut Blocks<T>, count: usize) -> &mut Option<Box<Block<T>>>
         requires within { count ≤ length blocks.old }
         requires reached { count ≤ Self.reach }
@@ -206,16 +206,16 @@ pub(super) trait Walk {
         ensures rest { rows_of result.now ≡ drop count blocks.old };
 }
 
-/// The walk that stays.
+/// The walk past no block.
 pub(super) struct Here;
 
-/// A walk, one block, and the walk again.
+/// A walk, then one block, then the walk again.
 pub(super) struct Twice<W>(W);
 
-/// A walk four times doubled.
+/// A walk doubled four times.
 pub(super) type Longer<W> = Twice<Twice<Twice<Twice<W>>>>;
 
-/// The walk of fewer than 2^28 blocks. It takes no more than 28 calls of stack.
+/// The walk of fewer than 2^28 blocks. Its calls are nested at most 28 deep.
 pub(super) type Far = Longer<Longer<Longer<Longer<Longer<Longer<Longer<Here>>>>>>>;
 
 impl Walk for Here {
@@ -242,7 +242,7 @@ impl<W: Walk> Walk for Twice<W> {
     }
 }
 
-/// Lends what stands behind a first block.
+/// Lends the blocks behind a first block.
 fn next_in<T>(first: &mut Option<Box<Block<T>>>) -> &mut Blocks<T>
     requires { 0 < length (rows_of first.old) }
     ensures* writes_back { sem 𝓛 (LendsNext T.row first.entry result) }
@@ -254,7 +254,7 @@ fn next_in<T>(first: &mut Option<Box<Block<T>>>) -> &mut Blocks<T>
     }
 }
 
-/// Lends what stands behind a block.
+/// Lends the blocks behind a block.
 fn next_of<T>(block: &mut Box<Block<T>>) -> &mut Blocks<T>
     ensures* writes_back { sem 𝓛 (LendsNextOf T.row block.entry result) }
     ensures rest { result.now ≡ block.old.value.next }

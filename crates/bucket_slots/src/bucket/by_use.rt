@@ -33,8 +33,7 @@ impl<K, V, const TYPE: u8> Bucket<K, V, DoublyLinkedList, TYPE> {
     /// Returns the own slots by use: the listed ones, newest first, and then the others in slot
     /// order.
     ///
-    /// Changes nothing, and takes no memory. O(1): each slot is looked for among those before it.
-    /// Own.
+    /// Changes nothing, and takes no memory. O(1), since the number of own slots is fixed. Own.
     pub fn slots_by_use(&self) -> [u8; BUCKET_LEN]
         ensures { result ≡ slots_by_use 32 self.now.listed }
     {

@@ -1,4 +1,5 @@
-//! Questions about keys, counted: what a look-up asks where it knows no equality of keys.
+//! Probes: tests of keys that count how often they are asked. A look-up uses one in code without
+//! `K: Eq`.
 //!
 //! Own.
 ghost use Rattle.std.specs.Prelude.{◌≡◌, ◌+◌, ◌-◌, ◌^◌, ℕ, Bool, min};
@@ -6,7 +7,7 @@ ghost use Rattle.std.specs.Prelude.{◌≡◌, ◌+◌, ◌-◌, ◌^◌, ℕ, B
 use std::cmp::Eq;
 use std::marker::Model;
 
-/// A question about keys, and how often it was asked. Own.
+/// A test of keys that counts how often it was asked. Own.
 pub trait KeyProbe<K> {
     /// Which keys it wants.
     ghost wants: { Self → K → Bool };
@@ -14,8 +15,8 @@ pub trait KeyProbe<K> {
     /// How often it was asked.
     ghost asked: { Self → ℕ };
 
-    /// Returns whether it wants this key, and counts the question, up to 2^64 - 1. What it wants
-    /// stays.
+    /// Returns whether it wants this key, and counts the question, up to 2^64 - 1. Which keys it
+    /// wants doesn't change.
     fn same(&mut self, key: &K) -> bool
         ensures answer { result ≡ wants self.old key.now }
         ensures counted { asked self.new ≡ min (asked self.old + 1) (2 ^ 64 - 1) }
@@ -40,7 +41,7 @@ impl<'k, K: Eq> Model for EqProbe<'k, K> {
 }
 
 impl<'k, K: Eq> EqProbe<'k, K> {
-    /// Returns a probe that was asked nothing.
+    /// Returns a probe that wasn't asked yet.
     ///
     /// O(1). Own.
     pub fn new(key: &'k K) -> Self

@@ -1,4 +1,4 @@
-//! A pair put in the place of another one.
+//! Replacing a pair by another one.
 ghost use Rattle.std.specs.Prelude.{◌≡◌, ◌%◌, Some, IsTrue};
 ghost use Rattle.bucket_slots.specs.BucketView.{slot_in};
 ghost use Rattle.bucket_slots.specs.Replacing.{slots_replaced};
@@ -8,8 +8,8 @@ use crate::bucket::{Bucket, EntryPtr};
 use crate::lru::LruList;
 
 impl<K: Drop, V: Drop, L: LruList, const TYPE: u8> Bucket<K, V, L, TYPE> {
-    /// Puts a pair, under `hash`, in the place of the one in a live slot, which it returns. The
-    /// slot leaves the LRU list.
+    /// Replaces the pair in a live slot by another one, under `hash`, and returns the earlier one.
+    /// The slot leaves the LRU list.
     ///
     /// Takes no memory. O(1) in the own slots, else O(blocks in the chain). Own.
     #[inline(always)]

@@ -1,4 +1,4 @@
-//! Calls on a bucket of an array that ask its digest first.
+//! Calls on a bucket of an array that read its digest first.
 //!
 //! Own.
 ghost use Rattle.std.specs.Prelude.{◌≡◌, ◌%◌, ◌+◌, ◌<◌, ◌≤◌, Some, IsTrue, length, slice_set};
@@ -24,7 +24,7 @@ impl<K, V, L: LruList, const TYPE: u8> BucketArray<K, V, L, TYPE> {
 
     /// Returns what `Bucket::peek_entry_by` returns.
     ///
-    /// O(1), but O(blocks in the chain) where the digest says nothing.
+    /// O(1), but O(blocks in the chain) if the digest is lost.
     #[inline(always)]
     pub fn peek_by<P: KeyProbe<K>>(
         &self,
@@ -63,7 +63,7 @@ impl<K, V, L: LruList, const TYPE: u8> BucketArray<K, V, L, TYPE> {
         peek_in(&self.parts, part, offset, left, byte, probe)
     }
 
-    /// Tests whether a bucket's digest tells that it has fewer live slots than so many.
+    /// Tests whether a bucket's digest shows that it has fewer than `len` live slots.
     ///
     /// O(1).
     #[inline(always)]
@@ -142,7 +142,7 @@ impl<K, V, L: LruList, const TYPE: u8> BucketArray<K, V, L, TYPE> {
         bucket_in(&mut self.parts, part, offset).entry_mut(at)
     }
 
-    /// Makes the pair in a live slot the one of its bucket touched last. The digest stays.
+    /// Makes the pair in a live slot the one touched last in its bucket. The digest stays.
     ///
     /// Takes no memory. O(1).
     pub fn touch(&mut self, index: usize, at: &EntryPtr<K, V, TYPE>)
@@ -165,7 +165,7 @@ impl<K, V, L: LruList, const TYPE: u8> BucketArray<K, V, L, TYPE> {
         bucket_in(&mut self.parts, part, offset).update_lru_tail(at);
     }
 
-    /// Settles a bucket's digest: writes it anew of what the bucket holds. No bucket changes.
+    /// Writes a bucket's digest from what the bucket holds. No bucket changes.
     ///
     /// Takes no memory. O(own slots).
     pub fn settle(&mut self, index: usize)
@@ -178,7 +178,7 @@ impl<K, V, L: LruList, const TYPE: u8> BucketArray<K, V, L, TYPE> {
         self.digests.settle(index, live, bytes);
     }
 
-    /// Settles a bucket's digest where that says nothing. No bucket changes.
+    /// Writes a bucket's digest if it is lost. No bucket changes.
     #[inline(always)]
     pub(super) fn heal(&mut self, index: usize)
         requires { index < length self.old }
@@ -189,10 +189,10 @@ impl<K, V, L: LruList, const TYPE: u8> BucketArray<K, V, L, TYPE> {
         }
     }
 
-    /// Takes the memory of another array's digests for its own, which say nothing then, and asks
-    /// for what is missing. No bucket changes.
+    /// Takes over the memory of another array's digests and allocates what is missing. Its own
+    /// digests are then lost. No bucket changes.
     ///
-    /// Never refused: a digest for which there is no memory says nothing. O(1).
+    /// Never fails: a digest without memory is lost. O(1).
     pub fn adopt_digests(&mut self, alloc: Global, from: &mut Self)
         ensures own { self.new ≡ self.old }
         ensures other { from.new ≡ from.old }
@@ -202,9 +202,9 @@ impl<K, V, L: LruList, const TYPE: u8> BucketArray<K, V, L, TYPE> {
         self.digests = digests;
     }
 
-    /// Asks for memory for digests, and settles them. No bucket changes.
+    /// Allocates the digests and writes them. No bucket changes.
     ///
-    /// Never refused: a digest for which there is no memory says nothing. O(buckets).
+    /// Never fails: a digest without memory is lost. O(buckets).
     pub fn start_digests(&mut self, alloc: Global)
         ensures { self.new ≡ self.old }
     {
@@ -214,7 +214,7 @@ impl<K, V, L: LruList, const TYPE: u8> BucketArray<K, V, L, TYPE> {
         }
     }
 
-    /// Asks for memory for digests, which say nothing. No bucket changes.
+    /// Allocates the digests, which are lost at first. No bucket changes.
     fn restart_digests(&mut self, alloc: Global)
         ensures { self.new ≡ self.old }
     {

@@ -1,7 +1,7 @@
-//! Digests of buckets: of each bucket a bitmap of its live own slots, and their bytes.
+//! Digests of buckets: of each bucket a bitmap of its live own slots, and their fingerprints.
 //!
-//! Model: the digest of each index. A bitmap with all bits says nothing of its bucket, and so does
-//! an index past the end: that digest is lost.
+//! Model: the digest of each index. A digest is lost, and says nothing about its bucket, if its
+//! bitmap has all bits set or its index is past the end.
 //!
 //! Own.
 ghost use Rattle.std.specs.Prelude.{◌≡◌, ◌≢◌, ◌==◌, ℕ, ◌-◌, ◌^◌, ◌<◌, IsTrue, ◌↔◌, bit_and, slice_set};
@@ -16,7 +16,7 @@ use crate::matcher::match_partial_hash;
 use std::alloc::Global;
 use std::marker::Model;
 
-/// The bitmap that says nothing of its bucket.
+/// The bitmap of a lost digest.
 const LOST: u32 = u32::MAX;
 
 /// The digests of an array's buckets.
@@ -38,7 +38,7 @@ impl Model for Digests {
 }
 
 impl Digests {
-    /// Returns digests that say nothing.
+    /// Returns digests that are all lost.
     pub(crate) fn none(alloc: Global) -> Self
         ensures { KnowsNone 0 result }
     {
@@ -48,7 +48,7 @@ impl Digests {
         }
     }
 
-    /// Asks for the memory of so many digests, which say nothing. Where it is refused none is kept.
+    /// Allocates `len` digests, which are lost at first. If that fails, there is none.
     pub(crate) fn restart(&mut self, alloc: Global, len: usize)
         ensures { KnowsNone 0 self.new }
     {
@@ -74,7 +74,7 @@ impl Digests {
         }
     }
 
-    /// Tests whether nothing is said of a bucket, nor of those behind it.
+    /// Tests whether a bucket's digest and all those behind it are lost.
     #[inline(always)]
     pub(crate) fn is_lost_from(&self, index: usize) -> bool
         ensures { IsTrue result → KnowsNone index self.now }
@@ -82,7 +82,7 @@ impl Digests {
         self.lives.len() <= index
     }
 
-    /// Returns those of the live own slots that have a byte.
+    /// Returns those of the live own slots that have this fingerprint.
     #[inline(always)]
     pub(crate) fn candidates(&self, index: usize, live: u32, byte: u8) -> u32
         requires known { (digest_at self.now index).live ≢ 2 ^ 32 - 1 }
@@ -92,7 +92,7 @@ impl Digests {
         match_partial_hash(&self.bytes[index], byte) & live
     }
 
-    /// Forgets what is known of a bucket.
+    /// Makes a bucket's digest lost.
     #[inline(always)]
     pub(crate) fn lose(&mut self, index: usize)
         ensures lost { IsLost (digest_at self.new index) }
@@ -103,7 +103,7 @@ impl Digests {
         }
     }
 
-    /// Writes down what a bucket is, where there is room.
+    /// Writes a bucket's digest, if there is room for it.
     #[inline(always)]
     pub(crate) fn settle(&mut self, index: usize, live: u32, bytes: &[u8; BUCKET_LEN])
         ensures settled { Settles live bytes.now (digest_at self.new index) }
@@ -121,7 +121,7 @@ impl Digests {
         }
     }
 
-    /// Writes down that an own slot was filled.
+    /// Writes into the digest that an own slot was filled.
     #[inline(always)]
     pub(crate) fn fill(&mut self, index: usize, live: u32, pos: u32, byte: u8)
         requires known { (digest_at self.old index).live ≢ 2 ^ 32 - 1 }
@@ -138,7 +138,7 @@ impl Digests {
         row[pos as usize] = byte;
     }
 
-    /// Writes down that an own slot was left. Returns how many are live.
+    /// Writes into the digest that an own slot was freed. Returns how many are live.
     #[inline(always)]
     pub(crate) fn free(&mut self, index: usize, live: u32, pos: u32) -> usize
         requires known { (digest_at self.old index).live ≢ 2 ^ 32 - 1 }
@@ -156,7 +156,7 @@ impl Digests {
     }
 }
 
-/// Tests whether a bitmap says nothing of its bucket.
+/// Tests whether a bitmap is that of a lost digest.
 #[inline(always)]
 pub(crate) fn is_lost(live: u32) -> bool
     ensures { IsTrue result ↔ (live ≡ 2 ^ 32 - 1) }

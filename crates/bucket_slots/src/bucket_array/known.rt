@@ -1,4 +1,4 @@
-//! A bucket whose digest says which of its own slots are live: what is read and written there.
+//! Reads and writes of a bucket whose digest isn't lost.
 //!
 //! Own.
 ghost use Rattle.std.specs.Prelude.{◌≡◌, ◌≢◌, ◌==◌, ◌/◌, ◌%◌, ◌+◌, ◌-◌, ◌^◌, ◌<◌, ◌≤◌, bit_and, Some, ℕ, [], IfSome, IsTrue, length, option_map, slice_set, vec_len};
@@ -21,8 +21,8 @@ use super::parts::{bucket_in, made_bucket_in, place_in};
 use crate::bucket::{Bucket, EntryPtr, INDEX, KeyProbe};
 use crate::lru::LruList;
 
-/// Returns the part in which a bucket stands whose digest is known, and its offset there. It has no
-/// chain, and its live own slots, and those of them with a byte, are as the digest says.
+/// Returns the part of a bucket whose digest isn't lost, and its offset there. The bucket has no
+/// chain, and its live own slots, and those of them with a fingerprint, are as the digest says.
 #[inline(always)]
 pub(super) fn known_in<K, V, L: LruList, const TYPE: u8>(
     parts: &Vec<Part<K, V, L, TYPE>>,
@@ -58,8 +58,8 @@ pub(super) fn known_in<K, V, L: LruList, const TYPE: u8>(
     place_in(parts, spare, len, part_bits, part_mask, index)
 }
 
-/// Returns the place and the pair of the first wanted slot of a bucket in one of the parts, where
-/// the live own slots with the hash's low byte are known, and there is no chain.
+/// Returns the place and the pair of the first wanted slot of a bucket in one of the parts, given
+/// the live own slots with the hash's fingerprint. The bucket has no chain.
 #[inline(always)]
 pub(super) fn find_in<'a, K, V, L: LruList, const TYPE: u8, P: KeyProbe<K>>(
     parts: &'a Vec<Part<K, V, L, TYPE>>,
@@ -151,8 +151,8 @@ pub(super) fn remove_in<K: Drop, V: Drop, L: LruList, const TYPE: u8>(
     made_bucket_in(parts, part, offset).remove(&mut at)
 }
 
-/// Puts a live pair into the lowest free own slot of a bucket in one of the parts, where the live
-/// ones are known, and returns its position.
+/// Puts a live pair into the lowest free own slot of a bucket in one of the parts, given the live
+/// ones, and returns its position.
 #[inline(always)]
 pub(super) fn fill_in<K: Drop, V: Drop, L: LruList, const TYPE: u8>(
     parts: &mut Vec<Part<K, V, L, TYPE>>,

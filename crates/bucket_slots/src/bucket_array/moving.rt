@@ -1,5 +1,5 @@
-//! What a move between two arrays does to their parts: pairs go to several homes at once, and the
-//! memory of parts that are done is let go or reused.
+//! Moves between two arrays, seen from their parts: pairs move to several homes at once, and the
+//! memory of parts that are done is freed or reused.
 //!
 //! Own.
 ghost use Rattle.std.specs.Prelude.{◌≡◌, ◌<◌, length};
@@ -14,11 +14,11 @@ use crate::lru::LruList;
 
 impl<K: Drop, V: Drop, L: LruList, const TYPE: u8> BucketArray<K, V, L, TYPE> {
     /// Moves pairs of own slots of a bucket, the first ones in slot order, to own slots of their
-    /// homes, where these are some of the buckets from `start` up to below `end`. Which pairs move
-    /// is left open: it may stop at any pair, and where there is one such bucket alone none moves,
-    /// nor where one of them may have a digest. The slots that they leave are free.
+    /// homes, if these are among the buckets from `start` up to below `end`. How many move is left
+    /// open: it may stop at any pair. None moves if there is only one such bucket, or if one of
+    /// them may have a digest. The slots that the pairs leave are free.
     ///
-    /// Takes no memory. O(own slots), but O(buckets of a part) where buckets are made. Own.
+    /// Takes no memory. O(own slots), but O(buckets of a part) if buckets aren't made yet. Own.
     #[inline(always)]
     pub fn spread_own<F: Fn(&K) -> u64>(
         &mut self,
@@ -64,11 +64,11 @@ impl<K: Drop, V: Drop, L: LruList, const TYPE: u8> BucketArray<K, V, L, TYPE> {
 }
 
 impl<K: Drop, V: Drop, L: LruList + Drop, const TYPE: u8> BucketArray<K, V, L, TYPE> {
-    /// Lets the buckets of the part around a bucket go, where every one is killed and holds
-    /// nothing. No bucket changes. An array whose parts are as short as can be goes at once, and
-    /// stays here.
+    /// Frees the buckets of the part around a bucket, if every one is killed and empty. No bucket
+    /// changes. Nothing is freed if parts have the least length: such an array is small, and is
+    /// freed as a whole.
     ///
-    /// Untouched memory takes the place of theirs; where it is refused, theirs is kept.
+    /// New memory replaces theirs; if it can't be allocated, theirs is kept.
     ///
     /// O(1) where the last of them isn't killed, else O(buckets of the part). Own.
     pub fn release_around(&mut self, index: usize)
@@ -91,10 +91,10 @@ impl<K: Drop, V: Drop, L: LruList + Drop, const TYPE: u8> BucketArray<K, V, L, T
         release_in(&mut self.parts, part);
     }
 
-    /// Lets the buckets of the part around a bucket go, where every one is killed and holds
-    /// nothing, and exchanges their memory with that of a part of another array that has none made:
-    /// one of the next parts that pairs move to. Where there is none, it is `release_around`. No
-    /// bucket changes.
+    /// Frees the buckets of the part around a bucket, if every one is killed and empty, and
+    /// exchanges their memory with that of a part of another array in which no bucket is made: one
+    /// of the next parts that pairs move to. If there is none, it does what `release_around` does.
+    /// No bucket changes.
     ///
     /// O(1) where the last of them isn't killed, else O(buckets of the part). Own.
     pub fn release_into(&mut self, index: usize, to: &mut Self)
@@ -112,9 +112,9 @@ impl<K: Drop, V: Drop, L: LruList + Drop, const TYPE: u8> BucketArray<K, V, L, T
         self.release_around(index);
     }
 
-    /// Lets the buckets of the part around a bucket go, and exchanges their memory with that of a
-    /// part of another array that has none made. Returns whether there is such a part. No bucket
-    /// changes.
+    /// Frees the buckets of the part around a bucket, and exchanges their memory with that of a
+    /// part of another array in which no bucket is made. Returns whether there is such a part. No
+    /// bucket changes.
     fn exchange_around(&mut self, index: usize, to: &mut Self) -> bool
         requires { index < length self.old }
         ensures kept { self.new ≡ self.old }

@@ -1,8 +1,8 @@
 //! A part of an array: a run of buckets, made as they are first lent for writing.
 //!
 //! Model: the list of its buckets, as many as its vector has room for. Those behind the made ones
-//! are empty, and making them takes no memory. A part of which every bucket is killed and holds
-//! nothing is released: its buckets go, and those that aren't made are killed ones from then on.
+//! are empty, and making them takes no memory. A part whose buckets are all killed and empty can be
+//! released: its buckets are dropped, and from then on those that aren't made are killed ones.
 //!
 //! Own.
 ghost use Rattle.std.specs.Prelude.{◌≡◌, ℕ, ◌+◌, ◌<◌, ◌≤◌, ◌^◌, ◌∷◌, [], List, true, false, IfOk, IfSome, length, replicate, vec_capacity, vec_len};
@@ -22,7 +22,7 @@ use std::marker::Model;
 use std::mem;
 use std::mem::ManuallyDrop;
 
-/// How many parts are looked at for one of which no bucket is made.
+/// How many parts are searched for one in which no bucket is made.
 const FRESH_TRIES: usize = 8;
 
 /// A run of buckets, of which the first ones are made.
@@ -59,7 +59,7 @@ impl<K, V, L: LruList, const TYPE: u8> Part<K, V, L, TYPE> {
     ///
     /// # Errors
     ///
-    /// Allocation failed: the memory of all its buckets is asked for here.
+    /// Allocation failed. The memory of all its buckets is allocated here.
     pub(crate) fn alloc(alloc: Global, len: usize) -> Result<Self, AllocError>
         ensures { IfOk result (λ part. part ≡ replicate len empty_bucket) }
     {
@@ -72,7 +72,7 @@ impl<K, V, L: LruList, const TYPE: u8> Part<K, V, L, TYPE> {
         })
     }
 
-    /// Returns the bucket with an offset, and a spare one where it isn't made.
+    /// Returns the bucket with an offset, or a spare one if it isn't made.
     #[inline(always)]
     pub(crate) fn bucket<'a>(
         &'a self,
@@ -92,7 +92,7 @@ impl<K, V, L: LruList, const TYPE: u8> Part<K, V, L, TYPE> {
         }
     }
 
-    /// Returns a bucket with a live own slot: it is made.
+    /// Returns a bucket with a live own slot, which is always made.
     #[inline(always)]
     pub(crate) fn made_bucket(&self, offset: usize) -> &Bucket<K, V, L, TYPE>
         requires within { offset < length self.now }
@@ -103,7 +103,7 @@ impl<K, V, L: LruList, const TYPE: u8> Part<K, V, L, TYPE> {
         &self.made[offset]
     }
 
-    /// Lends a bucket with a live own slot for writing: it is made.
+    /// Lends a bucket with a live own slot for writing. It is always made.
     #[inline(always)]
     pub(crate) fn made_bucket_mut(&mut self, offset: usize) -> &mut Bucket<K, V, L, TYPE>
         requires within { offset < length self.old }
@@ -118,7 +118,8 @@ impl<K, V, L: LruList, const TYPE: u8> Part<K, V, L, TYPE> {
         &mut self.made[offset]
     }
 
-    /// Lends the bucket with an offset for writing. It is made if need be, with those before it.
+    /// Lends the bucket with an offset for writing. If it isn't made yet, it is made first, with
+    /// those before it.
     #[inline(always)]
     pub(crate) fn bucket_mut(&mut self, offset: usize) -> &mut Bucket<K, V, L, TYPE>
         requires fits { BucketFits K.row V.row L.row TYPE.row
@@ -136,10 +137,10 @@ impl<K, V, L: LruList, const TYPE: u8> Part<K, V, L, TYPE> {
 }
 
 impl<K: Drop, V: Drop, L: LruList + Drop, const TYPE: u8> Part<K, V, L, TYPE> {
-    /// Lets the buckets go, where every one is killed and holds nothing. What is read stays.
+    /// Drops the buckets, if every one is killed and empty. Reads of the part stay the same.
     ///
-    /// Untouched memory takes the place of theirs, so that a loan here still takes none. Where it
-    /// is refused, theirs is kept.
+    /// New memory replaces theirs, so that lending a bucket for writing still takes none. If it
+    /// can't be allocated, theirs is kept.
     pub(crate) fn release(&mut self)
         requires { BucketFits K.row V.row L.row TYPE.row
             (record { KEEPS = L.KEEPS; listed = L.listed; IsTail = L.IsTail }) L.Default }
@@ -155,8 +156,8 @@ impl<K: Drop, V: Drop, L: LruList + Drop, const TYPE: u8> Part<K, V, L, TYPE> {
         }
     }
 
-    /// Lets the buckets go, where every one is killed and holds nothing, and exchanges their memory
-    /// with that of a part as long that has none made. What is read of both stays.
+    /// Drops the buckets, if every one is killed and empty, and exchanges their memory with that of
+    /// a part of the same length in which no bucket is made. Reads of both parts stay the same.
     pub(crate) fn release_to(&mut self, fresh: &mut Self)
         requires { BucketFits K.row V.row L.row TYPE.row
             (record { KEEPS = L.KEEPS; listed = L.listed; IsTail = L.IsTail }) L.Default }
@@ -180,7 +181,7 @@ impl<K: Drop, V: Drop, L: LruList + Drop, const TYPE: u8> Part<K, V, L, TYPE> {
         self.released = true;
     }
 
-    /// Returns so many parts of this length.
+    /// Returns `count` parts of this length.
     ///
     /// # Errors
     ///
@@ -205,8 +206,8 @@ impl<K: Drop, V: Drop, L: LruList + Drop, const TYPE: u8> Part<K, V, L, TYPE> {
 }
 
 impl<K: Drop, V: Drop, L: LruList, const TYPE: u8> Part<K, V, L, TYPE> {
-    /// Moves pairs of own slots of a bucket to buckets from an offset on, so many, as
-    /// `Bucket::spread_own` does; none where the part ends before. `start` is the index in the array
+    /// Moves pairs of own slots of a bucket to `len` buckets from an offset on, as
+    /// `Bucket::spread_own` does; none if the part ends before. `start` is the index in the array
     /// of the bucket at the offset.
     #[inline(always)]
     pub(crate) fn spread<F: Fn(&K) -> u64>(
@@ -244,11 +245,11 @@ impl<K: Drop, V: Drop, L: LruList, const TYPE: u8> Part<K, V, L, TYPE> {
     }
 }
 
-/// Returns an empty bucket and a killed one, which stand for each one that isn't made.
+/// Returns an empty bucket and a killed one, as which the buckets that aren't made are read.
 ///
 /// # Errors
 ///
-/// Allocation failure.
+/// Allocation failed.
 pub(crate) fn spare_buckets<K, V, L: LruList, const TYPE: u8>(
     alloc: Global,
 ) -> Result<Vec<Bucket<K, V, L, TYPE>>, AllocError>
@@ -263,7 +264,7 @@ pub(crate) fn spare_buckets<K, V, L: LruList, const TYPE: u8>(
     Ok(spare)
 }
 
-/// Whether each bucket is killed and holds nothing. The last ones are looked at first, since they
+/// Returns whether each bucket is killed and empty. The last ones are looked at first, since they
 /// are killed last.
 fn are_spent<K, V, L: LruList, const TYPE: u8>(made: &Vec<Bucket<K, V, L, TYPE>>) -> bool
     requires { BucketFits K.row V.row L.row TYPE.row
@@ -281,7 +282,7 @@ fn are_spent<K, V, L: LruList, const TYPE: u8>(made: &Vec<Bucket<K, V, L, TYPE>>
     true
 }
 
-/// Makes buckets until there are so many, where there are fewer. What is read of the part stays.
+/// Makes buckets until there are `len`, if there are fewer. Reads of the part stay the same.
 #[inline(always)]
 fn make_to<K, V, L: LruList, const TYPE: u8>(
     made: &mut Vec<Bucket<K, V, L, TYPE>>,
@@ -300,7 +301,7 @@ fn make_to<K, V, L: LruList, const TYPE: u8>(
     }
 }
 
-/// Makes buckets until there are so many. What is read of the part stays.
+/// Makes buckets until there are `len`. Reads of the part stay the same.
 #[inline(never)]
 fn make_more<K, V, L: LruList, const TYPE: u8>(
     made: &mut Vec<Bucket<K, V, L, TYPE>>,
@@ -320,7 +321,7 @@ fn make_more<K, V, L: LruList, const TYPE: u8>(
     }
 }
 
-/// Returns the first of a few parts from an index on of which no bucket is made.
+/// Returns the first of a few parts from an index on in which no bucket is made.
 pub(crate) fn first_fresh<K, V, L: LruList, const TYPE: u8>(
     parts: &Vec<Part<K, V, L, TYPE>>,
     start: usize,

@@ -1,4 +1,4 @@
-//! The parts of an array, one after another: where a bucket stands among them, and what is done
+//! The parts of an array, one after another: where a bucket is among them, and the calls on it
 //! there.
 //!
 //! Own.
@@ -17,7 +17,7 @@ use super::sizing::place_of;
 use crate::bucket::Bucket;
 use crate::lru::LruList;
 
-/// Returns the part in which the bucket with an index stands, and its offset there.
+/// Returns the part of the bucket with an index, and its offset there.
 #[inline(always)]
 pub(crate) fn place_in<K, V, L: LruList, const TYPE: u8>(
     parts: &Vec<Part<K, V, L, TYPE>>,
@@ -82,8 +82,8 @@ pub(crate) fn made_bucket_in<K, V, L: LruList, const TYPE: u8>(
     lent.made_bucket_mut(offset)
 }
 
-/// Lets the buckets of one of the parts go, where every one is killed and holds nothing. What is
-/// read of the parts stays.
+/// Drops the buckets of one of the parts, if every one is killed and empty. Reads of the parts stay
+/// the same.
 pub(crate) fn release_in<K: Drop, V: Drop, L: LruList + Drop, const TYPE: u8>(
     parts: &mut Vec<Part<K, V, L, TYPE>>,
     part: usize,
@@ -96,9 +96,9 @@ pub(crate) fn release_in<K: Drop, V: Drop, L: LruList + Drop, const TYPE: u8>(
     parts[part].release();
 }
 
-/// Lets the buckets of one of the parts go, where every one is killed and holds nothing, and
-/// exchanges their memory with that of a part of other ones that has none made: the first among a
-/// few that pairs move to next. What is read of both stays. Returns whether there is such a part.
+/// Drops the buckets of one of the parts, if every one is killed and empty, and exchanges their
+/// memory with that of one of other parts in which no bucket is made: the first among a few that
+/// pairs move to next. Reads of both stay the same. Returns whether there is such a part.
 pub(crate) fn release_to_in<K: Drop, V: Drop, L: LruList + Drop, const TYPE: u8>(
     parts: &mut Vec<Part<K, V, L, TYPE>>,
     part: usize,

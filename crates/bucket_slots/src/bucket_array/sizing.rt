@@ -1,5 +1,5 @@
 //! The length of an array, when it is too full or too empty, the best capacity, and how many
-//! buckets are looked at for an estimate: numbers from numbers.
+//! buckets an estimate looks at: functions of numbers alone.
 //!
 //! Ports the arithmetic of scc's `src/hash_table/bucket_array.rs`, and `HashTable`'s test whether
 //! and to what capacity it is resized.
@@ -87,7 +87,7 @@ pub(crate) fn parts_for(len: usize) -> (usize, u32)
     (len >> part_bits, part_bits)
 }
 
-/// Returns in which part a bucket stands, and at which offset.
+/// Returns a bucket's part, and its offset there.
 #[inline(always)]
 pub(crate) fn place_of(index: usize, part_bits: u32, part_mask: usize) -> (usize, usize)
     requires few_bits { part_bits < 64 }
@@ -98,7 +98,7 @@ pub(crate) fn place_of(index: usize, part_bits: u32, part_mask: usize) -> (usize
     (index >> part_bits, index & part_mask)
 }
 
-/// No work: a proof is told that an index is below a length.
+/// States that an index is below a length; does nothing at run time.
 #[inline(always)]
 pub(crate) fn below(index: usize, len: usize)
     requires { index < len }
@@ -113,14 +113,14 @@ pub(crate) fn span(start: usize, end: usize) -> usize
     end.saturating_sub(start)
 }
 
-/// Whether the slots are too full for a number of entries.
+/// Returns whether the slots are too full for a number of entries.
 pub(crate) fn need_enlarge(capacity: usize, num_entries: usize) -> bool
     ensures { IsTrue result ↔ IsTooFull capacity num_entries }
 {
     num_entries > (capacity / 16) * 13
 }
 
-/// Whether the slots are too empty for a number of entries.
+/// Returns whether the slots are too empty for a number of entries.
 pub(crate) fn need_shrink(capacity: usize, num_entries: usize) -> bool
     ensures { IsTrue result ↔ IsTooEmpty capacity num_entries }
 {

@@ -1,4 +1,4 @@
-//! Pairs put into a bucket of an array and taken out of it, by its digest.
+//! Insertions into a bucket of an array and removals from it, by its digest.
 //!
 //! Own.
 ghost use Rattle.std.specs.Prelude.{◌≡◌, ◌≢◌, ◌%◌, ◌<◌, OnErr, OnOk, length, slice_set};
@@ -14,7 +14,7 @@ use crate::bucket::{EqProbe, Generation, INDEX, KeyProbe};
 use crate::lru::LruList;
 use std::mem;
 
-/// Why a pair was not put; it comes back.
+/// Why a pair wasn't inserted, with the pair.
 pub enum NotPut<K, V> {
     /// An equal key is in the bucket.
     Present(K, V),
@@ -26,7 +26,7 @@ impl<K: Drop, V: Drop, L: LruList, const TYPE: u8> BucketArray<K, V, L, TYPE> {
     /// Takes the first pair that a probe wants out of a bucket. Returns it, and how many are left;
     /// `None` where none is wanted.
     ///
-    /// Takes no memory. O(1), but O(blocks in the chain) where the digest says nothing.
+    /// Takes no memory. O(1), but O(blocks in the chain) if the digest is lost.
     #[inline(always)]
     pub fn take_by<P: KeyProbe<K>>(
         &mut self,
@@ -101,10 +101,10 @@ impl<K: Drop, V: Drop, L: LruList, const TYPE: u8> BucketArray<K, V, L, TYPE> {
     ///
     /// # Errors
     ///
-    /// An equal key is there, or allocation failed: the pair comes back, and no bucket changes.
-    /// Allocation can't fail while a slot is free.
+    /// An equal key is in the bucket, or allocation failed: the pair is returned, and no bucket
+    /// changes. Allocation can't fail while a slot is free.
     ///
-    /// O(1), but O(blocks in the chain) where the digest says nothing.
+    /// O(1), but O(blocks in the chain) if the digest is lost.
     #[inline(always)]
     pub fn insert_absent<G: Generation>(
         &mut self,
@@ -160,12 +160,12 @@ impl<K: Drop, V: Drop, L: LruList, const TYPE: u8> BucketArray<K, V, L, TYPE> {
         Ok(())
     }
 
-    /// Inserts a pair into a bucket, or writes its value beside the key that is equal, and returns
-    /// the earlier one.
+    /// Inserts a pair into a bucket, or writes its value beside the equal key and returns the
+    /// earlier value.
     ///
     /// # Errors
     ///
-    /// Allocation failure, and the key is new: the pair comes back, and no bucket changes.
+    /// Allocation failed, and the key is absent: the pair is returned, and no bucket changes.
     ///
     /// O(1), but O(blocks in the chain) where there is one.
     #[inline(always)]

@@ -1,4 +1,4 @@
--- What a call by key does to a table, in the words of its map. A reply that isn't stated doesn't come.
+-- What a call by key does to a table, in the words of its map. A reply that isn't stated is impossible.
 use Rattle.std.specs.Prelude.{OnErr, OnOk, ℕ, ◌≡◌, ◌<◌, Bool, true, false, List, Option, Some, None, Result, Ok, Err, length}
 use Rattle.std.specs.Borrow.{Bor, MutBor}
 use Rattle.bucket_slots.specs.BucketView.{BucketView, Place, bucket_with_value, first_place, slot_in}
@@ -22,7 +22,7 @@ pub record StandsAt {K V : Type 0} (wants : K → Bool) (arrays : ArraysView K V
   pub slot : live_pair (slot_in (bucket_on arrays side index) at) ≡ Some pair
   pub there : IsThere wants (pairs_of arrays) pair
 
--- why a pair comes back that wasn't put: an equal key is there, or allocation failed, and then none is
+-- why a pair is returned that wasn't put: an equal key is in the map, or allocation failed, and then none is
 abbrev pub HandsBack : {K V : Type 0} → (K → K → Bool) → K → V → List (K × V) → NotInserted K V → Type 0
 HandsBack {K} {V} eq key value pairs (Present k v) = (k ≡ key) × (v ≡ value) × ((pair : K × V) × IsThere (λ own. eq own key) pairs pair)
 HandsBack eq key value pairs (Memory k v) = (k ≡ key) × (v ≡ value) × IsAbsent (λ own. eq own key) pairs
@@ -33,12 +33,12 @@ module _ {K V H : Type 0} (wants : K → Bool) where
   Takes old (Some pair) new = (wants pair.0 ≡ true) × TakesPair old pair new
   Takes old None new = IsAbsent wants old.pairs × KeepsPairs old new
 
-  -- the value beside a key that is wanted is another one now, and the earlier one comes back; where no key is wanted, the value does
+  -- the value beside a key that is wanted is another one now, and the earlier one is returned; where no key is wanted, the value is
   abbrev pub Swaps : V → MapState K V H → Result V V → MapState K V H → Type 0
   Swaps value old (Ok earlier) new = (found : K) × (wants found ≡ true) × ChangesValue old (found, earlier) value new
   Swaps value old (Err back) new = (back ≡ value) × IsAbsent wants old.pairs × KeepsPairs old new
 
-  -- a pair that is wanted is read and marked, and the map is without it; there is no answer exactly where no key is wanted
+  -- a pair that is wanted is read and made a tombstone, and the map is without it; there is no answer exactly where no key is wanted
   abbrev pub Marks : {R : Type 0} → (Bor K → Bor V → R → Type 0) → MapState K V H → Option R → MapState K V H → Type 0
   Marks reads old (Some answer) new =
       (own : Bor K) × (value : Bor V) × reads own value answer × (wants own.now ≡ true) × TakesPair old (own.now, value.now) new
@@ -49,7 +49,7 @@ module _ {K V H : Type 0} (wants : K → Bool) where
   Touches old true new = ((pair : K × V) × IsThere wants old.pairs pair) × KeepsPairs old new
   Touches old false new = IsAbsent wants old.pairs × KeepsPairs old new
 
-  -- a pair that is wanted is handed out, and its value is what was written; there is no answer exactly where no key is wanted
+  -- a pair that is wanted is passed to a function, and its value is what was written; there is no answer exactly where no key is wanted
   abbrev pub Rewrites : {R : Type 0} → (Bor K → MutBor V → R → MutBor V → Type 0) → MapState K V H → Option R → MapState K V H
       → Type 0
   Rewrites changes old (Some answer) new =
@@ -58,12 +58,12 @@ module _ {K V H : Type 0} (wants : K → Bool) where
   Rewrites changes old None new = IsAbsent wants old.pairs × KeepsPairs old new
 
 module _ {K V H : Type 0} (eq : K → K → Bool) (key : K) where
-  -- a pair is put where its key is absent; else, and if allocation fails, it comes back
+  -- a pair is put where its key is absent; else, and if allocation fails, it is returned
   abbrev pub Inserts : {A : Type 0} → V → MapState K V H → Result A (NotInserted K V) → MapState K V H → Type 0
   Inserts value old (Ok done) new = IsAbsent (λ own. eq own key) old.pairs × AddsPair old (key, value) new
   Inserts value old (Err why) new = HandsBack eq key value old.pairs why × KeepsPairs old new
 
-  -- a pair is put where its key is absent, and else its value is written and the earlier one comes back; what isn't put comes back too
+  -- a pair is put where its key is absent, and else its value is written and the earlier one is returned; what isn't put is returned too
   abbrev pub Upserts : V → MapState K V H → Result (Option V) (K × V) → MapState K V H → Type 0
   Upserts value old (Ok None) new = IsAbsent (λ own. eq own key) old.pairs × AddsPair old (key, value) new
   Upserts value old (Ok (Some earlier)) new = (found : K) × (eq found key ≡ true) × ChangesValue old (found, earlier) value new
@@ -75,12 +75,12 @@ Evicts old (Ok (Some pair)) new = TakesPair old pair new
 Evicts old (Ok None) new = KeepsPairs old new
 Evicts old (Err refused) new = KeepsPairs old new
 
--- a pair that comes finds no free slot in a bucket
+-- a new pair finds no free slot in a bucket
 abbrev pub HasNoSlot : {K V : Type 0} → ℕ → (ℕ → Bool) → BucketView K V → Type 0
 HasNoSlot kind keeps bucket = first_place is_free (slots_for_insertion kind keeps bucket) ≡ None
 
 -- an insertion into a bucket: no live slot has an equal key where a pair was put, or allocation failed, and then no slot is free; one has
--- where the answer says so; what isn't put comes back
+-- where the answer says so; what isn't put is returned
 abbrev pub AnswersInsertion : {K V A : Type 0} → (K → K → Bool) → K → V → ℕ → ℕ → (ℕ → Bool) → BucketView K V → Result A (NotInserted K V)
     → Type 0
 AnswersInsertion eq key value byte kind keeps bucket (Ok done) = place_wanted (λ own. eq own key) byte bucket ≡ None

@@ -36,7 +36,7 @@ pub record FindsNone {K V : Type 0} (hash : ℕ) (old new : ArraysView K V) : Ty
   pub alone : length old.linked ≡ 0 → (length old.current ≡ 0) × (new ≡ old)
   pub home : 0 < length new.current → HomeWantsMemory hash old new
 
--- a hash's home in the array of its side is found for a writer, and may be locked; the map, the marks and the open tickets stay
+-- a hash's home in the array of its side is found for a writer, and may be locked; the map, the tombstones and the open tickets stay
 pub record FindsBucket {K V H : Type 0} (kind hash : ℕ) (old : TableView K V H) (side : Side) (index : ℕ) (new : TableView K V H) : Type 0 where
   pub map : KeepsPairs (state_of kind old) (state_of kind new)
   pub kept : Keeps old.arrays new.arrays
@@ -44,7 +44,7 @@ pub record FindsBucket {K V H : Type 0} (kind hash : ℕ) (old : TableView K V H
   pub locked : IsLocked new.arrays side index
   pub found : ReadiesThenGrows kind hash old.arrays side index new.arrays
 
--- what looking for a writer's bucket answers, its side and its index, and what it leaves; refused, the table is prepared
+-- what looking for a writer's bucket answers, its side and its index, and what it leaves; if it fails, the table is prepared
 abbrev pub Finds : {K V H E : Type 0} → ℕ → ℕ → TableView K V H → Result (Side × ℕ) E → TableView K V H → Type 0
 Finds kind hash old (Ok found) new = FindsBucket kind hash old found.0 found.1 new
 Finds kind hash old (Err refused) new = IsRefused kind hash old new

@@ -1,4 +1,4 @@
--- A current bucket whose old pairs have come.
+-- A current bucket whose pairs have moved to it from the old array.
 use Rattle.std.specs.Prelude.{ℕ, ◌≡◌, ◌<◌, ◌⊎◌, length}
 use Rattle.bucket_slots.specs.Homes.{IsHome}
 use Rattle.bucket_table.specs.Views.ArraysView.{AreSourcesKilled, ArraysView, IsSource, TableView}
@@ -26,7 +26,7 @@ pub record IsPrepared {K V H : Type 0} (kind hash : ℕ) (old after : TableView 
   pub alone : length old.arrays.linked ≡ 0 → after ≡ old
   pub home : 0 < length after.arrays.current → IsReady after.arrays hash ⊎ HomeWantsMemory hash old.arrays after.arrays
 
--- why there is no home: nothing is there where no current array stands, and allocation fails only beside an old one
+-- why there is no home: there is no current array, or allocation failed, which it does only beside an old one
 abbrev pub IsMissing : {K V : Type 0} → Missing → ArraysView K V → Type 0
 IsMissing Nothing arrays = length arrays.current ≡ 0
 IsMissing Memory arrays = (0 < length arrays.linked) × (0 < length arrays.current)

@@ -1,4 +1,4 @@
--- What a put does to a cache: a pair goes in where its key is absent, and where its home has no free own slot another goes out.
+-- What a put does to a cache: a pair is inserted if its key is absent, and if its home has no free own slot another one is evicted.
 use Rattle.std.specs.Prelude.{ℕ, ◌≡◌, ◌⊎◌, Bool, Option, Some, None, Result, Ok, Err, List, ◌∷◌, if◌then◌else◌, is_some, length, slice_set, unwrap_or}
 use Rattle.std.specs.List.{Contains, position}
 use Rattle.std.specs.List.Sorted.{IsPermutation}
@@ -25,7 +25,8 @@ pub record ReplacesPair {K V H : Type 0} (old : MapState K V H) (gone pair : K �
   pub before : IsPermutation old.pairs (gone ∷ rest)
   pub after : Becomes old (pair ∷ rest) new
 
--- a pair is put where its key is absent, and a pair that goes for it comes back; what isn't put comes back too, and then all stays
+-- a pair is put where its key is absent, and the pair that is evicted for it is returned; what isn't put is returned too, and then all
+-- stays
 abbrev pub Puts : {K V H : Type 0} → (K → K → Bool) → K → V → MapState K V H → Result (Option (K × V)) (NotInserted K V) → MapState K V H
     → Type 0
 Puts eq key value old (Ok None) new = IsAbsent (λ own. eq own key) old.pairs × AddsPair old (key, value) new
@@ -33,7 +34,7 @@ Puts eq key value old (Ok (Some gone)) new = IsAbsent (λ own. eq own key) old.p
 Puts eq key value old (Err why) new = HandsBack eq key value old.pairs why × KeepsPairs old new
 
 module _ {K V : Type 0} where
-  -- what goes for a new pair: none where an own slot is free, and else the pair touched longest ago, or slot 0's where none is listed
+  -- what is evicted for a new pair: none where an own slot is free, and else the pair touched longest ago, or slot 0's where none is listed
   abbrev pub Goes : BucketView K V → Option (K × V) → Type 0
   Goes bucket None = Contains bucket.own free
   Goes bucket (Some gone) = (Contains bucket.own free → ⊥) × (live_pair (slot_at bucket.own (slot_to_evict bucket)) ≡ Some gone)
@@ -53,7 +54,7 @@ module _ {K V : Type 0} where
     listed = if keeps then order_after_touch bucket.listed (free_own bucket) else bucket.listed;
   }
 
-  -- a put into a bucket: the pair is in where no live slot has an equal key, after what goes for it; memory is never wanted
+  -- a put into a bucket: the pair is in where no live slot has an equal key, after an eviction for it; no memory is needed
   abbrev pub PutsIn : (K → K → Bool) → Bool → K → V → ℕ → BucketView K V → Result (Option (K × V)) (NotInserted K V) → BucketView K V
       → Type 0
   PutsIn eq keeps key value byte old (Ok gone) new =
@@ -62,15 +63,15 @@ module _ {K V : Type 0} where
       (k ≡ key) × (v ≡ value) × ((at : Place) × (place_wanted (λ own. eq own key) byte old ≡ Some at)) × (new ≡ old)
   PutsIn eq keeps key value byte old (Err (Memory k v)) new = ⊥
 
--- what goes from a hash's home, readied, is out; without an array nothing is there, and where it is refused the home isn't ready: then
--- all stays
+-- the pair that is evicted from a hash's home, once it is ready, is out; without an array there is none, and if the call fails the
+-- home isn't ready: then all stays
 abbrev pub EvictsAt : {K V H E : Type 0} → ℕ → TableView K V H → Result (Option (K × V)) E → TableView K V H → Type 0
 EvictsAt hash old (Ok gone) new = ((length old.arrays.current ≡ 0) × (gone ≡ None) × (new ≡ old))
     ⊎ (IsReady old.arrays hash × (index : ℕ) × IsHome (length old.arrays.current) hash index × Goes (bucket_on old.arrays Current index) gone
     × (new ≡ with_bucket old Current index (slots_left (bucket_on old.arrays Current index) gone)))
 EvictsAt hash old (Err refused) new = (IsReady old.arrays hash → ⊥) × (new ≡ old)
 
--- the pair is put into the bucket that was found, after what goes for it; else all stays, and allocation fails only where none was found
+-- the pair is put into the bucket that was found, after an eviction for it; else all stays, and allocation fails only where none was found
 abbrev pub PutsAt : {K V H : Type 0} → Bool → K × V → ℕ → TableView K V H → Result (Option (K × V)) (NotInserted K V)
     → Result (Side × ℕ) (Unit {0}) → TableView K V H → Type 0
 PutsAt keeps pair byte old (Ok gone) (Ok found) new =

@@ -1,4 +1,4 @@
--- The pair that comes back where it wasn't inserted.
+-- The pair that is returned where it wasn't inserted.
 use Rattle.std.specs.declared.io.ErrorKind.{ErrorKind}
 use Rattle.std.specs.declared.io.ErrorKind.TheVariants.{AlreadyExists, OutOfMemory}
 use Rattle.bucket_table.specs.declared.hash_table.NotInserted.{NotInserted}

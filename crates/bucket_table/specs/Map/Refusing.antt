@@ -1,4 +1,4 @@
--- A table after a writer was refused.
+-- A table after no bucket was found for a writer.
 use Rattle.std.specs.Prelude.{ℕ, ◌<◌, length, ◌≡◌}
 use Rattle.bucket_table.specs.Views.ArraysView.{TableView}
 use Rattle.bucket_table.specs.Map.Preparing.{HomeWantsMemory, IsPrepared}

@@ -1,4 +1,4 @@
--- Recency that goes along: what the current buckets list once the pairs of old ones have moved on.
+-- LRU order that moves along: what the current buckets list once the pairs of old ones have moved on.
 use Rattle.std.specs.Prelude.{ℕ, ◌≡◌, ◌≢◌, ◌++◌, ◌⊎◌, Bool, List, [], flat_map, map}
 use Rattle.std.specs.Cmp.{IsEquivalence}
 use Rattle.std.specs.List.{All, Contains, IsDistinct, filter, list_any}
@@ -25,14 +25,14 @@ CarriesPairs eq listed current new_current = (j : ℕ) → listed_pairs (bucket_
 abbrev pub chained_pairs : {K V : Type 0} → BucketView K V → List (K × V)
 chained_pairs bucket = live_pairs (flattened bucket.chain)
 
--- a pair went before another one: it stands in an own slot, or the other one in a chain, or they stand in different buckets
+-- a pair moved before another one: it stands in an own slot, or the other one in a chain, or they stand in different buckets
 abbrev pub WentFirst : {K V : Type 0} → List (BucketView K V) → K × V → K × V → Type 0
 WentFirst buckets pair other =
     ((j : ℕ) × Contains (live_pairs (bucket_at buckets j).own) pair)
     ⊎ (((j : ℕ) × Contains (chained_pairs (bucket_at buckets j)) other)
     ⊎ ((i j : ℕ) × (i ≢ j) × Contains (pairs_in (bucket_at buckets i)) pair × Contains (pairs_in (bucket_at buckets j)) other))
 
--- the listed pairs of a bucket that moved went before those of its chain
+-- the listed pairs of a bucket that moved did so before those of its chain
 abbrev pub ListedWentFirst : {K V : Type 0} → BucketView K V → List (BucketView K V) → Type 0
 ListedWentFirst bucket buckets =
     All (λ pair. All (λ other. WentFirst buckets pair other) (chained_pairs bucket)) (listed_pairs bucket)

@@ -11,8 +11,8 @@ units_left arrays = (length arrays.linked + 63) / 64 - arrays.tickets.position
 abbrev pub IsUnopened : {K V : Type 0} → ArraysView K V → Type 0
 IsUnopened arrays = 0 < length arrays.linked → arrays.tickets.open_units ≡ []
 
--- where no ticket was open one unit is worked, and finished unless memory is refused, when it is the next one still; there is a unit
--- exactly while an old array stands
+-- where no ticket was open one unit is worked, and finished unless allocation fails, when it is still the next one; there is a unit
+-- exactly while there is an old array
 pub record Finishes {K V : Type 0} (old : ArraysView K V) (answer : Option Bool) (new : ArraysView K V) : Type 0 where
   pub none_open : new.tickets.open_units ≡ []
   pub none : IfNone answer ((length old.linked ≡ 0) × (new ≡ old))

@@ -1,4 +1,4 @@
--- Two arrays while a rehash is on: where their pairs stand, and what becomes of them when a bucket's pairs move on.
+-- Two arrays during an incremental rehash: where their pairs stand, and what becomes of them when a bucket's pairs move on.
 use Rattle.std.specs.Prelude.{ℕ, ◌≡◌, ◌==◌, ◌<◌, ◌≤◌, ◌%◌, ◌/◌, ◌++◌, true, false, List, [], flat_map, length}
 use Rattle.std.specs.List.{All, count_by}
 use Rattle.std.specs.List.Sorted.{IsPermutation}
@@ -13,7 +13,7 @@ use Rattle.bucket_slots.specs.Slots.{all_free, is_free}
 abbrev pub entries_among : {K V : Type 0} → List (BucketView K V) → List ((K × V) × ℕ)
 entries_among buckets = flat_map entries_in buckets
 
--- the marked pairs of some buckets with their epochs, bucket after bucket
+-- the pairs of some buckets' tombstones with their epochs, bucket after bucket
 abbrev pub marks_among : {K V : Type 0} → List (BucketView K V) → List ((K × V) × ℕ)
 marks_among buckets = flat_map marks_in buckets
 
@@ -26,7 +26,7 @@ pub record IsEntryHome {K V : Type 0} (hash : K → ℕ) (len index : ℕ) (entr
   pub home : IsHome len (hash entry.0.0) index
   pub own_byte : entry.1 ≡ hash entry.0.0 % 256
 
--- where a pair goes in an array: its home's index, and a number with the low byte of its hash
+-- where a pair moves to in an array: its home's index, and a number with the low byte of its hash
 pub record IsWay {K V : Type 0} (hash : K → ℕ) (len : ℕ) (pair : K × V) (index number : ℕ) : Type 0 where
   pub home : IsHome len (hash pair.0) index
   pub own_byte : number % 256 ≡ hash pair.0 % 256
@@ -44,8 +44,8 @@ abbrev pub HasRoomFor : {K V : Type 0} → (K → ℕ) → List (BucketView K V)
 HasRoomFor hash buckets pairs =
     (i : ℕ) → i < length buckets → homed_len hash (length buckets) i pairs ≤ free_len_in (bucket_at buckets i)
 
--- pairs move from a bucket into an array: none goes and none comes, only homes of the bucket's pairs change, the bucket's marks stay, and
--- no mark is new
+-- pairs move from a bucket into an array: none is lost and none is new, only homes of the bucket's pairs change, the bucket's tombstones
+-- stay, and no tombstone is new
 pub record MovesInto {K V : Type 0} (hash : K → ℕ) (bucket : BucketView K V) (buckets : List (BucketView K V)) (left : BucketView K V) (after : List (BucketView K V)) : Type 0 where
   pub entries : IsPermutation (entries_in bucket ++ entries_among buckets) (entries_in left ++ entries_among after)
   pub len : length after ≡ length buckets
@@ -61,7 +61,7 @@ pub record IsVacant {K V : Type 0} (bucket : BucketView K V) : Type 0 where
   pub free : all_free (all_slots bucket) ≡ true
   pub own_long : length bucket.own ≡ 32
 
--- the law of two arrays while a rehash is on
+-- the law of two arrays during an incremental rehash
 pub record AreTwoArrays {K V : Type 0} (hash : K → ℕ) (current linked : List (BucketView K V)) : Type 0 where
   pub current_home : AreHome hash current
   pub linked_home : AreHome hash linked
@@ -71,8 +71,8 @@ pub record AreTwoArrays {K V : Type 0} (hash : K → ℕ) (current linked : List
       → (i j : ℕ) → i < length linked → j < length current → (bucket_at linked i).killed ≡ false → Meets (length linked) i (length current) j
       → IsVacant (bucket_at current j)
 
--- old bucket `index` was moved: it is killed, without a pair, and has its marks; its pairs are among the current ones, no mark is new, and
--- nothing else has changed; one that was killed already stays
+-- old bucket `index` was moved: it is killed, without a pair, and has its tombstones; its pairs are among the current ones, no tombstone
+-- is new, and nothing else has changed; one that was killed already stays
 pub record IsRelocated {K V : Type 0} (index : ℕ) (current linked new_current new_linked : List (BucketView K V)) : Type 0 where
   pub killed : (bucket_at new_linked index).killed ≡ true
   pub empty : pairs_in (bucket_at new_linked index) ≡ []
@@ -90,8 +90,8 @@ abbrev pub KeepsPlaces : {K V : Type 0} → List (BucketView K V) → List (Buck
 KeepsPlaces buckets after = (i : ℕ) (at : Place) → is_free (slot_in (bucket_at buckets i) at) ≡ false
     → slot_in (bucket_at after i) at ≡ slot_in (bucket_at buckets i) at
 
--- the live pairs of every bucket are the same, its marks, its own slots, its LRU list and whether it is killed, and none leaves its
--- place; only free slots may be more
+-- the live pairs of every bucket are the same, its tombstones, its own slots, its LRU list and whether it is killed, and none
+-- leaves its place; only free slots may be more
 pub record KeepsEntries {K V : Type 0} (buckets after : List (BucketView K V)) : Type 0 where
   pub len : length after ≡ length buckets
   pub entries : (i : ℕ) → entries_in (bucket_at after i) ≡ entries_in (bucket_at buckets i)

@@ -29,7 +29,7 @@ pub record Closes (before : TicketState) (unit : ℕ) (success : Bool) (after : 
 abbrev pub IsOver : TicketState → Type 0
 IsOver state = (state.open_units ≡ []) × (state.len ≤ 64 * state.position)
 
--- `Done` says that each bucket of the ticket's unit is killed, and the answer whether the old array goes
+-- `Done` says that each bucket of the ticket's unit is killed, and the answer whether the old array is dropped
 abbrev pub Ends : TicketState → ℕ → Bool → Type 0 → Result Bool TicketError → TicketState → Type 0
 Ends before ticket success Done (Err NotOpen) after = (IsOpen before ticket → ⊥) × (after ≡ before)
 Ends before ticket success Done (Err NotDone) after = IsOpen before ticket × (success ≡ true) × (Done → ⊥) × (after ≡ before)

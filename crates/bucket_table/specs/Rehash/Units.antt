@@ -40,7 +40,7 @@ pub record WantsMemory {K V : Type 0} (IsOne : ℕ → Type 0) (old new : Arrays
   pub alive : (bucket_at new.linked index).killed ≡ false
   pub needed : NeedsNoMemory index (index + 1) old → ⊥
 
--- each bucket is as it was, or its pairs have moved on: it is killed, has none, and keeps its marks
+-- each bucket is as it was, or its pairs have moved on: it is killed, has none, and keeps its tombstones
 abbrev pub SpendsSome : {K V : Type 0} → List (BucketView K V) → List (BucketView K V) → Type 0
 SpendsSome was is = (i : ℕ) → (bucket_at is i ≡ bucket_at was i)
     ⊎ (((bucket_at is i).killed ≡ true) × (pairs_in (bucket_at is i) ≡ []) × (marks_in (bucket_at is i) ≡ marks_in (bucket_at was i)))
@@ -49,7 +49,7 @@ SpendsSome was is = (i : ℕ) → (bucket_at is i ≡ bucket_at was i)
 abbrev pub IsAlive : {K V : Type 0} → List (BucketView K V) → ℕ → Type 0
 IsAlive buckets i = (i < length buckets) × ((bucket_at buckets i).killed ≡ false)
 
--- a bucket that isn't killed stays so, and its array stands on, unless it is one of some
+-- a bucket that isn't killed stays so, and its array stays, unless it is one of some
 abbrev pub KillsOnly : {K V : Type 0} → (ℕ → Type 0) → List (BucketView K V) → List (BucketView K V) → Type 0
 KillsOnly IsOne was is = (i : ℕ) → IsAlive was i → IsOne i ⊎ IsAlive is i
 
@@ -69,8 +69,8 @@ pub record AreWorked {K V : Type 0} (count : ℕ) (old new : ArraysView K V) : T
   pub killed : (i : ℕ) → 64 * old.tickets.position ≤ i → i < 64 * (old.tickets.position + count) → i < length new.linked
       → (bucket_at new.linked i).killed ≡ true
 
--- an old array stands on after some steps, each of which may work a unit: no bucket of it gets a pair, as many tickets are open,
--- the position has risen by one a step at most, and of the next units those that are easy one after another are worked
+-- an old array stays after some steps, each of which may work a unit: no bucket of it gets a pair, as many tickets are open, the
+-- position has risen by one a step at most, and of the next units those that are easy one after another are worked
 pub record HasWorkedUnits {K V : Type 0} (steps : ℕ) (old new : ArraysView K V) : Type 0 where
   pub len : length new.linked ≡ length old.linked
   pub spent : SpendsSome old.linked new.linked
@@ -79,13 +79,13 @@ pub record HasWorkedUnits {K V : Type 0} (steps : ℕ) (old new : ArraysView K V
   pub most : new.tickets.position ≤ old.tickets.position + steps
   pub worked : (count : ℕ) → count ≤ steps → UnitsNeedNoMemory count old → AreWorked count old new
 
--- some steps, each of which works a unit, and some current buckets that get ready: no old array comes, one that stood is gone or
--- stands on, and no old bucket is killed but those of the next units, one a step, and the sources of these buckets
+-- some steps, each of which works a unit, and some current buckets that get ready: no old array is new, an earlier one is
+-- dropped or stays, and no old bucket is killed but those of the next units, one a step, and the sources of these buckets
 pub record WorksUnits {K V : Type 0} (steps : ℕ) (GetsReady : ℕ → Type 0) (old new : ArraysView K V) : Type 0 where
   pub stands : 0 < length new.linked → HasWorkedUnits steps old new
   pub only : KillsOnly (IsDue steps GetsReady old) old.linked new.linked
 
--- the steps of a walk that goes through some buckets: one before each, and one more where it is refused
+-- the steps of a walk that goes through some buckets: one before each, and one more where it fails
 abbrev pub steps_of : {A E : Type 0} → Result A E → ℕ → ℕ
 steps_of (Ok done) count = count
 steps_of (Err refused) count = count + 1

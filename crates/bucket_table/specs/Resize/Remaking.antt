@@ -17,15 +17,15 @@ pub record IsSettledAt {K V : Type 0} (capacity : ℕ) (arrays : ArraysView K V)
   pub alone : length arrays.linked ≡ 0
   pub len : IsLengthFor capacity (length arrays.current)
 
--- LRU order goes along in two moves: the pairs of the old array move on, and then, where an array for a capacity is made, all of them do
+-- LRU order is carried in two moves: the pairs of the old array move on, and then, where an array for a capacity is made, all of them do
 pub record CarriesOrderTo {K V : Type 0} (capacity : ℕ) (old new : ArraysView K V) : Type 0 where
   pub between : ArraysView K V
   pub first : CarriesOrder old between
   pub again : (new ≡ between) ⊎ ((pushed : ArraysView K V) × IsPushed capacity between pushed × CarriesOrder pushed new)
 
--- all pairs go to one array for a capacity, in which they stand unless allocation fails; no ticket is open any more, and where one array
--- of that length stood alone nothing changes; the current array has its length or that one, and where it had that one, memory is wanted for
--- an old bucket alone
+-- all pairs move to one array for a capacity, in which they are unless allocation fails; no ticket is open any more, and where one array of
+-- that length was alone nothing changes; the current array has its length or that one, and where it had that one, memory is needed for an
+-- old bucket alone
 pub record RehashesTo {K V E : Type 0} (capacity : ℕ) (old : ArraysView K V) (answer : Result (Unit {0}) E) (new : ArraysView K V) : Type 0 where
   pub kept : Keeps (unopened old) new
   pub none_open : new.tickets.open_units ≡ []

@@ -36,7 +36,7 @@ all_by_age (bucket ∷ buckets) = pairs_by_age bucket ++ all_by_age buckets
 abbrev pub arrays_by_age : {K V : Type 0} → ArraysView K V → List (K × V)
 arrays_by_age arrays = all_by_age arrays.current ++ all_by_age arrays.linked
 
--- a pair is put into its home, after what goes for it
+-- a pair is put into its home, after an eviction for it
 abbrev pub PutsHome : {K V : Type 0} → (K → ℕ) → List (BucketView K V) → K × V → List (BucketView K V) → Type 0
 PutsHome {K} {V} hash old pair new =
     (index : ℕ) × (gone : Option (K × V)) × IsHome (length old) (hash pair.0) index × Goes (bucket_at old index) gone
@@ -48,14 +48,14 @@ PutsEach hash old [] new = new ≡ old
 PutsEach {K} {V} hash old (pair ∷ pairs) new =
     (between : List (BucketView K V)) × PutsHome hash old pair between × PutsEach hash between pairs new
 
--- a table may take pairs in: one array alone stands, at the greatest capacity, and no key comes twice among these pairs and its own
+-- a table may take pairs in: one array alone stands, at the greatest capacity, and no key occurs twice among these pairs and its own
 pub record Awaits {K V H : Type 0} (eq : K → K → Bool) (table : TableView K V H) (pairs : List (K × V)) : Type 0 where
   pub stands : 0 < length table.arrays.current
   pub alone : length table.arrays.linked ≡ 0
   pub full : 32 * length table.arrays.current ≡ table.arrays.maximum
   pub distinct : IsDistinct eq (map (λ pair. pair.0) (pairs ++ pairs_of table.arrays))
 
--- some pairs are put into the current array in turn, nothing else changes, and those that went for others are gone
+-- some pairs are put into the current array in turn, nothing else changes, and those that were evicted for others are dropped
 pub record Pours {K V H : Type 0} (hash : H → K → ℕ) (old : TableView K V H) (pairs : List (K × V)) (new : TableView K V H) : Type 0 where
   pub each : PutsEach (hash old.hasher) old.arrays.current pairs new.arrays.current
   pub others : new ≡ record old { arrays = record old.arrays { current = new.arrays.current } }
@@ -63,7 +63,7 @@ pub record Pours {K V H : Type 0} (hash : H → K → ℕ) (old : TableView K V 
   pub parts : IsPermutation (pairs ++ pairs_of old.arrays) (gone ++ pairs_of new.arrays)
 
 -- a new array for a capacity, which is both the minimum and the maximum, stands alone, and each pair was put into it by age; those that
--- went for others are gone
+-- were evicted for others are dropped
 pub record Renews {K V : Type 0} (hash : K → ℕ) (capacity : ℕ) (old new : ArraysView K V) : Type 0 where
   pub fresh : List (BucketView K V)
   pub fresh_is : IsNewArray capacity fresh

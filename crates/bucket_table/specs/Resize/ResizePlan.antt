@@ -29,9 +29,9 @@ pub record IsPlanTo (slots capacity : ℕ) (IsAskedAtFirst : ℕ → Type 0) (pl
   pub greater : slots < capacity → plan ≡ Resize capacity
   pub less : capacity < slots → (asked : ℕ) × IsAskedAtFirst asked × (capacity < asked → plan ≡ Keep) × (asked ≤ capacity → plan ≡ Resize capacity)
 
--- the plan for an array whose buckets have so many live slots, by the last estimate:
--- a table that may be without an array gives it up where all its buckets are empty; a table that is
--- neither too full nor too empty keeps it; any other goes by the middle estimate
+-- the plan for an array whose buckets have so many live slots, by the last estimate: a table that
+-- may be without an array drops it where all its buckets are empty; a table that is neither too
+-- full nor too empty keeps it; any other goes by the middle estimate
 pub record IsPlan (counts : List ℕ) (minimum maximum : ℕ) (plan : Plan) : Type 0 where
   pub large : ℕ
   pub large_is : IsLargeSample (length counts) large

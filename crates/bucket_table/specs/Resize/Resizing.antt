@@ -17,7 +17,7 @@ pub record IsMade {K V : Type 0} (old new : ArraysView K V) : Type 0 where
   pub fresh_is : IsNewArray old.minimum fresh
   pub new_is : new ≡ record old { current = fresh }
 
--- the current array, which has no pair, is given up
+-- the current array, which has no pair, is dropped
 pub record IsGivenUp {K V : Type 0} (old new : ArraysView K V) : Type 0 where
   pub empty : entries_among old.current ≡ []
   pub alone : length old.linked ≡ 0

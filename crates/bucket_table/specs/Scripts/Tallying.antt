@@ -14,7 +14,8 @@ pub record Tallies {K V : Type 0} (buckets pairs : ℕ) (lent : BucketView K V) 
   pub buckets_are : buckets_then ≡ sum_to buckets 1
   pub pairs_are : pairs_then ≡ sum_to pairs (length (pairs_in lent))
 
--- the bucket's live pairs are taken out, or marked with an epoch, each at its place, and counted; the flag is set where there was one, and the walk goes on
+-- the bucket's live pairs are taken out, or made tombstones with an epoch, each at its place, and counted; the flag is set where there was
+-- one, and the walk goes on
 pub record Empties {K V : Type 0} (kind epoch count : ℕ) (lent : BucketView K V) (flag more : Bool) (left : BucketView K V) (last : Bool) (count_then : ℕ) : Type 0 where
   pub goes_on : more ≡ true
   pub none_left : pairs_in left ≡ []

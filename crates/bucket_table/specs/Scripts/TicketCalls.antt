@@ -20,7 +20,7 @@ rehash_of arrays = record { tickets = arrays.tickets; killed = killed_flags arra
 abbrev pub no_rehash : RehashState
 no_rehash = record { tickets = first_tickets 0; killed = [] }
 
--- a ticket ends as its unit's buckets are killed; the old array goes where nothing of it is left to do
+-- a ticket ends as its unit's buckets are killed; the old array is dropped where nothing of it is left to do
 abbrev pub EndsTicket : RehashState → ℕ → Bool → Result Bool TicketError → RehashState → Type 0
 EndsTicket before ticket success (Ok true) after =
     ((last : TicketState) × Ends before.tickets ticket success (IsUnitKilled before.killed (ticket / 2048)) (Ok true) last)

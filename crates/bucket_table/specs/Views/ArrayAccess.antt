@@ -12,8 +12,8 @@ use Rattle.bucket_table.specs.Resize.Resizing.{MakesArray}
 use Rattle.bucket_table.specs.Views.TableRow.{table_row}
 use Rattle.bucket_table.specs.declared.key_hash.KeyHash as key_hash
 
--- the array that is lent is the current one, made where there was none, and the hasher stays; refused, there was
--- none, and all stays
+-- the array that is lent is the current one, made where there was none, and the hasher stays; if it fails, there
+-- was none, and all stays
 abbrev pub GetsArray : {K V H E : Type 0} → TableView K V H → Result (Bor (List (BucketView K V))) E → TableView K V H → Type 0
 GetsArray old (Ok array) new = (new.arrays.current ≡ array.now) × MakesArray old.arrays new.arrays × (new.hasher ≡ old.hasher)
 GetsArray old (Err refused) new = (length old.arrays.current ≡ 0) × (new ≡ old)

@@ -9,7 +9,7 @@ use Rattle.bucket_table.specs.Rehash.Relocation.{AreTwoArrays, entries_among, ma
 use Rattle.bucket_table.specs.Rehash.State.{TicketState}
 use Rattle.bucket_table.specs.Rehash.Covered.{IsCovered}
 
--- the least and the greatest capacity, the current array, and the old one while a rehash is on, with its tickets
+-- the least and the greatest capacity, the current array, and the old one during an incremental rehash, with its tickets
 pub record ArraysView (K V : Type 0) : Type 0 where
   pub minimum : ℕ
   pub maximum : ℕ
@@ -26,7 +26,7 @@ list_of (Some xs) = xs
 abbrev pub entries_of : {K V : Type 0} → ArraysView K V → List ((K × V) × ℕ)
 entries_of arrays = entries_among arrays.current ++ entries_among arrays.linked
 
--- the marked pairs of the current array with their epochs, and then of the old one
+-- the pairs of the current array's tombstones with their epochs, and then of the old one
 abbrev pub marks_of : {K V : Type 0} → ArraysView K V → List ((K × V) × ℕ)
 marks_of arrays = marks_among arrays.current ++ marks_among arrays.linked
 

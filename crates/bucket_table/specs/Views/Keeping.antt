@@ -13,7 +13,7 @@ use Rattle.bucket_table.specs.Rehash.State.{TicketState}
 abbrev pub KeepsOpenTickets : TicketState → TicketState → Type 0
 KeepsOpenTickets old new = (unit : ℕ) → count_by (λ other. other == unit) new.open_units ≡ count_by (λ other. other == unit) old.open_units
 
--- the pairs, the capacities and the open tickets stay, and no mark is new
+-- the pairs, the capacities and the open tickets stay, and no tombstone is new
 pub record Keeps {K V : Type 0} (old new : ArraysView K V) : Type 0 where
   pub pairs : IsPermutation (entries_of old) (entries_of new)
   pub marks : HasNoNewMark (marks_of old) (marks_of new)
@@ -21,7 +21,7 @@ pub record Keeps {K V : Type 0} (old new : ArraysView K V) : Type 0 where
   pub maximum : new.maximum ≡ old.maximum
   pub open_tickets : KeepsOpenTickets old.tickets new.tickets
 
--- and so does the length of the current array, and recency goes along
+-- and so does the length of the current array, and the LRU order is carried
 pub record KeepsArrays {K V : Type 0} (old new : ArraysView K V) : Type 0 where
   pub keeps : Keeps old new
   pub current_len : length new.current ≡ length old.current

@@ -81,8 +81,8 @@ units_passed (Err Memory) passed = passed + 1
 units_passed result passed = passed
 
 -- a cursor passes current buckets, from the one whose interval has a hash on, or none where the hash is past all: before each a unit is
--- worked, and its sources are killed then. The pairs and the length of the current array stay; without an old array all does, and it is
--- refused only where allocation fails for a source of the next bucket
+-- worked, and its sources are killed then. The pairs and the length of the current array stay; without an old array all does, and it
+-- fails only where allocation fails for a source of the next bucket
 pub record Passes {K V A : Type 0} (index_of : A → ℕ) (bound : ℕ) (old : ArraysView K V) (result : Result A Missing) (new : ArraysView K V) : Type 0 where
   pub from : ℕ
   pub passed : ℕ
@@ -101,7 +101,7 @@ pub record ShrinksThenPasses {K V A : Type 0} (index_of : A → ℕ) (side : Sid
   pub asked : ResizesIf ((pairs_in (bucket_on old side index) ≡ []) × AsksShrinking old index) old between
   pub passes : Passes index_of (bound_of (length (buckets_on old side)) (index + 1)) between result new
 
--- a cursor sets out in a table: the map and the open tickets stay, no mark is new, and it goes on from the least hash
+-- a cursor sets out in a table: the map and the open tickets stay, no tombstone is new, and it continues from the least hash
 pub record SetsOut {K V H : Type 0} (kind : ℕ) (hash : H → K → ℕ) (old : TableView K V H) (result : Result ℕ Missing) (at : Place) (new : TableView K V H) : Type 0 where
   pub map : KeepsPairs (state_of kind old) (state_of kind new)
   pub bag : KeepsOpenTickets old.arrays.tickets new.arrays.tickets
@@ -109,8 +109,8 @@ pub record SetsOut {K V H : Type 0} (kind : ℕ) (hash : H → K → ℕ) (old :
   pub found : IsFoundFrom (hash old.hasher) 0 result new.arrays at
   pub passes : Passes (λ index. index) 0 old.arrays result new.arrays
 
--- a cursor advances in a table: the map and the open tickets stay, and no mark is new. Where a live pair is ahead in its bucket, of the
--- old or of the current array, it stays there, at the next one; else it leaves
+-- a cursor advances in a table: the map and the open tickets stay, and no tombstone is new. Where a live pair is ahead in its bucket,
+-- of the old or of the current array, it stays there, at the next one; else it leaves
 pub record Advances {K V H : Type 0} (kind : ℕ) (hash : H → K → ℕ) (old : TableView K V H) (side : Side) (index : ℕ) (from : Place) (result : Result (Side × ℕ) Missing) (to : Place) (new : TableView K V H) : Type 0 where
   pub map : KeepsPairs (state_of kind old) (state_of kind new)
   pub bag : KeepsOpenTickets old.arrays.tickets new.arrays.tickets

@@ -11,7 +11,7 @@ use Rattle.bucket_table.specs.Views.ArraysView.{ArraysView, IsOneMap, pairs_of}
 use Rattle.bucket_table.specs.Walking.Row.{row_of, row_with}
 use Rattle.bucket_table.specs.Walking.Retains.{AreLeftOf, IsLeftOf}
 
--- what contracts see of an extraction: the arrays, and the pairs that weren't asked for yet, which come last in them
+-- what contracts see of an extraction: the arrays, and the pairs that the function wasn't called with yet, which come last in them
 pub record ExtractView (K V : Type 0) : Type 0 where
   pub arrays : ArraysView K V
   pub left : List (K × V)
@@ -30,8 +30,8 @@ pub record KeepsShape {K V : Type 0} (old new : ArraysView K V) : Type 0 where
   pub current_len : length new.current ≡ length old.current
   pub linked_len : length new.linked ≡ length old.linked
 
--- a function is asked of the pairs that are left, in turn, up to the first that it picks, which is taken out; those that it refused stay in
--- their order, as it left them, and no other pair changes; each bucket keeps its other slots and its LRU order
+-- a function is asked of the pairs that are left, in turn, up to the first that it picks, which is taken out; those that it didn't pick
+-- stay in their order, as it left them, and no other pair changes; each bucket keeps its other slots and its LRU order
 pub record Extracts {S K V : Type 0} (kind : ℕ) (asks : S → K × V → Bool → S → K × V → Type 0) (first : S) (old : ExtractView K V)
     (picked : Option (K × V)) (new : ExtractView K V) (last : S) : Type 0 where
   pub kept : List (K × V)
@@ -43,7 +43,7 @@ pub record Extracts {S K V : Type 0} (kind : ℕ) (asks : S → K × V → Bool 
   pub linked : AreLeftOf kind 0 old.arrays.linked new.arrays.linked
 
 -- the pair in a live slot is asked for: where the answer is the one that keeps it, it is there with the value last written, else it is
--- gone, and handed out unless the kind is an index; the pairs before it and those ahead stay
+-- gone, and returned unless the kind is an index; the pairs before it and those ahead stay
 pub record AsksAt {S K V : Type 0} (step : S → Bor K → MutBor V → Bool → MutBor V → S → Type 0) (kind : ℕ) (keeps : Bool) (first : S)
     (pair : K × V) (old : BucketView K V) (at : Place) (picked : Option (K × V)) (new : BucketView K V) (to : Place) (last : S)
     : Type 0 where

@@ -10,8 +10,8 @@ use Rattle.bucket_table.specs.Views.Sides.{arrays_with, bucket_on}
 use Rattle.bucket_table.specs.declared.arrays.Missing.{Missing}
 use Rattle.bucket_table.specs.declared.arrays.side.Side.TheVariants.{Current}
 
--- a current bucket is left with what is kept, each pair at its place, its marks with their epochs, and others with this one; nothing else
--- changes
+-- a current bucket is left with what is kept, each pair at its place, its tombstones with their epochs, and others with this one; nothing
+-- else changes
 pub record RetainsAt {K V : Type 0} (IsTest : (K × V → Bool) → Type 0) (kind epoch : ℕ) (old : ArraysView K V) (index : ℕ) (count : ℕ) (new : ArraysView K V) : Type 0 where
   pub left : BucketView K V
   pub retains : Retains IsTest (bucket_on old Current index) left count
@@ -33,7 +33,7 @@ pub record SweepsAt {K V : Type 0} (IsTest : (K × V → Bool) → Type 0) (kind
   pub retained : RetainsAt IsTest kind epoch old.arrays index count visited
   pub departs : ShrinksThenPasses (λ to. to) Current index visited place new.arrays
 
--- a cursor sets out, and goes from one bucket that is swept to the next
+-- a cursor sets out, and moves from one bucket that is swept to the next
 pub record Sweeps {K V : Type 0} (IsTest : (K × V → Bool) → Type 0) (kind epoch : ℕ) (old : ArraysView K V) (last : SweepState K V) : Type 0 where
   pub first : SweepState K V
   pub sets_out : Passes (λ index. index) 0 old first.place first.arrays

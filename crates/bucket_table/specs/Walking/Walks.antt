@@ -18,7 +18,7 @@ use Rattle.bucket_table.specs.declared.arrays.side.Side.TheVariants.{Current}
 abbrev pub keys_in : {K V : Type 0} → BucketView K V → List (K × ℕ)
 keys_in bucket = map (λ entry. (entry.0.0, entry.1)) (entries_in bucket)
 
--- what a closure owes of a bucket that is lent to it: some of its keys go, and no other comes
+-- what a closure owes of a bucket that is lent to it: some of its keys are removed, and none is new
 pub record IsKeptBy {K V : Type 0} (lent left : BucketView K V) : Type 0 where
   pub gone : List (K × ℕ)
   pub keys : IsPermutation (keys_in lent) (gone ++ keys_in left)
@@ -56,8 +56,8 @@ pub record BeginsAt (len expected start from : ℕ) : Type 0 where
   pub early : expected ≢ 0 → 0 < len → bound_of len from ≤ bound_of expected start
   pub reaches : expected ≢ 0 → 0 < len → bound_of expected start < bound_of len (from + 1)
 
--- where a walk wasn't refused, and its truth value is set, it ends with a resize where its first buckets have few live pairs, which
--- keeps the map
+-- where a walk didn't fail, and its flag is set, it ends with a resize where its first buckets have few live pairs, which keeps the
+-- map
 abbrev pub EndsWalk : {K V : Type 0} → Bool → ArraysView K V → ArraysView K V → Type 0
 EndsWalk true ended new = ResizesIf (AsksShrinking ended 0) ended new × Keeps ended new
 EndsWalk false ended new = new ≡ ended
@@ -72,8 +72,8 @@ VisitsEach old index [] new = MovesOn old new
 VisitsEach {K} {V} old index (visit ∷ visits) new = (ready : ArraysView K V) × MovesOn old ready × (visit.lent ≡ bucket_on ready Current index)
     × VisitsEach (arrays_with ready Current index visit.left) (index + 1) visits new
 
--- a walk by a visitor: it comes to the array's end, is stopped, or is refused where allocation fails for a source of the next bucket.
--- Before its end the current array keeps its length, also beside an old array that goes
+-- a walk by a visitor: it reaches the array's end, is stopped, or fails where allocation fails for a source of the next bucket.
+-- Before its end the current array keeps its length, also beside an old array that is dropped
 pub record WalksBy {S A E K V : Type 0} (step : S → BucketView K V → Bool → Bool → BucketView K V → Bool → S → Type 0) (hash : K → ℕ) (expected start : ℕ)
     (first : S) (old : ArraysView K V) (result : Result A E) (now : S) (new : ArraysView K V) : Type 0 where
   pub from : ℕ

@@ -1,6 +1,7 @@
 //! An iterator over the pairs of a cache's arrays: bucket by bucket, those of each by use.
 //!
-//! A bucket's own slots come first, the one touched last before the others, and then its chain.
+//! Of a bucket, the own slots are first, the one touched last before the others, and then its
+//! chain.
 ghost use Rattle.std.specs.Prelude.{◌≡◌, ◌∷◌, MatchOption, drop};
 ghost use Rattle.std.specs.Iterator.{YieldsFirstBy, item_count};
 ghost use Rattle.bucket_slots.specs.ByUse.{pairs_by_use};
@@ -50,7 +51,7 @@ impl<'a, K, V> BucketByUse<'a, K, V> {
         }
     }
 
-    /// Gives the next pair. The array tells that its buckets fit in memory.
+    /// Returns the next pair. The array is passed since it states that its buckets fit in memory.
     fn next_pair(
         &mut self,
         array: &BucketArray<K, V, DoublyLinkedList, CACHE>,
@@ -76,8 +77,8 @@ impl<'a, K, V> BucketByUse<'a, K, V> {
     }
 }
 
-/// Moves to the next live slot of a bucket, and lends its pair; at the end it lends none and is the
-/// null pointer.
+/// Moves a pointer to the next live slot of a bucket, and returns that slot's pair. At the end the
+/// pointer becomes null, and there is none.
 #[inline(always)]
 fn pair_past<'b, K, V>(
     bucket: &'b Bucket<K, V, DoublyLinkedList, CACHE>,
@@ -94,7 +95,7 @@ fn pair_past<'b, K, V>(
     }
 }
 
-/// Gives the pair of the next own slot that is live, of those in an array from an index on.
+/// Returns the pair of the next live own slot, of those in an array from an index on.
 fn own_past<'b, K, V>(
     bucket: &'b Bucket<K, V, DoublyLinkedList, CACHE>,
     slots: &[u8; BUCKET_LEN],
@@ -144,7 +145,7 @@ impl<'a, K, V> ArrayByUse<'a, K, V> {
         }
     }
 
-    /// Gives the next pair.
+    /// Returns the next pair.
     fn next_pair(&mut self) -> Option<(&'a K, &'a V)>
         ensures { YieldsFirstBy (λ pair. (pair.0.now, pair.1.now)) (λ left. left) self.old result
             self.new }
@@ -209,7 +210,7 @@ impl<'a, K, V> Iterator for PairsByUse<'a, K, V> {
 
 impl<'a, K, V> FusedIterator for PairsByUse<'a, K, V> {}
 
-/// Gives the next pair of an array.
+/// Returns the next pair of an array.
 fn next_of<'a, K, V>(pairs: &mut Option<ArrayByUse<'a, K, V>>) -> Option<(&'a K, &'a V)>
     ensures { YieldsFirstBy (λ pair. (pair.0.now, pair.1.now)) left_of pairs.old result pairs.new }
 {

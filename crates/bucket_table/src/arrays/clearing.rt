@@ -1,4 +1,4 @@
-//! All arrays dropped.
+//! Dropping all arrays.
 ghost use Rattle.std.specs.Prelude.{◌≡◌, []};
 ghost use Rattle.bucket_table.specs.Rehash.State.{first_tickets};
 

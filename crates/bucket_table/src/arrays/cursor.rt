@@ -27,7 +27,7 @@ impl<K: Eq + Drop, V: Drop, L: LruList + Drop, const TYPE: u8> Arrays<K, V, L, T
     ///
     /// # Errors
     ///
-    /// No live pair is there, or allocation failed: the pointer is null.
+    /// There is no live pair, or allocation failed: the pointer is null.
     pub(crate) fn first_from<H: KeyHash<K>>(
         &mut self,
         hasher: &H,
@@ -177,8 +177,8 @@ impl<K: Eq + Drop, V: Drop, L: LruList + Drop, const TYPE: u8> Arrays<K, V, L, T
         visitor.visit(self.bucket_of_mut(Side::Current, index), flag)
     }
 
-    /// Takes out of a current bucket each pair that `keep` refuses, or leaves a tombstone in an
-    /// index. Returns how many.
+    /// Removes each pair of a current bucket for which `keep` returns false; in an index it becomes
+    /// a tombstone. Returns how many.
     pub(crate) fn retain_at<F: Fn(&K, &V) -> bool, G: Generation>(
         &mut self,
         index: usize,
@@ -196,8 +196,8 @@ impl<K: Eq + Drop, V: Drop, L: LruList + Drop, const TYPE: u8> Arrays<K, V, L, T
     }
 }
 
-/// Returns the index in an array of `to` buckets from which a walk goes on that has come to `index`
-/// in one of `from` buckets.
+/// Returns the index in an array of `to` buckets from which a walk continues that has reached
+/// `index` in one of `from` buckets.
 fn scaled(from: usize, to: usize, index: usize) -> usize
     requires from_length { IsLength from }
     requires to_length { IsLength to }

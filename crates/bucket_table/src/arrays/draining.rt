@@ -12,8 +12,8 @@ use bucket_slots::lru::LruList;
 use std::iter::FusedIterator;
 use std::marker::Model;
 
-/// The pairs of a table by value that are left, those behind a place. What is left when it is
-/// dropped is dropped, and the memory of the slots goes with it.
+/// The pairs of a table by value that are left, those behind a place. Dropping it drops these pairs
+/// and the memory of the slots.
 #[derive(Drop)]
 pub struct TableDrain<K, V, L: LruList, const TYPE: u8> {
     arrays: Arrays<K, V, L, TYPE>,
@@ -65,7 +65,7 @@ impl<K: Drop, V: Drop, L: LruList, const TYPE: u8> Arrays<K, V, L, TYPE> {
 }
 
 impl<K, V, L: LruList, const TYPE: u8> Arrays<K, V, L, TYPE> {
-    /// Takes both arrays out, and begins with all pairs; the tickets go.
+    /// Takes both arrays out, and begins with all pairs. The tickets are dropped.
     pub(crate) fn drain(&mut self) -> TableDrain<K, V, L, TYPE>
         requires not_index { TYPE ≢ INDEX }
         ensures pairs { result ≡ pairs_of self.old }

@@ -1,4 +1,4 @@
-//! Pairs taken out of the arrays one after another, where a function picks them.
+//! Taking pairs out of the arrays one after another, as a function picks them.
 ghost use Rattle.std.specs.Prelude.{◌≡◌, ◌≢◌, ◌<◌, [], IsTrue, Some, length};
 ghost use Rattle.bucket_slots.specs.ArrayView.{bucket_at};
 ghost use Rattle.bucket_slots.specs.BucketView.{slot_in};
@@ -16,8 +16,8 @@ use bucket_slots::lru::LruList;
 use std::marker::Model;
 use std::mem;
 
-/// A table's arrays, and the place behind which the pairs weren't asked for yet. What is in them is
-/// dropped with it.
+/// A table's arrays, and the place behind which `pick` wasn't called yet. Dropping it drops the
+/// arrays.
 #[derive(Drop)]
 pub struct TableExtract<K, V, L: LruList, const TYPE: u8> {
     arrays: Arrays<K, V, L, TYPE>,
@@ -39,10 +39,10 @@ impl<K, V, L: LruList, const TYPE: u8> Model for TableExtract<K, V, L, TYPE> {
 }
 
 impl<K: Drop, V: Drop, L: LruList, const TYPE: u8> TableExtract<K, V, L, TYPE> {
-    /// Asks `pick` of the pairs that are left, in turn, with each pair's value lent for writing, up
-    /// to the first that it picks, and takes that one out; `None` where it picks none.
+    /// Calls `pick` with the pairs that are left, in turn, each pair's value lent for writing, up
+    /// to the first for which it returns true, and takes that one out; `None` if there is none.
     ///
-    /// Takes no memory. O(pairs asked for, and buckets passed), and the calls of `pick`. Own.
+    /// Takes no memory. O(pairs and buckets passed), and the calls of `pick`. Own.
     pub fn extract_next<F: FnMut(&K, &mut V) -> bool>(&mut self, pick: &mut F) -> Option<(K, V)>
         requires callable { F.IsAlwaysCallable pick.old }
         ensures again { F.IsAlwaysCallable pick.new }
@@ -65,7 +65,7 @@ impl<K: Drop, V: Drop, L: LruList, const TYPE: u8> TableExtract<K, V, L, TYPE> {
 }
 
 impl<K, V, L: LruList, const TYPE: u8> TableExtract<K, V, L, TYPE> {
-    /// Changes its arrays for others; which pairs are left is of no use then.
+    /// Exchanges its arrays for others. The place has no meaning then.
     pub(crate) fn swap_arrays(&mut self, arrays: &mut Arrays<K, V, L, TYPE>)
         ensures there { arrays.new ≡ self.old.arrays }
     {
@@ -73,8 +73,8 @@ impl<K, V, L: LruList, const TYPE: u8> TableExtract<K, V, L, TYPE> {
     }
 }
 
-/// Asks `pick` of the pair in a live slot of a bucket of the row, and takes it out where it is
-/// picked.
+/// Calls `pick` with the pair in a live slot of a bucket of the row, and takes it out if it returns
+/// true.
 #[inline(always)]
 fn ask_at<K: Drop, V: Drop, L: LruList, F: FnMut(&K, &mut V) -> bool, const TYPE: u8>(
     arrays: &mut Arrays<K, V, L, TYPE>,
@@ -113,7 +113,7 @@ impl<K, V, L: LruList, const TYPE: u8> Arrays<K, V, L, TYPE> {
         }
     }
 
-    /// Takes both arrays out with their tickets; none stands then.
+    /// Takes both arrays out with their tickets; none is left.
     pub(super) fn take_out(&mut self) -> Self
         ensures taken { result ≡ self.old }
         ensures arrays { self.new

@@ -1,4 +1,4 @@
-//! The bucket that a writer of a hash is given, and the growth that it may start.
+//! The bucket for a writer of a hash, and the growth that the writer may start.
 ghost use Rattle.std.specs.Prelude.{◌≡◌, ◌<◌, ◌↔◌, ℕ, IfNone, IfOk, IfSome, IsTrue, OnErr, OnOk, length};
 ghost use Rattle.bucket_slots.specs.Homes.{IsHome};
 ghost use Rattle.bucket_table.specs.Views.ArraysView.{ArePlaced};
@@ -23,7 +23,7 @@ impl<K: Eq + Drop, V: Drop, L: LruList + Drop, const TYPE: u8> Arrays<K, V, L, T
     ///
     /// # Errors
     ///
-    /// Allocation failure for a first array, or a source isn't killed.
+    /// Allocation failed, for a first array, or for a source, which isn't killed.
     #[inline(always)]
     pub(crate) fn find<H: KeyHash<K>>(
         &mut self,
@@ -46,8 +46,8 @@ impl<K: Eq + Drop, V: Drop, L: LruList + Drop, const TYPE: u8> Arrays<K, V, L, T
         Ok((side, index))
     }
 
-    /// Makes a first array where there is none; beside an old one works a unit, and moves the
-    /// sources of the home of a hash.
+    /// Works a unit, and moves the sources of the home of a hash. Makes a first array if there is
+    /// none.
     #[inline(always)]
     fn fetch_or_make<H: KeyHash<K>>(&mut self, hasher: &H, hash: u64) -> Result<(), AllocError>
         requires placed { ArePlaced (H.hash_of hasher.now) self.old }
@@ -71,8 +71,8 @@ impl<K: Eq + Drop, V: Drop, L: LruList + Drop, const TYPE: u8> Arrays<K, V, L, T
         Ok(())
     }
 
-    /// Resizes where the bucket that a writer was given asks for it. Returns the side that its
-    /// array is on then: the old one after a growth.
+    /// Resizes if a writer of a hash tries a growth at this bucket. Returns the side of the
+    /// bucket's array then: the old one after a growth.
     #[inline(always)]
     pub(crate) fn grow_at(&mut self, hash: u64, index: usize) -> Side
         requires within { index < length self.old.current }
@@ -93,7 +93,7 @@ impl<K: Eq + Drop, V: Drop, L: LruList + Drop, const TYPE: u8> Arrays<K, V, L, T
 }
 
 impl<K, V, L: LruList, const TYPE: u8> Arrays<K, V, L, TYPE> {
-    /// Returns whether a writer of a hash that was given a bucket looks into a growth.
+    /// Returns whether a writer of a hash, for which this bucket was found, tries a growth.
     #[inline(always)]
     fn writer_asks_growth(&self, hash: u64, index: usize) -> bool
         requires within { index < length self.now.current }
@@ -117,7 +117,7 @@ impl<K, V, L: LruList, const TYPE: u8> Arrays<K, V, L, TYPE> {
 }
 
 impl<K, V, L: LruList, const TYPE: u8> Arrays<K, V, L, TYPE> {
-    /// Returns the index of a hash's home in the current array, where it may be locked at once.
+    /// Returns the index of a hash's home in the current array, if it may be locked at once.
     pub(crate) fn free_home(&self, hash: u64, is_checked: bool) -> Option<usize>
         ensures free { IfSome result (λ index. MayLockAtOnce is_checked self.now hash index) }
         ensures within { IfSome result (λ index. index < length self.now.current) }
@@ -138,8 +138,8 @@ impl<K, V, L: LruList, const TYPE: u8> Arrays<K, V, L, TYPE> {
         Some(index)
     }
 
-    /// Returns the index of a hash's home in the current array, where no old one stands and the
-    /// home's digest tells that a writer asks for no growth there.
+    /// Returns the index of a hash's home in the current array, if there is no old one and the
+    /// home's digest shows that a writer tries no growth there.
     #[inline(always)]
     pub(crate) fn roomy_home(&self, hash: u64) -> Option<usize>
         ensures { IfSome result (λ index. IsRoomy self.now hash index) }

@@ -69,7 +69,7 @@ impl<K, V, L: LruList, const TYPE: u8> Arrays<K, V, L, TYPE> {
         }
     }
 
-    /// No work: a proof of generic code learns that a bucket fits in memory.
+    /// States that a bucket fits in memory; does nothing at run time.
     #[inline(always)]
     pub(crate) fn room_of(&self, side: Side)
         requires { 0 < length (buckets_on self.now side) }
@@ -121,7 +121,7 @@ fn entry_in<'a, K, V, L: LruList, const TYPE: u8>(
     }
 }
 
-/// Makes the pair in a live slot of a bucket of one side the one of its bucket touched last.
+/// Makes the pair in a live slot of a bucket of one side the one touched last in its bucket.
 #[inline(always)]
 pub(super) fn touch_in<K, V, L: LruList, const TYPE: u8>(
     held: &mut Option<BucketArray<K, V, L, TYPE>>,
@@ -140,7 +140,7 @@ pub(super) fn touch_in<K, V, L: LruList, const TYPE: u8>(
     }
 }
 
-/// Puts a pair into a bucket of one side where no live slot of it has an equal key.
+/// Inserts a pair into a bucket of one side, if no live slot there has an equal key.
 #[inline(always)]
 pub(super) fn insert_in<K: Eq + Drop, V: Drop, L: LruList, G: Generation, const TYPE: u8>(
     held: &mut Option<BucketArray<K, V, L, TYPE>>,
@@ -165,7 +165,7 @@ pub(super) fn insert_in<K: Eq + Drop, V: Drop, L: LruList, G: Generation, const 
     }
 }
 
-/// Inserts a pair into a bucket of one side, or writes its value beside the key that is equal.
+/// Inserts a pair into a bucket of one side, or writes its value beside the equal key.
 #[inline(always)]
 pub(super) fn upsert_in<K: Eq + Drop, V: Drop, L: LruList, G: Generation, const TYPE: u8>(
     held: &mut Option<BucketArray<K, V, L, TYPE>>,

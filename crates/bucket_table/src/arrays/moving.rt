@@ -21,7 +21,7 @@ use bucket_slots::bucket_array::BucketArray;
 use bucket_slots::lru::LruList;
 use std::alloc::Global;
 
-/// The pairs of so many targets are counted without memory.
+/// Up to this number of targets, pairs are counted without memory.
 const COUNTED_TARGETS: usize = 8;
 
 /// Where the pair of an own slot has landed: the index of a bucket, and an own slot of it.
@@ -34,8 +34,8 @@ pub(crate) struct Landing {
 /// Moves the pairs of an old bucket to their homes in the current array, and kills it. A bucket
 /// that is killed already stays as it is.
 ///
-/// Room is made in all targets before a pair moves, where the old array is longer or the bucket
-/// has more pairs than an empty target takes. The LRU order goes along.
+/// Slots are reserved in all targets before a pair moves, if the old array is longer or the bucket
+/// has more pairs than an empty target has own slots. The LRU order moves along.
 ///
 /// # Errors
 ///
@@ -79,8 +79,8 @@ pub(crate) fn relocate<K: Eq + Drop, V: Drop, H: KeyHash<K>, L: LruList, const T
     Ok(())
 }
 
-/// Makes room for each pair of a bucket in its home, one of the buckets from `start` up to below
-/// `end`.
+/// Reserves a slot for each pair of a bucket in its home, one of the buckets from `start` up to
+/// below `end`.
 fn reserve_targets<K: Eq + Drop, V: Drop, H: KeyHash<K>, L: LruList, const TYPE: u8>(
     alloc: Global,
     hasher: &H,
@@ -138,8 +138,7 @@ fn count_targets<K: Eq, V, H: KeyHash<K>, L: LruList, const TYPE: u8>(
     }
 }
 
-/// Makes room in the buckets of an array from `start` on, in each as many free slots as `counts`
-/// says.
+/// Reserves slots in the buckets of an array from `start` on, in each as many as `counts` says.
 fn reserve_each<K: Drop, V: Drop, L: LruList, const TYPE: u8>(
     current: &mut BucketArray<K, V, L, TYPE>,
     start: usize,
@@ -221,8 +220,8 @@ fn move_pairs<K: Eq + Drop, V: Drop, H: KeyHash<K>, L: LruList, const TYPE: u8>(
     }
 }
 
-/// Moves the pair that a pointer stands at to its home, and says in `landings` where it landed. The
-/// pointer stays.
+/// Moves the pair at a pointer to its home, and says in `landings` where it landed. The pointer
+/// stays.
 #[inline(always)]
 #[tactic(auto, using(crate::proofs::Words::live_not_free))]
 fn move_pair<K: Eq + Drop, V: Drop, H: KeyHash<K>, L: LruList, const TYPE: u8>(
@@ -250,8 +249,8 @@ fn move_pair<K: Eq + Drop, V: Drop, H: KeyHash<K>, L: LruList, const TYPE: u8>(
     say_landing(landings, at, home, &to);
 }
 
-/// Says of a pair that moved from an own slot to one of bucket `home` where it landed, where there
-/// is room for it.
+/// Says in `landings` where a pair landed that moved from an own slot to one of bucket `home`, if
+/// there is room for it.
 #[inline(always)]
 fn say_landing<K, V, const TYPE: u8>(
     landings: &mut [Option<Landing>],
@@ -291,8 +290,9 @@ fn append_arrivals<K: Eq + Drop, V: Drop, L: LruList, const TYPE: u8>(
     }
 }
 
-/// Where the pair of a slot goes in an array: the index of its home, and a number with its byte.
-/// Where `start` is its one target, the stored byte is enough; else its key is hashed anew.
+/// Returns the index of the home of a slot's pair in an array, and a number whose low byte is its
+/// fingerprint. If `start` is the only target, the stored fingerprint is enough; else the key is
+/// hashed again.
 #[inline(always)]
 fn way_of<K: Eq, V, H: KeyHash<K>, L: LruList, const TYPE: u8>(
     hasher: &H,

@@ -1,4 +1,4 @@
-//! Whether a resize is looked into near a bucket, from the few buckets of the small sample.
+//! Whether a resize is tried near a bucket, from the few buckets of the small sample.
 ghost use Rattle.std.specs.Prelude.{ℕ, [], ◌≡◌, ◌<◌, ◌↔◌, IsTrue, length};
 ghost use Rattle.bucket_table.specs.Resize.Sampling.{IsCrowded, IsDeserted, live_counts};
 ghost use Rattle.bucket_table.specs.Views.ArraysView.{ArePlaced};
@@ -15,9 +15,9 @@ use bucket_slots::bucket_array::BucketArray;
 use bucket_slots::lru::LruList;
 
 impl<K: Drop, V: Drop, L: LruList + Drop, const TYPE: u8> Arrays<K, V, L, TYPE> {
-    /// Resizes where the buckets near this index have few live slots.
+    /// Resizes if the buckets near this index have few live slots.
     ///
-    /// An allocation failure leaves all as it was.
+    /// If allocation fails, nothing changes.
     #[inline(never)]
     pub(crate) fn try_shrink(&mut self, index: usize)
         ensures asked { ResizesIf (AsksShrinking self.old index) self.old self.new }
@@ -30,7 +30,7 @@ impl<K: Drop, V: Drop, L: LruList + Drop, const TYPE: u8> Arrays<K, V, L, TYPE> 
         let _ = self.try_resize();
     }
 
-    /// The same where a bucket has no live pair left.
+    /// Does the same if a bucket has no live pair left.
     #[inline(always)]
     pub(crate) fn shrink_emptied(&mut self, side: Side, index: usize)
         requires within { index < length (buckets_on self.old side) }
@@ -44,7 +44,7 @@ impl<K: Drop, V: Drop, L: LruList + Drop, const TYPE: u8> Arrays<K, V, L, TYPE> 
         self.shrink_left(side, index, left);
     }
 
-    /// The same of a bucket that has so many live pairs left.
+    /// Does the same if `left`, the number of live pairs left in a bucket, is 0.
     #[inline(always)]
     pub(crate) fn shrink_left(&mut self, side: Side, index: usize, left: usize)
         requires within { index < length (buckets_on self.old side) }

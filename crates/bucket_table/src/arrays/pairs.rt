@@ -1,7 +1,7 @@
 //! An iterator over the pairs of the arrays, in the order of their view.
 //!
-//! The type ends in a parameter that no field holds. Where `next` is, it is a loan of the kind of
-//! table, and tells the borrow checker that TYPE lives as long as the buckets.
+//! The type ends in a parameter that no field holds. In `next` it is a borrow of the kind of table,
+//! which tells the borrow checker that TYPE lives as long as the buckets.
 ghost use Rattle.std.specs.Prelude.{◌≡◌, ◌-◌, ◌^◌, length, min};
 ghost use Rattle.std.specs.Iterator.{YieldsFirstBy, item_count};
 ghost use Rattle.bucket_table.specs.Views.ArraysView.{pairs_of};
@@ -111,7 +111,7 @@ impl<'a, K, V, L: LruList, const TYPE: u8> FusedIterator
     for ArraysPairs<'a, K, V, L, TYPE, &'a Kind<TYPE>> {}
 
 impl<K, V, L: LruList, const TYPE: u8> Arrays<K, V, L, TYPE> {
-    /// Begins with all pairs.
+    /// Returns an iterator over all pairs.
     pub(crate) fn pairs(&self) -> TablePairs<'_, K, V, L, TYPE>
         ensures { result ≡ pairs_of self.now }
     {

@@ -11,7 +11,7 @@ use bucket_slots::lru::LruList;
 
 impl<K, V, L: LruList, const TYPE: u8> Arrays<K, V, L, TYPE> {
     /// Returns the first wanted pair of the old home of a hash, else of its current home. It asks
-    /// at most once for each live slot there with the hash's low byte.
+    /// at most once for each live slot there with the hash's fingerprint.
     #[inline(always)]
     pub(crate) fn peek_by<P: KeyProbe<K>>(&self, hash: u64, probe: &mut P) -> Option<(&K, &V)>
         ensures first { pair_lent result
@@ -42,8 +42,8 @@ impl<K, V, L: LruList, const TYPE: u8> Arrays<K, V, L, TYPE> {
 /// Returns the first wanted pair of the home of a hash in the old array, else of its home in the
 /// current one; `None` where neither has one.
 ///
-/// Asks at most once for each live slot of the two homes with the hash's low byte. Takes no memory.
-/// O(blocks in two chains). Own.
+/// Asks at most once for each live slot of the two homes with the hash's fingerprint. Takes no
+/// memory. O(blocks in two chains). Own.
 #[inline(always)]
 pub fn peek_arrays<'a, K, V, L: LruList, const TYPE: u8, P: KeyProbe<K>>(
     old: Option<&'a BucketArray<K, V, L, TYPE>>,

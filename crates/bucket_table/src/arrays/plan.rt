@@ -16,7 +16,7 @@ use bucket_slots::lru::LruList;
 pub enum Plan {
     /// Nothing.
     Keep,
-    /// The array is given up.
+    /// The array is dropped.
     GiveUp,
     /// An array for this capacity in slots becomes the current one.
     Resize(usize),
@@ -100,7 +100,7 @@ fn is_empty<K, V, L: LruList, const TYPE: u8>(array: &BucketArray<K, V, L, TYPE>
     true
 }
 
-/// No work: there is one plan for an array.
+/// States that there is one plan for an array; does nothing at run time.
 pub(crate) fn plans_are_one()
     ensures { (counts : List ℕ) (minimum maximum : ℕ) (plan other : Plan)
         → IsPlan counts minimum maximum plan

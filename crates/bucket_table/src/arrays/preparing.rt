@@ -1,4 +1,4 @@
-//! A current bucket whose old pairs have come.
+//! Making a current bucket ready: its pairs move to it from the old array.
 ghost use Rattle.std.specs.Prelude.{◌≡◌, ◌<◌, Err, IfErr, IsOk, OnErr, OnOk, length};
 ghost use Rattle.bucket_slots.specs.Homes.{IsHome};
 ghost use Rattle.bucket_table.specs.Views.ArraysView.{ArePlaced, AreSourcesKilled, IsSource};
@@ -42,7 +42,7 @@ impl<K: Eq + Drop, V: Drop, L: LruList + Drop, const TYPE: u8> Arrays<K, V, L, T
         }
     }
 
-    /// Works a unit, and moves the sources of a current bucket. Without an old array it does nothing.
+    /// Works a unit, and moves the sources of a current bucket. Does nothing without an old array.
     ///
     /// # Errors
     ///
@@ -69,7 +69,7 @@ impl<K: Eq + Drop, V: Drop, L: LruList + Drop, const TYPE: u8> Arrays<K, V, L, T
         self.prepare_beside(hasher, index)
     }
 
-    /// Works a unit beside an old array, and moves the sources of a current bucket.
+    /// Works a unit of the old array, and moves the sources of a current bucket.
     ///
     /// # Errors
     ///

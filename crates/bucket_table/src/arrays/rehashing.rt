@@ -1,4 +1,4 @@
-//! The tickets of a rehash over real arrays.
+//! The tickets of a rehash, and its arrays.
 ghost use Rattle.std.specs.Prelude.{◌≡◌, ◌^◌, ◌<◌, ◌↔◌, IsTrue};
 ghost use Rattle.bucket_table.specs.Views.ArraysView.{LosesNoUnit, entries_of, killed_flags, list_of};
 ghost use Rattle.bucket_table.specs.Rehash.Covered.{IsUnitKilled};
@@ -20,7 +20,8 @@ impl<K, V, L: LruList, const TYPE: u8> Arrays<K, V, L, TYPE> {
         self.tickets.start()
     }
 
-    /// Ends every ticket, and hands no unit out. What is killed has no pair left, so none is lost.
+    /// Ends every ticket, so that each unit is to be handed out again. A killed bucket has no pair
+    /// left, so no pair is lost.
     pub(crate) fn reset_tickets(&mut self)
         ensures { self.new ≡ unopened self.old }
     {
@@ -30,7 +31,7 @@ impl<K, V, L: LruList, const TYPE: u8> Arrays<K, V, L, TYPE> {
 }
 
 impl<K: Drop, V: Drop, L: LruList + Drop, const TYPE: u8> Arrays<K, V, L, TYPE> {
-    /// Ends a ticket, and returns whether the old array went.
+    /// Ends a ticket, and returns whether the old array was dropped.
     pub fn end_incremental_rehash(
         &mut self,
         ticket: usize,

@@ -1,4 +1,4 @@
-//! Old buckets that move on to the current array.
+//! Moving old buckets to the current array.
 ghost use Rattle.std.specs.Prelude.{false, ◌≡◌, ◌+◌, ◌<◌, ◌≤◌, true, IsOk, OnOk, OnErr, length};
 ghost use Rattle.bucket_slots.specs.ArrayView.{bucket_at};
 ghost use Rattle.bucket_slots.specs.Homes.{IsInRange};
@@ -14,8 +14,8 @@ use bucket_slots::bucket::AllocError;
 use bucket_slots::lru::LruList;
 
 impl<K: Eq + Drop, V: Drop, L: LruList + Drop, const TYPE: u8> Arrays<K, V, L, TYPE> {
-    /// Moves the pairs of an old bucket to their homes in the current array, and kills it. The
-    /// LRU order goes along.
+    /// Moves the pairs of an old bucket to their homes in the current array, and kills it. The LRU
+    /// order moves along.
     ///
     /// # Errors
     ///
@@ -45,8 +45,8 @@ impl<K: Eq + Drop, V: Drop, L: LruList + Drop, const TYPE: u8> Arrays<K, V, L, T
         relocate(self.alloc, hasher, current, linked, index)
     }
 
-    /// Moves the old buckets from `start` up to below `end`, one after another. Returns whether no
-    /// memory was refused; else it stops.
+    /// Moves the old buckets from `start` up to below `end`, one after another. Returns true if all
+    /// have moved, and false once allocation fails.
     pub(crate) fn relocate_range<H: KeyHash<K>>(
         &mut self,
         hasher: &H,

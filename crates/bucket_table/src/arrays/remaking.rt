@@ -10,12 +10,12 @@ use bucket_slots::bucket::AllocError;
 use bucket_slots::lru::LruList;
 
 impl<K: Eq + Drop, V: Drop, L: LruList + Drop, const TYPE: u8> Arrays<K, V, L, TYPE> {
-    /// Ends the rehash that is on, and moves all pairs into an array for a capacity, where the
-    /// current one hasn't that length.
+    /// Ends the rehash that is under way, and moves all pairs into an array for a capacity, if the
+    /// current one doesn't have that length.
     ///
     /// # Errors
     ///
-    /// Allocation failed: the pairs are all there, in one array or two.
+    /// Allocation failed: no pair is lost, and the pairs are in one array or two.
     pub(crate) fn rehash_to<H: KeyHash<K>>(
         &mut self,
         hasher: &H,

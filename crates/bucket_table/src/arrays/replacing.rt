@@ -1,4 +1,4 @@
-//! A pair put in the place of another one, in a bucket of either side.
+//! Replacing a pair by another one, in a bucket of either side.
 ghost use Rattle.std.specs.Prelude.{◌≡◌, ◌%◌, ◌<◌, Some, IsTrue, length};
 ghost use Rattle.bucket_slots.specs.BucketView.{slot_in};
 ghost use Rattle.bucket_slots.specs.Replacing.{slots_replaced};
@@ -10,7 +10,7 @@ use bucket_slots::bucket::EntryPtr;
 use bucket_slots::lru::LruList;
 
 impl<K: Drop, V: Drop, L: LruList, const TYPE: u8> Arrays<K, V, L, TYPE> {
-    /// Puts a pair, under `hash`, in the place of the one in a live slot, which it returns.
+    /// Replaces the pair in a live slot by another one, under `hash`, and returns the earlier one.
     pub(crate) fn replace_slot(
         &mut self,
         side: Side,

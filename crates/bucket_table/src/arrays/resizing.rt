@@ -1,4 +1,4 @@
-//! A resize: by its plan the current array becomes the old one, or is given up.
+//! A resize: by its plan the current array becomes the old one, or is dropped.
 ghost use Rattle.std.specs.Prelude.{◌≡◌, ◌<◌, ◌≤◌, ◌+◌, ◌-◌, ◌*◌, ◌^◌, ℕ, [], length, IfOk, OnOk, OnErr};
 ghost use Rattle.bucket_slots.specs.ArrayView.{IsNewArray};
 ghost use Rattle.bucket_slots.specs.Sizing.{IsPowerIn};
@@ -30,11 +30,11 @@ impl<K, V, L: LruList, const TYPE: u8> Arrays<K, V, L, TYPE> {
 }
 
 impl<K: Drop, V: Drop, L: LruList + Drop, const TYPE: u8> Arrays<K, V, L, TYPE> {
-    /// Resizes the current array, or gives it up, as the plan of now says. Returns whether it did.
+    /// Resizes the current array, or drops it, as the plan says. Returns whether it did.
     ///
     /// # Errors
     ///
-    /// Allocation failed: all is as it was.
+    /// Allocation failed: nothing changes.
     #[inline(never)]
     pub(crate) fn try_resize(&mut self) -> Result<bool, AllocError>
         ensures resized { TriesResize self.old result self.new }
@@ -54,7 +54,7 @@ impl<K: Drop, V: Drop, L: LruList + Drop, const TYPE: u8> Arrays<K, V, L, TYPE> 
         }
     }
 
-    /// Makes an empty array for the minimum, where there is none.
+    /// Makes an empty array for the minimum, if there is none.
     ///
     /// # Errors
     ///
@@ -71,8 +71,8 @@ impl<K: Drop, V: Drop, L: LruList + Drop, const TYPE: u8> Arrays<K, V, L, TYPE> 
         self.make_first_array(self.minimum)
     }
 
-    /// Returns other arrays: a new one of so many slots, which are their minimum and their maximum,
-    /// stands alone.
+    /// Returns other arrays: a new one alone, for a capacity that is also their minimum and their
+    /// maximum.
     ///
     /// # Errors
     ///
@@ -111,11 +111,11 @@ impl<K: Drop, V: Drop, L: LruList + Drop, const TYPE: u8> Arrays<K, V, L, TYPE> 
         Ok(())
     }
 
-    /// Makes an empty array for a capacity the current one, and the one that stood the old one.
+    /// Makes an empty array for a capacity the current one, and the former current one the old one.
     ///
     /// # Errors
     ///
-    /// Allocation failed: all is as it was.
+    /// Allocation failed: nothing changes.
     pub(crate) fn remake_array(&mut self, capacity: usize) -> Result<(), AllocError>
         requires alone { length self.old.linked ≡ 0 }
         requires capacity { capacity ≤ self.old.maximum }
@@ -133,7 +133,7 @@ impl<K: Drop, V: Drop, L: LruList + Drop, const TYPE: u8> Arrays<K, V, L, TYPE> 
     /// Raises the minimum by a number of slots, and resizes. Returns by how much it was raised: by
     /// nothing where it would pass the maximum.
     ///
-    /// An allocation failure leaves the arrays.
+    /// If allocation fails, the arrays stay.
     pub(crate) fn reserve_capacity(&mut self, additional: usize) -> usize
         ensures reserved { Reserves additional self.old result self.new }
         ensures kept { Keeps (with_minimum self.old (self.old.minimum + result)) self.new }
@@ -150,7 +150,7 @@ impl<K: Drop, V: Drop, L: LruList + Drop, const TYPE: u8> Arrays<K, V, L, TYPE> 
     /// Lowers the minimum by a number of slots, and resizes. Returns by how much it was lowered: by
     /// nothing where that exceeds it.
     ///
-    /// An allocation failure leaves the arrays.
+    /// If allocation fails, the arrays stay.
     pub(crate) fn release_capacity(&mut self, released: usize) -> usize
         ensures released { Releases released self.old result self.new }
         ensures kept { Keeps (with_minimum self.old (self.old.minimum - result)) self.new }
@@ -164,7 +164,7 @@ impl<K: Drop, V: Drop, L: LruList + Drop, const TYPE: u8> Arrays<K, V, L, TYPE> 
         released
     }
 
-    /// Sets the minimum, and then resizes; an allocation failure leaves the arrays.
+    /// Sets the minimum, and then resizes. If allocation fails, the arrays stay.
     fn settle(&mut self, minimum: usize)
         requires { minimum ≤ self.old.maximum }
         ensures settled { Resizes (with_minimum self.old minimum) self.new }
@@ -183,7 +183,7 @@ impl<K: Drop, V: Drop, L: LruList + Drop, const TYPE: u8> Arrays<K, V, L, TYPE> 
         self.minimum = minimum;
     }
 
-    /// Gives the current array up.
+    /// Drops the current array.
     fn give_array_up(&mut self)
         requires { length self.old.linked ≡ 0 }
         ensures { self.new ≡ record self.old { current = [] } }
@@ -193,7 +193,7 @@ impl<K: Drop, V: Drop, L: LruList + Drop, const TYPE: u8> Arrays<K, V, L, TYPE> 
 
     /// Makes an array for a capacity the current one, and the current one the old one.
     ///
-    /// All memory is asked for first.
+    /// All memory is allocated first.
     fn push_array(&mut self, capacity: usize) -> Result<(), AllocError>
         requires stands { 0 < length self.old.current }
         requires alone { length self.old.linked ≡ 0 }

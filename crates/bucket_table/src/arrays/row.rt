@@ -25,8 +25,8 @@ impl<K, V, L: LruList, const TYPE: u8> Arrays<K, V, L, TYPE> {
         self.has_current()
     }
 
-    /// No work: a proof of generic code learns that a bucket fits in memory, before it asks for
-    /// one.
+    /// States that a bucket fits in memory; does nothing at run time. Generic code calls it before
+    /// it reads a bucket.
     #[inline(always)]
     pub(crate) fn row_room(&self)
         requires { 0 < length (row_of self.now) }

@@ -3,8 +3,8 @@
 /// One of a table's two arrays.
 #[derive(Clone, Copy)]
 pub enum Side {
-    /// The array that new pairs go to.
+    /// The array for new pairs.
     Current,
-    /// The array that pairs leave while a rehash is on.
+    /// The array that pairs leave during an incremental rehash.
     Old,
 }

@@ -1,5 +1,5 @@
-//! Pairs touched, marked and taken out where they stand, in a bucket of either side: what calls by
-//! key and locked buckets do.
+//! Touching, marking and removing pairs in a bucket of either side, for calls by key and locked
+//! buckets.
 ghost use Rattle.std.specs.Prelude.{◌≡◌, ◌≢◌, ◌%◌, ◌<◌, ℕ, Some, IsTrue, length};
 ghost use Rattle.bucket_slots.specs.BucketView.{BucketView, bucket_with_value, pairs_in, slot_in};
 ghost use Rattle.bucket_slots.specs.Digested.{UpsertsIn};
@@ -35,7 +35,7 @@ impl<K, V, L: LruList, const TYPE: u8> Arrays<K, V, L, TYPE> {
         self.bucket_of(side, index).entry(at)
     }
 
-    /// Makes the pair in a live slot the one of its bucket touched last.
+    /// Makes the pair in a live slot the one touched last in its bucket.
     #[inline(always)]
     pub(crate) fn touch_slot(&mut self, side: Side, index: usize, at: &EntryPtr<K, V, TYPE>)
         requires cache { TYPE ≡ CACHE }
@@ -69,7 +69,8 @@ impl<K, V, L: LruList, const TYPE: u8> Arrays<K, V, L, TYPE> {
         mem::replace(self.entry_of_mut(side, index, at).1, value)
     }
 
-    /// Marks the pair in a live slot. Returns how many live pairs are left in the bucket.
+    /// Makes the pair in a live slot a tombstone. Returns how many live pairs are left in the
+    /// bucket.
     pub(crate) fn mark_slot<G: Generation>(
         &mut self,
         side: Side,
@@ -97,7 +98,7 @@ impl<K, V, L: LruList, const TYPE: u8> Arrays<K, V, L, TYPE> {
 }
 
 impl<K: Drop, V: Drop, L: LruList, const TYPE: u8> Arrays<K, V, L, TYPE> {
-    /// Puts a pair into a bucket where no live slot of it has an equal key.
+    /// Inserts a pair into a bucket, if no live slot there has an equal key.
     #[inline(always)]
     pub(crate) fn insert_home<G: Generation>(
         &mut self,
@@ -121,7 +122,7 @@ impl<K: Drop, V: Drop, L: LruList, const TYPE: u8> Arrays<K, V, L, TYPE> {
         }
     }
 
-    /// Inserts a pair into a bucket, or writes its value beside the key that is equal.
+    /// Inserts a pair into a bucket, or writes its value beside the equal key.
     #[inline(always)]
     pub(crate) fn upsert_home<G: Generation>(
         &mut self,
@@ -199,8 +200,8 @@ impl<K: Drop, V: Drop, L: LruList, const TYPE: u8> Arrays<K, V, L, TYPE> {
 }
 
 impl<K: Drop, V: Drop, L: LruList + Drop, const TYPE: u8> Arrays<K, V, L, TYPE> {
-    /// Marks the pair in a live slot, and where no live pair is left in the bucket shrinks the
-    /// arrays where few slots near it are live.
+    /// Makes the pair in a live slot a tombstone. If no live pair is left in the bucket and few
+    /// slots near it are live, shrinks the arrays.
     pub(crate) fn mark_at<G: Generation>(
         &mut self,
         side: Side,
@@ -226,8 +227,8 @@ impl<K: Drop, V: Drop, L: LruList + Drop, const TYPE: u8> Arrays<K, V, L, TYPE> 
         self.shrink_left(side, index, left);
     }
 
-    /// Takes the pair out of a live slot, and where no live pair is left in the bucket shrinks the
-    /// arrays where few slots near it are live.
+    /// Takes the pair out of a live slot. If no live pair is left in the bucket and few slots near
+    /// it are live, shrinks the arrays.
     #[inline(always)]
     pub(crate) fn take_at(
         &mut self,
@@ -252,8 +253,8 @@ impl<K: Drop, V: Drop, L: LruList + Drop, const TYPE: u8> Arrays<K, V, L, TYPE> 
         pair
     }
 
-    /// Takes the first pair that a probe wants out of the home of a hash on one side, and where no
-    /// live pair is left in the bucket shrinks the arrays where few slots near it are live.
+    /// Takes the first pair that a probe wants out of the home of a hash on one side. If no live
+    /// pair is left in the bucket and few slots near it are live, shrinks the arrays.
     #[inline(always)]
     pub(crate) fn take_on<P: KeyProbe<K>>(
         &mut self,
@@ -277,8 +278,8 @@ impl<K: Drop, V: Drop, L: LruList + Drop, const TYPE: u8> Arrays<K, V, L, TYPE> 
         Some(pair)
     }
 
-    /// Takes the pair that `take_on` takes, and lends the bucket only where there is one. A loan
-    /// makes the buckets of a part, and those of an old array that are all killed are given back.
+    /// Takes the pair that `take_on` takes, and borrows the bucket for writing only if there is
+    /// one. Such a borrow makes the buckets of a part, also in an old array that has freed them.
     #[inline(always)]
     pub(crate) fn search_and_take<P: KeyProbe<K>>(
         &mut self,

@@ -14,8 +14,8 @@ use crate::tickets::{REHASHING_UNIT_LEN, TICKET_STEP};
 use bucket_slots::lru::LruList;
 
 impl<K: Eq + Drop, V: Drop, L: LruList + Drop, const TYPE: u8> Arrays<K, V, L, TYPE> {
-    /// Works the next unit of the old array, and returns whether no memory was refused: want of it
-    /// ends the unit early. `None` where no unit can be handed out.
+    /// Works the next unit of the old array, and returns whether all of it has moved: an allocation
+    /// failure ends the unit early. `None` if no unit can be handed out.
     pub(crate) fn work_unit<H: KeyHash<K>>(&mut self, hasher: &H) -> Option<bool>
         requires placed { ArePlaced (H.hash_of hasher.now) self.old }
         ensures placed { ArePlaced (H.hash_of hasher.now) self.new }
@@ -34,7 +34,7 @@ impl<K: Eq + Drop, V: Drop, L: LruList + Drop, const TYPE: u8> Arrays<K, V, L, T
         Some(success)
     }
 
-    /// Relocates each old bucket of a unit in turn, and returns whether no memory was refused.
+    /// Relocates each old bucket of a unit in turn, and returns whether no allocation failed.
     pub(crate) fn relocate_unit<H: KeyHash<K>>(&mut self, hasher: &H, unit: usize) -> bool
         requires within { 64 * unit < length self.old.linked }
         requires placed { ArePlaced (H.hash_of hasher.now) self.old }
@@ -71,7 +71,7 @@ impl<K: Eq + Drop, V: Drop, L: LruList + Drop, const TYPE: u8> Arrays<K, V, L, T
         }
     }
 
-    /// Lets the old buckets around one go, where they are killed and hold nothing.
+    /// Frees the old buckets around one, if they are killed and empty.
     fn release_old(&mut self, index: usize)
         requires { index < length self.old.linked }
         ensures { self.new ≡ self.old }

@@ -1,5 +1,5 @@
-//! Calls by key. What changes a pair that is there is never refused: it finds its pair on either
-//! side, so the pairs needn't have moved. Such a call asks by a probe that wants the key's equals.
+//! Calls by key. A call that changes the pair of a key in the map never fails: it finds the pair on
+//! either side, moved or not. It searches by a probe that wants the keys equal to its own.
 //!
 //! Own.
 ghost use Rattle.std.specs.Prelude.{◌≡◌, ◌≢◌, ◌%◌, ◌<◌, IfSome, IfNone, IsTrue, OnErr, OnOk, Some, is_ok, is_some, length};
@@ -41,14 +41,12 @@ impl<K: Eq + Drop, V: Drop, H: KeyHash<K>, L: LruList + Drop, const TYPE: u8> Ha
     L,
     TYPE,
 > {
-    /// Takes out the pair whose key is equal, and returns it. `None` exactly where the map has
-    /// none.
+    /// Removes the pair whose key is equal, and returns it. `None` exactly if the map has none.
     ///
-    /// Beside an old array it works one unit first, and moves the sources of the hash's home. May
-    /// take memory, and is never refused: without it a pair is taken from the old array. Where no
-    /// live pair is left in the bucket, the table may shrink.
+    /// Works a unit. May take memory, and never fails. If no live pair is left in the bucket, the
+    /// table may shrink.
     ///
-    /// O(slots of a unit, of the sources and of their targets; buckets where it shrinks). Own.
+    /// O(unit; buckets if it shrinks). Own.
     #[inline(always)]
     pub fn take(&mut self, key: &K) -> Option<(K, V)>
         requires not_index { TYPE ≢ INDEX }
@@ -61,15 +59,13 @@ impl<K: Eq + Drop, V: Drop, H: KeyHash<K>, L: LruList + Drop, const TYPE: u8> Ha
         self.take_by(hash, &mut EqProbe::new(key))
     }
 
-    /// Hands the pair of an index whose key is equal to `reader`, leaves a tombstone, and returns
-    /// the reader's answer: the map is without it. `None` exactly where the map has none: the
-    /// reader isn't called then.
+    /// Calls `reader` with the pair of an index whose key is equal, makes the pair a tombstone, and
+    /// returns the reader's answer. `None` exactly if the map has none; `reader` isn't called then.
     ///
-    /// Beside an old array it works one unit first, and moves the sources of the hash's home. May
-    /// take memory, and is never refused: without it the tombstone is left in the old array. Where
-    /// no live pair is left in the bucket, the table may shrink.
+    /// Works a unit. May take memory, and never fails. If no live pair is left in the bucket, the
+    /// table may shrink.
     ///
-    /// O(slots of a unit, of the sources and of their targets; buckets where it shrinks). Own.
+    /// O(unit; buckets if it shrinks). Own.
     pub fn mark<R, F: FnOnce(&K, &V) -> R, G: Generation>(
         &mut self,
         key: &K,
@@ -94,13 +90,12 @@ impl<K: Eq + Drop, V: Drop, H: KeyHash<K>, L: LruList + Drop, const TYPE: u8> Ha
         self.mark_by(hash, &mut EqProbe::new(key), generation, reader)
     }
 
-    /// Makes the pair of a cache whose key is equal the one of its bucket touched last; a slot of the
-    /// chain isn't listed. Returns whether there is one.
+    /// Makes the pair of a cache whose key is equal the one touched last in its bucket; a slot of
+    /// the chain isn't listed. Returns whether there is one.
     ///
-    /// Beside an old array it works one unit first, and moves the sources of the hash's home. May
-    /// take memory, and is never refused: without it a pair is touched in the old array.
+    /// Works a unit. May take memory, and never fails.
     ///
-    /// O(slots of a unit, of the sources and of their targets). Own.
+    /// O(unit). Own.
     #[inline(always)]
     pub fn touch(&mut self, key: &K) -> bool
         requires cache { TYPE ≡ CACHE }
@@ -113,16 +108,15 @@ impl<K: Eq + Drop, V: Drop, H: KeyHash<K>, L: LruList + Drop, const TYPE: u8> Ha
         self.touch_by(hash, &mut EqProbe::new(key))
     }
 
-    /// Writes the value beside the key that is equal, and returns the earlier one.
+    /// Writes the value beside the equal key, and returns the earlier one.
     ///
-    /// Beside an old array it works one unit first, and moves the sources of the hash's home. May
-    /// take memory, and is never refused: without it the value is written in the old array.
+    /// Works a unit. May take memory, and never fails.
     ///
     /// # Errors
     ///
-    /// The map has no such key: the value comes back.
+    /// The key is absent: the value is returned.
     ///
-    /// O(slots of a unit, of the sources and of their targets). Own.
+    /// O(unit). Own.
     #[inline(always)]
     pub fn swap(&mut self, key: &K, value: V) -> Result<V, V>
         ensures map { Swaps (λ own. K.eq own key.now) value (state_of TYPE self.old) result
@@ -138,14 +132,14 @@ impl<K: Eq + Drop, V: Drop, H: KeyHash<K>, L: LruList + Drop, const TYPE: u8> Ha
         }
     }
 
-    /// Inserts a pair whose key the map hasn't.
+    /// Inserts a pair whose key is absent.
     ///
     /// # Errors
     ///
-    /// An equal key is there; or allocation failed, and then none is: the pair comes back. A free
-    /// slot in the bucket that is found rules an allocation failure out.
+    /// The key is in the map; or allocation failed, and the key is absent: the pair is returned.
+    /// Allocation can't fail if the bucket that is found has a free slot.
     ///
-    /// O(slots of a unit, of the sources and of their targets; buckets that a resize makes). Own.
+    /// O(unit; buckets that a resize makes). Own.
     #[inline(always)]
     pub fn insert_pair<G: Generation>(
         &mut self,
@@ -166,7 +160,7 @@ impl<K: Eq + Drop, V: Drop, H: KeyHash<K>, L: LruList + Drop, const TYPE: u8> Ha
         self.insert_found(hash, key, value, generation)
     }
 
-    /// Finds a bucket for a pair, and puts it there.
+    /// Finds a bucket for a pair, and inserts it there.
     #[inline(never)]
     fn insert_found<G: Generation>(
         &mut self,
@@ -188,7 +182,7 @@ impl<K: Eq + Drop, V: Drop, H: KeyHash<K>, L: LruList + Drop, const TYPE: u8> Ha
         self.insert_at(side, index, hash, key, value, generation)
     }
 
-    /// Puts a pair into a locked bucket where its key is nowhere.
+    /// Inserts a pair whose key is absent into a locked bucket.
     #[inline(always)]
     fn insert_at<G: Generation>(
         &mut self,
@@ -249,8 +243,8 @@ impl<K: Eq, V, H: KeyHash<K>, L: LruList, const TYPE: u8> HashTable<K, V, H, L, 
         self.spot_by(hash, &mut EqProbe::new(key))
     }
 
-    /// Gives a pair back for which no bucket was found: an equal key is there, or allocation
-    /// failed.
+    /// Returns the error of an insertion for which no bucket was found: the key is in the map, or
+    /// allocation failed.
     pub(super) fn not_inserted(&self, hash: u64, key: K, value: V) -> NotInserted<K, V>
         requires own_hash { hash ≡ H.hash_of self.now.hasher key }
         ensures { HandsBack K.eq key value (pairs_of self.now.arrays) result }

@@ -11,7 +11,7 @@ use bucket_slots::bucket::CACHE;
 use bucket_slots::lru::DoublyLinkedList;
 
 impl<K: Eq, V, H: KeyHash<K>> HashTable<K, V, H, DoublyLinkedList, CACHE> {
-    /// Lends the pairs one after the other, bucket by bucket: of each bucket those that are listed,
+    /// Returns an iterator over the pairs, bucket by bucket: of each bucket those that are listed,
     /// the one touched last first, then the others of its own slots, and then those of its chain.
     ///
     /// Touches none, works no unit, and takes no memory. O(1); all steps together O(slots, and the

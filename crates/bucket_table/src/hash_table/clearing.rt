@@ -1,4 +1,4 @@
-//! A table emptied at once.
+//! Emptying a table at once.
 ghost use Rattle.std.specs.Prelude.{◌≡◌, []};
 ghost use Rattle.bucket_table.specs.Rehash.State.{first_tickets};
 
@@ -13,10 +13,10 @@ impl<K: Eq + Drop, V: Drop, H: KeyHash<K>, L: LruList + Drop, const TYPE: u8> Ha
     L,
     TYPE,
 > {
-    /// Drops both arrays with their pairs and tombstones. The open tickets are gone with the old
-    /// array; the hasher and the capacities stay.
+    /// Drops both arrays with their pairs and tombstones. Open tickets end with the old array; the
+    /// hasher and the capacities stay.
     ///
-    /// Takes no memory, and is never refused. O(pairs, and buckets). Own.
+    /// Takes no memory, and never fails. O(pairs, and buckets). Own.
     pub fn clear(&mut self)
         ensures hasher { self.new.hasher ≡ self.old.hasher }
         ensures arrays { self.new.arrays

@@ -23,11 +23,10 @@ impl<K: Eq + Drop, V: Drop, H: KeyHash<K>, L: LruList + Drop, const TYPE: u8> Ha
 > {
     /// Returns how many pairs the map has, at most 2^64 - 1.
     ///
-    /// Beside an old array it works one unit first. Where no pair is found and the minimum is 0 it
-    /// resizes as `try_resize` does, so that a mere count may give the array up. May take memory,
-    /// and is never refused.
+    /// Works a unit. If no pair is found and the minimum is 0, it resizes as `try_resize` does, so
+    /// that a count may drop the array. May take memory, and never fails.
     ///
-    /// O(buckets, and slots of a unit). scc: `HashTable::num_entries`.
+    /// O(unit; buckets). scc: `HashTable::num_entries`.
     pub fn num_entries(&mut self) -> usize
         ensures count { result ≡ counted_to (pairs_of self.new.arrays) }
         ensures map { KeepsPairs (state_of TYPE self.old) (state_of TYPE self.new) }
@@ -41,9 +40,9 @@ impl<K: Eq + Drop, V: Drop, H: KeyHash<K>, L: LruList + Drop, const TYPE: u8> Ha
 
     /// Tests whether the map has a pair.
     ///
-    /// It works and resizes as `num_entries` does. May take memory, and is never refused.
+    /// Works a unit, and resizes as `num_entries` does. May take memory, and never fails.
     ///
-    /// O(buckets, and slots of a unit). scc: `HashTable::has_entry`.
+    /// O(unit; buckets). scc: `HashTable::has_entry`.
     pub fn has_entry(&mut self) -> bool
         ensures has { IsTrue result ↔ (0 < length (pairs_of self.new.arrays)) }
         ensures map { KeepsPairs (state_of TYPE self.old) (state_of TYPE self.new) }
@@ -70,7 +69,8 @@ impl<K: Eq, V, H: KeyHash<K>, L: LruList, const TYPE: u8> HashTable<K, V, H, L, 
         self.arrays.count()
     }
 
-    /// No work: a proof learns how many slots a table has at most. Own.
+    /// States that the current array has no more slots than the maximum; does nothing at run time.
+    /// Own.
     pub fn bounded(&self)
         ensures { 32 * length self.now.arrays.current ≤ self.now.arrays.maximum }
     {

@@ -31,13 +31,13 @@ impl<K: Eq + Drop, V: Drop, H: KeyHash<K>, L: LruList + Drop, const TYPE: u8> Ha
     L,
     TYPE,
 > {
-    /// Takes out each pair that `keep` refuses, or leaves a tombstone in an index. Returns how
-    /// many, saturating.
+    /// Removes each pair for which `keep` returns false; in an index it becomes a tombstone.
+    /// Returns how many, saturating.
     ///
     /// # Errors
     ///
-    /// Allocation failed: the pairs with hashes below some bound are swept, and the others are as
-    /// they were.
+    /// Allocation failed: the pairs with hashes below some bound are swept, and the others are
+    /// unchanged.
     ///
     /// O(pairs, and buckets of the arrays that it passes). Own.
     pub fn sweep<F: Fn(&K, &V) -> bool, G: Generation>(
@@ -103,7 +103,7 @@ impl<K: Eq + Drop, V: Drop, H: KeyHash<K>, L: LruList + Drop, const TYPE: u8> Ha
             .first_past_bucket(&self.hasher, Side::Current, index, at)
     }
 
-    /// Takes out of a current bucket each pair that `keep` refuses. Returns how many.
+    /// Removes each pair of a current bucket for which `keep` returns false. Returns how many.
     fn retain_at<F: Fn(&K, &V) -> bool, G: Generation>(
         &mut self,
         index: usize,
@@ -122,12 +122,11 @@ impl<K: Eq + Drop, V: Drop, H: KeyHash<K>, L: LruList + Drop, const TYPE: u8> Ha
 
     /// Moves a pointer to the first live pair, and locks that pair's bucket.
     ///
-    /// Before each bucket that it passes a unit of the old array is worked, and the bucket's old
-    /// pairs come.
+    /// Works a unit before each bucket that it passes.
     ///
     /// # Errors
     ///
-    /// The map is empty, or allocation failed beside an old array: the pointer is null.
+    /// The map is empty, or allocation failed while there is an old array: the pointer is null.
     ///
     /// O(buckets passed, and pairs that move). Own.
     pub fn first_sync(
@@ -166,14 +165,13 @@ impl<'a, K: Eq + Drop, V: Drop, H: KeyHash<K>, L: LruList + Drop, const TYPE: u8
     /// Moves a pointer from where it is in the bucket to the next live pair, and locks that pair's
     /// bucket.
     ///
-    /// A bucket that is left without a live pair may be followed by a resize. Before each bucket
-    /// that is passed then a unit of the old array is worked, and the bucket's old pairs come. A
-    /// pair may be met again.
+    /// If it leaves a bucket without a live pair, the table may be resized. It works a unit before
+    /// each bucket that it then passes. A pair may be visited twice.
     ///
     /// # Errors
     ///
-    /// No live pair has a hash past the bucket's, or allocation failed beside an old array: the
-    /// pointer is null, and no bucket is locked.
+    /// No live pair has a hash past the bucket's, or allocation failed while there is an old array:
+    /// the pointer is null, and no bucket is locked.
     ///
     /// O(buckets passed, and pairs that move). scc: `LockedBucket::next_sync`.
     pub fn next_sync(self, at: &mut EntryPtr<K, V, TYPE>) -> Result<Self, Missing>

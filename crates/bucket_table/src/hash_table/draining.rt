@@ -1,4 +1,4 @@
-//! A table's pairs taken out by value.
+//! Taking a table's pairs out by value.
 ghost use Rattle.std.specs.Prelude.{◌≡◌, ◌≢◌, []};
 ghost use Rattle.bucket_table.specs.Rehash.State.{first_tickets};
 ghost use Rattle.bucket_table.specs.Views.ArraysView.{pairs_of};
@@ -10,12 +10,12 @@ use bucket_slots::bucket::INDEX;
 use bucket_slots::lru::LruList;
 
 impl<K: Eq, V, H: KeyHash<K>, L: LruList, const TYPE: u8> HashTable<K, V, H, L, TYPE> {
-    /// Takes both arrays out, and hands their pairs out one after the other, in the order of
-    /// `for_each`. The table is empty at once; the open tickets are gone with the old array, and
-    /// the hasher and the capacities stay. What isn't handed out is dropped with the iterator, and
-    /// so is the memory of the slots.
+    /// Takes both arrays out, and returns an iterator over their pairs by value, in the order of
+    /// `for_each`. The table is empty at once; open tickets end with the old array, and the hasher
+    /// and the capacities stay. The pairs that are left, and the memory of the slots, are dropped
+    /// with the iterator.
     ///
-    /// Takes no memory, and is never refused. O(1); all steps together O(pairs, and buckets). Own.
+    /// Takes no memory, and never fails. O(1); all steps together O(pairs, and buckets). Own.
     pub fn drain(&mut self) -> TableDrain<K, V, L, TYPE>
         requires not_index { TYPE ≢ INDEX }
         ensures pairs { result ≡ pairs_of self.old.arrays }

@@ -32,8 +32,8 @@ impl<K: Eq, V, H: KeyHash<K>, L: LruList, const TYPE: u8> HashTable<K, V, H, L, 
         self.arrays.entry_of(spot.side, spot.index, &spot.at)
     }
 
-    /// Lends the pair in a live slot of a bucket of one side, its value for
-    /// writing: what is written stands in the table.
+    /// Lends the pair in a live slot of a bucket of one side, its value for writing: what is
+    /// written is in the table.
     ///
     /// O(blocks of the chain). Own.
     #[inline(always)]

@@ -17,15 +17,15 @@ impl<K: Eq + Drop, V: Drop, H: KeyHash<K>, L: LruList + Drop, const TYPE: u8> Ha
     L,
     TYPE,
 > {
-    /// Works the units of the old array, one after another, until it is gone. Returns how many; 0
-    /// where no old array stands.
+    /// Works the units of the old array, one after another, until that is dropped. Returns how
+    /// many; 0 where there is no old array.
     ///
     /// # Errors
     ///
-    /// Allocation failure beside an old array: it stands, its pairs are in both arrays, and no
-    /// ticket is open. The first old bucket that isn't killed had more than 32 live pairs, or the
-    /// current array is shorter than the old one. The rehash stands at its unit: the old buckets of
-    /// the units behind that one are as they were.
+    /// Allocation failed, which can happen only if there is an old array: it stays, its pairs are
+    /// in both arrays, and no ticket is open. The first old bucket that isn't killed had more than
+    /// 32 live pairs, or the current array is shorter than the old one. The rehash stops at the
+    /// unit of that bucket: the old buckets of later units are unchanged.
     ///
     /// O(old buckets from the position on, and their pairs). Own.
     pub fn finish_rehash(&mut self) -> Result<usize, AllocError>
@@ -40,7 +40,7 @@ impl<K: Eq + Drop, V: Drop, H: KeyHash<K>, L: LruList + Drop, const TYPE: u8> Ha
             (self.new.arrays.tickets.position + 1 - self.old.arrays.tickets.position)
             (λ index. ⊥) self.old.arrays self.new.arrays) }
 
-        // Done or refused, the map is the same, and no ticket is open.
+        // Whether the call succeeds or fails, the map is the same, and no ticket is open.
         ensures map { KeepsPairs (state_of TYPE self.old) (state_of TYPE self.new) }
         ensures kept { KeepsArrays self.old.arrays self.new.arrays }
         ensures none_open { IsUnopened self.new.arrays }

@@ -2,7 +2,7 @@
 //!
 //! Model: `LockedBucket`, the table, a side and an index; `bucket_in` is its bucket.
 //! Invariant (`IsLocked`, the ghost field): a current bucket has all its sources killed; an old one
-//! isn't killed, and then every current bucket is free throughout.
+//! isn't killed, and then every slot of the current array is free.
 //!
 //! Ports `LockedBucket` of scc's `src/hash_table.rs`.
 ghost use Rattle.bucket_slots.specs.BucketView.{null_place, slot_in};
@@ -111,7 +111,7 @@ impl<'a, K: Eq, V, H: KeyHash<K>, L: LruList, const TYPE: u8> LockedBucket<'a, K
         table.arrays.entry_of(self.side, self.index, at)
     }
 
-    /// Lends the pair in a live slot, its value for writing: what is written stands in the table.
+    /// Lends the pair in a live slot, its value for writing: what is written is in the table.
     ///
     /// O(blocks of the chain). scc: `LockedBucket::entry_mut`.
     pub fn entry_mut(&mut self, at: &EntryPtr<K, V, TYPE>) -> (&K, &mut V)
@@ -151,8 +151,8 @@ impl<'a, K: Eq, V, H: KeyHash<K>, L: LruList, const TYPE: u8> LockedBucket<'a, K
         table.arrays.touch_slot(side, index, at);
     }
 
-    /// Takes out the pair touched longest ago, or where none is listed the one in slot 0, and
-    /// returns it. `None` exactly where an own slot is free.
+    /// Evicts the pair touched longest ago, or the one in slot 0 if none is listed, and returns it.
+    /// `None` exactly where an own slot is free.
     ///
     /// Takes no memory. O(1). scc: `Bucket::evict_lru_head`.
     pub fn evict_lru_head(&mut self) -> Option<(K, V)>
@@ -172,7 +172,7 @@ impl<'a, K: Eq, V, H: KeyHash<K>, L: LruList, const TYPE: u8> LockedBucket<'a, K
         gone
     }
 
-    /// Makes the live slot of an index a tombstone; the table isn't shrunk.
+    /// Makes a live slot of an index a tombstone; the table isn't shrunk.
     ///
     /// Takes no memory. O(blocks of the chain). scc: `Bucket::mark_removed`.
     pub fn mark_entry<G: Generation>(&mut self, at: &mut EntryPtr<K, V, TYPE>, generation: &G)
@@ -203,11 +203,12 @@ impl<'a, K: Eq + Drop, V: Drop, H: KeyHash<K>, L: LruList, const TYPE: u8> Locke
 > {
     ghost use Rattle.bucket_table.specs.Views.LockedChanges.{AnswersPlacing, Changes, bucket_in};
 
-    /// Inserts a pair whose key the table hasn't, and returns where it stands.
+    /// Inserts a pair whose key is absent, and returns its place.
     ///
     /// # Errors
     ///
-    /// Allocation failed: the pair comes back and the table is as it was. A free slot rules it out.
+    /// Allocation failed: the pair is returned and the table is unchanged. This can't happen if a
+    /// slot is free.
     ///
     /// O(slots of the bucket). scc: `LockedBucket::insert`.
     #[inline(always)]

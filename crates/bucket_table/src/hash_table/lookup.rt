@@ -1,4 +1,4 @@
-//! Look-ups: by key, and by a probe in code that knows no equality of keys.
+//! Look-ups: by key, and by a probe in code without `K: Eq`.
 ghost use Rattle.std.specs.Prelude.{◌≡◌, ◌+◌, ◌≤◌, true, IfSome, IfNone};
 ghost use Rattle.std.specs.Borrow.{Bor};
 ghost use Rattle.bucket_table.specs.Views.ArraysView.{pairs_of};
@@ -39,7 +39,7 @@ impl<K: Eq, V, H: KeyHash<K>, L: LruList, const TYPE: u8> HashTable<K, V, H, L, 
     /// Returns a pair whose key the probe wants; `None` where the map has none. The probe wants
     /// keys of this hash alone.
     ///
-    /// Asks at most once for each live slot of the hash's two homes with its low byte. Moves
+    /// Asks at most once for each live slot of the hash's two homes with its fingerprint. Moves
     /// nothing, and takes no memory. O(blocks in two chains). Own.
     #[inline(always)]
     pub fn peek_entry_by<P: KeyProbe<K>>(&self, hash: u64, probe: &mut P) -> Option<(&K, &V)>
@@ -66,13 +66,12 @@ impl<K: Eq + Drop, V: Drop, H: KeyHash<K>, L: LruList + Drop, const TYPE: u8> Ha
     L,
     TYPE,
 > {
-    /// Returns what a function answers on the pair whose key is equal; `None` where the map has
-    /// none, and then the function isn't called.
+    /// Calls `reader` with the pair whose key is equal, and returns its answer. `None` if the map
+    /// has none; `reader` isn't called then.
     ///
-    /// Beside an old array it works one unit first, and moves the sources of the hash's home. May
-    /// take memory, and is never refused: without it a pair is found in the old array.
+    /// Works a unit. May take memory, and never fails.
     ///
-    /// O(slots of a unit, of the sources and of their targets). scc: `HashTable::reader_sync`.
+    /// O(unit). scc: `HashTable::reader_sync`.
     pub fn reader_sync<R, F: FnOnce(&K, &V) -> R>(&mut self, key: &K, reader: F) -> Option<R>
         requires callable { (own : Bor K) (value : Bor V)
             → IsThere (λ own. K.eq own key.now) (pairs_of self.old.arrays) (own.now, value.now)

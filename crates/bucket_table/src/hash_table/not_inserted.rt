@@ -1,4 +1,4 @@
-//! A pair that comes back, as an error.
+//! The error of an insertion, with the pair.
 ghost use Rattle.std.specs.Prelude.{◌≡◌};
 ghost use Rattle.std.specs.IoError.{error_kind};
 ghost use Rattle.bucket_table.specs.Map.Refusals.{kind_of_refusal, pair_of_refusal};
@@ -9,7 +9,7 @@ use std::fmt::{self, Debug};
 use std::io::{self, ErrorKind};
 
 impl<K, V> NotInserted<K, V> {
-    /// Gives the pair back, whatever the cause.
+    /// Returns the pair, whatever the cause.
     ///
     /// O(1). Own.
     pub fn into_pair(self) -> (K, V)
@@ -32,8 +32,8 @@ impl<K, V> fmt::Display for NotInserted<K, V> {
 
 impl<K: Debug + Drop, V: Debug + Drop> Error for NotInserted<K, V> {}
 
-/// So `?` works in a function that returns an `io::Result`: the kind says whether an equal key is
-/// there or memory ran out. The pair is dropped.
+/// Lets `?` work in a function that returns an `io::Result`. The kind says whether the key is in
+/// the map or allocation failed. The pair is dropped.
 impl<K: Drop, V: Drop> From<NotInserted<K, V>> for io::Error {
     ghost from_gives = { λ refusal error. error_kind error ≡ kind_of_refusal refusal };
 

@@ -8,7 +8,7 @@ use crate::key_hash::KeyHash;
 use bucket_slots::lru::LruList;
 
 impl<K: Eq, V, H: KeyHash<K>, L: LruList, const TYPE: u8> HashTable<K, V, H, L, TYPE> {
-    /// Lends the pairs one after the other, in the order of `for_each`, and no tombstone's.
+    /// Returns an iterator over the pairs, in the order of `for_each`, without tombstones.
     ///
     /// Changes nothing, works no unit, and takes no memory. O(1); all steps together O(slots, and
     /// the square of the number of blocks of each chain). Own.

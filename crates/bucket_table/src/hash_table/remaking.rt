@@ -16,15 +16,15 @@ impl<K: Eq + Drop, V: Drop, H: KeyHash<K>, L: LruList + Drop, const TYPE: u8> Ha
     L,
     TYPE,
 > {
-    /// Moves all pairs into one array, whose length is that for a capacity in slots, whatever the
-    /// plan of a resize says. Where one array of this length stands alone, nothing changes.
+    /// Moves all pairs into one array for a capacity in slots, whatever the plan of a resize says.
+    /// If there is one array alone, and it has this length, nothing changes.
     ///
-    /// The open tickets end: a ticket that was open isn't any more.
+    /// All open tickets end.
     ///
     /// # Errors
     ///
-    /// Allocation failure: the pairs are all there, in one array or two, and the two capacities are
-    /// as they were.
+    /// Allocation failed: no pair is lost, the pairs are in one array or two, and the two
+    /// capacities are unchanged.
     ///
     /// O(slots of all arrays, and their pairs). Own.
     pub fn rehash_to(&mut self, capacity: usize) -> Result<(), AllocError>
@@ -37,7 +37,7 @@ impl<K: Eq + Drop, V: Drop, H: KeyHash<K>, L: LruList + Drop, const TYPE: u8> Ha
 
     /// Sets the minimum, and resizes nothing.
     ///
-    /// Takes no memory. O(1). Own: `rehash_to` goes beside the plan, which the minimum is for.
+    /// Takes no memory. O(1). Own: the minimum is for the plan, which `rehash_to` doesn't follow.
     pub fn set_minimum(&mut self, minimum: usize)
         requires within { minimum ≤ self.old.arrays.maximum }
         ensures { self.new ≡ record self.old { arrays = with_minimum self.old.arrays minimum } }

@@ -1,4 +1,4 @@
-//! Putting all pairs of a cache into a new array in turn.
+//! Putting all pairs of a cache into a new array, one after another.
 //!
 //! Own.
 ghost use Rattle.std.specs.Prelude.{◌≡◌, ◌≢◌, ◌≤◌, ℕ, [], ◌∷◌, OnErr, OnOk};
@@ -22,16 +22,16 @@ impl<K: Eq + Drop, V: Drop, H: KeyHash<K>, const TYPE: u8> HashTable<
     DoublyLinkedList,
     TYPE,
 > {
-    /// Puts all pairs of a cache into a new array of so many slots, which is the minimum and the
+    /// Puts all pairs of a cache into a new array for a capacity, which is the minimum and the
     /// maximum from then on. Each pair is put as `put` does: bucket by bucket, first those of the
-    /// chain, and then those of the own slots, the one touched longest ago first. For a pair whose
-    /// new bucket has no free own slot another goes, and is dropped.
+    /// chain, and then those of the own slots, the one touched longest ago first. If a pair's new
+    /// bucket has no free own slot, a pair is evicted from it and dropped.
     ///
-    /// A rehash that is on ends with the arrays: no ticket is open then.
+    /// An incremental rehash that is under way ends with the arrays, and no ticket is open then.
     ///
     /// # Errors
     ///
-    /// Allocation failure for the new array, which 2^63 slots always are: all is as it was.
+    /// Allocation of the new array failed, as it always does for 2^63 slots: nothing changes.
     ///
     /// O(slots of all arrays, and the square of the number of blocks of each chain). Own:
     /// `LruCache::resize` of the crate lru.
@@ -50,7 +50,7 @@ impl<K: Eq + Drop, V: Drop, H: KeyHash<K>, const TYPE: u8> HashTable<
         Ok(())
     }
 
-    /// Puts the pairs of other arrays in, bucket by bucket.
+    /// Puts in the pairs of other arrays, bucket by bucket.
     fn pour_all(&mut self, source: &mut Arrays<K, V, DoublyLinkedList, TYPE>)
         requires cache { TYPE ≡ CACHE }
         requires awaits { Awaits K.eq self.old (arrays_by_age source.old) }
@@ -67,7 +67,7 @@ impl<K: Eq + Drop, V: Drop, H: KeyHash<K>, const TYPE: u8> HashTable<
         }
     }
 
-    /// Puts the pairs of a bucket in by age.
+    /// Puts in the pairs of a bucket by age.
     fn pour_bucket(&mut self, bucket: &mut Bucket<K, V, DoublyLinkedList, TYPE>)
         requires cache { TYPE ≡ CACHE }
         requires awaits { Awaits K.eq self.old (pairs_by_age bucket.old) }
@@ -77,7 +77,7 @@ impl<K: Eq + Drop, V: Drop, H: KeyHash<K>, const TYPE: u8> HashTable<
         self.pour_own(bucket);
     }
 
-    /// Puts the pairs of a bucket's chain in, from its head on.
+    /// Puts in the pairs of a bucket's chain, from its head on.
     #[tactic(auto, using(crate::proofs::Walking::Retaining::next_live))]
     fn pour_chain(&mut self, bucket: &mut Bucket<K, V, DoublyLinkedList, TYPE>)
         requires cache { TYPE ≡ CACHE }
@@ -94,7 +94,7 @@ impl<K: Eq + Drop, V: Drop, H: KeyHash<K>, const TYPE: u8> HashTable<
         }
     }
 
-    /// Puts the pairs of a bucket's own slots in by age.
+    /// Puts in the pairs of a bucket's own slots by age.
     fn pour_own(&mut self, bucket: &mut Bucket<K, V, DoublyLinkedList, TYPE>)
         requires cache { TYPE ≡ CACHE }
         requires awaits { Awaits K.eq self.old (own_by_age bucket.old) }
@@ -109,7 +109,7 @@ impl<K: Eq + Drop, V: Drop, H: KeyHash<K>, const TYPE: u8> HashTable<
         }
     }
 
-    /// Puts the pair of an own slot in, where it is live.
+    /// Puts in the pair of an own slot, if it is live.
     fn pour_slot(&mut self, bucket: &mut Bucket<K, V, DoublyLinkedList, TYPE>, slot: usize)
         requires cache { TYPE ≡ CACHE }
         requires awaits { Awaits K.eq self.old (own_left bucket.old (slot ∷ [])) }
@@ -123,7 +123,7 @@ impl<K: Eq + Drop, V: Drop, H: KeyHash<K>, const TYPE: u8> HashTable<
         }
     }
 
-    /// Puts a pair in whose key isn't there. What goes for it is dropped.
+    /// Puts in a pair whose key is absent. The pair that is evicted for it is dropped.
     fn pour_pair(&mut self, key: K, value: V)
         requires cache { TYPE ≡ CACHE }
         requires awaits { Awaits K.eq self.old ((key, value) ∷ []) }
@@ -133,7 +133,7 @@ impl<K: Eq + Drop, V: Drop, H: KeyHash<K>, const TYPE: u8> HashTable<
     }
 }
 
-/// Takes the pair out of an own slot, where it is live.
+/// Takes the pair out of an own slot, if it is live.
 fn take_own<K: Drop, V: Drop, const TYPE: u8>(
     bucket: &mut Bucket<K, V, DoublyLinkedList, TYPE>,
     slot: usize,

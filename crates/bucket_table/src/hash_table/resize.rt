@@ -1,7 +1,8 @@
-//! The array of a table made, replaced and given up.
+//! Making, replacing and dropping the array of a table.
 //!
-//! Model: `TableView`, whose `arrays` are the current one and, while a rehash is on, the old one. A
-//! resize goes by its plan (`IsPlan`), which is decided from how many live slots each bucket has.
+//! Model: `TableView`, whose `arrays` are the current one and, during an incremental rehash, the
+//! old one. A resize follows its plan (`IsPlan`), which is decided from how many live slots each
+//! bucket has.
 //! Invariant: the table's, `IsOneMap`; each call here keeps the pairs and the open tickets.
 //!
 //! Ports `get_or_create_array`, `reserve_capacity` and `try_resize` of scc's `src/hash_table.rs`.
@@ -28,8 +29,8 @@ impl<K: Eq + Drop, V: Drop, H: KeyHash<K>, L: LruList + Drop, const TYPE: u8> Ha
     ///
     /// # Errors
     ///
-    /// Allocation failure for a first array: there is still none, and the table is as it was. A
-    /// current array rules it out.
+    /// Allocation of a first array failed: there is still none, and the table is unchanged. This
+    /// can't happen if there is a current array.
     ///
     /// O(slots of the array that is made). scc: `HashTable::get_or_create_array`.
     pub fn get_or_create_array(&mut self) -> Result<&BucketArray<K, V, L, TYPE>, AllocError>
@@ -46,15 +47,15 @@ impl<K: Eq + Drop, V: Drop, H: KeyHash<K>, L: LruList + Drop, const TYPE: u8> Ha
         }
     }
 
-    /// Resizes the table, or gives its array up, as the plan of now says. Returns whether it did:
-    /// false without a current array, and while an old one stands.
+    /// Resizes the table, or drops its array, as the plan says. Returns whether it did: false
+    /// without a current array, and while there is an old one.
     ///
     /// After a resize the current array is the old one, unchanged, and an empty array of the plan's
     /// capacity is the current one.
     ///
     /// # Errors
     ///
-    /// Allocation failure for the array that the plan asks for: the table is as it was.
+    /// Allocation of the planned array failed: the table is unchanged.
     ///
     /// O(buckets of the current array and of the one that is made). scc: `HashTable::try_resize`.
     pub fn try_resize(&mut self) -> Result<bool, AllocError>
@@ -68,7 +69,7 @@ impl<K: Eq + Drop, V: Drop, H: KeyHash<K>, L: LruList + Drop, const TYPE: u8> Ha
     /// much it was raised: by nothing, and with no resize, where it would pass the maximum.
     ///
     /// The answer says that the minimum was raised, not that slots were made. May take memory, and
-    /// is never refused: want of it leaves the arrays.
+    /// never fails: if allocation fails, the arrays stay.
     ///
     /// O(buckets of the current array and of the one that is made). scc:
     /// `HashTable::reserve_capacity`.
@@ -82,8 +83,8 @@ impl<K: Eq + Drop, V: Drop, H: KeyHash<K>, L: LruList + Drop, const TYPE: u8> Ha
     /// Lowers the minimum by a number of slots, and resizes as `try_resize` does. Returns by how
     /// much it was lowered: by nothing, and with no resize, where that exceeds the minimum.
     ///
-    /// The answer says that the minimum was lowered, not that slots were given back. May take
-    /// memory, and is never refused: want of it leaves the arrays.
+    /// The answer says that the minimum was lowered, not that memory was freed. May take memory,
+    /// and never fails: if allocation fails, the arrays stay.
     ///
     /// O(buckets of the current array and of the one that is made). Own.
     pub fn release_capacity(&mut self, released: usize) -> usize

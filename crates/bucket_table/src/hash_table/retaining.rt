@@ -1,4 +1,5 @@
-//! Taking out of a table what a closure refuses, and changing the values of what it keeps.
+//! Removing the pairs of a table for which a closure returns false, and changing the values of the
+//! others.
 ghost use Rattle.std.specs.Prelude.{◌≡◌, ◌≢◌, ◌<◌, [], length};
 ghost use Rattle.bucket_slots.specs.ArrayView.{bucket_at};
 ghost use Rattle.bucket_slots.specs.BucketView.{pairs_in};
@@ -21,11 +22,11 @@ impl<K: Eq + Drop, V: Drop, H: KeyHash<K>, L: LruList + Drop, const TYPE: u8> Ha
     L,
     TYPE,
 > {
-    /// Asks `keep` of each pair once, with its value lent for writing, and takes out each pair that
-    /// it refuses, or leaves a tombstone in an index. Returns how many, saturating.
+    /// Calls `keep` once with each pair, its value lent for writing, and removes each pair for
+    /// which it returns false; in an index it becomes a tombstone. Returns how many, saturating.
     ///
-    /// The pairs of the current array come first, and then those of the old one. No pair moves, and
-    /// nothing is resized.
+    /// It begins with the pairs of the current array, and ends with those of the old one. No pair
+    /// moves, and nothing is resized.
     ///
     /// Takes no memory. O(pairs, and buckets of both arrays), and the calls of `keep`. Own.
     pub fn retain<F: FnMut(&K, &mut V) -> bool, G: Generation>(
@@ -42,7 +43,7 @@ impl<K: Eq + Drop, V: Drop, H: KeyHash<K>, L: LruList + Drop, const TYPE: u8> Ha
         ensures marks { MarksBy (G.epoch_of generation.now) (marks_of self.old.arrays)
             (marks_of self.new.arrays) }
 
-        // Both arrays stand as they stood but for pairs, and the rehash goes on from where it was.
+        // Nothing but pairs changes in the arrays, and the rehash continues from where it was.
         ensures settings { KeepsSettings self.old self.new }
         ensures tickets { self.new.arrays.tickets ≡ self.old.arrays.tickets }
         ensures current { AreLeftOf TYPE (G.epoch_of generation.now) self.old.arrays.current
@@ -66,7 +67,8 @@ impl<K: Eq + Drop, V: Drop, H: KeyHash<K>, L: LruList + Drop, const TYPE: u8> Ha
         count
     }
 
-    /// Asks `keep` of each pair of a bucket of the row that has some. Returns how many are gone.
+    /// Calls `keep` with each pair of a bucket of the row, if it has any. Returns how many were
+    /// removed.
     fn retain_nth<F: FnMut(&K, &mut V) -> bool, G: Generation>(
         &mut self,
         index: usize,

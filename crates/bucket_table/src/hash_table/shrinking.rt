@@ -1,7 +1,7 @@
-//! Calls that take a locked bucket by value: they may shrink the table, and give it back.
+//! Calls that take a locked bucket by value: they may shrink the table, and return it.
 //!
-//! Model: `LockedBucket`, and the table that comes back.
-//! Invariant: the table's, `IsOneMap`; that the bucket is the table's ends with a resize.
+//! Model: `LockedBucket`, and the table that is returned.
+//! Invariant: the table's, `IsOneMap`; a resize ends the lock of the bucket.
 //!
 //! Ports `LockedBucket::remove`, `mark_removed` and `try_shrink` of scc's `src/hash_table.rs`.
 ghost use Rattle.std.specs.Prelude.{◌≡◌, ◌≢◌, Some, IsTrue};
@@ -27,10 +27,10 @@ impl<'a, K: Eq + Drop, V: Drop, H: KeyHash<K>, L: LruList + Drop, const TYPE: u8
 > {
     ghost use Rattle.bucket_table.specs.Views.LockedChanges.{ChangesThenShrinks, bucket_in};
 
-    /// Shrinks the table where few slots near the bucket are live, and gives the table back: a
-    /// resize ends what makes the bucket the table's.
+    /// Shrinks the table if few slots near the bucket are live, and returns the table, since a
+    /// resize ends the lock of the bucket.
     ///
-    /// May take memory, and is never refused: want of it leaves all as it was. O(buckets). scc:
+    /// May take memory, and never fails: if allocation fails, nothing changes. O(buckets). scc:
     /// `HashTable::try_shrink`.
     pub fn try_shrink(self) -> &'a mut HashTable<K, V, H, L, TYPE>
         ensures same_table { result.ghost_name ≡ self.entry.table.ghost_name }
@@ -47,10 +47,10 @@ impl<'a, K: Eq + Drop, V: Drop, H: KeyHash<K>, L: LruList + Drop, const TYPE: u8
         table
     }
 
-    /// Takes the pair out of a live slot, and where no live pair is left in the bucket shrinks the
-    /// table where few slots near it are live. Returns the pair, and gives the table back.
+    /// Takes the pair out of a live slot. If no live pair is left in the bucket and few slots near
+    /// it are live, shrinks the table. Returns the pair and the table.
     ///
-    /// May take memory, and is never refused. O(buckets). scc: `LockedBucket::remove`.
+    /// May take memory, and never fails. O(buckets). scc: `LockedBucket::remove`.
     #[inline(always)]
     pub fn remove(
         self,
@@ -71,10 +71,10 @@ impl<'a, K: Eq + Drop, V: Drop, H: KeyHash<K>, L: LruList + Drop, const TYPE: u8
         (pair, table)
     }
 
-    /// Makes the live slot of an index a tombstone, and where no live pair is left in the
-    /// bucket shrinks the table where few slots near it are live. Gives the table back.
+    /// Makes a live slot of an index a tombstone. If no live pair is left in the bucket and few
+    /// slots near it are live, shrinks the table. Returns the table.
     ///
-    /// May take memory, and is never refused. O(buckets). scc: `LockedBucket::mark_removed`.
+    /// May take memory, and never fails. O(buckets). scc: `LockedBucket::mark_removed`.
     pub fn mark_removed<G: Generation>(
         self,
         at: &mut EntryPtr<K, V, TYPE>,

@@ -25,7 +25,7 @@ use bucket_slots::bucket::AllocError;
 use bucket_slots::lru::LruList;
 
 impl<K: Eq, V, H: KeyHash<K>, L: LruList, const TYPE: u8> HashTable<K, V, H, L, TYPE> {
-    /// Tests whether an old array stands and has a bucket with the index.
+    /// Tests whether there is an old array with a bucket of this index.
     ///
     /// O(1). Own.
     pub fn has_old_bucket(&self, index: usize) -> bool
@@ -35,10 +35,9 @@ impl<K: Eq, V, H: KeyHash<K>, L: LruList, const TYPE: u8> HashTable<K, V, H, L, 
     }
 
     /// Hands out the next unit of the old array, and returns its ticket: 2048 times the unit.
-    /// `None` where no old array stands, where each unit was handed out, and where 2047 tickets are
-    /// open.
+    /// `None` if there is no old array, if each unit was handed out, or if 2047 tickets are open.
     ///
-    /// Takes no memory: the resize made room for the tickets. O(1). scc:
+    /// Takes no memory: the resize allocated room for the tickets. O(1). scc:
     /// `start_incremental_rehash`.
     pub fn start_incremental_rehash(&mut self) -> Option<usize>
         ensures map { KeepsPairs (state_of TYPE self.old) (state_of TYPE self.new) }
@@ -63,15 +62,15 @@ impl<K: Eq + Drop, V: Drop, H: KeyHash<K>, L: LruList + Drop, const TYPE: u8> Ha
     /// Moves the pairs of an old bucket to their homes in the current array, and kills it. A killed
     /// bucket stays as it is.
     ///
-    /// A cache's LRU order goes along: the listed pairs that land in own slots are listed there
+    /// A cache's LRU order moves along: the listed pairs that land in own slots are listed there
     /// behind their bucket's own, in the order in which they were listed. A pair that lands in a
     /// chain isn't listed.
     ///
     /// # Errors
     ///
-    /// Allocation failed: each bucket has the live pairs and the LRU list that it had, and the old
-    /// one isn't killed. A current array that isn't shorter rules it out, where the bucket has at
-    /// most 32 live pairs.
+    /// Allocation failed: no bucket's live pairs and LRU list have changed, and the old one isn't
+    /// killed. This can't happen if the current array isn't shorter and the bucket has at most 32
+    /// live pairs.
     ///
     /// O(slots of the bucket and of its targets). scc: `HashTable::relocate_bucket_sync`, which
     /// carries no order; see `docs/DIFFERENCES.md`.
@@ -90,14 +89,14 @@ impl<K: Eq + Drop, V: Drop, H: KeyHash<K>, L: LruList + Drop, const TYPE: u8> Ha
         self.arrays.relocate(&self.hasher, index)
     }
 
-    /// Ends a ticket, and returns whether the old array went: where each of its buckets is killed,
-    /// no unit is left and no ticket open. A ticket that ends without success hands its unit out
-    /// again.
+    /// Ends a ticket, and returns whether the old array was dropped, which it is once each of its
+    /// buckets is killed, no unit is left and no ticket is open. If the ticket ends without
+    /// success, its unit is handed out again.
     ///
     /// # Errors
     ///
     /// No such ticket is open; or success is claimed while a bucket of its unit isn't killed. The
-    /// table is as it was.
+    /// table is unchanged.
     ///
     /// O(buckets of a unit, and open tickets). scc: `end_incremental_rehash`; see
     /// `docs/DIFFERENCES.md`, which tickets are checked.

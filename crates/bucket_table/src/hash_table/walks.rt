@@ -32,17 +32,18 @@ impl<K: Eq + Drop, V: Drop, H: KeyHash<K>, L: LruList + Drop, const TYPE: u8> Ha
     TYPE,
 > {
     /// Lends the current buckets from `start` on for writing, one after the other, until the
-    /// visitor answers false.
+    /// visitor returns false.
     ///
-    /// Where the current array hasn't the length that `start` was meant for, the walk begins where
-    /// the hashes of that bucket do. Before each visit a unit of the old array is worked, and the
-    /// bucket's old pairs come. Where the visitor has set its flag, the walk ends with a resize if
-    /// the first buckets have few pairs.
+    /// If the current array doesn't have the expected length, the walk begins at the bucket with
+    /// the first hash of bucket `start` of an array of that length. Works a unit before each visit.
+    /// If the visitor has set its flag and the first buckets have few pairs, the walk ends with a
+    /// resize.
     ///
     /// # Errors
     ///
-    /// Allocation failure beside an old array, and then a source of the next bucket isn't killed:
-    /// the walk ends there, the earlier visits stand, and nothing is resized.
+    /// Allocation failed, which can happen only if there is an old array: a source of the next
+    /// bucket isn't killed, the walk ends there, what the earlier visits did stays, and nothing is
+    /// resized.
     ///
     /// O(buckets from `start` on, and pairs that move), and the visitor's calls. scc:
     /// `HashTable::for_each_writer_sync`.
@@ -80,14 +81,14 @@ impl<K: Eq + Drop, V: Drop, H: KeyHash<K>, L: LruList + Drop, const TYPE: u8> Ha
         Ok(())
     }
 
-    /// Lends the current buckets for reading, one after the other, until the reader answers false.
+    /// Lends the current buckets for reading, one after the other, until the reader returns false.
     ///
-    /// Before each visit a unit of the old array is worked, and the bucket's old pairs come.
+    /// Works a unit before each visit.
     ///
     /// # Errors
     ///
-    /// Allocation failure beside an old array, and then a source of the next bucket isn't killed:
-    /// the walk ends there, and the earlier visits stand.
+    /// Allocation failed, which can happen only if there is an old array: a source of the next
+    /// bucket isn't killed, and the walk ends there.
     ///
     /// O(buckets, and pairs that move), and the reader's calls. scc:
     /// `HashTable::for_each_reader_sync`.
@@ -119,8 +120,8 @@ impl<K: Eq + Drop, V: Drop, H: KeyHash<K>, L: LruList + Drop, const TYPE: u8> Ha
         Ok(())
     }
 
-    /// No work: a proof of generic code learns that a bucket fits in memory, before it has the
-    /// buckets lent.
+    /// States that a bucket fits in memory; does nothing at run time. Generic code calls it before
+    /// a walk.
     ///
     /// O(1). Own.
     pub fn room(&self)
@@ -182,8 +183,8 @@ impl<K: Eq + Drop, V: Drop, H: KeyHash<K>, L: LruList + Drop, const TYPE: u8> Ha
     }
 }
 
-/// Returns the index in an array of `len` buckets at which a walk begins that was meant for bucket
-/// `start` of one of `expected_len`.
+/// Returns the index in an array of `len` buckets at which a walk begins whose `start` is an index
+/// in an array of `expected_len` buckets.
 fn first_index(start: usize, expected_len: usize, len: usize) -> usize
     requires expected { expected_len ≢ 0 → IsPowerOfTwo expected_len × (start < expected_len) }
     requires length { 0 < len → IsLength len }

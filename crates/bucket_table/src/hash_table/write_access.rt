@@ -2,7 +2,7 @@
 //!
 //! Model: `LockedBucket`, the table, a side and an index.
 //! Invariant (`IsLocked`): a current bucket has all its sources killed; an old one isn't killed,
-//! and is given only after a resize in the very call.
+//! and is returned only after a resize in the same call.
 //!
 //! Ports `writer_sync`, `try_reserve_bucket`, `optional_writer_sync` and `try_optional_writer` of
 //! scc's `src/hash_table.rs`.
@@ -33,15 +33,14 @@ impl<K: Eq + Drop, V: Drop, H: KeyHash<K>, L: LruList + Drop, const TYPE: u8> Ha
     L,
     TYPE,
 > {
-    /// Works one unit of the old array, and moves the sources of the home of a hash.
+    /// Works a unit, and moves the sources of the home of a hash.
     ///
     /// # Errors
     ///
-    /// There is no array, and so no pair; or allocation failed beside an old array: a source of the
-    /// home isn't killed.
+    /// There is no array, and so no pair; or allocation failed while there is an old array: a
+    /// source of the home isn't killed.
     ///
-    /// O(slots of a unit, of the sources and of their targets). scc:
-    /// `HashTable::dedup_bucket_sync`, `incremental_rehash_sync`.
+    /// O(unit). scc: `HashTable::dedup_bucket_sync`, `incremental_rehash_sync`.
     #[inline(always)]
     pub fn fetch_home(&mut self, hash: u64) -> Result<(), Missing>
         ensures prepared { IsPrepared TYPE hash self.old self.new }
@@ -58,16 +57,16 @@ impl<K: Eq + Drop, V: Drop, H: KeyHash<K>, L: LruList + Drop, const TYPE: u8> Ha
 
     /// Finds the bucket for a writer of a hash, and returns its side and its index.
     ///
-    /// Without an array it makes the first one; beside an old one it works a unit and moves the
-    /// sources of the hash's home. Then, where the home is nearly full and many slots near it are
-    /// live, it resizes: the bucket found is then one of the array that has just become old.
+    /// Works a unit, and makes the first array if there is none. Then, if the home is nearly full
+    /// and many slots near it are live, it resizes, and the bucket is one of the array that has
+    /// just become the old one.
     ///
     /// # Errors
     ///
-    /// Allocation failure for a first array; or beside an old one, and then a source of the home
-    /// isn't killed.
+    /// Allocation failed, for a first array, or while there is an old one: then a source of the
+    /// home isn't killed.
     ///
-    /// O(slots of a unit, of the sources and of their targets; buckets that a resize makes). Own.
+    /// O(unit; buckets that a resize makes). Own.
     #[inline(always)]
     pub fn find(&mut self, hash: u64) -> Result<(Side, usize), AllocError>
         ensures { Finds TYPE hash self.old result self.new }
@@ -93,8 +92,8 @@ impl<K: Eq + Drop, V: Drop, H: KeyHash<K>, L: LruList + Drop, const TYPE: u8> Ha
         (side, index)
     }
 
-    /// Returns the bucket that `find` finds for a writer of a hash, a current one, where its digest
-    /// tells that it changes nothing.
+    /// Returns the bucket that `find` finds for a writer of a hash, a current one, if its digest
+    /// shows that `find` changes nothing.
     #[inline(always)]
     pub(super) fn roomy_home(&self, hash: u64) -> Option<usize>
         ensures { IfSome result (λ index. FindsBucket TYPE hash self.now Current index self.now) }
@@ -143,11 +142,10 @@ impl<K: Eq + Drop, V: Drop, H: KeyHash<K>, L: LruList + Drop, const TYPE: u8> Ha
     ///
     /// # Errors
     ///
-    /// Allocation failure for a first array; or beside an old one, and then a source of the home
-    /// isn't killed. A current array without an old one rules it out.
+    /// Allocation failed, for a first array, or while there is an old one: then a source of the
+    /// home isn't killed. This can't happen if there is a current array and no old one.
     ///
-    /// O(slots of a unit, of the sources and of their targets; buckets that a resize makes). scc:
-    /// `HashTable::writer_sync`.
+    /// O(unit; buckets that a resize makes). scc: `HashTable::writer_sync`.
     #[inline(always)]
     pub fn writer_sync(
         &mut self,
@@ -170,14 +168,13 @@ impl<K: Eq + Drop, V: Drop, H: KeyHash<K>, L: LruList + Drop, const TYPE: u8> Ha
         }
     }
 
-    /// Locks the bucket that `writer_sync` locks: no other lock is held here.
+    /// Locks the bucket that `writer_sync` locks, since no other lock can be held.
     ///
     /// # Errors
     ///
     /// Those of `writer_sync`.
     ///
-    /// O(slots of a unit, of the sources and of their targets; buckets that a resize makes). scc:
-    /// `HashTable::try_reserve_bucket`.
+    /// O(unit; buckets that a resize makes). scc: `HashTable::try_reserve_bucket`.
     pub fn try_reserve_bucket(
         &mut self,
         hash: u64,
@@ -200,11 +197,10 @@ impl<K: Eq + Drop, V: Drop, H: KeyHash<K>, L: LruList + Drop, const TYPE: u8> Ha
     ///
     /// # Errors
     ///
-    /// There is no array, and so no pair; or allocation failed beside an old array: a source of the
-    /// home isn't killed.
+    /// There is no array, and so no pair; or allocation failed while there is an old array: a
+    /// source of the home isn't killed.
     ///
-    /// O(slots of a unit, of the sources and of their targets). scc:
-    /// `HashTable::optional_writer_sync`.
+    /// O(unit). scc: `HashTable::optional_writer_sync`.
     pub fn optional_writer_sync(
         &mut self,
         hash: u64,
@@ -230,8 +226,8 @@ impl<K: Eq + Drop, V: Drop, H: KeyHash<K>, L: LruList + Drop, const TYPE: u8> Ha
         }
     }
 
-    /// Locks the home of a hash with no work before. Returns `None` where there is no array, where
-    /// an old one stands, and where it is asked and the home has 32 live pairs or more.
+    /// Locks the home of a hash, and works no unit. Returns `None` if there is no array, if there
+    /// is an old one, or if `CHECK_SIZE` is set and the home has 32 live pairs or more.
     ///
     /// Takes no memory. O(1). scc: `HashTable::try_optional_writer`.
     pub fn try_optional_writer<const CHECK_SIZE: bool>(

@@ -4,7 +4,7 @@ ghost use Rattle.std.specs.Prelude.{◌≡◌};
 use crate::key_hash::KeyHash;
 use std::hash::{BuildHasher, Hash};
 
-/// Hashes a key as std's maps do: a builder makes a hasher anew for each key, and the key writes
+/// Hashes a key as std's maps do: a builder makes a new hasher for each key, and the key writes
 /// itself into it. Own.
 #[derive(Clone, Drop)]
 pub struct StdHash<S> {

@@ -1,4 +1,4 @@
-//! The calls of a script that go through all buckets.
+//! The calls of a script that visit all buckets.
 ghost use Rattle.bucket_slots.specs.BucketView.{BucketView};
 ghost use Rattle.bucket_table.specs.Scripts.Calls.{Step};
 ghost use Rattle.bucket_table.specs.Scripts.Tallying.{Empties};
@@ -37,8 +37,8 @@ impl<K, V, L: LruList, const TYPE: u8> Read<Bucket<K, V, L, TYPE>> for Tally {
     }
 }
 
-/// Takes all pairs out of the buckets that it is lent, or leaves tombstones in an index, and counts
-/// them.
+/// Takes all pairs out of the buckets that it is lent, or makes them tombstones in an index, and
+/// counts them.
 #[derive(Drop)]
 struct Emptier<'a, G> {
     generation: &'a G,
@@ -64,7 +64,7 @@ impl<'a, K: Drop, V: Drop, L: LruList, G: Generation, const TYPE: u8> Visit<Buck
     }
 }
 
-/// Goes through all buckets, and counts them and their pairs.
+/// Visits all buckets, and counts them and their pairs.
 pub(super) fn walk<K: Eq + Copy, V: Copy, H: KeyHash<K>, L: LruList + Drop, const TYPE: u8>(
     table: &mut HashTable<K, V, H, L, TYPE>,
 ) -> Reply<K, V>
@@ -88,14 +88,14 @@ pub(super) fn walk<K: Eq + Copy, V: Copy, H: KeyHash<K>, L: LruList + Drop, cons
     }
 }
 
-/// No work: a proof learns that an emptier keeps to what a walk asks of its visitor.
+/// States that an emptier does what a walk requires of its visitor; does nothing at run time.
 fn empties_keep<K, V, G: Generation, const TYPE: u8>()
     ensures { KeepsBuckets (λ (emptier : Emptier G) (lent : BucketView K V) flag more left last after.
         Empties TYPE (G.epoch_of emptier.generation.now) emptier.count lent flag more left last
         after.count) }
 {}
 
-/// Takes all pairs out, or leaves tombstones in an index.
+/// Takes all pairs out, or makes them tombstones in an index.
 pub(super) fn clear<
     K: Eq + Copy,
     V: Copy,

@@ -24,7 +24,7 @@ impl<K: Drop, V: Drop> Chain<K, V> {
     ///
     /// # Errors
     ///
-    /// Allocation failure, or the chain has its most blocks: it is as it was.
+    /// Allocation failed, or the chain has 2^28 blocks already: it is unchanged.
     pub(crate) fn push_front(&mut self) -> Result<(), AllocError>
         ensures blocks { OnOk result (self.new ≡ free_block ∷ self.old) }
         ensures unchanged { OnErr result (self.new ≡ self.old) }
@@ -43,7 +43,7 @@ impl<K: Drop, V: Drop> Chain<K, V> {
     ///
     /// # Errors
     ///
-    /// Allocation failure, or the chain has its most blocks: fewer blocks were put there.
+    /// Allocation failed, or the chain has reached 2^28 blocks: fewer blocks were added.
     pub(crate) fn append(&mut self, count: usize) -> Result<(), AllocError>
         ensures blocks { OnOk result (self.new ≡ self.old ++ replicate count free_block) }
         ensures fewer { OnErr result
@@ -80,16 +80,16 @@ impl<K: Drop, V: Drop> Chain<K, V> {
         chain
     }
 
-    /// Gives all blocks up.
+    /// Drops all blocks.
     pub(crate) fn clear(&mut self)
         ensures { self.new ≡ [] }
     {
         *self = Chain::new(self.alloc);
     }
 
-    /// Takes the pair out of a live slot of a block and unlinks the block, where it is then all
-    /// free. Returns the pair and where the pointer to the slot stands then: there still, or where
-    /// the block went, before the next one, or behind the previous one where there is no next.
+    /// Takes the pair out of a live slot of a block, and drops the block if it is then all free.
+    /// Returns the pair, and the place for the pointer to the slot: the same if the block stays,
+    /// else before the next block, or behind the previous one if there is no next.
     pub(crate) fn take<const TYPE: u8>(
         &mut self,
         block: usize,
@@ -116,7 +116,7 @@ impl<K: Drop, V: Drop> Chain<K, V> {
         (pair, EntryPtr::at(block, BUCKET_LEN - 1))
     }
 
-    /// Drops each tombstone whose epoch the test doesn't keep. No block goes.
+    /// Drops each tombstone whose epoch the test doesn't keep. No block is dropped.
     pub(crate) fn drop_expired<G: Generation>(&mut self, generation: &G)
         ensures { self.new ≡ map (map (slot_without_expired (G.keeps generation.now))) self.old }
     {
@@ -133,7 +133,7 @@ impl<K: Drop, V: Drop> Chain<K, V> {
         self.blocks = done.reversed();
     }
 
-    /// Gives up the blocks at the end whose slots are all free.
+    /// Drops the blocks at the end whose slots are all free.
     pub(crate) fn trim(&mut self)
         ensures { self.new ≡ rows_without_free_end self.old }
     {
@@ -166,8 +166,8 @@ impl<K, V> Chain<K, V> {
     }
 }
 
-/// Takes the pair out of a live slot of a first block and unlinks the block, where it is then all
-/// free. Returns the pair and whether the block went.
+/// Takes the pair out of a live slot of the first block, and drops the block if it is then all
+/// free. Returns the pair and whether the block was dropped.
 fn take_first<K: Drop, V: Drop>(
     first: &mut Option<Box<Block<Row<K, V, BLOCK_LEN>>>>,
     pos: usize,

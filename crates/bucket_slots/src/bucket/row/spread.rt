@@ -11,10 +11,11 @@ use crate::bucket::{Bucket, CACHE, EntryPtr};
 use crate::lru::LruList;
 
 impl<K: Drop, V: Drop, const LEN: usize> Row<K, V, LEN> {
-    /// Moves live pairs, the first ones in slot order, as `Bucket::spread_own` does, where these
-    /// are the own slots of a bucket with this LRU list and tail.
+    /// Moves live pairs, the first ones in slot order, as `Bucket::spread_own` does. The row is the
+    /// own slots of a bucket with this LRU list and tail.
     ///
-    /// The loop frees the places alone: the mask of the occupied slots is written once, at the end.
+    /// The loop only empties the places; the bitmap of the occupied slots is written once, at the
+    /// end.
     #[inline(always)]
     pub(crate) fn spread<L: LruList, F: Fn(&K) -> u64, const TYPE: u8>(
         &mut self,

@@ -1,4 +1,4 @@
-//! Calls by a probe, which wants keys of one hash alone: what they change is the pair that it wants.
+//! Calls by a probe that wants keys of one hash alone. They change the pair that it wants.
 //!
 //! Own.
 ghost use Rattle.std.specs.Prelude.{◌≡◌, ◌≢◌, IfNone, IfSome, is_some, true};
@@ -25,14 +25,13 @@ impl<K: Eq + Drop, V: Drop, H: KeyHash<K>, L: LruList + Drop, const TYPE: u8> Ha
     L,
     TYPE,
 > {
-    /// Takes out the first pair that a probe wants, and returns it. `None` exactly where the map
-    /// has none. The probe wants keys of this hash alone.
+    /// Removes the first pair that a probe wants, and returns it. `None` exactly if the map has
+    /// none. The probe wants keys of this hash alone.
     ///
-    /// Beside an old array it works one unit first, and moves the sources of the hash's home. May
-    /// take memory, and is never refused: without it a pair is taken from the old array. Where no
-    /// live pair is left in the bucket, the table may shrink.
+    /// Works a unit. May take memory, and never fails. If no live pair is left in the bucket, the
+    /// table may shrink.
     ///
-    /// O(slots of a unit, of the sources and of their targets; buckets where it shrinks). Own.
+    /// O(unit; buckets if it shrinks). Own.
     #[inline(always)]
     pub fn take_by<P: KeyProbe<K>>(&mut self, hash: u64, probe: &mut P) -> Option<(K, V)>
         requires not_index { TYPE ≢ INDEX }
@@ -52,15 +51,14 @@ impl<K: Eq + Drop, V: Drop, H: KeyHash<K>, L: LruList + Drop, const TYPE: u8> Ha
         self.arrays.take_on(Side::Current, hash, probe)
     }
 
-    /// Hands the first pair of an index that a probe wants to `reader`, leaves a tombstone, and
-    /// returns the reader's answer: the map is without it. `None` exactly where the map has none:
-    /// the reader isn't called then. The probe wants keys of this hash alone.
+    /// Calls `reader` with the first pair of an index that a probe wants, makes the pair a
+    /// tombstone, and returns the reader's answer. `None` exactly if the map has none; `reader`
+    /// isn't called then. The probe wants keys of this hash alone.
     ///
-    /// Beside an old array it works one unit first, and moves the sources of the hash's home. May
-    /// take memory, and is never refused: without it the tombstone is left in the old array. Where
-    /// no live pair is left in the bucket, the table may shrink.
+    /// Works a unit. May take memory, and never fails. If no live pair is left in the bucket, the
+    /// table may shrink.
     ///
-    /// O(slots of a unit, of the sources and of their targets; buckets where it shrinks). Own.
+    /// O(unit; buckets if it shrinks). Own.
     pub fn mark_by<R, F: FnOnce(&K, &V) -> R, G: Generation, P: KeyProbe<K>>(
         &mut self,
         hash: u64,

@@ -31,19 +31,17 @@ impl<K: Eq + Drop, V: Drop, H: KeyHash<K>, L: LruList + Drop, const TYPE: u8> Ha
     L,
     TYPE,
 > {
-    /// Takes out the pair of a key's home that was touched longest ago, or where none is listed
-    /// the one in slot 0, and returns it. `None` where an own slot of that home is free, or there
-    /// is no array.
+    /// Evicts the pair of a key's home that was touched longest ago, or the one in slot 0 if none
+    /// is listed, and returns it. `None` if an own slot of that home is free, or there is no array.
     ///
-    /// Beside an old array it works one unit first, and moves the sources of the hash's home. The
-    /// table isn't shrunk.
+    /// Works a unit. The table isn't shrunk.
     ///
     /// # Errors
     ///
-    /// Allocation failure beside an old array, and then a source of the home isn't killed: nothing
-    /// is evicted.
+    /// Allocation failed, which can happen only if there is an old array: a source of the home
+    /// isn't killed, and nothing is evicted.
     ///
-    /// O(slots of a unit, of the sources and of their targets). Own.
+    /// O(unit). Own.
     pub fn evict(&mut self, key: &K) -> Result<Option<(K, V)>, AllocError>
         requires cache { TYPE ≡ CACHE }
         ensures map { Evicts (state_of TYPE self.old) result (state_of TYPE self.new) }
@@ -60,17 +58,16 @@ impl<K: Eq + Drop, V: Drop, H: KeyHash<K>, L: LruList + Drop, const TYPE: u8> Ha
         Ok(locked.evict_lru_head())
     }
 
-    /// Puts a pair whose key the map hasn't into a cache, as the one of its bucket touched last.
-    /// Where no own slot of that bucket is free, the pair that was touched longest ago goes first,
-    /// or where none is listed the one in slot 0, and comes back.
+    /// Inserts a pair whose key is absent into a cache, as the one touched last in its bucket. If
+    /// no own slot of that bucket is free, the pair that was touched longest ago, or the one in
+    /// slot 0 if none is listed, is evicted first and returned.
     ///
     /// # Errors
     ///
-    /// An equal key is there; or allocation failed, and then none is: the pair comes back, and none
-    /// goes.
+    /// The key is in the map; or allocation failed, and the key is absent: the pair is returned,
+    /// and none is evicted.
     ///
-    /// O(slots of a unit, of the sources and of their targets; buckets that a resize makes). scc:
-    /// `HashCache::put_sync`.
+    /// O(unit; buckets that a resize makes). scc: `HashCache::put_sync`.
     pub fn put(&mut self, key: K, value: V) -> Result<Option<(K, V)>, NotInserted<K, V>>
         requires cache { TYPE ≡ CACHE }
         ensures map { Puts K.eq key value (state_of TYPE self.old) result (state_of TYPE self.new) }
@@ -82,13 +79,13 @@ impl<K: Eq + Drop, V: Drop, H: KeyHash<K>, L: LruList + Drop, const TYPE: u8> Ha
         self.put_hashed(hash, key, value)
     }
 
-    /// Puts a pair whose key the map hasn't into a cache, as `put` does, after `touch_place` met no
-    /// equal key: nothing is searched, and no unit is worked again. Returns the pair that went for
-    /// it, if one did.
+    /// Inserts a pair whose key is absent into a cache, as `put` does, after `touch_place` found no
+    /// equal key: it searches nothing, and works no unit. Returns the evicted pair, if there is
+    /// one.
     ///
     /// # Errors
     ///
-    /// Allocation failed: the pair comes back, and none goes.
+    /// Allocation failed: the pair is returned, and none is evicted.
     ///
     /// O(1), and buckets that a resize makes. Own.
     #[inline(always)]
@@ -121,7 +118,7 @@ impl<K: Eq + Drop, V: Drop, H: KeyHash<K>, L: LruList + Drop, const TYPE: u8> Ha
         }
     }
 
-    /// Puts a pair whose key the map hasn't, of this hash.
+    /// Inserts a pair whose key is absent and has this hash.
     fn put_hashed(
         &mut self,
         hash: u64,
@@ -140,8 +137,7 @@ impl<K: Eq + Drop, V: Drop, H: KeyHash<K>, L: LruList + Drop, const TYPE: u8> Ha
         self.put_at(side, index, hash, key, value)
     }
 
-    /// Puts a pair into a locked bucket, where its key is absent. Returns the pair that went for
-    /// it.
+    /// Inserts a pair into a locked bucket, where its key is absent. Returns the evicted pair.
     #[inline(always)]
     fn put_absent(
         &mut self,
@@ -167,7 +163,7 @@ impl<K: Eq + Drop, V: Drop, H: KeyHash<K>, L: LruList + Drop, const TYPE: u8> Ha
         put_absent_in(bucket, hash, key, value)
     }
 
-    /// Puts a pair into a locked bucket.
+    /// Inserts a pair into a locked bucket.
     fn put_at(
         &mut self,
         side: Side,
@@ -194,8 +190,8 @@ impl<K: Eq + Drop, V: Drop, H: KeyHash<K>, L: LruList + Drop, const TYPE: u8> Ha
     }
 }
 
-/// Puts a pair into a bucket where no live slot of it has an equal key, as the one touched last,
-/// and returns the pair that went for it.
+/// Inserts a pair into a bucket as the one touched last, if no live slot there has an equal key,
+/// and returns the evicted pair.
 fn put_in<K: Eq + Drop, V: Drop, L: LruList, const TYPE: u8>(
     bucket: &mut Bucket<K, V, L, TYPE>,
     hash: u64,
@@ -211,7 +207,7 @@ fn put_in<K: Eq + Drop, V: Drop, L: LruList, const TYPE: u8>(
     Ok(put_absent_in(bucket, hash, key, value))
 }
 
-/// Puts a pair into a bucket, as the one touched last, and returns the pair that went for it.
+/// Inserts a pair into a bucket as the one touched last, and returns the evicted pair.
 #[inline(always)]
 fn put_absent_in<K: Drop, V: Drop, L: LruList, const TYPE: u8>(
     bucket: &mut Bucket<K, V, L, TYPE>,
@@ -232,7 +228,8 @@ fn put_absent_in<K: Drop, V: Drop, L: LruList, const TYPE: u8>(
     gone
 }
 
-/// No work: a put stands its pair in an own slot, so that it changes no chain. Own.
+/// States that a put inserts its pair into an own slot, so that no chain changes; does nothing at
+/// run time. Own.
 pub fn puts_keep_chains<K, V>()
     ensures { (keeps : Bool) (bucket : BucketView K V) (gone : Option (K × V)) (pair : K × V)
         (byte : ℕ) → Goes bucket gone

@@ -20,14 +20,12 @@ impl<K: Eq + Drop, V: Drop, H: KeyHash<K>, L: LruList + Drop, const TYPE: u8> Ha
 > {
     ghost use Rattle.bucket_table.specs.Map.Lending.{LendsUnder};
 
-    /// Lends the value beside the key that is equal, for writing. `None` exactly where the map has
-    /// none.
+    /// Lends the value beside the equal key for writing. `None` exactly if the map has none.
     ///
     /// Once the loan ends, the pair has the value last written, and no other pair has changed.
-    /// Beside an old array it works one unit first, and moves the sources of the hash's home. May
-    /// take memory, and is never refused: without it a value of the old array is lent.
+    /// Works a unit. May take memory, and never fails.
     ///
-    /// O(slots of a unit, of the sources and of their targets). Own.
+    /// O(unit). Own.
     #[inline(always)]
     pub fn get_mut(&mut self, key: &K) -> Option<&mut V>
         ensures* writes_back { sem 𝓛
@@ -44,14 +42,13 @@ impl<K: Eq + Drop, V: Drop, H: KeyHash<K>, L: LruList + Drop, const TYPE: u8> Ha
         self.get_mut_by(hash, &mut EqProbe::new(key))
     }
 
-    /// Lends the value of the first pair that a probe wants, for writing. `None` exactly where the
-    /// map has none. The probe wants keys of this hash alone.
+    /// Lends the value of the first pair that a probe wants for writing. `None` exactly if the map
+    /// has none. The probe wants keys of this hash alone.
     ///
     /// Once the loan ends, the pair has the value last written, and no other pair has changed.
-    /// Beside an old array it works one unit first, and moves the sources of the hash's home. May
-    /// take memory, and is never refused: without it a value of the old array is lent.
+    /// Works a unit. May take memory, and never fails.
     ///
-    /// O(slots of a unit, of the sources and of their targets). Own.
+    /// O(unit). Own.
     #[inline(always)]
     pub fn get_mut_by<P: KeyProbe<K>>(&mut self, hash: u64, probe: &mut P) -> Option<&mut V>
         requires own_hash { (key : K)

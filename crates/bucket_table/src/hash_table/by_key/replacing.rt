@@ -1,4 +1,4 @@
-//! The call by key that puts a pair in the place of the one whose key is equal.
+//! The call by key that replaces the pair whose key is equal.
 //!
 //! Own.
 ghost use Rattle.std.specs.Prelude.{◌≡◌, ◌%◌, Some, is_ok};
@@ -24,17 +24,16 @@ impl<K: Eq + Drop, V: Drop, H: KeyHash<K>, L: LruList + Drop, const TYPE: u8> Ha
     L,
     TYPE,
 > {
-    /// Puts a pair in the place of the one whose key is equal, and returns that one. The slot
+    /// Replaces the pair whose key is equal by another one, and returns the earlier one. The slot
     /// leaves the LRU list.
     ///
-    /// Beside an old array it works one unit first, and moves the sources of the hash's home. May
-    /// take memory, and is never refused: without it the pair is put into the old array.
+    /// Works a unit. May take memory, and never fails.
     ///
     /// # Errors
     ///
-    /// The map has no such key: the pair comes back.
+    /// The key is absent: the pair is returned.
     ///
-    /// O(slots of a unit, of the sources and of their targets). Own.
+    /// O(unit). Own.
     #[inline(always)]
     pub fn replace(&mut self, key: K, value: V) -> Result<(K, V), (K, V)>
         ensures map { Replaces K.eq key value (state_of TYPE self.old) result
@@ -53,7 +52,7 @@ impl<K: Eq + Drop, V: Drop, H: KeyHash<K>, L: LruList + Drop, const TYPE: u8> Ha
         }
     }
 
-    /// Puts a pair in the place of one whose key is equal, and returns that one.
+    /// Replaces a pair whose key is equal by another one, and returns the earlier one.
     #[inline(always)]
     fn replace_at(&mut self, spot: &Spot<K, V, TYPE>, hash: u64, key: K, value: V) -> (K, V)
         requires stands { StandsAt (λ own. K.eq own key) self.old.arrays spot.now.side

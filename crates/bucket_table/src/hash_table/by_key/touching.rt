@@ -1,4 +1,4 @@
-//! Where a pair that a probe wants stands, once its home was readied; and a touch there.
+//! The place of a pair that a probe wants, once its home is ready, and touching it there.
 //!
 //! Own.
 ghost use Rattle.std.specs.Prelude.{◌≡◌, IfErr, IfNone, IfOk, IfSome, OnErr, true};
@@ -23,14 +23,13 @@ impl<K: Eq + Drop, V: Drop, H: KeyHash<K>, L: LruList + Drop, const TYPE: u8> Ha
     L,
     TYPE,
 > {
-    /// Makes the first pair of a cache that a probe wants the one of its bucket touched last; a
+    /// Makes the first pair of a cache that a probe wants the one touched last in its bucket; a
     /// slot of the chain isn't listed. Returns whether there is one. The probe wants keys of this
     /// hash alone.
     ///
-    /// Beside an old array it works one unit first, and moves the sources of the hash's home. May
-    /// take memory, and is never refused: without it a pair is touched in the old array.
+    /// Works a unit. May take memory, and never fails.
     ///
-    /// O(slots of a unit, of the sources and of their targets). Own.
+    /// O(unit). Own.
     #[inline(always)]
     pub fn touch_by<P: KeyProbe<K>>(&mut self, hash: u64, probe: &mut P) -> bool
         requires cache { TYPE ≡ CACHE }
@@ -49,17 +48,16 @@ impl<K: Eq + Drop, V: Drop, H: KeyHash<K>, L: LruList + Drop, const TYPE: u8> Ha
         true
     }
 
-    /// Makes the first pair of a cache that a probe wants the one of its bucket touched last, as
+    /// Makes the first pair of a cache that a probe wants the one touched last in its bucket, as
     /// `touch_by` does, and returns its place. The probe wants keys of this hash alone.
     ///
-    /// Beside an old array it works one unit first, and moves the sources of the hash's home. May
-    /// take memory, and is never refused: without it a pair is touched in the old array.
+    /// Works a unit. May take memory, and never fails.
     ///
     /// # Errors
     ///
-    /// The map has no such pair. What is returned then is for `put_vacant`.
+    /// The map has no such pair. The error is the `Vacancy` for `put_vacant`.
     ///
-    /// O(slots of a unit, of the sources and of their targets). Own.
+    /// O(unit). Own.
     #[inline(always)]
     pub fn touch_place<P: KeyProbe<K>>(
         &mut self,
@@ -119,7 +117,7 @@ impl<K: Eq + Drop, V: Drop, H: KeyHash<K>, L: LruList + Drop, const TYPE: u8> Ha
     ///
     /// # Errors
     ///
-    /// The map has none. What is returned then says whether the home is ready.
+    /// The map has none. The error says whether the home is ready.
     #[inline(always)]
     fn fetch_place<P: KeyProbe<K>>(
         &mut self,

@@ -1,4 +1,4 @@
-//! Calls by key that write a value where a pair is there: such a call is never refused.
+//! Calls by key that write the value of a pair. Where the map has the pair, they never fail.
 //!
 //! Own.
 ghost use Rattle.std.specs.Prelude.{◌≡◌, ◌%◌, ◌<◌, Some, is_some, length, true};
@@ -28,13 +28,12 @@ impl<K: Eq + Drop, V: Drop, H: KeyHash<K>, L: LruList + Drop, const TYPE: u8> Ha
     L,
     TYPE,
 > {
-    /// Hands the pair whose key is equal to `change`, its value for writing, and returns what that
-    /// answers. `None` exactly where the map has none: `change` isn't called then.
+    /// Calls `change` with the pair whose key is equal, its value lent for writing, and returns its
+    /// answer. `None` exactly if the map has none; `change` isn't called then.
     ///
-    /// Beside an old array it works one unit first, and moves the sources of the hash's home. May
-    /// take memory, and is never refused: without it a value is written in the old array.
+    /// Works a unit. May take memory, and never fails.
     ///
-    /// O(slots of a unit, of the sources and of their targets). Own.
+    /// O(unit). Own.
     #[inline(always)]
     pub fn update<R, F: FnOnce(&K, &mut V) -> R>(&mut self, key: &K, change: F) -> Option<R>
         requires callable { (own : Bor K) (value : MutBor V)
@@ -50,14 +49,13 @@ impl<K: Eq + Drop, V: Drop, H: KeyHash<K>, L: LruList + Drop, const TYPE: u8> Ha
         self.update_by(hash, &mut EqProbe::new(key), change)
     }
 
-    /// Hands the first pair that a probe wants to `change`, its value for writing, and returns what
-    /// that answers. `None` exactly where the map has none: `change` isn't called then. The probe
-    /// wants keys of this hash alone.
+    /// Calls `change` with the first pair that a probe wants, its value lent for writing, and
+    /// returns its answer. `None` exactly if the map has none; `change` isn't called then. The
+    /// probe wants keys of this hash alone.
     ///
-    /// Beside an old array it works one unit first, and moves the sources of the hash's home. May
-    /// take memory, and is never refused: without it a value is written in the old array.
+    /// Works a unit. May take memory, and never fails.
     ///
-    /// O(slots of a unit, of the sources and of their targets). Own.
+    /// O(unit). Own.
     #[inline(always)]
     pub fn update_by<R, F: FnOnce(&K, &mut V) -> R, P: KeyProbe<K>>(
         &mut self,
@@ -87,18 +85,17 @@ impl<K: Eq + Drop, V: Drop, H: KeyHash<K>, L: LruList + Drop, const TYPE: u8> Ha
         }
     }
 
-    /// Inserts a pair, or writes its value beside the key that is equal, and returns the earlier
-    /// value; the key that is there stays.
+    /// Inserts a pair, or writes its value beside the equal key, which stays, and returns the
+    /// earlier value.
     ///
-    /// Where an equal key is there it is never refused: without memory the value is written in the
-    /// old array.
+    /// Never fails if the key is in the map.
     ///
     /// # Errors
     ///
-    /// Allocation failure, and the map has no such key: the pair comes back. A free slot in the
-    /// bucket that is found rules it out.
+    /// Allocation failed, and the key is absent: the pair is returned. This can't happen if the
+    /// bucket that is found has a free slot.
     ///
-    /// O(slots of a unit, of the sources and of their targets; buckets that a resize makes). Own.
+    /// O(unit; buckets that a resize makes). Own.
     #[inline(always)]
     pub fn upsert<G: Generation>(
         &mut self,
@@ -119,7 +116,7 @@ impl<K: Eq + Drop, V: Drop, H: KeyHash<K>, L: LruList + Drop, const TYPE: u8> Ha
         self.upsert_found(hash, key, value, generation)
     }
 
-    /// Finds a bucket for a pair, and puts it there, or writes its value.
+    /// Finds a bucket for a pair, and inserts it there or writes its value.
     #[inline(never)]
     fn upsert_found<G: Generation>(
         &mut self,
@@ -144,7 +141,7 @@ impl<K: Eq + Drop, V: Drop, H: KeyHash<K>, L: LruList + Drop, const TYPE: u8> Ha
         }
     }
 
-    /// Puts a pair into a locked bucket, or writes its value there.
+    /// Inserts a pair into a locked bucket, or writes its value there.
     #[inline(always)]
     fn upsert_at<G: Generation>(
         &mut self,
