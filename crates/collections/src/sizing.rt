@@ -1,4 +1,4 @@
-//! How many slots a number of pairs takes: numbers from numbers.
+//! How many slots a number of pairs takes.
 ghost use Rattle.std.specs.Int.{IsPowerOfTwo};
 ghost use Rattle.std.specs.Prelude.{◌≡◌, ◌≤◌, ◌↔◌, ◌^◌, IsTrue, MatchOption, max, min};
 ghost use Rattle.bucket_slots.specs.Sizing.{IsLeastPowerOfTwo, IsTooFull};
@@ -10,8 +10,7 @@ use bucket_table::hash_table::MAXIMUM_CAPACITY_LIMIT;
 /// The least number of slots that an array has.
 pub(crate) const LEAST_CAPACITY: usize = 64;
 
-/// Returns the greatest number of slots under a maximum: the least power of two that is at least
-/// it.
+/// Returns the greatest maximum that a collection can have, 2^63 slots.
 pub(crate) fn widest() -> usize
     ensures power { IsPowerOfTwo result }
     ensures value { result ≡ 2 ^ 63 }
