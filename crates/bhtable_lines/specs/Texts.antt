@@ -28,6 +28,6 @@ text_of WrongKind = codes "wrong kind"
 text_of (Walked buckets pairs) = codes "walked " ++ decimal buckets ++ codes " " ++ decimal pairs
 text_of (Cleared count) = codes "cleared " ++ decimal count
 
--- the line that tells of a line that can't be read
+-- the line `bad line N`
 abbrev pub bad_line : ℕ → List ℕ
 bad_line number = line_of (codes "bad line " ++ decimal number)
