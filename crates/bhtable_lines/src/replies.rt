@@ -39,7 +39,7 @@ impl Replies {
         Ok(Replies { text })
     }
 
-    /// Appends replies, up to the first for which allocation fails.
+    /// Appends replies, up to the first that can't be appended.
     pub(crate) fn push_all<W: Write>(
         &mut self,
         replies: &[Reply<u64, u64>],

@@ -1,5 +1,5 @@
-//! Tables that get longer arrays and shorter ones, and that are dropped: where pairs stand then, and
-//! which bucket a writer is given.
+//! Tables that grow and shrink, and that are dropped: where pairs are then, and which bucket a
+//! writer gets.
 use crate::by_lock::Map;
 use crate::checks::check_same;
 use crate::steps::steps;

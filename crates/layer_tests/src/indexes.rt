@@ -1,19 +1,19 @@
-//! One bucket of an index, or two: removed pairs stay in their slots, marked with an epoch, until
-//! a test lets them go.
+//! One bucket of an index, or two: removed pairs stay in their slots as tombstones with an epoch,
+//! until a test no longer keeps them.
 use crate::steps::Step::*;
 use crate::steps::{Kept, Step, Story, stories};
 
 // Epoch 0, and every tombstone is kept.
 const KEEP: Step = Now(0, Kept::All);
 
-// Epoch 0, and no mark is kept.
+// Epoch 0, and no tombstone is kept.
 const LET_GO: Step = Now(0, Kept::None);
 
 // All own slots are occupied: the sum of 2^i over i from 0 to 31.
 const ALL_OWN: u32 = 4294967295;
 
 pub(crate) const INSERTIONS: &[Story] = stories! {
-    // What is let go with the first goes all at once.
+    // All tombstones that aren't kept are dropped at once, with the first.
     "marks that are kept send a pair to the chain", 32:
         Marks(&[0, 1, 2, 3]), Len(28), Find(0, None), Put(32, (1, 0)), LET_GO, Put(33, (0, 0)),
         Len(30), Find(32, Some((1, 0))), Own(1, None), Own(2, None), Own(3, None), KEEP,
@@ -22,20 +22,21 @@ pub(crate) const INSERTIONS: &[Story] = stories! {
         Marks(&[4]), LET_GO, Put(40, (0, 31)), Own(4, Some(4)), Put(41, (0, 4));
     "marks in the chain stay while no own slot is marked", 33:
         Marks(&[32]), LET_GO, Put(40, (1, 1)), Put(41, (1, 2));
-    // The own slots have one mark of epoch 1, which is kept, and the chain has live key 34 between
-    // three marks of epoch 2, which are not.
+    // The own slots have one tombstone of epoch 1, which is kept, and the chain has live key 34
+    // between three tombstones of epoch 2, which are not.
     "a block with a live pair stays and takes the next", 36:
         Now(1, Kept::Rest(255, 1)), Marks(&[7]), Now(2, Kept::Rest(255, 1)),
         Marks(&[32, 33, 35]), Len(32), Find(34, Some((1, 2))), Put(40, (1, 0)), Put(41, (1, 1)),
         Put(42, (1, 3)), Put(43, (1, 0)), Len(36), Own(7, Some(7)), Find(34, Some((2, 2))),
         Find(42, Some((2, 3)));
-    // Two free blocks stand behind one full of live pairs. The original gives both up before key
-    // 40 comes, and asks for memory again; here the last of them goes after the placing.
+    // Two free blocks stand behind one full of live pairs. The original drops both before key 40 is
+    // inserted, and allocates again; here the last of them is dropped after the insertion.
     "a pair is placed before free blocks go", 36:
         Marks(&[7]), Reserve(8), Put(40, (2, 0)), Find(32, Some((1, 0))), Put(41, (2, 1)),
         Put(42, (2, 2)), Put(43, (2, 3)), Put(44, (1, 0)), Find(40, Some((3, 0))),
         Find(43, Some((3, 3)));
-    // Two pairs go to own slots. Two free blocks go then, and the last pair tells that both went.
+    // Two pairs are inserted into own slots. Two free blocks are dropped then, and the place of the
+    // last pair shows it.
     "free blocks go though an own slot took the pair", 32:
         Marks(&[5, 6]), Reserve(8), LET_GO, Put(40, (0, 5)), Put(41, (0, 6)), Put(42, (1, 0)),
         Put(43, (1, 1)), Put(44, (1, 2)), Put(45, (1, 3)), Put(46, (1, 0)), Len(37);

@@ -25,9 +25,9 @@ impl<L: LruList> Model for Recent<L> {
 
 /// A call on a list of slots below 32, with its answer.
 enum Act {
-    /// This slot goes, and the tail is that then; or none goes.
+    /// This slot is evicted, and the tail is that then; or none is evicted.
     Evict(Option<(u8, u32)>),
-    /// A slot goes, and the tail is that then, where it changes.
+    /// A slot is removed, and the tail is that then, if it changes.
     Remove(u8, Option<u32>),
     /// A slot is the newest, and the tail is that then, where it changes.
     Promote(u8, Option<u32>),

@@ -1,4 +1,4 @@
-//! Stories of the places of words, found by texts: a word is made only where the map hasn't it.
+//! Stories of the places of words, found by texts: a word is made only if the map hasn't it.
 use super::forms::owned;
 use super::{At, check_same, steps};
 use Step::*;
@@ -18,7 +18,7 @@ enum Step {
     Counts(&'static str, u64, u64),
     /// The word is made and put with a number where it isn't: whether it was.
     Puts(&'static str, u64, bool),
-    /// The place of the first word takes no other: whether the second came.
+    /// The place of the first word takes no other: whether the second was inserted.
     Swaps(&'static str, &'static str, bool),
     /// A number is written where the word is, and this was the earlier one.
     Writes(&'static str, u64, Option<u64>),
@@ -56,7 +56,7 @@ fn play(rt: &impl Abort, alloc: Global, words: &mut Words) {
     }
 }
 
-// Takes a step that may put a word, and compares what it answers.
+// Takes a step that may put a word, and compares its result.
 fn take(rt: &impl Abort, alloc: Global, words: &mut Words, at: At, step: &Step) {
     match *step {
         Counts(word, number, after) => {
@@ -72,7 +72,7 @@ fn take(rt: &impl Abort, alloc: Global, words: &mut Words, at: At, step: &Step) 
     }
 }
 
-// Takes another step, and compares what it answers.
+// Takes another step, and compares its result.
 fn change(rt: &impl Abort, words: &mut Words, at: At, step: &Step) {
     match *step {
         Writes(word, number, earlier) => check_same(rt, write(words, word, number), earlier, at),
@@ -97,7 +97,7 @@ fn count(alloc: Global, words: &mut Words, word: &str, number: u64) -> Option<u6
     number_of(words, word)
 }
 
-// Puts a key and a number where the word isn't. Returns whether they came.
+// Puts a key and a number where the word isn't. Returns whether they were inserted.
 fn put(words: &mut Words, word: &str, key: String, number: u64) -> bool {
     match words.entry_ref(word) {
         EntryRef::Vacant(place) => place.insert_with_key(key, number).is_ok(),

@@ -1,4 +1,4 @@
-//! Stories of the places of words whose keys the map makes, where it hasn't the words.
+//! Stories of the places of words whose keys the map makes, if it hasn't the words.
 use super::forms::owned;
 use super::{At, check_same, steps};
 use Step::*;
@@ -13,7 +13,7 @@ use std::test::Fail;
 /// A map from words to numbers.
 type Words = HashMap<String, u64>;
 
-/// A text of which no word can be made, as where there is no memory for it.
+/// A text of which no word can be made, as if allocation failed.
 #[derive(Clone, Copy)]
 struct Unmade {
     text: &'static str,
@@ -48,11 +48,12 @@ impl<S: BuildHasher> ToKey<String, StdHash<S>> for Unmade {
 
 /// What is done at a word's place, by its text if nothing else is said.
 enum Step {
-    /// `or_insert` puts a number where the word isn't. Then one is added: this comes out.
+    /// `or_insert` puts a number where the word isn't. Then one is added: this is the result.
     Adds(&'static str, u64, u64),
     /// The same by another word that is equal.
     AddsEqual(&'static str, u64, u64),
-    /// The same by a text of which no word can be made: the number comes back where the word isn't.
+    /// The same by a text of which no word can be made: the number is returned if the word is
+    /// absent.
     Finds(&'static str, u64, Result<u64, u64>),
     /// The same by `or_insert_with`, and whether its function was called.
     Makes(&'static str, u64, (bool, u64)),
@@ -90,7 +91,7 @@ fn play(rt: &impl Abort, alloc: Global, words: &mut Words) {
     }
 }
 
-// Takes a step, and compares what comes out.
+// Takes a step, and compares its result.
 fn take(rt: &impl Abort, alloc: Global, words: &mut Words, at: At, step: &Step) {
     match *step {
         Adds(word, number, after) => {

@@ -108,7 +108,7 @@ fn of_equal_keys_the_first_stays(rt: HostRuntime) -> Result<(), Fail> {
     Ok(())
 }
 
-// Takes a step, and compares what it answers.
+// Takes a step, and compares its result.
 fn take(rt: &impl Abort, map: &mut Map, set: &mut Set, at: At, step: &Step) {
     match *step {
         Inserts(key, value, back) => {
@@ -129,7 +129,7 @@ fn take(rt: &impl Abort, map: &mut Map, set: &mut Set, at: At, step: &Step) {
     }
 }
 
-// Takes a step on the set, and compares what it answers.
+// Takes a step on the set, and compares its result.
 fn take_on_set(rt: &impl Abort, set: &mut Set, at: At, step: &Step) {
     match *step {
         Comes(key, back) => check_same(rt, returned(set.insert_new(key)), Some(back), at),

@@ -1,5 +1,5 @@
-//! Stories of two maps of numbers: whether they are equal, where neither the order in which pairs
-//! came nor the hasher counts; and what a change of one leaves of its copy.
+//! Stories of two maps of numbers: whether they are equal, where neither the order of insertion nor
+//! the hasher counts; and what a change of one leaves of its copy.
 use super::equality::check_equal;
 use super::maps::Step::*;
 use super::maps::{Map, Step, fill, take};
@@ -94,7 +94,7 @@ fn new_map(alloc: Global, start: Start) -> Map {
     HashMap::with_minimum(alloc, start.0, start.1)
 }
 
-// Takes a turn, and compares what comes of it.
+// Takes a turn, and compares its result.
 fn play(rt: &impl Abort, alloc: Global, one: &mut Map, other: &mut Map, at: At, turn: &Turn) {
     match turn {
         One(step) => take(rt, one, at, step),

@@ -13,7 +13,7 @@ use std::test::Fail;
 
 /// A call on a collection of each kind, with what a look-up by a text answers.
 enum Step {
-    /// A word comes with a number.
+    /// A word is inserted with a number.
     Puts(&'static str, u64),
     /// The number of a word.
     Finds(&'static str, Option<u64>),
