@@ -1,4 +1,4 @@
-//! Calls on a table of numbers that lock a bucket, and what they answer of it.
+//! Calls on a table of numbers that lock a bucket, and what they return.
 use crate::steps::Spot;
 use bucket_slots::bucket::{Generation, MAP};
 use bucket_slots::lru::LruList;

@@ -54,9 +54,9 @@ enum Act {
     /// The pairs of all keys below a number are removed one after another, and each value dropped
     /// at once: from the first key on, or backwards.
     TakeAll(u64, bool),
-    /// The pairs of these keys are marked.
+    /// The pairs of these keys become tombstones.
     Mark(&'static [u64]),
-    /// The pairs of keys are marked one after another, and the bucket isn't killed before.
+    /// The pairs of keys become tombstones one after another, and the bucket isn't killed before.
     MarkUp(u64, u64),
     /// A clearing, with a test of which tombstones are kept.
     Clear(Kept),
@@ -66,7 +66,7 @@ enum Act {
     Count(usize),
     /// So many pairs are live.
     Len(usize),
-    /// An own slot has a value, live or marked.
+    /// An own slot has a value, live or a tombstone.
     Own(usize),
 }
 

@@ -98,8 +98,8 @@ pub(crate) const CLEARINGS: &[Story] = stories! {
         LET_GO, Clear(ALL_OWN), Len(32), Holds(0, 32);
     "a clearing of a chain without marks changes nothing", 37:
         LET_GO, Clear(ALL_OWN), Len(37), Holds(0, 37);
-    // Of keys 0 to 36 the chain is [36], [32 to 35]. Of the pairs that come after a clearing the
-    // fifth tells one block from two and from none.
+    // Of keys 0 to 36 the chain is [36], [32 to 35]. Of the pairs that are inserted after a
+    // clearing the fifth shows whether one block, two or none are left.
     "a chain of free blocks goes", 37:
         Marks(&[32, 33, 34, 35, 36]), LET_GO, Clear(ALL_OWN), KEEP, Put(50, (1, 0)),
         Put(51, (1, 1)), Put(52, (1, 2)), Put(53, (1, 3)), Put(54, (1, 0));
@@ -117,7 +117,7 @@ pub(crate) const CLEARINGS: &[Story] = stories! {
 };
 
 pub(crate) const SEARCHES: &[Story] = stories! {
-    // 263 has the low byte 7, and so has the mark.
+    // 263 has the low byte 7, and so has the tombstone.
     "a key that comes again is found behind its mark", 0:
         Under(7, 0), Fill(0, 3), Under(263, 0), Now(7, Kept::All), Marks(&[0]), Find(0, None),
         Values(0, 99), Put(0, (0, 3)), Holds(0, 1), Len(3), Own(3, Some(0)), Values(10, 0),
@@ -126,8 +126,8 @@ pub(crate) const SEARCHES: &[Story] = stories! {
         MarkUp(0, 37, 0), Len(0), Lacks(0, 37), Next(None, (0, 32));
 };
 
-// The hashes have the low byte 7, and so has the mark, or another one. The chain is [40], [36 to 39],
-// [32 to 35], and the only pair of its head is marked.
+// The hashes have the low byte 7, and so has the tombstone, or another one. The chain is [40], [36
+// to 39], [32 to 35], and the only pair of its head is a tombstone.
 macro_rules! seven_marked {
     ($($epoch:literal),+) => {
         &[$((
@@ -167,7 +167,7 @@ pub(crate) const BY_REST: &[Story] = by_rest! {
     32, 32, 32 => 0; 224, 1, 0 => 4294967295
 };
 
-// Every slot is occupied then, by the pair that came and by 31 marked ones.
+// Every slot is occupied then, by the inserted pair and by 31 tombstones.
 macro_rules! gone {
     ($($gone:literal),+) => {
         &[$((
@@ -183,8 +183,8 @@ macro_rules! gone {
 
 pub(crate) const GONE: &[Story] = gone!(0, 1, 31, 32, 77, 100, 127, 128, 200, 254, 255);
 
-// Of 64 keys in a bucket of 32 own slots and eight blocks, those with an odd epoch are let go. The
-// pairs that come take the slots with an odd number, first those of the bucket's own.
+// Of 64 keys in a bucket of 32 own slots and eight blocks, those with an odd epoch are dropped. The
+// next pairs take the slots with an odd number, first the bucket's own ones.
 macro_rules! odd_epochs {
     ($($first:literal),+) => {
         &[$((

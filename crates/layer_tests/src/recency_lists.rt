@@ -133,7 +133,7 @@ const NOTHING_IS_KEPT: &[Act] = &[
 
 #[test]
 fn lists_answer_as_worked_out_by_hand(rt: HostRuntime) {
-    // A list that is empty again answers as a new one.
+    // A list that is empty again behaves as a new one.
     let mut used = Recent::<DoublyLinkedList>::new();
     for (story, acts) in STORIES {
         Recent::<DoublyLinkedList>::new().play(&rt, story, acts);

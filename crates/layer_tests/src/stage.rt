@@ -40,7 +40,7 @@ impl<L: LruList, const TYPE: u8> Stage<L, TYPE> {
         }
     }
 
-    /// Plays a story, after its keys have come.
+    /// Plays a story, after its keys are inserted.
     pub(crate) fn tell(
         &mut self,
         rt: &impl Abort,
@@ -237,7 +237,7 @@ impl<L: LruList, const TYPE: u8> Stage<L, TYPE> {
         mark_key(&mut self.bucket, key, hash, &self.now)
     }
 
-    // What a clearing of an index answers.
+    // What a clearing of an index returns.
     fn clear(&mut self) -> Option<u32> {
         if TYPE != INDEX {
             return None;

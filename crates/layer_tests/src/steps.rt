@@ -80,7 +80,7 @@ pub(crate) enum Step {
     Left(Spot),
     /// The pairs of these keys become tombstones, and aren't found a second time.
     Marks(&'static [u64]),
-    /// The pairs of keys are marked, and the epoch is more by a number after each.
+    /// The pairs of keys become tombstones, and the epoch is raised by a number after each.
     MarkUp(u64, u64, u8),
     /// A clearing returns these occupied own slots.
     Clear(u32),
@@ -103,7 +103,7 @@ pub(crate) enum Step {
     Lacks(u64, u64),
     /// Keys are found in the own slots of their numbers.
     InOwn(u64, u64),
-    /// An own slot has this key, live or marked, with its value, or none.
+    /// An own slot has this key, live or a tombstone, with its value, or none.
     Own(usize, Option<u64>),
     /// Own slots have none.
     Free(usize, usize),

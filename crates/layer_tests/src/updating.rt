@@ -13,7 +13,7 @@ use std::test::Fail;
 
 type Cache = Table<DoublyLinkedList, CACHE>;
 
-/// A call on a cache, with what it answers.
+/// A call on a cache, with its result.
 enum Action {
     /// New keys are put, each with itself as its value.
     Puts(u64, u64),

@@ -15,7 +15,7 @@ pub(crate) type Map = HashTable<u64, u64, ScriptHash, (), MAP>;
 
 type Pairs = Bucket<u64, u64, (), MAP>;
 
-/// What came of a call.
+/// The outcome of a call.
 #[derive(Drop)]
 pub(crate) enum Answer {
     /// The expected result.

@@ -64,7 +64,8 @@ pub(crate) enum Step {
     Resized(Seen, Seen),
     /// What is seen after a unit, and what if its allocation failed.
     Worked(Seen, Seen),
-    /// A key stands in a bucket of the array that was the current one when it came, in an own slot.
+    /// A key is in an own slot of a bucket, in the array that was the current one when it was
+    /// inserted.
     Stands(u64, usize, usize),
     /// An old bucket is killed, if there is still an old array.
     IsKilled(usize),

@@ -1,6 +1,6 @@
-//! What came of a part of the trial.
+//! The outcome of a part of the trial.
 
-/// What came of a part of the trial.
+/// The outcome of a part of the trial.
 #[derive(Drop)]
 pub(crate) enum Outcome {
     /// Every reply and every pair is the expected one.

@@ -1,4 +1,4 @@
-//! What is in stock, and what was asked for last.
+//! What is in stock, and what was shown last.
 use callers::ledger::{self, NotMoved};
 use collections::hash_cache::HashCache;
 use collections::hash_map::HashMap;

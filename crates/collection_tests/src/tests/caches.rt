@@ -333,7 +333,7 @@ fn met(cache: &Cache) -> Option<usize> {
 // An odd number with its bits spread, so that each of eight homes has more than 32 of the keys.
 const SPREADING: u64 = 11400714819323198485;
 
-// Of 1000 keys each is there as it is put.
+// Of 1000 keys each is present right after it was put.
 #[test]
 fn a_cache_has_at_most_256_slots_unless_told(rt: HostRuntime) -> Result<(), Fail> {
     let mut cache: Cache = HashCache::with_hasher(rt.alloc(), ScriptHash::Id);

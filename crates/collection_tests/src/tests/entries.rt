@@ -16,9 +16,9 @@ pub(super) enum Step {
     /// A value is inserted if the key is absent, and then one is added to the value: this is the
     /// result.
     Counts(u64, u64, u64),
-    /// The value there is doubled, or the second number is put: this is there then.
+    /// The value is doubled, or the second number is inserted: this is the value then.
     Doubles(u64, u64, u64),
-    /// Twice the key is put where there is no value: this is there then.
+    /// Twice the key is inserted if the key is absent: this is the value then.
     Makes(u64, u64),
     /// The value of a present key is changed, and this was the earlier one.
     Writes(u64, u64, Option<u64>),
@@ -133,7 +133,8 @@ fn put_where_vacant(map: &mut Map, key: u64) -> bool {
     }
 }
 
-// Puts a value where there is none, adds one to what is lent, and returns what the map has then.
+// Inserts a value if the key is absent, adds one through the mutable reference, and returns what
+// the map has then.
 fn count(map: &mut Map, key: u64, value: u64) -> Option<u64> {
     if let Ok(held) = map.entry(key).or_insert(value) {
         *held = held.wrapping_add(1);
@@ -141,7 +142,7 @@ fn count(map: &mut Map, key: u64, value: u64) -> Option<u64> {
     map.get(&key).copied()
 }
 
-// Doubles the value there, or puts one, and returns what the map has then.
+// Doubles the value, or inserts one, and returns what the map has then.
 fn double(map: &mut Map, key: u64, value: u64) -> Option<u64> {
     let entry = map.entry(key).and_modify(double_it);
     let _ = entry.or_insert_with(|| value);
@@ -152,7 +153,7 @@ fn double_it(held: &mut u64) {
     *held = held.wrapping_mul(2);
 }
 
-// Puts twice the key where there is no value, and returns what the map has then.
+// Inserts twice the key if it is absent, and returns what the map has then.
 fn make(map: &mut Map, key: u64) -> Option<u64> {
     let _ = map.entry(key).or_insert_with_key(twice);
     map.get(&key).copied()

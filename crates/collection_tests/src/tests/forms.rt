@@ -62,7 +62,7 @@ fn words_are_changed_and_removed_by_texts(rt: HostRuntime) -> Result<(), Fail> {
     Ok(())
 }
 
-// Takes a step, and compares what was there.
+// Takes a step, and compares the earlier number.
 fn take(rt: &impl Abort, alloc: Global, words: &mut Words, at: At, step: &Step) {
     match *step {
         Puts(word, number) => check_same(rt, put(alloc, words, word, number), true, at),
@@ -211,7 +211,7 @@ fn owned_list(alloc: Global, list: &[u8]) -> Vec<u8> {
     }
 }
 
-// Writes 9 over the number of a list, and removes the list twice. Returns what was there each time.
+// Writes 9 over the number of a list, and removes the list twice. Returns the earlier numbers.
 fn change_list(map: &mut Lists, list: &[u8]) -> (Option<u64>, Option<u64>, Option<u64>) {
     let earlier = write(map.get_mut(list), 9);
     (

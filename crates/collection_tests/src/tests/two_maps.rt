@@ -21,12 +21,12 @@ enum Turn {
     Clones,
     /// The other map becomes a copy of the first.
     Copies,
-    /// There is no memory for a clone of the first.
+    /// Allocating a clone of the first fails.
     LacksMemory,
     /// Whether the maps are equal.
     AreEqual(bool),
-    /// Keys come, each to one map and then to the other: the maps are equal where both have it. The
-    /// second number is the first key that is not meant.
+    /// Keys are inserted, each into one map and then into the other: the maps are equal when both
+    /// have it. The second number is the first key that is not meant.
     FillInTurn(u64, u64),
 }
 
@@ -40,11 +40,11 @@ struct Story {
     turns: &'static [Turn],
 }
 
-// The greatest minimum, for which there is no memory.
+// The greatest minimum, which can't be allocated.
 const MOST: usize = 1 << 63;
 
 // Of two buckets the first has the keys below 128, under the hash that spreads low bytes, and is
-// full as the last one comes.
+// full when the last one is inserted.
 const STORIES: &[Story] = steps! {
     Story { name: "a change of a map leaves its copy",
         starts: ((ScriptHash::Spread, 0), (ScriptHash::Id, 0)), turns: steps! {
@@ -62,7 +62,7 @@ const STORIES: &[Story] = steps! {
         starts: ((ScriptHash::Spread, 0), (ScriptHash::Spread, 0)), turns: steps! {
             One(Fills(0, 100)), Copies, AreEqual(true), One(Removes(7, Some((7, 7)))),
             Other(Holds(7, Some(7))), Other(Len(100)) } },
-    // The first map grows as its last key comes, and the other has room from the first.
+    // The first map grows when its last key is inserted, and the other has room from the first.
     Story { name: "a map amid a growth is equal to its like",
         starts: ((ScriptHash::Spread, 0), (ScriptHash::Id, 128)), turns: steps! {
             One(Fills(128, 159)), Other(Fills(128, 159)), FillInTurn(0, 32), One(Slots(128)),
@@ -121,7 +121,7 @@ fn renew(map: &mut Map, made: Result<Map, AllocError>) -> bool {
     }
 }
 
-// Each key comes to one map and then to the other: they are equal where both have it.
+// Each key is inserted into one map and then into the other: they are equal when both have it.
 fn fill_in_turn(rt: &impl Abort, one: &mut Map, other: &mut Map, from: u64, to: u64) {
     for key in from..to {
         check_equal(rt, &*one, &*other, true, ("as many", key));
