@@ -9,7 +9,8 @@ use Rattle.bhtable_lines.specs.declared.request.Question.TheVariants.{Slots, Wor
 use Rattle.bhtable_lines.specs.declared.request.Request.{Request}
 use Rattle.bhtable_lines.specs.declared.request.Request.TheVariants.{New, Call as Calls, Question as Questions, Epoch}
 use Rattle.bucket_table.specs.declared.script.call.Call.{Call}
-use Rattle.bucket_table.specs.declared.script.call.Call.TheVariants.{Put, Write, Read, Peek, Remove, Touch, Evict, Count, Has, Reserve, Release, Start, Work, End, Walk, Clear}
+use Rattle.bucket_table.specs.declared.script.call.Call.TheVariants.{Put, Write, Read, Peek, Remove, Touch, Evict, Count, Has, Reserve}
+use Rattle.bucket_table.specs.declared.script.call.Call.TheVariants.{Release, Start, Work, End, Walk, Clear}
 use Rattle.bucket_table.specs.declared.script.hashes.ScriptHash.{ScriptHash}
 use Rattle.bucket_table.specs.declared.script.hashes.ScriptHash.TheVariants.{Zero, Id, Spread}
 

@@ -2,7 +2,9 @@
 use Rattle.std.specs.Prelude.{ℕ, List, ◌++◌, codes, if◌then◌else◌}
 use Rattle.std.specs.Fmt.{decimal}
 use Rattle.bucket_table.specs.declared.script.reply.Reply.{Reply}
-use Rattle.bucket_table.specs.declared.script.reply.Reply.TheVariants.{Done, Present, Absent, Value, Old, Pair, Nothing, Number, Truth, Ticket, NoTicket, NoWork, Ended, Fault, Refused, WrongKind, Walked, Cleared}
+use Rattle.bucket_table.specs.declared.script.reply.Reply.TheVariants.{Done, Present, Absent, Value, Old, Pair, Nothing, Number, Truth}
+use Rattle.bucket_table.specs.declared.script.reply.Reply.TheVariants.{Ticket, NoTicket, NoWork, Ended, Fault, Refused, WrongKind, Walked}
+use Rattle.bucket_table.specs.declared.script.reply.Reply.TheVariants.{Cleared}
 use Rattle.bucket_table.specs.declared.tickets.TicketError.TheVariants.{NotOpen, NotDone}
 use Rattle.line_io.specs.OutputLines.{line_of}
 

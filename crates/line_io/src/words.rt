@@ -2,7 +2,8 @@
 //!
 //! Model: the parts of what isn't read yet, each a number or another text. Words are separated by
 //! blanks, which are spaces and tabs; a number is 1 to 20 decimal digits, below 2^64.
-ghost use Rattle.std.specs.Prelude.{◌≡◌, ℕ, ◌<◌, ◌≤◌, true, false, List, [], ◌∷◌, is_some, length, take, drop, slice_index, IfSome, MatchOption};
+ghost use Rattle.std.specs.Prelude.{◌≡◌, ℕ, ◌<◌, ◌≤◌, true, false, List, [], ◌∷◌, is_some, length};
+ghost use Rattle.std.specs.Prelude.{take, drop, slice_index, IfSome, MatchOption};
 ghost use Rattle.line_io.specs.Numbers.{is_number, value_of};
 ghost use Rattle.line_io.specs.Words.{Part, number, is_blank, part_of, parts_of, with_word, words_of};
 

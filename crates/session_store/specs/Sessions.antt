@@ -1,5 +1,6 @@
 -- Sessions under tokens, as a function from a token to the session that it has.
-use Rattle.std.specs.Prelude.{ℕ, ◌≡◌, ◌+◌, ◌-◌, ◌^◌, Bool, cond, count_by, min, nat_eq, nat_le, Option, Some, None, IfSome, IsSome, MatchOption}
+use Rattle.std.specs.Prelude.{ℕ, ◌≡◌, ◌+◌, ◌-◌, ◌^◌, Bool, cond, count_by, min, nat_eq, nat_le, Option, Some, None, IfSome, IsSome}
+use Rattle.std.specs.Prelude.{MatchOption}
 use Rattle.collections.specs.Maps.{get, map_len, map_of}
 use Rattle.session_store.specs.declared.store.NotLoggedIn.{NotLoggedIn}
 use Rattle.session_store.specs.declared.store.NotLoggedIn.TheVariants.{NoMemory, Taken}

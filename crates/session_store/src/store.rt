@@ -6,7 +6,9 @@
 ghost use Rattle.std.specs.Prelude.{◌≡◌, ℕ, nat_eq, not, None, IfErr, IfOk, OnErr};
 ghost use Rattle.std.specs.Option.{option_copied};
 ghost use Rattle.collections.specs.Maps.{IsUnique, map_of};
-ghost use Rattle.session_store.specs.Sessions.{alive_at, Becomes, deadline_at, expired_len, has_expired, IsForCause, len_of, LogsIn, Renews, session_at, sessions_with};
+ghost use Rattle.session_store.specs.Sessions.{alive_at, Becomes, deadline_at, expired_len};
+ghost use Rattle.session_store.specs.Sessions.{has_expired, IsForCause, len_of, LogsIn, Renews};
+ghost use Rattle.session_store.specs.Sessions.{session_at, sessions_with};
 
 use collections::DefaultHash;
 use collections::hash_cache::{HashCache, NotInserted};
