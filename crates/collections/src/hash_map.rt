@@ -52,7 +52,7 @@ use std::marker::Model;
 
 /// A map from keys to values. scc: `HashMap`.
 ///
-/// The pairs stand in an array of buckets of 32 slots each, with an overflow chain for a bucket
+/// The pairs are in an array of buckets of 32 slots each, with an overflow chain for a bucket
 /// that is full. When the array gets too full or too empty, a resize allocates another one, and an
 /// incremental rehash moves the pairs: while there is an old array, a call that writes under one
 /// key first moves a unit of 64 old buckets, and the old buckets whose pairs belong in the key's

@@ -213,7 +213,8 @@ fn play<L: LruList + Drop, const TYPE: u8>(
     let mut table: Table<L, TYPE> = HashTable::new(alloc, hasher, 0, MAXIMUM_CAPACITY_LIMIT);
     let mut course = Course::new(alloc);
     let mut now = course.answers();
-    // Under one hash for all the last buckets are always empty, and a minimum lets such a table grow.
+    // Under one hash for all the last buckets are always empty, and a minimum lets such a table
+    // grow.
     let least = if hasher == ScriptHash::Zero { 64 } else { 0 };
     check_same(rt, table.reserve_capacity(least), least, "the minimum");
     for number in 0..CALLS {

@@ -31,8 +31,8 @@ enum Act {
     Remove(u8, Option<u32>),
     /// A slot is the newest, and the tail is that then, where it changes.
     Promote(u8, Option<u32>),
-    /// A slot that is off the list, or is taken off, is the oldest, and the tail is that then, where
-    /// nothing was listed.
+    /// A slot that is off the list, or is taken off, is the oldest, and the tail is that then,
+    /// where nothing was listed.
     Append(u8, Option<u32>),
 }
 

@@ -48,8 +48,8 @@ pub struct Store {
 }
 
 impl Store {
-    /// Returns an empty store of `slots` slots, 64 or the next power of two, whose sessions last for
-    /// `lifetime` after each use. Takes no memory.
+    /// Returns an empty store of `slots` slots, 64 or the next power of two, whose sessions last
+    /// for `lifetime` after each use. Takes no memory.
     pub fn new(alloc: Global, slots: usize, lifetime: u64) -> Self
         ensures empty { (token : ℕ) → session_at result token ≡ None }
         ensures lifetime { result.lifetime ≡ lifetime }

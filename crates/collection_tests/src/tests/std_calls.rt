@@ -132,8 +132,8 @@ fn a_map_extends_another(rt: HostRuntime) -> Result<(), Fail> {
     Ok(())
 }
 
-// Extends a map by another, and by a pair. How many pairs it has before that and then, and the value
-// of key 1.
+// Extends a map by another, and by a pair. How many pairs it has before that and then, and the
+// value of key 1.
 fn copy_pairs(own: &mut Map, map: &Map) -> Result<(usize, usize, Option<u64>), AllocError> {
     own.extend(map)?;
     let copied = own.len();
