@@ -1,4 +1,4 @@
--- What the lines of a script are answered.
+-- How the lines of a script are answered.
 use Rattle.std.specs.Prelude.{ℕ, Bool, ◌*◌, ◌≡◌, ◌⊎◌, ◌<◌, ◌≤◌, List, [], ◌∷◌, ◌++◌, Option, None, Some, length, nat_eq}
 use Rattle.bucket_slots.specs.declared.bucket.TheConstants.{CACHE, INDEX, MAP}
 use Rattle.bucket_table.specs.Views.ArraysView.{ArraysView, IsOneMap, killed_flags}
@@ -24,7 +24,7 @@ use Rattle.bhtable_lines.specs.declared.request.Question.TheVariants.{Slots, Wor
 use Rattle.bhtable_lines.specs.declared.request.Request.{Request}
 use Rattle.bhtable_lines.specs.declared.request.Request.TheVariants.{New, Call as Calls, Question as Questions, Epoch}
 
--- what a script is answered from: the map, the tickets of the old array, and the number of buckets of the current one
+-- what the answers of a script depend on: the map, the tickets of the old array, and the number of buckets of the current one
 pub record ScriptTable : Type 0 where
   pub map : MapState ℕ ℕ ScriptHash
   pub tickets : RehashState
@@ -50,12 +50,12 @@ abbrev pub ScriptStep : ScriptTable → Call ℕ ℕ → Reply ℕ ℕ → Scrip
 ScriptStep old call reply new =
     Step nat_eq script_hash old.map call reply new.map × TicketStep old.tickets call reply new.tickets
 
--- the rehash word, and none where no old array stands
+-- the rehash word; none if there is no old array
 abbrev pub word_reply : List Bool → TicketState → Reply ℕ ℕ
 word_reply [] tickets = NoWork
 word_reply (flag ∷ flags) tickets = Number (word_of tickets)
 
--- what arrays tell: 32 slots for each bucket of the current one, and the rehash word of the old one
+-- the answers to questions about arrays: 32 slots for each bucket of the current one, and the rehash word of the old one
 abbrev pub told : ArraysView ℕ ℕ → Question → Reply ℕ ℕ
 told arrays Slots = Number (32 * length arrays.current)
 told arrays Word = word_reply (killed_flags arrays.linked) arrays.tickets
@@ -67,11 +67,11 @@ pub record AreArraysOf (table : ScriptTable) (arrays : ArraysView ℕ ℕ) : Typ
   pub tickets : table.tickets ≡ rehash_of arrays
   pub len : table.len ≡ length arrays.current
 
--- the table tells of its arrays
+-- the questions about the table are answered by its arrays
 abbrev pub Tells : ScriptTable → Question → Reply ℕ ℕ → Type 0
 Tells table question reply = (arrays : ArraysView ℕ ℕ) × AreArraysOf table arrays × (reply ≡ told arrays question)
 
--- from the table `old` the request may have this reply, and `new` is the table after it, which a question and an epoch leave as it is
+-- from the table `old` the request may have this reply, and `new` is the table after it; a question and an epoch don't change it
 abbrev pub Answers : Option ScriptTable → Request → Reply ℕ ℕ → Option ScriptTable → Type 0
 Answers old (New fresh) Done new = new ≡ Some (fresh_table fresh)
 Answers (Some before) (Calls call) reply (Some after) = ScriptStep before call reply after
@@ -79,7 +79,7 @@ Answers (Some table) (Questions question) reply new = Tells table question reply
 Answers (Some table) (Epoch generation) Done new = new ≡ Some table
 Answers old request reply new = ⊥
 
--- from the table `old` the line may be answered by this text, and `new` is the table after it; a line without words is passed over
+-- from the table `old` the line may be answered by this text, and `new` is the table after it; a line without words is skipped
 abbrev pub IsAnswer : Option ScriptTable → List ℕ → List ℕ → Option ScriptTable → Type 0
 IsAnswer old line text new =
     ((parts_of line ≡ []) × (text ≡ []) × (new ≡ old)) ⊎ ((request : Request) × (reply : Reply ℕ ℕ)

@@ -1,4 +1,4 @@
--- How the program goes about it. No public clause cites a module below this one.
+-- The inner workings of the program. No public clause cites a module below this one.
 pub mod Forms
 pub mod Replies
 pub mod Sessions

@@ -45,7 +45,7 @@ pub record HasBegun (lines : List (List ℕ)) (old new : Option (List ℕ)) : Ty
   pub grown : Appends old new written
   pub whole : IsWhole lines old (append_known new rest) status
 
--- the output is whole, or, where a write has failed, it is begun and the status is 4
+-- the output is whole, or, if a write failed, a prefix of a whole one, and the status is 4
 abbrev pub IsOutputOf : List (List ℕ) → Option (List ℕ) → Option (List ℕ) → ℕ → Type 0
 IsOutputOf lines old new status = IsWhole lines old new status ⊎ ((status ≡ 4) × HasBegun lines old new)
 

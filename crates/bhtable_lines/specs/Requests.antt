@@ -9,7 +9,8 @@ use Rattle.bhtable_lines.specs.declared.request.Question.TheVariants.{Slots, Wor
 use Rattle.bhtable_lines.specs.declared.request.Request.{Request}
 use Rattle.bhtable_lines.specs.declared.request.Request.TheVariants.{New, Call as Calls, Question as Questions, Epoch}
 use Rattle.bucket_table.specs.declared.script.call.Call.{Call}
-use Rattle.bucket_table.specs.declared.script.call.Call.TheVariants.{Put, Write, Read, Peek, Remove, Touch, Evict, Count, Has, Reserve, Release, Start, Work, End, Walk, Clear}
+use Rattle.bucket_table.specs.declared.script.call.Call.TheVariants.{Put, Write, Read, Peek, Remove, Touch, Evict, Count, Has, Reserve}
+use Rattle.bucket_table.specs.declared.script.call.Call.TheVariants.{Release, Start, Work, End, Walk, Clear}
 use Rattle.bucket_table.specs.declared.script.hashes.ScriptHash.{ScriptHash}
 use Rattle.bucket_table.specs.declared.script.hashes.ScriptHash.TheVariants.{Zero, Id, Spread}
 
@@ -23,7 +24,7 @@ hash_word Zero = codes "zero"
 hash_word Id = codes "id"
 hash_word Spread = codes "spread"
 
--- whether marks are kept
+-- whether tombstones are kept
 abbrev pub mark_word : Bool → List ℕ
 mark_word keep = if keep then codes "keep" else codes "drop"
 
@@ -35,7 +36,7 @@ abbrev pub question_word : Question → List ℕ
 question_word Slots = codes "slots"
 question_word Word = codes "word"
 
--- a call's verb, and what stands behind it: numbers, and for a ticket whether it ends with success
+-- a call's verb, and what follows it: numbers, and for a ticket whether it ends with success
 abbrev pub call_line : Call ℕ ℕ → List ℕ × List Part
 call_line (Put key value) = (codes "put", number key ∷ number value ∷ [])
 call_line (Write key value) = (codes "write", number key ∷ number value ∷ [])
@@ -54,7 +55,8 @@ call_line (End ticket success) = (codes "end", number ticket ∷ text (end_word 
 call_line Walk = (codes "walk", [])
 call_line Clear = (codes "clear", [])
 
--- a request's verb, and what stands behind it: for a table its kind, its hash and two limits, for an epoch its number and a mark's word
+-- a request's verb, and what follows it: for a table its kind, its hash and two limits, for an epoch its number and whether tombstones are
+-- kept
 abbrev pub request_line : Request → List ℕ × List Part
 request_line (New new) =
     (codes "new", text (kind_word new.kind) ∷ text (hash_word new.hash) ∷ number new.limits.minimum ∷ number new.limits.maximum ∷ [])
@@ -66,7 +68,7 @@ request_line (Epoch generation) = (codes "epoch", number generation.epoch ∷ te
 abbrev pub AreLimits : ℕ → ℕ → Type 0
 AreLimits minimum maximum = IsPowerOfTwo maximum × (64 ≤ maximum) × (minimum ≤ maximum)
 
--- its numbers are such as a table takes
+-- its numbers are allowed for a table
 abbrev pub IsInRange : Request → Type 0
 IsInRange (New new) = AreLimits new.limits.minimum new.limits.maximum
 IsInRange (Calls call) = Unit {0}

@@ -2,7 +2,9 @@
 use Rattle.std.specs.Prelude.{ℕ, List, ◌++◌, codes, if◌then◌else◌}
 use Rattle.std.specs.Fmt.{decimal}
 use Rattle.bucket_table.specs.declared.script.reply.Reply.{Reply}
-use Rattle.bucket_table.specs.declared.script.reply.Reply.TheVariants.{Done, Present, Absent, Value, Old, Pair, Nothing, Number, Truth, Ticket, NoTicket, NoWork, Ended, Fault, Refused, WrongKind, Walked, Cleared}
+use Rattle.bucket_table.specs.declared.script.reply.Reply.TheVariants.{Done, Present, Absent, Value, Old, Pair, Nothing, Number, Truth}
+use Rattle.bucket_table.specs.declared.script.reply.Reply.TheVariants.{Ticket, NoTicket, NoWork, Ended, Fault, Refused, WrongKind, Walked}
+use Rattle.bucket_table.specs.declared.script.reply.Reply.TheVariants.{Cleared}
 use Rattle.bucket_table.specs.declared.tickets.TicketError.TheVariants.{NotOpen, NotDone}
 use Rattle.line_io.specs.OutputLines.{line_of}
 
@@ -28,6 +30,6 @@ text_of WrongKind = codes "wrong kind"
 text_of (Walked buckets pairs) = codes "walked " ++ decimal buckets ++ codes " " ++ decimal pairs
 text_of (Cleared count) = codes "cleared " ++ decimal count
 
--- the line that tells of a line that can't be read
+-- the line `bad line N`
 abbrev pub bad_line : ℕ → List ℕ
 bad_line number = line_of (codes "bad line " ++ decimal number)

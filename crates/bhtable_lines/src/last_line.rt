@@ -6,10 +6,10 @@ use line_io::stop::Stop;
 use line_io::writing::write_whole;
 use std::io::Write;
 
-/// Writes the last line, which for a line that can't be read stands among the replies already, and
-/// returns the status: that of the stop, or 4 where the line can't be written.
+/// Writes the last line, and returns the status: that of the stop, or 4 if the line can't be
+/// written. For a line that can't be read the last line is among the replies already.
 ///
-/// An output that failed is written to no more.
+/// Nothing more is written to an output that failed.
 pub(crate) fn report<W: Write>(stop: Stop, output: &mut W) -> u8
     ensures { IsReported stop result (W.contents output.old) (W.contents output.new) }
 {
@@ -21,7 +21,7 @@ pub(crate) fn report<W: Write>(stop: Stop, output: &mut W) -> u8
     }
 }
 
-// Writes the last line and returns the status, which is 4 where the line can't be written.
+// Writes the last line and returns the status, which is 4 if the line can't be written.
 fn write_last<W: Write>(output: &mut W, line: &[u8], status: u8) -> u8
     ensures { HasLast line.now status result (W.contents output.old) (W.contents output.new) }
 {

@@ -1,4 +1,4 @@
-//! A script in lines: each line of an input is answered by a line of output, from one table.
+//! A script on one table: each line of input is a request, and is answered by a line of output.
 //!
 //! SPDX-License-Identifier: Apache-2.0
 #![tactic(auto)]
@@ -28,12 +28,12 @@ use std::io::{Read, Write};
 /// doesn't grow with the input: lines are read and replies written in pieces of 64 KiB, and at most
 /// 1,024 calls are gathered before the table answers them.
 ///
-/// The status is 0 at the end of the input; 2 after `bad line N`, where line N can't be read; 3
-/// after `no memory`; 4 after `input failed`, and where the output can't be written.
+/// The status is 0 at the end of the input; 2 after `bad line N`, if line N can't be read; 3 after
+/// `no memory`; 4 after `input failed`, and if the output can't be written.
 ///
-/// At 4 the output is the answers of the first lines and then `input failed`, or, where a write has
-/// failed, a beginning of what it would have been with any status. Nothing is written after a write
-/// that failed. At 3 no clause says that memory was really refused.
+/// At 4 the output is the answers of the first lines and then `input failed`, or, if a write
+/// failed, a prefix of what it would have been with any status. Nothing is written after a write
+/// that failed. No clause says that at 3 an allocation really failed.
 pub fn serve<R: Read + Drop, W: Write>(alloc: Global, input: R, output: &mut W) -> u8
     ensures { IsServed (R.remaining input) (W.contents output.old) (W.contents output.new) result }
 {
@@ -43,7 +43,7 @@ pub fn serve<R: Read + Drop, W: Write>(alloc: Global, input: R, output: &mut W) 
     }
 }
 
-// Answers what is read until the end of the input, and writes every reply out, also after a stop.
+// Answers the lines until the end of the input, and writes every reply, also after a stop.
 fn answer_input<R: Read + Drop, W: Write>(
     alloc: Global,
     input: R,

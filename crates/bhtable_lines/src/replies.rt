@@ -15,10 +15,10 @@ use std::marker::Model;
 // How much is written at a time.
 const TEXT_CAPACITY: usize = 64 * 1024;
 
-// More than the longest reply, of a word and two numbers.
+// Longer than the longest reply, a word and two numbers.
 const REPLY_ROOM: usize = 64;
 
-/// Replies on their way to a writer: their text, as far as it isn't written.
+/// Replies on their way to a writer: the part of their text that isn't written yet.
 #[derive(Drop)]
 pub(crate) struct Replies {
     text: Vec<u8>,
@@ -39,7 +39,7 @@ impl Replies {
         Ok(Replies { text })
     }
 
-    /// Appends replies, up to the first that there is no room for.
+    /// Appends replies, up to the first that can't be appended.
     pub(crate) fn push_all<W: Write>(
         &mut self,
         replies: &[Reply<u64, u64>],
@@ -72,7 +72,7 @@ impl Replies {
         Ok(())
     }
 
-    /// Appends that a line can't be read, where that is the stop.
+    /// Appends the line `bad line N`, if that is the stop.
     pub(crate) fn push_stop<W: Write>(&mut self, stop: Stop, output: &mut W) -> Result<(), Stop>
         ensures { IsTold stop result (W.contents output.old) self.old (W.contents output.new)
             self.new }
@@ -83,7 +83,7 @@ impl Replies {
         }
     }
 
-    // Appends that the line of this number can't be read.
+    // Appends `bad line` and this number.
     fn push_bad_line<W: Write>(&mut self, number: u64, output: &mut W) -> Result<(), Stop>
         ensures { IsPushed result (W.contents output.old) self.old (W.contents output.new) self.new
             (bad_line number) }
@@ -97,7 +97,7 @@ impl Replies {
         Ok(())
     }
 
-    /// Writes every reply out and flushes the writer. Where that fails, the replies are let go.
+    /// Writes every reply out and flushes the writer. If that fails, the replies are dropped.
     pub(crate) fn write_out<W: Write>(&mut self, output: &mut W) -> Result<(), Stop>
         ensures empty { self.new ≡ [] }
         ensures written { IsPushed result (W.contents output.old) self.old (W.contents output.new)
@@ -111,7 +111,7 @@ impl Replies {
         output.flush().map_err(|_| Stop::OutputFailed)
     }
 
-    // Room for a line more, which writing makes.
+    // Makes room for one more line, by writing.
     fn make_room<W: Write>(&mut self, output: &mut W) -> Result<(), Stop>
         ensures room { OnOk result (length self.new ≤ TEXT_CAPACITY - REPLY_ROOM) }
         ensures kept { IsPushed result (W.contents output.old) self.old (W.contents output.new)
@@ -124,7 +124,7 @@ impl Replies {
         Ok(())
     }
 
-    // What can't be written is let go.
+    // What can't be written is dropped.
     fn write_text<W: Write>(&mut self, output: &mut W) -> Result<(), Stop>
         ensures empty { self.new ≡ [] }
         ensures written { IsPushed result (W.contents output.old) self.old (W.contents output.new)

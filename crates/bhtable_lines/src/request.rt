@@ -1,7 +1,7 @@
 //! What the words of a line ask for.
 //!
-//! Words are compared as bytes. Whatever isn't UTF-8 stands in a word that no line has, so it needs
-//! no test of its own.
+//! Words are compared as bytes. A word that isn't UTF-8 equals no known word, so it needs no test
+//! of its own.
 ghost use Rattle.std.specs.Prelude.{◌≡◌, ◌↔◌, ℕ, List, [], ◌∷◌, IfNone, IfOk, IfSome, IsSome, MatchOption, OnErr};
 ghost use Rattle.line_io.specs.Meanings.{IsMeant};
 ghost use Rattle.bhtable_lines.specs.Layout.Forms.{AsksNothing, Begins, form_word};
@@ -26,15 +26,15 @@ pub(crate) struct Unreadable;
 pub(crate) enum Request {
     /// A fresh table.
     New(NewTable),
-    /// A call on the table at hand.
+    /// A call on the current table.
     Call(Call<u64, u64>),
-    /// What the table at hand is to tell of itself.
+    /// A question about the current table.
     Question(Question),
-    /// The epoch of an index's tombstones from here on, and whether tombstones are kept.
+    /// From here on, the epoch of an index's tombstones, and whether tombstones are kept.
     Epoch(FixedGeneration),
 }
 
-/// What a table tells of itself.
+/// A question about a table.
 #[derive(Clone, Copy)]
 pub(crate) enum Question {
     /// How many slots its current array has.
@@ -43,7 +43,7 @@ pub(crate) enum Question {
     Word,
 }
 
-/// A table to be made.
+/// A table to make.
 #[derive(Clone, Copy)]
 pub(crate) struct NewTable {
     pub(crate) kind: Kind,
@@ -66,12 +66,12 @@ pub(crate) struct Limits {
     pub(crate) maximum: usize,
 }
 
-// What stands behind the verb of a line.
+// What follows the verb of a line.
 #[derive(Clone, Copy)]
 enum Form {
     // A kind, a hash and two limits.
     Table,
-    // A byte, and whether marks are kept.
+    // A byte, and whether tombstones are kept.
     Epoch,
     // Nothing.
     Question(Question),
@@ -79,7 +79,7 @@ enum Form {
     Call(Call<u64, u64>),
 }
 
-// Each verb, and its form: of a call, with zeros where a line has its numbers.
+// Each verb and its form: a call has zeros in the place of the line's numbers.
 const FORMS: [(&[u8], Form); 20] = [
     (b"new", Form::Table),
     (b"epoch", Form::Epoch),
@@ -115,13 +115,13 @@ const HASHES: [(&[u8], ScriptHash); 3] = [
     (b"spread", ScriptHash::Spread),
 ];
 
-// Whether marks are kept.
+// Whether tombstones are kept.
 const MARKS: [(&[u8], bool); 2] = [(b"keep", true), (b"drop", false)];
 
 // Whether a ticket ends with success.
 const ENDS: [(&[u8], bool); 2] = [(b"done", true), (b"fail", false)];
 
-/// Reads what a line asks for: nothing, where it has no words.
+/// Reads the request of a line; a line without words has none.
 pub(crate) fn request_in(line: &[u8]) -> Result<Option<Request>, Unreadable>
     ensures asked { IfOk result (λ request.
         MatchOption request (parts_of line.now ≡ []) (Asks (parts_of line.now))) }
@@ -141,8 +141,8 @@ pub(crate) fn request_in(line: &[u8]) -> Result<Option<Request>, Unreadable>
     }
 }
 
-// A call that has numbers alone, where one blank stands behind its verb and no other byte before
-// the first number. Most lines ask for one.
+// A call with numbers alone, if just one blank is between its verb and the first number. Most lines
+// are such calls.
 fn plain_call(line: &[u8]) -> Option<Call<u64, u64>>
     ensures { IfSome result (λ call. Asks (parts_of line.now) (Request.Call call)) }
 {
@@ -170,7 +170,7 @@ fn plain_call(line: &[u8]) -> Option<Call<u64, u64>>
     Some(Call::Evict(lone_number(key)?))
 }
 
-// What a line asks for, with no word left over.
+// The request of a line that has no words left over.
 fn whole_request(first: &[u8], words: Words<'_>) -> Option<Request>
     ensures asked { IfSome result (Asks (part_of first.now ∷ words.entry)) }
     ensures refused { IfNone result (AsksNothing (part_of first.now ∷ words.entry)) }
@@ -184,7 +184,7 @@ fn whole_request(first: &[u8], words: Words<'_>) -> Option<Request>
     }
 }
 
-// What a verb of this form asks for with the words behind it.
+// The request of a verb of this form and the words after it.
 fn request_of(form: Form, words: &mut Words<'_>) -> Option<Request>
     ensures asked { IfSome result (λ request. ((request_line request).0 ≡ form_word form)
         × Begins words.old request words.new) }
@@ -199,7 +199,7 @@ fn request_of(form: Form, words: &mut Words<'_>) -> Option<Request>
     }
 }
 
-// A call like the model, with the operands of a line.
+// A call like the model, with the line's operands.
 fn call_in(model: Call<u64, u64>, words: &mut Words<'_>) -> Option<Call<u64, u64>>
     ensures asked { IfSome result (λ call. ((call_line call).0 ≡ (call_line model).0)
         × Begins words.old (Request.Call call) words.new) }

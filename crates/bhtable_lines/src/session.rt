@@ -1,8 +1,8 @@
-//! A script as it runs: the table at hand, the calls gathered for it, and the replies.
+//! A running script: the current table, the calls gathered for it, and the replies.
 //!
-//! Calls are gathered and given to the table together, since it makes room for all their replies at
-//! once. They are answered before a `new`, an `epoch` and a question, before the output is written,
-//! and where 1,024 wait.
+//! Calls are gathered and passed to the table together, since it allocates room for all their
+//! replies at once. They are answered before a `new`, an `epoch` or a question, before the output
+//! is written, and when 1,024 are gathered.
 ghost use Rattle.std.specs.Prelude.{◌≡◌, ◌⊎◌, ◌≤◌, ◌↔◌, ℕ, List, [], ◌∷◌, ◌++◌, Option, IfErr, IfOk, IsSome, MatchResult, OnErr, OnOk};
 ghost use Rattle.std.specs.Prelude.{length, nat_eq, true};
 ghost use Rattle.bhtable_lines.specs.Answers.{Tells, fresh_table, told};
@@ -28,16 +28,16 @@ use std::alloc::Global;
 use std::io::Write;
 use std::mem;
 
-// The epoch of a fresh table, which keeps every mark.
+// The epoch of a fresh table, which keeps every tombstone.
 const FIRST_GENERATION: FixedGeneration = FixedGeneration {
     epoch: 0,
     keep: true,
 };
 
-// How many calls are given to the table at once, at most.
+// The greatest number of calls passed to the table at once.
 const CALLS_AT_ONCE: usize = 1024;
 
-/// A script as it runs.
+/// A running script.
 #[derive(Drop)]
 pub(crate) struct Session {
     alloc: Global,
@@ -71,7 +71,7 @@ impl Session {
         })
     }
 
-    /// Takes the line of this number. Its reply may wait for `write_out`.
+    /// Takes the line with this number. Its reply may wait for `write_out`.
     pub(crate) fn take<W: Write>(
         &mut self,
         number: u64,
@@ -116,7 +116,7 @@ impl Session {
         self.replies.write_out(output)
     }
 
-    /// Answers and writes what is left, also after a stop, and returns how the script ended.
+    /// Answers and writes what remains, also after a stop, and returns how the script ended.
     pub(crate) fn finish<W: Write>(
         mut self,
         ended: Result<(), Stop>,
@@ -135,7 +135,7 @@ impl Session {
         self.replies.write_out(output).and(ended)
     }
 
-    // Puts a fresh table in the place of the one at hand.
+    // Replaces the current table by a fresh one.
     fn start<W: Write>(&mut self, new: NewTable, output: &mut W) -> Result<(), Stop>
         requires { AreLimits new.limits.minimum new.limits.maximum }
         ensures taken { (start : Option (List ℕ)) (lines : List (List ℕ)) (line : List ℕ)
@@ -154,7 +154,7 @@ impl Session {
         self.replies.push(&Reply::Done, output)
     }
 
-    // Has the calls that follow meet another generation.
+    // Sets the generation of the calls that follow.
     fn set_epoch<W: Write>(
         &mut self,
         generation: FixedGeneration,
@@ -175,7 +175,7 @@ impl Session {
         self.replies.push(&Reply::Done, output)
     }
 
-    // Has the table tell of itself.
+    // Answers a question about the table.
     fn tell<W: Write>(&mut self, question: Question, output: &mut W) -> Result<(), Stop>
         requires { IsSome self.old.table }
         ensures taken { (start : Option (List ℕ)) (lines : List (List ℕ)) (line : List ℕ)
@@ -212,7 +212,7 @@ impl Session {
         }
     }
 
-    // Has the table answer the calls that wait.
+    // Has the table answer the gathered calls.
     fn answer<W: Write>(&mut self, output: &mut W) -> Result<(), Stop>
         ensures answered { (start : Option (List ℕ)) (lines : List (List ℕ))
             → HasTaken start (W.contents output.old) self.old lines
@@ -283,7 +283,7 @@ impl Table {
     }
 }
 
-// What a table tells of itself.
+// A question about a table.
 fn told_by<L: LruList, const TYPE: u8>(
     table: &HashTable<u64, u64, ScriptHash, L, TYPE>,
     question: Question,

@@ -41,7 +41,7 @@ pub(crate) fn append_reply(text: &mut Vec<u8>, reply: &Reply<u64, u64>) -> Resul
     }
 }
 
-/// Appends the line that tells of a bad line.
+/// Appends `bad line` and a line's number.
 pub(crate) fn append_bad_line(text: &mut Vec<u8>, number: u64) -> Result<(), AllocError>
     ensures appended { OnOk result (text.new.items ≡ text.old.items ++ bad_line number) }
     ensures kept { OnErr result (StartsWith text.new.items text.old.items) }

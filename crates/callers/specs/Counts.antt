@@ -17,6 +17,6 @@ module _ {K H : Type 0} (eq : K → K → Bool) where
   abbrev pub CountsFirst : List K → MapView K ℕ H → Type 0
   CountsFirst keys counts = (place : ℕ) × Counts (take place keys) counts
 
-  -- the key that is wanted is counted once more, 0 where the map hasn't it, and each other key has what it had
+  -- the key that is wanted is counted once more, 0 if the map hasn't it, and each other key has what it had
   abbrev pub CountsOneMore : (K → Bool) → MapView K ℕ H → MapView K ℕ H → Type 0
   CountsOneMore wants old new = Updates eq old wants (Some (min (unwrap_or (get_by wants old) 0 + 1) (2 ^ 64 - 1))) new

@@ -1,4 +1,4 @@
--- What the callers answer.
+-- What the callers return.
 pub mod Counts
 pub mod Held
 pub mod Moves

@@ -11,7 +11,7 @@ use std::alloc::AllocError;
 ///
 /// # Errors
 ///
-/// Allocation failed: the map counts some first keys of the list.
+/// Allocation failure: the map counts a prefix of the list.
 ///
 /// O(keys) expected. Own.
 pub fn count_keys<K: Eq + Copy, H: KeyHash<K>>(

@@ -1,13 +1,13 @@
-//! Taking an expired session out of a map.
+//! Removing an expired session from a map.
 ghost use Rattle.std.specs.Prelude.{◌≡◌, ◌↔◌, ◌++◌, ◌∷◌, ◌<◌, ◌≤◌, IfNone, IfSome, IsTrue, List, ℕ};
 ghost use Rattle.std.specs.List.{All};
 
 use collections::hash_map::HashMap;
 
-/// Takes out a session that has ended before a time, the first in the order of the view, and returns
-/// it beside its end; `None` where none has ended. The other sessions stay.
+/// Removes a session that has ended before a time, the first in the order of the view, and returns
+/// it with its end; `None` if none has ended. The other sessions stay.
 ///
-/// Never refused. O(slots). Own.
+/// Never fails. O(slots). Own.
 pub fn take_expired(sessions: &mut HashMap<u64, u64>, time: u64) -> Option<(u64, u64)>
     ensures taken { IfSome result (λ session. (session.1 < time)
         × ((front behind : List (ℕ × ℕ))

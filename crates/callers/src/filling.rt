@@ -1,4 +1,4 @@
-//! Filling a map with pairs, room for which is made first.
+//! Filling a map with pairs, after making room for them.
 ghost use Rattle.std.specs.Prelude.{◌≡◌, ◌+◌, IfErr, OnOk, length};
 ghost use Rattle.collections.specs.Maps.{map_len};
 ghost use Rattle.callers.specs.Filled.{IsForCause};
@@ -9,11 +9,11 @@ use collections::hash_map::{HashMap, NotInserted};
 /// Why not all pairs were inserted.
 #[derive(Clone, Copy, Debug, PartialEq, Eq)]
 pub enum NotFilled {
-    /// No room was made.
+    /// Allocating the room failed.
     NoRoom,
-    /// A key is there already.
+    /// A key is present already.
     Twice,
-    /// A bucket is crowded, and there was no memory for it.
+    /// Allocation failed for a crowded bucket.
     Crowded,
 }
 
@@ -21,8 +21,8 @@ pub enum NotFilled {
 ///
 /// # Errors
 ///
-/// No room could be made, a key is there already, or no memory was to be had for a crowded bucket:
-/// the pairs before it are in the map.
+/// Allocating the room failed, a key is present already, or allocation failed for a crowded bucket:
+/// the pairs before that one are in the map.
 ///
 /// O(pairs) expected, and O(slots). Own.
 pub fn fill<K: Eq + Copy, V: Copy, H: KeyHash<K>>(

@@ -1,17 +1,17 @@
-//! Numbers grouped under keys, and a value written in the place of another.
+//! Numbers grouped under keys, and replacing a value.
 ghost use Rattle.std.specs.Prelude.{◌≡◌, ◌++◌, ◌∷◌, [], IsTrue, MatchOption, OnOk, Some, true};
 ghost use Rattle.collections.specs.Maps.{contains, get};
 
 use collections::hash_map::{Entry, HashMap};
 use std::alloc::AllocError;
 
-/// Puts a number behind those of its key.
+/// Appends a number to those of its key.
 ///
 /// # Errors
 ///
-/// Allocation failed. The key may be new then, with no number.
+/// Allocation failure: the key may be new, and have no number.
 ///
-/// O(1) expected, beside a resize. Own.
+/// O(1) expected, plus any resize. Own.
 pub fn group(groups: &mut HashMap<u64, Vec<u64>>, key: u64, number: u64) -> Result<(), AllocError>
     ensures { OnOk result (MatchOption (get ⟦<u64 as PartialEq>⟧.eq groups.new key) ⊥ (λ numbers.
         MatchOption (get ⟦<u64 as PartialEq>⟧.eq groups.old key) (numbers.items ≡ number ∷ [])
@@ -21,7 +21,7 @@ pub fn group(groups: &mut HashMap<u64, Vec<u64>>, key: u64, number: u64) -> Resu
     Ok(())
 }
 
-/// Writes a value beside a key that is there, and returns whether it is.
+/// Replaces the value of a key, and returns whether the map has the key.
 ///
 /// O(1) expected. Own.
 pub fn overwrite(map: &mut HashMap<u64, u64>, key: u64, value: u64) -> bool

@@ -11,9 +11,9 @@ use collections::hash_map::HashMap;
 pub enum NotMoved {
     /// The sum would pass the greatest `u64`.
     TooMany,
-    /// More would be taken than there is.
+    /// More would be taken than the name holds.
     TooFew,
-    /// No memory was to be had.
+    /// Allocation failed.
     NoMemory,
 }
 
@@ -28,7 +28,7 @@ pub struct Move<K> {
     pub count: u64,
 }
 
-/// Returns how many of a name are held: 0 where the map hasn't it.
+/// Returns how many of a name are held: 0 if the map hasn't it.
 ///
 /// O(1) expected. Own.
 pub fn held<K: Eq, H: KeyHash<K>>(counts: &HashMap<K, u64, H>, name: &K) -> u64
@@ -41,9 +41,9 @@ pub fn held<K: Eq, H: KeyHash<K>>(counts: &HashMap<K, u64, H>, name: &K) -> u64
 ///
 /// # Errors
 ///
-/// The sum doesn't fit, or no memory was to be had: each name holds what it held.
+/// The sum doesn't fit, or allocation failed: each name holds what it held.
 ///
-/// O(1) expected, beside a resize. Own.
+/// O(1) expected, plus any resize. Own.
 pub fn add<K: Eq + Drop, H: KeyHash<K>>(
     counts: &mut HashMap<K, u64, H>,
     name: K,
@@ -66,7 +66,7 @@ pub fn add<K: Eq + Drop, H: KeyHash<K>>(
 ///
 /// # Errors
 ///
-/// More would be taken than there is: each name holds what it held.
+/// More would be taken than the name holds: each name holds what it held.
 ///
 /// O(1) expected. Own.
 pub fn take<K: Eq + Drop, H: KeyHash<K>>(
@@ -90,9 +90,9 @@ pub fn take<K: Eq + Drop, H: KeyHash<K>>(
 ///
 /// # Errors
 ///
-/// A move that can't be made: those before it were made.
+/// A move can't be made: those before it were made.
 ///
-/// O(moves) expected, beside resizes. Own.
+/// O(moves) expected, plus any resizes. Own.
 pub fn settle<K: Eq + Copy, H: KeyHash<K>>(
     counts: &mut HashMap<K, u64, H>,
     moves: &[Move<K>],

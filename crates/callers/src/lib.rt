@@ -1,4 +1,4 @@
-//! Callers of the collections, as a user writes them, each with a contract that is proved from
+//! Callers of the collections, as a user writes them. Each has a contract, which is proved from
 //! those of the calls.
 //!
 //! SPDX-License-Identifier: Apache-2.0

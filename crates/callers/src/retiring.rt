@@ -1,4 +1,4 @@
-//! Retiring keys of an index, which is read while their pairs wait for their epoch.
+//! Removing keys from an index, which is read while their pairs stay as tombstones.
 ghost use Rattle.std.specs.Prelude.{◌≡◌};
 ghost use Rattle.std.specs.List.{count_by};
 ghost use Rattle.bucket_slots.specs.Marking.{MarksBy};
@@ -11,9 +11,9 @@ use bucket_table::key_hash::KeyHash;
 use collections::hash_index::HashIndex;
 
 /// Removes the keys of a list from an index, and returns how many keys of another list it still
-/// has. Each removed pair waits in its slot for the epoch of the generation.
+/// has. Each removed pair stays as a tombstone with the epoch of the generation.
 ///
-/// Never refused. O(keys) expected, beside a resize. Own.
+/// Never fails. O(keys) expected, plus any resize. Own.
 pub fn retire_keys<K: Eq + Drop, V: Drop, H: KeyHash<K>, G: Generation>(
     index: &mut HashIndex<K, V, H>,
     retired: &[K],

@@ -8,14 +8,14 @@ ghost use Rattle.callers.specs.Sessions.{HasSession};
 use bucket_table::key_hash::KeyHash;
 use collections::hash_cache::{HashCache, NotInserted};
 
-/// Touches the session of a user, or puts a fresh one where the user has none. Returns the session
-/// that went for the fresh one, where one did, beside its user.
+/// Touches the session of a user, or inserts a fresh one if the user has none. Returns the session
+/// that was evicted for the fresh one, if any, with its user.
 ///
 /// # Errors
 ///
-/// Allocation failed: the fresh session comes back, and the cache has the same sessions.
+/// Allocation failure: the fresh session is returned, and the cache has the same sessions.
 ///
-/// O(1) expected, beside a resize. Own.
+/// O(1) expected, plus any resize. Own.
 pub fn session_for<U: Eq + Drop, S: Drop, H: KeyHash<U>>(
     cache: &mut HashCache<U, S, H>,
     user: U,
@@ -26,7 +26,8 @@ pub fn session_for<U: Eq + Drop, S: Drop, H: KeyHash<U>>(
     ensures touched { IsSome (get U.eq (map_of cache.old) user)
         → IsTouched U.eq (U.eq user) true cache.old cache.new }
 
-    // A refusal gives the fresh session back and changes nothing; a user who has one meets none.
+    // An allocation failure returns the fresh session and changes nothing; it can't happen for a
+    // user who has a session.
     ensures session_returned { IfErr result (λ back. back ≡ fresh) }
     ensures absent { OnErr result (get U.eq (map_of cache.old) user ≡ None) }
     ensures unchanged { OnErr result (Stays U.eq (map_of cache.old) (map_of cache.new)) }

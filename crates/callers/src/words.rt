@@ -1,4 +1,4 @@
-//! Counting words by their texts: a key is made only where a word is new.
+//! Counting words by their texts: a key is made only if a word is new.
 ghost use Rattle.std.specs.Prelude.{string_bytes, OnErr, OnOk};
 ghost use Rattle.std.specs.Str.{bytes_eq};
 ghost use Rattle.collections.specs.Changes.{Stays};
@@ -11,9 +11,9 @@ use std::alloc::{AllocError, Global};
 ///
 /// # Errors
 ///
-/// Allocation failed, for the key or for the map: the map has the counts that it had.
+/// Allocation failure, for the key or for the map: the map has the counts that it had.
 ///
-/// O(word) expected, beside a resize. Own.
+/// O(word) expected, plus any resize. Own.
 pub fn count_word(
     counts: &mut HashMap<String, u64>,
     word: &str,

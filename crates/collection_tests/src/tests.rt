@@ -1,6 +1,7 @@
-//! Tests of what no clause says: that calls succeed where memory is there, that slots come and go,
-//! and that values are dropped once; calls by chance beside a map of the standard library; and what
-//! the tests of that library's maps and sets and of the crates `lru` and `hashbrown` check.
+//! Tests of what no clause says: that calls succeed if allocation does, that collections grow and
+//! shrink, and that values are dropped once; random calls compared with a map of the standard
+//! library; and what the tests of that library's maps and sets and of the crates `lru` and
+//! `hashbrown` check.
 mod borrowed_keys;
 mod by_chance;
 mod cache_changes;
@@ -53,7 +54,7 @@ fn check_same<T: PartialEq + Debug + Drop, R: Debug + Drop>(
     assert_eq!(rt; found, wanted, "row {row:?}");
 }
 
-// Writes a number where one is lent, and returns the earlier one.
+// Writes a number through a mutable reference, and returns the earlier one.
 fn write(place: Option<&mut u64>, number: u64) -> Option<u64> {
     match place {
         Some(own) => Some(mem::replace(own, number)),

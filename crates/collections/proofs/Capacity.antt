@@ -1,5 +1,6 @@
 -- How many slots some pairs take, and what making room and giving slots back leave of a map.
-use Rattle.std.proofs.Common.{Bool, Err, IsTrue, List, Ok, OnOk, Result, [], ap, arith, false, inl, inr, length, max, min, pow-add, refl, subst, sym}
+use Rattle.std.proofs.Common.{Bool, Err, IsTrue, List, Ok, OnOk, Result, [], ap, arith, false, inl, inr, length, max, min, pow-add, refl}
+use Rattle.std.proofs.Common.{subst, sym}
 use Rattle.std.proofs.Common.{true, ℕ, ◌*◌, ◌+◌, ◌-◌, ◌/◌, ◌<◌, ◌^◌, ◌∙◌, ◌≡◌, ◌≤◌, ◌↔◌, ◌⊎◌}
 use Rattle.std.specs.Int.{IsPowerOfTwo}
 use Rattle.std.specs.List.{IsDistinct}

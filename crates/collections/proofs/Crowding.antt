@@ -1,5 +1,6 @@
 -- An insertion that ran out of memory lacked room.
-use Rattle.std.proofs.Common.{ℕ, suc, ◌≡◌, ◌≢◌, ◌<◌, ◌≤◌, ◌+◌, ◌*◌, ◌/◌, ◌%◌, ◌++◌, Bool, cond, ◌==◌, None, Option, Result, Ok, Err, IfOk, List}
+use Rattle.std.proofs.Common.{ℕ, suc, ◌≡◌, ◌≢◌, ◌<◌, ◌≤◌, ◌+◌, ◌*◌, ◌/◌, ◌%◌, ◌++◌, Bool, cond, ◌==◌, None, Option, Result, Ok, Err, IfOk}
+use Rattle.std.proofs.Common.{List}
 use Rattle.std.proofs.Common.{[], ◌∷◌, ◌⊎◌, inl, inr}
 use Rattle.std.proofs.Common.{length, map, refl, sym, subst, ap, ◌∙◌, arith, append-nil, length-append}
 use Rattle.std.specs.List.{All}

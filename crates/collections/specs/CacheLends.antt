@@ -1,4 +1,4 @@
--- What a cache ends as, where a value of it was lent for writing.
+-- What a cache is when a mutable borrow of one of its values ends.
 use Rattle.std.specs.Prelude.{◌≡◌, Bool, true, false, Option, None, IfNone, IfSome}
 use Rattle.std.specs.Borrow.{Fml, LendsSo, MutBor, RattleType}
 use Rattle.std.specs.declared.cmp.PartialEq as equals
@@ -10,8 +10,8 @@ use Rattle.collections.specs.contracts.hash_cache.HashCache.{the_row}
 
 module _ (K V H : RattleType) (equal : equals.Ghosts K.Denot) (hashing : key_hash.Ghosts H.Denot K.Denot)
     (cache : MutBor (TableView K.Denot V.Denot H.Denot)) where
-  -- the value beside the key that is wanted is the last one written through the loan; where there is none no key is wanted, and the map
-  -- stays; and the table becomes so, by whether the key is there
+  -- the value of the key that is wanted is the last one written through the borrow; if there is none, no key is wanted and the map stays;
+  -- the table changes by the relation `Becomes`, which is told whether the key is present
   abbrev pub LendsValue : (K.Denot → Bool) → Option (MutBor V.Denot)
       → (Bool → TableView K.Denot V.Denot H.Denot → TableView K.Denot V.Denot H.Denot → Type 0) → Fml
   LendsValue wants loan Becomes =

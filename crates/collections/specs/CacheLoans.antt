@@ -1,4 +1,4 @@
--- What a cache ends as, once a value that it lent has been given back.
+-- What a cache is once the borrow of one of its values has ended.
 use Rattle.std.specs.Prelude.{⊤}
 use Rattle.std.specs.Borrow.{Fml, MutBor, RattleType, follows_so}
 use Rattle.std.specs.declared.cmp.PartialEq as equals
@@ -8,7 +8,7 @@ use Rattle.bucket_table.specs.Views.ArraysView.{TableView}
 use Rattle.collections.specs.contracts.hash_cache.HashCache.{the_row}
 
 module _ (K V H : RattleType) (equal : equals.Ghosts K.Denot) (hashing : key_hash.Ghosts H.Denot K.Denot) where
-  -- it ends so
+  -- it ends as the relation says
   abbrev pub EndsSo : MutBor (TableView K.Denot V.Denot H.Denot) → (TableView K.Denot V.Denot H.Denot → Type 0) → Fml
   EndsSo cache After =
       let row = the_row K V H (record {}) equal hashing in

@@ -1,4 +1,4 @@
--- What becomes of a cache's buckets, and of their LRU order, where values are written and pairs are taken out.
+-- What writing values and removing pairs does to a cache's buckets, and to their LRU order.
 use Rattle.std.specs.Prelude.{◌≡◌, Bool, true, false, length}
 use Rattle.bucket_slots.specs.BucketView.{bucket_with_value}
 use Rattle.bucket_slots.specs.Evicting.{slots_touched}
@@ -9,15 +9,15 @@ use Rattle.bucket_table.specs.Walking.Retains.{AreLeftOf}
 use Rattle.collections.specs.Changes.{Stays}
 use Rattle.collections.specs.Maps.{map_of}
 
--- where a wanted pair was found its value is another one, and the pair is touched if the call touches; nothing else is changed; else all
--- stays
+-- if a wanted pair was found, its value is another one, and the pair is touched if the call touches; nothing else changes; if none was
+-- found, nothing changes
 abbrev pub WritesPlace : {K V H : Type 0} → Bool → (K → Bool) → Bool → TableView K V H → TableView K V H → Type 0
 WritesPlace {K} {V} touches wants true old new =
     (value : V) × ChangesAt wants (λ bucket at. bucket_with_value (slots_touched touches bucket at) at value) true old new
 WritesPlace touches wants false old new = new ≡ old
 
--- old pairs may move on with their LRU order, and none does where no old array stands; then the value beside the wanted key, if one is
--- there, is another one where it stands, and the pair is touched there if the call touches; nothing else changes
+-- pairs of the old array, if there is one, may move with their LRU order; then the value of the wanted key, if it is present, is another
+-- one in its place, and the pair is touched there if the call touches; nothing else changes
 pub record IsWritten {K V H : Type 0} (touches : Bool) (wants : K → Bool) (eq : K → K → Bool) (is_there : Bool) (old new : TableView K V H)
     : Type 0 where
   pub between : TableView K V H
@@ -26,8 +26,8 @@ pub record IsWritten {K V H : Type 0} (touches : Bool) (wants : K → Bool) (eq 
   pub alone : length old.arrays.linked ≡ 0 → between ≡ old
   pub written : WritesPlace touches wants is_there between new
 
--- each bucket of both arrays is left as it was, but for values that were written and pairs that were taken out: the LRU order of the
--- others stays; and the incremental rehash goes on from where it was
+-- each bucket of both arrays is as it was, but for values that were written and pairs that were removed: the LRU order of the others stays,
+-- and so does the progress of the incremental rehash
 pub record LeavesBuckets {K V : Type 0} (old new : ArraysView K V) : Type 0 where
   pub current : AreLeftOf 67 0 old.current new.current
   pub linked : AreLeftOf 67 0 old.linked new.linked

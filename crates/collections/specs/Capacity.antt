@@ -25,26 +25,26 @@ pub record IsMinimumFor (pairs minimum : ℕ) : Type 0 where
   pub beyond : AreTooMany pairs → minimum ≡ 2 ^ 63
 
 module _ {K V H : Type 0} where
-  -- no pair is on its way, and there is room for so many pairs more
+  -- there is no old array, and there is room for a number of additional pairs
   pub record HasRoomFor (more : ℕ) (map : MapView K V H) : Type 0 where
     pub alone : map.old_slots ≡ 0
     pub enough : IsTooFull map.slots (map_len map + more) → ⊥
 
-  -- no pair is on its way, and there are the least number of slots for some pairs, or as many as before
+  -- there is no old array, and there are the least number of slots for some pairs, or as many as before
   pub record TakesSlots (pairs : ℕ) (old new : MapView K V H) : Type 0 where
     pub alone : new.old_slots ≡ 0
     pub least : ℕ
     pub least_is : IsSlotsFor pairs least
     pub slots_are : new.slots ≡ max least old.slots
 
-  -- no pair is on its way, and there are as few slots as the pairs take, and none for none
+  -- there is no old array, and there are as few slots as the pairs take, and none for none
   pub record IsFitted (map : MapView K V H) : Type 0 where
     pub alone : map.old_slots ≡ 0
     pub none : IsEmpty map → map.slots ≡ 0
     pub some : (IsEmpty map → ⊥) → IsSlotsFor (map_len map) map.slots
 
-  -- room is made for so many pairs more, by the least number of slots for them all, or those that there are, unless allocation fails, and
-  -- no slot goes; where there is room already, and where they are too many, nothing changes
+  -- room is made for a number of additional pairs, by the least number of slots for them all, or by the present ones, unless allocation
+  -- fails, and no slot is freed; if there is room already, or if the pairs are too many, nothing changes
   pub record MakesRoom {E : Type 0} (eq : K → K → Bool) (more : ℕ) (old : MapView K V H) (answer : Result (Unit {0}) E) (new : MapView K V H) : Type 0 where
     pub stays : Stays eq old new
     pub room : OnOk answer (HasRoomFor more new)
@@ -53,16 +53,16 @@ module _ {K V H : Type 0} where
     pub ready : HasRoomFor more old → (answer ≡ Ok tt) × (new ≡ old)
     pub too_many : AreTooMany (map_len old + more) → IsErr answer × (new ≡ old)
 
-  -- the minimum is 0, and as few slots are left as the pairs take, unless allocation fails; where there are as few already nothing else
-  -- changes, and a map without a pair isn't refused
+  -- the minimum is 0, and as few slots are left as the pairs take, unless allocation fails; if there are as few already, nothing else
+  -- changes, and the call succeeds for a map without pairs
   pub record ShrinksToFit {E : Type 0} (eq : K → K → Bool) (old : MapView K V H) (answer : Result (Unit {0}) E) (new : MapView K V H) : Type 0 where
     pub stays : Stays eq (record old { minimum = 0 }) new
     pub fitted : OnOk answer (IsFitted new)
     pub ready : IsFitted old → (answer ≡ Ok tt) × (new ≡ record old { minimum = 0 })
     pub none : IsEmpty old → answer ≡ Ok tt
 
-  -- the minimum is 0, and there are as few slots as so many pairs take, or as before where those were fewer, unless allocation fails; where
-  -- the pairs of the map are as many, those count
+  -- the minimum is 0, and there are as few slots as so many pairs take, or as before where those were fewer, unless allocation fails; if
+  -- the map has as many pairs itself, those count
   pub record ShrinksTo {E : Type 0} (eq : K → K → Bool) (pairs : ℕ) (old : MapView K V H) (answer : Result (Unit {0}) E)
       (new : MapView K V H) : Type 0 where
     pub stays : Stays eq (record old { minimum = 0 }) new

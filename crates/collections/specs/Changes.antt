@@ -1,5 +1,6 @@
 -- What calls do to a map.
-use Rattle.std.specs.Prelude.{ℕ, ◌≡◌, ◌+◌, ◌-◌, Bool, true, false, cond, if◌then◌else◌, nat_le, List, ◌∷◌, Option, Some, None, Result, Ok, Err, IsSome}
+use Rattle.std.specs.Prelude.{ℕ, ◌≡◌, ◌+◌, ◌-◌, Bool, true, false, cond, if◌then◌else◌, nat_le, List, ◌∷◌, Option, Some, None, Result, Ok}
+use Rattle.std.specs.Prelude.{Err, IsSome}
 use Rattle.std.specs.Borrow.{Bor, MutBor}
 use Rattle.std.specs.List.Sorted.{IsPermutation}
 use Rattle.std.specs.declared.alloc.AllocFailed.{AllocFailed}
@@ -16,7 +17,7 @@ module _ {K V H : Type 0} (eq : K → K → Bool) where
     pub minimum : new.minimum ≡ old.minimum
     pub maximum : new.maximum ≡ old.maximum
 
-  -- each key that is wanted has the value (none: the map hasn't it), and each other key what it had
+  -- each key that is wanted has the value (`None`: the map hasn't the key), and each other key what it had
   abbrev pub Updates : MapView K V H → (K → Bool) → Option V → MapView K V H → Type 0
   Updates old wants value new = (other : K) → get eq new other ≡ cond (wants other) value (get eq old other)
 
@@ -44,7 +45,7 @@ module _ {K V H : Type 0} (eq : K → K → Bool) where
     pub updates : Updates old wants None new
     pub kept : Keeps old new
 
-  -- the value beside the key that is wanted is another one, and that key stays
+  -- the value of the key that is wanted is another one, and that key stays
   pub record Replaces (old : MapView K V H) (wants : K → Bool) (pair : K × V) (later : V) (new : MapView K V H) : Type 0 where
     pub same : wants pair.0 ≡ true
     pub value : get_by wants old ≡ Some pair.1
@@ -55,11 +56,11 @@ module _ {K V H : Type 0} (eq : K → K → Bool) where
     pub updates : Updates old wants (Some later) new
     pub kept : Keeps old new
 
-  -- the value beside some key that is wanted is another one
+  -- the value of some key that is wanted is another one
   abbrev pub Holds : (K → Bool) → MapView K V H → V → V → MapView K V H → Type 0
   Holds wants old before later new = (own : K) × Replaces old wants (own, before) later new
 
-  -- a pair is in, whose key was absent, and another is out
+  -- a pair is inserted, whose key was absent, and another is removed
   pub record Displaces (old : MapView K V H) (gone : K × V) (key : K) (value : V) (new : MapView K V H) : Type 0 where
     pub absent : get eq old key ≡ None
     pub went : get eq old gone.0 ≡ Some gone.1
@@ -71,54 +72,54 @@ module _ {K V H : Type 0} (eq : K → K → Bool) where
     pub kept : Keeps old new
 
 module _ {K V H : Type 0} (eq : K → K → Bool) (key : K) where
-  -- why a pair comes back that wasn't put: an equal key is there, or allocation failed, and then none is
+  -- why a pair that wasn't inserted is returned: an equal key is present, or allocation failed and none is
   abbrev pub HandsBack : V → MapView K V H → NotInserted K V → Type 0
   HandsBack value map (Present k v) = (k ≡ key) × (v ≡ value) × IsSome (get eq map key)
   HandsBack value map (Memory k v) = (k ≡ key) × (v ≡ value) × (get eq map key ≡ None)
 
-  -- a pair is put where its key is absent; else, and if allocation fails, it comes back and all stays
+  -- a pair is inserted if its key is absent; else, and if allocation fails, it is returned and nothing changes
   abbrev pub Inserts : {A : Type 0} → V → MapView K V H → Result A (NotInserted K V) → MapView K V H → Type 0
   Inserts value old (Ok done) new = Adds eq old key value new
   Inserts value old (Err why) new = HandsBack value old why × Stays eq old new
 
-  -- a pair is put where its key is absent, and a pair that goes for it comes back; else, and if allocation fails, the pair itself
-  -- comes back and all stays
+  -- a pair is inserted if its key is absent, and the evicted pair, if any, is returned; else, and if allocation fails, the pair itself is
+  -- returned and nothing changes
   abbrev pub Puts : V → MapView K V H → Result (Option (K × V)) (NotInserted K V) → MapView K V H → Type 0
   Puts value old (Ok None) new = Adds eq old key value new
   Puts value old (Ok (Some gone)) new = Displaces eq old gone key value new
   Puts value old (Err why) new = HandsBack value old why × Stays eq old new
 
-  -- a pair is put, or its value stands beside the key that is there, and the earlier value is the answer; if allocation fails
-  -- the pair comes back, and then its key is absent
+  -- a pair is inserted, or its value replaces that of the present key, and the earlier value is returned; if allocation fails, the pair is
+  -- returned and its key is absent
   abbrev pub Upserts : V → MapView K V H → Result (Option V) (AllocFailed (K × V)) → MapView K V H → Type 0
   Upserts value old (Ok None) new = Adds eq old key value new
   Upserts value old (Ok (Some earlier)) new = (own : K) × Replaces eq old (eq key) (own, earlier) value new
   Upserts value old (Err back) new = (back.value ≡ (key, value)) × (get eq old key ≡ None) × Stays eq old new
 
 module _ {K V H : Type 0} (eq : K → K → Bool) (wants : K → Bool) where
-  -- the pair whose key is wanted is taken out, and none is exactly where no key is wanted
+  -- the pair whose key is wanted is removed and returned; `None` exactly if no key is wanted
   abbrev pub Removes : MapView K V H → Option (K × V) → MapView K V H → Type 0
   Removes old (Some pair) new = Takes eq old wants pair new
   Removes old None new = (get_by wants old ≡ None) × Stays eq old new
 
-  -- the pair whose key is wanted is gone, and the answer is whether there was one
+  -- the pair whose key is wanted is gone, and the result is whether there was one
   abbrev pub TakesOut : MapView K V H → Bool → MapView K V H → Type 0
   TakesOut old true new = (pair : K × V) × Takes eq old wants pair new
   TakesOut old false new = (get_by wants old ≡ None) × Stays eq old new
 
-  -- the pair whose key is wanted is read and then gone; there is no answer exactly where no key is wanted
+  -- the pair whose key is wanted is read and then gone; the result is `None` exactly if no key is wanted
   abbrev pub ReadsOut : {R : Type 0} → (Bor K → Bor V → R → Type 0) → MapView K V H → Option R → MapView K V H → Type 0
   ReadsOut reads old (Some answer) new =
       (own : Bor K) × (value : Bor V) × reads own value answer × Takes eq old wants (own.now, value.now) new
   ReadsOut reads old None new = (get_by wants old ≡ None) × Stays eq old new
 
-  -- the value beside the key that is wanted is lent to a call, and is what that leaves; there is no answer exactly where no key is wanted
+  -- the value of the key that is wanted is lent to a call, and is what that leaves; the result is `None` exactly if no key is wanted
   abbrev pub Rewrites : {R : Type 0} → (Bor K → MutBor V → R → MutBor V → Type 0) → MapView K V H → Option R → MapView K V H → Type 0
   Rewrites changes old (Some answer) new = (own : Bor K) × (before : MutBor V) × (after : MutBor V) × changes own before answer after
       × Replaces eq old wants (own.now, before.now) after.now new
   Rewrites changes old None new = (get_by wants old ≡ None) × Stays eq old new
 
--- the key of a set that is wanted is taken out, and none is exactly where none is wanted
+-- the key of a set that is wanted is removed and returned; `None` exactly if no key is wanted
 abbrev pub SetRemoves : {K H : Type 0} → (K → K → Bool) → (K → Bool) → MapView K (Unit {0}) H → Option K → MapView K (Unit {0}) H → Type 0
 SetRemoves eq wants old (Some own) new = Takes eq old wants (own, tt) new
 SetRemoves eq wants old None new = (get_by wants old ≡ None) × Stays eq old new
@@ -129,20 +130,20 @@ Calls {K} {V} step key value later = (own : Bor K) × (before : MutBor V) × (af
     × (own.now ≡ key) × (before.now ≡ value) × (after.now ≡ later) × step own before after
 
 module _ {K V H : Type 0} (eq : K → K → Bool) where
-  -- the minimum is raised by the answer: what was asked for, or nothing where it would pass the maximum
+  -- the minimum is raised by the result: what was asked for, or 0 if it would pass the maximum
   pub record Reserves (additional : ℕ) (old : MapView K V H) (answer : ℕ) (new : MapView K V H) : Type 0 where
     pub granted : answer ≡ (if nat_le additional (old.maximum - old.minimum) then additional else 0)
     pub stays : Stays eq (record old { minimum = old.minimum + answer }) new
 
-  -- a function is asked of each pair in turn, from one state to another: those that it keeps are left, with the values last
-  -- written, and the slots stay, the old ones too
+  -- a function is called with each pair in turn, from one state to the next: those that it keeps are left, with the values last written,
+  -- and the slots stay, the old ones too
   pub record Retains {S : Type 0} (step : S → Bor K → MutBor V → Bool → MutBor V → S → Type 0) (first : S) (old new : MapView K V H) (last : S) : Type 0 where
     pub asked : RetainsEach step first old.entries new.entries last
     pub kept : Keeps eq old new
     pub slots : new.slots ≡ old.slots
     pub old_slots : new.old_slots ≡ old.old_slots
 
--- an error was made of a pair that wasn't put, for which room is lacking: the key, and a value that was made
+-- an error was made of a pair that wasn't inserted because allocation may fail for it: the key, and the value made
 pub record FailsToAdd {K V E : Type 0} (gives : AllocFailed (K × V) → E → Type 0) (IsMade : V → Type 0) (key : K) (Lacks : Type 0) (why : E)
     : Type 0 where
   pub lacks : Lacks

@@ -13,7 +13,7 @@ use Rattle.collections.specs.Maps.{IsUnique, MapView, contains, get, map_len}
 abbrev pub IsClonedPair : {K V : Type 0} → (K → K → Bool) → (K → K → Type 0) → (V → V → Type 0) → K × V → K × V → Type 0
 IsClonedPair eq IsKey IsValue own pair = (IsKey own.0 pair.0 × (eq own.0 pair.0 ≡ true)) × IsValue own.1 pair.1
 
--- clones of a pair are put into a map
+-- clones of a pair are inserted into a map
 pub record PutsClone {K V H : Type 0} (eq : K → K → Bool) (IsKey : K → K → Type 0) (IsValue : V → V → Type 0) (old : MapView K V H)
     (own : K × V) (new : MapView K V H) : Type 0 where
   pub pair : K × V
@@ -39,27 +39,26 @@ abbrev pub IsClonedKey : {K : Type 0} → (K → K → Bool) → (K → K → Ty
 IsClonedKey eq IsKey key clone = IsKey key clone × (eq key clone ≡ true)
 
 module _ {K H : Type 0} (eq : K → K → Bool) (IsKey : K → K → Type 0) where
-  -- a clone of a key is put into a set
+  -- a clone of a key is inserted into a set
   pub record PutsKeyClone (old : MapView K (Unit {0}) H) (key : K) (new : MapView K (Unit {0}) H) : Type 0 where
     pub clone : K
     pub is_clone : IsClonedKey eq IsKey key clone
     pub puts : PutsKey eq old clone new
 
-  -- clones of some keys are put into a set in turn
+  -- clones of some keys are inserted into a set in turn
   pub record PutsClones (old : MapView K (Unit {0}) H) (keys : List K) (new : MapView K (Unit {0}) H) : Type 0 where
     pub clones : List K
     pub one_each : AllZip (IsClonedKey eq IsKey) keys clones
     pub puts : PutsKeys eq old clones new
 
-  -- clones of keys that an iterator lends are put in turn, all of them
+  -- clones of the keys that an iterator borrows are inserted in turn, all of them
   abbrev pub PutsClonesFrom : {S : Type 0} → (S → Option (Bor K) → S → Type 0) → S → MapView K (Unit {0}) H
       → MapView K (Unit {0}) H → Type 0
   PutsClonesFrom steps first old new =
       (lent : List (Bor K)) × Drains steps first lent × PutsClones old (map (λ key. key.now) lent) new
 
 module _ {K H : Type 0} (eq : K → K → Bool) (IsKey : K → K → Type 0) (IsHasher : H → H → Type 0) where
-  -- a set that was made empty has clones of some keys of two others, which the test of both says of each key; its hasher is a clone
-  -- of the first one's
+  -- a set that was made empty has clones of some keys of two others: those that pass the test; its hasher is a clone of the first one's
   pub record JoinsClones (own other : MapView K (Unit {0}) H) (keys : List K) (joins : Bool → Bool → Bool)
       (made : MapView K (Unit {0}) H) : Type 0 where
     pub puts : PutsClones {H = H} eq IsKey (empty_map made.hasher) keys made

@@ -1,15 +1,15 @@
--- What a copy of a map has, and what comes of one that can be refused.
+-- What a copy of a map has, and what a copy is if allocation may fail.
 use Rattle.std.specs.Prelude.{◌^◌, Bool, min, Option, Some, None, ⊤}
 use Rattle.collections.specs.Changes.{Stays}
 use Rattle.collections.specs.Maps.{MapView}
 
 module _ {K V H : Type 0} where
-  -- the pairs of a map stand in another, in some order, beside its hasher and its capacities: its maximum is 2^63, which its
-  -- minimum doesn't pass
+  -- the pairs of a map are in another, in some order, beside its hasher and its capacities: its maximum is 2^63, which its minimum doesn't
+  -- pass
   abbrev pub IsCopy : (K → K → Bool) → MapView K V H → MapView K V H → Type 0
   IsCopy eq own copy = Stays eq (record own { minimum = min own.minimum (2 ^ 63); maximum = 2 ^ 63 }) copy
 
-  -- a map comes of another as a relation says, or it is given up; and what was given up stays so
+  -- a map follows from another by a relation, or it is dropped; and once dropped it stays so
   abbrev pub BecomesOrGoes : (MapView K V H → MapView K V H → Type 0) → Option (MapView K V H) → Option (MapView K V H) → Type 0
   BecomesOrGoes Becomes (Some old) (Some new) = Becomes old new
   BecomesOrGoes Becomes None (Some new) = ⊥

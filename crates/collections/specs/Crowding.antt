@@ -1,4 +1,4 @@
--- For what an insertion may run out of memory.
+-- When an insertion may fail to allocate.
 use Rattle.std.specs.Prelude.{ℕ, ◌+◌, ◌/◌, ◌<◌, ◌≤◌, ◌≡◌, ◌⊎◌, Bool, List, filter, length}
 use Rattle.bucket_slots.specs.ArrayView.{bucket_at}
 use Rattle.bucket_slots.specs.BucketLaws.{IsBucketOf}
@@ -15,14 +15,14 @@ use Rattle.collections.specs.Maps.{MapView, map_of}
 abbrev pub HasAtHome : {K V : Type 0} → ℕ → (K → ℕ) → K → ℕ → List (K × V) → Type 0
 HasAtHome count hash key slots pairs = (0 < slots) × (count ≤ homed_len hash (slots / 32) (home_of (slots / 32) (hash key)) pairs)
 
--- to find a bucket for a key may need memory that isn't there: the map has no slots, or moves to fewer slots than it had, or the key's old
--- bucket was the home of more pairs than it has slots
+-- finding a bucket for a key may fail to allocate: the map has no slots, or moves to fewer slots than it had, or the key's old bucket was
+-- the home of more pairs than it has slots
 abbrev pub LacksBucket : {K V H : Type 0} → (H → K → ℕ) → K → MapView K V H → Type 0
 LacksBucket hash_of key map = ((map.slots ≡ 0) ⊎ (map.slots < map.old_slots))
     ⊎ HasAtHome 33 (hash_of map.hasher) key map.old_slots map.entries
 
--- and so may an insertion of a key, or else its bucket is the home of as many pairs as it has slots; a caller that needs it unfolds it,
--- since the search of one that doesn't would go through all of it
+-- so may inserting a key, or its bucket is the home of as many pairs as it has slots; a caller that needs this definition unfolds it, since
+-- an automatic search would otherwise go through all of it
 unfoldable pub LacksRoom : {K V H : Type 0} → (H → K → ℕ) → K → MapView K V H → Type 0
 LacksRoom hash_of key map = LacksBucket hash_of key map ⊎ HasAtHome 32 (hash_of map.hasher) key map.slots map.entries
 
@@ -32,8 +32,8 @@ pub record IsFull {K V : Type 0} (keeps : ℕ → Bool) (hash : ℕ) (buckets : 
   pub home : IsHome (length buckets) hash index
   pub many : 32 ≤ length (pairs_in (bucket_at buckets index)) + length (filter (λ mark. keeps mark.1) (marks_in (bucket_at buckets index)))
 
--- an insertion of a key into an index may need memory that isn't there: that of a bucket, or the one found is full, in an array as long
--- as the current one was; a caller that needs it unfolds it
+-- inserting a key into an index may fail to allocate: finding a bucket may, or the one found is full, in an array as long as the current
+-- one was; a caller that needs this definition unfolds it
 unfoldable pub LacksSlots : {K V H : Type 0} → (ℕ → Bool) → (H → K → ℕ) → K → TableView K V H → TableView K V H → Type 0
 LacksSlots keeps hash_of key old new = LacksBucket hash_of key (map_of old)
     ⊎ ((side : Side) × (length (buckets_on new.arrays side) ≡ length old.arrays.current)

@@ -24,7 +24,7 @@ module _ {K V H : Type 0} {equal : equals.Ghosts K} {hashing : key_hash.Ghosts H
   is_occupied (Occupied entry) = true
   is_occupied (Vacant entry) = false
 
-  -- where the map has the key, its value is what a call leaves of it; else the map is as it was
+  -- if the map has the key, its value is what a call leaves; else the map is as it was
   abbrev pub Modifies : (K → K → Bool) → (MutBor V → MutBor V → Type 0) → Entry K V H equal hashing → MapView K V H → Type 0
   Modifies eq changes (Occupied entry) new =
       (own : K) × (before after : MutBor V) × changes before after × Replaces eq entry.map.now (eq entry.key) (own, before.now) after.now new

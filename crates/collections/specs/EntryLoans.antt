@@ -1,4 +1,4 @@
--- What an entry ends as, where the value under its key was lent for writing.
+-- What an entry is when a mutable borrow of the value under its key ends.
 use Rattle.std.specs.Prelude.{◌≡◌, Bool, true, false, List, [], ◌∷◌, Some, cond, refl, IsSome}
 use Rattle.std.proofs.Common.{subst, sym}
 use Rattle.std.specs.Borrow.{Fml, Lends, MutBor, RattleType}
@@ -13,7 +13,7 @@ use Rattle.collections.specs.declared.key_form.KeyForm as key_form
 use Rattle.collections.specs.contracts.hash_map.entry.OccupiedEntry as occupied
 use Rattle.collections.specs.contracts.hash_map.entry.by_form.OccupiedEntryRef as occupied_ref
 
--- a key that is there is so under another value
+-- a key that is present stays so when its value changes
 pub still_there : {K V : Type 0} (test : K → Bool) (entries : List (K × V)) (value : V) → IsSome (lookup test entries)
     → IsSome (lookup test (set_value test entries value))
 still_there test [] value there = there
@@ -38,7 +38,7 @@ module _ {K V H : Type 0} {equal : equals.Ghosts K} {hashing : key_hash.Ghosts H
   }
 
 module _ (K V H : RattleType) (equal : equals.Ghosts K.Denot) (hashing : key_hash.Ghosts H.Denot K.Denot) where
-  -- the value under the key is the last one written through the loan. The entry's lifetime is the second of the signature
+  -- the value under the key is the last one written through the borrow. The entry's lifetime is the second of the signature
   abbrev pub LendsHeld : MutBor (OccupiedEntry K.Denot V.Denot H.Denot equal hashing) → MutBor V.Denot → Fml
   LendsHeld place lent = Lends (occupied.the_row (record { mir = named 1; lft = [] }) K V H equal hashing (record {})) V place lent
       (with_entry_value place.now)
@@ -56,7 +56,7 @@ module _ {K V H Q : Type 0} {equal : equals.Ghosts K} {hashing : key_hash.Ghosts
 
 module _ (K V H Q : RattleType) (equal : equals.Ghosts K.Denot) (hashing : key_hash.Ghosts H.Denot K.Denot)
     (form : key_form.Ghosts Q.Denot K.Denot H.Denot) where
-  -- the same of an entry by a form
+  -- the same for an entry by a form
   abbrev pub LendsHeldRef : MutBor (OccupiedEntryRef K.Denot V.Denot H.Denot Q.Denot equal hashing form) → MutBor V.Denot → Fml
   LendsHeldRef place lent =
       Lends (occupied_ref.the_row (record { mir = named 1; lft = [] }) K V H Q equal hashing form (record {})) V place lent

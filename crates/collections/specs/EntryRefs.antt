@@ -25,7 +25,7 @@ module _ {K V H Q : Type 0} {equal : equals.Ghosts K} {hashing : key_hash.Ghosts
   is_ref_occupied (Occupied entry) = true
   is_ref_occupied (Vacant entry) = false
 
-  -- where the map has such a key, its value is what a call leaves of it; else the map is as it was
+  -- if the map has such a key, its value is what a call leaves; else the map is as it was
   abbrev pub ModifiesRef : (K → K → Bool) → (Q → K → Bool) → (MutBor V → MutBor V → Type 0) → EntryRef K V H Q equal hashing form
       → MapView K V H → Type 0
   ModifiesRef eq stands_for changes (Occupied entry) new = (own : K) × (before after : MutBor V) × changes before after

@@ -1,4 +1,4 @@
--- Equality of maps, as `==` of std's maps has it.
+-- Equality of maps, as `==` on std's maps.
 use Rattle.std.specs.Prelude.{Bool, ◌&&◌}
 use Rattle.std.specs.List.{list_all}
 use Rattle.std.specs.Map.{keys_of}

@@ -1,4 +1,4 @@
--- Equality of maps is that of the maps as functions. It stands here because the impls of `PartialEq` cite it.
+-- Two maps are equal exactly if they are equal as functions. It stands here because the impls of `PartialEq` cite it.
 use Rattle.std.proofs.Common.{◌≡◌, ◌&&◌, ◌∙◌, ◌⊎◌, inl, inr, Bool, true, false, cond, Option, Some, None, List, [], ◌∷◌, refl, sym, ap}
 use Rattle.std.specs.Cmp.{IsEquivalence, first_so, second_so}
 use Rattle.std.specs.HashMap.Eq.{lookup_congr}
@@ -29,14 +29,14 @@ absent_or_passing {K} {V} eq test q (pair ∷ pairs) all =
     from false is (inr found) = inr found
 
 module _ {V : Type 0} (same : V → V → Bool) where
-  -- equality of options may be asked either way
+  -- equality of options is symmetric
   option_eq_turned : ((v w : V) → same v w ≡ same w v) → (o p : Option V) → option_eq same o p ≡ option_eq same p o
   option_eq_turned sides None None = refl
   option_eq_turned sides None (Some w) = refl
   option_eq_turned sides (Some v) None = refl
   option_eq_turned sides (Some v) (Some w) = sides v w
 
-  -- and joins
+  -- and transitive
   option_eq_joined : ((u v w : V) → same u v ≡ true → same v w ≡ true → same u w ≡ true) → (o p q : Option V)
       → option_eq same o p ≡ true → option_eq same p q ≡ true → option_eq same o q ≡ true
   option_eq_joined through None None q one two = two
@@ -57,7 +57,7 @@ map_eq_itself {K} {V} eq same itself m = and_from (is_within eq same m m) (is_wi
     all : is_within eq same m m ≡ true
     all = passes_all (agree_at eq same m m) (λ q. at (get eq m q)) (keys_of m.entries)
 
--- equality may be asked either way
+-- equality is symmetric
 pub map_eq_turned : {K V H : Type 0} (eq : K → K → Bool) (same : V → V → Bool) (m n : MapView K V H)
     → map_eq eq same m n ≡ map_eq eq same n m
 map_eq_turned eq same m n = turned (is_within eq same m n) (is_within eq same n m)
@@ -93,7 +93,7 @@ module _ {K V : Type 0} (eq : K → K → Bool) (laws : IsEquivalence eq) (same 
       (passes_all (agree_at eq same m n) agree (keys_of m.entries))
       (passes_all (agree_at eq same n m) (λ q. option_eq_turned same sides (get eq n q) (get eq m q) ∙ agree q) (keys_of n.entries))
 
-  -- equality joins
+  -- equality is transitive
   pub map_eq_joined : {H : Type 0} → ((u v w : V) → same u v ≡ true → same v w ≡ true → same u w ≡ true) → (l m n : MapView K V H)
       → map_eq eq same l m ≡ true → map_eq eq same m n ≡ true → map_eq eq same l n ≡ true
   map_eq_joined through l m n one two = eq_from_agree l n (λ q. option_eq_joined same through (get eq l q) (get eq m q) (get eq n q)

@@ -30,8 +30,8 @@ module _ {K V H : Type 0} (eq : K → K → Bool) where
   abbrev pub keys_of_one : MapView K V H → MapView K V H → List K
   keys_of_one own other = keys_outside own other ++ keys_outside other own
 
-  -- a function is asked of each key in turn, from one state to another: those for which it answers true are left, in their
-  -- order, and the slots stay, the old ones too
+  -- a function is called with each key in turn, from one state to the next: those for which it returns true are left, in their order, and
+  -- the slots stay, the old ones too
   pub record RetainsKeys {F : Type 0} (asks : Mut F (Bor K × Unit {0}) Bool) (first : F) (old new : MapView K V H) (last : F) : Type 0 where
     pub answers : List Bool
     pub one_each : length answers ≡ length (keys_of old.entries)

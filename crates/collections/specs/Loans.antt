@@ -1,4 +1,4 @@
--- What a map ends as, where a value of it was lent for writing.
+-- What a map is when a mutable borrow of one of its values ends.
 use Rattle.std.specs.Prelude.{◌≡◌, ◌⊎◌, Bool, true, Option, Some, None, Result, IfNone, IfSome, MatchOption}
 use Rattle.std.specs.Borrow.{Fml, Lends, LendsSo, LendsSoOk, MutBor, RattleType}
 use Rattle.std.specs.declared.cmp.PartialEq as equals
@@ -9,7 +9,7 @@ use Rattle.collections.specs.Crowding.{LacksRoom}
 use Rattle.collections.specs.Slots.{GrowsSlots, KeepsSlots}
 use Rattle.collections.specs.contracts.hash_map.HashMap.{the_row}
 
--- the value stands under the key: a pair more, or beside the key that is there
+-- the value stands under the key: a pair more, or with the key that is present
 abbrev pub Puts : {K V H : Type 0} → (K → K → Bool) → MapView K V H → K → V → MapView K V H → Type 0
 Puts {K} {V} {H} eq old key value new =
     MatchOption (get eq old key) (Adds eq old key value new) (λ before. (own : K) × Replaces eq old (eq key) (own, before) value new)
@@ -22,14 +22,14 @@ module _ {K V H : Type 0} (eq : K → K → Bool) (old : MapView K V H) (wants :
     pub adds : Adds eq old key value new
     pub updates : Updates eq old wants (Some value) new
 
-  -- the value stands under a key that is wanted: a pair more, or beside the key that is there
+  -- the value stands under a key that is wanted: a pair more, or with the key that is present
   pub record PutsWanted : Type 0 where
     pub cases : MatchOption (get_by wants old) AddsWanted (λ before. (own : K) × Replaces eq old wants (own, before) value new)
     pub updates : Updates eq old wants (Some value) new
 
 module _ (K V H : RattleType) (equal : equals.Ghosts K.Denot) (hashing : key_hash.Ghosts H.Denot K.Denot)
     (map : MutBor (MapView K.Denot V.Denot H.Denot)) where
-  -- the value beside the key that is wanted is the last one written through the loan; where there is none no key is wanted, and all stays;
+  -- the value of the key that is wanted is the last one written through the borrow; if there is none, no key is wanted and nothing changes;
   -- the slots stay in either case
   abbrev pub LendsValue : (K.Denot → Bool) → Option (MutBor V.Denot) → Fml
   LendsValue wants loan =
@@ -38,20 +38,20 @@ module _ (K V H : RattleType) (equal : equals.Ghosts K.Denot) (hashing : key_has
       × KeepsSlots map.now new))
       (λ new. IfNone loan ((get_by wants map.now ≡ None) × Stays equal.eq map.now new × KeepsSlots map.now new))
 
-  -- the value beside the key that is wanted is the last one written through the loan
+  -- the value of the key that is wanted is the last one written through the borrow
   abbrev pub LendsThere : (K.Denot → Bool) → MutBor V.Denot → Fml
   LendsThere wants lent =
       Lends (the_row K V H (record {}) equal hashing) V map lent (map_with_value wants map.now)
 
-  -- a pair more, which has the last value written through the loan; where nothing is lent all stays, and room is lacking; the slots are
-  -- those that an insertion leaves
+  -- a pair more, with the last value written through the borrow; if nothing is borrowed, nothing changes, and allocation may fail; the
+  -- slots are those that an insertion leaves
   abbrev pub LendsAdded : {E : Type 0} → K.Denot → Result (MutBor V.Denot) E → Fml
   LendsAdded key loan =
       LendsSoOk (the_row K V H (record {}) equal hashing) V map loan
       (λ new value. Adds equal.eq map.now key value new × GrowsSlots hashing.hash_of key map.now new)
       (λ new. Stays equal.eq map.now new × LacksRoom hashing.hash_of key map.now × GrowsSlots hashing.hash_of key map.now new)
 
-  -- the same of a key that is wanted; where it isn't nothing is lent, and all stays
+  -- the same for a key that is wanted; if it isn't, nothing is borrowed and nothing changes
   abbrev pub LendsWanted : {E : Type 0} → (K.Denot → Bool) → K.Denot → Result (MutBor V.Denot) E → Fml
   LendsWanted wants key loan =
       LendsSoOk (the_row K V H (record {}) equal hashing) V map loan
@@ -59,29 +59,29 @@ module _ (K V H : RattleType) (equal : equals.Ghosts K.Denot) (hashing : key_has
       (λ new. Stays equal.eq map.now new × (wants key ≡ true → LacksRoom hashing.hash_of key map.now)
       × GrowsSlots hashing.hash_of key map.now new)
 
-  -- the value under the key is the last one written through the loan, whether the map had the key or not; where nothing is
-  -- lent all stays, and room is lacking
+  -- the value under the key is the last one written through the borrow, whether the map had the key or not; if nothing is borrowed, nothing
+  -- changes, and allocation may fail
   abbrev pub LendsPut : {E : Type 0} → K.Denot → Result (MutBor V.Denot) E → Fml
   LendsPut key loan =
       LendsSoOk (the_row K V H (record {}) equal hashing) V map loan
       (λ new value. Puts equal.eq map.now key value new × GrowsSlots hashing.hash_of key map.now new)
       (λ new. Stays equal.eq map.now new × LacksRoom hashing.hash_of key map.now × GrowsSlots hashing.hash_of key map.now new)
 
-  -- the same; where nothing is lent all stays, and what came of it may be no allocation
+  -- the same; if nothing is borrowed, nothing changes, and the cause may be another one than allocation failure
   abbrev pub LendsTried : {E : Type 0} → K.Denot → Result (MutBor V.Denot) E → Fml
   LendsTried key loan =
       LendsSoOk (the_row K V H (record {}) equal hashing) V map loan
       (λ new value. Puts equal.eq map.now key value new × GrowsSlots hashing.hash_of key map.now new)
       (λ new. Stays equal.eq map.now new × GrowsSlots hashing.hash_of key map.now new)
 
-  -- a pair more; where nothing is lent all stays, and what came of it may be no allocation
+  -- a pair more; if nothing is borrowed, nothing changes, and the cause may be another one than allocation failure
   abbrev pub LendsTriedNew : {E : Type 0} → K.Denot → Result (MutBor V.Denot) E → Fml
   LendsTriedNew key loan =
       LendsSoOk (the_row K V H (record {}) equal hashing) V map loan
       (λ new value. Adds equal.eq map.now key value new × GrowsSlots hashing.hash_of key map.now new)
       (λ new. Stays equal.eq map.now new × GrowsSlots hashing.hash_of key map.now new)
 
-  -- no pair of a key that is wanted is put: it may be that none can be made, or room for one is lacking
+  -- no pair of a key that is wanted is inserted: no such key could be made, or allocation may fail for it
   abbrev pub LacksPair : Type 0 → (K.Denot → Bool) → Type 0
   LacksPair MayLackKey wants = MayLackKey ⊎ ((key : K.Denot) × (wants key ≡ true) × LacksRoom hashing.hash_of key map.now)
 
@@ -90,16 +90,16 @@ module _ (K V H : RattleType) (equal : equals.Ghosts K.Denot) (hashing : key_has
   GrowsWanted wants new = KeepsSlots map.now new
       ⊎ ((key : K.Denot) × (wants key ≡ true) × GrowsSlots hashing.hash_of key map.now new)
 
-  -- a pair more, whose key is one that is wanted, with the last value written through the loan; where nothing is lent all stays, and a
-  -- key or room is lacking
+  -- a pair more, whose key is one that is wanted, with the last value written through the borrow; if nothing is borrowed, nothing changes,
+  -- and no key could be made or allocation may fail
   abbrev pub LendsMade : {E : Type 0} → Type 0 → (K.Denot → Bool) → Result (MutBor V.Denot) E → Fml
   LendsMade MayLackKey wants loan =
       LendsSoOk (the_row K V H (record {}) equal hashing) V map loan
       (λ new value. AddsWanted equal.eq map.now wants value new × GrowsWanted wants new)
       (λ new. Stays equal.eq map.now new × LacksPair MayLackKey wants × GrowsWanted wants new)
 
-  -- the value under a key that is wanted is the last one written through the loan, whether the map had one or not; where
-  -- nothing is lent all stays, and a key or room is lacking
+  -- the value under a key that is wanted is the last one written through the borrow, whether the map had one or not; if nothing is
+  -- borrowed, nothing changes, and no key could be made or allocation may fail
   abbrev pub LendsPutWanted : {E : Type 0} → Type 0 → (K.Denot → Bool) → Result (MutBor V.Denot) E → Fml
   LendsPutWanted MayLackKey wants loan =
       LendsSoOk (the_row K V H (record {}) equal hashing) V map loan

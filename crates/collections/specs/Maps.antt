@@ -1,11 +1,11 @@
--- What contracts see of a collection, in the words of std's `HashMap`.
+-- What contracts see of a collection, in terms of std's `HashMap`.
 use Rattle.std.specs.Prelude.{ℕ, ◌≡◌, ◌*◌, Bool, List, [], length, Option, is_some}
 use Rattle.std.specs.List.{IsDistinct}
 use Rattle.std.specs.Map.{keys_of, lookup, set_value}
 use Rattle.bucket_table.specs.Views.ArraysView.{TableView, pairs_of}
 
--- the pairs, in an order that any call may change, the hasher, the least number of slots that a shrink leaves and the
--- greatest that a growth makes, the number of slots, and that of the old slots whose pairs are on their way to these
+-- the pairs, in an order that any call may change, the hasher, the least number of slots that a shrink leaves and the greatest that a
+-- growth makes, the number of slots, and the number of old slots, whose pairs have still to move to these
 pub record MapView (K V H : Type 0) : Type 0 where
   pub entries : List (K × V)
   pub hasher : H

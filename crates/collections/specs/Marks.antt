@@ -1,4 +1,4 @@
--- What becomes of the marks of an index.
+-- What calls do to the tombstones of an index.
 use Rattle.std.specs.Prelude.{ℕ, ◌≡◌, ◌⊎◌, ◌++◌, Bool, true, false, List, [], ◌∷◌, length}
 use Rattle.std.specs.List.{Contains, filter}
 use Rattle.std.specs.List.Sorted.{IsPermutation}
@@ -7,13 +7,13 @@ use Rattle.bucket_table.specs.Map.LookingUp.{IsThere}
 use Rattle.bucket_table.specs.Rehash.Relocation.{marks_among}
 use Rattle.bucket_table.specs.Views.ArraysView.{ArraysView, marks_of, pairs_of}
 
--- these marks are earlier ones, each of the current array among them, and all of them where no old array stands
+-- these tombstones are earlier ones, with all those of the current array, and with all there were if there is no old array
 pub record AreEarlierMarks {K V : Type 0} (old : ArraysView K V) (marks : List ((K × V) × ℕ)) : Type 0 where
   pub earlier : HasNoNewMark (marks_of old) marks
   pub current : (mark : (K × V) × ℕ) → Contains (marks_among old.current) mark → Contains marks mark
   pub all : length old.linked ≡ 0 → marks ≡ marks_of old
 
--- the pair whose key is wanted is marked with the epoch, beside earlier marks
+-- the pair whose key is wanted is a tombstone with the epoch, beside earlier tombstones
 pub record AddsMark {K V : Type 0} (wants : K → Bool) (epoch : ℕ) (old new : ArraysView K V) : Type 0 where
   pub pair : K × V
   pub there : IsThere wants (pairs_of old) pair
@@ -21,22 +21,22 @@ pub record AddsMark {K V : Type 0} (wants : K → Bool) (epoch : ℕ) (old new :
   pub kept : AreEarlierMarks old earlier
   pub marks : IsPermutation ((pair, epoch) ∷ earlier) (marks_of new)
 
--- no array is left, where the minimum is 0
+-- no array is left, if the minimum is 0
 abbrev pub LeavesNoArray : {K V : Type 0} → ArraysView K V → Type 0
 LeavesNoArray arrays = (arrays.minimum ≡ 0) × (arrays.current ++ arrays.linked ≡ [])
 
--- the marks stay, or no array is left
+-- the tombstones stay, or no array is left
 abbrev pub KeepsMarks : {K V : Type 0} → ArraysView K V → ArraysView K V → Type 0
 KeepsMarks old new = (marks_of new ≡ marks_of old) ⊎ LeavesNoArray new
 
 module _ {K V : Type 0} where
-  -- a pair that is removed is marked, or no array is left; where none is removed, the marks are earlier ones
+  -- a pair that is removed becomes a tombstone, or no array is left; if none is removed, the tombstones are earlier ones
   abbrev pub MarksRemoved : (K → Bool) → ℕ → Bool → ArraysView K V → ArraysView K V → Type 0
   MarksRemoved wants epoch true old new =
       AddsMark wants epoch old new ⊎ LeavesNoArray new
   MarksRemoved wants epoch false old new = AreEarlierMarks old (marks_of new)
 
-  -- no mark of the current array goes whose epoch the generation keeps, and where no old array stands these are the same
+  -- no tombstone of the current array is dropped whose epoch the generation keeps, and if there is no old array these are the same
   pub record LosesNoKeptMark (keeps : ℕ → Bool) (old new : ArraysView K V) : Type 0 where
     pub current : (mark : (K × V) × ℕ) → Contains (marks_among old.current) mark → keeps mark.1 ≡ true → Contains (marks_of new) mark
     pub alone : length old.linked ≡ 0 → filter (λ mark. keeps mark.1) (marks_of new) ≡ filter (λ mark. keeps mark.1) (marks_of old)

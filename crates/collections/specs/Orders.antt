@@ -1,4 +1,4 @@
--- What becomes of the order of use in a cache's buckets.
+-- What calls do to the LRU order in a cache's buckets.
 use Rattle.std.specs.Prelude.{ℕ, ◌≡◌, ◌<◌, ◌%◌, ◌⊎◌, ◌++◌, Bool, true, false, [], Option, Result, Ok, Err, length, slice_set}
 use Rattle.bucket_table.specs.declared.arrays.side.Side.{Side}
 use Rattle.bucket_table.specs.declared.arrays.side.Side.TheVariants.{Current}
@@ -17,8 +17,8 @@ use Rattle.bucket_table.specs.declared.hash_table.NotInserted.{NotInserted}
 use Rattle.collections.specs.Changes.{Stays}
 use Rattle.collections.specs.Maps.{map_of}
 
--- the map stays; old pairs may move on with their order of use, and none does where no old array stands; then the pair
--- whose key is wanted, if one is there, is touched where it stands, and nothing else changes
+-- the map stays; pairs of the old array, if there is one, may move with their LRU order; then the pair whose key is wanted, if it is
+-- present, is touched in its place, and nothing else changes
 pub record IsTouched {K V H : Type 0} (eq : K → K → Bool) (wants : K → Bool) (is_there : Bool) (old new : TableView K V H) : Type 0 where
   pub map : Stays eq (map_of old) (map_of new)
   pub between : TableView K V H
@@ -26,13 +26,13 @@ pub record IsTouched {K V H : Type 0} (eq : K → K → Bool) (wants : K → Boo
   pub alone : length old.arrays.linked ≡ 0 → between ≡ old
   pub touched : ChangesAt wants (slots_touched true) is_there between new
 
--- a bucket is another one now and nothing else changes, or its array, which stood alone, is the old one now
+-- one bucket has changed and nothing else, or its array, which was the only one, is the old one now
 abbrev pub ReplacesBucket : {K V : Type 0} → Side → ℕ → BucketView K V → ArraysView K V → ArraysView K V → Type 0
 ReplacesBucket side index bucket old new = (new ≡ arrays_with old side index bucket)
     ⊎ ((length old.linked ≡ 0) × (new.linked ≡ slice_set old.current index bucket))
 
--- the map stays; old pairs may move on with their order of use, and where no old array stands, none does, and a first array is made if none
--- stands; then a pair goes into the home of its key's hash, after what goes for it, as the one touched last
+-- the map stays; pairs of the old array, if there is one, may move with their LRU order, and the first array is made if there is none; then
+-- a pair is put into the home of its key's hash as the most recently used one, after an eviction if there is one
 pub record PutsInHome {K V H : Type 0} (eq : K → K → Bool) (pair : K × V) (hash : ℕ) (gone : Option (K × V)) (old : TableView K V H)
     (new : ArraysView K V) : Type 0 where
   pub between : ArraysView K V
@@ -44,20 +44,20 @@ pub record PutsInHome {K V H : Type 0} (eq : K → K → Bool) (pair : K × V) (
   pub goes : Goes (bucket_at between.current index) gone
   pub put : ReplacesBucket Current index (slots_put true (slots_left (bucket_at between.current index) gone) pair (hash % 256)) between new
 
--- old pairs may move on, and an array that stands alone stays; then it may be the old one now
+-- pairs of the old array may move, and a single array stays; then that may become the old one
 pub record LeavesArray {K V : Type 0} (old new : ArraysView K V) : Type 0 where
   pub between : ArraysView K V
   pub carried : 0 < length old.linked → KeepsArrays old between
   pub alone : length old.linked ≡ 0 → 0 < length old.current → between ≡ old
   pub left : (new ≡ between) ⊎ ((length between.linked ≡ 0) × (new.linked ≡ between.current))
 
--- a pair is put into its home, or it comes back
+-- a pair is put into its home, or it is returned
 abbrev pub PutsOrKeeps : {K V H : Type 0} → (K → K → Bool) → K × V → ℕ → TableView K V H → Result (Option (K × V)) (NotInserted K V)
     → ArraysView K V → Type 0
 PutsOrKeeps eq pair hash old (Ok gone) new = PutsInHome eq pair hash gone old new
 PutsOrKeeps eq pair hash old (Err why) new = LeavesArray old.arrays new
 
--- the pair whose key is wanted leaves its place, if one is there, and nothing else of its array changes, or no array is left, where the
+-- the pair whose key is wanted leaves its place, if it is present, and nothing else of its array changes; or no array is left, if the
 -- minimum is 0
 abbrev pub Leaves : {K V : Type 0} → (K → Bool) → Bool → ArraysView K V → ArraysView K V → Type 0
 Leaves wants true old new = ((new.minimum ≡ 0) × (new.current ++ new.linked ≡ []))
@@ -65,7 +65,7 @@ Leaves wants true old new = ((new.minimum ≡ 0) × (new.current ++ new.linked �
     × ReplacesBucket side index (slots_without (bucket_on old side index) at) old new)
 Leaves wants false old new = new ≡ old
 
--- old pairs may move on with their order of use, and none does where no old array stands; then the pair leaves its place
+-- pairs of the old array, if there is one, may move with their LRU order; then the pair leaves its place
 pub record LeavesPlace {K V : Type 0} (wants : K → Bool) (is_there : Bool) (old new : ArraysView K V) : Type 0 where
   pub between : ArraysView K V
   pub carried : KeepsArrays old between

@@ -5,7 +5,7 @@ use Rattle.collections.specs.Crowding.{HasAtHome}
 use Rattle.collections.specs.Maps.{MapView}
 
 module _ {K V H : Type 0} where
-  -- the slots stay, and the old ones too, or those are gone
+  -- the slots stay, and the old ones stay or are gone
   pub record KeepsSlots (old new : MapView K V H) : Type 0 where
     pub slots : new.slots ≡ old.slots
     pub old_slots : (new.old_slots ≡ old.old_slots) ⊎ (new.old_slots ≡ 0)
@@ -27,12 +27,12 @@ module _ {K V H : Type 0} where
     pub more : old.minimum < old.slots
     pub went : (new.old_slots ≡ old.slots) ⊎ ((new.slots ≡ 0) × (new.old_slots ≡ 0))
 
-  -- a removal keeps the slots, or where it took a pair out they may shrink; a caller that needs it unfolds it
+  -- a removal keeps the slots, or where it took a pair out they may shrink; a caller that needs this definition unfolds it
   unfoldable pub LosesSlots : Bool → MapView K V H → MapView K V H → Type 0
   LosesSlots true old new = KeepsSlots old new ⊎ ShrinksSlots old new
   LosesSlots false old new = KeepsSlots old new
 
   -- an insertion of a key keeps the slots, or makes the first, or the key's bucket is nearly full and they are the old ones now; a caller
-  -- that needs it unfolds it
+  -- that needs this definition unfolds it
   unfoldable pub GrowsSlots : (H → K → ℕ) → K → MapView K V H → MapView K V H → Type 0
   GrowsSlots hash_of key old new = KeepsSlots old new ⊎ (MakesSlots old new ⊎ ChangesSlots (hash_of old.hasher) key old new)

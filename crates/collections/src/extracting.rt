@@ -1,13 +1,13 @@
-//! What the extractions of a map and of a set share: the arrays are held meanwhile, and go back when
-//! the extraction ends.
+//! What the extractions of a map and of a set share: an extraction holds the arrays, and puts them
+//! back when it ends.
 ghost use Rattle.std.specs.Prelude.{◌≡◌};
 
-/// What was taken out of a collection, and goes back into it. Own.
+/// What was taken out of a collection, and is put back into it. Own.
 pub trait PutBack<M> {
-    /// That it may go back into the collection.
+    /// That it may be put back into the collection.
     ghost fits: { M → Self → Type 0 };
 
-    /// The collection, once it is back.
+    /// The collection, once it was put back.
     ghost after: { M → Self → M };
 
     /// Puts it back.
@@ -17,7 +17,7 @@ pub trait PutBack<M> {
         ensures still { ∥ fits to.new self.old ∥₁ };
 }
 
-/// A collection from which a function picks what is taken out, as it is asked. std: `ExtractIf`.
+/// A collection from which an iterator removes what a function picks. std: `ExtractIf`.
 pub struct Extraction<'a, M, F, T: PutBack<M>> {
     pub(crate) from: &'a mut M,
     pub(crate) taken: T,

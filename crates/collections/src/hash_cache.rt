@@ -1,9 +1,9 @@
-//! A cache: a map of bounded size, whose insertions may make an earlier pair go.
+//! A cache: a map of bounded size, whose insertions may evict an earlier pair.
 //!
-//! Model: the table's own view, since which pair goes is said of a key's home. The map is `map_of`
-//! it, and answers as std's `HashMap` does.
+//! Model: the table's own view, since the home of a key decides which pair is evicted. The map is
+//! `map_of` it, and answers as std's `HashMap` does.
 //!
-//! Ports scc's `src/hash_cache.rs` to an owned cache: a borrow stands where scc locks.
+//! Ports scc's `src/hash_cache.rs` to an owned cache: a call borrows where scc locks.
 ghost use Rattle.std.specs.Prelude.{◌≤◌, ◌≡◌, ◌↔◌, ◌^◌, ◌*◌, ◌-◌, ◌++◌, [], Err, IsTrue, is_some, length, max, min};
 ghost use Rattle.std.specs.Borrow.{sem};
 ghost use Rattle.std.specs.Option.{option_copied};
@@ -42,10 +42,17 @@ use std::alloc::Global;
 use std::hash::{BuildHasherDefault, Hash, RandomState};
 use std::marker::Model;
 
-/// The greatest number of slots of a cache that isn't told one. scc: `DEFAULT_MAXIMUM_CAPACITY`.
+/// The greatest number of slots of a cache made without a maximum. scc: `DEFAULT_MAXIMUM_CAPACITY`.
 pub const DEFAULT_MAXIMUM_CAPACITY: usize = 256;
 
-/// A cache: a map of bounded size, whose insertions may make an earlier pair go. scc: `HashCache`.
+/// A cache: a map of bounded size, whose insertions may evict an earlier pair. scc: `HashCache`.
+///
+/// Each bucket has an LRU order of the touched pairs in its own slots. An insertion into a full
+/// bucket evicts the least recently used pair of that bucket.
+///
+/// Incremental rehash and allocation failure are as in `HashMap`: while there is an old array, a
+/// call that inserts, removes, changes or touches a pair by its key first moves a unit of 64 old
+/// buckets, and the old buckets whose pairs belong in the key's bucket.
 #[derive(Drop)]
 pub struct HashCache<K: Eq, V, H: KeyHash<K> = DefaultHash> {
     table: HashTable<K, V, H, DoublyLinkedList, CACHE>,
@@ -63,7 +70,7 @@ impl<K: Eq, V, H: KeyHash<K>> Model for HashCache<K, V, H> {
 impl<K: Eq, V, H: KeyHash<K>> HashCache<K, V, H> {
     ghost use Rattle.collections.specs.Room.{CacheFits};
 
-    /// Returns an empty cache of at most 256 slots and what hangs off them. Takes no memory.
+    /// Returns an empty cache of at most 256 slots, and their overflow chains. Takes no memory.
     ///
     /// O(1). scc: `HashCache::with_hasher`.
     pub fn with_hasher(alloc: Global, hasher: H) -> Self
@@ -133,8 +140,9 @@ impl<K: Eq, V, H: KeyHash<K>> HashCache<K, V, H> {
         self.table.hasher()
     }
 
-    /// Returns how many pairs the cache has, at most 2^64 - 1: no more than its arrays have slots,
-    /// and pairs in their chains. The current array has no more slots than the maximum.
+    /// Returns how many pairs the cache has, at most 2^64 - 1: no more than the slots of its arrays
+    /// and the pairs of their overflow chains. The current array has no more slots than the
+    /// maximum.
     ///
     /// O(slots / 32). scc: `HashCache::len`.
     pub fn len(&self) -> usize
@@ -172,7 +180,7 @@ impl<K: Eq, V, H: KeyHash<K>> HashCache<K, V, H> {
         self.table.for_each(f);
     }
 
-    /// Returns the number of slots, chains left out.
+    /// Returns the number of slots, without those of overflow chains.
     ///
     /// O(1). scc: `HashCache::capacity`.
     pub fn capacity(&self) -> usize
@@ -182,8 +190,8 @@ impl<K: Eq, V, H: KeyHash<K>> HashCache<K, V, H> {
         self.table.num_slots()
     }
 
-    /// Returns the value under a key, or under the keys that a form stands for, which isn't touched;
-    /// `None` where the cache hasn't the key.
+    /// Returns the value under a key, or under the keys that a form stands for, and doesn't touch
+    /// its pair; `None` if the cache hasn't the key.
     ///
     /// Moves nothing, and takes no memory. O(1) expected. scc: `HashCache::peek_with`.
     #[inline(always)]
@@ -194,7 +202,7 @@ impl<K: Eq, V, H: KeyHash<K>> HashCache<K, V, H> {
         value_by(&self.table, key)
     }
 
-    /// Tests whether the cache has a key, or one that a form stands for; none is touched.
+    /// Tests whether the cache has a key, or one that a form stands for. None is touched.
     ///
     /// Moves nothing, and takes no memory. O(1) expected. scc: `HashCache::contains_sync`.
     #[inline(always)]
@@ -209,13 +217,11 @@ impl<K: Eq + Drop, V: Drop, H: KeyHash<K>> HashCache<K, V, H> {
     ghost use Rattle.collections.specs.CacheLoans.{EndsSo};
     ghost use Rattle.collections.specs.Orders.{IsTouched, LeavesPlace, PutsOrKeeps};
 
-    /// Returns the value under a key, or under the keys that a form stands for, whose pair is now the
-    /// one of its bucket touched last; a pair that doesn't stand in an own slot of its bucket isn't
-    /// listed. `None` where the cache hasn't the key.
+    /// Returns the value under a key, or under the keys that a form stands for, and touches its
+    /// pair: it is now the most recently used one of its bucket. A pair in an overflow chain isn't
+    /// in the LRU order, and stays out of it. `None` if the cache hasn't the key.
     ///
-    /// `HashTable::touch_place` says where the incremental rehash happens.
-    ///
-    /// Never refused. O(1) expected. scc: `HashCache::get_sync`.
+    /// Never fails. O(1) expected. scc: `HashCache::get_sync`.
     #[inline(always)]
     pub fn get<Q: KeyForm<K, H>>(&mut self, key: Q) -> Option<&V>
         ensures value { option_copied result ≡ get_by (Q.stands_for key) (map_of self.old) }
@@ -234,20 +240,18 @@ impl<K: Eq + Drop, V: Drop, H: KeyHash<K>> HashCache<K, V, H> {
         }
     }
 
-    /// Puts a pair whose key the cache hasn't, as the one of its bucket touched last. Where no own
-    /// slot of that bucket is free, the pair that was touched longest ago goes first, or where
-    /// none was touched the one in slot 0, and comes back. The pair stands in an own slot, so no
-    /// chain gets longer.
-    ///
-    /// `HashTable::put` says where growth and the incremental rehash happen.
+    /// Inserts a pair whose key the cache hasn't, as the most recently used one of its bucket. If
+    /// no own slot of that bucket is free, a pair is evicted first, and returned: the least
+    /// recently used one, or the one in slot 0 if no pair was touched. The new pair takes an own
+    /// slot, so no overflow chain grows.
     ///
     /// # Errors
     ///
-    /// An equal key is there; or allocation failed, and then none is: the pair comes back, and none
-    /// goes. Allocation can't fail while the cache has slots, no fewer than old ones, and the key's
-    /// bucket among the old slots, if any, is the home of at most 32 pairs.
+    /// The cache has an equal key; or allocation failed, and it has none. The pair is returned, and
+    /// none is evicted. Allocation can't fail while the cache has slots, no fewer than old slots,
+    /// and the key's bucket among the old slots, if any, is the home of at most 32 pairs.
     ///
-    /// O(1) expected, beside a resize. scc: `HashCache::put_sync`.
+    /// O(1) expected, plus any resize. scc: `HashCache::put_sync`.
     pub fn put(&mut self, key: K, value: V) -> Result<Option<(K, V)>, NotInserted<K, V>>
         ensures map { Puts K.eq key value (map_of self.old) result (map_of self.new) }
         ensures home { PutsOrKeeps K.eq (key, value) (H.hash_of self.old.hasher key) self.old result
@@ -263,12 +267,10 @@ impl<K: Eq + Drop, V: Drop, H: KeyHash<K>> HashCache<K, V, H> {
         outcome
     }
 
-    /// Takes out the pair under a key, or under the keys that a form stands for, and returns it;
-    /// `None` where the cache hasn't the key.
+    /// Removes the pair under a key, or under the keys that a form stands for, and returns it;
+    /// `None` if the cache hasn't the key.
     ///
-    /// `HashTable::take` says where shrinking and the incremental rehash happen.
-    ///
-    /// Never refused. O(1) expected, beside a resize. scc: `HashCache::remove_sync`.
+    /// Never fails. O(1) expected, plus any resize. scc: `HashCache::remove_sync`.
     #[inline(always)]
     pub fn remove<Q: KeyForm<K, H>>(&mut self, key: Q) -> Option<(K, V)>
         ensures map { Removes K.eq (Q.stands_for key) (map_of self.old) result (map_of self.new) }
@@ -285,7 +287,7 @@ impl<K: Eq + Drop, V: Drop, H: KeyHash<K>> HashCache<K, V, H> {
 
     /// Drops all pairs and all slots; the hasher and the capacities stay.
     ///
-    /// Never refused. O(slots). scc: `HashCache::clear_sync`.
+    /// Never fails. O(slots). scc: `HashCache::clear_sync`.
     pub fn clear(&mut self)
         ensures hasher { self.new.hasher ≡ self.old.hasher }
         ensures arrays { self.new.arrays
@@ -297,8 +299,8 @@ impl<K: Eq + Drop, V: Drop, H: KeyHash<K>> HashCache<K, V, H> {
 }
 
 impl<K: Eq + Hash, V> HashCache<K, V, DefaultHash> {
-    /// Returns an empty cache of at most 256 slots and what hangs off them, which hashes by std's
-    /// default. Takes no memory.
+    /// Returns an empty cache of at most 256 slots, and their overflow chains, which hashes by
+    /// std's default. Takes no memory.
     ///
     /// O(1). scc: `HashCache::new`.
     pub fn new(alloc: Global) -> Self
@@ -312,7 +314,7 @@ impl<K: Eq + Hash, V> HashCache<K, V, DefaultHash> {
 }
 
 impl<K: Eq + Hash, V> HashCache<K, V, StdHash<RandomState>> {
-    /// Returns an empty cache of at most 256 slots and what hangs off them, which hashes by keys
+    /// Returns an empty cache of at most 256 slots, and their overflow chains, which hashes by keys
     /// drawn at random, for keys that an adversary may pick. Takes no memory.
     ///
     /// O(1). Own: what std's `new` does.

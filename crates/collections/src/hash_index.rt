@@ -1,15 +1,15 @@
-//! A map that is read without moving anything, and whose removed pairs stay in their slots, each
-//! as a tombstone with the epoch of its removal, until an insertion finds that its generation lets
-//! it go.
+//! A map whose reads move nothing, and whose removed pairs stay in their slots as tombstones. A
+//! tombstone has the epoch of its removal, and is dropped by an insertion whose generation no
+//! longer keeps that epoch.
 //!
 //! Model: the table's own view, since tombstones are no part of a map. The map is `map_of` it, and
 //! answers as std's `HashMap` does; its tombstones, which no look-up, walk or count sees, are
 //! `marks_of` its arrays. Only a removal leaves a tombstone, with the epoch of the generation that
-//! it is given. It goes in an insertion whose generation lets it go, with all arrays where the
-//! minimum is 0, or with an old array in a call that moves pairs on.
+//! it is given. It is dropped by an insertion whose generation doesn't keep it, with all arrays if
+//! the minimum is 0, or with the old array, by a call that moves pairs out of it.
 //!
-//! Ports scc's `src/hash_index.rs` to an owned index: a generation that the caller hands in stands
-//! where scc asks its collector.
+//! Ports scc's `src/hash_index.rs` to an owned index: the caller passes a generation where scc asks
+//! its collector.
 ghost use Rattle.std.specs.Prelude.{◌≡◌, ◌↔◌, ◌-◌, ◌*◌, ◌^◌, [], Err, IsTrue, is_some, length, min};
 ghost use Rattle.std.specs.Option.{option_copied};
 ghost use Rattle.std.specs.Borrow.{Bor};
@@ -43,7 +43,11 @@ use std::alloc::Global;
 use std::hash::{BuildHasherDefault, Hash, RandomState};
 use std::marker::Model;
 
-/// A map whose removed pairs wait for their epoch. scc: `HashIndex`.
+/// A map whose removed pairs stay as tombstones until their epoch ends. scc: `HashIndex`.
+///
+/// Incremental rehash and allocation failure are as in `HashMap`: while there is an old array, an
+/// insertion or a removal first moves a unit of 64 old buckets, and the old buckets whose pairs
+/// belong in the key's bucket. Reads move nothing.
 #[derive(Drop)]
 pub struct HashIndex<K: Eq, V, H: KeyHash<K> = DefaultHash> {
     table: HashTable<K, V, H, (), INDEX>,
@@ -106,7 +110,7 @@ impl<K: Eq, V, H: KeyHash<K>> HashIndex<K, V, H> {
         self.table.hasher()
     }
 
-    /// Returns how many pairs the index has, tombstones left out, at most 2^64 - 1.
+    /// Returns how many pairs the index has, without tombstones, at most 2^64 - 1.
     ///
     /// O(slots / 32). scc: `HashIndex::len`.
     pub fn len(&self) -> usize
@@ -126,7 +130,7 @@ impl<K: Eq, V, H: KeyHash<K>> HashIndex<K, V, H> {
         self.table.is_empty()
     }
 
-    /// Returns the number of slots, chains left out.
+    /// Returns the number of slots, without those of overflow chains.
     ///
     /// O(1). scc: `HashIndex::capacity`.
     pub fn capacity(&self) -> usize
@@ -136,7 +140,7 @@ impl<K: Eq, V, H: KeyHash<K>> HashIndex<K, V, H> {
         self.table.num_slots()
     }
 
-    /// Calls a function with each pair once, in the order of the view, and with no tombstone's.
+    /// Calls a function with each pair once, in the order of the view, and with no tombstone.
     ///
     /// O(slots), and the function's calls. scc: `HashIndex::iter_sync`.
     #[inline(always)]
@@ -150,8 +154,8 @@ impl<K: Eq, V, H: KeyHash<K>> HashIndex<K, V, H> {
         self.table.for_each(f);
     }
 
-    /// Returns the value under a key, or under the keys that a form stands for; `None` where the
-    /// index hasn't the key.
+    /// Returns the value under a key, or under the keys that a form stands for; `None` if the index
+    /// hasn't the key.
     ///
     /// Moves nothing, and takes no memory. O(1) expected. scc: `HashIndex::peek`.
     #[inline(always)]
@@ -174,20 +178,19 @@ impl<K: Eq, V, H: KeyHash<K>> HashIndex<K, V, H> {
 }
 
 impl<K: Eq + Drop, V: Drop, H: KeyHash<K>> HashIndex<K, V, H> {
-    /// Inserts a pair whose key the index hasn't. Where no own slot of its home is free and one is
-    /// marked, it first lets go each tombstone there whose epoch the generation doesn't keep.
+    /// Inserts a pair whose key the index hasn't. If no own slot of its home is free and one has a
+    /// tombstone, it first drops each tombstone there whose epoch the generation doesn't keep.
     ///
-    /// `HashTable::insert_pair` says which tombstones those are, and where growth and the
-    /// incremental rehash happen.
+    /// `HashTable::insert_pair` says which tombstones those are.
     ///
     /// # Errors
     ///
-    /// An equal key is there; or allocation failed, and then none is: the pair comes back.
-    /// Allocation can't fail while the index has slots, no fewer than old ones, the pairs in the
+    /// The index has an equal key; or allocation failed, and it has none. The pair is returned.
+    /// Allocation can't fail while the index has slots, no fewer than old slots, the pairs in the
     /// key's bucket and the tombstones there that the generation keeps are fewer than 32, and its
     /// bucket among the old slots, if any, is the home of at most 32 pairs.
     ///
-    /// O(1) expected, beside a resize. scc: `HashIndex::insert_sync`.
+    /// O(1) expected, plus any resize. scc: `HashIndex::insert_sync`.
     #[inline(always)]
     pub fn insert<G: Generation>(
         &mut self,
@@ -210,12 +213,11 @@ impl<K: Eq + Drop, V: Drop, H: KeyHash<K>> HashIndex<K, V, H> {
         outcome
     }
 
-    /// Removes the pair under a key, or under the keys that a form stands for, and leaves a tombstone
-    /// with the generation's epoch: the index is without it. Returns whether there was one.
+    /// Removes the pair under a key, or under the keys that a form stands for, and leaves a
+    /// tombstone with the generation's epoch. The pair is no longer in the index. Returns whether
+    /// there was one.
     ///
-    /// `HashTable::mark` says where shrinking and the incremental rehash happen.
-    ///
-    /// Never refused. O(1) expected, beside a resize. scc: `HashIndex::remove_sync`.
+    /// Never fails. O(1) expected, plus any resize. scc: `HashIndex::remove_sync`.
     #[inline(always)]
     pub fn remove<Q: KeyForm<K, H>, G: Generation>(&mut self, key: Q, generation: &G) -> bool
         ensures map { TakesOut K.eq (Q.stands_for key) (map_of self.old) result (map_of self.new) }
@@ -229,13 +231,11 @@ impl<K: Eq + Drop, V: Drop, H: KeyHash<K>> HashIndex<K, V, H> {
         removed.is_some()
     }
 
-    /// Hands the pair under a key, or under the keys that a form stands for, to a function, leaves a
-    /// tombstone as `remove` does, and returns what the function answers; `None` where the index
-    /// hasn't the key, and then it isn't called.
+    /// Calls a function with the pair under a key, or under the keys that a form stands for, leaves
+    /// a tombstone as `remove` does, and returns what the function returns. If the index hasn't the
+    /// key, the function isn't called, and the result is `None`.
     ///
-    /// `HashTable::mark` says where shrinking and the incremental rehash happen.
-    ///
-    /// Never refused. O(1) expected, beside a resize. Own.
+    /// Never fails. O(1) expected, plus any resize. Own.
     #[inline(always)]
     pub fn remove_with<Q: KeyForm<K, H>, R, F: FnOnce(&K, &V) -> R, G: Generation>(
         &mut self,
@@ -265,10 +265,10 @@ impl<K: Eq + Drop, V: Drop, H: KeyHash<K>> HashIndex<K, V, H> {
         outcome
     }
 
-    /// Raises the minimum, and returns by how much: by what is asked for, or by nothing where it
-    /// would pass the maximum. The pairs stay. No clause says that slots are made.
+    /// Raises the minimum, and returns by how much: by `additional`, or by 0 if it would pass the
+    /// maximum. The pairs stay. No clause says that slots are allocated.
     ///
-    /// Never refused. O(slots). scc: `HashIndex::reserve`.
+    /// Never fails. O(slots). scc: `HashIndex::reserve`.
     pub fn raise_minimum(&mut self, additional: usize) -> usize
         ensures map { Reserves K.eq additional (map_of self.old) result (map_of self.new) }
         ensures marks { KeepsMarks self.old.arrays self.new.arrays }
@@ -280,10 +280,10 @@ impl<K: Eq + Drop, V: Drop, H: KeyHash<K>> HashIndex<K, V, H> {
         raised
     }
 
-    /// Sets the minimum to 0. The pairs stay. Slots go by the plan of a resize, and no clause says
-    /// that they do: a map's `shrink_to_fit` leaves as few as the pairs take.
+    /// Sets the minimum to 0. The pairs stay. A resize may then free slots, and no clause says that
+    /// it does; a map's `shrink_to_fit` leaves as few as the pairs take.
     ///
-    /// Never refused. O(slots). Own: what ends scc's `Reserve`s.
+    /// Never fails. O(slots). Own: what ends scc's `Reserve`s.
     pub fn shrink_to_fit(&mut self)
         ensures map { Stays K.eq (record (map_of self.old) { minimum = 0 }) (map_of self.new) }
         ensures marks { KeepsMarks self.old.arrays self.new.arrays }
@@ -297,7 +297,7 @@ impl<K: Eq + Drop, V: Drop, H: KeyHash<K>> HashIndex<K, V, H> {
 
     /// Drops all pairs, the tombstones too, and all slots; the hasher and the capacities stay.
     ///
-    /// Never refused. O(slots). scc: `HashIndex::clear_sync`, which leaves tombstones.
+    /// Never fails. O(slots). scc: `HashIndex::clear_sync`, which leaves tombstones.
     pub fn clear(&mut self)
         ensures hasher { self.new.hasher ≡ self.old.hasher }
         ensures arrays { self.new.arrays

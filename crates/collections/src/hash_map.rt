@@ -3,7 +3,7 @@
 //! Model: `MapView`, the pairs in an order that any call may change, the hasher and the slots. A
 //! map answers as std's `HashMap` does: `get` is a look-up of the pairs.
 //!
-//! Ports scc's `src/hash_map.rs` to an owned map: a borrow stands where scc locks.
+//! Ports scc's `src/hash_map.rs` to an owned map: a call borrows where scc locks.
 ghost use Rattle.std.specs.Prelude.{◌≡◌, ◌↔◌, ◌-◌, ◌^◌, [], Err, IsTrue, OnErr, is_some, min};
 ghost use Rattle.std.specs.Option.{option_copied};
 ghost use Rattle.std.specs.Borrow.{Bor, MutBor};
@@ -51,6 +51,17 @@ use std::hash::{BuildHasherDefault, Hash, RandomState};
 use std::marker::Model;
 
 /// A map from keys to values. scc: `HashMap`.
+///
+/// The pairs are in an array of buckets of 32 slots each, with an overflow chain for a bucket
+/// that is full. When the array gets too full or too empty, a resize allocates another one, and an
+/// incremental rehash moves the pairs: while there is an old array, a call that writes under one
+/// key first moves a unit of 64 old buckets, and the old buckets whose pairs belong in the key's
+/// bucket. A call that never does so says that it moves nothing.
+///
+/// Allocation failure: a resize that can't allocate is left out, and a unit that can't be moved
+/// stays in the old array; neither is an error. An insertion that fails returns what was to be
+/// inserted, and the map has the pairs that it had. Calls that insert nothing never fail, but for
+/// those that copy pairs or move them all at once.
 #[derive(Drop)]
 pub struct HashMap<K: Eq, V, H: KeyHash<K> = DefaultHash> {
     table: HashTable<K, V, H, (), MAP>,
@@ -133,7 +144,7 @@ impl<K: Eq, V, H: KeyHash<K>> HashMap<K, V, H> {
         self.for_each_ref(&mut f);
     }
 
-    /// As `for_each`, of a function that is lent: a proof knows in which state it is afterwards.
+    /// As `for_each`, with a borrowed function, whose state after the call the contract gives.
     ///
     /// O(slots), and the function's calls. scc: `HashMap::iter_sync`.
     #[inline(always)]
@@ -147,7 +158,7 @@ impl<K: Eq, V, H: KeyHash<K>> HashMap<K, V, H> {
         self.table.for_each(f);
     }
 
-    /// Returns the number of slots, chains left out.
+    /// Returns the number of slots, without those of overflow chains.
     ///
     /// O(1). scc: `HashMap::capacity`.
     pub fn capacity(&self) -> usize
@@ -157,7 +168,7 @@ impl<K: Eq, V, H: KeyHash<K>> HashMap<K, V, H> {
         self.table.num_slots()
     }
 
-    /// Returns the value under a key, or under the keys that a form stands for; `None` where the map
+    /// Returns the value under a key, or under the keys that a form stands for; `None` if the map
     /// hasn't the key.
     ///
     /// Moves nothing, and takes no memory. O(1) expected. scc: `HashMap::peek_with`.
@@ -193,11 +204,11 @@ impl<K: Eq + Drop, V: Drop, H: KeyHash<K>> HashMap<K, V, H> {
     ///
     /// # Errors
     ///
-    /// An equal key is there; or allocation failed, and then none is: the pair comes back.
-    /// Allocation can't fail while the map has slots, no fewer than old ones, the key's bucket is
+    /// The map has an equal key; or allocation failed, and it has none. The pair is returned.
+    /// Allocation can't fail while the map has slots, no fewer than old slots, the key's bucket is
     /// the home of fewer than 32 pairs, and its bucket among the old slots, if any, of at most 32.
     ///
-    /// O(1) expected, beside a resize. scc: `HashMap::insert_sync`.
+    /// O(1) expected, plus any resize. scc: `HashMap::insert_sync`.
     #[inline(always)]
     pub fn insert(&mut self, key: K, value: V) -> Result<(), NotInserted<K, V>>
         ensures map { Inserts K.eq key value self.old result self.new }
@@ -212,10 +223,10 @@ impl<K: Eq + Drop, V: Drop, H: KeyHash<K>> HashMap<K, V, H> {
         outcome
     }
 
-    /// Takes out the pair under a key, or under the keys that a form stands for, and returns it;
-    /// `None` where the map hasn't the key.
+    /// Removes the pair under a key, or under the keys that a form stands for, and returns it;
+    /// `None` if the map hasn't the key.
     ///
-    /// Never refused. O(1) expected, beside a resize. scc: `HashMap::remove_sync`.
+    /// Never fails. O(1) expected, plus any resize. scc: `HashMap::remove_sync`.
     #[inline(always)]
     pub fn remove<Q: KeyForm<K, H>>(&mut self, key: Q) -> Option<(K, V)>
         ensures map { Removes K.eq (Q.stands_for key) self.old result self.new }
@@ -225,14 +236,14 @@ impl<K: Eq + Drop, V: Drop, H: KeyHash<K>> HashMap<K, V, H> {
         self.remove_hashed(hash, key)
     }
 
-    /// Inserts a pair, or writes its value beside the key that is equal, and returns the earlier
-    /// value; the key that is there stays. Where an equal key is there it is never refused.
+    /// Inserts a pair, or replaces the value of the equal key, which stays, and returns the earlier
+    /// value. If the map has an equal key, the call never fails.
     ///
     /// # Errors
     ///
-    /// Allocation failed, as in `insert`, and the map has no such key: the pair comes back.
+    /// Allocation failure, as in `insert`: the map has no equal key, and the pair is returned.
     ///
-    /// O(1) expected, beside a resize. scc: `HashMap::upsert_sync`.
+    /// O(1) expected, plus any resize. scc: `HashMap::upsert_sync`.
     #[inline(always)]
     pub fn upsert(&mut self, key: K, value: V) -> Result<Option<V>, AllocFailed<(K, V)>>
         ensures map { Upserts K.eq key value self.old result self.new }
@@ -253,11 +264,11 @@ impl<K: Eq + Drop, V: Drop, H: KeyHash<K>> HashMap<K, V, H> {
         Ok(earlier)
     }
 
-    /// Hands the pair under a key, or under the keys that a form stands for, to a function, its
-    /// value for writing, and returns what that answers; `None` where the map hasn't the key, and
-    /// then it isn't called.
+    /// Calls a function with the pair under a key, or under the keys that a form stands for, its
+    /// value mutable, and returns what the function returns. If the map hasn't the key, the
+    /// function isn't called, and the result is `None`.
     ///
-    /// Never refused. O(1) expected. scc: `HashMap::update_sync`.
+    /// Never fails. O(1) expected. scc: `HashMap::update_sync`.
     #[inline(always)]
     pub fn update<Q: KeyForm<K, H>, R, F: FnOnce(&K, &mut V) -> R>(
         &mut self,
@@ -282,10 +293,10 @@ impl<K: Eq + Drop, V: Drop, H: KeyHash<K>> HashMap<K, V, H> {
         outcome
     }
 
-    /// Asks a function of each pair once, its value lent for writing, and drops each pair for which
-    /// it answers `false`; the others stay, with the values that it left.
+    /// Calls a function with each pair once, its value mutable, and drops each pair for which it
+    /// returns `false`; the others stay, with the values that it left.
     ///
-    /// Never refused, and takes no memory. O(slots), and the function's calls. std:
+    /// Never fails, and takes no memory. O(slots), and the function's calls. std:
     /// `HashMap::retain`.
     #[inline(always)]
     pub fn retain<F: FnMut(&K, &mut V) -> bool>(&mut self, mut f: F)
@@ -297,9 +308,9 @@ impl<K: Eq + Drop, V: Drop, H: KeyHash<K>> HashMap<K, V, H> {
         self.retain_ref(&mut f);
     }
 
-    /// As `retain`, of a function that is lent: a proof knows in which state it is afterwards.
+    /// As `retain`, with a borrowed function, whose state after the call the contract gives.
     ///
-    /// Never refused, and takes no memory. O(slots), and the function's calls. scc:
+    /// Never fails, and takes no memory. O(slots), and the function's calls. scc:
     /// `HashMap::retain_sync`.
     #[inline(always)]
     pub fn retain_ref<F: FnMut(&K, &mut V) -> bool>(&mut self, f: &mut F)
@@ -316,7 +327,7 @@ impl<K: Eq + Drop, V: Drop, H: KeyHash<K>> HashMap<K, V, H> {
 
     /// Drops all pairs and all slots; the hasher and the capacities stay.
     ///
-    /// Never refused. O(slots). scc: `HashMap::clear_sync`.
+    /// Never fails. O(slots). scc: `HashMap::clear_sync`.
     pub fn clear(&mut self)
         ensures { self.new ≡ record self.old { entries = []; slots = 0; old_slots = 0 } }
     {

@@ -41,6 +41,8 @@ use std::hash::{BuildHasherDefault, Hash, RandomState};
 use std::marker::Model;
 
 /// A set of keys. scc: `HashSet`.
+///
+/// Incremental rehash and allocation failure are as in `HashMap`.
 #[derive(Drop)]
 pub struct HashSet<K: Eq, H: KeyHash<K> = DefaultHash> {
     map: HashMap<K, (), H>,
@@ -116,7 +118,7 @@ impl<K: Eq, H: KeyHash<K>> HashSet<K, H> {
         self.map.hasher()
     }
 
-    /// Returns the number of slots, chains left out.
+    /// Returns the number of slots, without those of overflow chains.
     ///
     /// O(1). scc: `HashSet::capacity`.
     pub fn capacity(&self) -> usize
@@ -135,7 +137,7 @@ impl<K: Eq, H: KeyHash<K>> HashSet<K, H> {
         self.for_each_ref(&mut f);
     }
 
-    /// As `for_each`, of a function that is lent: a proof knows in which state it is afterwards.
+    /// As `for_each`, with a borrowed function, whose state after the call the contract gives.
     ///
     /// O(slots), and the function's calls. scc: `HashSet::iter_sync`.
     pub fn for_each_ref<F: FnMut(&K)>(&self, f: &mut F)
@@ -158,10 +160,10 @@ impl<K: Eq + Drop, H: KeyHash<K>> HashSet<K, H> {
     ///
     /// # Errors
     ///
-    /// An equal key is there; or allocation failed, as in `HashMap::insert`, and then none is: the
-    /// key comes back.
+    /// The set has an equal key; or allocation failed, as in `HashMap::insert`, and it has none.
+    /// The key is returned.
     ///
-    /// O(1) expected, beside a resize. scc: `HashSet::insert_sync`; std's is `insert`.
+    /// O(1) expected, plus any resize. scc: `HashSet::insert_sync`; std's is `insert`.
     pub fn insert_new(&mut self, key: K) -> Result<(), NotInserted<K, ()>>
         ensures map { Inserts K.eq key tt self.old result self.new }
         ensures slots { GrowsSlots H.hash_of key self.old self.new }
@@ -170,10 +172,10 @@ impl<K: Eq + Drop, H: KeyHash<K>> HashSet<K, H> {
         self.map.insert(key, ())
     }
 
-    /// Takes out the key that is equal, or that a form stands for, and returns it; `None` where the
-    /// set hasn't one.
+    /// Removes the key that is equal, or that a form stands for, and returns it; `None` if the set
+    /// hasn't one.
     ///
-    /// Never refused. O(1) expected, beside a resize. scc: `HashSet::remove_sync`; std's
+    /// Never fails. O(1) expected, plus any resize. scc: `HashSet::remove_sync`; std's
     /// `HashSet::take`.
     pub fn take<Q: KeyForm<K, H>>(&mut self, key: Q) -> Option<K>
         ensures set { SetRemoves K.eq (Q.stands_for key) self.old result self.new }
@@ -185,9 +187,9 @@ impl<K: Eq + Drop, H: KeyHash<K>> HashSet<K, H> {
         }
     }
 
-    /// Asks a function of each key once, and drops each key for which it answers `false`.
+    /// Calls a function with each key once, and drops each key for which it returns `false`.
     ///
-    /// Never refused, and takes no memory. O(slots), and the function's calls. std:
+    /// Never fails, and takes no memory. O(slots), and the function's calls. std:
     /// `HashSet::retain`.
     pub fn retain<F: FnMut(&K) -> bool>(&mut self, mut f: F)
         requires callable { F.IsAlwaysCallable f }
@@ -196,9 +198,9 @@ impl<K: Eq + Drop, H: KeyHash<K>> HashSet<K, H> {
         self.retain_ref(&mut f);
     }
 
-    /// As `retain`, of a function that is lent: a proof knows in which state it is afterwards.
+    /// As `retain`, with a borrowed function, whose state after the call the contract gives.
     ///
-    /// Never refused, and takes no memory. O(slots), and the function's calls. scc:
+    /// Never fails, and takes no memory. O(slots), and the function's calls. scc:
     /// `HashSet::retain_sync`.
     pub fn retain_ref<F: FnMut(&K) -> bool>(&mut self, f: &mut F)
         requires callable { F.IsAlwaysCallable f.old }
@@ -214,7 +216,7 @@ impl<K: Eq + Drop, H: KeyHash<K>> HashSet<K, H> {
 
     /// Drops all keys and all slots; the hasher and the capacities stay.
     ///
-    /// Never refused. O(slots). scc: `HashSet::clear_sync`.
+    /// Never fails. O(slots). scc: `HashSet::clear_sync`.
     pub fn clear(&mut self)
         ensures { self.new ≡ record self.old { entries = []; slots = 0; old_slots = 0 } }
     {
@@ -230,7 +232,7 @@ impl<K: Eq + Copy, H: KeyHash<K> + Copy> HashSet<K, H> {
     ///
     /// Allocation failure. An empty set takes no memory.
     ///
-    /// O(slots) expected. Own: `try_clone` of what can be copied, which says more.
+    /// O(slots) expected. Own: `try_clone` for `Copy` keys, with a stronger contract.
     pub fn try_copy(&self, alloc: Global) -> Result<Self, AllocError>
         ensures copy { IfOk result (λ copy. IsCopy K.eq self.now copy) }
         ensures succeeds { IsEmpty self.now → IsOk result }

@@ -1,4 +1,4 @@
-//! What a proof learns of the buckets that are homes of a hash, where an insertion failed.
+//! States what is known of the home buckets of a hash after an insertion failed.
 ghost use Rattle.std.specs.Prelude.{◌≡◌, ◌<◌, Err, IfSome, length};
 ghost use Rattle.bucket_table.specs.declared.hash_table.NotInserted.TheVariants.{Memory};
 ghost use Rattle.collections.specs.Crowding.{KeepsHome};
@@ -8,9 +8,9 @@ use bucket_slots::lru::LruList;
 use bucket_table::hash_table::{HashTable, NotInserted};
 use bucket_table::key_hash::KeyHash;
 
-/// Looks at the homes of a key's hash where its pair was refused for memory.
+/// States what is known of the homes of a key's hash if allocation for its pair failed.
 ///
-/// O(1), and nothing where the pair was inserted.
+/// O(1). Does nothing if the pair was inserted or its key is present.
 #[inline(always)]
 pub(crate) fn learn_refused<A, K: Eq, V, H: KeyHash<K>, L: LruList, const TYPE: u8>(
     table: &HashTable<K, V, H, L, TYPE>,
@@ -30,7 +30,7 @@ pub(crate) fn learn_refused<A, K: Eq, V, H: KeyHash<K>, L: LruList, const TYPE: 
     }
 }
 
-/// Looks at the homes of a hash, in the current array and in the old one.
+/// States what is known of the homes of a hash, in the current array and in the old one.
 ///
 /// O(1).
 #[inline(never)]
@@ -46,7 +46,7 @@ pub(crate) fn learn_homes<K: Eq, V, H: KeyHash<K>, L: LruList, const TYPE: u8>(
     learn_home(table.linked_array(), hash);
 }
 
-/// Looks at the home of a hash in an array.
+/// States what is known of the home of a hash in an array.
 fn learn_home<K, V, L: LruList, const TYPE: u8>(
     array: Option<&BucketArray<K, V, L, TYPE>>,
     hash: u64,

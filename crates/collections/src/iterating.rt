@@ -1,7 +1,7 @@
-//! The iterators over the keys and the values of each collection: a table's pairs, of which one
-//! half is given.
+//! The iterators over the keys and the values of each collection: those of a table's pairs, of
+//! which each step returns one half.
 //!
-//! The last parameter is as that of the table's own iterator: a loan of the kind of table, which no
+//! The last parameter is that of the table's own iterator: a borrow of the kind of table, which no
 //! field holds. A `size_hint` counts the pairs that are left, slot by slot. No iterator is an
 //! `ExactSizeIterator`: `len` would have to count them all, and no clause says that they are fewer
 //! than 2^64.

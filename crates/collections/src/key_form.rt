@@ -18,8 +18,8 @@ use std::hash::{BuildHasher, Hash};
 use std::marker::PhantomData;
 pub use to_key::ToKey;
 
-/// A form in which a key is looked up: it stands for the keys that are equal to one of them, and is
-/// hashed as they are. Own; std has `Borrow` there, scc `Equivalent`.
+/// A form in which a key is looked up. It stands for a class of equal keys, and has their hash.
+/// Own; std has `Borrow` for that, scc `Equivalent`.
 pub trait KeyForm<K: Eq, H: KeyHash<K>>: Copy {
     /// Whether the form stands for a key.
     ghost stands_for: { Self → K → Bool };
@@ -32,7 +32,7 @@ pub trait KeyForm<K: Eq, H: KeyHash<K>>: Copy {
     fn hash_by(&self, hasher: &H) -> u64
         ensures { (key : K) → stands_for self.now key ≡ true → H.hash_of hasher.now key ≡ result };
 
-    /// It stands for the keys that are equal to one of them, and for no other.
+    /// If it stands for a key, it stands for the keys equal to that one, and for no other.
     ghost alike: { (form : Self) (key other : K)
         → stands_for form key ≡ true
         → stands_for form other ≡ K.eq key other };
@@ -87,7 +87,7 @@ impl<'s, T: Eq + Hash, A: Allocator, S: BuildHasher> KeyForm<Vec<T, A>, StdHash<
     ghost alike = { λ form key other. (lists_equiv T.Eq.laws).congr form.now key.items other.items };
 }
 
-/// Wants the keys that a form stands for. Own.
+/// A probe for the keys that a form stands for. Own.
 #[derive(Drop)]
 pub(crate) struct FormProbe<Q: Copy, H> {
     form: Q,
@@ -96,7 +96,7 @@ pub(crate) struct FormProbe<Q: Copy, H> {
 }
 
 impl<Q: Copy, H> FormProbe<Q, H> {
-    /// Returns a probe that was asked nothing, of a form for this type of hasher.
+    /// Returns a probe for a form, which hasn't compared a key yet.
     pub(crate) fn new(form: Q) -> Self
         ensures form { result.form ≡ form }
         ensures asked { result.asked ≡ 0 }
@@ -120,7 +120,7 @@ impl<K: Eq, H: KeyHash<K>, Q: KeyForm<K, H>> KeyProbe<K> for FormProbe<Q, H> {
     }
 }
 
-/// Returns the value under the keys that a form stands for; `None` where a table has none of them.
+/// Returns the value under the keys that a form stands for; `None` if a table has none of them.
 ///
 /// Moves nothing, and takes no memory. O(1) expected.
 #[inline(always)]
@@ -134,8 +134,8 @@ pub(crate) fn value_by<K: Eq, V, H: KeyHash<K>, L: LruList, Q: KeyForm<K, H>, co
     value_hashed(table, hash, form)
 }
 
-/// Returns the value under the keys that a form stands for, which have this hash; `None` where a
-/// table has none of them.
+/// Returns the value under the keys that a form stands for, which have this hash; `None` if a table
+/// has none of them.
 ///
 /// Moves nothing, and takes no memory. O(1) expected.
 #[inline(always)]

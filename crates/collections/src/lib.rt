@@ -1,11 +1,11 @@
-//! Collections over one bucketed hash table: a map, a set, an index whose removed pairs wait for
-//! their epoch, and a cache that forgets.
+//! Collections over one bucketed hash table: a map, a set, an index whose removed pairs stay as
+//! tombstones until their epoch ends, and a cache that evicts.
 //!
-//! A user sees keys, values and allocation failures; no array, no rehash. `CALLING.md` says what
-//! each call does, and `PROVING.md` has the contracts and a proved caller.
+//! A user sees keys, values and allocation failures; no array, no rehash. `CALLING.md` has the call
+//! for each of std's, and `PROVING.md` the contracts.
 //!
 //! Ports the surface of scc 3.8.8's `HashMap`, `HashSet`, `HashIndex` and `HashCache` to owned
-//! collections: a borrow stands where scc locks. SPDX-License-Identifier: Apache-2.0
+//! collections: a call borrows where scc locks. SPDX-License-Identifier: Apache-2.0
 #![tactic(auto)]
 
 mod default_hash;

@@ -1,7 +1,7 @@
-//! That a table fits in memory, which a collection learns once and keeps.
+//! That a table fits in memory, which is known when a collection is made, and kept.
 //!
-//! A call of a table is proved of tables whose size is below 2^63 bytes, and generic code that
-//! doesn't name the table's type in its signature owes that. A collection keeps a token of it.
+//! A table's calls require that its type is smaller than 2^63 bytes. Generic code that doesn't name
+//! the table's type in its signature has to prove that. A collection therefore keeps a token of it.
 use bucket_slots::lru::LruList;
 use bucket_table::key_hash::KeyHash;
 use std::marker::{Model, PhantomData};
@@ -34,7 +34,7 @@ impl<R: Room> Fits<R> {
         Fits { of: PhantomData }
     }
 
-    /// No work: a proof learns that the type fits in memory.
+    /// States that the type fits in memory. Does nothing at run time.
     pub(crate) fn learn(&self)
         ensures { R.Fits }
     {

@@ -17,7 +17,8 @@ type Homes = BucketArray<(), (), (), MAP>;
 // The logarithm of the greatest length that is looked at.
 const MOST: u32 = 20;
 
-// An array of eight parts: a bucket in each part and at the ends of some, from the last to the first.
+// An array of eight parts: a bucket in each part and at the ends of some, from the last to the
+// first.
 const IN_PARTS: [usize; 11] = [511, 510, 449, 448, 447, 320, 300, 255, 130, 64, 3];
 
 #[test]

@@ -20,7 +20,7 @@ pub(crate) fn find<V, L: LruList, const TYPE: u8>(
     if at.is_valid() { Some(at) } else { None }
 }
 
-/// Takes out the pair of a key, of another kind than an index, and returns it with the pointer as the
+/// Removes the pair of a key, of another kind than an index, and returns it with the pointer as the
 /// removal leaves it.
 pub(crate) fn remove_at<V: Drop, L: LruList, const TYPE: u8>(
     bucket: &mut Bucket<u64, V, L, TYPE>,

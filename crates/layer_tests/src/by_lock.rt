@@ -1,4 +1,4 @@
-//! Calls on a table of numbers that lock a bucket, and what they answer of it.
+//! Calls on a table of numbers that lock a bucket, and what they return.
 use crate::steps::Spot;
 use bucket_slots::bucket::{Generation, MAP};
 use bucket_slots::lru::LruList;
@@ -34,7 +34,7 @@ pub(crate) fn put_at<L: LruList + Drop, G: Generation, const TYPE: u8>(
     }
 }
 
-/// Takes a key out of its bucket alone, and returns where the pointer is then.
+/// Removes a key from its bucket alone, and returns where the pointer is then.
 pub(crate) fn take_at(table: &mut Map, key: u64) -> Option<Spot> {
     let hash = table.hash(&key);
     let mut locked = match table.writer_sync(hash) {
@@ -76,7 +76,7 @@ pub(crate) fn reserved_index_of(table: &mut Map, hash: u64) -> Option<usize> {
     }
 }
 
-/// Returns the index of a key's bucket and how many pairs are in it, where no old array stands.
+/// Returns the index of a key's bucket and how many pairs are in it, if there is no old array.
 pub(crate) fn home_of(table: &mut Map, key: u64) -> Option<(usize, usize)> {
     let hash = table.hash(&key);
     match table.try_optional_writer::<false>(hash) {

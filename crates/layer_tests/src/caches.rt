@@ -46,7 +46,7 @@ pub(crate) const NO_ORDER: &[Story] = stories! {
         Touch(1, true), TakeOrder(&[]), Evict(Some(0)), Len(31);
 };
 
-// One pair comes after another, up to twice the own slots; none is touched.
+// One pair after another is inserted, up to twice the own slots; none is touched.
 #[test]
 fn untouched_pairs_are_evicted_at_slot_zero(rt: HostRuntime) -> Result<(), Fail> {
     let mut stage = Stage::new(rt.alloc());
@@ -93,9 +93,9 @@ fn a_bucket_that_is_empty_again_evicts_as_a_new_one(rt: HostRuntime) -> Result<(
     Ok(())
 }
 
-// Every number of pairs up to twice the own slots: each is touched as it comes, and once the own
-// slots are full, so is the pair of one slot again. Beside a plain list of the keys, the newest
-// first.
+// Every number of pairs up to twice the own slots: each is touched when it is inserted, and once
+// the own slots are full, so is the pair of one slot again. Beside a plain list of the keys, the
+// newest first.
 #[test]
 fn touched_pairs_are_evicted_in_the_order_of_their_touches(rt: HostRuntime) -> Result<(), Fail> {
     for pairs in 0..64u64 {
@@ -153,8 +153,8 @@ fn a_removed_pair_leaves_the_others_in_their_order(rt: HostRuntime) -> Result<()
     Ok(())
 }
 
-// Evicts the listed keys, of which the newest comes first, from a bucket whose own slots are full: an
-// untouched pair takes the place of each. Then nothing is listed, and that of slot 0 goes.
+// Evicts the listed keys, of which the newest comes first, from a bucket whose own slots are full:
+// an untouched pair takes the place of each. Then nothing is listed, and that of slot 0 is evicted.
 fn evict_all(rt: &impl Abort, stage: &mut Stage, listed: &[u64]) -> Result<(), Fail> {
     for oldest in listed.iter().rev() {
         let row = ("the oldest goes", *oldest as usize);

@@ -1,6 +1,7 @@
-//! Courses of calls by chance on tables of each kind, beside a map of the standard library. Pairs come
-//! and go like tides, so that tables get longer arrays and shorter ones again. Which marks are kept
-//! follows no rule, and between the calls are some that no script makes.
+//! Courses of random calls on tables of each kind, compared with a map of the standard library.
+//! Times with many insertions and times with many removals alternate, so that tables get longer
+//! arrays and shorter ones again. Which tombstones are kept is random, and between the calls are
+//! some that no script makes.
 use crate::by_lock::{Table, put_at};
 use crate::checks::check_same;
 use crate::steps::Answers;
@@ -18,11 +19,11 @@ const CALLS: u64 = 20_000;
 
 const KEYS: u64 = 300;
 
-// For how many calls pairs come, and for how many they go.
+// How many calls mostly insert pairs, and how many then mostly remove them.
 const TIDE: u64 = 2500;
 
-// After how many calls an epoch and the marks that are kept are chosen anew, and after how many some
-// call is made that no script makes.
+// After how many calls an epoch and the tombstones that are kept are chosen anew, and after how
+// many some call is made that no script makes.
 const CHOICE: u64 = 10;
 
 const DIRECT: u64 = 50;
@@ -71,7 +72,7 @@ impl Course {
         (self.step() % KEYS).wrapping_mul(SPREADING)
     }
 
-    // An epoch, and an answer for each mark.
+    // An epoch, and whether each tombstone is kept.
     fn answers(&mut self) -> Answers {
         let mut kept = [false; 256];
         for mark in 0..=255u8 {
@@ -83,7 +84,7 @@ impl Course {
         }
     }
 
-    // Gives the open ticket up, if there is one.
+    // Ends the open ticket without success, if there is one.
     fn settle<L: LruList + Drop, const TYPE: u8>(
         &mut self,
         rt: &impl Abort,
@@ -106,7 +107,7 @@ impl Course {
     }
 }
 
-// Takes the pair of a key out, or leaves a tombstone in an index.
+// Removes the pair of a key, or leaves a tombstone in an index.
 fn remove<L: LruList + Drop, const TYPE: u8>(
     table: &mut Table<L, TYPE>,
     key: u64,
@@ -119,7 +120,7 @@ fn remove<L: LruList + Drop, const TYPE: u8>(
     }
 }
 
-// Puts, removes or peeks a key: while pairs come none but a few are removed, and while they go none
+// Puts, removes or peeks a key. In times of insertions few are removed, in times of removals none
 // is put.
 fn call<L: LruList + Drop, const TYPE: u8>(
     rt: &impl Abort,
@@ -149,8 +150,9 @@ fn call<L: LruList + Drop, const TYPE: u8>(
     Ok(())
 }
 
-// Sweeps pairs away, or asks for a resize, for an array, for a bucket by two names, or whether a probe
-// finds a key. Beside some old arrays a ticket is left open for a while, so that they stay.
+// Removes pairs by a sweep, or asks for a resize, for an array, for a bucket by two names, or
+// whether a probe finds a key. Beside some old arrays a ticket is left open for a while, so that
+// they stay.
 fn call_directly<L: LruList + Drop, const TYPE: u8>(
     rt: &impl Abort,
     table: &mut Table<L, TYPE>,
@@ -211,7 +213,8 @@ fn play<L: LruList + Drop, const TYPE: u8>(
     let mut table: Table<L, TYPE> = HashTable::new(alloc, hasher, 0, MAXIMUM_CAPACITY_LIMIT);
     let mut course = Course::new(alloc);
     let mut now = course.answers();
-    // Under one hash for all the last buckets are always empty, and a minimum lets such a table grow.
+    // Under one hash for all the last buckets are always empty, and a minimum lets such a table
+    // grow.
     let least = if hasher == ScriptHash::Zero { 64 } else { 0 };
     check_same(rt, table.reserve_capacity(least), least, "the minimum");
     for number in 0..CALLS {

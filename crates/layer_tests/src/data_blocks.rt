@@ -11,20 +11,20 @@ use std::test::Fail;
 enum Act {
     /// What stands at a place, in the row or past its end.
     See(usize, Option<(u64, u64)>),
-    /// A pair comes where the place is empty.
+    /// A pair is put if the place is empty.
     Fill(usize, (u64, u64), bool),
-    /// A value is written through a loan of the value, and was this one.
+    /// A value is written through a mutable reference to the value, and was this one.
     SetValue(usize, u64, Option<u64>),
-    /// A value is written through a loan of the pair, and the pair was this one.
+    /// A value is written through a mutable reference to the pair, and the pair was this one.
     SetPair(usize, u64, Option<(u64, u64)>),
-    /// The pair goes.
+    /// The pair is taken out.
     Take(usize, Option<(u64, u64)>),
     /// The pair is dropped, if there is one.
     LetGo(usize, bool),
 }
 
 // The first and the last place of an empty row are filled, written and emptied. A filled place
-// stays, and no place past the end has a pair or lends one.
+// stays, and no place past the end has or returns a pair.
 macro_rules! acts {
     ($last:literal, $len:literal) => {
         &[

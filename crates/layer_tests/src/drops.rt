@@ -1,5 +1,5 @@
-//! What becomes of values that are counted: each is dropped once, when its pair goes, when a
-//! clearing lets it go, or with its bucket, its array or its cleared table.
+//! Values that are counted: each is dropped once, with its removed pair, with its tombstone, or
+//! with its bucket, its array or its cleared table.
 use crate::by_key::{kill_empty, mark_key, move_key, remove_at, write_key};
 use crate::checks::check_same;
 use crate::steps::{Answers, Kept, stories};
@@ -41,24 +41,24 @@ fn filled<const TYPE: u8>(
     Ok(bucket)
 }
 
-/// What becomes of a bucket, and what is so then.
+/// A call on a bucket, or what is seen of it then.
 enum Act {
-    /// A key comes, with a clone and by a test of the marks.
+    /// A key is inserted, with a clone and a test of which tombstones are kept.
     Put(u64, Kept),
     /// A clone is written over the value of each of these keys.
     Write(&'static [u64]),
     /// So many slots are free then.
     Reserve(usize),
-    /// The pairs of these keys go.
+    /// The pairs of these keys are removed.
     Take(&'static [u64]),
-    /// The pairs of all keys below a number go one after another, each value at once: from the first
-    /// key on, or backwards.
+    /// The pairs of all keys below a number are removed one after another, and each value dropped
+    /// at once: from the first key on, or backwards.
     TakeAll(u64, bool),
-    /// The pairs of these keys are marked.
+    /// The pairs of these keys become tombstones.
     Mark(&'static [u64]),
-    /// The pairs of keys are marked one after another, and the bucket isn't killed before.
+    /// The pairs of keys become tombstones one after another, and the bucket isn't killed before.
     MarkUp(u64, u64),
-    /// A clearing by a test of the marks.
+    /// A clearing, with a test of which tombstones are kept.
     Clear(Kept),
     /// The bucket has no live pair and is killed, then finds nothing, and is killed no second time.
     Kill,
@@ -66,7 +66,7 @@ enum Act {
     Count(usize),
     /// So many pairs are live.
     Len(usize),
-    /// An own slot has a value, live or marked.
+    /// An own slot has a value, live or a tombstone.
     Own(usize),
 }
 
@@ -79,10 +79,11 @@ const OF_MAPS: &[Story] = stories! {
     // In own slots, in the chain's head and in its last block.
     "a value goes as another is written over it", 41:
         Write(&[0, 31, 32, 35, 40]), Count(42), Len(41), Take(&[32, 40]), Count(40);
-    // Two free blocks stand behind the one of live pairs. It goes, and a pair comes to one of them.
+    // Two free blocks stand behind the one of live pairs. That one is removed, and a pair is
+    // inserted into one of them.
     "free blocks hold no value", 33:
         Reserve(11), Count(34), Take(&[32]), Count(33), Put(50, Kept::All), Count(34);
-    // Of 50 blocks the last goes first, or the head each time.
+    // Of 50 blocks the last is removed first, or the head each time.
     "each removed value is dropped at once, in order", 232:
         TakeAll(232, false), Len(0);
     "each removed value is dropped at once, backwards", 232:
@@ -90,20 +91,22 @@ const OF_MAPS: &[Story] = stories! {
 };
 
 const OF_INDEXES: &[Story] = stories! {
-    // Two in own slots go and two in the chain.
+    // Two pairs in own slots are removed, and two in the chain.
     "a clearing drops what it lets go", 37:
         Count(38), Mark(&[0, 31, 32, 36]), Count(38), Clear(Kept::All), Count(38),
         Clear(Kept::None), Count(34), Clear(Kept::None), Count(34);
-    // One pair comes and none goes; then one comes and four go, those in the chain among them.
+    // One pair is inserted and none dropped; then one is inserted and four are dropped, those in
+    // the chain among them.
     "an insertion that clears drops what it lets go", 37:
         Mark(&[3, 4, 33, 36]), Put(40, Kept::All), Count(39), Put(41, Kept::None), Count(36),
         Len(35);
     "marked pairs go with their bucket", 41:
         Mark(&[0, 7, 32, 39, 40]), Count(42), Len(36);
-    // A bucket with live pairs stays. One of marked pairs alone is killed.
+    // A bucket with live pairs stays. One with only tombstones is killed.
     "a clearing of marks alone drops all values", 41:
         MarkUp(0, 41), Count(42), Clear(Kept::None), Count(1), Put(50, Kept::None), Count(2);
-    // The free blocks at the chain's end go, and the one before them stays with its live pair.
+    // The free blocks at the chain's end are dropped, and the one before them stays with its live
+    // pair.
     "a clearing drops no value with a free block", 33:
         Reserve(11), Mark(&[5]), Clear(Kept::All), Count(34), Clear(Kept::None), Count(33), Len(32);
     "a killed bucket of an index keeps its marked pairs", 41:
@@ -166,7 +169,7 @@ fn play<const TYPE: u8>(
     Ok(())
 }
 
-// Does what asks for no memory, and compares what is so.
+// Does what needs no memory, and compares what is seen.
 fn change<const TYPE: u8>(
     rt: &impl Abort,
     bucket: &mut Counted<TYPE>,
@@ -250,8 +253,8 @@ fn each_value_is_dropped_once_after_its_bucket_is_killed(rt: HostRuntime) -> Res
 // The length of an array of eight parts.
 const LENGTH: usize = 512;
 
-// How many pairs come into which of its buckets: at an end of the first part and of the last one, and
-// in the midst of a part. Two of these buckets need a chain.
+// How many pairs are inserted into which of its buckets: at an end of the first part and of the
+// last one, and in the midst of a part. Two of these buckets need a chain.
 const TOUCHED: [(usize, u64); 4] = [(0, 1), (300, 40), (510, 33), (511, 2)];
 
 // How many pairs these are.

@@ -1,4 +1,4 @@
-//! Calls on a table of an index that mark pairs as removed: each mark is the epoch of its call.
+//! Calls on an index's table that leave tombstones: each has the epoch of its call.
 use crate::by_lock::{Table, put_at};
 use crate::checks::check_same;
 use crate::steps::{Answers, Kept, Spot, steps};
@@ -18,12 +18,12 @@ type Story = (&'static str, &'static [Step]);
 
 /// A setting for the steps that follow, or a call with the answer that is wanted.
 enum Step {
-    /// The epoch from here on, and which marks are kept. At first it is 0, and all are.
+    /// The epoch from here on, and which tombstones are kept. At first it is 0, and all are.
     Now(u8, Kept),
-    /// A sweep marks the pairs of keys below a number, and so many.
+    /// A sweep removes the pairs of keys below a number, and so many.
     Sweeps(u64, usize),
-    /// Each pair that isn't marked is asked for, so many, and those of keys below a number are
-    /// marked.
+    /// `retain` is called with each live pair, so many, and those of keys below a number are
+    /// removed.
     Retains(u64, usize),
     /// A script clears the table of so many pairs.
     Clears(usize),
@@ -33,11 +33,11 @@ enum Step {
     Puts(u64, Spot),
 }
 
-// The mark 5 alone is kept.
+// Only the tombstone of epoch 5 is kept.
 const FIVE: Kept = Kept::Rest(255, 5);
 
 const STORIES: &[Story] = steps! {
-    // The last two steps let the mark 5 alone go.
+    // The last two steps drop only the tombstone of epoch 5.
     ("a sweep marks with its epoch", steps! {
         Now(5, Kept::All), Sweeps(4, 4), Now(0, FIVE), Puts(32, (1, 0)), Now(0, Kept::But(5)),
         Puts(33, (0, 0)) }),
@@ -77,7 +77,7 @@ fn new_index(alloc: Global) -> Index {
     HashTable::new(alloc, ScriptHash::Zero, 64, 64)
 }
 
-// Marks the pairs of keys below a number. Returns how many pairs were asked for.
+// Removes the pairs of keys below a number. Returns how often the function was called.
 fn retain_from(table: &mut Index, from: u64, now: &Answers) -> usize {
     let mut asked: usize = 0;
     let mut keep = |key: &u64, _value: &mut u64| -> bool {
@@ -88,7 +88,7 @@ fn retain_from(table: &mut Index, from: u64, now: &Answers) -> usize {
     asked
 }
 
-// Takes one step after another, and compares what comes of it.
+// Takes one step after another, and compares its result.
 fn play(
     rt: &impl Abort,
     alloc: Global,

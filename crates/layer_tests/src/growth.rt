@@ -1,5 +1,5 @@
-//! Tables that get longer arrays and shorter ones, and that are dropped: where pairs stand then, and
-//! which bucket a writer is given.
+//! Tables that grow and shrink, and that are dropped: where pairs are then, and which bucket a
+//! writer gets.
 use crate::by_lock::Map;
 use crate::checks::check_same;
 use crate::steps::steps;
@@ -41,8 +41,8 @@ const STORIES: &[Story] = steps! {
             Locks(0, 0), Sees(64, None), Counts(0), Sees(0, None), Reserves(0, 0),
             Sees(64, None), Counts(0), Sees(0, None), Makes(2), Sees(64, None), Makes(2),
             Counts(0), Sees(0, None) } },
-    // All pairs are in the second bucket, where no growth by itself looks, and 256 is the least power
-    // of two whose half isn't below 100.
+    // All pairs are in the second bucket, where no growth by itself looks, and 256 is the least
+    // power of two whose half isn't below 100.
     Story { name: "a resize that is asked for comes once", hasher: ScriptHash::Spread, minimum: 0,
         start: steps! { Puts(128, 228), Sees(64, None) }, steps: steps! {
             Resizes(true), Sees(256, Some(0)), Resizes(false), Sees(256, Some(0)),

@@ -1,19 +1,19 @@
-//! One bucket of an index, or two: removed pairs stay in their slots, marked with an epoch, until
-//! a test lets them go.
+//! One bucket of an index, or two: removed pairs stay in their slots as tombstones with an epoch,
+//! until a test no longer keeps them.
 use crate::steps::Step::*;
 use crate::steps::{Kept, Step, Story, stories};
 
 // Epoch 0, and every tombstone is kept.
 const KEEP: Step = Now(0, Kept::All);
 
-// Epoch 0, and no mark is kept.
+// Epoch 0, and no tombstone is kept.
 const LET_GO: Step = Now(0, Kept::None);
 
 // All own slots are occupied: the sum of 2^i over i from 0 to 31.
 const ALL_OWN: u32 = 4294967295;
 
 pub(crate) const INSERTIONS: &[Story] = stories! {
-    // What is let go with the first goes all at once.
+    // All tombstones that aren't kept are dropped at once, with the first.
     "marks that are kept send a pair to the chain", 32:
         Marks(&[0, 1, 2, 3]), Len(28), Find(0, None), Put(32, (1, 0)), LET_GO, Put(33, (0, 0)),
         Len(30), Find(32, Some((1, 0))), Own(1, None), Own(2, None), Own(3, None), KEEP,
@@ -22,20 +22,21 @@ pub(crate) const INSERTIONS: &[Story] = stories! {
         Marks(&[4]), LET_GO, Put(40, (0, 31)), Own(4, Some(4)), Put(41, (0, 4));
     "marks in the chain stay while no own slot is marked", 33:
         Marks(&[32]), LET_GO, Put(40, (1, 1)), Put(41, (1, 2));
-    // The own slots have one mark of epoch 1, which is kept, and the chain has live key 34 between
-    // three marks of epoch 2, which are not.
+    // The own slots have one tombstone of epoch 1, which is kept, and the chain has live key 34
+    // between three tombstones of epoch 2, which are not.
     "a block with a live pair stays and takes the next", 36:
         Now(1, Kept::Rest(255, 1)), Marks(&[7]), Now(2, Kept::Rest(255, 1)),
         Marks(&[32, 33, 35]), Len(32), Find(34, Some((1, 2))), Put(40, (1, 0)), Put(41, (1, 1)),
         Put(42, (1, 3)), Put(43, (1, 0)), Len(36), Own(7, Some(7)), Find(34, Some((2, 2))),
         Find(42, Some((2, 3)));
-    // Two free blocks stand behind one full of live pairs. The original gives both up before key
-    // 40 comes, and asks for memory again; here the last of them goes after the placing.
+    // Two free blocks stand behind one full of live pairs. The original drops both before key 40 is
+    // inserted, and allocates again; here the last of them is dropped after the insertion.
     "a pair is placed before free blocks go", 36:
         Marks(&[7]), Reserve(8), Put(40, (2, 0)), Find(32, Some((1, 0))), Put(41, (2, 1)),
         Put(42, (2, 2)), Put(43, (2, 3)), Put(44, (1, 0)), Find(40, Some((3, 0))),
         Find(43, Some((3, 3)));
-    // Two pairs go to own slots. Two free blocks go then, and the last pair tells that both went.
+    // Two pairs are inserted into own slots. Two free blocks are dropped then, and the place of the
+    // last pair shows it.
     "free blocks go though an own slot took the pair", 32:
         Marks(&[5, 6]), Reserve(8), LET_GO, Put(40, (0, 5)), Put(41, (0, 6)), Put(42, (1, 0)),
         Put(43, (1, 1)), Put(44, (1, 2)), Put(45, (1, 3)), Put(46, (1, 0)), Len(37);
@@ -97,8 +98,8 @@ pub(crate) const CLEARINGS: &[Story] = stories! {
         LET_GO, Clear(ALL_OWN), Len(32), Holds(0, 32);
     "a clearing of a chain without marks changes nothing", 37:
         LET_GO, Clear(ALL_OWN), Len(37), Holds(0, 37);
-    // Of keys 0 to 36 the chain is [36], [32 to 35]. Of the pairs that come after a clearing the
-    // fifth tells one block from two and from none.
+    // Of keys 0 to 36 the chain is [36], [32 to 35]. Of the pairs that are inserted after a
+    // clearing the fifth shows whether one block, two or none are left.
     "a chain of free blocks goes", 37:
         Marks(&[32, 33, 34, 35, 36]), LET_GO, Clear(ALL_OWN), KEEP, Put(50, (1, 0)),
         Put(51, (1, 1)), Put(52, (1, 2)), Put(53, (1, 3)), Put(54, (1, 0));
@@ -116,7 +117,7 @@ pub(crate) const CLEARINGS: &[Story] = stories! {
 };
 
 pub(crate) const SEARCHES: &[Story] = stories! {
-    // 263 has the low byte 7, and so has the mark.
+    // 263 has the low byte 7, and so has the tombstone.
     "a key that comes again is found behind its mark", 0:
         Under(7, 0), Fill(0, 3), Under(263, 0), Now(7, Kept::All), Marks(&[0]), Find(0, None),
         Values(0, 99), Put(0, (0, 3)), Holds(0, 1), Len(3), Own(3, Some(0)), Values(10, 0),
@@ -125,8 +126,8 @@ pub(crate) const SEARCHES: &[Story] = stories! {
         MarkUp(0, 37, 0), Len(0), Lacks(0, 37), Next(None, (0, 32));
 };
 
-// The hashes have the low byte 7, and so has the mark, or another one. The chain is [40], [36 to 39],
-// [32 to 35], and the only pair of its head is marked.
+// The hashes have the low byte 7, and so has the tombstone, or another one. The chain is [40], [36
+// to 39], [32 to 35], and the only pair of its head is a tombstone.
 macro_rules! seven_marked {
     ($($epoch:literal),+) => {
         &[$((
@@ -166,7 +167,7 @@ pub(crate) const BY_REST: &[Story] = by_rest! {
     32, 32, 32 => 0; 224, 1, 0 => 4294967295
 };
 
-// Every slot is occupied then, by the pair that came and by 31 marked ones.
+// Every slot is occupied then, by the inserted pair and by 31 tombstones.
 macro_rules! gone {
     ($($gone:literal),+) => {
         &[$((
@@ -182,8 +183,8 @@ macro_rules! gone {
 
 pub(crate) const GONE: &[Story] = gone!(0, 1, 31, 32, 77, 100, 127, 128, 200, 254, 255);
 
-// Of 64 keys in a bucket of 32 own slots and eight blocks, those with an odd epoch are let go. The
-// pairs that come take the slots with an odd number, first those of the bucket's own.
+// Of 64 keys in a bucket of 32 own slots and eight blocks, those with an odd epoch are dropped. The
+// next pairs take the slots with an odd number, first the bucket's own ones.
 macro_rules! odd_epochs {
     ($($first:literal),+) => {
         &[$((

@@ -1,5 +1,5 @@
-//! One bucket of a map, or two: where pairs go, what comes out, what a search and a walk find, and
-//! what moves from one to the other.
+//! One bucket of a map, or two: where pairs are placed, what a removal returns, what a search and a
+//! walk find, and what moves from one to the other.
 use crate::steps::Step::*;
 use crate::steps::{Story, stories};
 
@@ -81,8 +81,8 @@ pub(crate) const WALKS: &[Story] = stories! {
 };
 
 pub(crate) const MOVES: &[Story] = stories! {
-    // The slots of keys 0 to 43 are all occupied. What comes then takes the slots that were left,
-    // and no block went.
+    // The slots of keys 0 to 43 are all occupied. The next pairs take the slots that were freed,
+    // and no block was dropped.
     "a pair moves and leaves its slot free", 44:
         Swap, Move(5, Some((0, 0))), Left((0, 5)), Lens(1, 43), Find(5, Some((0, 0))),
         Move(31, Some((0, 1))), Left((0, 31)), Lens(2, 42), Find(31, Some((0, 1))),

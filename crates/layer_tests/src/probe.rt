@@ -1,7 +1,8 @@
 //! Buckets in a vector, reached by generic code.
 //!
 //! A bucket's size depends on its type parameters, so generic code that takes one out of a vector
-//! owes that it takes fewer than 2^63 bytes. A slice of the vector says so, so no caller is asked.
+//! has to prove that it takes fewer than 2^63 bytes. A slice of the vector implies it, so callers
+//! need no premise.
 ghost use Rattle.std.specs.Prelude.{◌≡◌, ◌<◌, ◌%◌, None, length, slice_set, slice_index_or, OnOk, OnErr, IfErr, IfOk};
 ghost use Rattle.bucket_slots.specs.BucketView.{empty_bucket, first_place, pairs_in};
 ghost use Rattle.bucket_slots.specs.Clearing.{slots_after_insertion, slots_for_insertion};
@@ -29,7 +30,7 @@ pub fn len_at<K, V, L: LruList, const TYPE: u8>(
 ///
 /// # Errors
 ///
-/// Allocation failed: the pair comes back and the buckets are as they were.
+/// Allocation failure: the pair is returned and the buckets are as they were.
 ///
 /// O(blocks in the bucket's chain). Own.
 pub fn insert_at<K: Drop, V: Drop, L: LruList, G: Generation, const TYPE: u8>(

@@ -25,14 +25,14 @@ impl<L: LruList> Model for Recent<L> {
 
 /// A call on a list of slots below 32, with its answer.
 enum Act {
-    /// This slot goes, and the tail is that then; or none goes.
+    /// This slot is evicted, and the tail is that then; or none is evicted.
     Evict(Option<(u8, u32)>),
-    /// A slot goes, and the tail is that then, where it changes.
+    /// A slot is removed, and the tail is that then, if it changes.
     Remove(u8, Option<u32>),
     /// A slot is the newest, and the tail is that then, where it changes.
     Promote(u8, Option<u32>),
-    /// A slot that is off the list, or is taken off, is the oldest, and the tail is that then, where
-    /// nothing was listed.
+    /// A slot that is off the list, or is taken off, is the oldest, and the tail is that then,
+    /// where nothing was listed.
     Append(u8, Option<u32>),
 }
 
@@ -133,7 +133,7 @@ const NOTHING_IS_KEPT: &[Act] = &[
 
 #[test]
 fn lists_answer_as_worked_out_by_hand(rt: HostRuntime) {
-    // A list that is empty again answers as a new one.
+    // A list that is empty again behaves as a new one.
     let mut used = Recent::<DoublyLinkedList>::new();
     for (story, acts) in STORIES {
         Recent::<DoublyLinkedList>::new().play(&rt, story, acts);

@@ -1,4 +1,4 @@
-//! Tables that are asked for each of their pairs, with the values lent.
+//! `retain` on tables, with mutable values.
 use crate::by_lock::Map;
 use crate::checks::check_same;
 use crate::growth::DOUBLED;
@@ -12,8 +12,8 @@ fn is_put(key: u64) -> bool {
     key < 32 || (128 <= key && key < 159)
 }
 
-// Keeps the keys that three doesn't divide, with one more as their values. Returns how many pairs
-// were asked for, and how many went.
+// Keeps the keys that three doesn't divide, with one more as their values. Returns how often the
+// function was called, and how many pairs were removed.
 fn retain_some(table: &mut Map) -> (usize, usize) {
     let mut asked: usize = 0;
     let mut keep = |key: &u64, value: &mut u64| -> bool {

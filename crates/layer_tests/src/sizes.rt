@@ -26,7 +26,7 @@ const MAX: usize = usize::MAX;
 
 /// A call, with its answer last.
 enum Size {
-    /// The slots and the length of an array for a capacity; none where that is refused.
+    /// The slots and the length of an array for a capacity; none if that fails.
     Extent(usize, Option<(usize, usize)>),
     /// The small, the large and the full sample of such an array.
     ArraySamples(usize, (usize, usize, usize)),

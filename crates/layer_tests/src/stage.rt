@@ -1,5 +1,5 @@
-//! The stage of a story: a bucket of any kind, with any LRU list, and what steps do there. A
-//! step that finds another answer than its own tells its story, its row, the call, both answers.
+//! The stage of a story: a bucket of any kind, with any LRU list, and what steps do there. A step
+//! whose result isn't the expected one prints its story, its row, the call and both results.
 use crate::by_key::{
     insert_oldest, kill_empty, mark_key, move_key, remove_at, touch_key, write_key,
 };
@@ -40,7 +40,7 @@ impl<L: LruList, const TYPE: u8> Stage<L, TYPE> {
         }
     }
 
-    /// Plays a story, after its keys have come.
+    /// Plays a story, after its keys are inserted.
     pub(crate) fn tell(
         &mut self,
         rt: &impl Abort,
@@ -204,7 +204,7 @@ impl<L: LruList, const TYPE: u8> Stage<L, TYPE> {
         }
     }
 
-    // Takes out the pair of a key, and returns where the removal leaves the walk's pointer.
+    // Removes the pair of a key, and returns where the removal leaves the walk's pointer.
     fn take(&mut self, rt: &impl Abort, row: (&str, usize), key: u64) -> Option<Spot> {
         let hash = self.hash_of(key);
         let (pair, at) = remove_at(&mut self.bucket, key, hash)?;
@@ -237,7 +237,7 @@ impl<L: LruList, const TYPE: u8> Stage<L, TYPE> {
         mark_key(&mut self.bucket, key, hash, &self.now)
     }
 
-    // What a clearing of an index answers.
+    // What a clearing of an index returns.
     fn clear(&mut self) -> Option<u32> {
         if TYPE != INDEX {
             return None;

@@ -22,12 +22,12 @@ macro_rules! steps {
 pub(crate) use steps;
 pub(crate) use stories;
 
-/// Which marks are kept.
+/// Which tombstones are kept.
 #[derive(Drop)]
 pub(crate) enum Kept {
-    /// Every mark.
+    /// Every tombstone.
     All,
-    /// No mark.
+    /// No tombstone.
     None,
     /// Those that leave this rest, divided by the divisor.
     Rest(u8, u8),
@@ -36,7 +36,7 @@ pub(crate) enum Kept {
 }
 
 impl Kept {
-    /// Whether the mark is kept.
+    /// Whether the tombstone is kept.
     pub(crate) fn keeps(&self, mark: u8) -> bool {
         match *self {
             Kept::All => true,
@@ -55,38 +55,38 @@ pub(crate) enum Step {
     Under(u64, u64),
     /// A key's value from here on: the key so many times, plus a number. At first ten times.
     Values(u64, u64),
-    /// The epoch from here on, and which marks are kept. At first it is 0, and all are.
+    /// The epoch from here on, and which tombstones are kept. At first it is 0, and all are.
     Now(u8, Kept),
     /// The bucket and the other one change places.
     Swap,
 
-    /// Keys come, each with one pair more.
+    /// Keys are inserted, each adding one pair.
     Fill(u64, u64),
-    /// Keys come, and each is touched.
+    /// Keys are inserted, and each is touched.
     Use(u64, u64),
-    /// A key comes, and stands there.
+    /// A key is inserted, and is in this place.
     Put(u64, Spot),
-    /// A key comes as the oldest, and stands there.
+    /// A key is inserted as the oldest, and is in this place.
     PutOldest(u64, Spot),
-    /// Keys go with their values.
+    /// Keys are removed with their values.
     Drain(u64, u64),
-    /// A key goes with its value, and leaves the walk's pointer there; or there is none.
+    /// A key is removed with its value, and leaves the walk's pointer there; or there is none.
     Take(u64, Option<Spot>),
     /// A key's value is written, and was the second.
     Write(u64, u64, Option<u64>),
-    /// A key comes from the other bucket, where it is found no more, and stands at this place now.
+    /// A key is moved from the other bucket, where it is no longer found, and is in this place now.
     Move(u64, Option<Spot>),
-    /// The pair that came last from the other bucket stood there.
+    /// The pair that was moved last from the other bucket was in that place.
     Left(Spot),
-    /// The pairs of these keys are marked as removed, and not found to be marked again.
+    /// The pairs of these keys become tombstones, and aren't found a second time.
     Marks(&'static [u64]),
-    /// The pairs of keys are marked, and the epoch is more by a number after each.
+    /// The pairs of keys become tombstones, and the epoch is raised by a number after each.
     MarkUp(u64, u64, u8),
-    /// A clearing answers these occupied own slots.
+    /// A clearing returns these occupied own slots.
     Clear(u32),
-    /// A key is touched, if it is there.
+    /// A key is touched, if it is present.
     Touch(u64, bool),
-    /// A pair goes, which has this key and its value; or none.
+    /// A pair is evicted, which has this key and its value; or none.
     Evict(Option<u64>),
     /// These own slots are listed, newest first, and none is then.
     TakeOrder(&'static [u8]),
@@ -103,7 +103,7 @@ pub(crate) enum Step {
     Lacks(u64, u64),
     /// Keys are found in the own slots of their numbers.
     InOwn(u64, u64),
-    /// An own slot has this key, live or marked, with its value, or none.
+    /// An own slot has this key, live or a tombstone, with its value, or none.
     Own(usize, Option<u64>),
     /// Own slots have none.
     Free(usize, usize),
@@ -111,7 +111,7 @@ pub(crate) enum Step {
     Next(Option<u64>, Spot),
     /// The walk's next keys.
     Walk(&'static [u64]),
-    /// The keys that `for_each` gives, in its order.
+    /// The keys that `for_each` visits, in its order.
     Each(&'static [u64]),
     /// The walk's next keys, one after another.
     WalkUp(u64, u64),
@@ -123,12 +123,12 @@ pub(crate) enum Step {
     Killed(bool),
 }
 
-/// One epoch, and an answer for each mark.
+/// One epoch, and whether each tombstone is kept.
 #[derive(Drop)]
 pub(crate) struct Answers {
     /// The byte that a tombstone gets now.
     pub(crate) epoch: u8,
-    /// Whether a mark is kept, for each.
+    /// Whether a tombstone is kept, for each.
     pub(crate) kept: [bool; 256],
 }
 
@@ -149,7 +149,7 @@ impl Generation for Answers {
 }
 
 impl Answers {
-    /// Asks the rule for each mark.
+    /// Asks the rule for each tombstone.
     pub(crate) fn new(epoch: u8, rule: &Kept) -> Self {
         let mut kept = [false; 256];
         for mark in 0..=255u8 {

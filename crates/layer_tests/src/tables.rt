@@ -25,8 +25,8 @@ pub(crate) struct Story {
     pub(crate) steps: &'static [Step],
 }
 
-/// A call with what it answers, or what is seen of the table. Of two keys the second is the first
-/// that is not meant.
+/// A call with its result, or what is seen of the table. Of two keys the second is the first that
+/// is not meant.
 pub(crate) enum Step {
     /// Keys are put, each as its own value.
     Puts(u64, u64),
@@ -37,7 +37,7 @@ pub(crate) enum Step {
     Works(usize, usize),
     /// A new key is put in the writer's bucket of this index, and stands there.
     Lands(u64, usize, Spot),
-    /// A key is taken out of its bucket alone, and leaves the pointer there.
+    /// A key is removed from its bucket alone, and leaves the pointer there.
     Leaves(u64, Spot),
     /// A key stands there.
     Stands(u64, Spot),
@@ -45,7 +45,7 @@ pub(crate) enum Step {
     Locks(u64, usize),
     /// The same by the other name of the call.
     Reserves(u64, usize),
-    /// The index of a key's bucket, and how many pairs it has; nothing beside an old array.
+    /// The index of a key's bucket, and how many pairs it has; nothing if there is an old array.
     Homes(u64, Option<(usize, usize)>),
     /// How many slots the current array has, and the rehash word.
     Sees(usize, Option<usize>),
@@ -57,7 +57,7 @@ pub(crate) enum Step {
     Counts(usize),
     /// How many pairs there are, as a length has it, which moves nothing.
     Lens(usize),
-    /// The keys that `for_each` gives, in its order, each with itself as its value.
+    /// The keys that `for_each` visits, in its order, each with itself as its value.
     Each(&'static [u64]),
     /// The table is cleared.
     Clears,
@@ -69,19 +69,19 @@ pub(crate) enum Step {
     Ends(usize),
     /// A ticket is none that is open.
     Lost(usize),
-    /// Whether a look-up by a probe finds a key, and how many keys the probe is asked of.
+    /// Whether a look-up by a probe finds a key, and with how many keys the probe is called.
     Asks(u64, bool, u64),
-    /// The array that is there, or is made, has so many buckets.
+    /// The present array, or the one that is made, has so many buckets.
     Makes(usize),
-    /// A resize is asked for, and comes or doesn't.
+    /// A resize is asked for, and happens or doesn't.
     Resizes(bool),
     /// No ticket is open, and so many units are left and worked.
     Finishes(usize),
-    /// The pairs of keys from a number on are kept, and so many others go.
+    /// The pairs of keys from a number on are kept, and so many others are removed.
     Sweeps(u64, usize),
-    /// A walk takes out two keys, which are there, and asks for a shorter array.
+    /// A walk removes two keys, which are present, and asks for a shorter array.
     Strips(u64, u64),
-    /// A cursor goes from the first pair on, and ends behind these.
+    /// A cursor visits these pairs from the first one on, and then ends.
     Follows(&'static [Stop]),
 }
 
@@ -119,7 +119,7 @@ pub(crate) fn play(
     Ok(())
 }
 
-// Takes a step, and compares what comes of it.
+// Takes a step, and compares its result.
 fn take(rt: &impl Abort, table: &mut Map, at: At, step: &Step) -> Result<(), Fail> {
     match step {
         Step::Puts(from, to) => {
@@ -214,7 +214,7 @@ fn look(rt: &impl Abort, table: &mut Map, at: At, step: &Step) {
     }
 }
 
-// The pairs that `for_each` gives are these keys, each with itself as its value, in this order.
+// The pairs that `for_each` visits are these keys, each with itself as its value, in this order.
 fn meet_each(rt: &impl Abort, table: &Map, at: At, keys: &[u64]) {
     let mut came: usize = 0;
     let mut in_order = true;

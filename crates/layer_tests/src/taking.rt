@@ -8,11 +8,11 @@ use bucket_slots::lru::LruList;
 use bucket_table::hash_table::HashTable;
 use bucket_table::key_hash::KeyHash;
 
-/// Takes out the pair whose key is equal; `None` where the map has none.
+/// Removes the pair whose key is equal; `None` if the map has none.
 ///
 /// # Errors
 ///
-/// Allocation failed: the map is as it was.
+/// Allocation failure: the map is as it was.
 pub fn take<K: Eq + Drop, V: Drop, H: KeyHash<K>, L: LruList + Drop, const TYPE: u8>(
     table: &mut HashTable<K, V, H, L, TYPE>,
     key: &K,

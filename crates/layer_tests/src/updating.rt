@@ -1,4 +1,5 @@
-//! Values written where a pair stands, pairs put where none does, and pairs that a cache evicts.
+//! Values that are replaced, pairs that are inserted where the key is absent, and pairs that a
+//! cache evicts.
 use crate::by_lock::Table;
 use crate::checks::check_same;
 use Action::*;
@@ -12,7 +13,7 @@ use std::test::Fail;
 
 type Cache = Table<DoublyLinkedList, CACHE>;
 
-/// A call on a cache, with what it answers.
+/// A call on a cache, with its result.
 enum Action {
     /// New keys are put, each with itself as its value.
     Puts(u64, u64),
@@ -20,15 +21,15 @@ enum Action {
     Upserts(u64, u64, Option<u64>),
     /// One is added to a key's value, and this was the earlier one.
     Adds(u64, Option<u64>),
-    /// A key's value is lent and written, and this was the earlier one.
+    /// A key's value is written through a mutable reference, and this was the earlier one.
     Writes(u64, u64, Option<u64>),
-    /// A key is touched, which is there.
+    /// A key is touched, which is present.
     Touches(u64),
-    /// The pair that goes from a key's home.
+    /// The pair that is evicted from a key's home.
     Evicts(u64, Option<(u64, u64)>),
-    /// A new pair is put, and this one goes for it.
+    /// A new pair is put, and this one is evicted for it.
     Places(u64, u64, Option<(u64, u64)>),
-    /// A pair isn't put, since its key is there.
+    /// A pair isn't put, since its key is present.
     Returns(u64, u64),
     /// The value that a key has.
     Holds(u64, Option<u64>),
@@ -149,7 +150,7 @@ fn caches_are_updated_by_key(rt: HostRuntime) -> Result<(), Fail> {
     Ok(())
 }
 
-// Does a call that writes or evicts, and compares what it answers.
+// Does a call that writes or evicts, and compares its result.
 fn act(
     rt: &impl Abort,
     cache: &mut Cache,
@@ -195,7 +196,7 @@ fn look(rt: &impl Abort, cache: &mut Cache, at: (&'static str, usize), action: &
     }
 }
 
-// Writes a value where a key's value is lent, and returns the earlier one.
+// Writes a value through a mutable reference, and returns the earlier one.
 fn write(cache: &mut Cache, key: &u64, value: u64) -> Option<u64> {
     match cache.get_mut(key) {
         Some(lent) => Some(mem::replace(lent, value)),
@@ -210,7 +211,7 @@ fn add_one(_key: &u64, value: &mut u64) -> u64 {
     earlier
 }
 
-// Puts a pair. Returns what goes for it, or the pair where its key is there.
+// Puts a pair. Returns what is evicted for it, or the pair if its key is present.
 fn placed(cache: &mut Cache, key: u64, value: u64) -> Result<Option<(u64, u64)>, (u64, u64)> {
     match cache.put(key, value) {
         Ok(gone) => Ok(gone),

@@ -71,8 +71,8 @@ fn has_open_ticket(table: &Map) -> bool
     }
 }
 
-/// Takes two keys out in a walk, which then asks for a shorter array. Returns whether each was
-/// there.
+/// Removes two keys in a walk, which then asks for a shorter array. Returns whether each was
+/// present.
 pub(crate) fn strip(table: &mut Map, keys: (u64, u64)) -> Result<(bool, bool), AllocError> {
     let mut taken = (false, false);
     let mut takes = |bucket: &mut Pairs, flag: &mut bool| -> bool
@@ -88,7 +88,7 @@ pub(crate) fn strip(table: &mut Map, keys: (u64, u64)) -> Result<(bool, bool), A
     Ok(taken)
 }
 
-// Takes a key out of a bucket, and returns whether it was there.
+// Removes a key from a bucket, and returns whether it was present.
 fn take_key(bucket: &mut Pairs, key: u64) -> bool
     ensures { bucket.old.killed ≡ false → IsKeptBy bucket.old bucket.new }
 {
@@ -118,7 +118,7 @@ const STORIES: &[Story] = steps! {
         minimum: 0, start: steps! { Puts(1, 4) }, steps: steps! {
             Strips(2, 3), Sees(64, None),
             Follows(&[Stop { keys: (1, 2), bucket: (0, 64), takes: false }]) } },
-    // Once 0 to 31 are gone the table shrinks, and the bucket behind is the second of two.
+    // Once 0 to 31 are gone, the table shrinks, and the next bucket is the second of two.
     Story { name: "a cursor goes on over the shrink that it brings", hasher: ScriptHash::Spread,
         minimum: 0, start: SEVEN_BEHIND, steps: steps! {
             Follows(&[

@@ -11,15 +11,15 @@ type Words = HashTable<&'static str, u64, StdHash<BuildHasherDefault<FoldHasher>
 
 /// A call on a map of words.
 enum Step {
-    /// A word is put with a number, if it wasn't there.
+    /// A word is inserted with a number, if it was absent.
     Put(&'static str, u64, bool),
-    /// A word has this number, or isn't there.
+    /// A word has this number, or is absent.
     Has(&'static str, Option<u64>),
-    /// A word is taken out with its number, if it was there.
+    /// A word is removed with its number, if it was present.
     Take(&'static str, Option<(&'static str, u64)>),
-    /// So many words are there.
+    /// So many words are present.
     Len(usize),
-    /// All words go.
+    /// All words are removed.
     Clear,
 }
 
@@ -56,7 +56,7 @@ fn words_are_found_by_stds_hashes(rt: HostRuntime) -> Result<(), Fail> {
     Ok(())
 }
 
-// Takes a step, and compares what comes of it.
+// Takes a step, and compares its result.
 fn play(rt: &impl Abort, words: &mut Words, row: usize, step: &Step) {
     match *step {
         Step::Put(word, number, done) => {

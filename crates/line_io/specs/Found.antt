@@ -11,7 +11,7 @@ IsFound bytes whole TooLong = 4096 < line_len bytes
 IsFound bytes whole Cut = ⊥
 IsFound bytes whole End = ⊥
 
--- the same where no newline is read: the bytes are a line where the input has ended
+-- the same if no newline is read: the bytes are a line if the input has ended
 abbrev pub IsFoundUnended : Bool → List ℕ → Found → Type 0
 IsFoundUnended is_ended bytes (Line line) =
     (is_ended ≡ true) × (0 < length bytes) × IsFound bytes (length bytes) (Line line)

@@ -9,7 +9,7 @@ line_len bytes = if slice_index bytes (length bytes - 1) == 13 then length bytes
 abbrev pub without_return : List ℕ → List ℕ
 without_return bytes = take (line_len bytes) bytes
 
--- the bytes behind the last newline are a line where there are any
+-- the bytes after the last newline, if any, are a line
 abbrev pub last_line : List ℕ → List (List ℕ)
 last_line [] = []
 last_line (byte ∷ bytes) = without_return (byte ∷ bytes) ∷ []

@@ -3,7 +3,7 @@ use Rattle.std.specs.Prelude.{ℕ, ◌≡◌, List, find, MatchOption, Option, o
 use Rattle.std.specs.Str.{bytes_eq}
 use Rattle.line_io.specs.Words.{Part, text}
 
--- what stands beside the word in the first row that has it
+-- the meaning of the word in the first row that has it
 abbrev pub meaning : {T : Type 0} → List (List ℕ × T) → List ℕ → Option T
 meaning rows word = option_map (λ row. row.1) (find (λ row. bytes_eq row.0 word) rows)
 

@@ -6,7 +6,7 @@ ghost use Rattle.line_io.specs.OutputLines.{line_of};
 
 use std::alloc::AllocError;
 
-/// Appends the line of a word, with the blank behind it, and two numbers.
+/// Appends the line of a word, with the blank after it, and two numbers.
 ///
 /// # Errors
 ///
@@ -28,7 +28,7 @@ pub fn append_pair(
     append_number(text, second, b'\n')
 }
 
-/// Appends the line of a word, with the blank behind it, and a number.
+/// Appends the line of a word, with the blank after it, and a number.
 ///
 /// # Errors
 ///
@@ -45,7 +45,7 @@ pub fn append_numbered(text: &mut Vec<u8>, word: &[u8], number: u64) -> Result<(
     append_number(text, number, b'\n')
 }
 
-/// Appends a number's decimal digits, and one byte behind them.
+/// Appends a number's decimal digits, and one byte after them.
 ///
 /// # Errors
 ///

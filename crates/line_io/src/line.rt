@@ -1,10 +1,10 @@
 //! The lines of a reader.
 //!
-//! Model: `LinesView`, the bytes that are read and not yet passed, whether no more come, and what the
-//! reader has left.
+//! Model: `LinesView`, the bytes that are read and not yet passed, whether the reader is at its
+//! end, and what the reader has left.
 //!
-//! A line is found first, as a value, and passed once its bytes are used, so that a caller can
-//! answer what it has before it asks for more.
+//! A line is first found, as a value, and passed once its bytes are used. So a caller can answer
+//! the lines that it has before it reads more.
 ghost use Rattle.std.specs.Prelude.{◌≡◌, ◌≤◌, ◌==◌, IfSome, length, position};
 
 use crate::stop::Stop;
@@ -28,9 +28,9 @@ pub struct Lines<R: Read> {
 /// A whole line at the front of what is read.
 #[derive(Clone, Copy)]
 pub struct Line {
-    /// How many bytes it has with what ends it.
+    /// Its length in bytes, with what ends it.
     pub whole_len: usize,
-    /// How many bytes it has without that.
+    /// Its length in bytes, without what ends it.
     pub len: usize,
     ghost ordered: { len ≤ whole_len },
 }
@@ -44,7 +44,7 @@ pub enum Found {
     TooLong,
     /// A line that isn't whole yet, or nothing yet.
     Cut,
-    /// Nothing, and nothing more comes.
+    /// Nothing, and the reader is at its end.
     End,
 }
 
@@ -70,7 +70,7 @@ impl<R: Read + Drop> Lines<R> {
     ///
     /// # Errors
     ///
-    /// Allocation failure, of a window of 64 KiB.
+    /// Allocation failure: a window takes 64 KiB.
     pub fn new(alloc: Global, input: R) -> Result<Self, AllocError>
         ensures { IfOk result (λ lines. (lines.unread ≡ []) × (lines.is_ended ≡ false)
             × (lines.left ≡ R.remaining input)) }
@@ -108,7 +108,7 @@ impl<R: Read + Drop> Lines<R> {
         &self.window.unread()[..line.len]
     }
 
-    /// Passes a line that was found, with what ends it. What stands behind it is at the front then.
+    /// Passes a line that was found, with what ends it. What follows it is then at the front.
     pub fn pass(&mut self, line: Line)
         requires { line.whole_len ≤ length self.old.unread }
         ensures passed { self.new.unread ≡ drop line.whole_len self.old.unread }
@@ -118,15 +118,15 @@ impl<R: Read + Drop> Lines<R> {
         self.window.pass(line.whole_len);
     }
 
-    /// Reads once, behind what isn't passed yet; a read that is interrupted is repeated.
+    /// Reads once, and appends to what isn't passed yet; an interrupted read is repeated.
     ///
-    /// Where nothing comes, the reader is at its end, and `find` takes what is left for a whole line.
+    /// If nothing is read, the reader is at its end, and `find` takes what is left as a whole line.
     ///
     /// # Errors
     ///
-    /// `InputFailed`, where the reader fails: what is read stays as it is.
+    /// `InputFailed`, if the reader fails: what is read stays as it is.
     ///
-    /// O(bytes that aren't passed yet, and those that come).
+    /// O(bytes that aren't passed yet, and those that are read).
     pub fn read_more(&mut self) -> Result<(), Stop>
         requires { length self.old.unread ≤ 4097 }
         ensures read { IfOk result (λ _. (more : List ℕ)
@@ -156,7 +156,7 @@ fn newline_in(bytes: &[u8]) -> Option<usize>
     }
 }
 
-// The first newline, where it is one of the first 32 bytes, which are compared at once.
+// The first newline, if it is one of the first 32 bytes, which are compared at once.
 #[inline(always)]
 fn newline_in_front(bytes: &[u8]) -> Option<usize>
     ensures { IfSome result (λ _. result ≡ position (λ byte. byte == 10) bytes.now) }

@@ -2,7 +2,7 @@
 ghost use Rattle.std.specs.Prelude.{◌≡◌, map};
 ghost use Rattle.line_io.specs.Meanings.{meaning};
 
-/// Returns what a word means: what stands beside it in the first row that has it, if one has.
+/// Returns the meaning of a word, in the first row that has the word, if any.
 ///
 /// O(rows).
 pub fn meaning_of<T: Copy>(mut table: &[(&[u8], T)], word: &[u8]) -> Option<T>

@@ -9,7 +9,7 @@ use std::alloc::AllocError;
 pub enum Stop {
     /// The line of this number, counted from 1, can't be read.
     BadLine(u64),
-    /// A request for memory was refused.
+    /// Allocation failed.
     NoMemory,
     /// The input can't be read.
     InputFailed,

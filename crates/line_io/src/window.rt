@@ -10,7 +10,7 @@ use std::io::{ErrorKind, Read};
 // How many bytes it has room for.
 const WINDOW_LEN: usize = 64 * 1024;
 
-/// A window: bytes `start` to `end` are read and not yet passed, and room stands after them.
+/// A window: bytes `start` to `end` are read and not yet passed, and after them is room.
 #[derive(Drop)]
 pub(crate) struct Window {
     bytes: Vec<u8>,
@@ -51,9 +51,9 @@ impl Window {
         self.start += count;
     }
 
-    /// Reads once, behind what isn't passed yet, and returns how many bytes came.
+    /// Reads once, appends to what isn't passed yet, and returns how many bytes were read.
     ///
-    /// A read that is interrupted is repeated. Where it fails, nothing changes.
+    /// An interrupted read is repeated. If it fails, nothing changes.
     pub(crate) fn read_from<R: Read>(&mut self, input: &mut R) -> io::Result<usize>
         requires { length (unread self.old) < WINDOW_LEN }
         ensures ok { IfOk result (λ n. (more : List ℕ) × (length more ≡ n)

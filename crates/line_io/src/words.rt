@@ -1,8 +1,9 @@
 //! The words of a line, and the numbers that they write.
 //!
-//! Model: the parts of what isn't read yet, each a number or another text. A word stands between
+//! Model: the parts of what isn't read yet, each a number or another text. Words are separated by
 //! blanks, which are spaces and tabs; a number is 1 to 20 decimal digits, below 2^64.
-ghost use Rattle.std.specs.Prelude.{◌≡◌, ℕ, ◌<◌, ◌≤◌, true, false, List, [], ◌∷◌, is_some, length, take, drop, slice_index, IfSome, MatchOption};
+ghost use Rattle.std.specs.Prelude.{◌≡◌, ℕ, ◌<◌, ◌≤◌, true, false, List, [], ◌∷◌, is_some, length};
+ghost use Rattle.std.specs.Prelude.{take, drop, slice_index, IfSome, MatchOption};
 ghost use Rattle.line_io.specs.Numbers.{is_number, value_of};
 ghost use Rattle.line_io.specs.Words.{Part, number, is_blank, part_of, parts_of, with_word, words_of};
 
@@ -31,7 +32,7 @@ impl<'a> Words<'a> {
         Words { rest: line }
     }
 
-    /// Reads the next word and returns its bytes, which aren't empty, or `None` where no word is left.
+    /// Reads the next word and returns its bytes, which aren't empty, or `None` if no word is left.
     ///
     /// O(bytes up to the end of the word).
     pub fn next_word(&mut self) -> Option<&'a [u8]>
@@ -44,8 +45,8 @@ impl<'a> Words<'a> {
         if len == 0 { None } else { Some(&rest[..len]) }
     }
 
-    /// Reads the next word and returns the number that it writes. `None` is returned where no word is
-    /// left, or where the next one writes no number.
+    /// Reads the next word and returns its number. `None` if no word is left, or if the next one is
+    /// no number.
     ///
     /// O(bytes up to the end of the word).
     pub fn number(&mut self) -> Option<u64>
@@ -57,9 +58,9 @@ impl<'a> Words<'a> {
     }
 }
 
-/// Returns the number that a line is, where it has nothing else, not even blanks.
+/// Returns the number of a line that has nothing else, not even blanks.
 ///
-/// Where it has, `None` is returned, and no clause speaks of that.
+/// For any other line it returns `None`, of which no clause speaks.
 pub fn lone_number(line: &[u8]) -> Option<u64>
     ensures { IfSome result (λ value. parts_of line.now ≡ number value ∷ []) }
 {
@@ -68,7 +69,7 @@ pub fn lone_number(line: &[u8]) -> Option<u64>
 
 /// Returns the two numbers of a line that has no other word.
 ///
-/// For any other line `None` is returned, and no clause speaks of that.
+/// For any other line it returns `None`, of which no clause speaks.
 pub fn two_numbers(line: &[u8]) -> Option<(u64, u64)>
     ensures { IfSome result (λ pair. parts_of line.now ≡ number pair.0 ∷ number pair.1 ∷ []) }
 {
@@ -87,7 +88,7 @@ fn is_blank(byte: u8) -> bool
     byte == b' ' || byte == b'\t'
 }
 
-// How many blanks the bytes begin with.
+// The number of blanks at the front of the bytes.
 fn blanks_len(bytes: &[u8]) -> usize
     ensures bound { result ≤ length bytes.now }
     ensures words { words_of (drop result bytes.now) ≡ words_of bytes.now }
@@ -101,7 +102,7 @@ fn blanks_len(bytes: &[u8]) -> usize
     bytes.len()
 }
 
-// How many bytes stand before the first blank.
+// The number of bytes before the first blank.
 fn word_len(bytes: &[u8]) -> usize
     ensures bound { result ≤ length bytes.now }
     ensures words { words_of bytes.now

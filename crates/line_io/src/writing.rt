@@ -6,13 +6,13 @@ use std::io::{ErrorKind, Write};
 
 /// Writes a text, in as many writes as the output needs.
 ///
-/// A write that is interrupted is repeated, and one that takes nothing has failed.
+/// An interrupted write is repeated, and one that writes nothing has failed.
 ///
 /// # Errors
 ///
-/// `OutputFailed`: the output has a beginning of the text.
+/// `OutputFailed`: the output has a prefix of the text.
 ///
-/// O(bytes of the text), beside what the output does.
+/// O(bytes of the text), plus the cost of the writes.
 pub fn write_whole<W: Write>(output: &mut W, text: &[u8]) -> Result<(), Stop>
     ensures { IsWritten result (W.contents output.old) (W.contents output.new) text.now }
 {

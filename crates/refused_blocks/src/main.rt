@@ -1,13 +1,13 @@
-//! A new bucket is asked for free slots, again and again. With all memory each call is granted.
+//! Reserves slots in a new bucket, again and again. If no allocation fails, each call succeeds.
 //!
-//! `trials/refused_blocks.sh` refuses requests for memory, which tells how many slots are free: so
-//! many can be asked for without memory, and no more.
+//! `trials/refused_blocks.sh` lets allocations fail, which shows how many slots are free: so many
+//! can be reserved without an allocation, and no more.
 #![tactic(auto)]
 
 use bucket_slots::bucket::{Bucket, MAP};
 use std::io;
 
-/// How many free slots each call asks for.
+/// How many slots each call reserves.
 const ASKED: [usize; 6] = [40, 36, 37, 40, 40, 41];
 
 fn main(rt: HostRuntime) -> io::Result<()> {

@@ -12,8 +12,8 @@ use std::alloc::Global;
 pub(crate) enum Collection {
     Map(HashMap<u64, u64, ScriptHash>),
     Set(HashSet<u64, ScriptHash>),
-    /// An index, and what it is told of its marks: each removal has the next epoch, and marks are
-    /// kept in every second one.
+    /// An index, and its generation: each removal has the next epoch, and tombstones are kept in
+    /// every second one.
     Index(HashIndex<u64, u64, ScriptHash>, FixedGeneration),
     /// A cache of at most 128 slots.
     Cache(HashCache<u64, u64, ScriptHash>),
@@ -47,7 +47,7 @@ impl Collection {
         ]
     }
 
-    /// Inserts a pair, and returns the one that a cache lets go for it.
+    /// Inserts a pair, and returns the one that a cache evicts for it.
     pub(crate) fn insert(
         &mut self,
         key: u64,
@@ -66,7 +66,7 @@ impl Collection {
         Ok(None)
     }
 
-    /// Takes a pair out.
+    /// Removes a pair.
     pub(crate) fn remove(&mut self, key: u64) -> Option<(u64, u64)> {
         match self {
             Map(map) => map.remove(&key),
@@ -90,7 +90,7 @@ impl Collection {
         }
     }
 
-    /// How many pairs it shows, and how many it says that it has.
+    /// How many pairs its iterator yields, and how many its `len` says.
     pub(crate) fn lens(&self) -> (usize, usize) {
         let mut came: usize = 0;
         let mut meet = |_key: &u64, _value: &u64| came = came.saturating_add(1);
@@ -103,7 +103,7 @@ impl Collection {
         (came, on_each!(self, any => any.len(), cache => cache.len()))
     }
 
-    /// Clears it, and returns whether it has no slot then.
+    /// Clears it, and returns whether it then has no slot.
     pub(crate) fn clear(&mut self) -> bool {
         on_each!(self, any => any.clear(), cache => cache.clear());
         on_each!(self, any => any.capacity(), cache => cache.capacity()) == 0
@@ -114,7 +114,7 @@ impl Collection {
         on_each!(self, any => any.raise_minimum(additional) == additional, _ => true)
     }
 
-    /// Makes room in a map or a set, and returns whether it has slots then, or memory was refused.
+    /// Makes room in a map or a set, and returns whether it then has slots, or allocation failed.
     pub(crate) fn try_reserve(&mut self, additional: usize) -> bool {
         match self {
             Map(map) => map.try_reserve(additional).is_err() || map.capacity() >= additional,
@@ -123,8 +123,8 @@ impl Collection {
         }
     }
 
-    /// Gives the minimum back, and a map's or a set's slots that its pairs don't take. Returns
-    /// whether slots are left exactly where there are pairs, or memory was refused.
+    /// Sets the minimum to 0, and shrinks a map or a set to fit. Returns whether slots are left
+    /// exactly if there are pairs, or allocation failed.
     pub(crate) fn shrink_to_fit(&mut self) -> bool {
         match self {
             Map(map) => map.shrink_to_fit().is_err() || (map.capacity() == 0) == map.is_empty(),

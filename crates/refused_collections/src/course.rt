@@ -1,5 +1,5 @@
-//! A collection and what it must have, and calls on both. Pairs come and go like tides, so that the
-//! collection gets longer arrays and shorter ones again.
+//! A collection and what it must have, and calls on both. Times with many insertions and times with
+//! many removals alternate, so that the collection gets longer arrays and shorter ones again.
 mod extending;
 mod resizing;
 
@@ -9,7 +9,7 @@ use collections::hash_map::NotInserted;
 use few_keys::{FewKeys, KEYS};
 use std::mem;
 
-// For how many calls pairs come, and for how many they go.
+// How many calls mostly insert pairs, and how many then mostly remove them.
 const TIDE: u64 = 4000;
 
 // After how many calls the collection is compared as a whole, and one call is made on all of it.
@@ -21,7 +21,8 @@ const SPREADING: u64 = 11400714819323198485;
 // Times the other number this is 1, modulo 2^64.
 const GATHERING: u64 = 17428512612931826493;
 
-/// A collection, what it must have, and how often a pair was put, refused, and let go for another.
+/// A collection, what it must have, and how often a pair was inserted, failed to be inserted, and
+/// was evicted.
 #[derive(Drop)]
 pub(crate) struct Course {
     collection: Collection,
@@ -45,8 +46,8 @@ impl Course {
         }
     }
 
-    /// Makes so many calls, to the first that answers wrongly. Returns whether there is none, and
-    /// the collection has the pairs.
+    /// Makes a number of calls, up to the first with a wrong result. Returns whether there was none
+    /// and the collection has the right pairs.
     pub(crate) fn play(&mut self, calls: u64) -> bool {
         for number in 0..calls {
             if !self.call(number / TIDE % 2 == 0) {
@@ -59,8 +60,8 @@ impl Course {
         self.is_same()
     }
 
-    /// Makes a call by a key, and returns whether it answers rightly: while pairs come few are
-    /// removed, and while they go none is put.
+    /// Makes a call by a key, and returns whether its result is right. In times of insertions few
+    /// pairs are removed, in times of removals none is inserted.
     fn call(&mut self, comes: bool) -> bool {
         let number = self.chance.next() % KEYS;
         let has_values = !matches!(self.collection, Collection::Set(_));
@@ -92,7 +93,7 @@ impl Course {
         }
     }
 
-    /// Notes the pair that goes for another, and returns whether it was there.
+    /// Notes the evicted pair, and returns whether it was present.
     fn goes(&mut self, gone: Option<(u64, u64)>) -> bool {
         let Some((key, value)) = gone else {
             return true;
@@ -104,7 +105,7 @@ impl Course {
         was_there
     }
 
-    /// Puts a pair of a map, or writes its value; inserts a pair of another collection.
+    /// Upserts a pair of a map; inserts a pair of another collection.
     fn upsert(&mut self, number: u64, value: u64) -> bool {
         let key = key_of(number);
         let wanted = self.beside.value(number);
@@ -127,13 +128,13 @@ impl Course {
         }
     }
 
-    /// Notes a pair that was put.
+    /// Notes a pair that was inserted.
     fn puts(&mut self, number: u64, value: u64) {
         self.beside.set(number, Some(value));
         self.put = self.put.saturating_add(1);
     }
 
-    /// Takes a pair out.
+    /// Removes a pair.
     fn remove(&mut self, number: u64) -> bool {
         let key = key_of(number);
         let wanted = self.beside.value(number).map(|value| (key, value));
@@ -141,7 +142,7 @@ impl Course {
         self.collection.remove(key) == wanted
     }
 
-    /// Writes the value of a map's pair that is there, touches a cache's pair, or looks it up.
+    /// Replaces the value of a map's key, touches a cache's pair, or looks the key up.
     fn update(&mut self, number: u64, value: u64) -> bool {
         let key = key_of(number);
         let wanted = self.beside.value(number);
@@ -158,8 +159,8 @@ impl Course {
         }
     }
 
-    /// Clears the collection, raises the minimum, makes room, extends it, resizes a cache, or gives
-    /// slots back.
+    /// Clears the collection, raises the minimum, makes room, extends it, resizes a cache, or frees
+    /// slots.
     fn call_on_all(&mut self) -> bool {
         match self.chance.next() % 8 {
             0 => {

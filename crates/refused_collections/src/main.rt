@@ -1,10 +1,10 @@
-//! Calls by chance on collections of numbers, beside an array that has what each must have, for
-//! runs in which requests for memory are refused by chance.
+//! Random calls on collections of numbers, compared with an array of what each must have, for runs
+//! in which random allocations fail.
 //!
-//! An insertion may answer an allocation failure, and so may an upsert of a key that isn't there:
-//! the collection then has the pairs that it had. No other call may. The program judges each answer
-//! itself, and writes a line for each collection: its status is 0 where every answer was right, and
-//! each cache let pairs go. How many of them a cache takes depends on its slots, and isn't written.
+//! An insertion may return an allocation failure, and so may an upsert of an absent key: the
+//! collection then has the pairs that it had. No other call may. The program checks each result
+//! itself, and writes a line for each collection. Its status is 0 if every result was right and
+//! each cache evicted pairs. How many pairs a cache has depends on its slots, and isn't written.
 #![tactic(auto)]
 
 mod chance;

@@ -1,4 +1,4 @@
-//! Arrays of buckets, for runs in which a request for memory is refused.
+//! Arrays of buckets, for runs in which an allocation fails.
 ghost use Rattle.std.specs.Prelude.{◌<◌, length};
 
 use crate::outcome::Outcome;
@@ -14,7 +14,7 @@ const CAPACITIES: [(usize, usize); 3] = [(0, 64), (65, 128), (1000, 1024)];
 // A capacity whose array has 256 buckets, in four parts.
 const IN_PARTS: usize = 8192;
 
-/// Makes an array for each capacity, and gives it up again; and then one of several parts, and fills a
+/// Makes an array for each capacity, and drops it; and then one of several parts, and fills a
 /// bucket in each, which takes no more memory.
 pub(crate) fn arrays(alloc: Global) -> Outcome {
     for (capacity, slots) in CAPACITIES {

@@ -1,4 +1,4 @@
-//! Two buckets, for runs in which a request for memory is refused.
+//! Two buckets, for runs in which an allocation fails.
 use crate::outcome::Outcome;
 use bucket_slots::bucket::{Bucket, EntryPtr, MAP};
 use std::alloc::Global;
@@ -94,7 +94,7 @@ fn holds(bucket: &Pairs, keys: u64) -> bool {
     bucket.len() == keys as usize
 }
 
-/// The outcome, where it is right.
+/// The outcome, if it is right.
 fn judged(right: bool, outcome: Outcome) -> Outcome {
     if right { outcome } else { Outcome::Wrong }
 }

@@ -1,4 +1,5 @@
-//! Single calls on a map of numbers, each with what it must answer, refused or not.
+//! Single calls on a map of numbers, each with its expected result, with and without an allocation
+//! failure.
 ghost use Rattle.std.specs.Prelude.{◌≡◌, false};
 ghost use Rattle.bucket_table.specs.Rehash.Finishing.{IsUnopened};
 
@@ -14,14 +15,14 @@ pub(crate) type Map = HashTable<u64, u64, ScriptHash, (), MAP>;
 
 type Pairs = Bucket<u64, u64, (), MAP>;
 
-/// What came of a call.
+/// The outcome of a call.
 #[derive(Drop)]
 pub(crate) enum Answer {
-    /// What it must answer.
+    /// The expected result.
     Right,
-    /// What is seen where a resize was left out.
+    /// What is seen if a resize was left out.
     Unresized,
-    /// What is seen where a unit was given up, or an old bucket stayed.
+    /// What is seen if a unit wasn't finished, or an old bucket stayed.
     Unmoved,
     /// Allocation failure, and what must be seen of it in the call's own result.
     Refused,
@@ -29,7 +30,7 @@ pub(crate) enum Answer {
     Wrong,
 }
 
-/// Right where the condition holds.
+/// Right if the condition holds.
 pub(crate) fn right_if(holds: bool) -> Answer {
     if holds { Answer::Right } else { Answer::Wrong }
 }
@@ -42,7 +43,7 @@ fn refused_if(holds: bool) -> Answer {
     }
 }
 
-/// Puts a new key as its own value.
+/// Inserts a new key as its own value.
 pub(crate) fn put(table: &mut Map, beside: &mut FewKeys, key: u64) -> Answer {
     let hash = table.hash(&key);
     let mut locked = match table.writer_sync(hash) {
@@ -61,7 +62,8 @@ pub(crate) fn put(table: &mut Map, beside: &mut FewKeys, key: u64) -> Answer {
     }
 }
 
-/// Runs a script, which puts a new key, reads it and takes it out. Refused, it has done nothing.
+/// Runs a script, which inserts a new key, reads it and removes it. If allocation fails, it has
+/// done nothing.
 pub(crate) fn run_calls(alloc: Global, table: &mut Map, key: u64) -> Answer {
     let mut calls = Vec::new(alloc);
     for call in [Call::Put(key, key), Call::Read(key), Call::Remove(key)] {
@@ -80,7 +82,7 @@ pub(crate) fn run_calls(alloc: Global, table: &mut Map, key: u64) -> Answer {
     }
 }
 
-/// Takes a key out, which may shrink the table.
+/// Removes a key, which may shrink the table.
 pub(crate) fn take_out(table: &mut Map, beside: &mut FewKeys, key: u64) -> Answer {
     let hash = table.hash(&key);
     let locked = match table.optional_writer_sync(hash) {
@@ -97,7 +99,7 @@ pub(crate) fn take_out(table: &mut Map, beside: &mut FewKeys, key: u64) -> Answe
     right_if(pair == (key, key))
 }
 
-/// Makes the first array, or finds the one that is there.
+/// Makes the first array, or finds the present one.
 pub(crate) fn make(table: &mut Map, len: usize) -> Answer {
     match table.get_or_create_array() {
         Ok(array) => right_if(array.len() == len),
@@ -129,13 +131,13 @@ pub(crate) fn resize(table: &mut Map, comes: bool) -> Answer {
     }
 }
 
-/// Reads a key, which is never refused.
+/// Reads a key, which never fails.
 pub(crate) fn read(table: &mut Map, key: u64) -> Answer {
     let found = table.reader_sync(&key, |own: &u64, value: &u64| (*own, *value));
     right_if(found == Some((key, key)))
 }
 
-/// Writes another value over a key's, which is never refused.
+/// Writes another value over a key's, which never fails.
 pub(crate) fn write(table: &mut Map, beside: &mut FewKeys, key: u64) -> Answer {
     let Some(earlier) = beside.value(key) else {
         return Answer::Wrong;
@@ -145,7 +147,7 @@ pub(crate) fn write(table: &mut Map, beside: &mut FewKeys, key: u64) -> Answer {
     right_if(table.upsert(key, value, &()) == Ok(Some(earlier)))
 }
 
-/// Relocates an old bucket, which has so many pairs. Refused, it keeps them all.
+/// Relocates an old bucket, which has so many pairs. If allocation fails, it keeps them all.
 pub(crate) fn relocate(table: &mut Map, index: usize, pairs: usize) -> Answer {
     if !table.has_old_bucket(index) {
         return Answer::Wrong;
@@ -167,7 +169,7 @@ pub(crate) fn old_bucket(table: &Map, index: usize) -> Option<(bool, usize)> {
     Some((bucket.is_killed(), bucket.len()))
 }
 
-/// Whether a key stands in an own slot of a bucket: of the old array, where one stands, else of the
+/// Whether a key stands in an own slot of a bucket: of the old array, if there is one, else of the
 /// current one.
 pub(crate) fn stands(table: &Map, key: u64, index: usize, slot: usize) -> bool {
     let array = match (table.linked_array(), table.array()) {
@@ -205,7 +207,8 @@ fn has_open_ticket(table: &Map) -> bool
     }
 }
 
-/// How many buckets a walk lends, and how many pairs they have, to its end or to a refusal.
+/// How many buckets a walk lends, and how many pairs they have, up to its end or to an allocation
+/// failure.
 pub(crate) type Lent = (usize, usize);
 
 /// Reads all buckets.
@@ -221,7 +224,7 @@ pub(crate) fn walk(table: &mut Map, whole: Lent, refused: Lent) -> Answer {
     }
 }
 
-/// Visits all buckets for writing, and asks for a shorter array.
+/// Visits all buckets mutably, and asks for a shorter array.
 pub(crate) fn visit(table: &mut Map, whole: Lent, refused: Lent) -> Answer {
     let mut lent: Lent = (0, 0);
     let mut counts = |bucket: &mut Pairs, flag: &mut bool| -> bool {
@@ -264,7 +267,7 @@ fn stands_at(
     there.is_valid() && (there.block(), there.pos()) == (at.block(), at.pos())
 }
 
-/// Sweeps away the keys below one. Refused, it has swept those below another one alone.
+/// Removes the keys below one. If allocation fails, it has removed only those below another one.
 pub(crate) fn sweep(table: &mut Map, beside: &mut FewKeys, below: u64, passed: u64) -> Answer {
     let keep = |key: &u64, _value: &u64| *key >= below;
     match table.sweep(&keep, &()) {

@@ -1,4 +1,4 @@
-//! The cases of calls on tables, each with what a refused request makes of it.
+//! The cases of calls on tables, each with what an allocation failure does to it.
 use crate::by_call::Lent;
 use crate::outcome::Outcome;
 use bucket_table::script::ScriptHash;
@@ -6,11 +6,11 @@ use bucket_table::script::ScriptHash;
 /// What happens on a new map.
 pub(crate) struct Case {
     pub(crate) hasher: ScriptHash,
-    /// How the table comes to be. A refusal here ends the case.
+    /// How the table is made. An allocation failure here ends the case.
     pub(crate) start: &'static [Step],
-    /// The calls that are meant.
+    /// The calls under test.
     pub(crate) steps: &'static [Step],
-    /// What any request of theirs makes of the case, where it is refused.
+    /// What the failure of any of their allocations does to the case.
     pub(crate) refused: Outcome,
 }
 
@@ -30,52 +30,53 @@ pub(crate) enum Step {
     Take(u64),
     /// A script is run, which puts a new key, reads it and takes it out.
     Runs(u64),
-    /// The least capacity is raised, which is never refused.
+    /// The least capacity is raised, which never fails.
     Raises(usize),
-    /// A ticket is handed out, which is never refused.
+    /// A ticket is handed out, which never fails.
     Opens(usize),
-    /// The array that is there, or is made, has so many buckets.
+    /// The present array, or the one that is made, has so many buckets.
     Makes(usize),
     /// The writer's bucket of a hash has this index.
     Locks(u64, usize),
     /// The same by the other name of the call.
     Reserves(u64, usize),
-    /// A resize is asked for, and comes or doesn't.
+    /// A resize is asked for, and happens or doesn't.
     Resizes(bool),
-    /// A key is found, which is never refused.
+    /// A key is found, which never fails.
     Reads(u64),
-    /// Another value is written over a key's, which is never refused.
+    /// Another value is written over a key's, which never fails.
     Writes(u64),
     /// An old bucket is relocated, which has so many pairs.
     Relocates(usize, usize),
     /// So many units are left, and worked.
     Finishes(usize),
-    /// A walk for reading lends so much, and so much before a refusal.
+    /// A walk for reading lends so much, and so much before an allocation failure.
     Walks(Lent, Lent),
     /// A walk for writing does.
     Visits(Lent, Lent),
     /// A cursor meets these keys.
     Meets(u64, u64),
-    /// Keys below the first are swept away, and before a refusal those below the second.
+    /// Keys below the first are removed, and before an allocation failure those below the second.
     Sweeps(u64, u64),
     /// What is seen.
     Sees(Seen),
-    /// What is seen after a resize, and what where one of its requests was refused.
+    /// What is seen after a resize, and what if one of its allocations failed.
     Resized(Seen, Seen),
-    /// What is seen after a unit, and what where its request was refused.
+    /// What is seen after a unit, and what if its allocation failed.
     Worked(Seen, Seen),
-    /// A key stands in a bucket of the array that was the current one when it came, in an own slot.
+    /// A key is in an own slot of a bucket, in the array that was the current one when it was
+    /// inserted.
     Stands(u64, usize, usize),
-    /// An old bucket is killed, if an old array still stands.
+    /// An old bucket is killed, if there is still an old array.
     IsKilled(usize),
-    /// An old bucket is killed. Where a request for room was refused, it has so many pairs.
+    /// An old bucket is killed. If allocating room failed, it has so many pairs.
     Moved(usize, usize),
 }
 
 use Step::*;
 
-// A bucket of 40 pairs moves from an array of two buckets to one of 128: for that it counts what
-// comes to each of its targets, in a list.
+// A bucket of 40 pairs moves from an array of two buckets to one of 128. For that it counts, in a
+// list, the pairs that move to each target.
 const FORTY_IN_ONE: &[Step] = &[
     Raises(1),
     Puts(128, 168),
@@ -119,7 +120,7 @@ const FIVE_BEFORE_THREE: &[Step] = &[
 const OF_160: u64 = 160 << 56 | 160;
 
 pub(crate) const CASES: [Case; 21] = [
-    // The script asks for its replies alone.
+    // The script allocates only its replies.
     Case {
         hasher: ScriptHash::Id,
         start: &[Puts(0, 3)],
@@ -151,8 +152,8 @@ pub(crate) const CASES: [Case; 21] = [
         steps: &[Put(32), Sees((64, None))],
         refused: Outcome::AsBefore,
     },
-    // The last put takes the last own slot of the first bucket. All its requests are those of the
-    // doubling that it starts, which is left out where one is refused.
+    // The last put takes the last own slot of the first bucket. All its allocations are those of
+    // the doubling that it starts, which is left out if one fails.
     Case {
         hasher: ScriptHash::Spread,
         start: &[Puts(0, 31), Puts(128, 159), Sees((64, None))],
@@ -169,7 +170,7 @@ pub(crate) const CASES: [Case; 21] = [
         steps: &[Resizes(true), Sees((256, Some(0))), Resizes(false)],
         refused: Outcome::AsBefore,
     },
-    // The first read asks for its unit's list alone. Where that is refused the unit is given up, and
+    // The first read allocates only its unit's list. If that fails, the unit isn't finished, and
     // then the bucket itself moves.
     Case {
         hasher: ScriptHash::Spread,
@@ -195,8 +196,8 @@ pub(crate) const CASES: [Case; 21] = [
         steps: &[Relocates(1, 40), Sees((4096, Some(0)))],
         refused: Outcome::AsBefore,
     },
-    // The first read asks for the blocks of the eight pairs in bucket 10 alone. Where one is refused
-    // they stay, and the look-up asks both buckets.
+    // The first read allocates only the blocks of the eight pairs in bucket 10. If that fails, the
+    // pairs stay, and the look-up searches both buckets.
     Case {
         hasher: ScriptHash::Spread,
         start: THREE_TO_ONE,

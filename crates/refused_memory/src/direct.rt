@@ -1,5 +1,5 @@
-//! Calls on tables, each on a table of its own, for runs in which a request for memory
-//! is refused. A refused call leaves what it promises, and comes through when it is made again.
+//! Calls on tables, each on a table of its own, for runs in which an allocation fails. A call that
+//! failed leaves what it promises, and succeeds when it is repeated.
 use crate::by_call::*;
 use crate::cases::Step::*;
 use crate::cases::{CASES, Case, Seen, Step};
@@ -8,7 +8,7 @@ use bucket_table::hash_table::{HashTable, MAXIMUM_CAPACITY_LIMIT};
 use few_keys::{FewKeys, KEYS};
 use std::alloc::Global;
 
-/// Plays the cases, each where the one before was done.
+/// Plays the cases, each if the one before was done.
 pub(crate) fn direct_calls(alloc: Global) -> Outcome {
     for case in &CASES {
         match perform(alloc, case) {
@@ -19,7 +19,7 @@ pub(crate) fn direct_calls(alloc: Global) -> Outcome {
     Outcome::Done
 }
 
-/// Plays a case, and judges it: what a refusal in its steps makes of it is the case's own.
+/// Plays a case, and judges it by what the case says of an allocation failure in its steps.
 fn perform(alloc: Global, case: &Case) -> Outcome {
     let mut table: Map = HashTable::new(alloc, case.hasher, 0, MAXIMUM_CAPACITY_LIMIT);
     let mut beside = FewKeys::new();
@@ -68,7 +68,8 @@ fn play(alloc: Global, table: &mut Map, beside: &mut FewKeys, step: &Step) -> Ou
     outcome
 }
 
-/// Takes a step, and once more where it was refused and left the slots, the word and the pairs.
+/// Takes a step, and repeats it if an allocation failed and it left the slots, the word and the
+/// pairs.
 fn attempt(alloc: Global, table: &mut Map, beside: &mut FewKeys, step: &Step) -> Outcome {
     let before = seen_of(table);
     match take(alloc, table, beside, step) {
@@ -136,7 +137,7 @@ fn look(table: &Map, step: &Step) -> Answer {
     }
 }
 
-/// Right on the course of a granted request, or else the answer on that of a refused one.
+/// Right if no allocation failed, else the outcome given for a failure.
 fn right_or(granted: bool, refused: bool, answer: Answer) -> Answer {
     if granted {
         Answer::Right
@@ -147,7 +148,7 @@ fn right_or(granted: bool, refused: bool, answer: Answer) -> Answer {
     }
 }
 
-/// Whether an old bucket has given its pairs up, or the old array is gone.
+/// Whether the pairs of an old bucket have moved, or the old array is gone.
 fn is_moved(table: &Map, index: usize) -> bool {
     match old_bucket(table, index) {
         Some((killed, pairs)) => killed && pairs == 0,

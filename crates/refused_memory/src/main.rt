@@ -1,8 +1,9 @@
-//! Calls on tables, on buckets and on new arrays, for runs in which a request for memory is refused.
+//! Calls on tables, on buckets and on new arrays, for runs in which an allocation fails.
 //!
-//! The program judges its own outcome, and prints it in one line. A right outcome with a request
-//! refused has a status of its own, so that of two runs with status 0 both printed `done`, unless
-//! one of them was wrong: a trial that refuses one request after another reports such a run.
+//! The program judges its own outcome, and prints it in one line. A right outcome with an
+//! allocation failure has its own status, so that of two runs with status 0 both printed `done`,
+//! unless one of them was wrong: a trial that lets one allocation after another fail reports such a
+//! run.
 #![tactic(auto)]
 
 mod arrays;
@@ -27,7 +28,7 @@ fn main(rt: HostRuntime) -> ExitCode {
     }
 }
 
-/// Does the parts one after another, each where the one before was done.
+/// Runs the parts one after another, each if the one before was done.
 fn all_parts(alloc: Global) -> Outcome {
     match two_buckets(alloc) {
         Outcome::Done => {}

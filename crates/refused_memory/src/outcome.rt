@@ -1,23 +1,23 @@
-//! What came of a part of the trial.
+//! The outcome of a part of the trial.
 
-/// What came of a part of the trial.
+/// The outcome of a part of the trial.
 #[derive(Drop)]
 pub(crate) enum Outcome {
     /// Every reply and every pair is the expected one.
     Done,
-    /// A call was refused, and all pairs are as they were.
+    /// A call failed to allocate, and all pairs are as they were.
     AsBefore,
-    /// A resize was left out, since one of its requests was refused. All else is as ever.
+    /// A resize was left out, since one of its allocations failed. All else is as usual.
     Unresized,
-    /// A request was refused to a look-up: a unit was given up, or an old bucket stayed, and the
-    /// pair was found all the same.
+    /// An allocation of a look-up failed: a unit wasn't finished, or an old bucket stayed, and the
+    /// pair was found nevertheless.
     Unmoved,
-    /// A reply or a pair isn't the expected one.
+    /// A reply or a pair isn't as expected.
     Wrong,
 }
 
 impl Outcome {
-    /// One line that says it.
+    /// A line that says so.
     pub(crate) fn text(&self) -> &'static str {
         match self {
             Outcome::Done => "done",
@@ -28,7 +28,7 @@ impl Outcome {
         }
     }
 
-    /// A status of its own for each right outcome. A wrong one has that of `Done`.
+    /// The exit status: each right outcome has its own, and a wrong one has that of `Done`.
     pub(crate) fn status(&self) -> u8 {
         match self {
             Outcome::Done | Outcome::Wrong => 0,

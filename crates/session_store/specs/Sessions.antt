@@ -1,5 +1,6 @@
 -- Sessions under tokens, as a function from a token to the session that it has.
-use Rattle.std.specs.Prelude.{ℕ, ◌≡◌, ◌+◌, ◌-◌, ◌^◌, Bool, cond, count_by, min, nat_eq, nat_le, Option, Some, None, IfSome, IsSome, MatchOption}
+use Rattle.std.specs.Prelude.{ℕ, ◌≡◌, ◌+◌, ◌-◌, ◌^◌, Bool, cond, count_by, min, nat_eq, nat_le, Option, Some, None, IfSome, IsSome}
+use Rattle.std.specs.Prelude.{MatchOption}
 use Rattle.collections.specs.Maps.{get, map_len, map_of}
 use Rattle.session_store.specs.declared.store.NotLoggedIn.{NotLoggedIn}
 use Rattle.session_store.specs.declared.store.NotLoggedIn.TheVariants.{NoMemory, Taken}
@@ -55,12 +56,12 @@ pub record LogsIn (token : ℕ) (session : Session) (evicted : Option (ℕ × Se
   pub was : IfSome evicted (λ pair. session_at old pair.0 ≡ Some pair.1)
   pub left : Becomes (sessions_with token (Some session) (sessions_without evicted (session_at old))) old new
 
--- a session isn't made where the token has one; or where allocation fails, and then it has none
+-- a session isn't made if the token has one; or if allocation fails, and then it has none
 abbrev pub IsForCause : Option Session → NotLoggedIn → Type 0
 IsForCause had Taken = IsSome had
 IsForCause had NoMemory = had ≡ None
 
--- a session that hasn't expired has a new deadline, which is the answer; where there is none all stays
+-- a session that hasn't expired has a new deadline, and is returned; if there is none, nothing changes
 abbrev pub Renews : ℕ → ℕ → Option ℕ → Store → Store → Type 0
 Renews token now answer old new = MatchOption (alive_at old now token)
     ((answer ≡ None) × Becomes (session_at old) old new)

@@ -1,7 +1,7 @@
 //! The lines of the input.
 use std::str::SplitWhitespace;
 
-/// What a line asks for. Tokens and times are numbers.
+/// A command. Tokens and times are numbers.
 #[derive(Clone, Copy)]
 pub enum Command<'a> {
     Login(u64, &'a str, u64),
@@ -12,7 +12,7 @@ pub enum Command<'a> {
     Count,
 }
 
-/// Returns what a line asks for, or `None` where it is no command.
+/// Returns the command of a line; `None` if it has none.
 pub fn command_in(line: &[u8]) -> Option<Command<'_>> {
     let mut words = str::from_utf8(line).ok()?.split_whitespace();
     let command = match words.next()? {

@@ -1,4 +1,4 @@
-//! Keeps the sessions of users, by lines of input: a line of output answers each.
+//! Keeps the sessions of users. Each line of input is a command, answered by a line of output.
 //!
 //! SPDX-License-Identifier: Apache-2.0
 #![tactic(auto)]
@@ -28,7 +28,7 @@ fn main(rt: HostRuntime) -> io::Result<()> {
         match input.read_until(b'\n', &mut line) {
             Ok(0) => break,
             Ok(_) => answer(&rt, &mut store, line.as_slice())?,
-            // No memory for the line: the rest of it is passed over.
+            // Allocation failed for the line: the rest of it is skipped.
             Err(error) if error.kind() == ErrorKind::OutOfMemory => {
                 input.skip_until(b'\n')?;
                 println!(rt; "no memory")?;
@@ -39,7 +39,7 @@ fn main(rt: HostRuntime) -> io::Result<()> {
     Ok(())
 }
 
-// Does what a line asks for, and prints the answer. It takes memory for a login alone.
+// Executes a command, and prints the answer. Only a login allocates.
 fn answer(rt: &HostRuntime, store: &mut Store, line: &[u8]) -> io::Result<()> {
     match command_in(line) {
         Some(Command::Login(token, user, now)) => login(rt, store, token, user, now),

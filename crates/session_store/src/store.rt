@@ -1,12 +1,14 @@
 //! Sessions under tokens, in a cache of bounded size. A session expires at its deadline, which each
-//! use puts off.
+//! use extends.
 //!
 //! A clause sees a store as the function from a token to its session, `session_at`; `alive_at` is
-//! the same without the sessions that have expired. Times are numbers that the caller brings.
+//! the same without the sessions that have expired. Times are numbers that the caller passes.
 ghost use Rattle.std.specs.Prelude.{◌≡◌, ℕ, nat_eq, not, None, IfErr, IfOk, OnErr};
 ghost use Rattle.std.specs.Option.{option_copied};
 ghost use Rattle.collections.specs.Maps.{IsUnique, map_of};
-ghost use Rattle.session_store.specs.Sessions.{alive_at, Becomes, deadline_at, expired_len, has_expired, IsForCause, len_of, LogsIn, Renews, session_at, sessions_with};
+ghost use Rattle.session_store.specs.Sessions.{alive_at, Becomes, deadline_at, expired_len};
+ghost use Rattle.session_store.specs.Sessions.{has_expired, IsForCause, len_of, LogsIn, Renews};
+ghost use Rattle.session_store.specs.Sessions.{session_at, sessions_with};
 
 use collections::DefaultHash;
 use collections::hash_cache::{HashCache, NotInserted};
@@ -46,8 +48,8 @@ pub struct Store {
 }
 
 impl Store {
-    /// Returns an empty store of `slots` slots, 64 or the next power of two, whose sessions last for
-    /// `lifetime` after each use. Takes no memory.
+    /// Returns an empty store of `slots` slots, 64 or the next power of two, whose sessions last
+    /// for `lifetime` after each use. Takes no memory.
     pub fn new(alloc: Global, slots: usize, lifetime: u64) -> Self
         ensures empty { (token : ℕ) → session_at result token ≡ None }
         ensures lifetime { result.lifetime ≡ lifetime }
@@ -65,8 +67,8 @@ impl Store {
         self.sessions.len()
     }
 
-    /// Makes a session, and returns the one that was evicted for it, where one was, with its token.
-    /// On an error no session changes. O(1) expected, beside a resize.
+    /// Makes a session, and returns the one that was evicted for it, if any, with its token. On an
+    /// error no session changes. O(1) expected, plus any resize.
     pub fn login(
         &mut self,
         token: u64,
@@ -97,8 +99,8 @@ impl Store {
         Some(session)
     }
 
-    /// Puts off the deadline of a session that hasn't expired, and returns it. The session is then
-    /// the last of its bucket to be evicted. O(1) expected.
+    /// Extends the deadline of a session that hasn't expired, and returns the new one. The session
+    /// is then the last of its bucket to be evicted. O(1) expected.
     pub fn touch(&mut self, token: u64, now: u64) -> Option<u64>
         ensures { Renews token now result self.old self.new }
     {
@@ -111,8 +113,8 @@ impl Store {
         Some(deadline)
     }
 
-    /// Takes out the session of a token, and returns it, also if it has expired. O(1) expected,
-    /// beside a resize.
+    /// Removes the session of a token, and returns it, also if it has expired. O(1) expected, plus
+    /// any resize.
     pub fn logout(&mut self, token: u64) -> Option<Session>
         ensures session { result ≡ session_at self.old token }
         ensures gone { Becomes (sessions_with token None (session_at self.old)) self.old self.new }

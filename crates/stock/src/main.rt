@@ -1,4 +1,4 @@
-//! Keeps how many of each item are in stock, by lines of input.
+//! Keeps how many of each item are in stock. Each line of input is a command.
 //!
 //! SPDX-License-Identifier: Apache-2.0
 #![tactic(auto)]

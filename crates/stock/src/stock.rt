@@ -1,4 +1,4 @@
-//! What is in stock, and what was asked for last.
+//! What is in stock, and what was shown last.
 use callers::ledger::{self, NotMoved};
 use collections::hash_cache::HashCache;
 use collections::hash_map::HashMap;
@@ -13,7 +13,7 @@ pub struct Stock {
 }
 
 impl Stock {
-    /// Returns a stock of nothing.
+    /// Returns an empty stock.
     pub fn new(alloc: Global) -> Self {
         Stock {
             counts: HashMap::new(alloc),
@@ -66,7 +66,7 @@ impl Stock {
         }
     }
 
-    /// Shows an item, which is the one shown last then.
+    /// Shows an item, and makes it the one shown last.
     fn show(&mut self, alloc: Global, item: &str) -> Result<String, AllocError> {
         let Some(count) = self.counts.get(item) else {
             return format!(in alloc; "no {item}");

@@ -10,7 +10,7 @@ multiplied number = number * 11400714819323198485 % 2 ^ 64
 unfoldable pub mixed : ℕ → ℕ
 mixed key = multiplied ((multiplied key + multiplied key / 2 ^ 32) % 2 ^ 64)
 
--- a byte comes in at the upper end, and the lowest one goes
+-- a byte is added at the upper end, and the lowest one is dropped
 abbrev pub shifted_in : ℕ → ℕ → ℕ
 shifted_in number byte = number / 2 ^ 8 + byte * 2 ^ 56
 

@@ -1,4 +1,4 @@
-//! A map of the collections, which stands on the table.
+//! A map of the crate `collections`, which is built on the table.
 use crate::hashes::TableHash;
 use crate::measured::Measured;
 use collections::hash_map::HashMap;

@@ -85,8 +85,8 @@ pub(crate) fn run_large<M: Measured>(
     print_time(rt, wants_times, "large", start, pairs)
 }
 
-/// Prints how long insertions took on the way to so many pairs: the longest, the one that all but
-/// one in 10,000 don't pass, and those of some ranks, from the slowest.
+/// Prints how long single insertions took in a map that grows to so many pairs: the longest, the
+/// 99.99th percentile, and those of some ranks, from the slowest.
 pub(crate) fn run_single<M: Measured>(
     rt: &HostRuntime,
     wants_times: bool,
@@ -119,7 +119,7 @@ pub(crate) fn run_single<M: Measured>(
     Ok(())
 }
 
-/// The time of a rank, 1 for the slowest, among times in rising order; 0 where there is none.
+/// The time of a rank, 1 for the slowest, among times in rising order; 0 if there is none.
 fn slowest(times: &[u128], rank: usize) -> u128 {
     match times.len().checked_sub(rank) {
         Some(place) => times.get(place).copied().unwrap_or(0),
@@ -127,7 +127,7 @@ fn slowest(times: &[u128], rank: usize) -> u128 {
     }
 }
 
-/// The error of a run that did something else than was timed.
+/// The error of a run whose calls didn't do what was to be timed.
 pub(crate) fn require(holds: bool) -> io::Result<()> {
     if holds {
         Ok(())
@@ -136,7 +136,7 @@ pub(crate) fn require(holds: bool) -> io::Result<()> {
     }
 }
 
-/// Inserts the keys between two numbers, and returns how many came.
+/// Inserts the keys between two numbers, and returns how many were inserted.
 #[inline(never)]
 fn insert_all<M: Measured>(map: &mut M, from: u64, to: u64) -> u64 {
     let mut inserted: u64 = 0;
@@ -148,7 +148,7 @@ fn insert_all<M: Measured>(map: &mut M, from: u64, to: u64) -> u64 {
     inserted
 }
 
-/// Looks the keys between two numbers up, and returns how many are there.
+/// Looks the keys between two numbers up, and returns how many are present.
 #[inline(never)]
 fn find_all<M: Measured>(map: &M, from: u64, to: u64) -> u64 {
     let mut found: u64 = 0;
@@ -160,7 +160,7 @@ fn find_all<M: Measured>(map: &M, from: u64, to: u64) -> u64 {
     found
 }
 
-/// Looks the keys between two numbers up, and returns how many aren't there.
+/// Looks the keys between two numbers up, and returns how many are absent.
 #[inline(never)]
 fn miss_all<M: Measured>(map: &M, from: u64, to: u64) -> u64 {
     let mut missed: u64 = 0;
@@ -172,7 +172,8 @@ fn miss_all<M: Measured>(map: &M, from: u64, to: u64) -> u64 {
     missed
 }
 
-/// Takes the keys below `pairs` out, and inserts one for each. Returns how many went and came.
+/// Removes the keys below `pairs`, and inserts one for each. Returns how many were removed and
+/// inserted.
 #[inline(never)]
 fn churn_all<M: Measured>(map: &mut M, pairs: u64) -> u64 {
     let mut changed: u64 = 0;
@@ -184,7 +185,7 @@ fn churn_all<M: Measured>(map: &mut M, pairs: u64) -> u64 {
     changed
 }
 
-/// Takes the keys between two numbers out, and returns how many were there.
+/// Removes the keys between two numbers, and returns how many were present.
 #[inline(never)]
 fn remove_all<M: Measured>(map: &mut M, from: u64, to: u64) -> u64 {
     let mut removed: u64 = 0;

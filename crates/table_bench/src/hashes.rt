@@ -1,4 +1,5 @@
-//! One hash for all maps: it multiplies twice, so that keys come in no order of buckets.
+//! One hash for all maps: it multiplies twice, so that consecutive keys are spread over the
+//! buckets.
 ghost use Rattle.std.specs.Prelude.{◌≡◌, fold};
 ghost use Rattle.table_bench.specs.Mixed as spec;
 ghost use Rattle.table_bench.specs.Mixed.{mixed_alike, mixed_fits, shifted_in};

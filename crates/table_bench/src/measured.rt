@@ -13,19 +13,19 @@ pub(crate) trait Measured: Drop {
     where
         Self: Sized;
 
-    /// Inserts a key that the map hasn't, and returns whether it came.
+    /// Inserts a key that the map hasn't, and returns whether it was inserted.
     fn put(&mut self, key: u64) -> bool;
 
     /// Returns whether the map has a key.
     fn has(&self, key: u64) -> bool;
 
-    /// Takes a key out, and returns whether the map had it.
+    /// Removes a key, and returns whether the map had it.
     fn take(&mut self, key: u64) -> bool;
 
     /// Returns the sum of all values, wrapping.
     fn sum(&mut self) -> u64;
 
-    /// Takes each odd key out, and returns how many went.
+    /// Removes each odd key, and returns how many were removed.
     fn drop_odd(&mut self) -> u64;
 }
 

@@ -8,17 +8,16 @@ use Rattle.std.specs.List.Sorted.{IsStrictlySortedBy}
 use Rattle.std.specs.Ordering.{nat_cmp, ordering_then}
 use Rattle.std.specs.declared.cmp.Ordering.{Ordering}
 
--- a line and how often it is there
+-- a line and its count
 pub record Row : Type 0 where
   pub count : ℕ
   pub line : List ℕ
 
--- by falling count, and then in the order of the bytes
+-- in falling order of the counts, and then in the order of the bytes
 abbrev pub row_cmp : Row → Row → Ordering
 row_cmp row other = ordering_then (nat_cmp other.count row.count) (slice_cmp nat_cmp row.line other.line)
 
--- each row has a line that is there and how often it is, each line has a row, and each row is before those behind it, so that no
--- line has two
+-- each row has a line of the text and its count, each line has a row, and the rows are in strict order, so that no line has two
 pub record IsReport (lines : List (List ℕ)) (rows : List Row) : Type 0 where
   pub counts : All (λ row. (0 < row.count) × (row.count ≡ count_by (pointwise nat_eq row.line) lines)) rows
   pub complete : All (Contains (map (λ row. row.line) rows)) lines

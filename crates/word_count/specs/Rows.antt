@@ -15,7 +15,7 @@ row_of counted = record { count = counted.count.0; line = bytes_of counted.line 
 abbrev pub row_of_pair : Line × ℕ → Row
 row_of_pair pair = record { count = pair.1; line = bytes_of pair.0 }
 
--- where no row was refused, these are in behind the others
+-- if allocation didn't fail, these rows follow the others
 abbrev pub HasTaken : Rows → List Row → Rows → Type 0
 HasTaken before rows after =
     after.is_refused ≡ false → (before.is_refused ≡ false) × (map row_of after.taken.items ≡ map row_of before.taken.items ++ rows)

@@ -11,7 +11,7 @@ pub enum Failure {
     InputFailed,
     /// The output can't be written.
     OutputFailed,
-    /// Memory was refused.
+    /// Allocation failed.
     NoMemory,
 }
 

@@ -45,7 +45,7 @@ pub(crate) fn lines_of(alloc: Global, text: &[u8]) -> Result<Vec<Line<'_>>, Allo
     Ok(lines)
 }
 
-// How many bytes stand before the first newline.
+// The number of bytes before the first newline.
 fn line_len(bytes: &[u8]) -> usize
     ensures line { result ≡ position_or_len (λ byte. byte == 10) bytes.now }
     ensures bound { result ≤ length bytes.now }
@@ -59,7 +59,7 @@ fn newline_in(bytes: &[u8]) -> Option<usize>
     bytes.iter().position(|byte| *byte == b'\n')
 }
 
-// What stands behind a line of this length, and its newline.
+// What follows a line of this length and its newline.
 fn behind_line(bytes: &[u8], len: usize) -> &[u8]
     ensures { result.now ≡ drop (len + 1) bytes.now }
 {

@@ -1,5 +1,5 @@
-//! Counts the lines of its input: prints each line that is there once, behind its count, by falling
-//! count and then in the order of the bytes.
+//! Counts the lines of its input: prints each distinct line once, after its count, in falling order
+//! of the counts and then in the order of the bytes.
 //!
 //! SPDX-License-Identifier: Apache-2.0
 #![tactic(auto)]
@@ -26,8 +26,8 @@ use std::process::ExitCode;
 ///
 /// # Errors
 ///
-/// `InputFailed` and `NoMemory`: nothing is printed. `OutputFailed`: the output may have a
-/// beginning of the report.
+/// `InputFailed` and `NoMemory`: nothing is printed. `OutputFailed`: the output may have a prefix
+/// of the report.
 pub fn print_counts<R: Read + Drop, W: Write>(
     alloc: Global,
     mut input: R,

@@ -16,20 +16,21 @@ use std::cmp::Reverse;
 use std::hash::{BuildHasherDefault, FoldHasher};
 use std::io::{self, Write};
 
-/// How many bytes wait for the output: as many as in std's `BufWriter`.
+/// How many bytes may wait for the output: as many as in std's `BufWriter`.
 const WAITING_LEN: usize = 8192;
 
-/// The 20 digits that a count has at most, and the blank behind them.
+/// At most 20 digits of a count, and the blank after them.
 const COUNT_LEN: usize = 21;
 
-/// A line and how often it is there. The order is that of the report.
+/// A line and its count. The order is that of the report.
 #[derive(Clone, Copy, PartialEq, Eq, PartialOrd, Ord)]
 pub(crate) struct Counted<'a> {
     count: Reverse<u64>,
     line: Line<'a>,
 }
 
-/// Returns each line once with its count, by falling count and then in the order of the bytes.
+/// Returns each line once with its count, in falling order of the counts and then in the order of
+/// the bytes.
 ///
 /// # Errors
 ///
@@ -40,7 +41,7 @@ pub(crate) fn report_of<'a>(
 ) -> Result<Vec<Counted<'a>>, AllocError>
     ensures { IfOk result (λ report. IsReport (map bytes_of lines.now) (map row_of report.items)) }
 {
-    // Its seed is fixed: lines that are made to collide are counted rightly, and slowly.
+    // The seed is fixed: lines chosen to collide are counted correctly, but slowly.
     let hasher = StdHash::new(BuildHasherDefault::<FoldHasher>::new());
     let mut counts = HashMap::with_hasher(alloc, hasher);
     count_keys(&mut counts, lines)?;
@@ -57,7 +58,7 @@ pub(crate) fn report_of<'a>(
     Ok(report)
 }
 
-/// The rows so far, and whether memory was refused for one.
+/// The rows so far, and whether allocation failed for one.
 #[derive(Drop)]
 struct Rows<'a> {
     taken: Vec<Counted<'a>>,
@@ -90,7 +91,7 @@ impl<'a> Rows<'a> {
 ///
 /// # Errors
 ///
-/// `NoMemory`: nothing is printed. `OutputFailed`: the output may have a beginning of the report.
+/// `NoMemory`: nothing is printed. `OutputFailed`: the output may have a prefix of the report.
 pub(crate) fn write_report<W: Write>(
     alloc: Global,
     report: &[Counted<'_>],

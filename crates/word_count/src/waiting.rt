@@ -1,12 +1,13 @@
 //! Text that waits for an output, so that it is written in large pieces.
 //!
-//! Stands in the place of std's `BufWriter`, whose clauses lose a writer that is lent to it.
+//! Used instead of std's `BufWriter`, whose contract says nothing of a writer that it borrows.
 ghost use Rattle.std.specs.Prelude.{◌≡◌, [], OnOk};
 ghost use Rattle.word_count.specs.Waiting.{HasPut};
 
 use std::io::{self, Write};
 
-/// Puts bytes behind those that wait, which are written first where there is no room.
+/// Appends bytes to those that wait. If there is no room for them, those that wait are written
+/// first.
 pub(crate) fn put<W: Write>(bytes: &[u8], waiting: &mut Vec<u8>, output: &mut W) -> io::Result<()>
     ensures { OnOk result (HasPut (W.contents output.old) waiting.old.items
         (W.contents output.new) waiting.new.items bytes.now) }

@@ -1,4 +1,4 @@
--- How a line is read: its verb tells of which form it is, and then come the parts behind the verb.
+-- How a line is read: its verb says which form it has, and the parts after the verb follow.
 use Rattle.std.specs.Prelude.{ℕ, ◌≡◌, List, ◌++◌, codes}
 use Rattle.bhtable_lines.specs.Requests.{Asks, IsInRange, call_line, question_word, request_line}
 use Rattle.line_io.specs.Words.{Part}
@@ -13,7 +13,7 @@ form_word Epoch = codes "epoch"
 form_word (Questions question) = question_word question
 form_word (Calls model) = (call_line model).0
 
--- the parts begin with what stands behind the verb of a request, and `rest` comes then
+-- the parts begin with what follows the verb of a request, and then `rest` follows
 abbrev pub Begins : List Part → Request → List Part → Type 0
 Begins parts request rest = (parts ≡ (request_line request).1 ++ rest) × IsInRange request
 

@@ -23,7 +23,7 @@ use Rattle.line_io.specs.declared.stop.Stop.TheVariants.{BadLine, NoMemory, Inpu
 abbrev pub ScriptRun : ScriptTable → List (Call ℕ ℕ) → List (Reply ℕ ℕ) → ScriptTable → Type 0
 ScriptRun = Run ScriptStep
 
--- what a script is answered from
+-- what the answers of a script depend on
 abbrev pub seen : ℕ → TableView ℕ ℕ ScriptHash → ScriptTable
 seen kind table =
     record { map = state_of kind table; tickets = rehash_of table.arrays; len = length table.arrays.current }
@@ -33,7 +33,7 @@ table_of (Map table) = seen MAP table
 table_of (Index table) = seen INDEX table
 table_of (Cache table) = seen CACHE table
 
--- the table at hand, where there is one
+-- the current table, if there is one
 abbrev pub table_at_hand : Option Table → Option ScriptTable
 table_at_hand None = None
 table_at_hand (Some table) = Some (table_of table)

@@ -7,29 +7,29 @@ use Rattle.line_io.specs.OutputLines.{line_of}
 use Rattle.line_io.specs.declared.stop.Stop.{Stop}
 use Rattle.line_io.specs.declared.stop.Stop.TheVariants.{BadLine, NoMemory, InputFailed, OutputFailed}
 
--- the bytes are those that a reader has left, where they are known
+-- the bytes are those that a reader has left, if they are known
 abbrev pub IsInput : Option (List ℕ) → List ℕ → Type 0
 IsInput known bytes = IfSome known (λ all. all ≡ bytes)
 
--- there is no memory, or the output can't be written
+-- allocation failed, or the output can't be written
 abbrev pub IsLack : Stop → Type 0
 IsLack (BadLine number) = ⊥
 IsLack NoMemory = Unit {0}
 IsLack InputFailed = ⊥
 IsLack OutputFailed = Unit {0}
 
--- the output up to a stop, before a last line that tells of it; a writer that failed has a beginning
+-- the output up to a stop, before a last line that tells of it; a writer that failed has a prefix
 abbrev pub IsOutputUpTo : Stop → List (List ℕ) → Option (List ℕ) → Option (List ℕ) → Type 0
 IsOutputUpTo (BadLine number) lines old new = HasBadLine lines old new
 IsOutputUpTo NoMemory lines old new = HasAnsweredSome lines old new []
 IsOutputUpTo InputFailed lines old new = HasAnsweredSome lines old new []
 IsOutputUpTo OutputFailed lines old new = HasBegun lines old new
 
--- the line was written, with the status that it tells of, or a beginning of it, with status 4
+-- the line was written, with its status, or a prefix of it, with status 4
 abbrev pub HasLast : List ℕ → ℕ → ℕ → Option (List ℕ) → Option (List ℕ) → Type 0
 HasLast line told status old new = ((status ≡ told) × Appends old new line) ⊎ ((status ≡ 4) × IsCutOff old new line)
 
--- the status after a stop, and its last line; a bad line is told of already, and a writer that failed is written to no more
+-- the status after a stop, and its last line; a bad line was reported already, and nothing is written to a writer that failed
 abbrev pub IsReported : Stop → ℕ → Option (List ℕ) → Option (List ℕ) → Type 0
 IsReported (BadLine number) status old new = (status ≡ 2) × (new ≡ old)
 IsReported NoMemory status old new = HasLast (line_of (codes "no memory")) 3 status old new

@@ -1,5 +1,6 @@
-//! Calls by chance on a map of numbers, beside a map of the standard library. Pairs come and go
-//! like tides, so that the map gets longer arrays and shorter ones again.
+//! Random calls on a map of numbers, compared with a map of the standard library. Times with many
+//! insertions and times with many removals alternate, so that the map gets longer arrays and
+//! shorter ones again.
 use super::check_same;
 use super::maps::Map;
 use bucket_table::script::ScriptHash;
@@ -18,7 +19,7 @@ const CALLS: [(ScriptHash, u64); 3] = [
 
 const KEYS: u64 = 300;
 
-// For how many calls pairs come, and for how many they go.
+// How many calls mostly insert pairs, and how many then mostly remove them.
 const TIDE: u64 = 2500;
 
 // After how many calls the maps are compared as a whole.
@@ -57,7 +58,8 @@ impl Course {
         (self.step() % KEYS).wrapping_mul(SPREADING)
     }
 
-    // A call by a key: while pairs come few are removed, and while they go none is put.
+    // A call by a key. In times of insertions few pairs are removed, in times of removals none is
+    // inserted.
     fn call(&mut self, rt: &impl Abort, comes: bool) {
         let (key, value) = (self.key(), self.step());
         match (self.step() % 16, comes) {
@@ -72,7 +74,7 @@ impl Course {
         }
     }
 
-    // A pair comes to the map of the standard library.
+    // A pair is inserted into the map of the standard library.
     fn put(&mut self, rt: &impl Abort, key: u64, value: u64) {
         check_same(rt, self.std.insert(key, value).is_ok(), true, ("put", key));
     }

@@ -1,5 +1,5 @@
-//! Stories of a cache whose values are changed: which of the calls touch a pair, and which pair
-//! goes then.
+//! Stories of a cache whose values are changed: which of the calls touch a pair, and which pair is
+//! evicted then.
 use super::caches::Made::*;
 use super::caches::Step::*;
 use super::caches::Story;
@@ -61,7 +61,7 @@ pub(super) const STORIES: &[Story] = steps! {
             AddsAll(0, 32), Makes(0, 0, None), Makes(32, 1032, Some((1, 1))), Makes(32, 1032, None),
             Makes(2, 2, None), Makes(33, 1033, Some((3, 3))), Holds(0, Some(0)), Holds(2, Some(2)),
             Holds(33, Some(1033)), Len(32) } },
-    // The keys that are left go in the order of their touches, once their bucket is full again.
+    // The keys that are left are evicted in LRU order, once their bucket is full again.
     Story { name: "what is kept keeps its place in the order", hasher: ScriptHash::Zero,
         made: Within(0, 256), steps: steps! {
             Retains, Len(0), AddsAll(0, 32), Writes(0, 50, Some(0)), Retains, Len(16),

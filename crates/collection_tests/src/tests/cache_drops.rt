@@ -11,22 +11,22 @@ type Cache = HashCache<u64, Rc<u64>, ScriptHash>;
 
 /// A call on a cache, all of whose values are clones of one, or what is seen of it.
 enum Step {
-    /// A clone comes under each key below a number. There is a pair and a clone more then, up to 32
-    /// of each.
+    /// A clone is inserted under each key below a number. Each adds a pair and a clone, up to 32 of
+    /// each.
     Fills(u64),
-    /// A clone comes under a key: whether it is in.
+    /// A clone is inserted under a key: whether it succeeded.
     Comes(u64, bool),
-    /// A key goes.
+    /// A key is removed.
     Removes(u64),
     /// The keys below 16 stay.
     Retains,
-    /// All pairs go.
+    /// All pairs are removed.
     Clears,
     /// How many pairs there are, and how many clones.
     Sees(usize),
 }
 
-/// A name, whether what comes is upserted or else put, and what happens on a new cache.
+/// A name, whether clones are inserted by `upsert` or by `put`, and what happens on a new cache.
 type Story = (&'static str, bool, &'static [Step]);
 
 // All keys have one bucket, of 32 own slots.
@@ -51,7 +51,7 @@ fn each_value_of_a_cache_is_dropped_once(rt: HostRuntime) -> Result<(), Fail> {
     Ok(())
 }
 
-// Takes a step, and compares what comes of it.
+// Takes a step, and compares its result.
 fn take(rt: &impl Abort, cache: &mut Cache, counted: &Rc<u64>, at: At, upserts: bool, step: &Step) {
     match *step {
         Fills(to) => fill(rt, cache, counted, upserts, to),
@@ -66,7 +66,7 @@ fn take(rt: &impl Abort, cache: &mut Cache, counted: &Rc<u64>, at: At, upserts: 
     }
 }
 
-// A clone comes under each key below a number: as many clones are there as pairs.
+// A clone is inserted under each key below a number: there are as many clones as pairs.
 fn fill(rt: &impl Abort, cache: &mut Cache, counted: &Rc<u64>, upserts: bool, to: u64) {
     for key in 0..to {
         let done = give(cache, counted, upserts, key);
@@ -80,7 +80,7 @@ fn is_below_16(key: &u64, _value: &mut Rc<u64>) -> bool {
     *key < 16
 }
 
-// A clone of a value comes under a key. Whether it is in.
+// A clone of a value is inserted under a key. Whether it succeeded.
 fn give(cache: &mut Cache, counted: &Rc<u64>, upserts: bool, key: u64) -> bool {
     match counted.clone() {
         Ok(value) => {

@@ -1,5 +1,5 @@
-//! Stories of a cache of numbers: which pair goes for another, which of the calls touch a pair, and
-//! what is seen of the cache then.
+//! Stories of a cache of numbers: which pair is evicted for another, which of the calls touch a
+//! pair, and what is seen of the cache then.
 use super::iterating::{Pairs, gone_over, same_pairs, walk_numbers, walk_pairs};
 use super::{At, cache_changes, check_same, lru_caches, steps, write};
 use Made::*;
@@ -13,44 +13,44 @@ use std::test::Fail;
 
 pub(super) type Cache = HashCache<u64, u64, ScriptHash>;
 
-/// A call on a cache with what it answers, or what is seen of the cache. Of two keys the second is
-/// the first that is not meant.
+/// A call on a cache with its result, or what is seen of the cache. Of two keys the second is the
+/// first that is not meant.
 pub(super) enum Step {
-    /// Keys are put, each as its own value, and none goes.
+    /// Keys are put, each as its own value, and none is evicted.
     Fills(u64, u64),
-    /// Keys are put, each as its own value, and for each goes a key with its own value: the third
-    /// number, and those after it in turn.
+    /// Keys are put, each as its own value, and for each a key with its own value is evicted: the
+    /// third number, and those after it in turn.
     Pushes(u64, u64, u64),
-    /// A pair is put, and this one goes.
+    /// A pair is put, and this one is evicted.
     Puts(u64, u64, Option<(u64, u64)>),
-    /// A pair comes back, since its key is there.
+    /// A pair is returned, since its key is present.
     Returns(u64, u64),
-    /// Keys are added by upserts, each as its own value, and none goes.
+    /// Keys are added by upserts, each as its own value, and none is evicted.
     AddsAll(u64, u64),
-    /// An upsert adds a pair, and this one goes.
+    /// An upsert adds a pair, and this one is evicted.
     Adds(u64, u64, Option<(u64, u64)>),
     /// An upsert writes a value, and this was the earlier one.
     Replaces(u64, u64, u64),
-    /// The value that `get_or_insert_with` reads: 1000 more than the key where it is made. This
-    /// pair goes then.
+    /// The value that `get_or_insert_with` reads: 1000 more than the key if it is made. This pair
+    /// is evicted then.
     Makes(u64, u64, Option<(u64, u64)>),
-    /// `update` writes a value where one is there, and the pair was this one.
+    /// `update` changes the value of a present key, and the pair was this one.
     Updates(u64, u64, Option<(u64, u64)>),
-    /// `get_mut` lends a value, and another is written: this was the earlier one.
+    /// Another value is written through `get_mut`: this was the earlier one.
     Writes(u64, u64, Option<u64>),
-    /// `peek_mut` lends a value, and another is written: this was the earlier one.
+    /// Another value is written through `peek_mut`: this was the earlier one.
     Pokes(u64, u64, Option<u64>),
     /// The value that `get` finds. The pair is touched.
     Gets(u64, Option<u64>),
     /// `get` finds each key with its own value, and touches it.
     Touches(u64, u64),
-    /// Of each pair 100 is added to the value, and it goes if its key is odd.
+    /// 100 is added to the value of each pair, and the pair is removed if its key is odd.
     Retains,
-    /// The pair that is taken out.
+    /// The pair that is removed.
     Removes(u64, Option<(u64, u64)>),
-    /// All pairs go.
+    /// All pairs are removed.
     Clears,
-    /// The cache is put into an array for so many slots.
+    /// The cache is resized to so many slots.
     Resizes(usize),
     /// The value that a key has. It isn't touched.
     Holds(u64, Option<u64>),
@@ -58,7 +58,7 @@ pub(super) enum Step {
     Len(usize),
     /// How many slots there are.
     Slots(usize),
-    /// The keys by use: of each bucket the one touched last comes first.
+    /// The keys in LRU order: of each bucket the one touched last is the first.
     ByUse(&'static [u64]),
 }
 
@@ -89,7 +89,8 @@ const STORIES: &[Story] = steps! {
             Holds(32, Some(320)), Puts(33, 330, Some((2, 2))), Gets(3, Some(3)),
             Puts(34, 340, Some((4, 4))),
             Holds(3, Some(3)), Slots(64), Len(32) } },
-    // The keys 3 to 31 go first, and then the touched ones, and then those that came for them.
+    // The keys 3 to 31 are evicted first, then the touched ones, and then those that were put for
+    // them.
     Story { name: "pairs go in the order of their touches", hasher: ScriptHash::Zero,
         made: Within(0, 256), steps: steps! {
             Fills(0, 32), Gets(2, Some(2)), Gets(0, Some(0)), Gets(1, Some(1)), Gets(0, Some(0)),
@@ -168,7 +169,7 @@ fn new_cache(alloc: Global, story: &Story) -> Cache {
     }
 }
 
-// Takes a step that puts pairs, and compares what comes of it.
+// Takes a step that puts pairs, and compares its result.
 fn take(rt: &impl Abort, cache: &mut Cache, at: At, step: &Step) {
     match *step {
         Fills(from, to) => check_same(rt, put_all(cache, from, to), true, at),
@@ -210,7 +211,7 @@ fn change(rt: &impl Abort, cache: &mut Cache, at: At, step: &Step) {
     }
 }
 
-// Takes a step that takes pairs out or looks.
+// Takes a step that removes pairs or looks.
 fn look(rt: &impl Abort, cache: &mut Cache, at: At, step: &Step) {
     match *step {
         Retains => cache.retain(&mut keep_even),
@@ -231,8 +232,8 @@ fn look(rt: &impl Abort, cache: &mut Cache, at: At, step: &Step) {
     }
 }
 
-// What a put or an upsert answers: the pair that goes; or the key that is there, beside the value
-// that comes back or the earlier one.
+// The result of a put or an upsert: the evicted pair; or the present key, with the value that is
+// returned or the earlier one.
 pub(super) type Outcome = Option<Result<Option<(u64, u64)>, (u64, u64)>>;
 
 pub(super) fn put(cache: &mut Cache, key: u64, value: u64) -> Outcome {
@@ -243,7 +244,7 @@ pub(super) fn put(cache: &mut Cache, key: u64, value: u64) -> Outcome {
     }
 }
 
-// Puts keys, each as its own value. Whether none goes.
+// Puts keys, each as its own value. Whether none is evicted.
 pub(super) fn put_all(cache: &mut Cache, from: u64, to: u64) -> bool {
     let mut are_in = true;
     for key in from..to {
@@ -252,8 +253,8 @@ pub(super) fn put_all(cache: &mut Cache, from: u64, to: u64) -> bool {
     are_in
 }
 
-// Puts keys, each as its own value. Whether for each goes a key with its own value, from a first
-// one on.
+// Puts keys, each as its own value. Whether for each a key with its own value is evicted, from a
+// first one on.
 fn push_all(cache: &mut Cache, from: u64, to: u64, first: u64) -> bool {
     let mut are_gone = true;
     for key in from..to {
@@ -272,7 +273,7 @@ fn upsert(cache: &mut Cache, key: u64, value: u64) -> Outcome {
     }
 }
 
-// Upserts keys, each as its own value. Whether each is added, and none goes.
+// Upserts keys, each as its own value. Whether each is added, and none is evicted.
 fn add_all(cache: &mut Cache, from: u64, to: u64) -> bool {
     let mut are_in = true;
     for key in from..to {
@@ -281,7 +282,7 @@ fn add_all(cache: &mut Cache, from: u64, to: u64) -> bool {
     are_in
 }
 
-// Makes a value where none is there. Returns the value that is read, and the pair that goes.
+// Makes a value if the key is absent. Returns the value that is read, and the evicted pair.
 fn make(cache: &mut Cache, key: u64) -> Option<(u64, Option<(u64, u64)>)> {
     cache
         .get_or_insert_with(key, || key.wrapping_add(1000), own)
@@ -301,7 +302,7 @@ fn touch(cache: &mut Cache, from: u64, to: u64) -> bool {
     are_found
 }
 
-// Writes a value where one is there, and returns the earlier pair.
+// Changes the value of a present key, and returns the earlier pair.
 fn update(cache: &mut Cache, key: u64, value: u64) -> Option<(u64, u64)> {
     cache.update(&key, |own, held| (*own, mem::replace(held, value)))
 }
@@ -312,7 +313,7 @@ fn keep_even(key: &u64, value: &mut u64) -> bool {
     *key % 2 == 0
 }
 
-// How many pairs each walk over a cache gives; the one by use gives them in another order.
+// How many pairs each iterator over a cache yields; `iter_by_use` yields them in another order.
 fn met(cache: &Cache) -> Option<usize> {
     let len = gone_over!(cache, peek)?;
     let by_use = walk_pairs(cache.iter_by_use());
@@ -332,7 +333,7 @@ fn met(cache: &Cache) -> Option<usize> {
 // An odd number with its bits spread, so that each of eight homes has more than 32 of the keys.
 const SPREADING: u64 = 11400714819323198485;
 
-// Of 1000 keys each is there as it is put.
+// Of 1000 keys each is present right after it was put.
 #[test]
 fn a_cache_has_at_most_256_slots_unless_told(rt: HostRuntime) -> Result<(), Fail> {
     let mut cache: Cache = HashCache::with_hasher(rt.alloc(), ScriptHash::Id);

@@ -49,7 +49,7 @@ fn copies_have_words_of_their_own(rt: HostRuntime) -> Result<(), Fail> {
     Ok(())
 }
 
-// Ages come to a map, and stay in its copy as the map is cleared.
+// Ages are inserted into a map, and stay in its copy when the map is cleared.
 fn check_map(rt: &impl Abort, alloc: Global, ages: &mut Ages) {
     for (name, age) in AGES.iter() {
         let _ = ages.insert(owned(alloc, name), *age);
@@ -69,7 +69,7 @@ fn check_copied_map(rt: &impl Abort, ages: &mut Ages, copy: &Ages) {
     }
 }
 
-// Names come to a set, and stay in its copy as the set is cleared.
+// Names are inserted into a set, and stay in its copy when the set is cleared.
 fn check_set(rt: &impl Abort, alloc: Global, names: &mut Names) {
     for (name, _) in AGES.iter() {
         let _ = names.insert(owned(alloc, name));

@@ -1,5 +1,5 @@
-//! Pairs that are handed out by value: none, a few, those of two arrays and of one chain; what is
-//! left of the collection; and values that are counted, of which some are handed out.
+//! Iterators over pairs by value: over none, a few, those of two arrays and of one chain; what is
+//! left of the collection; and values that are counted, of which some are returned.
 ghost use Rattle.std.specs.Iterator.{IsFinite};
 
 use super::caches::{Cache, put, put_all};
@@ -15,7 +15,7 @@ use std::process::Abort;
 use std::rc::Rc;
 use std::test::Fail;
 
-/// The keys of a collection, each its own value, as they come to it, and in order.
+/// The keys of a collection, each its own value, in the order of their insertion, and sorted.
 struct Row {
     name: &'static str,
     hasher: ScriptHash,
@@ -23,7 +23,7 @@ struct Row {
     in_order: Ranges,
 }
 
-// The keys 0 to 30 and 128 to 158 are in one array; as key 31 comes, a second one stands beside it.
+// The keys 0 to 30 and 128 to 158 are in one array; when key 31 is inserted, a second one is made.
 // Under the hash 0 all keys are in one bucket, and those past the first 32 in its chain.
 const ROWS: &[Row] = steps! {
     Row { name: "none", hasher: ScriptHash::Spread, keys: &[], in_order: &[] },
@@ -69,7 +69,7 @@ fn keys_come_by_value(rt: HostRuntime) -> Result<(), Fail> {
     Ok(())
 }
 
-// The keys that an iterator gives.
+// The keys that an iterator yields.
 fn met<I: Iterator<Item = u64> + Drop>(alloc: Global, keys: I) -> Vec<u64>
     requires can { I.can_next keys }
     requires finite { IsFinite (I.remaining keys) }
@@ -90,7 +90,7 @@ fn map_of(alloc: Global, row: &Row) -> Map {
     map
 }
 
-// The keys, or the values, that come of a map.
+// The keys, or the values, of a map by value.
 fn taken(alloc: Global, mut map: Map, way: Way) -> Result<Vec<u64>, AllocError> {
     match way {
         Way::Drain => Ok(keys_of(alloc, map.drain())),
@@ -100,7 +100,7 @@ fn taken(alloc: Global, mut map: Map, way: Way) -> Result<Vec<u64>, AllocError> 
     }
 }
 
-// The keys of pairs. One whose value is another gives both.
+// The keys of pairs. A pair whose value isn't its key yields both.
 fn keys_of(alloc: Global, pairs: IntoIter<u64, u64>) -> Vec<u64> {
     let mut keys = Vec::new(alloc);
     for (key, value) in pairs {
@@ -148,7 +148,7 @@ fn key_of(pair: (u64, u64)) -> u64 {
 
 type Counted = HashMap<u64, Rc<u64>, ScriptHash>;
 
-// How many pairs a drain hands out of 63 in two arrays before it is dropped.
+// How many of 63 pairs in two arrays a drain returns before it is dropped.
 const HANDED_OUT: [usize; 6] = [0, 1, 2, 32, 62, 63];
 
 #[test]
@@ -164,7 +164,7 @@ fn what_is_not_handed_out_is_dropped(rt: HostRuntime) -> Result<(), Fail> {
     Ok(())
 }
 
-// Puts a clone under each of 63 keys. As the last one comes, a second array stands.
+// Puts a clone under each of 63 keys. The insertion of the last one makes a second array.
 fn put_clones(map: &mut Counted, counted: &Rc<u64>) {
     for number in 0..63u64 {
         let key = match number {
@@ -183,7 +183,7 @@ fn put_clone(map: &mut Counted, counted: &Rc<u64>, key: u64) {
     }
 }
 
-// Has a drain hand out so many pairs, and drops it, and then them.
+// Takes so many pairs from a drain, and drops it, and then them.
 fn hand_out(
     rt: &impl Abort,
     alloc: Global,
@@ -201,7 +201,7 @@ fn hand_out(
     drop(held);
 }
 
-// The first pairs that a drain hands out, so many.
+// The first pairs of a drain, so many.
 fn first_of(
     alloc: Global,
     left: &mut Drain<u64, Rc<u64>>,

@@ -1,4 +1,4 @@
-//! Values that are counted, under words as keys: each is dropped once, when its pair goes.
+//! Values that are counted, under words as keys: each is dropped once, when its pair is removed.
 use super::{check_same, steps};
 use Step::*;
 use bucket_table::key_hash::StdHash;
@@ -13,19 +13,19 @@ type Words = HashMap<&'static str, Rc<u64>, StdHash<BuildHasherDefault<FoldHashe
 
 /// A call on a map, and how many values there are when it has returned and its answer is dropped.
 enum Step {
-    /// A word is inserted with a clone, or the clone is dropped where the word is there.
+    /// A word is inserted with a clone, or the clone is dropped if the word is present.
     Insert(&'static str, usize),
     /// A word gets a clone, and the earlier value is dropped.
     Upsert(&'static str, usize),
-    /// A clone is written over the value of a word that is there, and else dropped.
+    /// A clone replaces the value of a word that is present, and else is dropped.
     Update(&'static str, usize),
-    /// A clone is written over the value of a word that is lent, and else dropped.
+    /// A clone is written through a mutable reference to a word's value, and else is dropped.
     Lend(&'static str, usize),
-    /// All words go but one.
+    /// All words but one are removed.
     Keep(&'static str, usize),
-    /// A word goes.
+    /// A word is removed.
     Remove(&'static str, usize),
-    /// All words go.
+    /// All words are removed.
     Clear,
 }
 
@@ -89,7 +89,7 @@ fn update(words: &mut Words, word: &'static str, value: Rc<u64>) {
     let _ = words.update(&word, |_own: &&str, own: &mut Rc<u64>| *own = value);
 }
 
-// Takes a step by which words go. Returns how many are to be left.
+// Takes a step that removes words. Returns how many are to be left.
 fn take_words(words: &mut Words, step: &Step) -> usize {
     match step {
         Keep(word, left) => {

@@ -10,7 +10,8 @@ use std::alloc::AllocError;
 use std::mem;
 use std::test::Fail;
 
-/// How many keys are left where a collection with one was taken, and whether that one was taken.
+/// How many keys are left in the place of a taken collection with one key, and whether that one was
+/// taken.
 type Left = Result<(usize, bool), AllocError>;
 
 #[test]
@@ -76,7 +77,7 @@ fn a_map_is_the_default_of_its_place(rt: HostRuntime) -> Result<(), Fail> {
     Ok(())
 }
 
-// Adds to what a person has in a town, and returns what that is.
+// Adds to what a person has in a town, and returns the sum.
 fn give(
     towns: &mut HashMap<u64, HashMap<u64, u64>>,
     town: u64,

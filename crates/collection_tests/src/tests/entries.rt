@@ -13,17 +13,18 @@ use std::test::Fail;
 pub(super) enum Step {
     /// Keys are inserted by vacant entries, each as its own value.
     Fills(u64, u64),
-    /// A value is put where there is none, and one is added to what is there then: this comes out.
+    /// A value is inserted if the key is absent, and then one is added to the value: this is the
+    /// result.
     Counts(u64, u64, u64),
-    /// The value there is doubled, or the second number is put: this is there then.
+    /// The value is doubled, or the second number is inserted: this is the value then.
     Doubles(u64, u64, u64),
-    /// Twice the key is put where there is no value: this is there then.
+    /// Twice the key is inserted if the key is absent: this is the value then.
     Makes(u64, u64),
-    /// A value is written where one is there, and this was the earlier one.
+    /// The value of a present key is changed, and this was the earlier one.
     Writes(u64, u64, Option<u64>),
     /// The key of the place, vacant or occupied.
     Keys(u64),
-    /// The pair that is taken out.
+    /// The pair that is removed.
     Takes(u64, Option<(u64, u64)>),
     /// The value that a key has.
     Holds(u64, Option<u64>),
@@ -82,7 +83,7 @@ fn play(rt: &impl Abort, alloc: Global, stories: &[Story]) {
     }
 }
 
-// Takes a step at a place that may be vacant, and compares what it answers.
+// Takes a step at a place that may be vacant, and compares its result.
 fn take(rt: &impl Abort, map: &mut Map, at: At, step: &Step) {
     match *step {
         Fills(from, to) => check_same(rt, fill_vacant(map, from, to), true, at),
@@ -105,7 +106,7 @@ fn look(rt: &impl Abort, map: &mut Map, at: At, step: &Step) {
     }
 }
 
-// Puts keys, each as its own value. Whether the place of each was vacant, and it came.
+// Puts keys, each as its own value. Whether the place of each was vacant, and it was inserted.
 fn fill_vacant(map: &mut Map, from: u64, to: u64) -> bool {
     let mut are_in = true;
     for key in from..to {
@@ -114,7 +115,7 @@ fn fill_vacant(map: &mut Map, from: u64, to: u64) -> bool {
     are_in
 }
 
-// Each key that a map gives is there.
+// Each key that a map's iterator yields is present.
 fn has_its_keys(map: &Map) -> bool {
     for key in map.keys() {
         if !map.contains(key) {
@@ -124,7 +125,7 @@ fn has_its_keys(map: &Map) -> bool {
     true
 }
 
-// Puts a key as its own value. Returns whether its place was vacant and it came.
+// Puts a key as its own value. Returns whether its place was vacant and it was inserted.
 fn put_where_vacant(map: &mut Map, key: u64) -> bool {
     match map.entry(key) {
         Entry::Vacant(place) => place.insert(key).is_ok(),
@@ -132,7 +133,8 @@ fn put_where_vacant(map: &mut Map, key: u64) -> bool {
     }
 }
 
-// Puts a value where there is none, adds one to what is lent, and returns what the map has then.
+// Inserts a value if the key is absent, adds one through the mutable reference, and returns what
+// the map has then.
 fn count(map: &mut Map, key: u64, value: u64) -> Option<u64> {
     if let Ok(held) = map.entry(key).or_insert(value) {
         *held = held.wrapping_add(1);
@@ -140,7 +142,7 @@ fn count(map: &mut Map, key: u64, value: u64) -> Option<u64> {
     map.get(&key).copied()
 }
 
-// Doubles the value there, or puts one, and returns what the map has then.
+// Doubles the value, or inserts one, and returns what the map has then.
 fn double(map: &mut Map, key: u64, value: u64) -> Option<u64> {
     let entry = map.entry(key).and_modify(double_it);
     let _ = entry.or_insert_with(|| value);
@@ -151,7 +153,7 @@ fn double_it(held: &mut u64) {
     *held = held.wrapping_mul(2);
 }
 
-// Puts twice the key where there is no value, and returns what the map has then.
+// Inserts twice the key if it is absent, and returns what the map has then.
 fn make(map: &mut Map, key: u64) -> Option<u64> {
     let _ = map.entry(key).or_insert_with_key(twice);
     map.get(&key).copied()
@@ -161,7 +163,7 @@ fn twice(key: &u64) -> u64 {
     key.wrapping_mul(2)
 }
 
-// Writes a value where one is there, and returns the earlier one.
+// Changes the value of a present key, and returns the earlier one.
 fn write(map: &mut Map, key: u64, value: u64) -> Option<u64> {
     match map.entry(key) {
         Entry::Occupied(mut place) => Some(place.insert(value)),
@@ -169,7 +171,7 @@ fn write(map: &mut Map, key: u64, value: u64) -> Option<u64> {
     }
 }
 
-// Takes the pair of a key out.
+// Removes the pair of a key.
 fn take_out(map: &mut Map, key: u64) -> Option<(u64, u64)> {
     match map.entry(key) {
         Entry::Occupied(place) => Some(place.remove_entry()),

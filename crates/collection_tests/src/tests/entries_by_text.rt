@@ -1,4 +1,4 @@
-//! Stories of the places of words, found by texts: a word is made only where the map hasn't it.
+//! Stories of the places of words, found by texts: a word is made only if the map hasn't it.
 use super::forms::owned;
 use super::{At, check_same, steps};
 use Step::*;
@@ -13,18 +13,18 @@ type Words = HashMap<String, u64>;
 
 /// What is done at a word's place.
 enum Step {
-    /// A number is put where the word isn't, and one is added to what is there then: this comes
-    /// out.
+    /// A number is inserted if the word is absent, and then one is added to the number: this is the
+    /// result.
     Counts(&'static str, u64, u64),
-    /// The word is made and put with a number where it isn't: whether it was.
+    /// The word is made and inserted with a number if it is absent: whether it was.
     Puts(&'static str, u64, bool),
-    /// The place of the first word takes no other: whether the second came.
+    /// The place of the first word takes no other: whether the second was inserted.
     Swaps(&'static str, &'static str, bool),
-    /// A number is written where the word is, and this was the earlier one.
+    /// The number of a present word is changed, and this was the earlier one.
     Writes(&'static str, u64, Option<u64>),
-    /// One is added to a number that is there: what it was, and is.
+    /// One is added to the number of a present word: what it was, and is.
     Raises(&'static str, Option<(u64, u64)>),
-    /// One is added to a number that its place lends: what it is then.
+    /// One is added through the entry's mutable reference: what it is then.
     Lends(&'static str, Option<u64>),
     /// The number of the word that is taken out.
     Takes(&'static str, Option<u64>),
@@ -56,7 +56,7 @@ fn play(rt: &impl Abort, alloc: Global, words: &mut Words) {
     }
 }
 
-// Takes a step that may put a word, and compares what it answers.
+// Takes a step that may put a word, and compares its result.
 fn take(rt: &impl Abort, alloc: Global, words: &mut Words, at: At, step: &Step) {
     match *step {
         Counts(word, number, after) => {
@@ -72,7 +72,7 @@ fn take(rt: &impl Abort, alloc: Global, words: &mut Words, at: At, step: &Step) 
     }
 }
 
-// Takes another step, and compares what it answers.
+// Takes another step, and compares its result.
 fn change(rt: &impl Abort, words: &mut Words, at: At, step: &Step) {
     match *step {
         Writes(word, number, earlier) => check_same(rt, write(words, word, number), earlier, at),
@@ -85,7 +85,8 @@ fn change(rt: &impl Abort, words: &mut Words, at: At, step: &Step) {
     }
 }
 
-// Puts a number where the word isn't, adds one to what is lent, and returns what the map has then.
+// Inserts a number if the word is absent, adds one through the mutable reference, and returns what
+// the map has then.
 fn count(alloc: Global, words: &mut Words, word: &str, number: u64) -> Option<u64> {
     let lent = match words.entry_ref(word) {
         EntryRef::Occupied(place) => Some(place.into_mut()),
@@ -97,7 +98,7 @@ fn count(alloc: Global, words: &mut Words, word: &str, number: u64) -> Option<u6
     number_of(words, word)
 }
 
-// Puts a key and a number where the word isn't. Returns whether they came.
+// Puts a key and a number where the word isn't. Returns whether they were inserted.
 fn put(words: &mut Words, word: &str, key: String, number: u64) -> bool {
     match words.entry_ref(word) {
         EntryRef::Vacant(place) => place.insert_with_key(key, number).is_ok(),
@@ -105,7 +106,7 @@ fn put(words: &mut Words, word: &str, key: String, number: u64) -> bool {
     }
 }
 
-// Writes a number where the word is, and returns the earlier one.
+// Changes the number of a present word, and returns the earlier one.
 fn write(words: &mut Words, word: &str, number: u64) -> Option<u64> {
     match words.entry_ref(word) {
         EntryRef::Occupied(mut place) => Some(place.insert(number)),
@@ -113,7 +114,7 @@ fn write(words: &mut Words, word: &str, number: u64) -> Option<u64> {
     }
 }
 
-// Adds one to a number that is there, and returns what it was and is.
+// Adds one to the number of a present word, and returns what it was and is.
 fn raise(words: &mut Words, word: &str) -> Option<(u64, u64)> {
     match words.entry_ref(word) {
         EntryRef::Occupied(mut place) => {
@@ -125,7 +126,7 @@ fn raise(words: &mut Words, word: &str) -> Option<(u64, u64)> {
     }
 }
 
-// Adds one to a number that its place lends, and returns what it is then.
+// Adds one through the entry's mutable reference, and returns what the number is then.
 fn lend(words: &mut Words, word: &str) -> Option<u64> {
     match words.entry_ref(word) {
         EntryRef::Occupied(mut place) => {

@@ -1,4 +1,4 @@
-//! Which maps and sets are equal: neither the order in which pairs came nor the hasher counts.
+//! Which maps and sets are equal: neither the order of insertion nor the hasher counts.
 use super::maps::Map;
 use super::sets::Set;
 use super::{check_same, steps};

@@ -1,5 +1,5 @@
-//! Pairs that come to a map from an iterator, and their keys to a set: what is there before, amid
-//! and after a growth. And a map and a set that are made of them.
+//! Pairs of an iterator that are inserted into a map, and their keys into a set, before, during and
+//! after a growth. And a map and a set that are made of them.
 use super::maps::Map;
 use super::sets::Set;
 use super::{At, check_same, steps};
@@ -11,11 +11,12 @@ use std::alloc::Global;
 use std::process::Abort;
 use std::test::Fail;
 
-/// What comes to a map and to a set, or what they have then.
+/// What is inserted into a map and a set, or what they have then.
 enum Step {
-    /// These pairs come.
+    /// These pairs are inserted.
     Comes(&'static [(u64, u64)]),
-    /// Keys come, each as its own value. The second number is the first key that is not meant.
+    /// Keys are inserted, each as its own value. The second number is the first key that is not
+    /// meant.
     Fills(u64, u64),
     /// The value that a key has.
     Holds(u64, Option<u64>),
@@ -23,7 +24,8 @@ enum Step {
     Sees(usize, usize),
 }
 
-// Of two buckets the first has the keys below 128. It has 31 pairs as key 31 comes, and both grow.
+// Of two buckets the first has the keys below 128. It has 31 pairs when key 31 is inserted, and
+// both grow.
 const STEPS: &[Step] = steps! {
     Comes(&[]), Sees(0, 0), Comes(&[(1, 10)]), Sees(1, 64), Holds(1, Some(10)), Holds(2, None),
     Comes(&[(2, 20), (1, 11), (3, 30), (1, 12)]), Sees(3, 64), Holds(1, Some(12)),
@@ -64,7 +66,7 @@ fn play(rt: &impl Abort, alloc: Global, steps: &[Step]) {
     }
 }
 
-// Takes a step, and compares what comes of it.
+// Takes a step, and compares its result.
 fn take(rt: &impl Abort, map: &mut Map, set: &mut Set, at: At, step: &Step) {
     match step {
         Comes(pairs) => check_same(rt, come(map, set, pairs), (true, true), at),
@@ -80,7 +82,7 @@ fn take(rt: &impl Abort, map: &mut Map, set: &mut Set, at: At, step: &Step) {
     }
 }
 
-// Pairs come to a map, and their keys to a set. Whether all are in.
+// Pairs are inserted into a map, and their keys into a set. Whether all were inserted.
 fn come(map: &mut Map, set: &mut Set, pairs: &[(u64, u64)]) -> (bool, bool) {
     let mut keys = pairs.iter().map(key_of);
     let is_in = map.try_extend(&mut pairs.iter().copied()).is_ok();
@@ -91,7 +93,7 @@ fn key_of(pair: &(u64, u64)) -> u64 {
     pair.0
 }
 
-// Keys come to a map, each as its own value, and to a set. Whether all are in.
+// Keys are inserted into a map, each as its own value, and into a set. Whether all were inserted.
 fn come_from(map: &mut Map, set: &mut Set, from: u64, to: u64) -> (bool, bool) {
     let is_in = map.try_extend(&mut (from..to).zip(from..to)).is_ok();
     (is_in, set.try_extend(&mut (from..to)).is_ok())

@@ -1,5 +1,6 @@
-//! Pairs and keys that an iterator picks as it goes: which come, with which values, and which stay,
-//! where it goes to its end and where it is dropped before; of one array, of two, and of a chain.
+//! Iterators that remove the pairs or keys that a function picks: which are removed, with which
+//! values, and which stay, if the iterator reaches its end or is dropped before; of one array, of
+//! two, and of a chain.
 use super::maps::{Map, fill};
 use super::two_sets::{Ranges, check_listed, set_of};
 use super::{check_same, steps};
@@ -21,9 +22,9 @@ struct Row {
 }
 
 // The standard library's tests of a map's extract_if: empty, consuming_nothing, consuming_all,
-// mutating_and_keeping and mutating_and_removing; and of a set test_extract_if. The keys 0 to 30 and
-// 128 to 158 are in one array; as key 31 comes, a second one stands beside it. Under the hash 0 all
-// keys are in one bucket, and those past the first 32 in its chain.
+// mutating_and_keeping and mutating_and_removing; and of a set test_extract_if. The keys 0 to 30
+// and 128 to 158 are in one array; when key 31 is inserted, a second one is made. Under the hash 0
+// all keys are in one bucket, and those past the first 32 in its chain.
 const ROWS: &[Row] = steps! {
     Row { name: "empty", hasher: ScriptHash::Id, keys: &[], picks: (1, 0), gone: &[], left: &[] },
     Row { name: "none is picked", hasher: ScriptHash::Spread, keys: &[(0, 3)], picks: (9, 8),
@@ -81,8 +82,8 @@ fn picked_keys_of_a_set_come_and_the_others_stay(rt: HostRuntime) -> Result<(), 
 // How many pairs are taken before the iterator is dropped.
 const TAKEN: [usize; 5] = [0, 1, 2, 31, 32];
 
-// Of 63 pairs in two arrays every second one is picked: as many are asked for as lie before the last
-// one that comes, and those behind it keep their values.
+// Of 63 pairs in two arrays every second one is picked: the function is called up to the last pair
+// that is returned, and those after it keep their values.
 #[test]
 fn what_is_not_asked_for_stays_as_it_was(rt: HostRuntime) -> Result<(), Fail> {
     for count in TAKEN {
@@ -117,8 +118,8 @@ fn leaves(key: u64, by: u64, rest: u64) -> bool {
     by != 0 && key % by == rest
 }
 
-// Adds 1000 to each value that is asked for, and takes so many pairs at most whose keys leave a
-// rest. Returns their keys; one whose value isn't 1000 more gives both.
+// Adds 1000 to each value that is reached, and removes at most so many pairs, whose keys leave a
+// rest. Returns their keys; a pair whose value isn't 1000 more yields both.
 fn taken(alloc: Global, map: &mut Map, picks: (u64, u64), at_most: usize) -> Vec<u64> {
     let mut gone = Vec::new(alloc);
     let (by, rest) = picks;

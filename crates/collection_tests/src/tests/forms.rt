@@ -10,19 +10,19 @@ use std::mem;
 use std::process::Abort;
 use std::test::Fail;
 
-/// A call on a collection of each kind, and the number that was there.
+/// A call on a collection of each kind, and the earlier number.
 enum Step {
-    /// A word comes with a number.
+    /// A word is inserted with a number.
     Puts(&'static str, u64),
     /// `get` finds it.
     Gets(&'static str, Option<u64>),
     /// `update` writes another number.
     Updates(&'static str, u64, Option<u64>),
-    /// `get_mut` lends it, and another is written.
+    /// Another value is written through `get_mut`.
     Writes(&'static str, u64, Option<u64>),
-    /// `remove_if` is asked whether it is even.
+    /// `remove_if` removes it if it is even.
     RemovesEven(&'static str, Option<u64>),
-    /// It goes.
+    /// It is removed.
     Removes(&'static str, Option<u64>),
 }
 
@@ -62,7 +62,7 @@ fn words_are_changed_and_removed_by_texts(rt: HostRuntime) -> Result<(), Fail> {
     Ok(())
 }
 
-// Takes a step, and compares what was there.
+// Takes a step, and compares the earlier number.
 fn take(rt: &impl Abort, alloc: Global, words: &mut Words, at: At, step: &Step) {
     match *step {
         Puts(word, number) => check_same(rt, put(alloc, words, word, number), true, at),
@@ -82,7 +82,7 @@ fn take(rt: &impl Abort, alloc: Global, words: &mut Words, at: At, step: &Step) 
     }
 }
 
-// Takes a step by which a word goes.
+// Takes a step that removes a word.
 fn remove(rt: &impl Abort, words: &mut Words, at: At, step: &Step) {
     match *step {
         RemovesEven(word, number) => {
@@ -100,7 +100,7 @@ fn remove(rt: &impl Abort, words: &mut Words, at: At, step: &Step) {
     }
 }
 
-// A text as a word of its own; no text where there is no memory.
+// A text as an owned word; no text if allocation fails.
 pub(super) fn owned(alloc: Global, text: &str) -> String {
     match String::from_str(alloc, text) {
         Ok(own) => own,
@@ -108,7 +108,7 @@ pub(super) fn owned(alloc: Global, text: &str) -> String {
     }
 }
 
-// A word comes to each collection with a number. Whether it is in all of them.
+// A word is inserted into each collection with a number. Whether all insertions succeeded.
 pub(super) fn put(alloc: Global, words: &mut Words, word: &str, number: u64) -> bool {
     words.map.insert(owned(alloc, word), number).is_ok()
         && words.set.insert_new(owned(alloc, word)).is_ok()
@@ -134,7 +134,7 @@ fn update(words: &mut Words, word: &str, later: u64) -> (Option<u64>, Option<u64
     )
 }
 
-// Writes over the number of a word that is lent. Returns the earlier ones, of the map and of the
+// Replaces the number of a word through `get_mut`. Returns the earlier ones, of the map and of the
 // cache.
 fn write_both(words: &mut Words, word: &str, later: u64) -> (Option<u64>, Option<u64>) {
     let of_map = write(words.map.get_mut(word), later);
@@ -154,7 +154,7 @@ fn remove_elsewhere(rt: &impl Abort, words: &mut Words, at: At, word: &str, numb
     );
 }
 
-// The number of a pair that went.
+// The number of a pair that was removed.
 fn number_of<K: Drop>(pair: Option<(K, u64)>) -> Option<u64> {
     match pair {
         Some((_own, number)) => Some(number),
@@ -203,7 +203,7 @@ fn remove_lists(rt: &impl Abort, alloc: Global) {
     check_same(rt, set.is_empty(), true, "set");
 }
 
-// A slice as a list of its own; an empty one where there is no memory.
+// A slice as an owned list; an empty one if allocation fails.
 fn owned_list(alloc: Global, list: &[u8]) -> Vec<u8> {
     match Vec::from_slice(alloc, list) {
         Ok(own) => own,
@@ -211,7 +211,7 @@ fn owned_list(alloc: Global, list: &[u8]) -> Vec<u8> {
     }
 }
 
-// Writes 9 over the number of a list, and removes the list twice. Returns what was there each time.
+// Writes 9 over the number of a list, and removes the list twice. Returns the earlier numbers.
 fn change_list(map: &mut Lists, list: &[u8]) -> (Option<u64>, Option<u64>, Option<u64>) {
     let earlier = write(map.get_mut(list), 9);
     (

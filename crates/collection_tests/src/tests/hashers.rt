@@ -1,5 +1,5 @@
-//! What the tests of the crate `hashbrown` check of hashers: under each one a set has the keys that
-//! came, neither of those beside them, and neither the least nor the greatest one. A comment names
+//! What the tests of the crate `hashbrown` check of hashers: under each one a set has the inserted
+//! keys, neither of those next to them, and neither the least nor the greatest one. A comment names
 //! the test.
 ghost use Rattle.std.specs.Prelude.{◌%◌, ◌^◌, refl};
 ghost use Rattle.std.proofs.Common.{arith};
@@ -57,7 +57,7 @@ fn a_set_has_its_keys_under_each_hasher(rt: HostRuntime) -> Result<(), Fail> {
     Ok(())
 }
 
-// The keys 0 to 999 come to a set. It has each of them, and none beside.
+// The keys 0 to 999 are inserted into a set. It has each of them, and no other.
 fn check_keys<H: KeyHash<i32> + Drop>(
     rt: &impl Abort,
     mut set: HashSet<i32, H>,

@@ -1,4 +1,4 @@
-//! Stories of an index of numbers: what each call answers, and which pairs are seen then.
+//! Stories of an index of numbers: what each call returns, and which pairs are seen then.
 use super::iterating::{Pairs, gone_over, same_pairs, walk_numbers, walk_pairs};
 use super::{At, check_same, steps};
 use Step::*;
@@ -11,26 +11,26 @@ use std::test::Fail;
 
 type Index = HashIndex<u64, u64, ScriptHash>;
 
-/// A call on an index with what it answers, or what is seen of the index. Of two keys the second is
-/// the first that is not meant.
+/// A call on an index with its result, or what is seen of the index. Of two keys the second is the
+/// first that is not meant.
 enum Step {
     /// Keys are inserted, each as its own value.
     Fills(u64, u64),
     /// A pair is inserted.
     Inserts(u64, u64),
-    /// A pair comes back, since its key is there.
+    /// A pair is returned, since its key is present.
     Returns(u64, u64),
-    /// A pair is marked, if its key is there.
+    /// A pair is removed, if its key is present.
     Removes(u64, bool),
-    /// The pair that is handed over and marked.
+    /// The pair that `remove_with` passes to its function.
     Reads(u64, Option<(u64, u64)>),
-    /// Keys are marked.
+    /// Keys are removed.
     Drains(u64, u64),
     /// The minimum is to be raised by the first number, and is by the second.
     Reserves(usize, usize),
-    /// The minimum is given back.
+    /// The minimum is set to 0.
     Shrinks,
-    /// All pairs go.
+    /// All pairs are removed.
     Clears,
     /// The value that a key has.
     Holds(u64, Option<u64>),
@@ -40,7 +40,7 @@ enum Step {
     Slots(usize),
 }
 
-/// What happens on a new index, under an epoch whose marks are kept or not.
+/// What happens on a new index, under an epoch whose tombstones are kept or not.
 struct Story {
     name: &'static str,
     hasher: ScriptHash,
@@ -48,7 +48,7 @@ struct Story {
     steps: &'static [Step],
 }
 
-// The greatest number of slots. There is no memory for so many.
+// The greatest number of slots. Allocating so many fails.
 const MOST: usize = 1 << 63;
 
 // Of two buckets the first has the keys below 128, under the hash that spreads low bytes. The table
@@ -84,7 +84,7 @@ const STORIES: &[Story] = steps! {
             Holds(5, Some(5)), Holds(158, Some(158)), Removes(5, true), Removes(5, false),
             Reads(158, Some((158, 158))), Slots(128), Len(61), Holds(5, None), Holds(158, None),
             Holds(6, Some(6)), Inserts(5, 50), Holds(5, Some(50)), Len(62) } },
-    // Three marks are in the array when it goes.
+    // Three tombstones are in the array when it is dropped.
     Story { name: "what is removed before a growth doesn't come again",
         hasher: ScriptHash::Spread, capacity: 0, steps: steps! {
             Fills(0, 31), Fills(128, 159), Removes(0, true), Removes(9, true), Removes(130, true),
@@ -102,7 +102,7 @@ const STORIES: &[Story] = steps! {
             Removes(6, false), Clears, Inserts(5, 6), Slots(128), Len(1), Holds(5, Some(6)) } }
 };
 
-// What is answered is the same whether marks are kept.
+// The results are the same whether tombstones are kept or not.
 #[test]
 fn indexes_go_through_their_stories(rt: HostRuntime) -> Result<(), Fail> {
     for (number, story) in STORIES.iter().enumerate() {
@@ -126,7 +126,7 @@ fn play(rt: &impl Abort, alloc: Global, now: &FixedGeneration, story: &Story) {
     }
 }
 
-// Takes a step that puts or marks pairs, and compares what it answers.
+// Takes a step that inserts or removes pairs, and compares its result.
 fn take(rt: &impl Abort, index: &mut Index, now: &FixedGeneration, at: At, step: &Step) {
     match *step {
         Fills(from, to) => check_same(rt, fill(index, from, to, now), true, at),
@@ -146,8 +146,8 @@ fn take(rt: &impl Abort, index: &mut Index, now: &FixedGeneration, at: At, step:
     }
 }
 
-// Inserts a pair. Returns the one that comes back since its key is there, or none where there is
-// no memory.
+// Inserts a pair. Returns the one that is returned because its key is present, or none if
+// allocation fails.
 fn insert(
     index: &mut Index,
     key: u64,
@@ -161,7 +161,7 @@ fn insert(
     }
 }
 
-// Inserts keys, each as its own value. Whether all are in.
+// Inserts keys, each as its own value. Whether all were inserted.
 fn fill(index: &mut Index, from: u64, to: u64, now: &FixedGeneration) -> bool {
     let mut are_in = true;
     for key in from..to {
@@ -170,7 +170,7 @@ fn fill(index: &mut Index, from: u64, to: u64, now: &FixedGeneration) -> bool {
     are_in
 }
 
-// Marks keys. Whether each was there.
+// Removes keys. Whether each was present.
 fn drain(index: &mut Index, from: u64, to: u64, now: &FixedGeneration) -> bool {
     let mut were_there = true;
     for key in from..to {
@@ -204,7 +204,7 @@ fn resize(rt: &impl Abort, index: &mut Index, at: At, step: &Step) {
     }
 }
 
-// How many pairs each walk over an index gives.
+// How many pairs each iterator over an index yields.
 fn met(index: &Index) -> Option<usize> {
     gone_over!(index, peek)
 }

@@ -1,8 +1,8 @@
-//! What the walks of a map, an index and a cache give. The stories of each compare it wherever they
-//! count pairs.
+//! What the iterators of a map, an index and a cache yield. The stories of each compare it wherever
+//! they count pairs.
 ghost use Rattle.std.specs.Iterator.{IsFinite};
 
-/// The numbers that a walk gave, in its order, up to 256 of them; and how many came.
+/// The numbers that an iterator yielded, in its order, up to 256 of them; and how many there were.
 #[derive(Drop)]
 pub(super) struct Walk {
     numbers: [u64; 256],
@@ -24,12 +24,12 @@ impl Walk {
         self.len = self.len.saturating_add(1);
     }
 
-    // Whether another walk gave the same in the same order.
+    // Whether another iterator yielded the same in the same order.
     fn is_as(&self, other: &Walk) -> bool {
         self.len == other.len && self.numbers == other.numbers
     }
 
-    // Whether each number is below 256 and came once, so that none was left out.
+    // Whether each number is below 256 and was yielded once, so that none was left out.
     fn is_distinct(&self) -> bool {
         let mut is_met = [false; 256];
         for number in self.numbers.iter().take(self.len) {
@@ -42,7 +42,7 @@ impl Walk {
     }
 }
 
-/// The keys and the values of the pairs that a walk gave.
+/// The keys and the values of the pairs that an iterator yielded.
 #[derive(Drop)]
 pub(super) struct Pairs {
     keys: Walk,
@@ -62,7 +62,7 @@ impl Pairs {
         self.values.add(value);
     }
 
-    // The pair that came after so many.
+    // The pair after so many.
     pub(super) fn get(&self, place: usize) -> Option<(u64, u64)> {
         match (self.keys.numbers.get(place), self.values.numbers.get(place)) {
             (Some(key), Some(value)) => Some((*key, *value)),
@@ -74,18 +74,18 @@ impl Pairs {
         self.keys.len
     }
 
-    // Whether each key is below 256 and came once.
+    // Whether each key is below 256 and was yielded once.
     pub(super) fn are_distinct(&self) -> bool {
         self.keys.is_distinct()
     }
 
-    // Whether these keys came, in this order.
+    // Whether these keys were yielded, in this order.
     pub(super) fn has_keys(&self, keys: &[u64]) -> bool {
         self.len() == keys.len() && self.keys.numbers.iter().take(self.len()).eq(keys.iter())
     }
 }
 
-// The pairs that an iterator gives.
+// The pairs that an iterator yields.
 pub(super) fn walk_pairs<'a, I: Iterator<Item = (&'a u64, &'a u64)> + Drop>(pairs: I) -> Pairs
     requires can { I.can_next pairs }
     requires finite { IsFinite (I.remaining pairs) }
@@ -97,7 +97,7 @@ pub(super) fn walk_pairs<'a, I: Iterator<Item = (&'a u64, &'a u64)> + Drop>(pair
     met
 }
 
-// The numbers that an iterator gives.
+// The numbers that an iterator yields.
 pub(super) fn walk_numbers<'a, I: Iterator<Item = &'a u64> + Drop>(numbers: I) -> Walk
     requires can { I.can_next numbers }
     requires finite { IsFinite (I.remaining numbers) }
@@ -109,8 +109,8 @@ pub(super) fn walk_numbers<'a, I: Iterator<Item = &'a u64> + Drop>(numbers: I) -
     walk
 }
 
-// How many pairs came, where other walks gave the same pairs, keys and values in the same order:
-// keys below 256, each once, and as many values; or else none.
+// How many pairs were yielded, if other iterators yielded the same pairs, keys and values in the
+// same order: keys below 256, each once, and as many values; else none.
 pub(super) fn same_pairs(met: &Pairs, pairs: &Pairs, keys: &Walk, values: &Walk) -> Option<usize> {
     let are_as = met.keys.is_as(&pairs.keys) && met.values.is_as(&pairs.values);
     let are_as = are_as && met.keys.is_as(keys) && met.values.is_as(values);
@@ -121,9 +121,9 @@ pub(super) fn same_pairs(met: &Pairs, pairs: &Pairs, keys: &Walk, values: &Walk)
     }
 }
 
-// How many pairs a collection gives: keys below 256, each once and with the value that a look-up
-// finds. `for_each`, the iterator of pairs, and those of keys and of values give the same in the
-// same order; or else none.
+// How many pairs a collection yields: keys below 256, each once and with the value that a look-up
+// finds. `for_each`, the iterator of pairs, and those of keys and of values yield the same in the
+// same order; else none.
 macro_rules! gone_over {
     ($collection:expr, $look:ident) => {{
         let mut met = Pairs::new();

@@ -1,6 +1,7 @@
 //! What the tests of the crate `lru` check: the same calls on this cache, with the same answers. A
-//! comment names the test, and the room of its cache where one goes. All keys have one bucket, of
-//! 32 own slots: keys from 100 on fill it up to that room, and are touched before a pair has to go.
+//! comment names the test, and the capacity of its cache if a pair is evicted. All keys have one
+//! bucket, of 32 own slots: keys from 100 on fill it up to that capacity, and are touched before a
+//! pair is to be evicted.
 use super::caches::Made::*;
 use super::caches::Step::*;
 use super::caches::Story;
@@ -66,7 +67,7 @@ pub(super) const STORIES: &[Story] = steps! {
             AddsAll(30, 62), Adds(64, 1, Some((30, 30))), Adds(65, 2, Some((31, 31))),
             Resizes(128), Adds(66, 3, None), Adds(67, 4, None), Len(34), Gets(64, Some(1)),
             Gets(65, Some(2)), Gets(66, Some(3)), Gets(67, Some(4)) } },
-    // test_resize_smaller, 4 pairs of which 2 go
+    // test_resize_smaller, 4 pairs of which 2 are evicted
     Story { name: "a smaller cache lets the oldest pairs go", hasher: ScriptHash::Spread,
         made: Sized(128), steps: steps! {
             AddsAll(0, 4), AddsAll(64, 94), Resizes(64), Len(32), Gets(0, None), Gets(1, None),

@@ -1,4 +1,4 @@
-//! Stories of the places of words whose keys the map makes, where it hasn't the words.
+//! Stories of the places of words whose keys the map makes, if it hasn't the words.
 use super::forms::owned;
 use super::{At, check_same, steps};
 use Step::*;
@@ -13,7 +13,7 @@ use std::test::Fail;
 /// A map from words to numbers.
 type Words = HashMap<String, u64>;
 
-/// A text of which no word can be made, as where there is no memory for it.
+/// A text of which no word can be made, as if allocation failed.
 #[derive(Clone, Copy)]
 struct Unmade {
     text: &'static str,
@@ -48,17 +48,18 @@ impl<S: BuildHasher> ToKey<String, StdHash<S>> for Unmade {
 
 /// What is done at a word's place, by its text if nothing else is said.
 enum Step {
-    /// `or_insert` puts a number where the word isn't. Then one is added: this comes out.
+    /// `or_insert` inserts a number if the word is absent. Then one is added: this is the result.
     Adds(&'static str, u64, u64),
     /// The same by another word that is equal.
     AddsEqual(&'static str, u64, u64),
-    /// The same by a text of which no word can be made: the number comes back where the word isn't.
+    /// The same by a text of which no word can be made: the number is returned if the word is
+    /// absent.
     Finds(&'static str, u64, Result<u64, u64>),
     /// The same by `or_insert_with`, and whether its function was called.
     Makes(&'static str, u64, (bool, u64)),
     /// The same by `or_default`.
     Starts(&'static str, u64),
-    /// A number is put where the place is vacant: whether it was.
+    /// A number is inserted if the place is vacant: whether it was.
     Fills(&'static str, u64, bool),
     /// The number of the word that is taken out.
     Takes(&'static str, Option<u64>),
@@ -90,7 +91,7 @@ fn play(rt: &impl Abort, alloc: Global, words: &mut Words) {
     }
 }
 
-// Takes a step, and compares what comes out.
+// Takes a step, and compares its result.
 fn take(rt: &impl Abort, alloc: Global, words: &mut Words, at: At, step: &Step) {
     match *step {
         Adds(word, number, after) => {
@@ -115,7 +116,7 @@ fn take(rt: &impl Abort, alloc: Global, words: &mut Words, at: At, step: &Step) 
     }
 }
 
-// Adds one to the number of a word, or to this one where the word is new.
+// Adds one to the number of a word, or to this one if the word is new.
 fn add(alloc: Global, words: &mut Words, word: &str, number: u64) -> Result<u64, u64> {
     match words.entry_ref(word).or_insert(number, alloc) {
         Ok(held) => Ok(raise(held)),
@@ -132,7 +133,7 @@ fn add_equal(alloc: Global, words: &mut Words, word: &str, number: u64) -> Resul
     }
 }
 
-// The same where no word can be made.
+// The same if no word can be made.
 fn find(alloc: Global, words: &mut Words, word: &'static str, number: u64) -> Result<u64, u64> {
     match words
         .entry_ref(Unmade { text: word })
@@ -143,7 +144,7 @@ fn find(alloc: Global, words: &mut Words, word: &'static str, number: u64) -> Re
     }
 }
 
-// The same of a number that is made where the word is new, and whether it was.
+// The same with a number that is made if the word is new, and whether it was.
 fn make(alloc: Global, words: &mut Words, word: &str, number: u64) -> Option<(bool, u64)> {
     let mut was_called = false;
     let place = words.entry_ref(word);
@@ -160,7 +161,7 @@ fn make(alloc: Global, words: &mut Words, word: &str, number: u64) -> Option<(bo
     }
 }
 
-// The same of 0 where the word is new.
+// The same with 0 if the word is new.
 fn start(alloc: Global, words: &mut Words, word: &str) -> Option<u64> {
     match words.entry_ref(word).or_default(alloc) {
         Ok(held) => Some(raise(held)),
@@ -168,13 +169,13 @@ fn start(alloc: Global, words: &mut Words, word: &str) -> Option<u64> {
     }
 }
 
-// Adds one, and returns what comes out.
+// Adds one, and returns the result.
 fn raise(held: &mut u64) -> u64 {
     *held = held.wrapping_add(1);
     *held
 }
 
-// Puts a number where the word is new, and returns whether it was.
+// Inserts a number if the word is new, and returns whether it was.
 fn fill(alloc: Global, words: &mut Words, word: &str, number: u64) -> bool {
     match words.entry_ref(word) {
         EntryRef::Vacant(place) => place.insert(number, alloc).is_ok(),

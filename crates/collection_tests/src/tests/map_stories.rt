@@ -6,7 +6,7 @@ use bucket_table::script::ScriptHash;
 use collections::hash_map::HashMap;
 use std::test::Fail;
 
-// The greatest number of slots. There is no memory for so many.
+// The greatest number of slots. Allocating so many fails.
 const MOST: usize = 1 << 63;
 
 // Of two buckets the first has the keys below 128, under the hash that spreads low bytes. The table

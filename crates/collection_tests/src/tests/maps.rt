@@ -1,5 +1,5 @@
-//! The steps of stories of a map of numbers: what each call answers, how many slots there are then,
-//! and which pairs `for_each` hands over and the iterators give.
+//! The steps of stories of a map of numbers: what each call returns, how many slots there are then,
+//! and which pairs `for_each` and the iterators visit.
 use super::iterating::{Pairs, gone_over, same_pairs, walk_numbers, walk_pairs};
 use super::{At, check_same, write};
 use Step::*;
@@ -10,8 +10,8 @@ use std::process::Abort;
 
 pub(super) type Map = HashMap<u64, u64, ScriptHash>;
 
-/// A call on a map with what it answers, or what is seen of the map. Of two keys the second is the
-/// first that is not meant.
+/// A call on a map with its result, or what is seen of the map. Of two keys the second is the first
+/// that is not meant.
 pub(super) enum Step {
     /// Keys are inserted, each as its own value.
     Fills(u64, u64),
@@ -19,40 +19,40 @@ pub(super) enum Step {
     Multiplies(u64, u64, u64),
     /// A pair is inserted.
     Inserts(u64, u64),
-    /// A pair comes back, since its key is there.
+    /// A pair is returned, since its key is present.
     Returns(u64, u64),
-    /// A pair comes back from both calls that put one, since there is no memory for an array.
+    /// A pair is returned by both calls that insert one, since allocating an array fails.
     Refuses(u64, u64),
     /// A value is put or written, and this was the earlier one.
     Upserts(u64, u64, Option<u64>),
     /// One is added to a value, and the pair was this one.
     Updates(u64, Option<(u64, u64)>),
-    /// A value is lent and written, and this was the earlier one.
+    /// A value is written through a mutable reference, and this was the earlier one.
     Lends(u64, u64, Option<u64>),
     /// One is added to each value, and the pairs stay whose keys leave the second number, divided
-    /// by the first. So many pairs were asked for.
+    /// by the first. The function was called with so many pairs.
     Retains(u64, u64, usize),
-    /// One is added to each value, and so many were lent.
+    /// One is added to each value, and the function was called so often.
     Writes(usize),
     /// The same pairs stay, and no value is written.
     Keeps(u64, u64, usize),
-    /// The pair that is taken out.
+    /// The pair that is removed.
     Removes(u64, Option<(u64, u64)>),
-    /// The pair that is taken out, where its value is above the second number.
+    /// The pair that is removed, if its value is above the second number.
     RemovesAbove(u64, u64, Option<(u64, u64)>),
-    /// Keys are taken out, each with itself as its value.
+    /// Keys are removed, each with itself as its value.
     Drains(u64, u64),
-    /// A drain hands out so many pairs, and is dropped.
+    /// A drain returns so many pairs, and is dropped.
     Leaves(usize),
     /// The minimum is to be raised by the first number, and is by the second.
     Reserves(usize, usize),
     /// Room is made for so many pairs more.
     MakesRoom(usize),
-    /// There is no memory for so many pairs more.
+    /// Allocating room for so many pairs more fails.
     LacksRoom(usize),
-    /// The minimum is given back, and the slots that the pairs don't take.
+    /// The minimum is set to 0, and the slots that the pairs don't take are freed.
     Shrinks,
-    /// All pairs go.
+    /// All pairs are removed.
     Clears,
     /// The value that a key has.
     Holds(u64, Option<u64>),
@@ -100,7 +100,7 @@ fn play_one(rt: &impl Abort, map: &mut Map, story: &Story) {
     }
 }
 
-// Takes a step that puts pairs, and compares what it answers.
+// Takes a step that puts pairs, and compares its result.
 pub(super) fn take(rt: &impl Abort, map: &mut Map, at: At, step: &Step) {
     match *step {
         Fills(from, to) => check_same(rt, fill(map, from, to), true, at),
@@ -127,7 +127,7 @@ pub(super) fn take(rt: &impl Abort, map: &mut Map, at: At, step: &Step) {
     }
 }
 
-// Takes a step that writes values, and compares what it answers.
+// Takes a step that writes values, and compares its result.
 fn change(rt: &impl Abort, map: &mut Map, at: At, step: &Step) {
     match *step {
         Updates(key, pair) => check_same(rt, map.update(&key, add_one), pair, at),
@@ -139,7 +139,7 @@ fn change(rt: &impl Abort, map: &mut Map, at: At, step: &Step) {
     }
 }
 
-// Takes a step that takes pairs out, and compares what it answers.
+// Takes a step that removes pairs, and compares its result.
 fn remove(rt: &impl Abort, map: &mut Map, at: At, step: &Step) {
     match *step {
         Removes(key, pair) => check_same(rt, map.remove(&key), pair, at),
@@ -151,7 +151,7 @@ fn remove(rt: &impl Abort, map: &mut Map, at: At, step: &Step) {
     }
 }
 
-// Takes a step that sets the minimum or the slots, and compares what it answers.
+// Takes a step that sets the minimum or the slots, and compares its result.
 fn resize(rt: &impl Abort, map: &mut Map, at: At, step: &Step) {
     match *step {
         Reserves(additional, raised) => check_same(rt, map.raise_minimum(additional), raised, at),
@@ -162,12 +162,12 @@ fn resize(rt: &impl Abort, map: &mut Map, at: At, step: &Step) {
     }
 }
 
-// Why a pair comes back.
+// Why a pair is returned.
 const IS_THERE: &str = "its key is there";
 
 const NO_MEMORY: &str = "there is no memory";
 
-// Inserts a pair. Returns why it comes back, and the pair.
+// Inserts a pair. Returns why it failed, and the pair.
 fn insert(map: &mut Map, key: u64, value: u64) -> Result<(), (&'static str, u64, u64)> {
     match map.insert(key, value) {
         Ok(()) => Ok(()),
@@ -176,7 +176,7 @@ fn insert(map: &mut Map, key: u64, value: u64) -> Result<(), (&'static str, u64,
     }
 }
 
-// Puts a value or writes it. Returns the earlier one, or the pair that came back.
+// Puts a value or writes it. Returns the earlier one, or the pair that was returned.
 fn upsert(map: &mut Map, key: u64, value: u64) -> Result<Option<u64>, (u64, u64)> {
     match map.upsert(key, value) {
         Ok(earlier) => Ok(earlier),
@@ -191,8 +191,8 @@ fn add_one(key: &u64, value: &mut u64) -> (u64, u64) {
     (*key, earlier)
 }
 
-// Adds a number to each value, and keeps the keys that leave a rest. Returns how many were asked
-// for.
+// Adds a number to each value, and keeps the keys that leave a rest. Returns how many calls of the
+// function there were.
 fn retain(map: &mut Map, divisor: u64, rest: u64, more: u64) -> usize {
     let mut asked: usize = 0;
     let mut keep = |key: &u64, value: &mut u64| -> bool {
@@ -215,12 +215,12 @@ fn write_all(map: &mut Map) -> usize {
     lent
 }
 
-// Takes a pair out whose value is above a number.
+// Removes a pair whose value is above a number.
 fn remove_above(map: &mut Map, key: u64, floor: u64) -> Option<(u64, u64)> {
     map.remove_if(&key, |_own: &u64, value: &u64| *value > floor)
 }
 
-// Takes keys out. Whether each was there as its own value.
+// Removes keys. Whether each was present with its own value.
 fn drain(map: &mut Map, first: u64, last: u64) -> bool {
     let mut were_there = true;
     for key in first..last {
@@ -229,7 +229,7 @@ fn drain(map: &mut Map, first: u64, last: u64) -> bool {
     were_there
 }
 
-// Has a drain hand out so many pairs, and drops it. Returns how many came.
+// Takes so many pairs from a drain, and drops it. Returns how many there were.
 fn leave(map: &mut Map, pairs: usize) -> usize {
     map.drain().take(pairs).count()
 }
@@ -262,7 +262,7 @@ fn pair(map: &Map, key: u64) -> Option<(u64, u64)> {
     }
 }
 
-// How many pairs each walk over a map gives.
+// How many pairs each iterator over a map yields.
 fn met(map: &Map) -> Option<usize> {
     gone_over!(map, get)
 }

@@ -1,5 +1,5 @@
-//! Values that are counted, in an index: a removed one stays while its mark waits, and is dropped
-//! once, as its mark is let go, as the pairs are cleared, or with its array.
+//! Values that are counted, in an index: a removed one stays while its tombstone is kept, and is
+//! dropped once, with its tombstone, when the pairs are cleared, or with its array.
 use super::{At, check_same, steps};
 use Step::*;
 use bucket_table::script::{FixedGeneration, ScriptHash};
@@ -13,21 +13,21 @@ type Index = HashIndex<u64, Rc<u64>, ScriptHash>;
 /// A setting for the steps that follow, a call, or what is seen of the index. Of two keys the
 /// second is the first that is not meant.
 enum Step {
-    /// The epoch from here on, and whether marks are kept. At first it is 0, and they are.
+    /// The epoch from here on, and whether tombstones are kept. At first it is 0, and they are.
     Now(u8, bool),
     /// Keys are inserted.
     Fills(u64, u64),
     /// A key is inserted.
     Inserts(u64),
-    /// A key is there, and its new value is dropped.
+    /// A key is present, and its new value is dropped.
     Returns(u64),
-    /// A pair is marked, if its key is there.
+    /// A pair is removed, if its key is present.
     Removes(u64, bool),
-    /// A pair is handed over and marked, and a clone of its value dropped, if its key is there.
+    /// A pair is removed by `remove_with`, and a clone of its value dropped, if its key is present.
     Reads(u64, bool),
     /// The minimum is raised.
     Reserves(usize),
-    /// All pairs go.
+    /// All pairs are removed.
     Clears,
     /// How many pairs and how many values there are.
     Sees(usize, usize),
@@ -38,7 +38,7 @@ type Story = (&'static str, ScriptHash, &'static [Step]);
 
 // Under the hash 0 all keys have one bucket, of 32 own slots, and the index keeps its 64.
 const STORIES: &[Story] = steps! {
-    // Both marks that wait are let go by one insertion.
+    // Both tombstones are dropped by one insertion.
     ("a marked value is dropped when an insertion lets it go", ScriptHash::Zero, steps! {
         Fills(0, 32), Sees(32, 32), Removes(0, true), Removes(0, false), Removes(5, true),
         Sees(30, 32), Inserts(32), Sees(31, 33), Now(1, false), Sees(31, 33), Inserts(33),
@@ -94,7 +94,7 @@ fn play(rt: &impl Abort, index: &mut Index, counted: &Rc<u64>, story: &Story) {
     }
 }
 
-// Inserts a key with a clone of a value. Whether it is in.
+// Inserts a key with a clone of a value. Whether it was inserted.
 fn insert_clone(index: &mut Index, counted: &Rc<u64>, key: u64, now: &FixedGeneration) -> bool {
     match counted.clone() {
         Ok(value) => index.insert(key, value, now).is_ok(),
@@ -102,7 +102,7 @@ fn insert_clone(index: &mut Index, counted: &Rc<u64>, key: u64, now: &FixedGener
     }
 }
 
-// Takes a step, and compares what comes of it.
+// Takes a step, and compares its result.
 fn take(
     rt: &impl Abort,
     index: &mut Index,
@@ -127,7 +127,7 @@ fn take(
     }
 }
 
-// Inserts keys with clones of a value. Whether all are in.
+// Inserts keys with clones of a value. Whether all were inserted.
 fn fill(index: &mut Index, counted: &Rc<u64>, now: &FixedGeneration, from: u64, to: u64) -> bool {
     let mut are_in = true;
     for key in from..to {
@@ -140,7 +140,7 @@ fn is_cloned(_own: &u64, value: &Rc<u64>) -> bool {
     value.clone().is_ok()
 }
 
-// Takes a step that marks pairs, raises the minimum, or looks.
+// Takes a step that removes pairs, raises the minimum, or looks.
 fn change(
     rt: &impl Abort,
     index: &mut Index,

@@ -75,7 +75,7 @@ fn words_are_printed_in_quotes(rt: HostRuntime) -> Result<(), Fail> {
     Ok(())
 }
 
-// The map grows as its last key comes.
+// The map grows when its last key is inserted.
 #[test]
 fn a_map_amid_a_growth_is_printed_whole(rt: HostRuntime) -> Result<(), Fail> {
     let mut map: Map = HashMap::with_hasher(rt.alloc(), ScriptHash::Spread);
@@ -86,7 +86,7 @@ fn a_map_amid_a_growth_is_printed_whole(rt: HostRuntime) -> Result<(), Fail> {
     Ok(())
 }
 
-// Keys come, each with what is left to 1000.
+// Keys are inserted, each with 1000 less the key.
 fn fill_to_1000(map: &mut Map, first: u64, last: u64) {
     for key in first..last {
         let _ = map.insert(key, 1000u64.wrapping_sub(key));
@@ -101,8 +101,8 @@ fn printed(alloc: Global, map: &Map) -> Option<usize> {
     }
 }
 
-// How many pairs a map's line has: of the keys 0 to 31 and 128 to 158 each at most once, and beside
-// it what is left to 1000; or else none.
+// How many pairs a map's line has: of the keys 0 to 31 and 128 to 158 each at most once, and with
+// it 1000 less the key; else none.
 fn pairs_in(line: &str) -> Option<usize> {
     let mut is_met = [false; 256];
     let mut came: usize = 0;
@@ -117,7 +117,7 @@ fn pairs_in(line: &str) -> Option<usize> {
     Some(came)
 }
 
-// The key of a pair as it is printed, if it is one of those, beside what is left to 1000.
+// The key of a pair as it is printed, if it is one of those, with 1000 less the key.
 fn key_in(pair: &str) -> Option<usize> {
     let (key, value) = pair.split_once(": ")?;
     let (key, value): (usize, usize) = (key.parse().ok()?, value.parse().ok()?);

@@ -11,33 +11,33 @@ use std::test::Fail;
 
 pub(super) type Set = HashSet<u64, ScriptHash>;
 
-/// A call on a set with what it answers, or what is seen of the set.
+/// A call on a set with its result, or what is seen of the set.
 pub(super) enum Step {
     /// A key is inserted.
     Inserts(u64),
-    /// A key comes back, since it is there.
+    /// A key is returned, since it is present.
     Returns(u64),
-    /// These keys come from an iterator.
+    /// These keys are inserted from an iterator.
     Comes(&'static [u64]),
-    /// The key that is taken out.
+    /// The key that is removed.
     Removes(u64, Option<u64>),
-    /// A key is added, or it is there.
+    /// A key is added, or it is present.
     Adds(u64, bool),
-    /// A key goes, or it isn't there.
+    /// A key is removed, or it is absent.
     Discards(u64, bool),
-    /// The keys stay that a number divides. So many were asked for.
+    /// The keys stay that a number divides. The function was called with so many.
     Retains(u64, usize),
     /// The minimum is to be raised by the first number, and is by the second.
     Reserves(usize, usize),
     /// Whether room is made for so many keys more.
     MakesRoom(usize, bool),
-    /// The minimum is given back, and the slots that the keys don't take.
+    /// The minimum is set to 0, and the slots that the keys don't take are freed.
     Shrinks,
-    /// All keys go.
+    /// All keys are removed.
     Clears,
-    /// Whether a key is there.
+    /// Whether a key is present.
     Holds(u64, bool),
-    /// The keys that `for_each` hands over and a loop meets.
+    /// The keys that `for_each` and a loop visit.
     Has(Ranges),
     /// How many keys and slots there are.
     Sees(usize, usize),
@@ -84,7 +84,7 @@ fn play(rt: &impl Abort, alloc: Global, steps: &[Step]) {
     }
 }
 
-// Takes a step that puts keys or lists them, and compares what comes of it.
+// Takes a step that puts keys or lists them, and compares its result.
 fn take(rt: &impl Abort, alloc: Global, set: &mut Set, at: At, step: &Step) {
     match *step {
         Inserts(key) => check_same(rt, insert(set, key), Ok(()), at),
@@ -96,8 +96,8 @@ fn take(rt: &impl Abort, alloc: Global, set: &mut Set, at: At, step: &Step) {
     }
 }
 
-// Inserts a key. Returns the one that comes back since it is there, or none where there is no
-// memory.
+// Inserts a key. Returns the one that is returned because it is present, or none if allocation
+// fails.
 fn insert(set: &mut Set, key: u64) -> Result<(), Option<u64>> {
     match set.insert_new(key) {
         Ok(()) => Ok(()),
@@ -106,12 +106,12 @@ fn insert(set: &mut Set, key: u64) -> Result<(), Option<u64>> {
     }
 }
 
-// Keys come from an iterator. Whether all are in.
+// Keys are inserted from an iterator. Whether all were inserted.
 fn come(set: &mut Set, keys: &[u64]) -> bool {
     set.try_extend(&mut keys.iter().copied()).is_ok()
 }
 
-// Takes a step that takes keys out, and compares what comes of it.
+// Takes a step that removes keys, and compares its result.
 fn change(rt: &impl Abort, set: &mut Set, at: At, step: &Step) {
     match *step {
         Removes(key, taken) => check_same(rt, set.take(&key), taken, at),
@@ -146,7 +146,7 @@ fn check_keys(rt: &impl Abort, alloc: Global, set: &Set, at: At, ranges: Ranges)
     check_listed(rt, alloc, keys_met(alloc, set), ranges, (at, "iter"));
 }
 
-// Keeps the keys that a number divides. Returns how many were asked for.
+// Keeps the keys that a number divides. Returns how many calls of the function there were.
 fn retain(set: &mut Set, divisor: u64) -> usize {
     let mut asked: usize = 0;
     let mut keep = |key: &u64| -> bool {

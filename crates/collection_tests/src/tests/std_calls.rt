@@ -1,5 +1,5 @@
-//! Calls that are named and answer as the standard library's do: room, functions by value, pairs and
-//! keys that come by `extend`, and iterators.
+//! Calls that have the names and results of the standard library's: room, functions by value,
+//! `extend`, and iterators.
 use super::check_same;
 use collections::DefaultHash;
 use collections::hash_map::HashMap;
@@ -18,7 +18,7 @@ fn a_set_answers_as_that_of_std(rt: HostRuntime) -> Result<(), Fail> {
     Ok(())
 }
 
-// A key comes twice, and goes twice.
+// A key is inserted twice, and removed twice.
 fn answer(rt: &impl Abort, set: &mut Set) {
     let came = (set.insert(1).ok(), set.insert(1).ok());
     check_same(rt, came, (Some(true), Some(false)), "insert");
@@ -31,8 +31,8 @@ fn answer(rt: &impl Abort, set: &mut Set) {
     check_same(rt, set.take(&1), None, "take");
 }
 
-/// The numbers of pairs for which a map with one shrinks in turn, and its slots then: so many pairs
-/// take no more than 13 of 16, and a half of the slots would be too few, or fewer than 64.
+/// The numbers of pairs for which a map with one pair shrinks in turn, and its slots then: so many
+/// pairs take no more than 13 of 16 slots, and half the slots would be too few, or fewer than 64.
 const SHRINKING: [(usize, usize); 3] = [(100, 128), (50, 64), (0, 64)];
 
 #[test]
@@ -132,8 +132,8 @@ fn a_map_extends_another(rt: HostRuntime) -> Result<(), Fail> {
     Ok(())
 }
 
-// Extends a map by another, and by a pair. How many pairs it has before that and then, and the value
-// of key 1.
+// Extends a map by another, and by a pair. How many pairs it has before that and then, and the
+// value of key 1.
 fn copy_pairs(own: &mut Map, map: &Map) -> Result<(usize, usize, Option<u64>), AllocError> {
     own.extend(map)?;
     let copied = own.len();

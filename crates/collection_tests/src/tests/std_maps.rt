@@ -62,10 +62,11 @@ pub(super) const STORIES: &[Story] = steps! {
             Holds(4, Some(40)), Holds(6, Some(60)) } }
 };
 
-// How many keys come and go. Those of the test are 1000, in ten rounds.
+// How many keys are inserted and removed. Those of the test are 1000, in ten rounds.
 const KEYS: u64 = 100;
 
-// test_lots_of_insertions. The keys go from the least one on in one round, and back in the other.
+// test_lots_of_insertions. The keys are removed in rising order in one round, and in falling order
+// in the other.
 #[test]
 fn many_keys_come_and_go(rt: HostRuntime) -> Result<(), Fail> {
     let mut map: Map = HashMap::with_hasher(rt.alloc(), ScriptHash::Spread);
@@ -76,7 +77,7 @@ fn many_keys_come_and_go(rt: HostRuntime) -> Result<(), Fail> {
     Ok(())
 }
 
-// Each key comes to an empty map: then those up to it are there.
+// Each key is inserted into an empty map: then those up to it are present.
 fn come(rt: &impl Abort, map: &mut Map) {
     check_same(rt, map.is_empty(), true, "empty");
     for key in 1..=KEYS {
@@ -85,7 +86,7 @@ fn come(rt: &impl Abort, map: &mut Map) {
     }
 }
 
-// Each key goes, from the least one on: then those above it are there.
+// Each key is removed, in rising order: then those above it are present.
 fn go_forwards(rt: &impl Abort, map: &mut Map) {
     for key in 1..=KEYS {
         let went = (map.remove(&key), has_only(map, key.wrapping_add(1), KEYS));
@@ -93,7 +94,7 @@ fn go_forwards(rt: &impl Abort, map: &mut Map) {
     }
 }
 
-// Each key goes, from the greatest one on: then those below it are there.
+// Each key is removed, in falling order: then those below it are present.
 fn go_back(rt: &impl Abort, map: &mut Map) {
     for number in 0..KEYS {
         let key = KEYS.wrapping_sub(number);

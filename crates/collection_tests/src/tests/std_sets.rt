@@ -1,5 +1,5 @@
 //! What the standard library's tests of its set check: the same calls on this set, with the same
-//! answers. A comment names the test; a key below 0 is here as far below 200.
+//! answers. A comment names the test; a key -n of the test is 200 - n here.
 use super::sets::Step::*;
 use super::sets::{Set, Step};
 use super::two_sets::{Ranges, Row, set_of};
@@ -88,7 +88,7 @@ fn sets_are_related_as_those_of_std(rt: HostRuntime) -> Result<(), Fail> {
     Ok(())
 }
 
-// What is so of the sets the other way round.
+// The same relations with the sets exchanged.
 fn turned(wanted: [bool; 4]) -> [bool; 4] {
     let [within, around, apart, equal] = wanted;
     [around, within, apart, equal]

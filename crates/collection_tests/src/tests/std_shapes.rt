@@ -1,5 +1,5 @@
-//! Calls in the shapes of the standard library's: a vector that a place makes, loans out of an entry,
-//! copies by `clone`.
+//! Calls as they are written with the standard library: a vector that an entry makes, mutable
+//! references out of an entry, copies by `clone`.
 use super::check_same;
 use collections::hash_map::{Entry, HashMap};
 use collections::hash_set::HashSet;
@@ -12,7 +12,7 @@ struct ByLength {
     words: HashMap<u64, Vec<u64>>,
 }
 
-// Puts a number behind those of a length.
+// Appends a number to those of a length.
 fn note(all: &mut ByLength, len: u64, number: u64) -> Result<(), AllocError> {
     all.words.entry(len).or_default()?.push(number)?;
     Ok(())
@@ -72,7 +72,8 @@ fn grow_beside_clone(set: &mut HashSet<u64>) -> Result<(usize, usize), AllocErro
     Ok((set.len(), copy.len()))
 }
 
-// Adds to the value of a key, by the two loans out of its entry, and returns what was lent.
+// Adds to the value of a key, through the two mutable references that its entry returns, and
+// returns the value.
 fn raise(map: &mut HashMap<u64, u64>, key: u64) -> Option<(u64, u64)> {
     match map.entry(key) {
         Entry::Occupied(mut place) => {
@@ -97,7 +98,7 @@ fn an_entry_lends_its_value(rt: HostRuntime) -> Result<(), Fail> {
     Ok(())
 }
 
-// Lends the text of a key, which is made only where there is none, and fails at 9.
+// Returns the text of a key, which is made only if there is none; making it fails at 9.
 fn text_of(alloc: Global, texts: &mut HashMap<u64, String>, key: u64) -> Result<usize, AllocError> {
     let make = || if key == 9 {
         Err(AllocError)
@@ -109,7 +110,7 @@ fn text_of(alloc: Global, texts: &mut HashMap<u64, String>, key: u64) -> Result<
     Ok(lent.len())
 }
 
-// The keys, and what comes out of the text of each.
+// The keys, and the result for the text of each.
 const TEXTS: [(u64, Option<usize>); 3] = [(1, Some(4)), (1, Some(5)), (9, None)];
 
 #[test]

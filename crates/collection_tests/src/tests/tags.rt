@@ -1,4 +1,5 @@
-//! Keys that are equal and not the same: the key that came first stays, and comes out again.
+//! Keys that are equal and not the same: the key that was inserted first stays, and is the one that
+//! is returned.
 ghost use Rattle.std.specs.Prelude.{◌==◌, refl};
 ghost use Rattle.std.specs.Cmp.Rules.{comparing};
 ghost use Rattle.std.proofs.Common.{arith, rules};
@@ -56,8 +57,7 @@ type Map = HashMap<Tagged, u64, OneHash>;
 
 type Set = HashSet<Tagged, OneHash>;
 
-/// A call on a map or a set. With it comes the tag of the key that comes back or out, or that is
-/// there.
+/// A call on a map or a set, with the tag of the key that is returned, or that is present.
 enum Step {
     /// A pair is inserted into the map.
     Inserts(Tagged, u64, Option<u64>),
@@ -65,17 +65,17 @@ enum Step {
     Upserts(Tagged, u64, Option<u64>),
     /// The pair is updated.
     Updates(Tagged, Option<u64>),
-    /// The pair goes, with this value.
+    /// The pair is removed, with this value.
     Removes(Tagged, Option<(u64, u64)>),
     /// A key is inserted into the set.
     Comes(Tagged, Option<u64>),
-    /// A key is added to the set, or an equal one is there.
+    /// A key is added to the set, or an equal one is present.
     Adds(Tagged, bool),
     /// A key takes the place of its equal.
     Replaces(Tagged, Option<u64>),
     /// The key that the set has.
     Has(Tagged, Option<u64>),
-    /// A key of the set goes.
+    /// A key of the set is removed.
     Goes(Tagged, Option<u64>),
     /// How many keys the set has.
     Len(usize),
@@ -108,7 +108,7 @@ fn of_equal_keys_the_first_stays(rt: HostRuntime) -> Result<(), Fail> {
     Ok(())
 }
 
-// Takes a step, and compares what it answers.
+// Takes a step, and compares its result.
 fn take(rt: &impl Abort, map: &mut Map, set: &mut Set, at: At, step: &Step) {
     match *step {
         Inserts(key, value, back) => {
@@ -129,7 +129,7 @@ fn take(rt: &impl Abort, map: &mut Map, set: &mut Set, at: At, step: &Step) {
     }
 }
 
-// Takes a step on the set, and compares what it answers.
+// Takes a step on the set, and compares its result.
 fn take_on_set(rt: &impl Abort, set: &mut Set, at: At, step: &Step) {
     match *step {
         Comes(key, back) => check_same(rt, returned(set.insert_new(key)), Some(back), at),
@@ -142,7 +142,8 @@ fn take_on_set(rt: &impl Abort, set: &mut Set, at: At, step: &Step) {
     }
 }
 
-// The tag of a key that comes back since an equal one is there, or none where the key is in.
+// The tag of a key that is returned because an equal one is present, or none if the key was
+// inserted.
 fn returned<V: Drop>(outcome: Result<(), NotInserted<Tagged, V>>) -> Option<Option<u64>> {
     match outcome {
         Ok(()) => Some(None),
@@ -151,7 +152,7 @@ fn returned<V: Drop>(outcome: Result<(), NotInserted<Tagged, V>>) -> Option<Opti
     }
 }
 
-// The tag of a key that is there.
+// The tag of a key that is present.
 fn own_tag(own: &Tagged, _value: &mut u64) -> u64 {
     own.tag
 }

@@ -1,5 +1,5 @@
-//! Stories of two maps of numbers: whether they are equal, where neither the order in which pairs
-//! came nor the hasher counts; and what a change of one leaves of its copy.
+//! Stories of two maps of numbers: whether they are equal, where neither the order of insertion nor
+//! the hasher counts; and what a change of one leaves of its copy.
 use super::equality::check_equal;
 use super::maps::Step::*;
 use super::maps::{Map, Step, fill, take};
@@ -21,12 +21,12 @@ enum Turn {
     Clones,
     /// The other map becomes a copy of the first.
     Copies,
-    /// There is no memory for a clone of the first.
+    /// Allocating a clone of the first fails.
     LacksMemory,
     /// Whether the maps are equal.
     AreEqual(bool),
-    /// Keys come, each to one map and then to the other: the maps are equal where both have it. The
-    /// second number is the first key that is not meant.
+    /// Keys are inserted, each into one map and then into the other: the maps are equal when both
+    /// have it. The second number is the first key that is not meant.
     FillInTurn(u64, u64),
 }
 
@@ -40,11 +40,11 @@ struct Story {
     turns: &'static [Turn],
 }
 
-// The greatest minimum, for which there is no memory.
+// The greatest minimum, which can't be allocated.
 const MOST: usize = 1 << 63;
 
 // Of two buckets the first has the keys below 128, under the hash that spreads low bytes, and is
-// full as the last one comes.
+// full when the last one is inserted.
 const STORIES: &[Story] = steps! {
     Story { name: "a change of a map leaves its copy",
         starts: ((ScriptHash::Spread, 0), (ScriptHash::Id, 0)), turns: steps! {
@@ -62,7 +62,7 @@ const STORIES: &[Story] = steps! {
         starts: ((ScriptHash::Spread, 0), (ScriptHash::Spread, 0)), turns: steps! {
             One(Fills(0, 100)), Copies, AreEqual(true), One(Removes(7, Some((7, 7)))),
             Other(Holds(7, Some(7))), Other(Len(100)) } },
-    // The first map grows as its last key comes, and the other has room from the first.
+    // The first map grows when its last key is inserted, and the other has room from the first.
     Story { name: "a map amid a growth is equal to its like",
         starts: ((ScriptHash::Spread, 0), (ScriptHash::Id, 128)), turns: steps! {
             One(Fills(128, 159)), Other(Fills(128, 159)), FillInTurn(0, 32), One(Slots(128)),
@@ -94,7 +94,7 @@ fn new_map(alloc: Global, start: Start) -> Map {
     HashMap::with_minimum(alloc, start.0, start.1)
 }
 
-// Takes a turn, and compares what comes of it.
+// Takes a turn, and compares its result.
 fn play(rt: &impl Abort, alloc: Global, one: &mut Map, other: &mut Map, at: At, turn: &Turn) {
     match turn {
         One(step) => take(rt, one, at, step),
@@ -121,7 +121,7 @@ fn renew(map: &mut Map, made: Result<Map, AllocError>) -> bool {
     }
 }
 
-// Each key comes to one map and then to the other: they are equal where both have it.
+// Each key is inserted into one map and then into the other: they are equal when both have it.
 fn fill_in_turn(rt: &impl Abort, one: &mut Map, other: &mut Map, from: u64, to: u64) {
     for key in from..to {
         check_equal(rt, &*one, &*other, true, ("as many", key));

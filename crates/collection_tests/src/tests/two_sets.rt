@@ -1,4 +1,4 @@
-//! What two sets have together, apart, and of one alone.
+//! The intersection, the differences and the union of two sets.
 ghost use Rattle.std.specs.Iterator.{IsFinite};
 
 use super::sets::{Set, fill_set};
@@ -13,7 +13,7 @@ use std::test::Fail;
 /// Keys in order. Of each two the second is the first that is not meant.
 pub(super) type Ranges = &'static [(u64, u64)];
 
-/// The keys of two sets, and those that four iterators give.
+/// The keys of two sets, and those that four iterators yield.
 pub(super) struct Row {
     pub(super) one: Ranges,
     pub(super) other: Ranges,
@@ -33,7 +33,7 @@ pub(super) enum Call {
     SymmetricDifference,
 }
 
-// A set of the keys 0 to 31 and 128 to 158 grows as its last key comes.
+// A set of the keys 0 to 31 and 128 to 158 grows when its last key is inserted.
 const ROWS: &[Row] = steps! {
     Row { one: &[], other: &[], union: &[], intersection: &[], difference: &[],
         symmetric_difference: &[] },
@@ -62,7 +62,7 @@ fn two_sets_are_joined_and_parted(rt: HostRuntime) -> Result<(), Fail> {
     Ok(())
 }
 
-// What each call hands over of the sets of each row.
+// What each call returns for the sets of each row.
 fn check_rows(rt: &impl Abort, alloc: Global, rows: &[Row]) {
     for (number, row) in rows.iter().enumerate() {
         let one = set_of(alloc, ScriptHash::Spread, row.one);
@@ -82,7 +82,7 @@ fn check_row(rt: &impl Abort, alloc: Global, one: &Set, other: &Set, row: &Row, 
     }
 }
 
-// The calls, and the keys that each is to hand over.
+// The calls, and the keys that each is to return.
 fn calls(row: &Row) -> [(Call, Ranges); 4] {
     [
         (Call::Union, row.union),
@@ -113,7 +113,7 @@ pub(super) fn set_of(alloc: Global, hasher: ScriptHash, ranges: Ranges) -> Set {
     set
 }
 
-// The keys that a call hands over.
+// The keys that a call returns.
 pub(super) fn handed_over(alloc: Global, one: &Set, other: &Set, call: Call) -> Vec<u64> {
     match call {
         Call::ForEach => called_with(alloc, one),
@@ -124,7 +124,7 @@ pub(super) fn handed_over(alloc: Global, one: &Set, other: &Set, call: Call) -> 
     }
 }
 
-// The keys of a new set that has those of a call: none where memory runs out.
+// The keys of a new set that has those of a call: none if allocation fails.
 fn collected(alloc: Global, one: &Set, other: &Set, call: Call) -> Vec<u64> {
     let made: Result<HashSet<u64>, AllocError> = match call {
         Call::ForEach => one.iter().copied().collect(alloc),
@@ -139,7 +139,7 @@ fn collected(alloc: Global, one: &Set, other: &Set, call: Call) -> Vec<u64> {
     }
 }
 
-// The keys of a new set that an operator makes: none where memory runs out.
+// The keys of a new set that an operator makes: none if allocation fails.
 fn joined(alloc: Global, one: &Set, other: &Set, call: Call) -> Vec<u64> {
     let made = match call {
         Call::ForEach => one.try_clone(alloc),
@@ -161,8 +161,8 @@ fn called_with(alloc: Global, set: &Set) -> Vec<u64> {
     keys
 }
 
-// The keys that an iterator gives: two that it is asked for, the rest in a loop, and what comes
-// where it is asked again after its end.
+// The keys that an iterator yields: two by `next`, the rest in a loop, and what another `next`
+// returns after its end.
 fn given<'a, I: Iterator<Item = &'a u64>>(alloc: Global, mut left: I) -> Vec<u64>
     requires can { (state : I) → I.can_next state }
     requires finite { IsFinite (I.remaining left) }

@@ -1,5 +1,5 @@
 //! Words that are looked up by texts, and lists by slices, in collections that name no hasher; and
-//! the errors that hand a word back.
+//! the errors that return a word.
 use super::forms::{Words, no_words, owned, put};
 use super::{At, check_same, maps, sets, steps};
 use Step::*;
@@ -11,9 +11,9 @@ use std::io::{self, ErrorKind};
 use std::process::Abort;
 use std::test::Fail;
 
-/// A call on a collection of each kind, with what a look-up by a text answers.
+/// A call on a collection of each kind, with the result of a look-up by a text.
 enum Step {
-    /// A word comes with a number.
+    /// A word is inserted with a number.
     Puts(&'static str, u64),
     /// The number of a word.
     Finds(&'static str, Option<u64>),
@@ -57,7 +57,7 @@ fn take(rt: &impl Abort, alloc: Global, words: &mut Words, at: At, step: &Step) 
     }
 }
 
-/// The number of a word, and whether the word is there.
+/// The number of a word, and whether the word is present.
 type Found = (Option<u64>, bool);
 
 // What is found by a text in the map, the index and the cache.
@@ -90,7 +90,7 @@ fn lists_are_looked_up_by_slices(rt: HostRuntime) -> Result<(), Fail> {
     Ok(())
 }
 
-// Inserts a list. Whether it was there before, came, and is there then.
+// Inserts a list. Whether it was present before, was inserted, and is present then.
 fn insert_list(alloc: Global, lists: &mut HashSet<Vec<u64>>, list: &[u64]) -> (bool, bool, bool) {
     let was_there = lists.contains(list);
     let came = match Vec::from_slice(alloc, list) {
@@ -125,7 +125,7 @@ fn a_new_map_and_a_new_set_take_words(rt: HostRuntime) -> Result<(), Fail> {
     Ok(())
 }
 
-// A refusal as text, and the pair that it gives.
+// An insertion's error as text, and the pair that it returns.
 fn check_refusal(
     rt: &impl Abort,
     alloc: Global,
@@ -143,7 +143,7 @@ fn shown<E: Error>(alloc: Global, error: &E) -> Result<String, AllocError> {
     format!(in alloc; "{error}")
 }
 
-// A word comes to a map once.
+// A word is inserted into a map once.
 fn check_insertions(rt: &impl Abort, alloc: Global) {
     let mut words = HashMap::new(alloc);
     check_same(rt, kind(words.insert("Ann", 1)), None, "inserted");
@@ -158,7 +158,7 @@ fn check_insertions(rt: &impl Abort, alloc: Global) {
     );
 }
 
-// The kind of the error that a refusal is where `?` passes it on.
+// The kind of the error that `?` makes of an insertion's error.
 fn kind(outcome: Result<(), NotInserted<&'static str, u64>>) -> Option<ErrorKind> {
     match passed_on(outcome) {
         Ok(()) => None,

@@ -1,4 +1,4 @@
-//! Calls that change values of a cache, or take out the pairs that a function refuses.
+//! Calls that change values of a cache, or remove the pairs for which a function returns `false`.
 ghost use Rattle.std.specs.Prelude.{◌≡◌, is_some, false, true};
 ghost use Rattle.std.specs.Borrow.{Bor, MutBor, sem};
 ghost use Rattle.std.specs.Option.{option_copied_mut};
@@ -15,11 +15,11 @@ use bucket_table::key_hash::KeyHash;
 impl<K: Eq + Drop, V: Drop, H: KeyHash<K>> HashCache<K, V, H> {
     ghost use Rattle.collections.specs.CacheLends.{LendsValue};
 
-    /// Hands the pair under a key, or under the keys that a form stands for, to a function, its
-    /// value for writing, and returns what that answers; `None` where the cache hasn't the key. The
-    /// pair isn't touched: its place in the LRU order stays.
+    /// Calls a function with the pair under a key, or under the keys that a form stands for, its
+    /// value mutable, and returns what the function returns; `None` if the cache hasn't the key.
+    /// The pair isn't touched: its place in the LRU order stays.
     ///
-    /// Never refused. O(1) expected. Own.
+    /// Never fails. O(1) expected. Own.
     #[inline(always)]
     pub fn update<Q: KeyForm<K, H>, R, F: FnOnce(&K, &mut V) -> R>(
         &mut self,
@@ -45,11 +45,11 @@ impl<K: Eq + Drop, V: Drop, H: KeyHash<K>> HashCache<K, V, H> {
         outcome
     }
 
-    /// Lends the value under a key, or under the keys that a form stands for, for writing, whose pair
-    /// is now the one of its bucket touched last, as after `get`; `None` where the cache hasn't the
-    /// key. Once the loan ends, the key has the value last written, and each other key what it had.
+    /// Returns a mutable reference to the value under a key, or under the keys that a form stands
+    /// for, and touches its pair as `get` does; `None` if the cache hasn't the key. When the borrow
+    /// ends, the key has the value last written, and each other key its earlier value.
     ///
-    /// Never refused. O(1) expected. Own.
+    /// Never fails. O(1) expected. Own.
     #[inline(always)]
     pub fn get_mut<Q: KeyForm<K, H>>(&mut self, key: Q) -> Option<&mut V>
         ensures* writes_back { sem 𝓛
@@ -69,11 +69,11 @@ impl<K: Eq + Drop, V: Drop, H: KeyHash<K>> HashCache<K, V, H> {
         }
     }
 
-    /// Lends the value under a key, or under the keys that a form stands for, for writing, and
-    /// doesn't touch its pair; `None` where the cache hasn't the key. Once the loan ends, the key has
-    /// the value last written, and each other key what it had.
+    /// Returns a mutable reference to the value under a key, or under the keys that a form stands
+    /// for, and doesn't touch its pair; `None` if the cache hasn't the key. When the borrow ends,
+    /// the key has the value last written, and each other key its earlier value.
     ///
-    /// Never refused. O(1) expected. Own.
+    /// Never fails. O(1) expected. Own.
     #[inline(always)]
     pub fn peek_mut<Q: KeyForm<K, H>>(&mut self, key: Q) -> Option<&mut V>
         ensures* writes_back { sem 𝓛
@@ -88,11 +88,11 @@ impl<K: Eq + Drop, V: Drop, H: KeyHash<K>> HashCache<K, V, H> {
             .get_mut_by(hash, &mut FormProbe::<Q, H>::new(key))
     }
 
-    /// Asks a function of each pair once, its value lent for writing, and drops each pair for which
-    /// it answers `false`; the others stay, with the values that it left and in their LRU order.
-    /// None is touched.
+    /// Calls a function with each pair once, its value mutable, and drops each pair for which it
+    /// returns `false`; the others stay, with the values that it left and in their LRU order. None
+    /// is touched.
     ///
-    /// Never refused, and takes no memory. O(slots), and the function's calls. scc:
+    /// Never fails, and takes no memory. O(slots), and the function's calls. scc:
     /// `HashCache::retain_sync`.
     #[inline(always)]
     pub fn retain<F: FnMut(&K, &mut V) -> bool>(&mut self, f: &mut F)

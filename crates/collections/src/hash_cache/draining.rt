@@ -10,15 +10,15 @@ use bucket_slots::lru::DoublyLinkedList;
 use bucket_table::hash_table::TableDrain;
 use bucket_table::key_hash::KeyHash;
 
-/// The pairs that are left of those that a cache had.
+/// An iterator over the pairs that are left of those that a cache had.
 pub type Drain<K, V> = TableDrain<K, V, DoublyLinkedList, CACHE>;
 
 impl<K: Eq, V, H: KeyHash<K>> HashCache<K, V, H> {
-    /// Takes all pairs out, and hands them out one after the other, in the order of the view, which
-    /// isn't the LRU order. The cache is empty at once, also if the iterator is dropped half-way,
-    /// which drops the rest; all slots go with it. The hasher and the capacities stay.
+    /// Returns an iterator over all pairs by value, in the order of the view, which isn't the LRU
+    /// order. The cache is empty at once and has no slots; the hasher and the capacities stay. If
+    /// the iterator is dropped half-way, the rest is dropped with it.
     ///
-    /// Takes no memory, and is never refused. O(1); all steps together O(slots). Own.
+    /// Takes no memory, and never fails. O(1); all steps together O(slots). Own.
     pub fn drain(&mut self) -> Drain<K, V>
         ensures rest { result ≡ pairs_of self.old.arrays }
         ensures unique { IsUnique K.eq (map_of self.old) }

@@ -8,8 +8,8 @@ use std::alloc::{AllocError, Global};
 use std::default::{Emptied, MadeWith};
 use std::hash::Hash;
 
-/// So `mem::try_take(&mut cache)` takes a cache, and leaves an empty one with the same capacities
-/// and a clone of its hasher. It fails only where that clone does. O(1).
+/// `mem::try_take(&mut cache)` takes a cache, and leaves an empty one with the same capacities and
+/// a clone of its hasher. It fails only if that clone does. O(1).
 impl<K: Eq, V, H: KeyHash<K> + Clone> Emptied for HashCache<K, V, H> {
     ghost is_emptied = { λ cache. IsEmpty (map_of cache) };
 
@@ -22,7 +22,7 @@ impl<K: Eq, V, H: KeyHash<K> + Clone> Emptied for HashCache<K, V, H> {
     }
 }
 
-/// So a cache of at most 256 slots can be the value that an entry's `or_default` makes.
+/// A cache of at most 256 slots can be the value that an entry's `or_default` makes.
 impl<K: Eq + Hash, V> MadeWith<Global> for HashCache<K, V, DefaultHash> {
     ghost is_made_with = { λ cache. IsEmpty (map_of cache) };
 

@@ -27,8 +27,8 @@ pub type Keys<'a, K, V> = TableKeys<'a, K, V, DoublyLinkedList, CACHE>;
 pub type Values<'a, K, V> = TableValues<'a, K, V, DoublyLinkedList, CACHE>;
 
 impl<K: Eq, V, H: KeyHash<K>> HashCache<K, V, H> {
-    /// Lends the pairs one after the other, in the order of the view, which isn't the LRU order:
-    /// `iter_by_use` goes by that. None is touched.
+    /// Returns an iterator over the pairs, in the order of the view. That isn't the LRU order,
+    /// which `iter_by_use` follows. None is touched.
     ///
     /// Takes no memory. O(1); all steps together O(slots, and the square of the number of blocks of
     /// each chain). Own.
@@ -41,9 +41,9 @@ impl<K: Eq, V, H: KeyHash<K>> HashCache<K, V, H> {
         self.table.pairs()
     }
 
-    /// Lends the pairs one after the other, bucket by bucket, and those of each bucket by use: the
-    /// listed ones first, the one touched last before the others, then the rest of its own slots,
-    /// and then its chain. None is touched.
+    /// Returns an iterator over the pairs, bucket by bucket. In each bucket the pairs of the LRU
+    /// order come first, the most recently used one before the others, then the rest of its own
+    /// slots, and then its overflow chain. None is touched.
     ///
     /// Takes no memory. As `iter`. Own: what the crate `lru` calls `iter`, a bucket at a time.
     pub fn iter_by_use(&self) -> IterByUse<'_, K, V>
@@ -56,7 +56,7 @@ impl<K: Eq, V, H: KeyHash<K>> HashCache<K, V, H> {
         self.table.pairs_by_use()
     }
 
-    /// Lends the keys one after the other, in the order of the view. None is touched.
+    /// Returns an iterator over the keys, in the order of the view. None is touched.
     ///
     /// Takes no memory. As `iter`. Own.
     pub fn keys(&self) -> Keys<'_, K, V>
@@ -70,7 +70,7 @@ impl<K: Eq, V, H: KeyHash<K>> HashCache<K, V, H> {
         }
     }
 
-    /// Lends the values one after the other, in the order of the view. No pair is touched.
+    /// Returns an iterator over the values, in the order of the view. No pair is touched.
     ///
     /// Takes no memory. As `iter`. Own.
     pub fn values(&self) -> Values<'_, K, V>

@@ -1,5 +1,5 @@
-//! Calls that put a pair into a cache where its key is absent, and do something else where it is
-//! there.
+//! Calls that insert a pair into a cache if its key is absent, and do something else if it is
+//! present.
 ghost use Rattle.std.specs.Prelude.{◌≡◌, Err, OnErr, false};
 ghost use Rattle.std.specs.Borrow.{Bor};
 ghost use Rattle.bucket_slots.specs.declared.bucket.TheConstants.{CACHE};
@@ -22,28 +22,28 @@ use std::alloc::AllocFailed;
 /// What an upsert did.
 #[derive(Debug, Drop)]
 pub enum Upserted<K, V> {
-    /// The key was absent. The pair is in, and none went for it.
+    /// The key was absent. The pair was inserted, and none evicted.
     Added,
-    /// The key was absent. The pair is in, and this one went for it.
+    /// The key was absent. The pair was inserted, and this one evicted.
     Evicted(K, V),
-    /// The key was there, beside this value.
+    /// The key was present, with this value, which was replaced.
     Replaced(V),
 }
 
 impl<K: Eq + Drop, V: Drop, H: KeyHash<K>> HashCache<K, V, H> {
     ghost use Rattle.collections.specs.CacheUpserts.{GetsOrInserts, PutsVacant, UpsertsInOrder, UpsertsOrEvicts};
 
-    /// Puts a pair whose key the cache hasn't, as `put` does, or writes its value beside the key
-    /// that is equal, which stays. Either way its pair is now the one of its bucket touched last.
-    /// Returns the earlier value, or the pair that went for it, where one did. Where an equal key
-    /// is there it is never refused, and none goes.
+    /// Inserts a pair whose key the cache hasn't, as `put` does, or replaces the value of the equal
+    /// key, which stays. Either way its pair is now the most recently used one of its bucket.
+    /// Returns the earlier value, or the evicted pair, if any. If the cache has an equal key, the
+    /// call never fails, and no pair is evicted.
     ///
     /// # Errors
     ///
-    /// Allocation failure, as in `put`, and the cache has no such key: the pair comes back, and none
-    /// goes.
+    /// Allocation failure, as in `put`: the cache has no equal key, the pair is returned, and none
+    /// is evicted.
     ///
-    /// O(1) expected, beside a resize. Own: std's `HashMap::insert`, and `put` of other caches.
+    /// O(1) expected, plus any resize. Own: std's `HashMap::insert`, and `put` of other caches.
     #[inline(always)]
     pub fn upsert(&mut self, key: K, value: V) -> Result<Upserted<K, V>, AllocFailed<(K, V)>>
         ensures map { UpsertsOrEvicts K.eq key value (map_of self.old) result (map_of self.new) }
@@ -70,18 +70,17 @@ impl<K: Eq + Drop, V: Drop, H: KeyHash<K>> HashCache<K, V, H> {
         }
     }
 
-    /// Touches the pair whose key is equal, as `get` does, hands its value to a function, and
-    /// returns what that answers, and no pair. Where the cache hasn't the key, it makes a value,
-    /// hands that to the function, and puts it as `put` does; it returns the answer, and the pair
-    /// that went for it, where one did. Where the key is there nothing is made, and it is never
-    /// refused.
+    /// Touches the pair whose key is equal, as `get` does, and calls `reader` with its value. If
+    /// the cache hasn't the key, it makes a value, calls `reader` with that, and inserts it as
+    /// `put` does. Returns what `reader` returned, and the evicted pair, if any. If the cache has
+    /// the key, no value is made, the call never fails, and no pair is evicted.
     ///
     /// # Errors
     ///
-    /// Allocation failure, as in `put`, and the cache has no such key: the key comes back with what
-    /// was made, and none goes. The answer is dropped.
+    /// Allocation failure, as in `put`: the cache has no equal key, the key and the value made are
+    /// returned, and none is evicted. The function's result is dropped.
     ///
-    /// O(1) expected, beside a resize. Own.
+    /// O(1) expected, plus any resize. Own.
     #[inline(always)]
     pub fn get_or_insert_with<R: Drop, M: FnOnce() -> V, F: FnOnce(&V) -> R>(
         &mut self,
@@ -116,7 +115,7 @@ impl<K: Eq + Drop, V: Drop, H: KeyHash<K>> HashCache<K, V, H> {
         }
     }
 
-    /// Puts a pair whose key the cache hasn't, of this hash, after a search that met none.
+    /// Inserts a pair with this hash, whose key a search hasn't found.
     #[inline(always)]
     fn put_vacant(
         &mut self,

@@ -1,4 +1,4 @@
-//! A cache put into an array of another size.
+//! Resizing a cache at once.
 ghost use Rattle.std.specs.Prelude.{◌≡◌, OnErr, OnOk};
 ghost use Rattle.collections.specs.Resizing.{ResizesTo};
 
@@ -8,15 +8,16 @@ use bucket_table::key_hash::KeyHash;
 use std::alloc::AllocError;
 
 impl<K: Eq + Drop, V: Drop, H: KeyHash<K>> HashCache<K, V, H> {
-    /// Puts all pairs into a new array of the least power of two that is at least this number of
-    /// slots and 64, or 2^63, which is the cache's full size from then on, as in `with_size`. It is as
-    /// if each pair were `put` into an empty cache of that size, those of a bucket in the order of
-    /// their use: a pair goes, and is dropped, only where 32 stand in its new bucket, the one touched
-    /// longest ago first. A pair that isn't listed counts as older than those of its bucket that are.
+    /// Moves all pairs into a new array, and makes its size the minimum and the maximum, as
+    /// `with_size` does: the least power of two that is at least this number of slots and 64, or
+    /// 2^63. It is as if each pair were `put` into an empty cache of that size, those of a bucket
+    /// in LRU order, the least recently used one first. A pair is evicted, and dropped, only when
+    /// its new bucket has 32 pairs already, the least recently used one first. A pair outside the
+    /// LRU order counts as less recently used than those of its bucket that are in it.
     ///
     /// # Errors
     ///
-    /// Allocation failure for the new array: the cache is as it was.
+    /// Allocation failure for the new array: the cache is unchanged.
     ///
     /// O(slots of all arrays). lru: `LruCache::resize`.
     pub fn resize(&mut self, slots: usize) -> Result<(), AllocError>

@@ -10,8 +10,8 @@ use std::alloc::{AllocError, Global};
 use std::default::{Emptied, MadeWith};
 use std::hash::Hash;
 
-/// So `mem::try_take(&mut index)` takes an index with its tombstones, and leaves an empty one with
-/// a clone of its hasher. Its minimum is 0. It fails only where that clone does. O(1).
+/// `mem::try_take(&mut index)` takes an index with its tombstones, and leaves an empty one with a
+/// clone of its hasher. Its minimum is 0. It fails only if that clone does. O(1).
 impl<K: Eq, V, H: KeyHash<K> + Clone> Emptied for HashIndex<K, V, H> {
     ghost is_emptied = { λ index. IsEmpty (map_of index) × (marks_of index.arrays ≡ []) };
 
@@ -21,7 +21,7 @@ impl<K: Eq, V, H: KeyHash<K> + Clone> Emptied for HashIndex<K, V, H> {
     }
 }
 
-/// So an index can be the value that an entry's `or_default` makes.
+/// An index can be the value that an entry's `or_default` makes.
 impl<K: Eq + Hash, V> MadeWith<Global> for HashIndex<K, V, DefaultHash> {
     ghost is_made_with = { λ index. IsEmpty (map_of index) × (marks_of index.arrays ≡ []) };
 

@@ -1,4 +1,4 @@
-//! The iterators over an index's pairs, its keys and its values. None gives a tombstone's.
+//! The iterators over an index's pairs, its keys and its values. None returns a tombstone.
 ghost use Rattle.std.specs.Prelude.{◌≡◌};
 ghost use Rattle.std.specs.Map.{keys_of, values_of};
 ghost use Rattle.bucket_table.specs.Views.ArraysView.{pairs_of};
@@ -21,7 +21,7 @@ pub type Keys<'a, K, V> = TableKeys<'a, K, V, (), INDEX>;
 pub type Values<'a, K, V> = TableValues<'a, K, V, (), INDEX>;
 
 impl<K: Eq, V, H: KeyHash<K>> HashIndex<K, V, H> {
-    /// Lends the pairs one after the other, in the order of the view, and no tombstone's.
+    /// Returns an iterator over the pairs, in the order of the view, without tombstones.
     ///
     /// Takes no memory. O(1); all steps together O(slots, and the square of the number of blocks of
     /// each chain). scc: `HashIndex::iter`.
@@ -34,7 +34,7 @@ impl<K: Eq, V, H: KeyHash<K>> HashIndex<K, V, H> {
         self.table.pairs()
     }
 
-    /// Lends the keys one after the other, in the order of the view.
+    /// Returns an iterator over the keys, in the order of the view.
     ///
     /// Takes no memory. As `iter`. Own.
     pub fn keys(&self) -> Keys<'_, K, V>
@@ -48,7 +48,7 @@ impl<K: Eq, V, H: KeyHash<K>> HashIndex<K, V, H> {
         }
     }
 
-    /// Lends the values one after the other, in the order of the view.
+    /// Returns an iterator over the values, in the order of the view.
     ///
     /// Takes no memory. As `iter`. Own.
     pub fn values(&self) -> Values<'_, K, V>

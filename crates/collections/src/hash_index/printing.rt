@@ -3,7 +3,7 @@ use crate::hash_index::HashIndex;
 use bucket_table::key_hash::KeyHash;
 use std::fmt::{self, Debug, Formatter, Write};
 
-/// The pairs, as std prints a map: `{key: value, ..}`, removed ones left out.
+/// The pairs, as std prints a map: `{key: value, ..}`, without removed ones.
 impl<K: Eq + Debug, V: Debug, H: KeyHash<K>> Debug for HashIndex<K, V, H> {
     fn fmt<W: Write>(&self, f: &mut Formatter<W>) -> fmt::Result {
         let mut out = f.debug_map();

@@ -1,4 +1,4 @@
-//! A copy of a map whose keys and values are clones, which can be refused.
+//! A copy of a map whose keys and values are clones. Allocation may fail.
 ghost use Rattle.std.specs.Prelude.{IfOk, IsOk, OnOk};
 ghost use Rattle.collections.specs.Clones.{IsClone, PutsClone};
 ghost use Rattle.collections.specs.Maps.{IsEmpty};
@@ -13,8 +13,8 @@ impl<K: Eq + Clone, V: Clone, H: KeyHash<K> + Clone> HashMap<K, V, H> {
     ///
     /// # Errors
     ///
-    /// Allocation failure; or a key's clone isn't equal to it, since no law of `Clone` says that it
-    /// is. An empty map takes no memory but for its hasher's clone.
+    /// Allocation failure; or a key's clone isn't equal to the key, which no law of `Clone` rules
+    /// out. An empty map takes no memory but for its hasher's clone.
     ///
     /// O(slots) expected. scc: `HashMap::clone`.
     pub fn try_clone(&self, alloc: Global) -> Result<Self, AllocError>
@@ -36,7 +36,7 @@ impl<K: Eq + Clone, V: Clone, H: KeyHash<K> + Clone> HashMap<K, V, H> {
 }
 
 impl<K: Eq + Clone, V: Clone, H: KeyHash<K>> HashMap<K, V, H> {
-    /// Puts clones of a key and a value, if that of the key is equal to it.
+    /// Inserts clones of a key and a value, if the key's clone is equal to it.
     fn put_clone(&mut self, key: &K, value: &V) -> Result<(), AllocError>
         ensures { OnOk result
             (PutsClone K.eq K.is_clone V.is_clone self.old (key.now, value.now) self.new) }
@@ -53,8 +53,8 @@ impl<K: Eq + Clone, V: Clone, H: KeyHash<K>> HashMap<K, V, H> {
     }
 }
 
-/// As `try_clone`, whose memory comes from the map's own allocator: so a struct with a map can
-/// derive `Clone`.
+/// As `try_clone`, with memory from the map's own allocator, so that a struct with a map can derive
+/// `Clone`.
 impl<K: Eq + Clone, V: Clone, H: KeyHash<K> + Clone> Clone for HashMap<K, V, H> {
     ghost is_clone = { λ own copy. IsClone K.eq K.is_clone V.is_clone H.is_clone own copy };
 

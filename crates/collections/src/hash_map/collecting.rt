@@ -1,4 +1,4 @@
-//! Pairs of an iterator, put into a map.
+//! The pairs of an iterator, inserted into a map.
 ghost use Rattle.std.specs.Iterator.{IsFinite};
 ghost use Rattle.collections.specs.Collecting.{PutsAll, PutsFrom, copied_pairs};
 
@@ -8,15 +8,15 @@ use std::alloc::{AllocError, AllocFailed};
 use std::iter::{Extend, IntoIterator};
 
 impl<K: Eq + Drop, V: Drop, H: KeyHash<K>> HashMap<K, V, H> {
-    /// Puts the pairs that an iterator gives, one after the other, as `upsert` does: where an equal
-    /// key is there it writes the value beside it, and drops the earlier one.
+    /// Upserts the pairs of an iterator, one after the other: for a key that the map has, the value
+    /// is replaced and the earlier one dropped.
     ///
     /// # Errors
     ///
-    /// Allocation failure: the pair that wasn't put comes back, those before it are in the map, and
-    /// those after it are still in the iterator. The map has no key that is equal to its key.
+    /// Allocation failure: the pair that wasn't inserted is returned, those before it are in the
+    /// map, and those after it are still in the iterator. The map has no key equal to its key.
     ///
-    /// O(pairs) expected, beside resizes. Own: std's `HashMap::extend`, and nothing is lost.
+    /// O(pairs) expected, plus any resizes. Own: std's `HashMap::extend`, and nothing is lost.
     pub fn try_extend<I: Iterator<Item = (K, V)>>(
         &mut self,
         pairs: &mut I,
@@ -38,9 +38,9 @@ impl<K: Eq + Drop, V: Drop, H: KeyHash<K>> HashMap<K, V, H> {
     }
 }
 
-/// Puts the pairs of an iterator, as `try_extend` does.
+/// Inserts the pairs of an iterator, as `try_extend` does.
 ///
-/// Where allocation fails the pair that wasn't put is dropped, and so are those after it;
+/// If allocation fails, the pair that wasn't inserted is dropped, and so are those after it;
 /// `try_extend` loses none.
 impl<K: Eq + Drop, V: Drop, H: KeyHash<K>> Extend<(K, V)> for HashMap<K, V, H> {
     ghost extend_gives = { λ old pairs new. PutsAll K.eq old pairs new };
@@ -54,7 +54,7 @@ impl<K: Eq + Drop, V: Drop, H: KeyHash<K>> Extend<(K, V)> for HashMap<K, V, H> {
     }
 }
 
-/// Puts copies of the pairs of an iterator, as of pairs by value.
+/// Inserts copies of the pairs that an iterator borrows, as pairs by value.
 impl<'a, K: Eq + Copy + 'a, V: Copy + 'a, H: KeyHash<K>> Extend<(&'a K, &'a V)>
     for HashMap<K, V, H> {
     ghost extend_gives = { λ old pairs new. PutsAll K.eq old (copied_pairs pairs) new };

@@ -1,4 +1,4 @@
-//! A copy of a map whose keys, values and hasher are copied, which can be refused.
+//! A copy of a map whose keys, values and hasher are copied. Allocation may fail.
 ghost use Rattle.std.specs.Prelude.{◌≡◌, IfOk, IsOk, None};
 ghost use Rattle.std.specs.List.{FoldsTo};
 ghost use Rattle.collections.specs.Changes.{Adds};
@@ -9,9 +9,9 @@ use crate::hash_map::HashMap;
 use bucket_table::key_hash::KeyHash;
 use std::alloc::{AllocError, Global};
 
-/// What takes pairs.
+/// Where the pairs of a copy are put.
 trait TakesPairs<K, V> {
-    /// What a pair makes of it.
+    /// What it is once it took a pair.
     ghost Takes: { Self → K → V → Self → Type 0 };
 
     /// Takes a pair.
@@ -19,7 +19,7 @@ trait TakesPairs<K, V> {
         ensures { Self.Takes self.old key value self.new };
 }
 
-/// A copy that isn't whole yet; `None` once a pair was refused.
+/// A copy that isn't complete yet; `None` once an insertion failed.
 impl<K: Eq + Copy, V: Copy, H: KeyHash<K> + Copy> TakesPairs<K, V> for Option<HashMap<K, V, H>> {
     ghost Takes = { λ before key value after. BecomesOrGoes (λ old new. get K.eq old key ≡ None
         → Adds K.eq old key value new) before after };
@@ -43,7 +43,7 @@ impl<K: Eq + Copy, V: Copy, H: KeyHash<K> + Copy> HashMap<K, V, H> {
     ///
     /// Allocation failure. An empty map takes no memory.
     ///
-    /// O(slots) expected. Own: `try_clone` of what can be copied, which says more.
+    /// O(slots) expected. Own: `try_clone` for `Copy` pairs, with a stronger contract.
     pub fn try_copy(&self, alloc: Global) -> Result<Self, AllocError>
         ensures copy { IfOk result (λ copy. IsCopy K.eq self.now copy) }
         ensures succeeds { IsEmpty self.now → IsOk result }
@@ -59,7 +59,7 @@ impl<K: Eq + Copy, V: Copy, H: KeyHash<K> + Copy> HashMap<K, V, H> {
         }
     }
 
-    /// Hands each pair over once, in the order of the view.
+    /// Passes each pair on once, in the order of the view.
     fn pour<M: TakesPairs<K, V>>(&self, into: &mut M)
         ensures { FoldsTo (λ before pair after. M.Takes before pair.0 pair.1 after) into.old
             self.now.entries into.new }

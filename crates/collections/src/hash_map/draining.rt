@@ -10,7 +10,7 @@ use bucket_table::hash_table::TableDrain;
 use bucket_table::key_hash::KeyHash;
 use std::iter::IntoIterator;
 
-/// The pairs that are left of those that a map had. std: `hash_map::Drain`.
+/// An iterator over the pairs that are left of those that a map had. std: `hash_map::Drain`.
 pub type Drain<K, V> = TableDrain<K, V, (), MAP>;
 
 /// The pairs of a map by value that are left. std: `hash_map::IntoIter`.
@@ -23,12 +23,12 @@ pub type IntoKeys<K, V> = DrainKeys<K, V, (), MAP>;
 pub type IntoValues<K, V> = DrainValues<K, V, (), MAP>;
 
 impl<K: Eq, V, H: KeyHash<K>> HashMap<K, V, H> {
-    /// Takes all pairs out, and hands them out one after the other, in the order of the view. The
-    /// map is empty at once, also if the iterator is dropped half-way, which drops the rest; all
-    /// slots go with it. The hasher and the capacities stay.
+    /// Returns an iterator over all pairs by value, in the order of the view. The map is empty at
+    /// once and has no slots; the hasher and the capacities stay. If the iterator is dropped
+    /// half-way, the rest is dropped with it.
     ///
-    /// Takes no memory, and is never refused. O(1); all steps together O(slots). std:
-    /// `HashMap::drain`, which keeps the map borrowed and its memory.
+    /// Takes no memory, and never fails. O(1); all steps together O(slots). std: `HashMap::drain`,
+    /// which borrows the map and keeps its memory.
     pub fn drain(&mut self) -> Drain<K, V>
         ensures rest { result ≡ self.old.entries }
         ensures unique { IsUnique K.eq self.old }
@@ -41,7 +41,7 @@ impl<K: Eq, V, H: KeyHash<K>> HashMap<K, V, H> {
 }
 
 impl<K: Eq + Drop, V: Drop, H: KeyHash<K> + Drop> HashMap<K, V, H> {
-    /// Hands the keys out one after the other, in the order of the view, and drops the values.
+    /// Returns an iterator over the keys by value, in the order of the view, and drops the values.
     ///
     /// Takes no memory. As `drain`. std: `HashMap::into_keys`.
     pub fn into_keys(mut self) -> IntoKeys<K, V>
@@ -53,7 +53,7 @@ impl<K: Eq + Drop, V: Drop, H: KeyHash<K> + Drop> HashMap<K, V, H> {
         }
     }
 
-    /// Hands the values out one after the other, in the order of the view, and drops the keys.
+    /// Returns an iterator over the values by value, in the order of the view, and drops the keys.
     ///
     /// Takes no memory. As `drain`. std: `HashMap::into_values`.
     pub fn into_values(mut self) -> IntoValues<K, V>

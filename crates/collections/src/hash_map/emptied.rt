@@ -9,8 +9,8 @@ use std::alloc::{AllocError, Global};
 use std::default::{Emptied, MadeWith};
 use std::hash::Hash;
 
-/// So `mem::try_take(&mut map)` takes a map, and leaves an empty one with a clone of its hasher.
-/// Its minimum is 0. It fails only where that clone does. O(1).
+/// `mem::try_take(&mut map)` takes a map, and leaves an empty one with a clone of its hasher. Its
+/// minimum is 0. It fails only if that clone does. O(1).
 impl<K: Eq, V, H: KeyHash<K> + Clone> Emptied for HashMap<K, V, H> {
     ghost is_emptied = { λ map. map ≡ empty_map map.hasher };
 
@@ -34,7 +34,7 @@ impl<K: Eq, V, H: KeyHash<K> + Clone> HashMap<K, V, H> {
     }
 }
 
-/// So a map can be the value that an entry's `or_default` makes.
+/// A map can be the value that an entry's `or_default` makes.
 impl<K: Eq + Hash, V> MadeWith<Global> for HashMap<K, V, DefaultHash> {
     ghost is_made_with = { λ map. map ≡ empty_map map.hasher };
 

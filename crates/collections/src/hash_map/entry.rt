@@ -1,8 +1,7 @@
-//! A key's place in a map, in the words of std's `Entry`: occupied where the map has the key, and
-//! else vacant.
+//! A key's place in a map, as std's `Entry`: occupied if the map has the key, and else vacant.
 //!
-//! An entry holds the map, the key that was asked for and its hash, and moves nothing until it is
-//! written. The key is hashed once.
+//! An entry borrows the map, holds the key that was asked for and its hash, and moves nothing until
+//! it is written. The key is hashed once.
 ghost use Rattle.std.specs.Prelude.{◌≡◌, None, IsSome};
 ghost use Rattle.collections.specs.Maps.{get};
 

@@ -1,4 +1,4 @@
-//! The pairs of a map that a function picks, taken out one after the other.
+//! The iterator that removes the pairs of a map for which a function returns `true`.
 ghost use Rattle.std.specs.Prelude.{◌≡◌, length};
 ghost use Rattle.std.specs.Iterator.{at_most};
 ghost use Rattle.bucket_table.specs.Views.ArraysView.{IsOneMap, pairs_of};
@@ -11,8 +11,8 @@ use bucket_table::hash_table::TableExtract;
 use bucket_table::key_hash::KeyHash;
 use std::iter::FusedIterator;
 
-/// The pairs of a map that a function picks, as it is asked for them. What it isn't asked for stays
-/// in the map. std: `hash_map::ExtractIf`.
+/// An iterator that removes the pairs of a map for which a function returns `true`. The pairs that
+/// it hasn't reached stay in the map. std: `hash_map::ExtractIf`.
 pub type ExtractIf<'a, K, V, H, F> = Extraction<
     'a,
     HashMap<K, V, H>,
@@ -23,15 +23,16 @@ pub type ExtractIf<'a, K, V, H, F> = Extraction<
 impl<K: Eq, V, H: KeyHash<K>> HashMap<K, V, H> {
     ghost use Rattle.collections.specs.Extracting.{extract_left, extract_map};
 
-    /// Hands out the pairs for which a function answers `true`, one after the other, in the order of
-    /// the view: as the iterator goes on it asks of each pair once, its value lent for writing, and
-    /// takes out the first that is picked. The others stay, with the values that it left. Where the
-    /// iterator is dropped half-way, what it wasn't asked for stays as it was.
+    /// Returns an iterator that removes the pairs for which a function returns `true`, in the order
+    /// of the view. Each step calls the function with the next pairs, one by one and their values
+    /// mutable, until it returns `true`; that pair is removed and returned. Each pair is tried
+    /// once. The others stay, with the values that the function left. If the iterator is dropped
+    /// half-way, the pairs that it hasn't reached stay as they were.
     ///
-    /// The slots stay, the old ones too. The iterator holds the map's arrays, and puts them back when
-    /// it is dropped: one that is leaked keeps them.
+    /// The slots stay, the old ones too. The iterator holds the map's arrays, and puts them back
+    /// when it is dropped. A leaked iterator keeps them.
     ///
-    /// Never refused, and takes no memory. O(1); all steps together O(slots), and the function's
+    /// Never fails, and takes no memory. O(1); all steps together O(slots), and the function's
     /// calls. std: `HashMap::extract_if`.
     pub fn extract_if<F: FnMut(&K, &mut V) -> bool>(&mut self, test: F) -> ExtractIf<'_, K, V, H, F>
         requires callable { F.IsAlwaysCallable test }
@@ -49,7 +50,7 @@ impl<K: Eq, V, H: KeyHash<K>> HashMap<K, V, H> {
         }
     }
 
-    /// Takes the arrays out, to ask for their pairs one after the other.
+    /// Takes the arrays out of the map, to go through their pairs.
     pub(crate) fn take_arrays(&mut self) -> TableExtract<K, V, (), MAP>
         ensures one_map { IsOneMap K.eq (H.hash_of self.old.hasher) result.arrays }
         ensures map { map_of (record { hasher = self.old.hasher; arrays = result.arrays })

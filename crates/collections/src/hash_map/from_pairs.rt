@@ -1,4 +1,4 @@
-//! A map that is made of pairs, which can be refused.
+//! A map made of pairs. Allocation may fail.
 ghost use Rattle.std.specs.Prelude.{IfOk};
 ghost use Rattle.collections.specs.Collecting.{PutsAll, empty_map};
 
@@ -8,10 +8,10 @@ use std::alloc::{AllocError, Global};
 use std::hash::Hash;
 use std::iter::{FromIterator, IntoIterator};
 
-/// So `collect(alloc)` makes a map of the pairs of an iterator, put one after the other: each key
-/// has the last value that came for it.
+/// `collect(alloc)` makes a map of the pairs of an iterator, inserted one after the other: each key
+/// has the last of its values.
 ///
-/// Where allocation fails the pairs are dropped; `try_extend` of a new map loses none.
+/// If allocation fails, the pairs are dropped; `try_extend` of a new map loses none.
 impl<K: Eq + Hash + Drop, V: Drop> FromIterator<(K, V)> for HashMap<K, V, DefaultHash> {
     type Alloc = Global;
 
@@ -31,8 +31,8 @@ impl<K: Eq + Hash + Drop, V: Drop> FromIterator<(K, V)> for HashMap<K, V, Defaul
 }
 
 impl<K: Eq + Hash + Drop, V: Drop> HashMap<K, V, DefaultHash> {
-    /// Returns a map of the pairs of an array, put one after the other: each key has the last value
-    /// that came for it.
+    /// Returns a map of the pairs of an array, inserted one after the other: each key has the last
+    /// of its values.
     ///
     /// # Errors
     ///

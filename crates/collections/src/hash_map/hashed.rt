@@ -1,4 +1,4 @@
-//! The calls by a hash that is known, for an entry: it hashes its key once.
+//! The calls with a hash that is known, for an entry, which hashes its key once.
 ghost use Rattle.std.specs.Prelude.{◌≡◌, IsSome, Some, is_some};
 ghost use Rattle.std.specs.Borrow.{sem};
 ghost use Rattle.std.specs.Option.{option_copied, option_copied_mut};
@@ -12,8 +12,8 @@ use crate::key_form::{FormProbe, KeyForm, value_hashed};
 use bucket_table::key_hash::KeyHash;
 
 impl<K: Eq, V, H: KeyHash<K>> HashMap<K, V, H> {
-    /// Returns the value under the keys that a form stands for, which have this hash; `None` where
-    /// the map has none of them.
+    /// Returns the value under the keys that a form stands for, which have this hash; `None` if the
+    /// map has none of them.
     ///
     /// Moves nothing, and takes no memory. O(1) expected.
     #[inline(always)]
@@ -29,10 +29,10 @@ impl<K: Eq, V, H: KeyHash<K>> HashMap<K, V, H> {
 impl<K: Eq + Drop, V: Drop, H: KeyHash<K>> HashMap<K, V, H> {
     ghost use Rattle.collections.specs.Loans.{LendsThere, LendsValue};
 
-    /// Lends the value under the keys that a form stands for, which have this hash, for writing;
-    /// `None` where the map has none of them.
+    /// Returns a mutable reference to the value under the keys that a form stands for, which have
+    /// this hash; `None` if the map has none of them.
     ///
-    /// Never refused. O(1) expected.
+    /// Never fails. O(1) expected.
     #[inline(always)]
     pub(super) fn get_mut_hashed<Q: KeyForm<K, H>>(&mut self, hash: u64, key: Q) -> Option<&mut V>
         requires hashed { HaveHash (Q.stands_for key) (H.hash_of self.old.hasher) hash }
@@ -47,8 +47,8 @@ impl<K: Eq + Drop, V: Drop, H: KeyHash<K>> HashMap<K, V, H> {
             .get_mut_by(hash, &mut FormProbe::<Q, H>::new(key))
     }
 
-    /// Lends the value under the keys that a form stands for, which have this hash, and one of
-    /// which the map has, for writing, where it stands.
+    /// Returns a mutable reference to the value under the keys that a form stands for, which have
+    /// this hash. The map has one of them.
     ///
     /// Moves nothing, and takes no memory. O(1) expected.
     #[inline(always)]
@@ -70,10 +70,10 @@ impl<K: Eq + Drop, V: Drop, H: KeyHash<K>> HashMap<K, V, H> {
         }
     }
 
-    /// Takes out the pair under the keys that a form stands for, which have this hash, and returns
-    /// it; `None` where the map has none of them.
+    /// Removes the pair under the keys that a form stands for, which have this hash, and returns
+    /// it; `None` if the map has none of them.
     ///
-    /// Never refused. O(1) expected, beside a resize.
+    /// Never fails. O(1) expected, plus any resize.
     #[inline(always)]
     pub(super) fn remove_hashed<Q: KeyForm<K, H>>(&mut self, hash: u64, key: Q) -> Option<(K, V)>
         requires hashed { HaveHash (Q.stands_for key) (H.hash_of self.old.hasher) hash }

@@ -1,4 +1,4 @@
-//! `map[key]`: the value under a key that is there.
+//! `map[key]`: the value under a key that the map has.
 ghost use Rattle.std.specs.Prelude.{◌≡◌, IsSome, Some};
 ghost use Rattle.collections.specs.Maps.{get_by};
 

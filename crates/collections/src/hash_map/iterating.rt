@@ -20,7 +20,7 @@ pub type Keys<'a, K, V> = TableKeys<'a, K, V, (), MAP>;
 pub type Values<'a, K, V> = TableValues<'a, K, V, (), MAP>;
 
 impl<K: Eq, V, H: KeyHash<K>> HashMap<K, V, H> {
-    /// Lends the pairs one after the other, in the order of the view.
+    /// Returns an iterator over the pairs, in the order of the view.
     ///
     /// Takes no memory. O(1); all steps together O(slots, and the square of the number of blocks of
     /// each chain). std: `HashMap::iter`.
@@ -33,7 +33,7 @@ impl<K: Eq, V, H: KeyHash<K>> HashMap<K, V, H> {
         self.table.pairs()
     }
 
-    /// Lends the keys one after the other, in the order of the view.
+    /// Returns an iterator over the keys, in the order of the view.
     ///
     /// Takes no memory. As `iter`. std: `HashMap::keys`.
     pub fn keys(&self) -> Keys<'_, K, V>
@@ -47,7 +47,7 @@ impl<K: Eq, V, H: KeyHash<K>> HashMap<K, V, H> {
         }
     }
 
-    /// Lends the values one after the other, in the order of the view.
+    /// Returns an iterator over the values, in the order of the view.
     ///
     /// Takes no memory. As `iter`. std: `HashMap::values`.
     pub fn values(&self) -> Values<'_, K, V>

@@ -1,4 +1,4 @@
-//! Calls that lend values for writing.
+//! Calls that borrow values mutably.
 ghost use Rattle.std.specs.Prelude.{◌≡◌, true};
 ghost use Rattle.std.specs.Borrow.{sem};
 ghost use Rattle.std.specs.Option.{option_copied_mut};
@@ -12,11 +12,11 @@ use bucket_table::key_hash::KeyHash;
 impl<K: Eq + Drop, V: Drop, H: KeyHash<K>> HashMap<K, V, H> {
     ghost use Rattle.collections.specs.Loans.{LendsValue};
 
-    /// Lends the value under a key, or under the keys that a form stands for, for writing; `None`
-    /// where the map hasn't the key. Once the loan ends, the key has the value last written, and
-    /// each other key what it had.
+    /// Returns a mutable reference to the value under a key, or under the keys that a form stands
+    /// for; `None` if the map hasn't the key. When the borrow ends, the key has the value last
+    /// written, and each other key its earlier value.
     ///
-    /// Never refused. O(1) expected. scc: `HashMap::get_sync`.
+    /// Never fails. O(1) expected. scc: `HashMap::get_sync`.
     #[inline(always)]
     pub fn get_mut<Q: KeyForm<K, H>>(&mut self, key: Q) -> Option<&mut V>
         ensures* writes_back { sem 𝓛
@@ -28,10 +28,10 @@ impl<K: Eq + Drop, V: Drop, H: KeyHash<K>> HashMap<K, V, H> {
         self.get_mut_hashed(hash, key)
     }
 
-    /// Calls a function with each pair once, its value lent for writing, in the order of the view.
-    /// Each pair stays, with the value that the function left.
+    /// Calls a function with each pair once, its value mutable, in the order of the view. Each pair
+    /// stays, with the value that the function left.
     ///
-    /// Never refused, and takes no memory. O(slots), and the function's calls. Own: std's loop over
+    /// Never fails, and takes no memory. O(slots), and the function's calls. Own: std's loop over
     /// `iter_mut`.
     pub fn for_each_mut<F: FnMut(&K, &mut V)>(&mut self, mut f: F)
         requires callable { F.IsAlwaysCallable f }
@@ -41,10 +41,9 @@ impl<K: Eq + Drop, V: Drop, H: KeyHash<K>> HashMap<K, V, H> {
         self.for_each_mut_ref(&mut f);
     }
 
-    /// As `for_each_mut`, of a function that is lent: a proof knows in which state it is
-    /// afterwards.
+    /// As `for_each_mut`, with a borrowed function, whose state after the call the contract gives.
     ///
-    /// Never refused, and takes no memory. O(slots), and the function's calls. Own: std's loop over
+    /// Never fails, and takes no memory. O(slots), and the function's calls. Own: std's loop over
     /// `iter_mut`.
     pub fn for_each_mut_ref<F: FnMut(&K, &mut V)>(&mut self, f: &mut F)
         requires callable { F.IsAlwaysCallable f.old }

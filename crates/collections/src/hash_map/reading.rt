@@ -1,4 +1,5 @@
-//! The look-up that lends the map's own key too, and that no two keys of a map are equal.
+//! The look-up that also returns the map's own key, and the statement that no two keys of a map are
+//! equal.
 ghost use Rattle.std.specs.Prelude.{◌≡◌, IfSome, IsTrue};
 ghost use Rattle.std.specs.Option.{option_map};
 ghost use Rattle.collections.specs.Maps.{IsUnique, get_by};
@@ -10,7 +11,7 @@ use bucket_table::key_hash::KeyHash;
 
 impl<K: Eq, V, H: KeyHash<K>> HashMap<K, V, H> {
     /// Returns the pair under a key, or under the keys that a form stands for: the map's own key,
-    /// and its value; `None` where the map hasn't the key.
+    /// and its value; `None` if the map hasn't the key.
     ///
     /// Moves nothing, and takes no memory. O(1) expected. std: `HashMap::get_key_value`.
     #[inline(always)]
@@ -32,7 +33,7 @@ impl<K: Eq, V, H: KeyHash<K>> HashMap<K, V, H> {
         }
     }
 
-    /// No work: a proof learns that no two keys are equal.
+    /// States that no two keys are equal. Does nothing at run time.
     pub(crate) fn sound(&self)
         ensures { IsUnique K.eq self.now }
     {

@@ -1,4 +1,4 @@
-//! The removal that asks first.
+//! The removal of a pair if a function returns `true` for it.
 ghost use Rattle.std.specs.Prelude.{is_some};
 ghost use Rattle.std.specs.Borrow.{Bor};
 ghost use Rattle.bucket_table.specs.Map.LookingUp.{IsThere};
@@ -10,11 +10,12 @@ use crate::key_form::{FormProbe, KeyForm};
 use bucket_table::key_hash::KeyHash;
 
 impl<K: Eq + Drop, V: Drop, H: KeyHash<K>> HashMap<K, V, H> {
-    /// Asks a function of the pair under a key, or under the keys that a form stands for, and where
-    /// it answers `true` takes the pair out, and returns it. `None` where it answers `false`, or the
-    /// map hasn't the key, and then it isn't called: the map is as it was.
+    /// Calls a function with the pair under a key, or under the keys that a form stands for. If it
+    /// returns `true`, the pair is removed and returned. If it returns `false`, or if the map
+    /// hasn't the key and the function isn't called, the result is `None`, and the map is
+    /// unchanged.
     ///
-    /// Never refused. O(1) expected, beside a resize. scc: `HashMap::remove_if_sync`, whose function
+    /// Never fails. O(1) expected, plus any resize. scc: `HashMap::remove_if_sync`, whose function
     /// may write the value.
     pub fn remove_if<Q: KeyForm<K, H>, F: FnOnce(&K, &V) -> bool>(
         &mut self,
@@ -36,8 +37,8 @@ impl<K: Eq + Drop, V: Drop, H: KeyHash<K>> HashMap<K, V, H> {
         }
     }
 
-    /// Returns what a function answers on the pair under the keys that a form stands for; `false`
-    /// where the map has none, and then it isn't called.
+    /// Returns what a function returns for the pair under the keys that a form stands for. If the
+    /// map has none, the function isn't called, and the result is `false`.
     fn asks<Q: KeyForm<K, H>, F: FnOnce(&K, &V) -> bool>(&self, key: Q, condition: F) -> bool
         requires callable { (own : Bor K) (value : Bor V)
             → IsThere (Q.stands_for key) self.now.entries (own.now, value.now)

@@ -1,4 +1,4 @@
-//! The call that puts a set's key in the place of the equal one.
+//! The call that replaces a set's key by an equal one.
 ghost use Rattle.collections.specs.SetChanges.{SwapsKey};
 ghost use Rattle.collections.specs.Slots.{KeepsSlots};
 
@@ -6,10 +6,10 @@ use crate::hash_map::HashMap;
 use bucket_table::key_hash::KeyHash;
 
 impl<K: Eq + Drop, H: KeyHash<K>> HashMap<K, (), H> {
-    /// Puts a key in the place of the equal one, which it returns; where there is none the key
-    /// comes back, and all stays.
+    /// Puts a key in the place of the equal one, which it returns. If there is none, it returns the
+    /// key as an error, and nothing changes.
     ///
-    /// Never refused. O(1) expected.
+    /// Never fails. O(1) expected.
     pub(crate) fn swap_key(&mut self, key: K) -> Result<K, K>
         ensures keys { SwapsKey K.eq key self.old result self.new }
         ensures slots { KeepsSlots self.old self.new }

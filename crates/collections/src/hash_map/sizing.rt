@@ -1,7 +1,8 @@
-//! How many slots a map has: room for pairs that come, and slots that go.
+//! How many slots a map has: reserving room, and freeing slots.
 //!
-//! The minimum, which scc's `reserve` raises, is what the plan of a resize keeps to. `try_reserve`
-//! and `shrink_to_fit` go beside the plan: they move all pairs at once.
+//! The minimum, which scc's `reserve` raises, is the least number of slots that a resize leaves.
+//! `try_reserve`, `shrink_to_fit` and `shrink_to` don't rehash incrementally: they move all pairs
+//! at once.
 ghost use Rattle.std.specs.Prelude.{◌≤◌, ◌≡◌, ◌^◌, IsErr, OnOk, min};
 ghost use Rattle.bucket_slots.specs.Sizing.{IsPowerIn};
 ghost use Rattle.collections.specs.Capacity.{AreTooMany, IsMinimumFor, MakesRoom, ShrinksTo, ShrinksToFit, TakesSlots};
@@ -72,10 +73,10 @@ impl<K: Eq + Hash, V> HashMap<K, V, DefaultHash> {
 }
 
 impl<K: Eq + Drop, V: Drop, H: KeyHash<K>> HashMap<K, V, H> {
-    /// Raises the minimum, and returns by how much: by what is asked for, or by nothing where it
-    /// would pass the maximum. The pairs stay. No clause says that slots are made.
+    /// Raises the minimum, and returns by how much: by `additional`, or by 0 if it would pass the
+    /// maximum. The pairs stay. No clause says that slots are allocated.
     ///
-    /// Never refused. O(slots). scc: `HashMap::reserve`.
+    /// Never fails. O(slots). scc: `HashMap::reserve`.
     pub fn raise_minimum(&mut self, additional: usize) -> usize
         ensures { Reserves K.eq additional self.old result self.new }
     {
@@ -86,14 +87,14 @@ impl<K: Eq + Drop, V: Drop, H: KeyHash<K>> HashMap<K, V, H> {
         raised
     }
 
-    /// Makes room for so many pairs more: all pairs stand in one array, and with those to come they
-    /// take no more than 13 of 16 slots. Where that is so already nothing changes. The minimum
-    /// stays, and so do the pairs.
+    /// Makes room for `additional` pairs: all pairs then stand in one array, and with the
+    /// additional ones they take no more than 13 of 16 slots. If that is so already, nothing
+    /// changes. The minimum stays, and so do the pairs.
     ///
     /// # Errors
     ///
-    /// Allocation failure: all pairs are there. Where the pairs are too many for every array nothing
-    /// changes.
+    /// Allocation failure, or more pairs than any array can take: the map keeps all pairs. In the
+    /// second case nothing changes.
     ///
     /// O(slots). Own: std's `try_reserve`.
     pub fn try_reserve(&mut self, additional: usize) -> Result<(), AllocError>
@@ -113,11 +114,12 @@ impl<K: Eq + Drop, V: Drop, H: KeyHash<K>> HashMap<K, V, H> {
         Ok(())
     }
 
-    /// Moves all pairs into one array in which so many have room, with no fewer slots than now.
+    /// Moves all pairs into one array with room for so many, with no fewer slots than now.
     ///
     /// # Errors
     ///
-    /// Allocation failure: all pairs are there. Where so many have room in no array nothing changes.
+    /// Allocation failure, or more pairs than any array can take: the map keeps all pairs. In the
+    /// second case nothing changes.
     fn make_room(&mut self, pairs: usize) -> Result<(), AllocError>
         ensures map { Stays K.eq self.old self.new }
         ensures slots { OnOk result (TakesSlots pairs self.old self.new) }
@@ -138,10 +140,10 @@ impl<K: Eq + Drop, V: Drop, H: KeyHash<K>> HashMap<K, V, H> {
     ///
     /// # Errors
     ///
-    /// Allocation failure: all pairs are there, and the minimum is 0. It can't fail where there is no
-    /// pair, nor where the slots are as few already.
+    /// Allocation failure: the map keeps all pairs, and the minimum is 0. It can't fail if there is
+    /// no pair, or if the slots are as few already.
     ///
-    /// O(slots). Own: std's `shrink_to_fit`, which can't be refused.
+    /// O(slots). Own: std's `shrink_to_fit`, which can't fail.
     pub fn shrink_to_fit(&mut self) -> Result<(), AllocError>
         ensures { ShrinksToFit K.eq self.old result self.new }
     {
@@ -165,16 +167,16 @@ impl<K: Eq + Drop, V: Drop, H: KeyHash<K>> HashMap<K, V, H> {
         Ok(())
     }
 
-    /// Sets the minimum to 0, and leaves no more slots than so many pairs take: the least number of
-    /// which they take no more than 13 of 16. Where the map has as many pairs, it does as
+    /// Sets the minimum to 0, and leaves no more slots than `pairs` pairs take: the least number of
+    /// which they take no more than 13 of 16. If the map has as many pairs, it does as
     /// `shrink_to_fit`. The pairs stay.
     ///
     /// # Errors
     ///
-    /// Allocation failure: all pairs are there, and the minimum is 0. It can't fail where the slots
-    /// are as few already.
+    /// Allocation failure: the map keeps all pairs, and the minimum is 0. It can't fail if the
+    /// slots are as few already.
     ///
-    /// O(slots). Own: std's `shrink_to`, which can't be refused.
+    /// O(slots). Own: std's `shrink_to`, which can't fail.
     pub fn shrink_to(&mut self, pairs: usize) -> Result<(), AllocError>
         ensures { ShrinksTo K.eq pairs self.old result self.new }
     {
@@ -197,7 +199,7 @@ impl<K: Eq + Drop, V: Drop, H: KeyHash<K>> HashMap<K, V, H> {
     ///
     /// # Errors
     ///
-    /// Allocation failure, or the map may not have so many slots: all pairs are there.
+    /// Allocation failure, or the map may not have so many slots: the map keeps all pairs.
     fn rehash_to(&mut self, slots: usize) -> Result<(), AllocError>
         requires { IsPowerIn 64 (2 ^ 62) slots }
         ensures map { Stays K.eq self.old self.new }

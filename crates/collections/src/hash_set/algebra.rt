@@ -1,4 +1,4 @@
-//! The iterators over the keys that two sets have together, apart, or alone.
+//! The iterators over the keys that both of two sets have, that either has, or that only one has.
 ghost use Rattle.std.specs.Prelude.{◌≡◌};
 ghost use Rattle.std.specs.Iterator.{YieldsFirstRef, item_count};
 ghost use Rattle.collections.specs.Keys.{keys_of_either, keys_of_one, keys_outside, keys_within};
@@ -146,7 +146,7 @@ impl<'a, K: Eq, H: KeyHash<K>> Iterator for SymmetricDifference<'a, K, H> {
 impl<'a, K: Eq, H: KeyHash<K>> FusedIterator for SymmetricDifference<'a, K, H> {}
 
 impl<K: Eq, H: KeyHash<K>> HashSet<K, H> {
-    /// Lends the set's own keys that another has too, one after the other, in the order of the
+    /// Returns an iterator over the set's own keys that another set has too, in the order of the
     /// view.
     ///
     /// Takes no memory. O(1); all steps together as those of `iter`, and one look-up in the other
@@ -160,7 +160,7 @@ impl<K: Eq, H: KeyHash<K>> HashSet<K, H> {
         }
     }
 
-    /// Lends the keys that another hasn't, one after the other, in the order of the view.
+    /// Returns an iterator over the keys that another set hasn't, in the order of the view.
     ///
     /// Takes no memory. O(1); all steps together as those of `iter`, and one look-up in the other
     /// for each key. std: `HashSet::difference`.
@@ -173,8 +173,8 @@ impl<K: Eq, H: KeyHash<K>> HashSet<K, H> {
         }
     }
 
-    /// Lends the keys of both sets, each once: the set's own, and then those of the other that it
-    /// hasn't, each in the order of their view.
+    /// Returns an iterator over the keys of both sets, each once: the set's own, and then those of
+    /// the other that it hasn't, each in the order of their view.
     ///
     /// Takes no memory. O(1); all steps together as those of `iter` of both, and one look-up for
     /// each key of the other. std: `HashSet::union`, which begins with the larger set.
@@ -187,8 +187,8 @@ impl<K: Eq, H: KeyHash<K>> HashSet<K, H> {
         }
     }
 
-    /// Lends the keys of just one of two sets: the set's own that the other hasn't, and then those
-    /// of the other that it hasn't, each in the order of their view.
+    /// Returns an iterator over the keys that just one of two sets has: the set's own that the
+    /// other hasn't, and then those of the other that it hasn't, each in the order of their view.
     ///
     /// Takes no memory. O(1); all steps together as those of `iter` of both, and one look-up for
     /// each key. std: `HashSet::symmetric_difference`.

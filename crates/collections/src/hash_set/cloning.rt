@@ -1,4 +1,4 @@
-//! A copy of a set whose keys are clones, which can be refused.
+//! A copy of a set whose keys are clones. Allocation may fail.
 ghost use Rattle.std.specs.Prelude.{◌≡◌, IfOk, IsOk};
 ghost use Rattle.collections.specs.Clones.{IsClone};
 ghost use Rattle.collections.specs.Maps.{IsEmpty};
@@ -13,8 +13,8 @@ impl<K: Eq + Clone, H: KeyHash<K> + Clone> HashSet<K, H> {
     ///
     /// # Errors
     ///
-    /// Allocation failure; or a key's clone isn't equal to it, since no law of `Clone` says that it
-    /// is. An empty set takes no memory but for its hasher's clone.
+    /// Allocation failure; or a key's clone isn't equal to the key, which no law of `Clone` rules
+    /// out. An empty set takes no memory but for its hasher's clone.
     ///
     /// O(slots) expected. scc: `HashSet::clone`.
     pub fn try_clone(&self, alloc: Global) -> Result<Self, AllocError>
@@ -29,8 +29,8 @@ impl<K: Eq + Clone, H: KeyHash<K> + Clone> HashSet<K, H> {
     }
 }
 
-/// As `try_clone`, whose memory comes from the set's own allocator: so a struct with a set can
-/// derive `Clone`.
+/// As `try_clone`, with memory from the set's own allocator, so that a struct with a set can derive
+/// `Clone`.
 impl<K: Eq + Clone, H: KeyHash<K> + Clone> Clone for HashSet<K, H> {
     ghost is_clone = { λ own copy. IsClone K.eq K.is_clone (λ unit held. held ≡ unit) H.is_clone
         own copy };

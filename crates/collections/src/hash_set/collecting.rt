@@ -1,4 +1,4 @@
-//! Keys of an iterator, put into a set.
+//! The keys of an iterator, inserted into a set.
 ghost use Rattle.std.specs.Prelude.{IfErr, map};
 ghost use Rattle.std.specs.Iterator.{IsFinite};
 ghost use Rattle.collections.specs.Collecting.{PutsKeys, PutsKeysFrom};
@@ -9,15 +9,15 @@ use std::alloc::{AllocError, AllocFailed};
 use std::iter::{Extend, IntoIterator};
 
 impl<K: Eq + Drop, H: KeyHash<K>> HashSet<K, H> {
-    /// Puts the keys that an iterator gives, one after the other, as `insert` does: where an equal
-    /// key is there that one stays, and the other is dropped.
+    /// Inserts the keys of an iterator, one after the other: if the set has an equal key, that one
+    /// stays and the other is dropped.
     ///
     /// # Errors
     ///
-    /// Allocation failure: the key that wasn't put comes back, those before it are in the set, and
-    /// those after it are still in the iterator. The set has no key that is equal to it.
+    /// Allocation failure: the key that wasn't inserted is returned, those before it are in the
+    /// set, and those after it are still in the iterator. The set has no key equal to it.
     ///
-    /// O(keys) expected, beside resizes. Own: std's `HashSet::extend`, and nothing is lost.
+    /// O(keys) expected, plus any resizes. Own: std's `HashSet::extend`, and nothing is lost.
     pub fn try_extend<I: Iterator<Item = K>>(&mut self, keys: &mut I) -> Result<(), AllocFailed<K>>
         requires can { I.can_next keys.old }
         requires finite { IsFinite (I.remaining keys.old) }
@@ -35,9 +35,9 @@ impl<K: Eq + Drop, H: KeyHash<K>> HashSet<K, H> {
     }
 }
 
-/// Puts the keys of an iterator, as `try_extend` does.
+/// Inserts the keys of an iterator, as `try_extend` does.
 ///
-/// Where allocation fails the key that wasn't put is dropped, and so are those after it;
+/// If allocation fails, the key that wasn't inserted is dropped, and so are those after it;
 /// `try_extend` loses none.
 impl<K: Eq + Drop, H: KeyHash<K>> Extend<K> for HashSet<K, H> {
     ghost extend_gives = { λ old keys new. PutsKeys K.eq old keys new };
@@ -51,7 +51,7 @@ impl<K: Eq + Drop, H: KeyHash<K>> Extend<K> for HashSet<K, H> {
     }
 }
 
-/// Puts copies of the keys of an iterator, as of keys by value.
+/// Inserts copies of the keys that an iterator borrows, as keys by value.
 impl<'a, K: Eq + Copy + 'a, H: KeyHash<K>> Extend<&'a K> for HashSet<K, H> {
     ghost extend_gives = { λ old keys new. PutsKeys K.eq old (map (λ key. key.now) keys) new };
 

@@ -11,7 +11,7 @@ use bucket_table::key_hash::KeyHash;
 use std::iter::{FusedIterator, IntoIterator};
 use std::marker::Model;
 
-/// The keys that are left of those that a set had. std: `hash_set::Drain`.
+/// An iterator over the keys that are left of those that a set had. std: `hash_set::Drain`.
 #[derive(Drop)]
 pub struct Drain<K> {
     inner: IntoKeys<K, ()>,
@@ -43,12 +43,12 @@ impl<K: Drop> Iterator for Drain<K> {
 impl<K: Drop> FusedIterator for Drain<K> {}
 
 impl<K: Eq, H: KeyHash<K>> HashSet<K, H> {
-    /// Takes all keys out, and hands them out one after the other, in the order of the view. The
-    /// set is empty at once, also if the iterator is dropped half-way, which drops the rest; all
-    /// slots go with it. The hasher and the capacities stay.
+    /// Returns an iterator over all keys by value, in the order of the view. The set is empty at
+    /// once and has no slots; the hasher and the capacities stay. If the iterator is dropped
+    /// half-way, the rest is dropped with it.
     ///
-    /// Takes no memory, and is never refused. O(1); all steps together O(slots). std:
-    /// `HashSet::drain`, which keeps the set borrowed and its memory.
+    /// Takes no memory, and never fails. O(1); all steps together O(slots). std: `HashSet::drain`,
+    /// which borrows the set and keeps its memory.
     pub fn drain(&mut self) -> Drain<K>
         ensures rest { result ≡ keys_of self.old.entries }
         ensures unique { IsUnique K.eq self.old }

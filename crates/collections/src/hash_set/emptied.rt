@@ -9,7 +9,7 @@ use std::alloc::{AllocError, Global};
 use std::default::{Emptied, MadeWith};
 use std::hash::Hash;
 
-/// So `mem::try_take(&mut set)` takes a set, and leaves an empty one, as of a map. O(1).
+/// `mem::try_take(&mut set)` takes a set, and leaves an empty one, as for a map. O(1).
 impl<K: Eq, H: KeyHash<K> + Clone> Emptied for HashSet<K, H> {
     ghost is_emptied = { λ set. set ≡ empty_map set.hasher };
 
@@ -33,7 +33,7 @@ impl<K: Eq, H: KeyHash<K> + Clone> HashSet<K, H> {
     }
 }
 
-/// So a set can be the value that an entry's `or_default` makes.
+/// A set can be the value that an entry's `or_default` makes.
 impl<K: Eq + Hash> MadeWith<Global> for HashSet<K, DefaultHash> {
     ghost is_made_with = { λ set. set ≡ empty_map set.hasher };
 

@@ -1,4 +1,4 @@
-//! The keys of a set that a function picks, taken out one after the other.
+//! The iterator that removes the keys of a set for which a function returns `true`.
 ghost use Rattle.std.specs.Prelude.{◌≡◌, length};
 ghost use Rattle.std.specs.Fn.{CalledAt};
 ghost use Rattle.std.specs.Iterator.{at_most};
@@ -16,20 +16,21 @@ use bucket_table::hash_table::TableExtract;
 use bucket_table::key_hash::KeyHash;
 use std::iter::FusedIterator;
 
-/// The keys of a set that a function picks, as it is asked for them. What it isn't asked for stays
-/// in the set. std: `hash_set::ExtractIf`.
+/// An iterator that removes the keys of a set for which a function returns `true`. The keys that it
+/// hasn't reached stay in the set. std: `hash_set::ExtractIf`.
 pub type ExtractIf<'a, K, H, F> = Extraction<'a, HashSet<K, H>, F, TableExtract<K, (), (), MAP>>;
 
 impl<K: Eq, H: KeyHash<K>> HashSet<K, H> {
     ghost use Rattle.collections.specs.Extracting.{extract_left, extract_map};
 
-    /// Hands out the keys for which a function answers `true`, one after the other, in the order of
-    /// the view: as the iterator goes on it asks of each key once, and takes out the first that is
-    /// picked. Where the iterator is dropped half-way, what it wasn't asked for stays.
+    /// Returns an iterator that removes the keys for which a function returns `true`, in the order
+    /// of the view. Each step calls the function with the next keys, one by one, until it returns
+    /// `true`; that key is removed and returned. Each key is tried once. If the iterator is dropped
+    /// half-way, the keys that it hasn't reached stay.
     ///
     /// The slots stay, and the iterator holds the arrays, as in `HashMap::extract_if`.
     ///
-    /// Never refused, and takes no memory. O(1); all steps together O(slots), and the function's
+    /// Never fails, and takes no memory. O(1); all steps together O(slots), and the function's
     /// calls. std: `HashSet::extract_if`.
     pub fn extract_if<F: FnMut(&K) -> bool>(&mut self, test: F) -> ExtractIf<'_, K, H, F>
         requires callable { F.IsAlwaysCallable test }
@@ -84,7 +85,7 @@ where
     Extraction<'a, HashSet<K, H>, F, TableExtract<K, (), (), MAP>>: Iterator,
 {}
 
-/// Takes out the next key that a function picks.
+/// Removes the next key for which a function returns `true`.
 fn next_key<K: Drop, F: FnMut(&K) -> bool>(
     taken: &mut TableExtract<K, (), (), MAP>,
     test: &mut F,

@@ -1,4 +1,4 @@
-//! A set that is made of keys, which can be refused.
+//! A set made of keys. Allocation may fail.
 ghost use Rattle.std.specs.Prelude.{IfOk};
 ghost use Rattle.collections.specs.Collecting.{PutsKeys, empty_map};
 
@@ -8,10 +8,10 @@ use std::alloc::{AllocError, Global};
 use std::hash::Hash;
 use std::iter::{FromIterator, IntoIterator};
 
-/// So `collect(alloc)` makes a set of the keys of an iterator, added one after the other: of equal
+/// `collect(alloc)` makes a set of the keys of an iterator, inserted one after the other: of equal
 /// keys the first stays.
 ///
-/// Where allocation fails the keys are dropped; `try_extend` of a new set loses none.
+/// If allocation fails, the keys are dropped; `try_extend` of a new set loses none.
 impl<K: Eq + Hash + Drop> FromIterator<K> for HashSet<K, DefaultHash> {
     type Alloc = Global;
 
@@ -31,7 +31,7 @@ impl<K: Eq + Hash + Drop> FromIterator<K> for HashSet<K, DefaultHash> {
 }
 
 impl<K: Eq + Hash + Drop> HashSet<K, DefaultHash> {
-    /// Returns a set of the keys of an array, added one after the other: of equal keys the first
+    /// Returns a set of the keys of an array, inserted one after the other: of equal keys the first
     /// stays.
     ///
     /// # Errors

@@ -57,7 +57,7 @@ impl<'a, K> Clone for Iter<'a, K> {
 impl<'a, K> FusedIterator for Iter<'a, K> {}
 
 impl<K: Eq, H: KeyHash<K>> HashSet<K, H> {
-    /// Lends the keys one after the other, in the order of the view.
+    /// Returns an iterator over the keys, in the order of the view.
     ///
     /// Takes no memory. O(1); all steps together O(slots, and the square of the number of blocks of
     /// each chain). std: `HashSet::iter`.

@@ -1,4 +1,4 @@
-//! The calls of std's `HashSet` that answer with a key of the set, or by a truth value.
+//! The calls of std's `HashSet` that return a key of the set, or a `bool`.
 ghost use Rattle.std.specs.Prelude.{◌≡◌, IfSome, IsTrue, OnErr, is_some};
 ghost use Rattle.std.specs.Option.{option_copied};
 ghost use Rattle.collections.specs.Changes.{TakesOut};
@@ -15,7 +15,7 @@ use bucket_table::key_hash::KeyHash;
 use std::alloc::AllocFailed;
 
 impl<K: Eq, H: KeyHash<K>> HashSet<K, H> {
-    /// Returns the set's own key that is equal, or that a form stands for; `None` where the set has
+    /// Returns the set's own key that is equal, or that a form stands for; `None` if the set has
     /// none.
     ///
     /// Moves nothing, and takes no memory. O(1) expected. std: `HashSet::get`.
@@ -32,14 +32,14 @@ impl<K: Eq, H: KeyHash<K>> HashSet<K, H> {
 }
 
 impl<K: Eq + Drop, H: KeyHash<K>> HashSet<K, H> {
-    /// Inserts a key where the set hasn't one that is equal, and returns whether it was inserted;
-    /// where an equal key is there that one stays, and the other is dropped.
+    /// Inserts a key if the set has no equal one, and returns whether it was inserted. If the set
+    /// has an equal key, that one stays and the other is dropped.
     ///
     /// # Errors
     ///
-    /// Allocation failure, and the set has no equal key: the key comes back.
+    /// Allocation failure: the set has no equal key, and the key is returned.
     ///
-    /// O(1) expected, beside a resize. std: `HashSet::insert`.
+    /// O(1) expected, plus any resize. std: `HashSet::insert`.
     pub fn insert(&mut self, key: K) -> Result<bool, AllocFailed<K>>
         ensures set { SetAdds K.eq key self.old result self.new }
         ensures slots { GrowsSlots H.hash_of key self.old self.new }
@@ -54,7 +54,7 @@ impl<K: Eq + Drop, H: KeyHash<K>> HashSet<K, H> {
 
     /// Drops the key that is equal, or that a form stands for, and returns whether the set had one.
     ///
-    /// Never refused. O(1) expected, beside a resize. std: `HashSet::remove`.
+    /// Never fails. O(1) expected, plus any resize. std: `HashSet::remove`.
     pub fn remove<Q: KeyForm<K, H>>(&mut self, key: Q) -> bool
         ensures set { TakesOut K.eq (Q.stands_for key) self.old result self.new }
         ensures slots { LosesSlots result self.old self.new }
@@ -66,14 +66,14 @@ impl<K: Eq + Drop, H: KeyHash<K>> HashSet<K, H> {
         true
     }
 
-    /// Inserts a key, in the place of the one that is equal, which it returns; `None` where the set
-    /// had none. Where an equal key is there it is never refused.
+    /// Inserts a key in the place of the equal one, which it returns; `None` if the set had none.
+    /// If the set has an equal key, the call never fails.
     ///
     /// # Errors
     ///
-    /// Allocation failed, as in `insert`, and the set has no equal key: the key comes back.
+    /// Allocation failure, as in `insert`: the set has no equal key, and the key is returned.
     ///
-    /// O(1) expected, beside a resize. std: `HashSet::replace`.
+    /// O(1) expected, plus any resize. std: `HashSet::replace`.
     pub fn replace(&mut self, key: K) -> Result<Option<K>, AllocFailed<K>>
         ensures set { SetReplaces K.eq key self.old result self.new }
         ensures slots { GrowsSlots H.hash_of key self.old self.new }

@@ -1,7 +1,7 @@
-//! `&own | &other` and its kin, which put clones of keys into a new set.
+//! `&own | &other` and its kin, which insert clones of keys into a new set.
 //!
-//! The new set has the first one's allocator, and a clone of its hasher. A call fails where
-//! allocation does, or where a key's clone isn't equal to it.
+//! The new set has the first one's allocator, and a clone of its hasher. A call fails if allocation
+//! does, or if a key's clone isn't equal to the key.
 ghost use Rattle.std.specs.Prelude.{◌&&◌, ◌||◌, IfOk, OnOk, not};
 ghost use Rattle.std.specs.Iterator.{IsFinite};
 ghost use Rattle.collections.specs.Clones.{JoinsClones, PutsClonesFrom, PutsKeyClone};
@@ -13,7 +13,7 @@ use std::alloc::AllocError;
 use std::ops::{BitAnd, BitOr, BitXor, Sub};
 
 impl<K: Eq + Clone, H: KeyHash<K>> HashSet<K, H> {
-    /// Puts clones of the keys that an iterator lends.
+    /// Inserts clones of the keys that an iterator borrows.
     fn put_clones<'k, I: Iterator<Item = &'k K>>(&mut self, keys: &mut I) -> Result<(), AllocError>
     where
         K: 'k,
@@ -29,7 +29,7 @@ impl<K: Eq + Clone, H: KeyHash<K>> HashSet<K, H> {
         Ok(())
     }
 
-    /// Puts a clone of a key, if it is equal to it.
+    /// Inserts a clone of a key, if the clone is equal to it.
     fn put_clone(&mut self, key: &K) -> Result<(), AllocError>
         ensures { OnOk result (PutsKeyClone K.eq K.is_clone self.old key.now self.new) }
     {

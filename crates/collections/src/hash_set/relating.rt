@@ -1,4 +1,4 @@
-//! How two sets stand to each other.
+//! Subset, superset and disjointness of two sets.
 ghost use Rattle.std.specs.Prelude.{◌≡◌, not};
 ghost use Rattle.std.specs.List.{list_all};
 ghost use Rattle.std.specs.Map.{keys_of};

@@ -1,4 +1,4 @@
-//! How many slots a set has, as of a map: room for keys that come, and slots that go.
+//! How many slots a set has, as a map has them: reserving room, and freeing slots.
 ghost use Rattle.std.specs.Prelude.{◌≡◌, ◌^◌, min};
 ghost use Rattle.collections.specs.Capacity.{IsMinimumFor, MakesRoom, ShrinksTo, ShrinksToFit};
 ghost use Rattle.collections.specs.Changes.{Reserves};
@@ -65,23 +65,23 @@ impl<K: Eq + Hash> HashSet<K, DefaultHash> {
 }
 
 impl<K: Eq + Drop, H: KeyHash<K>> HashSet<K, H> {
-    /// Raises the minimum, as `HashMap::raise_minimum` does, and returns by how much. The keys stay.
-    /// No clause says that slots are made.
+    /// Raises the minimum, as `HashMap::raise_minimum` does, and returns by how much. The keys
+    /// stay. No clause says that slots are allocated.
     ///
-    /// Never refused. O(slots). scc: `HashSet::reserve`.
+    /// Never fails. O(slots). scc: `HashSet::reserve`.
     pub fn raise_minimum(&mut self, additional: usize) -> usize
         ensures { Reserves K.eq additional self.old result self.new }
     {
         self.map.raise_minimum(additional)
     }
 
-    /// Makes room for so many keys more, as `HashMap::try_reserve` does for pairs. The minimum
+    /// Makes room for `additional` keys, as `HashMap::try_reserve` does for pairs. The minimum
     /// stays, and so do the keys.
     ///
     /// # Errors
     ///
-    /// Allocation failure: all keys are there. Where the keys are too many for every array nothing
-    /// changes.
+    /// Allocation failure, or more keys than any array can take: the set keeps all keys. In the
+    /// second case nothing changes.
     ///
     /// O(slots). Own: std's `try_reserve`.
     pub fn try_reserve(&mut self, additional: usize) -> Result<(), AllocError>
@@ -95,25 +95,25 @@ impl<K: Eq + Drop, H: KeyHash<K>> HashSet<K, H> {
     ///
     /// # Errors
     ///
-    /// Allocation failure: all keys are there, and the minimum is 0. It can't fail where there is no
-    /// key, nor where the slots are as few already.
+    /// Allocation failure: the set keeps all keys, and the minimum is 0. It can't fail if there is
+    /// no key, or if the slots are as few already.
     ///
-    /// O(slots). Own: std's `shrink_to_fit`, which can't be refused.
+    /// O(slots). Own: std's `shrink_to_fit`, which can't fail.
     pub fn shrink_to_fit(&mut self) -> Result<(), AllocError>
         ensures { ShrinksToFit K.eq self.old result self.new }
     {
         self.map.shrink_to_fit()
     }
 
-    /// Sets the minimum to 0, and leaves no more slots than so many keys take, as
+    /// Sets the minimum to 0, and leaves no more slots than `keys` keys take, as
     /// `HashMap::shrink_to` does. The keys stay.
     ///
     /// # Errors
     ///
-    /// Allocation failure: all keys are there, and the minimum is 0. It can't fail where the slots
+    /// Allocation failure: the set keeps all keys, and the minimum is 0. It can't fail if the slots
     /// are as few already.
     ///
-    /// O(slots). Own: std's `shrink_to`, which can't be refused.
+    /// O(slots). Own: std's `shrink_to`, which can't fail.
     pub fn shrink_to(&mut self, keys: usize) -> Result<(), AllocError>
         ensures { ShrinksTo K.eq keys self.old result self.new }
     {

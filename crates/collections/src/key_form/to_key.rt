@@ -1,4 +1,4 @@
-//! Keys that are made of the forms in which they are looked up.
+//! Keys made from the forms in which they are looked up.
 ghost use Rattle.std.specs.Prelude.{◌≡◌, ◌<◌, ◌⊎◌, false, true, length, IfOk, OnErr};
 
 use crate::key_form::KeyForm;
@@ -6,7 +6,7 @@ use bucket_table::key_hash::{KeyHash, StdHash};
 use std::alloc::{AllocError, Global};
 use std::hash::{BuildHasher, Hash};
 
-/// A form of which a key can be made. Own; hashbrown has `From` there.
+/// A form from which a key can be made. Own; hashbrown has `From` for that.
 pub trait ToKey<K: Eq, H: KeyHash<K>>: KeyForm<K, H> {
     /// Whether the call may fail for the form.
     ghost may_lack: { Self → Type 0 };
@@ -15,7 +15,8 @@ pub trait ToKey<K: Eq, H: KeyHash<K>>: KeyForm<K, H> {
     ///
     /// # Errors
     ///
-    /// Allocation failure; or what was made is no such key, as a clone that isn't equal.
+    /// Allocation failure; or the key made isn't one that the form stands for, such as a clone that
+    /// isn't equal.
     fn to_key(self, alloc: Global) -> Result<K, AllocError>
         ensures made { IfOk result (λ key. Self.stands_for self key ≡ true) }
         ensures lacks { OnErr result (may_lack self) };

@@ -1,12 +1,12 @@
-//! Pairs that come to a map or to a set in one call, some of them there already.
+//! Pairs that are inserted into a map or a set in one call, some of them present already.
 use super::{Course, GATHERING, key_of};
 use crate::collection::Collection;
 
-// How many pairs come: those of the first numbers.
+// How many pairs are inserted: those of the first numbers.
 const MANY: u64 = 64;
 
 impl Course {
-    /// Extends a map or a set, and returns whether it answers rightly.
+    /// Extends a map or a set, and returns whether the result is right.
     pub(super) fn extend(&mut self) -> bool {
         match &mut self.collection {
             Collection::Map(map) => {
@@ -31,8 +31,8 @@ impl Course {
         }
     }
 
-    /// Notes what came before the key that was refused, and returns whether that one wasn't there,
-    /// and the first that is left comes after it.
+    /// Notes what was inserted before the key whose insertion failed. Returns whether that key was
+    /// absent, and whether the iterator continues with the next one.
     fn extends(&mut self, has_values: bool, refused: Option<u64>, left: Option<u64>) -> bool {
         let end = match refused {
             Some(key) => key.wrapping_mul(GATHERING),

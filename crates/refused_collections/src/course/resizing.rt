@@ -1,11 +1,11 @@
-//! A cache that is put into an array of another size.
+//! A cache that is resized.
 use super::{Course, key_of};
 use crate::collection::Collection;
 use few_keys::KEYS;
 
 impl Course {
-    /// Gives a cache of 64 slots 128, and any other cache 64, and returns whether it answers rightly;
-    /// another collection gives slots back.
+    /// Resizes a cache of 64 slots to 128, and any other cache to 64, and returns whether the
+    /// result is right; another collection frees slots.
     pub(super) fn resize(&mut self) -> bool {
         let Collection::Cache(cache) = &mut self.collection else {
             return self.collection.shrink_to_fit();

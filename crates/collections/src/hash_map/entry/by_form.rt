@@ -1,7 +1,7 @@
-//! The place in a map of the keys that a form stands for, in the words of hashbrown's `EntryRef`: a
-//! key is made only where the map hasn't it.
+//! The place in a map of the keys that a form stands for, as hashbrown's `EntryRef`: a key is made
+//! only if the map has none.
 //!
-//! An entry holds the map, the form and its hash, and moves nothing until it is written.
+//! An entry borrows the map, holds the form and its hash, and moves nothing until it is written.
 ghost use Rattle.std.specs.Prelude.{◌≡◌, None, IsSome};
 ghost use Rattle.collections.specs.Hashes.{HaveHash};
 ghost use Rattle.collections.specs.Maps.{get_by};

@@ -13,17 +13,16 @@ impl<'a, K: Eq + Drop, V: Drop, H: KeyHash<K>> Entry<'a, K, V, H> {
     ghost use Rattle.collections.specs.Entries.{entry_key, entry_map, is_occupied};
     ghost use Rattle.collections.specs.Loans.{LendsPut};
 
-    /// Lends the value under the key for writing; where the map hasn't the key, it inserts it with
-    /// what the function makes of the key first. Once the loan ends, the key has the value last
-    /// written, and each other key what it had. Where the map has the key the function isn't
-    /// called, and it is never refused.
+    /// Returns a mutable reference to the value under the key; if the map hasn't the key, it first
+    /// inserts it with what the function makes of the key. When the borrow ends, the key has the
+    /// value last written, and each other key its earlier value. If the map has the key, the
+    /// function isn't called and the call never fails.
     ///
     /// # Errors
     ///
-    /// Allocation failure, and the map hasn't the key: the key comes back with what was made, and
-    /// the map has the pairs that it had.
+    /// Allocation failure, as in `HashMap::insert`: the key is returned with the value made.
     ///
-    /// O(1) expected, beside a resize. std: `Entry::or_insert_with_key`.
+    /// O(1) expected, plus any resize. std: `Entry::or_insert_with_key`.
     pub fn or_insert_with_key<F: FnOnce(&K) -> V>(
         self,
         make: F,
@@ -52,17 +51,17 @@ impl<'a, K: Eq + Drop, V: Drop, H: KeyHash<K>> Entry<'a, K, V, H> {
     ghost use Rattle.collections.specs.Entries.{entry_key, entry_map, is_occupied};
     ghost use Rattle.collections.specs.Loans.{LendsTried};
 
-    /// Lends the value under the key for writing; where the map hasn't the key, it inserts it with
-    /// what the function makes first. Once the loan ends, the key has the value last written, and
-    /// each other key what it had. Where the map has the key the function isn't called, and the
-    /// call never fails.
+    /// Returns a mutable reference to the value under the key; if the map hasn't the key, it first
+    /// inserts it with what the function makes. When the borrow ends, the key has the value last
+    /// written, and each other key its earlier value. If the map has the key, the function isn't
+    /// called and the call never fails.
     ///
     /// # Errors
     ///
-    /// The function's error; or allocation failed, and then `E::from` makes the error of the key
-    /// and of what was made. The map hasn't the key, and has the pairs that it had.
+    /// The function's error; or allocation failed, and `E::from` makes the error from the key and
+    /// the value made.
     ///
-    /// O(1) expected, beside a resize. Own: as the kit's `Entry::or_try_insert_with`.
+    /// O(1) expected, plus any resize. Own: as the kit's `Entry::or_try_insert_with`.
     pub fn or_try_insert_with<E: From<AllocFailed<(K, V)>>, F: FnOnce() -> Result<V, E>>(
         self,
         make: F,
@@ -91,8 +90,8 @@ impl<'a, K: Eq + Drop, V: Drop, H: KeyHash<K>> Entry<'a, K, V, H> {
 impl<'a, K: Eq + Drop, V: Drop, H: KeyHash<K>> VacantEntry<'a, K, V, H> {
     ghost use Rattle.collections.specs.Loans.{LendsAdded, LendsTriedNew};
 
-    /// Inserts the key with what a function makes, and lends that for writing; returns the
-    /// function's error, or one of the refused insertion.
+    /// Inserts the key with what a function makes, and returns a mutable reference to that value;
+    /// returns the function's error, or the error of an insertion that failed.
     fn insert_tried<E: From<AllocFailed<(K, V)>>, F: FnOnce() -> Result<V, E>>(
         self,
         make: F,
@@ -120,7 +119,8 @@ impl<'a, K: Eq + Drop, V: Drop, H: KeyHash<K>> VacantEntry<'a, K, V, H> {
         }
     }
 
-    /// Inserts the key with what a function makes of it, and lends that for writing.
+    /// Inserts the key with what a function makes of it, and returns a mutable reference to that
+    /// value.
     fn insert_made<F: FnOnce(&K) -> V>(self, make: F) -> Result<&'a mut V, AllocFailed<(K, V)>>
         requires callable { (key : Bor K) → key.now ≡ self.key → F.pre make key }
         ensures* writes_back { sem 𝓛

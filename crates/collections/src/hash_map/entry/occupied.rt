@@ -32,9 +32,11 @@ impl<'a, K: Eq, V, H: KeyHash<K>> OccupiedEntry<'a, K, V, H> {
 impl<'a, K: Eq + Drop, V: Drop, H: KeyHash<K>> OccupiedEntry<'a, K, V, H> {
     ghost use Rattle.collections.specs.Loans.{LendsThere};
 
-    /// Hands the value under the key to a function, for writing, and returns what that answers.
+    /// Calls a function with a mutable reference to the value under the key, and returns what the
+    /// function returns.
     ///
-    /// Never refused. O(1) expected. Own: it stands for std's `OccupiedEntry::get_mut`.
+    /// Never fails. O(1) expected. Own: for keys that aren't `Copy`, in place of std's
+    /// `OccupiedEntry::get_mut`.
     pub fn update<R, F: FnOnce(&mut V) -> R>(&mut self, change: F) -> R
         requires callable { (value : MutBor V) → F.pre change value }
         ensures same_map { self.new.map.ghost_name ≡ self.old.map.ghost_name }
@@ -50,8 +52,9 @@ impl<'a, K: Eq + Drop, V: Drop, H: KeyHash<K>> OccupiedEntry<'a, K, V, H> {
         }
     }
 
-    /// Lends the value under the key for writing, for as long as the map is lent. Once the loan
-    /// ends, the key has the value last written, and each other key what it had.
+    /// Returns a mutable reference to the value under the key, for as long as the map is borrowed.
+    /// When the borrow ends, the key has the value last written, and each other key its earlier
+    /// value.
     ///
     /// Moves nothing. O(1) expected. std: `OccupiedEntry::into_mut`.
     pub fn into_mut(self) -> &'a mut V
@@ -68,7 +71,7 @@ impl<'a, K: Eq + Drop, V: Drop, H: KeyHash<K>> OccupiedEntry<'a, K, V, H> {
 
     /// Writes the value under the key, and returns the earlier one; the map's own key stays.
     ///
-    /// Never refused. O(1) expected. std: `OccupiedEntry::insert`.
+    /// Never fails. O(1) expected. std: `OccupiedEntry::insert`.
     pub fn insert(&mut self, value: V) -> V
         ensures same_map { self.new.map.ghost_name ≡ self.old.map.ghost_name }
         ensures same_key { self.new.key ≡ self.old.key }
@@ -80,9 +83,9 @@ impl<'a, K: Eq + Drop, V: Drop, H: KeyHash<K>> OccupiedEntry<'a, K, V, H> {
         self.update(|held| mem::replace(held, value))
     }
 
-    /// Takes the pair out of the map, and returns it: the map's own key, and its value.
+    /// Removes the pair from the map, and returns it: the map's own key, and its value.
     ///
-    /// Never refused. O(1) expected, beside a resize. std: `OccupiedEntry::remove_entry`.
+    /// Never fails. O(1) expected, plus any resize. std: `OccupiedEntry::remove_entry`.
     pub fn remove_entry(self) -> (K, V)
         ensures map { Takes K.eq self.entry.map.now (K.eq self.entry.key) result self.exit.0.now }
         ensures slots { LosesSlots true self.entry.map.now self.exit.0.now }
@@ -92,9 +95,9 @@ impl<'a, K: Eq + Drop, V: Drop, H: KeyHash<K>> OccupiedEntry<'a, K, V, H> {
         self.map.remove_hashed(hash, &key).unwrap()
     }
 
-    /// Takes the pair out of the map, and returns its value.
+    /// Removes the pair from the map, and returns its value.
     ///
-    /// Never refused. O(1) expected, beside a resize. std: `OccupiedEntry::remove`.
+    /// Never fails. O(1) expected, plus any resize. std: `OccupiedEntry::remove`.
     pub fn remove(self) -> V
         ensures map { (own : K)
             × Takes K.eq self.entry.map.now (K.eq self.entry.key) (own, result) self.exit.0.now }
@@ -108,9 +111,9 @@ impl<'a, K: Eq + Drop, V: Drop, H: KeyHash<K>> OccupiedEntry<'a, K, V, H> {
 impl<'a, K: Eq + Copy, V: Drop, H: KeyHash<K>> OccupiedEntry<'a, K, V, H> {
     ghost use Rattle.collections.specs.EntryLoans.{LendsHeld};
 
-    /// Lends the value under the key for writing. Once the loan ends, the key has the value last
-    /// written, and each other key what it had; the entry stays. For a key that isn't `Copy`:
-    /// `update`, `into_mut`, or an entry by a form.
+    /// Returns a mutable reference to the value under the key. When the borrow ends, the key has
+    /// the value last written, and each other key its earlier value; the entry stays. For a key
+    /// that isn't `Copy`: `update`, `into_mut`, or an entry by a form.
     ///
     /// Moves nothing. O(1) expected. std: `OccupiedEntry::get_mut`.
     pub fn get_mut(&mut self) -> &mut V

@@ -26,7 +26,7 @@ impl<'a, K: Eq, V, H: KeyHash<K>> VacantEntry<'a, K, V, H> {
         &self.key
     }
 
-    /// Gives the key back; the map is as it was.
+    /// Returns the key; the map is unchanged.
     ///
     /// O(1). std: `VacantEntry::into_key`.
     pub fn into_key(self) -> K
@@ -45,15 +45,14 @@ impl<'a, K: Eq, V, H: KeyHash<K>> VacantEntry<'a, K, V, H> {
 impl<'a, K: Eq + Drop, V: Drop, H: KeyHash<K>> VacantEntry<'a, K, V, H> {
     ghost use Rattle.collections.specs.Loans.{LendsAdded};
 
-    /// Inserts the key with a value, and lends that for writing. Once the loan ends, the map has
-    /// the pair of the key and of the value last written more.
+    /// Inserts the key with a value, and returns a mutable reference to that value. When the borrow
+    /// ends, the map has one pair more: the key with the value last written.
     ///
     /// # Errors
     ///
-    /// Allocation failed, as in `HashMap::insert`: the pair comes back, and the map has the pairs
-    /// that it had.
+    /// Allocation failure, as in `HashMap::insert`: the pair is returned.
     ///
-    /// O(1) expected, beside a resize. std: `VacantEntry::insert`.
+    /// O(1) expected, plus any resize. std: `VacantEntry::insert`.
     pub fn insert(self, value: V) -> Result<&'a mut V, AllocFailed<(K, V)>>
         ensures* writes_back { sem 𝓛
             (LendsAdded K.row V.row H.row K.PartialEq H.KeyHash self.entry.map self.entry.key
@@ -69,7 +68,8 @@ impl<'a, K: Eq + Drop, V: Drop, H: KeyHash<K>> VacantEntry<'a, K, V, H> {
 impl<K: Eq + Drop, V: Drop, H: KeyHash<K>> HashMap<K, V, H> {
     ghost use Rattle.collections.specs.Loans.{LendsAdded};
 
-    /// Inserts a pair whose key has this hash, and isn't in the map, and lends its value for writing.
+    /// Inserts a pair whose key has this hash, and isn't in the map, and returns a mutable
+    /// reference to its value.
     pub(super) fn add(&mut self, hash: u64, key: K, value: V) -> Result<&mut V, AllocFailed<(K, V)>>
         requires hashed { hash ≡ H.hash_of self.old.hasher key }
         requires absent { get K.eq self.old key ≡ None }

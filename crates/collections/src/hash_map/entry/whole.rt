@@ -12,9 +12,9 @@ use std::default::MadeWith;
 impl<K: Eq, V, H: KeyHash<K>> HashMap<K, V, H> {
     ghost use Rattle.collections.specs.Entries.{entry_key, entry_map, is_occupied};
 
-    /// Returns the entry of a key, which is occupied exactly where the map has the key.
+    /// Returns the entry of a key, which is occupied exactly if the map has the key.
     ///
-    /// Never refused: it moves nothing, and takes no memory. O(1) expected. std: `HashMap::entry`.
+    /// Never fails, moves nothing, and takes no memory. O(1) expected. std: `HashMap::entry`.
     pub fn entry(&mut self, key: K) -> Entry<'_, K, V, H>
         ensures key { entry_key result ≡ key }
         ensures found { is_occupied result ≡ contains K.eq self.old key }
@@ -66,10 +66,10 @@ impl<'a, K: Eq + Drop, V: Drop, H: KeyHash<K>> Entry<'a, K, V, H> {
     ghost use Rattle.collections.specs.Entries.{Modifies, entry_key, entry_map, is_occupied};
     ghost use Rattle.collections.specs.Loans.{LendsPut};
 
-    /// Hands the value under the key to a function, for writing, where the map has the key; else
-    /// the function isn't called. Returns the entry.
+    /// Calls a function with a mutable reference to the value under the key, if the map has the
+    /// key. Returns the entry.
     ///
-    /// Never refused. O(1) expected. std: `Entry::and_modify`.
+    /// Never fails. O(1) expected. std: `Entry::and_modify`.
     pub fn and_modify<F: FnOnce(&mut V)>(self, change: F) -> Entry<'a, K, V, H>
         requires callable { (value : MutBor V) → F.pre change value }
         ensures same_map { (entry_map result).ghost_name ≡ (entry_map self.entry).ghost_name }
@@ -87,16 +87,15 @@ impl<'a, K: Eq + Drop, V: Drop, H: KeyHash<K>> Entry<'a, K, V, H> {
         }
     }
 
-    /// Lends the value under the key for writing; where the map hasn't the key, it inserts it with
-    /// the default first. Once the loan ends, the key has the value last written, and each other
-    /// key what it had. Where the map has the key it is never refused.
+    /// Returns a mutable reference to the value under the key; if the map hasn't the key, it first
+    /// inserts it with the default. When the borrow ends, the key has the value last written, and
+    /// each other key its earlier value. If the map has the key, the call never fails.
     ///
     /// # Errors
     ///
-    /// Allocation failure, and the map hasn't the key: the pair comes back, and the map has the
-    /// pairs that it had.
+    /// Allocation failure, as in `HashMap::insert`: the pair is returned.
     ///
-    /// O(1) expected, beside a resize. std: `Entry::or_insert`.
+    /// O(1) expected, plus any resize. std: `Entry::or_insert`.
     pub fn or_insert(self, default: V) -> Result<&'a mut V, AllocFailed<(K, V)>>
         ensures* writes_back { sem 𝓛
             (LendsPut K.row V.row H.row K.PartialEq H.KeyHash (entry_map self.entry)
@@ -112,17 +111,16 @@ impl<'a, K: Eq + Drop, V: Drop, H: KeyHash<K>> Entry<'a, K, V, H> {
         }
     }
 
-    /// Lends the value under the key for writing; where the map hasn't the key, it inserts it with
-    /// what the function makes first. Once the loan ends, the key has the value last written, and
-    /// each other key what it had. Where the map has the key the function isn't called, and it is
-    /// never refused.
+    /// Returns a mutable reference to the value under the key; if the map hasn't the key, it first
+    /// inserts it with what the function makes. When the borrow ends, the key has the value last
+    /// written, and each other key its earlier value. If the map has the key, the function isn't
+    /// called and the call never fails.
     ///
     /// # Errors
     ///
-    /// Allocation failure, and the map hasn't the key: the key comes back with what was made, and
-    /// the map has the pairs that it had.
+    /// Allocation failure, as in `HashMap::insert`: the key is returned with the value made.
     ///
-    /// O(1) expected, beside a resize. std: `Entry::or_insert_with`.
+    /// O(1) expected, plus any resize. std: `Entry::or_insert_with`.
     pub fn or_insert_with<F: FnOnce() -> V>(self, make: F) -> Result<&'a mut V, AllocFailed<(K, V)>>
         requires callable { is_occupied self ≡ false → F.pre make }
         ensures* writes_back { sem 𝓛
@@ -141,17 +139,17 @@ impl<'a, K: Eq + Drop, V: Drop, H: KeyHash<K>> Entry<'a, K, V, H> {
         }
     }
 
-    /// Lends the value under the key for writing; where the map hasn't the key, it inserts it with
-    /// the default of values first: of a collection or a `String` the empty one, whose memory comes
-    /// from the map's allocator. Once the loan ends, the key has the value last written, and each
-    /// other key what it had. Where the map has the key it is never refused.
+    /// Returns a mutable reference to the value under the key; if the map hasn't the key, it first
+    /// inserts it with the default value. The default of a collection or a `String` is the empty
+    /// one, whose memory comes from the map's allocator. When the borrow ends, the key has the
+    /// value last written, and each other key its earlier value. If the map has the key, the call
+    /// never fails.
     ///
     /// # Errors
     ///
-    /// Allocation failure, and the map hasn't the key: the key comes back with the default, and the
-    /// map has the pairs that it had.
+    /// Allocation failure, as in `HashMap::insert`: the key is returned with the default.
     ///
-    /// O(1) expected, beside a resize. std: `Entry::or_default`.
+    /// O(1) expected, plus any resize. std: `Entry::or_default`.
     pub fn or_default(self) -> Result<&'a mut V, AllocFailed<(K, V)>>
     where
         V: MadeWith<Global>,

@@ -25,8 +25,8 @@ impl<'a, K: Eq + Drop, V: Drop, H: KeyHash<K>, Q: KeyForm<K, H>> OccupiedEntryRe
     ghost use Rattle.collections.specs.Loans.{LendsThere};
     ghost use Rattle.collections.specs.EntryLoans.{LendsHeldRef};
 
-    /// Lends the value under the key for writing. Once the loan ends, the key has the value last
-    /// written, and each other key what it had; the entry stays.
+    /// Returns a mutable reference to the value under the key. When the borrow ends, the key has
+    /// the value last written, and each other key its earlier value; the entry stays.
     ///
     /// Moves nothing. O(1) expected. std: `OccupiedEntry::get_mut`.
     pub fn get_mut(&mut self) -> &mut V
@@ -42,9 +42,10 @@ impl<'a, K: Eq + Drop, V: Drop, H: KeyHash<K>, Q: KeyForm<K, H>> OccupiedEntryRe
         self.map.value_mut_hashed(hash, form)
     }
 
-    /// Hands the value under the key to a function, for writing, and returns what that answers.
+    /// Calls a function with a mutable reference to the value under the key, and returns what the
+    /// function returns.
     ///
-    /// Never refused. O(1) expected. Own.
+    /// Never fails. O(1) expected. Own.
     pub fn update<R, F: FnOnce(&mut V) -> R>(&mut self, change: F) -> R
         requires callable { (value : MutBor V) → F.pre change value }
         ensures same_map { self.new.map.ghost_name ≡ self.old.map.ghost_name }
@@ -60,8 +61,9 @@ impl<'a, K: Eq + Drop, V: Drop, H: KeyHash<K>, Q: KeyForm<K, H>> OccupiedEntryRe
         }
     }
 
-    /// Lends the value under the key for writing, for as long as the map is lent. Once the loan
-    /// ends, the key has the value last written, and each other key what it had.
+    /// Returns a mutable reference to the value under the key, for as long as the map is borrowed.
+    /// When the borrow ends, the key has the value last written, and each other key its earlier
+    /// value.
     ///
     /// Moves nothing. O(1) expected. std: `OccupiedEntry::into_mut`.
     pub fn into_mut(self) -> &'a mut V
@@ -80,7 +82,7 @@ impl<'a, K: Eq + Drop, V: Drop, H: KeyHash<K>, Q: KeyForm<K, H>> OccupiedEntryRe
 
     /// Writes the value under the key, and returns the earlier one; the map's own key stays.
     ///
-    /// Never refused. O(1) expected. std: `OccupiedEntry::insert`.
+    /// Never fails. O(1) expected. std: `OccupiedEntry::insert`.
     pub fn insert(&mut self, value: V) -> V
         ensures same_map { self.new.map.ghost_name ≡ self.old.map.ghost_name }
         ensures same_form { self.new.form ≡ self.old.form }

@@ -10,16 +10,16 @@ use std::alloc::{AllocFailed, Global};
 impl<'a, K: Eq + Drop, V: Drop, H: KeyHash<K>, Q: KeyForm<K, H>> VacantEntryRef<'a, K, V, H, Q> {
     ghost use Rattle.collections.specs.Loans.{LendsWanted};
 
-    /// Inserts a key for which the form stands with a value, and lends that for writing. Once the
-    /// loan ends, the map has the pair of the key and of the value last written more. The key isn't
-    /// hashed again.
+    /// Inserts a key for which the form stands with a value, and returns a mutable reference to
+    /// that value. When the borrow ends, the map has one pair more: the key with the value last
+    /// written. The key isn't hashed again.
     ///
     /// # Errors
     ///
-    /// Allocation failed, as in `HashMap::insert`, or the form doesn't stand for the key: the pair
-    /// comes back, and the map has the pairs that it had.
+    /// Allocation failure, as in `HashMap::insert`, or the form doesn't stand for the key: the pair
+    /// is returned.
     ///
-    /// O(1) expected, beside a resize. hashbrown: `VacantEntryRef::insert_with_key`.
+    /// O(1) expected, plus any resize. hashbrown: `VacantEntryRef::insert_with_key`.
     pub fn insert_with_key(self, key: K, value: V) -> Result<&'a mut V, AllocFailed<(K, V)>>
         ensures* writes_back { sem 𝓛
             (LendsWanted K.row V.row H.row K.PartialEq H.KeyHash self.entry.map
@@ -41,16 +41,16 @@ impl<'a, K: Eq + Drop, V: Drop, H: KeyHash<K>, Q: KeyForm<K, H>> VacantEntryRef<
 impl<'a, K: Eq + Drop, V: Drop, H: KeyHash<K>, Q: ToKey<K, H>> VacantEntryRef<'a, K, V, H, Q> {
     ghost use Rattle.collections.specs.Loans.{LendsMade};
 
-    /// Makes a key of the form, inserts it with a value, and lends that for writing. Once the loan
-    /// ends, the map has the pair of a key for which the form stands and of the value last written
-    /// more. The key isn't hashed again, and takes its memory from the allocator.
+    /// Makes a key of the form, inserts it with a value, and returns a mutable reference to that
+    /// value. When the borrow ends, the map has one pair more: a key for which the form stands,
+    /// with the value last written. The key isn't hashed again, and takes its memory from the
+    /// allocator.
     ///
     /// # Errors
     ///
-    /// No key could be made, or allocation failed, as in `HashMap::insert`: the value comes back,
-    /// and the map has the pairs that it had.
+    /// No key could be made, or allocation failed, as in `HashMap::insert`: the value is returned.
     ///
-    /// O(1) expected, beside the key and a resize. hashbrown: `VacantEntryRef::insert`.
+    /// O(1) expected, plus making the key and any resize. hashbrown: `VacantEntryRef::insert`.
     pub fn insert(self, value: V, alloc: Global) -> Result<&'a mut V, AllocFailed<V>>
         ensures* writes_back { sem 𝓛
             (LendsMade K.row V.row H.row K.PartialEq H.KeyHash self.entry.map

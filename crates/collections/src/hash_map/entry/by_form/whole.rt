@@ -13,10 +13,10 @@ use std::default::MadeWith;
 impl<K: Eq, V, H: KeyHash<K>> HashMap<K, V, H> {
     ghost use Rattle.collections.specs.EntryRefs.{is_ref_occupied, ref_form, ref_map};
 
-    /// Returns the entry of the keys that a form stands for, which is occupied exactly where the map
+    /// Returns the entry of the keys that a form stands for, which is occupied exactly if the map
     /// has one of them. No key is made.
     ///
-    /// Never refused: it moves nothing, and takes no memory. O(1) expected. hashbrown:
+    /// Never fails, moves nothing, and takes no memory. O(1) expected. hashbrown:
     /// `HashMap::entry_ref`.
     pub fn entry_ref<Q: KeyForm<K, H>>(&mut self, key: Q) -> EntryRef<'_, K, V, H, Q>
         ensures form { ref_form result ≡ key }
@@ -44,10 +44,10 @@ impl<K: Eq, V, H: KeyHash<K>> HashMap<K, V, H> {
 impl<'a, K: Eq + Drop, V: Drop, H: KeyHash<K>, Q: KeyForm<K, H>> EntryRef<'a, K, V, H, Q> {
     ghost use Rattle.collections.specs.EntryRefs.{ModifiesRef, is_ref_occupied, ref_form, ref_map};
 
-    /// Hands the value under the key to a function, for writing, where the map has one of the keys;
-    /// else the function isn't called. Returns the entry.
+    /// Calls a function with a mutable reference to the value under the key, if the map has one of
+    /// the keys. Returns the entry.
     ///
-    /// Never refused. O(1) expected. hashbrown: `EntryRef::and_modify`.
+    /// Never fails. O(1) expected. hashbrown: `EntryRef::and_modify`.
     pub fn and_modify<F: FnOnce(&mut V)>(self, change: F) -> EntryRef<'a, K, V, H, Q>
         requires callable { (value : MutBor V) → F.pre change value }
         ensures same_map { (ref_map result).ghost_name ≡ (ref_map self.entry).ghost_name }
@@ -70,17 +70,17 @@ impl<'a, K: Eq + Drop, V: Drop, H: KeyHash<K>, Q: ToKey<K, H>> EntryRef<'a, K, V
     ghost use Rattle.collections.specs.EntryRefs.{is_ref_occupied, ref_form, ref_map};
     ghost use Rattle.collections.specs.Loans.{LendsPutWanted};
 
-    /// Lends the value under the key for writing; where the map has none of the keys, it makes one
-    /// of the form and inserts it with the default first. Once the loan ends, the key has the value
-    /// last written, and each other key what it had. Where the map has one no key is made, and it
-    /// is never refused.
+    /// Returns a mutable reference to the value under the key; if the map has none of the keys, it
+    /// first makes one of the form and inserts it with the default. When the borrow ends, the key
+    /// has the value last written, and each other key its earlier value. If the map has one, no key
+    /// is made and the call never fails.
     ///
     /// # Errors
     ///
-    /// The map has none of the keys, and none could be made, or allocation failed: the default
-    /// comes back, and the map has the pairs that it had.
+    /// No key could be made, or allocation failed, as in `HashMap::insert`: the default is
+    /// returned.
     ///
-    /// O(1) expected, beside the key and a resize. hashbrown: `EntryRef::or_insert`.
+    /// O(1) expected, plus making the key and any resize. hashbrown: `EntryRef::or_insert`.
     pub fn or_insert(self, default: V, alloc: Global) -> Result<&'a mut V, AllocFailed<V>>
         ensures* writes_back { sem 𝓛
             (LendsPutWanted K.row V.row H.row K.PartialEq H.KeyHash (ref_map self.entry)
@@ -96,17 +96,17 @@ impl<'a, K: Eq + Drop, V: Drop, H: KeyHash<K>, Q: ToKey<K, H>> EntryRef<'a, K, V
         }
     }
 
-    /// Lends the value under the key for writing; where the map has none of the keys, it makes one
-    /// of the form and inserts it with what the function makes first. Once the loan ends, the key
-    /// has the value last written, and each other key what it had. Where the map has one no key is
-    /// made, the function isn't called, and it is never refused.
+    /// Returns a mutable reference to the value under the key; if the map has none of the keys, it
+    /// first makes one of the form and inserts it with what the function makes. When the borrow
+    /// ends, the key has the value last written, and each other key its earlier value. If the map
+    /// has one, no key is made, the function isn't called, and the call never fails.
     ///
     /// # Errors
     ///
-    /// The map has none of the keys, and none could be made, or allocation failed: what was made
-    /// comes back, and the map has the pairs that it had.
+    /// No key could be made, or allocation failed, as in `HashMap::insert`: the value made is
+    /// returned.
     ///
-    /// O(1) expected, beside the key and a resize. hashbrown: `EntryRef::or_insert_with`.
+    /// O(1) expected, plus making the key and any resize. hashbrown: `EntryRef::or_insert_with`.
     pub fn or_insert_with<F: FnOnce() -> V>(
         self,
         make: F,
@@ -128,18 +128,18 @@ impl<'a, K: Eq + Drop, V: Drop, H: KeyHash<K>, Q: ToKey<K, H>> EntryRef<'a, K, V
         }
     }
 
-    /// Lends the value under the key for writing; where the map has none of the keys, it makes one
-    /// of the form and inserts it with the default of values first: of a collection or a `String`
-    /// the empty one, whose memory comes from the allocator. Once the loan ends, the key has the
-    /// value last written, and each other key what it had. Where the map has one no key is made,
-    /// and it is never refused.
+    /// Returns a mutable reference to the value under the key; if the map has none of the keys, it
+    /// first makes one of the form and inserts it with the default value. The default of a
+    /// collection or a `String` is the empty one, whose memory comes from the allocator. When the
+    /// borrow ends, the key has the value last written, and each other key its earlier value. If
+    /// the map has one, no key is made and the call never fails.
     ///
     /// # Errors
     ///
-    /// The map has none of the keys, and none could be made, or allocation failed: the default
-    /// comes back, and the map has the pairs that it had.
+    /// No key could be made, or allocation failed, as in `HashMap::insert`: the default is
+    /// returned.
     ///
-    /// O(1) expected, beside the key and a resize. hashbrown: `EntryRef::or_default`.
+    /// O(1) expected, plus making the key and any resize. hashbrown: `EntryRef::or_default`.
     pub fn or_default(self, alloc: Global) -> Result<&'a mut V, AllocFailed<V>>
     where
         V: MadeWith<Global>,
