@@ -1,5 +1,5 @@
 //! A function called with each pair of the arrays, or of one bucket of theirs.
-ghost use Rattle.std.specs.Prelude.{◌<◌, ◌↔◌, IsTrue, length};
+ghost use Rattle.std.specs.Prelude.{◌<◌, ◌^◌, ◌↔◌, IsTrue, length};
 ghost use Rattle.bucket_slots.specs.ArrayView.{bucket_at};
 ghost use Rattle.bucket_slots.specs.BucketView.{pairs_in};
 ghost use Rattle.bucket_slots.specs.Walking.{CallsEach};
@@ -28,6 +28,7 @@ impl<K, V, L: LruList, const TYPE: u8> Arrays<K, V, L, TYPE> {
             index += 1;
         }
     }
+
     /// Calls a function with each pair of one bucket of the row, and returns whether there is such
     /// a bucket.
     #[inline(always)]
@@ -35,6 +36,7 @@ impl<K, V, L: LruList, const TYPE: u8> Arrays<K, V, L, TYPE> {
         requires callable { F.IsAlwaysCallable f.old }
         ensures again { F.IsAlwaysCallable f.new }
         ensures there { IsTrue result ↔ index < length (row_of self.now) }
+        ensures few { IsTrue result → index < 2 ^ 58 }
         ensures calls { CallsEach (λ state own value last. F.step state own value tt last) f.old
             (pairs_in (bucket_at (row_of self.now) index)) f.new }
     {

@@ -1,5 +1,5 @@
 //! A function called with each pair of a table, or of one bucket.
-ghost use Rattle.std.specs.Prelude.{◌<◌, ◌↔◌, IsTrue, length};
+ghost use Rattle.std.specs.Prelude.{◌<◌, ◌^◌, ◌↔◌, IsTrue, length};
 ghost use Rattle.bucket_slots.specs.ArrayView.{bucket_at};
 ghost use Rattle.bucket_slots.specs.BucketView.{pairs_in};
 ghost use Rattle.bucket_slots.specs.Walking.{CallsEach};
@@ -27,6 +27,7 @@ impl<K: Eq, V, H: KeyHash<K>, L: LruList, const TYPE: u8> HashTable<K, V, H, L, 
     {
         self.arrays.for_each(f);
     }
+
     /// Calls a function with each pair of one bucket, in slot order, and returns whether there is
     /// such a bucket. The buckets count from the current array's first on, then the old one's.
     ///
@@ -38,6 +39,7 @@ impl<K: Eq, V, H: KeyHash<K>, L: LruList, const TYPE: u8> HashTable<K, V, H, L, 
         requires callable { F.IsAlwaysCallable f.old }
         ensures again { F.IsAlwaysCallable f.new }
         ensures there { IsTrue result ↔ bucket < length (row_of self.now.arrays) }
+        ensures few { IsTrue result → bucket < 2 ^ 58 }
         ensures calls { CallsEach (λ state own value last. F.step state own value tt last) f.old
             (pairs_in (bucket_at (row_of self.now.arrays) bucket)) f.new }
     {
