@@ -3,7 +3,7 @@
 //! The minimum, which scc's `reserve` raises, is the least number of slots that a resize leaves.
 //! `try_reserve`, `shrink_to_fit` and `shrink_to` don't rehash incrementally: they move all pairs
 //! at once.
-ghost use Rattle.std.specs.Prelude.{◌≤◌, ◌≡◌, ◌^◌, IsErr, OnOk, min};
+ghost use Rattle.std.specs.Prelude.{◌≤◌, ◌≡◌, ◌^◌, [], IsErr, OnOk, min};
 ghost use Rattle.bucket_slots.specs.Sizing.{IsPowerIn};
 ghost use Rattle.collections.specs.Capacity.{AreTooMany, IsMinimumFor, MakesRoom, ShrinksTo, ShrinksToFit, TakesSlots};
 ghost use Rattle.collections.specs.Changes.{Reserves, Stays};
@@ -33,6 +33,7 @@ impl<K: Eq, V, H: KeyHash<K>> HashMap<K, V, H> {
         ensures minimum { IsMinimumFor pairs result.minimum }
         ensures maximum { result.maximum ≡ 2 ^ 63 }
         ensures slots { (result.slots ≡ 0) × (result.old_slots ≡ 0) }
+        ensures buckets { result.bucket_lens ≡ [] }
     {
         Self::with_minimum(alloc, hasher, minimum_for(pairs))
     }
@@ -48,6 +49,7 @@ impl<K: Eq, V, H: KeyHash<K>> HashMap<K, V, H> {
         ensures minimum { result.minimum ≡ min slots (2 ^ 63) }
         ensures maximum { result.maximum ≡ 2 ^ 63 }
         ensures slots { (result.slots ≡ 0) × (result.old_slots ≡ 0) }
+        ensures buckets { result.bucket_lens ≡ [] }
     {
         let minimum = slots.min(MAXIMUM_CAPACITY_LIMIT);
         HashMap {
@@ -67,6 +69,7 @@ impl<K: Eq + Hash, V> HashMap<K, V, DefaultHash> {
         ensures minimum { IsMinimumFor pairs result.minimum }
         ensures maximum { result.maximum ≡ 2 ^ 63 }
         ensures slots { (result.slots ≡ 0) × (result.old_slots ≡ 0) }
+        ensures buckets { result.bucket_lens ≡ [] }
     {
         Self::with_capacity_and_hasher(alloc, pairs, DefaultHash::default())
     }
