@@ -1,10 +1,9 @@
 -- What contracts see of a collection, in terms of std's `HashMap`.
-use Rattle.std.specs.Prelude.{ℕ, ◌≡◌, ◌*◌, Bool, List, [], drop, length, map, slice_index_or, take, Option, is_some}
+use Rattle.std.specs.Prelude.{ℕ, ◌≡◌, ◌*◌, ◌++◌, Bool, List, [], drop, length, map, slice_index_or, take, Option, is_some}
 use Rattle.std.specs.List.{IsDistinct, sum}
 use Rattle.std.specs.Map.{keys_of, lookup, set_value}
 use Rattle.bucket_slots.specs.BucketView.{pairs_in}
 use Rattle.bucket_table.specs.Views.ArraysView.{TableView, pairs_of}
-use Rattle.bucket_table.specs.Walking.Row.{row_of}
 
 -- the pairs, in an order that any call may change, the hasher, the least number of slots that a shrink leaves and the greatest that a
 -- growth makes, the number of slots, the number of old slots, whose pairs have still to move to these, and how many pairs each bucket
@@ -27,7 +26,7 @@ map_of table = record {
   maximum = table.arrays.maximum;
   slots = 32 * length table.arrays.current;
   old_slots = 32 * length table.arrays.linked;
-  bucket_lens = map (λ bucket. length (pairs_in bucket)) (row_of table.arrays);
+  bucket_lens = map (λ bucket. length (pairs_in bucket)) (table.arrays.current ++ table.arrays.linked);
 }
 
 module _ {K V H : Type 0} where

@@ -165,6 +165,7 @@ impl<K: Eq, V, H: KeyHash<K>> HashIndex<K, V, H> {
         requires callable { F.IsAlwaysCallable f.old }
         ensures again { F.IsAlwaysCallable f.new }
         ensures there { IsTrue result ↔ bucket < length (map_of self.now).bucket_lens }
+        ensures few { IsTrue result → bucket < 2 ^ 58 }
         ensures calls { CallsEach (λ state own value last. F.step state own value tt last) f.old
             (pairs_in_bucket (map_of self.now) bucket) f.new }
     {

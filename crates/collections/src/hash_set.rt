@@ -166,6 +166,7 @@ impl<K: Eq, H: KeyHash<K>> HashSet<K, H> {
         requires callable { F.IsAlwaysCallable f.old }
         ensures again { F.IsAlwaysCallable f.new }
         ensures there { IsTrue result ↔ bucket < length self.now.bucket_lens }
+        ensures few { IsTrue result → bucket < 2 ^ 58 }
         ensures calls { CallsEachKey F.FnMut f.old (keys_of (pairs_in_bucket self.now bucket))
             f.new }
     {
