@@ -67,7 +67,7 @@ Format: https://www.debian.org/doc/packaging-manuals/copyright-format/1.0/
 Upstream-Name: bucket
 
 Files: *
-Copyright: the authors of bucket_table
+Copyright: $(date -d "@$SOURCE_DATE_EPOCH" +%Y) the authors of bucket_table
 License: Apache-2.0
  On Debian systems the text of the Apache License, version 2.0, is the file
  /usr/share/common-licenses/Apache-2.0.
@@ -78,6 +78,7 @@ END
 # The entries of the version in CHANGELOG.
 debian_changelog() {
     printf 'bucket (%s) unstable; urgency=medium\n\n' "$version"
-    awk '/^## / { inside = ++found == 1; next } inside && /^- / { sub(/^- /, "  * "); print }' "$root/CHANGELOG.md"
+    awk '/^## / { inside = ++found == 1; next } inside && /^- / { print }' "$root/CHANGELOG.md" |
+        fold -s -w 76 | sed 's/^- /  * /; t; s/^/    /; s/ *$//'
     printf '\n -- %s  %s\n' "$(maintainer)" "$(date -R -d "@$SOURCE_DATE_EPOCH")"
 }

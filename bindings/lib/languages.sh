@@ -25,6 +25,16 @@ make_crate() {
     cp "$parts/target/package/bucket-$version.crate" "$dist"
 }
 
+# Without paths of this machine in the module.
 make_wheel() {
-    leave_out "the wheel" "TODO"
+    command -v python3 >/dev/null || {
+        leave_out "the wheel" "python3 isn't there"
+        return
+    }
+    [ -f "$(python3 -c 'import sysconfig; print(sysconfig.get_paths()["include"])')/Python.h" ] || {
+        leave_out "the wheel" "python3 has no headers"
+        return
+    }
+    BUCKET_LIB_DIR=$libraries BUCKET_INCLUDE=$here CFLAGS=-g0 LDFLAGS=-s \
+        run "the wheel" python3 -B "$here/python/build_wheel.py" "$dist"
 }

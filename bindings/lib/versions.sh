@@ -2,17 +2,13 @@
 #
 #   check_versions    ends the script by a line for each place that differs
 
-# stated: the version that each place has, a line each: the file, and the version.
+# The version that each place has, a line each: the file, and the version. The wheel has the header's.
 stated() {
-    local python
     echo "bindings/bucket.h $(sed -n 's/^#define BUCKET_VERSION_\(MAJOR\|MINOR\|PATCH\) \([0-9]*\)$/\2/p' \
         "$here/bucket.h" | paste -sd .)"
     echo "bindings/rust/Cargo.toml $(sed -n '/^\[package\]/,/^$/s/^version = "\(.*\)"$/\1/p' "$here/rust/Cargo.toml")"
-    for python in "$here"/python/{pyproject.toml,METADATA}; do
-        [ ! -f "$python" ] ||
-            echo "${python#"$root"/} $(sed -n 's/^\(version = "\|Version: \)\([^"]*\)"*$/\2/p' "$python" | head -n 1)"
-    done
     echo "CHANGELOG.md $(sed -n 's/^## \([^ ]*\).*$/\1/p' "$root/CHANGELOG.md" | head -n 1)"
+    grep -s '^version = "' "$here/python/pyproject.toml" | sed 's/^[^"]*"\(.*\)".*$/bindings\/python\/pyproject.toml \1/'
 }
 
 check_versions() {
