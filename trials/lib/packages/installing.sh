@@ -37,7 +37,8 @@ bare() {
         PYTHONDONTWRITEBYTECODE=1 "${around[@]}" "$@"
 }
 
-# README shows what stands in a `main`, the page whole programs.
+# The page has whole programs. README, where it has some, shows what stands in a `main`; its first two blocks
+# of Rust are of Rattle.
 collect_programs() {
     local pair program
     runs=0
@@ -45,22 +46,27 @@ collect_programs() {
     for pair in c:c cpp:cpp rust:rs python:py; do
         block "$page" "${pair%:*}" 1 >"$folder/programs/page.${pair#*:}"
     done
-    {
-        printf '%s\n' '#include "bucket.h"' '#include <stdio.h>' 'int main(void) {'
-        block README.md c 1
-        printf '%s\n' 'return 0;' '}'
-    } >"$folder/programs/readme.c"
-    {
-        echo 'fn main() -> Result<(), Box<dyn std::error::Error>> {'
-        # Its first two blocks are of Rattle.
-        block README.md rust 3
-        printf '%s\n' 'Ok(())' '}'
-    } >"$folder/programs/readme.rs"
-    block README.md python 1 >"$folder/programs/readme.py"
-    for program in page.{c,cpp,rs,py} readme.{c,rs,py}; do
+    in_main c 1 $'#include "bucket.h"\n#include <stdio.h>\nint main(void) {' $'return 0;\n}' >"$folder/programs/readme.c"
+    in_main rust 3 'fn main() -> Result<(), Box<dyn std::error::Error>> {' $'Ok(())\n}' >"$folder/programs/readme.rs"
+    in_main python 1 '' '' >"$folder/programs/readme.py"
+    find "$folder/programs" -size 0 -name 'readme.*' -delete
+    for program in "$folder"/programs/*; do
+        program=${program##*/}
         sed -n 's@^.*\(//\|#\) prints @@p' "$folder/programs/$program" >"$folder/told.$program"
         [ -s "$folder/told.$program" ] || fail "$program doesn't say what it prints"
     done
+}
+
+# in_main LANGUAGE NUMBER BEFORE AFTER: a block of README between these lines, or nothing.
+in_main() {
+    local text
+    text=$(block README.md "$1" "$2")
+    [ -z "$text" ] || printf '%s\n' "$3" "$text" "$4"
+}
+
+# The names of the programs of a suffix.
+named() {
+    (cd "$folder/programs" && ls -- *."$1")
 }
 
 # prints PROGRAM: the last lines of the output have to be what the program's comments say.
@@ -90,8 +96,8 @@ links() {
 
 # The programs of C, and those of C++ where that is there.
 linked_programs() {
-    (cd "$folder/programs" && ls -- *.c)
-    ! command -v c++ >"$folder/log" || (cd "$folder/programs" && ls -- *.cpp)
+    named c
+    ! command -v c++ >"$folder/log" || named cpp
 }
 
 # begin WHAT PACKAGE: an empty folder with the package, if it was made.
@@ -107,9 +113,9 @@ begin() {
 
 # play_page NUMBER FILE: plays a block of the page at that folder, with each program of the file's language as it.
 play_page() {
-    local program suffix=${2##*.}
+    local program
     commands "$page" "$1" >"$folder/commands"
-    for program in $(cd "$folder/programs" && ls -- *."$suffix"); do
+    for program in $(named "${2##*.}"); do
         cp "$folder/programs/$program" "$place/$2"
         (cd "$place" && bare bash -e -o pipefail "$folder/commands") >"$folder/output" 2>"$folder/log" </dev/null ||
             fail "$page, block $1: a command failed"
@@ -213,7 +219,7 @@ play_crate() {
         "bucket = \"${version%.*}\"" >"$other/Cargo.toml"
     printf '%s\n' '[source.crates-io]' 'replace-with = "vendored"' '[source.vendored]' 'directory = "vendor"' \
         >"$other/.cargo/config.toml"
-    for program in page.rs readme.rs; do
+    for program in $(named rs); do
         cp "$folder/programs/$program" "$other/src/main.rs"
         (cd "$other" && bare cargo build --offline --quiet) >"$folder/output" 2>"$folder/log" || fail "$program doesn't build"
         run_prints "$program" "$other/target/debug/other"
@@ -230,7 +236,7 @@ play_wheel() {
     what="wheel, unpacked"
     python3 -m zipfile -e "$place"/bucket-*.whl "$place/unpacked"
     around=("PYTHONPATH=$place/unpacked")
-    for program in page.py readme.py; do
+    for program in $(named py); do
         run_prints "$program" python3 "$folder/programs/$program"
     done
     around=()
