@@ -12,7 +12,7 @@ make_crate() {
     mkdir "$stage"
     (cd "$here/rust" && tar -c --exclude=target --exclude=Cargo.lock .) | tar -x -C "$stage"
     install -m 644 -D -t "$stage/lib/x86_64-unknown-linux-gnu" "$libraries/libbucket.a"
-    cp "$here/bucket.h" "$root/LICENSE" "$root/NOTICE" "$stage"
+    cp --remove-destination "$here/bucket.h" "$root/LICENSE" "$root/NOTICE" "$stage"
     [ -f "$stage/README.md" ] || cp "$here/README.md" "$stage"
     # cargo packs the executable bits, and reads no other crate's folder above.
     find "$stage" -type f -exec chmod 644 {} +
