@@ -4,16 +4,16 @@
 
 lay_out() {
     local prefix=$1 libdir=$1/$2 up
-    # From a folder of LIBDIR to the prefix.
-    up=../$(sed 's|[^/][^/]*|..|g' <<<"$2")
+    # From LIBDIR to the prefix.
+    up=$(sed 's|[^/][^/]*|..|g' <<<"$2")
     install -m 644 -D -t "$prefix/include" "$here"/bucket.{h,hpp}
     install -m 644 -D -t "$libdir" "$libraries/libbucket.a"
     install -m 644 "$libraries/libbucket.so" "$libdir/libbucket.so.$version"
     ln -s "libbucket.so.$version" "$libdir/libbucket.so.${version%%.*}"
     ln -s "libbucket.so.${version%%.*}" "$libdir/libbucket.so"
     mkdir -p "$libdir/pkgconfig" "$libdir/cmake/bucket"
-    write_pc "$up" "$2" >"$libdir/pkgconfig/bucket.pc"
-    write_cmake "../$up" >"$libdir/cmake/bucket/bucket-config.cmake"
+    write_pc "../$up" "$2" >"$libdir/pkgconfig/bucket.pc"
+    write_cmake "$up" >"$libdir/cmake/bucket/bucket-config.cmake"
     write_cmake_version >"$libdir/cmake/bucket/bucket-config-version.cmake"
 }
 
@@ -35,7 +35,7 @@ write_cmake() {
     cat <<END
 # The targets bucket::bucket, the shared library, and bucket::bucket_static.
 get_filename_component(_bucket_lib "\${CMAKE_CURRENT_LIST_DIR}/../.." REALPATH)
-get_filename_component(_bucket_include "\${_bucket_lib}/${1#../../}/include" REALPATH)
+get_filename_component(_bucket_include "\${_bucket_lib}/$1/include" REALPATH)
 if(NOT TARGET bucket::bucket)
     add_library(bucket::bucket SHARED IMPORTED)
     set_target_properties(bucket::bucket PROPERTIES
