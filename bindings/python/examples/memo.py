@@ -38,7 +38,7 @@ def memo(maxsize=128):
     return decorate
 
 
-@memo(maxsize=2000)
+@memo(maxsize=10_000)
 def steps(number):
     """How many steps it takes from a number to 1, halving an even one, and else by three times it plus one."""
     if number == 1:

@@ -198,7 +198,7 @@ static PyObject *cache_put_call(PyObject *self, PyObject *const *args, Py_ssize_
 PyObject *cache_made(PyObject *module, PyObject *args) {
     PyTypeObject *type;
     Py_ssize_t maxsize;
-    State *state = PyModule_GetState(module);
+    State *state = state_of_module(module);
     if (!PyArg_ParseTuple(args, "O!n", &PyType_Type, &type, &maxsize)) {
         return NULL;
     }

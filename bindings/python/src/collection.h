@@ -23,8 +23,10 @@ typedef struct Node {
     struct Node *next;
 } Node;
 
-/* What the module holds. There is one for each interpreter. */
+/* What a module holds: there is one for each interpreter, or more if it's imported anew. Its collections share it, since at the end of
+ * the interpreter the garbage collector may free the module first; the types are NULL then. */
 typedef struct State {
+    Py_ssize_t holders; /* how many collections there are, and the module */
     PyTypeObject *map, *set, *cache;
     PyTypeObject *keys, *values, *items, *iterator;
     PyObject *make_map;   /* copyreg.__newobj__ */
@@ -141,6 +143,9 @@ Node *reading_step(Reading *reading);
 
 /* ---- kinds.c ---- */
 
+State *state_of_module(PyObject *module);
+/* Lets go of a state, which the last holder frees. */
+void state_leave(State *state);
 /* The module's state by a type of it, or by a type below one; NULL of any other type. No exception is set. */
 State *state_of_type(PyTypeObject *type);
 State *state_of(PyObject *left, PyObject *right);

@@ -10,7 +10,7 @@ State *state_of_type(PyTypeObject *type) {
             if (module == NULL) {
                 PyErr_Clear();
             } else if (PyModule_GetDef(module) == &bucket_module) {
-                return PyModule_GetState(module);
+                return state_of_module(module);
             }
         }
         type = PyType_GetSlot(type, Py_tp_base);
@@ -21,6 +21,12 @@ State *state_of_type(PyTypeObject *type) {
 State *state_of(PyObject *left, PyObject *right) {
     State *state = state_of_type(Py_TYPE(left));
     return state != NULL ? state : state_of_type(Py_TYPE(right));
+}
+
+void state_leave(State *state) {
+    if (--state->holders == 0) {
+        PyMem_Free(state);
+    }
 }
 
 /* Once the module is cleared, at the end of the interpreter, its types are gone. */
@@ -49,6 +55,7 @@ Table *table_new(State *state, PyTypeObject *type) {
     Table *table = (Table *)alloc(type, 0);
     if (table != NULL) {
         table->state = state;
+        state->holders++;
         if (is_cache(state, (PyObject *)table)) {
             table->is_cache = true;
             order_begin((Cache *)table);
@@ -71,10 +78,8 @@ void collection_dealloc(PyObject *self) {
     if (table->weakrefs != NULL) {
         PyObject_ClearWeakRefs(self);
     }
-    Node *nodes = table_take_all(table);
-    if (nodes != NULL) {
-        nodes_drop(table->state, nodes);
-    }
+    nodes_drop(table->state, table_take_all(table));
+    state_leave(table->state);
     ((freefunc)PyType_GetSlot(type, Py_tp_free))(self);
     Py_DECREF(type);
 }
@@ -93,10 +98,7 @@ int collection_traverse(PyObject *self, visitproc visit, void *arg) {
 
 int collection_clear(PyObject *self) {
     Table *table = (Table *)self;
-    Node *nodes = table_take_all(table);
-    if (nodes != NULL) {
-        nodes_drop(table->state, nodes);
-    }
+    nodes_drop(table->state, table_take_all(table));
     return 0;
 }
 

@@ -5,6 +5,11 @@
 
 extern PyModuleDef bucket_module;
 
+/* The module's own memory is the address of its state. */
+State *state_of_module(PyObject *module) {
+    return *(State **)PyModule_GetState(module);
+}
+
 /* ---- The seed ---- */
 
 static int seed_from(State *state, PyObject *bytes) {
@@ -31,7 +36,7 @@ static int seed_by_chance(State *state) {
 }
 
 static PyObject *seeded(PyObject *module, PyObject *seed) {
-    State *state = PyModule_GetState(module);
+    State *state = state_of_module(module);
     int code = seed == Py_None ? seed_by_chance(state) : seed_from(state, seed);
     return code < 0 ? NULL : Py_NewRef(Py_None);
 }
@@ -39,7 +44,7 @@ static PyObject *seeded(PyObject *module, PyObject *seed) {
 /* How many pairs all collections have, those that are to be let go with them. */
 static PyObject *count_nodes(PyObject *module, PyObject *unused) {
     (void)unused;
-    return PyLong_FromSsize_t(((State *)PyModule_GetState(module))->nodes);
+    return PyLong_FromSsize_t(state_of_module(module)->nodes);
 }
 
 static PyMethodDef functions[] = {
@@ -102,7 +107,13 @@ static int add_version(PyObject *module) {
 }
 
 static int module_exec(PyObject *module) {
-    State *state = PyModule_GetState(module);
+    State **own = PyModule_GetState(module), *state = PyMem_Calloc(1, sizeof *state);
+    if (state == NULL) {
+        PyErr_NoMemory();
+        return -1;
+    }
+    state->holders = 1;
+    *own = state;
     if (bucket_version() != BUCKET_VERSION) {
         PyErr_SetString(PyExc_ImportError, "the library has another version than the header");
         return -1;
@@ -121,7 +132,10 @@ static int module_exec(PyObject *module) {
 }
 
 static int module_traverse(PyObject *module, visitproc visit, void *arg) {
-    State *state = PyModule_GetState(module);
+    State *state = state_of_module(module);
+    if (state == NULL) {
+        return 0;
+    }
     Py_VISIT(state->map);
     Py_VISIT(state->set);
     Py_VISIT(state->cache);
@@ -137,7 +151,10 @@ static int module_traverse(PyObject *module, visitproc visit, void *arg) {
 }
 
 static int module_clear(PyObject *module) {
-    State *state = PyModule_GetState(module);
+    State *state = state_of_module(module);
+    if (state == NULL) {
+        return 0;
+    }
     Py_CLEAR(state->map);
     Py_CLEAR(state->set);
     Py_CLEAR(state->cache);
@@ -154,6 +171,9 @@ static int module_clear(PyObject *module) {
 
 static void module_free(void *module) {
     module_clear(module);
+    if (state_of_module(module) != NULL) {
+        state_leave(state_of_module(module));
+    }
 }
 
 static PyModuleDef_Slot module_slots[] = {
@@ -165,7 +185,7 @@ PyModuleDef bucket_module = {
     PyModuleDef_HEAD_INIT,
     .m_name = "bucket._bucket",
     .m_doc = "The types of the module bucket.",
-    .m_size = sizeof(State),
+    .m_size = sizeof(State *),
     .m_methods = functions,
     .m_slots = module_slots,
     .m_traverse = module_traverse,

@@ -119,7 +119,7 @@ static PyObject *set_reduce(PyObject *self, PyObject *unused) {
 PyObject *set_made(PyObject *module, PyObject *args) {
     PyTypeObject *type;
     PyObject *keys;
-    State *state = PyModule_GetState(module);
+    State *state = state_of_module(module);
     if (!PyArg_ParseTuple(args, "O!O", &PyType_Type, &type, &keys)) {
         return NULL;
     }
