@@ -1,4 +1,5 @@
-from collections.abc import ItemsView, Iterable, Iterator, KeysView, Mapping, MutableMapping, MutableSet, Set as AbstractSet, ValuesView
+from collections.abc import ItemsView, Iterable, Iterator, KeysView, MutableMapping, MutableSet, ValuesView
+from collections.abc import Set as AbstractSet
 from types import GenericAlias
 from typing import Any, ClassVar, NamedTuple, Protocol, TypeVar, overload
 

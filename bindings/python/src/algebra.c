@@ -120,7 +120,8 @@ static Table *without_keys(Table *set, PyObject *keys) {
         return own_keys(set, keys, false);
     }
     Table *made = set_of(set, (PyObject *)set);
-    return made == NULL ? NULL : finished(made, keys == (PyObject *)set ? collection_clear((PyObject *)made) : remove_all(made, keys));
+    PyObject *others = keys == (PyObject *)set ? (PyObject *)made : keys;
+    return made == NULL ? NULL : finished(made, remove_all(made, others));
 }
 
 /* The keys that are in one alone. */

@@ -1,7 +1,7 @@
 /* The type Cache: a mapping of at most `maxsize` pairs, from which the pair goes that was touched longest ago.
  *
- * The library's cache has twice as many slots as there may be pairs. So hardly ever is one of its buckets of 32 slots full, and it is
- * the order here, a ring of all nodes by their last touch, that says which pair goes. */
+ * The library's cache has twice as many slots as there may be pairs. So hardly ever is one of its buckets of 32 slots full, and it
+ * is the order here, a ring of all nodes by their last touch, that says which pair goes. */
 #include "collection.h"
 
 /* ---- The order of use ---- */
@@ -315,11 +315,13 @@ static PyMethodDef cache_methods[] = {
     {"update", (PyCFunction)(void (*)(void))pairs_update, METH_VARARGS | METH_KEYWORDS,
      "update([other], **pairs)\n\nPuts the pairs of a mapping or of an iterable of pairs, then the keywords'."},
     {"clear", cache_clear, METH_NOARGS, "clear($self, /)\n--\n\nRemoves all pairs, and counts anew. O(n)."},
-    {"copy", cache_copy, METH_NOARGS, "copy($self, /)\n--\n\nA Cache of the same pairs in the same order, which counts anew. O(n)."},
+    {"copy", cache_copy, METH_NOARGS,
+     "copy($self, /)\n--\n\nA Cache of the same pairs in the same order, which counts anew. O(n)."},
     {"keys", pairs_keys, METH_NOARGS, "keys($self, /)\n--\n\nA live view of the keys."},
     {"values", pairs_values, METH_NOARGS, "values($self, /)\n--\n\nA live view of the values."},
     {"items", pairs_items, METH_NOARGS, "items($self, /)\n--\n\nA live view of the pairs."},
-    {"cache_info", cache_info, METH_NOARGS, "cache_info($self, /)\n--\n\nhits, misses, maxsize and currsize, as of functools.lru_cache."},
+    {"cache_info", cache_info, METH_NOARGS,
+     "cache_info($self, /)\n--\n\nhits, misses, maxsize and currsize, as of functools.lru_cache."},
     {"__reduce__", cache_reduce, METH_NOARGS, "For copies and pickles."},
     {"__sizeof__", collection_sizeof, METH_NOARGS, "About how many bytes it takes, without keys and values."},
     {"__class_getitem__", Py_GenericAlias, METH_O | METH_CLASS, "Cache[str, int], for type hints."},
@@ -332,8 +334,8 @@ static PyMemberDef cache_members[] = {
 };
 
 static PyType_Slot cache_slots[] = {
-    {Py_tp_doc, "Cache(maxsize=128)\n\nA mapping of at most `maxsize` pairs: a further one lets the pair go that was touched longest ago.\n"
-                "[], get, setdefault and what puts a pair touch it; peek, in, views and iterations don't. An iteration gives the\n"
+    {Py_tp_doc, "Cache(maxsize=128)\n\nA mapping of at most `maxsize` pairs: a further one lets the pair go that was touched longest\n"
+                "ago. [], get, setdefault and what puts a pair touch it; peek, in, views and iterations don't. An iteration gives the\n"
                 "pair touched longest ago first, from a copy of the order. Above 32 pairs another pair may go earlier, where\n"
                 "one of the library's buckets of 32 slots is full: of twice as many slots as pairs that is rare."},
     {Py_tp_new, cache_new},

@@ -3,8 +3,8 @@
  * A collection has two tables of the library: one of words, for ints from -2^63 to 2^63 - 1, and one of byte strings, for all other
  * keys. A pair is a node, and its address is the value in a table. So a key comes back as the object that was put.
  *
- * An object of another's may run Python code when it is let go, compared or shown, and that code may change the collection. So each
- * function here first brings the tables and the nodes in order, and then lets objects go; what it uses afterwards it holds itself. */
+ * An object of another's may run Python code when it is let go, compared or shown, and that code may change the collection. So
+ * each function here first brings the tables and the nodes in order, and then lets objects go; what it uses afterwards it holds. */
 #ifndef BUCKET_COLLECTION_H
 #define BUCKET_COLLECTION_H
 
@@ -23,8 +23,8 @@ typedef struct Node {
     struct Node *next;
 } Node;
 
-/* What a module holds: there is one for each interpreter, or more if it's imported anew. Its collections share it, since at the end of
- * the interpreter the garbage collector may free the module first; the types are NULL then. */
+/* What a module holds: there is one for each interpreter, or more if it's imported anew. Its collections share it, since at the end
+ * of the interpreter the garbage collector may free the module first; the types are NULL then. */
 typedef struct State {
     Py_ssize_t holders; /* how many collections there are, and the module */
     PyTypeObject *map, *set, *cache;
@@ -76,8 +76,8 @@ typedef struct Key {
 
 typedef enum { KEY_ERROR = -1, KEY_NONE, KEY_OK } KeyCode;
 
-/* KEY_OK; KEY_NONE: the object is no key, so no pair has it; KEY_ERROR: an exception is set. Only after KEY_OK is there anything that
- * key_end has to free. */
+/* KEY_OK; KEY_NONE: the object is no key, so no pair has it; KEY_ERROR: an exception is set. Only after KEY_OK is there anything
+ * that key_end has to free. */
 KeyCode key_of(Key *key, PyObject *object);
 void key_end(Key *key);
 /* Raises what tells why an object is no key. Returns -1. */

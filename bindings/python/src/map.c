@@ -94,7 +94,8 @@ static PyObject *map_reduce(PyObject *self, PyObject *unused) {
 }
 
 static PyMethodDef map_methods[] = {
-    {"get", (PyCFunction)(void (*)(void))pairs_get, METH_FASTCALL, "get($self, key, default=None, /)\n--\n\nThe value at a key, or the default. O(1)."},
+    {"get", (PyCFunction)(void (*)(void))pairs_get, METH_FASTCALL,
+     "get($self, key, default=None, /)\n--\n\nThe value at a key, or the default. O(1)."},
     {"setdefault", (PyCFunction)(void (*)(void))pairs_setdefault, METH_FASTCALL,
      "setdefault($self, key, default=None, /)\n--\n\nThe value at a key; or the default, which is put there. O(1)."},
     {"pop", (PyCFunction)(void (*)(void))pairs_pop, METH_FASTCALL,

@@ -49,7 +49,8 @@ static PyObject *count_nodes(PyObject *module, PyObject *unused) {
 
 static PyMethodDef functions[] = {
     {"seeded", seeded, METH_O,
-     "seeded($module, seed, /)\n--\n\nCollections whose first key comes from now on hash by these 16 bytes; by None: by random ones.\n\n"
+     "seeded($module, seed, /)\n--\n\n"
+     "Collections whose first key comes from now on hash by these 16 bytes; by None: by random ones.\n\n"
      "Each process begins with random ones, or with PYTHONHASHSEED."},
     {"_nodes", count_nodes, METH_NOARGS, "How many pairs there are in memory, for tests."},
     {"_set_of", set_made, METH_VARARGS, "For pickles of a Set."},
@@ -89,7 +90,9 @@ static PyObject *attribute_of(const char *module, const char *name) {
 
 static PyObject *make_cache_info(void) {
     PyObject *make = attribute_of("collections", "namedtuple");
-    PyObject *type = make == NULL ? NULL : PyObject_CallFunction(make, "s(ssss)", "CacheInfo", "hits", "misses", "maxsize", "currsize");
+    PyObject *type = make == NULL
+        ? NULL
+        : PyObject_CallFunction(make, "s(ssss)", "CacheInfo", "hits", "misses", "maxsize", "currsize");
     PyObject *name = type == NULL ? NULL : PyUnicode_FromString("bucket");
     if (name == NULL || PyObject_SetAttrString(type, "__module__", name) < 0) {
         Py_CLEAR(type);

@@ -30,7 +30,7 @@ static void drop_each(State *state, Node *nodes) {
     }
 }
 
-/* A collection in a collection in a collection: from some depth on the outermost call lets the objects go, so that the stack ends. */
+/* A collection in a collection in a collection: from some depth on the outermost call lets the objects go. So the stack ends. */
 void nodes_drop(State *state, Node *nodes) {
     if (nodes == NULL) {
         return;

@@ -1,8 +1,10 @@
 """The types of the module bucket, filled beside a dict or a set, for tests."""
 
 import collections
+import gc
 
 import bucket
+from bucket import _bucket
 
 
 def word(number):
@@ -67,3 +69,12 @@ def raised(call, *arguments, **options):
     except Exception as error:
         return type(error)
     return None
+
+
+def nodes_of(test, call):
+    """Makes a call, and asserts that no pair stays behind."""
+    gc.collect()
+    before = _bucket._nodes()
+    call()
+    gc.collect()
+    test.assertEqual(_bucket._nodes(), before)

@@ -146,7 +146,8 @@ class Maps(unittest.TestCase):
 
     def test_comparisons_are_those_of_a_dict(self):
         made = bucket.Map({1: 2, "a": [3]})
-        for other in {1: 2, "a": [3]}, bucket.Map({"a": [3], 1: 2}), collections.OrderedDict(a=[3]) | {1: 2}, collections.UserDict({1: 2, "a": [3]}):
+        pairs = {1: 2, "a": [3]}
+        for other in pairs, bucket.Map({"a": [3], 1: 2}), collections.OrderedDict(a=[3]) | {1: 2}, collections.UserDict(pairs):
             self.assertTrue(made == other and other == made and not made != other and not other != made)
         for other in {1: 2}, {1: 2, "a": [4]}, {1: 2, "b": [3]}, {1: 2, (): 3}, {1: 2, "a": [3], 5: 6}, {}, 5, None, [(1, 2)]:
             self.assertTrue(made != other and other != made and not made == other and not other == made)

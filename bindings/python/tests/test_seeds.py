@@ -95,7 +95,8 @@ class Seeds(unittest.TestCase):
     def order_by(self, variables):
         environment = {name: value for name, value in os.environ.items() if name != "PYTHONHASHSEED"}
         program = "import bucket; print(list(bucket.Map.fromkeys(range(1000))))"
-        return subprocess.run([sys.executable, "-c", program], env={**environment, **variables}, capture_output=True, check=True).stdout
+        command, environment = [sys.executable, "-c", program], {**environment, **variables}
+        return subprocess.run(command, env=environment, capture_output=True, check=True).stdout
 
 
 if __name__ == "__main__":
