@@ -58,7 +58,7 @@ def package(folder):
     names = ["__init__.py", "__init__.pyi", "py.typed"]
     files = {}
     for name in names:
-        with open(os.path.join(HERE, "bucket", name), "rb") as file:
+        with open(os.path.join(HERE, "package", name), "rb") as file:
             files["bucket/" + name] = file.read()
     with tempfile.TemporaryDirectory() as made:
         path = os.path.join(made, "_bucket.abi3.so")
