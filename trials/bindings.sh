@@ -1,13 +1,12 @@
 #!/usr/bin/env bash
 # Links the proved library of bindings/ to programs of C, C++, Rust and Python, and runs them: each
-# call with each code; every allocation refused in turn, and what is held then; calls by chance beside
-# std's map and a dict; the Python module's copies, threads, iterations and arguments, and what it makes
-# of each code; the order of pairs beside a SipHash of the trial's own; under valgrind, that nothing is
-# read or written that isn't allocated, and all is freed. The header names what is exported, compiles
-# without a warning, lets no null pointer through, refuses a machine of 32 bits and warns of a code that
-# is dropped.
+# call with each code; every allocation refused in turn, and what is held then; under valgrind, that
+# nothing is read or written that isn't allocated, and all is freed. The header names what is exported,
+# compiles without a warning, lets no null pointer through, refuses a machine of 32 bits and warns of a
+# code that is dropped. Then the tests of bucket.hpp, of the Rust crate and of the Python module, by
+# `cpp/test`, `rust/test` and `python/test` of bindings/: the heads of these tell what they try.
 #
-# Needs rt, ar, nm, python3 and a C compiler cc on the PATH. A language whose compiler (c++, cargo) or
+# Needs rt, binutils, python3 and a C compiler cc on the PATH. A language whose compiler (c++, cargo) or
 # valgrind isn't there is left out, and a line says so. Ends with status 0 where all was right, else
 # with 1.
 set -u
@@ -94,23 +93,12 @@ if is_there valgrind "the memory of C"; then
     echo "valgrind finds no error and no leak"
 fi
 
-if is_there cargo "Rust"; then
-    (cd "$bindings/rust" && BUCKET_LIB_DIR=$folder CARGO_TARGET_DIR=$folder/target \
-        cargo test --release --offline --quiet) >"$folder/log" 2>&1 || fail "a test of the Rust crate fails"
-    echo "$(cat "$bindings"/rust/tests/*.rs | grep -c '^#\[test\]') tests of the Rust crate pass"
-    rm -f "$bindings/rust/Cargo.lock"
+# The tests of the three wrappers, each by one command of its own.
+export BUCKET_LIB_DIR=$folder BUCKET_INCLUDE=$bindings
+if is_there c++ "bucket.hpp"; then
+    run "$bindings/cpp/test"
 fi
-
-export BUCKET_LIB=$folder/libbucket.so PYTHONPATH=$bindings PYTHONDONTWRITEBYTECODE=1
-run python3 "$sources/beside_dict.py"
-run python3 "$sources/module_tests.py"
-run python3 "$sources/seeds.py"
-
-# A library whose calls answer what BUCKET_CODE says, but for those that open a handle.
-{
-    echo '#include <stdlib.h>'
-    sed 's/.*/unsigned long &(void) { return strtoul(getenv("BUCKET_CODE"), 0, 10); }/
-        s/\(.*_new(void) { return \).*;/\10;/' "$folder/declared"
-} >"$folder/answers.c"
-cc -shared -fPIC "$folder/answers.c" -o "$folder/answers.so" 2>"$folder/log" || fail "no library of answers links"
-BUCKET_LIB=$folder/answers.so run python3 "$sources/codes.py"
+if is_there cargo "Rust"; then
+    run "$bindings/rust/test"
+fi
+run "$bindings/python/test"
