@@ -113,7 +113,7 @@ def compare_counts(text, root):
     compare_exact("calls by chance", found(CALLS, text), calls_by_chance(root))
     for file, pattern in (
         ("bindings/cpp/tests/random.cpp", r"constexpr int calls = (\d+);"),
-        ("bindings/rust/tests/by_chance.rs", r"RUSTCALLS"),
+        ("bindings/rust/tests/common/mod.rs", r"unwrap_or\(([\d_]+)\)"),
         ("bindings/python/tests/test_chance.py", r'CALLS = int\(os.environ.get\("BUCKET_CALLS", "(\d+)"\)\)'),
     ):
         calls = number(found(pattern, (root / file).read_text()))
