@@ -29,7 +29,6 @@
 #include <cerrno>
 #include <cstddef>
 #include <cstdint>
-#include <functional>
 #include <initializer_list>
 #include <iterator>
 #include <memory>
@@ -695,7 +694,11 @@ template <class K> class words : public holder {
     /// erased, so if it throws, or allocation of a list of what goes fails, all stay. O(n).
     template <class Pred> size_type erase_if(Pred pred) {
         std::vector<K> doomed;
-        std::copy_if(begin(), end(), std::back_inserter(doomed), std::ref(pred));
+        for (const K key : *this) {
+            if (pred(key)) {
+                doomed.push_back(key);
+            }
+        }
         for (K key : doomed) {
             erase(key);
         }
@@ -907,8 +910,8 @@ template <class K, class V> class map : public detail::nodes<detail::pair_shape<
     /// Inserts a range of pairs; of those of one key the first stays. If it throws, those before are in. O(n).
     template <class It, class = detail::needs_iterator<It>> void insert(It first, It last) {
         for (; first != last; ++first) {
-            const auto &[key, value] = *first;
-            try_emplace(key, value);
+            auto &&pair = *first;
+            try_emplace(std::forward<decltype(pair)>(pair).first, std::forward<decltype(pair)>(pair).second);
         }
     }
     /// The same of a list.
