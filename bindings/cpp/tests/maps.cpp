@@ -13,6 +13,8 @@
 using tests::colour;
 using tests::key;
 
+std::size_t second_unit();
+
 namespace {
 
 template <class K> void all_calls_with() {
@@ -295,6 +297,8 @@ void rooms() {
     CHECK(closed.capacity() == 0);
 }
 
+void two_units_share_the_header() { CHECK(second_unit() == 1); }
+
 const tests::story stories[] = {
     {"each call works with keys of each type", keys_of_each_type},
     {"the least and greatest words, and texts with any byte and of any length, are keys", extreme_keys},
@@ -308,6 +312,7 @@ const tests::story stories[] = {
     {"values may be immovable, over-aligned, recursive, nested", values_of_any_type},
     {"keys and values inside of the map may be passed to it", keys_inside_of_the_map_may_be_passed},
     {"reserve, shrink_to_fit and capacity", rooms},
+    {"two units of a program may include the header", two_units_share_the_header},
 };
 
 } // namespace
