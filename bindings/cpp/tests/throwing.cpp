@@ -78,6 +78,18 @@ void a_key_that_was_given_away_comes_back() {
     CHECK(given == std::string(50, 'k') && all.empty());
 }
 
+void a_call_that_throws_leaves_no_slot_taken() {
+    bucket::map<int, counted> all;
+    all[0] = 0;
+    std::size_t before = all.capacity();
+    counted::until_throw = 0;
+    for (int i = 1; i < 10000; i++) {
+        CHECK_THROWS(thrown, all.try_emplace(i, i));
+    }
+    counted::until_throw = -1;
+    CHECK(all.capacity() == before && all.size() == 1);
+}
+
 void a_put_that_throws_evicts_nothing() {
     bucket::cache<int, counted> cache(64);
     for (int i = 0; i < 64; i++) {
@@ -141,7 +153,7 @@ void a_destructor_may_call_its_container() {
         ended++;
         std::size_t seen = 0;
         for (auto &[k, value] : all) {
-            seen += k >= 0 ? 1 : 0;
+            seen += k >= 0 ? 1u : 0u;
             CHECK(all.find(k) == &value);
         }
         CHECK(seen == all.size());
@@ -195,7 +207,7 @@ void a_constructor_may_call_its_container() {
     }
     std::size_t seen = 0;
     for (auto &pair : all) {
-        seen += pair.first.empty() ? 0 : 1;
+        seen += pair.first.empty() ? 0u : 1u;
     }
     CHECK(seen == all.size() && all.size() == 403);
 }
@@ -218,6 +230,7 @@ void a_cached_value_may_call_its_cache() {
 const tests::story stories[] = {
     {"a call whose value throws changes nothing", a_call_that_throws_changes_nothing},
     {"a key that was given away comes back if the value throws", a_key_that_was_given_away_comes_back},
+    {"a call that throws leaves no slot taken", a_call_that_throws_leaves_no_slot_taken},
     {"a put that throws evicts nothing", a_put_that_throws_evicts_nothing},
     {"a predicate that throws erases nothing", a_predicate_that_throws_erases_nothing},
     {"a destructor may call its container", a_destructor_may_call_its_container},

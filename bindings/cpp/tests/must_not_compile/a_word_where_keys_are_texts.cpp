@@ -1,4 +1,4 @@
-// no matching|cannot convert|could not convert|no viable
+// no matching|cannot convert|could not convert|invalid conversion|no viable
 #include "bucket.hpp"
 
 bucket::map<std::string, int> all;
