@@ -6,6 +6,7 @@ use std::marker::PhantomData;
 use std::mem::replace;
 use std::panic::{catch_unwind, resume_unwind, AssertUnwindSafe};
 use std::ptr::with_exposed_provenance_mut;
+use std::thread::panicking;
 
 /// A pair on the heap. Its address is the value that the table has at the key.
 pub(crate) struct Node<K, V> {
@@ -131,7 +132,8 @@ impl Walk {
     }
 }
 
-/// Calls `act` for each of what `next` gives, also after one that panics. The first panic goes on then.
+/// Calls `act` for each of what `next` gives, also after one that panics. The first panic goes on then, unless
+/// another one is on its way, where a second would abort the process.
 pub(crate) fn for_all<T>(mut next: impl FnMut() -> Option<T>, mut act: impl FnMut(T)) {
     let mut first = None;
     loop {
@@ -145,8 +147,9 @@ pub(crate) fn for_all<T>(mut next: impl FnMut() -> Option<T>, mut act: impl FnMu
             Err(panic) => first = first.or(Some(panic)),
         }
     }
-    if let Some(panic) = first {
-        resume_unwind(panic);
+    match first {
+        Some(panic) if !panicking() => resume_unwind(panic),
+        _ => {}
     }
 }
 

@@ -119,7 +119,10 @@ impl<K: ByChance> Both<K> {
                 let half = map.len() / 2;
                 let there: Vec<_> = map.drain().take(half).collect();
                 assert_eq!(tally.there(), half as isize);
-                std.retain(|key, _| there.iter().any(|(other, _)| other == key));
+                let mut left = HashMap::new();
+                left.extend(there.iter().map(|(key, value)| (key.clone(), value.number)));
+                assert!(left.iter().all(|(key, number)| std.get(key) == Some(number)));
+                *std = left;
                 map.extend(there);
             }
         }

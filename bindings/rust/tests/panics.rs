@@ -6,10 +6,10 @@ use bucket::{Cache, Map, Set};
 use common::{Counted, Tally};
 use std::panic::{catch_unwind, AssertUnwindSafe};
 
-/// Makes a call that panics, and returns what it said.
+/// Makes a call that panics, or whose answer does as it is dropped, and returns what was said.
 fn panicking<T>(call: impl FnOnce() -> T) -> String {
-    match catch_unwind(AssertUnwindSafe(call)) {
-        Ok(_) => panic!("the call doesn't panic"),
+    match catch_unwind(AssertUnwindSafe(|| drop(call()))) {
+        Ok(()) => panic!("the call doesn't panic"),
         Err(why) => match why.downcast::<String>() {
             Ok(text) => *text,
             Err(why) => why.downcast_ref::<&str>().unwrap().to_string(),
