@@ -295,7 +295,7 @@ fn what_is_kept_and_what_is_taken_is_asked_for_once() {
     assert!(taken.len() == 10 && (10..334).contains(&asked));
     assert_eq!(map.len(), 324);
     assert!(taken.iter().all(|(key, value)| key % 6 == 0 && *value == key + 1 && !map.contains_key(key)));
-    std::mem::forget(map.extract_if(|_, _| true));
+    let _ = map.extract_if(|_, _| true);
     assert_eq!(map.len(), 324);
     assert_eq!(map.extract_if(|_, _| true).count(), 324);
     assert!(map.is_empty());
