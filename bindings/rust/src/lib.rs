@@ -88,6 +88,11 @@ pub use map::{Entry, Map};
 pub use seed::Seed;
 pub use set::Set;
 
+/// The program of the package's page.
+#[cfg(doctest)]
+#[doc = include_str!("../README.md")]
+struct Readme;
+
 /// The version of the library that is linked: major, minor, patch.
 ///
 /// ```

@@ -30,6 +30,9 @@ use crate::{Key, NoMemory, Seed};
 /// # Ok::<(), bucket::NoMemory>(())
 /// ```
 ///
+/// It is `Send`, if its keys and values are, and not `Sync`, since the library takes one call at a time on a table,
+/// look-ups too. Threads share one in a [`Mutex`](crate#threads).
+///
 /// It may outlive what its values borrow, unless their `Drop` looks at it:
 ///
 /// ```
@@ -227,7 +230,7 @@ impl<K: Key, V> Map<K, V> {
         self.table.reserve(additional)
     }
 
-    /// Leaves as few slots as the pairs take. O(slots).
+    /// Leaves as few slots as the pairs take, and forgets the room that `with_capacity` asked for. O(slots).
     ///
     /// # Errors
     ///

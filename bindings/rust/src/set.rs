@@ -295,7 +295,7 @@ impl<K: Key> Set<K> {
         self.map.reserve(additional)
     }
 
-    /// Leaves as few slots as the keys take. O(slots).
+    /// Leaves as few slots as the keys take, and forgets the room that `with_capacity` asked for. O(slots).
     ///
     /// # Errors
     ///

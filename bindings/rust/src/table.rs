@@ -231,12 +231,10 @@ impl<K: Key, V> Table<Maps, K, V> {
     }
 
     pub fn shrink_to_fit(&mut self) -> Result<(), NoMemory> {
+        // As the library's own, which is gone also where it fails.
+        self.kind.capacity = 0;
         match unsafe { bucket_shrink(&mut self.held.handle) } {
-            OK => Ok(()),
-            CLOSED => {
-                self.kind.capacity = 0;
-                Ok(())
-            }
+            OK | CLOSED => Ok(()),
             _ => Err(NoMemory),
         }
     }

@@ -313,7 +313,10 @@ fn room_is_made_and_given_back() {
     assert_eq!(map.shrink_to(100), Ok(()));
     assert!((100..5000).contains(&map.capacity()));
     assert_eq!((map.shrink_to_fit(), map[&1]), (Ok(()), 2));
+    assert!(map.capacity() < 100);
     map.clear();
+    let mut unused: Map<u64, u64> = Map::with_capacity(1000);
+    assert_eq!((unused.shrink_to_fit(), unused.capacity()), (Ok(()), 0));
     map.extend((0..100).map(|key| (key, key)));
     assert!(map.capacity() >= map.len() && map.len() == 100);
 }
