@@ -58,7 +58,7 @@ pub struct Map<K, V> {
     table: Table<Maps, K, V>,
 }
 
-impl<K: Key, V> Map<K, V> {
+impl<K, V> Map<K, V> {
     /// An empty map that hashes by a random seed. Takes no memory: the first insertion does.
     ///
     /// ```
@@ -109,7 +109,9 @@ impl<K: Key, V> Map<K, V> {
     pub const fn with_capacity_and_seed(capacity: usize, seed: Seed) -> Map<K, V> {
         Map { table: Table::new(Maps { capacity }, Some(seed)) }
     }
+}
 
+impl<K: Key, V> Map<K, V> {
     /// A map of these pairs, by a random seed; of two with one key, the later value.
     ///
     /// # Errors
@@ -179,21 +181,6 @@ impl<K: Key, V> Map<K, V> {
         }
         copy.table.copy_from(&self.table, |copy, key, value| copy.upsert(key, value).map(drop))?;
         Ok(copy)
-    }
-
-    /// How many slots there are, or will be as the first pair is inserted. An insertion may make more before each
-    /// slot has a pair. O(1).
-    ///
-    /// ```
-    /// use bucket::Map;
-    ///
-    /// let mut map = Map::from([(1, 2)]);
-    /// map.reserve(1000)?;
-    /// assert!(map.capacity() >= 1001);
-    /// # Ok::<(), bucket::NoMemory>(())
-    /// ```
-    pub fn capacity(&self) -> usize {
-        self.table.slots().max(self.table.kind.capacity)
     }
 
     /// Makes room for so many more pairs. O(slots).
@@ -278,6 +265,21 @@ impl<K: Key, V> Map<K, V> {
 }
 
 impl<K, V> Map<K, V> {
+    /// How many slots there are, or will be as the first pair is inserted. An insertion may make more before each
+    /// slot has a pair. O(1).
+    ///
+    /// ```
+    /// use bucket::Map;
+    ///
+    /// let mut map = Map::from([(1, 2)]);
+    /// map.reserve(1000)?;
+    /// assert!(map.capacity() >= 1001);
+    /// # Ok::<(), bucket::NoMemory>(())
+    /// ```
+    pub fn capacity(&self) -> usize {
+        self.table.slots().max(self.table.kind.capacity)
+    }
+
     /// How many pairs. O(1).
     ///
     /// ```

@@ -27,7 +27,7 @@ pub struct Set<K> {
     map: Map<K, ()>,
 }
 
-impl<K: Key> Set<K> {
+impl<K> Set<K> {
     /// An empty set that hashes by a random seed. Takes no memory: the first insertion does.
     ///
     /// ```
@@ -72,7 +72,9 @@ impl<K: Key> Set<K> {
     pub const fn with_capacity_and_seed(capacity: usize, seed: Seed) -> Set<K> {
         Set { map: Map::with_capacity_and_seed(capacity, seed) }
     }
+}
 
+impl<K: Key> Set<K> {
     /// A set of these keys, by a random seed; of equal ones, the first.
     ///
     /// # Errors
@@ -257,15 +259,6 @@ impl<K: Key> Set<K> {
         ExtractIf::new(&mut self.map, takes)
     }
 
-    /// How many slots there are, or will be as the first key is inserted. O(1).
-    ///
-    /// ```
-    /// assert!(bucket::Set::from([1, 2, 3]).capacity() >= 3);
-    /// ```
-    pub fn capacity(&self) -> usize {
-        self.map.capacity()
-    }
-
     /// Makes room for so many more keys. O(slots).
     ///
     /// # Errors
@@ -332,6 +325,15 @@ impl<K: Key> Set<K> {
 }
 
 impl<K> Set<K> {
+    /// How many slots there are, or will be as the first key is inserted. O(1).
+    ///
+    /// ```
+    /// assert!(bucket::Set::from([1, 2, 3]).capacity() >= 3);
+    /// ```
+    pub fn capacity(&self) -> usize {
+        self.map.capacity()
+    }
+
     /// How many keys. O(1).
     ///
     /// ```

@@ -1,9 +1,10 @@
 //! Maps do what std's do.
 
-use bucket::map::Entry;
-use bucket::{Key, Map, NoMemory, Reason, Seed};
+use bucket::map::{Drain, Entry, IntoIter, IterMut};
+use bucket::{Cache, Key, Map, NoMemory, Reason, Seed, Set};
 use std::collections::{BTreeMap, HashMap};
 use std::fmt::Debug;
+use std::panic::{RefUnwindSafe, UnwindSafe};
 use std::rc::Rc;
 use std::sync::{Arc, Mutex};
 
@@ -356,4 +357,39 @@ fn order_is_the_seeds() {
     assert!(order(Some(Seed::from_bytes([7; 16]))) == order(Some(Seed::from_bytes([7; 16]))));
     let seeds = [Seed::random(), Seed::from_bytes([7; 16]), Seed::FIXED];
     assert_eq!(format!("{seeds:?}"), "[Seed(..), Seed(..), Seed(..)]");
+}
+
+#[test]
+fn a_structure_of_collections_derives_what_stds_do() {
+    #[derive(Debug, Default, Clone, PartialEq, Eq)]
+    struct Shop {
+        prices: Map<String, u64>,
+        orders: Map<u32, Vec<String>>,
+        closed: Set<u8>,
+    }
+    #[derive(Debug, Default)]
+    struct Index<K, V> {
+        places: Map<K, Vec<V>>,
+        seen: Set<K>,
+    }
+    let mut shop = Shop::default();
+    shop.prices.insert("tea".to_string(), 3).unwrap();
+    assert_eq!((shop.clone(), shop == Shop::default()), (shop.clone(), false));
+    assert_eq!(format!("{shop:?}"), "Shop { prices: {\"tea\": 3}, orders: {}, closed: {} }");
+    let index = Index::<u64, f64>::default();
+    assert!(index.places.is_empty() && index.seen.is_empty());
+}
+
+#[test]
+fn auto_traits_are_those_of_the_pairs() {
+    fn are_send<T: Send, U: Send, W: Send>() {}
+    fn are_unwind_safe<T: UnwindSafe + RefUnwindSafe, U: UnwindSafe + RefUnwindSafe>() {}
+    are_send::<Map<String, Vec<u8>>, Set<u64>, Cache<u64, Box<dyn Fn() + Send>>>();
+    are_send::<IterMut<u64, u64>, IntoIter<u64, u64>, Drain<u64, u64>>();
+    are_unwind_safe::<Map<String, Vec<u8>>, Cache<u64, u64>>();
+    // Longer lives of what is borrowed go for shorter ones.
+    fn shorter<'a>(map: Map<&'static str, &'static str>, _: &'a str) -> Map<&'a str, &'a str> {
+        map
+    }
+    assert!(shorter(Map::new(), "").is_empty());
 }

@@ -15,7 +15,7 @@ impl<K, V> Map<K, V> {
     }
 }
 
-impl<K: Key, V> Default for Map<K, V> {
+impl<K, V> Default for Map<K, V> {
     fn default() -> Map<K, V> {
         Map::new()
     }

@@ -4,7 +4,7 @@ use super::Set;
 use crate::{Key, Map};
 use std::fmt;
 
-impl<K: Key> Default for Set<K> {
+impl<K> Default for Set<K> {
     fn default() -> Set<K> {
         Set::new()
     }
