@@ -99,6 +99,6 @@ if is_there c++ "bucket.hpp"; then
     run "$bindings/cpp/test"
 fi
 if is_there cargo "Rust"; then
-    run "$bindings/rust/test"
+    CARGO_TARGET_DIR=$folder/target run "$bindings/rust/test"
 fi
 run "$bindings/python/test"
