@@ -47,6 +47,7 @@ collect_programs() {
         block "$page" "${pair%:*}" 1 >"$folder/programs/page.${pair#*:}"
     done
     in_main c 1 $'#include "bucket.h"\n#include <stdio.h>\nint main(void) {' $'return 0;\n}' >"$folder/programs/readme.c"
+    in_main cpp 1 $'#include "bucket.hpp"\n#include <iostream>\n#include <string>\nint main() {' '}' >"$folder/programs/readme.cpp"
     in_main rust 3 'fn main() -> Result<(), Box<dyn std::error::Error>> {' $'Ok(())\n}' >"$folder/programs/readme.rs"
     in_main python 1 '' '' >"$folder/programs/readme.py"
     find "$folder/programs" -size 0 -name 'readme.*' -delete
