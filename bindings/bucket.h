@@ -1,4 +1,4 @@
-/* Hash maps, a set and caches for C and C++, proved to do what is said here. Link libbucket.a, or libbucket.so.
+/* Hash maps, sets, a store and caches for C and C++, proved to do what is said here. Link libbucket.a, or libbucket.so.
  *
  *     bucket_handle ages = BUCKET_HANDLE;
  *     uint64_t age;
@@ -58,16 +58,25 @@ typedef char bucket_size_t_has_64_bits[sizeof(size_t) == 8 ? 1 : -1];
 extern "C" {
 #endif
 
+#define BUCKET_VERSION_MAJOR 0
+#define BUCKET_VERSION_MINOR 2
+#define BUCKET_VERSION_PATCH 0
+#define BUCKET_VERSION (BUCKET_VERSION_MAJOR * 65536 + BUCKET_VERSION_MINOR * 256 + BUCKET_VERSION_PATCH)
+
+/* BUCKET_VERSION of the library that is linked. */
+uint32_t bucket_version(void);
+
 /* What a call answers. */
 enum bucket_code {
     BUCKET_OK = 0,
     BUCKET_ABSENT = 1,     /* the key is absent */
-    BUCKET_PRESENT = 2,    /* the key is there: not inserted; of an upsert: its value is another one now */
+    BUCKET_PRESENT = 2,    /* the key is there: not inserted; of an upsert or an addition: its value is another one now */
     BUCKET_NO_MEMORY = 3,  /* allocation failed; all pairs stay */
     BUCKET_CLOSED = 4,     /* the handle is closed */
     BUCKET_OPEN = 5,       /* a `new` of a handle that is open */
     BUCKET_OTHER_KIND = 6, /* the handle holds a collection of another kind */
-    BUCKET_EVICTED = 7     /* of a cache: done, and another pair went for this one */
+    BUCKET_EVICTED = 7,    /* of a cache: done, and another pair went for this one */
+    BUCKET_TOO_LONG = 8    /* of a store: the value is longer than the room; its front is written out */
 };
 
 typedef struct bucket_handle {
@@ -111,6 +120,9 @@ void bucket_free(bucket_handle *handle);
 
 /* How many pairs or keys; 0 if closed. O(n / 32). */
 size_t bucket_len(bucket_handle *handle);
+
+/* How many slots the current array has; 0 if closed. O(1). */
+size_t bucket_capacity(bucket_handle *handle);
 
 /* Drops all pairs and slots; the seed and the capacity stay. OK, CLOSED. O(n). */
 BUCKET_MUST_USE uint32_t bucket_clear(bucket_handle *handle);
@@ -157,8 +169,18 @@ BUCKET_MUST_USE uint32_t bucket_map_contains(bucket_handle *handle, uint64_t key
 /* Removes a pair, and writes its value out. OK, ABSENT. */
 BUCKET_MUST_USE uint32_t bucket_map_remove(bucket_handle *handle, uint64_t key, uint64_t *value);
 
-/* ---- A map from byte strings to uint64_t: the same. The map keeps copies of its keys. insert and upsert copy their key, and may
- * answer NO_MEMORY for that; no other call copies it. ---- */
+/* Adds to a value, modulo 2^64: PRESENT; or inserts `amount`: OK. Either way `total` gets the sum. NO_MEMORY as of insert: the key is
+ * absent. */
+BUCKET_MUST_USE uint32_t bucket_map_add(bucket_handle *handle, uint64_t key, uint64_t amount, uint64_t *total);
+
+/* Inserts a pair: OK; or PRESENT: nothing changes. Either way `held` gets the value that is there now. NO_MEMORY as of insert. */
+BUCKET_MUST_USE uint32_t bucket_map_get_or_insert(bucket_handle *handle, uint64_t key, uint64_t value, uint64_t *held);
+
+/* Removes a pair if it has this value: OK. PRESENT: it has another one, which `held` gets, and stays. ABSENT. */
+BUCKET_MUST_USE uint32_t bucket_map_remove_if_equal(bucket_handle *handle, uint64_t key, uint64_t value, uint64_t *held);
+
+/* ---- A map from byte strings to uint64_t: the same. The map keeps copies of its keys. insert, upsert, add and get_or_insert copy a
+ * key that is absent, and may answer NO_MEMORY for that; for one that is there they never do. No other call copies it. ---- */
 
 BUCKET_MUST_USE uint32_t bucket_text_map_new(bucket_handle *handle, size_t capacity, bucket_seed seed);
 BUCKET_MUST_USE uint32_t bucket_text_map_insert(bucket_handle *handle, const uint8_t *key, size_t len, uint64_t value);
@@ -167,13 +189,49 @@ BUCKET_MUST_USE uint32_t bucket_text_map_upsert(bucket_handle *handle, const uin
 BUCKET_MUST_USE uint32_t bucket_text_map_get(bucket_handle *handle, const uint8_t *key, size_t len, uint64_t *value);
 BUCKET_MUST_USE uint32_t bucket_text_map_contains(bucket_handle *handle, const uint8_t *key, size_t len);
 BUCKET_MUST_USE uint32_t bucket_text_map_remove(bucket_handle *handle, const uint8_t *key, size_t len, uint64_t *value);
+BUCKET_MUST_USE uint32_t bucket_text_map_add(bucket_handle *handle, const uint8_t *key, size_t len, uint64_t amount,
+                                             uint64_t *total);
+BUCKET_MUST_USE uint32_t bucket_text_map_get_or_insert(bucket_handle *handle, const uint8_t *key, size_t len, uint64_t value,
+                                                       uint64_t *held);
+BUCKET_MUST_USE uint32_t bucket_text_map_remove_if_equal(bucket_handle *handle, const uint8_t *key, size_t len, uint64_t value,
+                                                         uint64_t *held);
 
-/* ---- A set of byte strings: the same, without values ---- */
+/* ---- A set of uint64_t, and one of byte strings: the same as maps, without values ---- */
+
+BUCKET_MUST_USE uint32_t bucket_set_new(bucket_handle *handle, bucket_seed seed);
+BUCKET_MUST_USE uint32_t bucket_set_insert(bucket_handle *handle, uint64_t key);
+BUCKET_MUST_USE uint32_t bucket_set_contains(bucket_handle *handle, uint64_t key);
+BUCKET_MUST_USE uint32_t bucket_set_remove(bucket_handle *handle, uint64_t key);
 
 BUCKET_MUST_USE uint32_t bucket_text_set_new(bucket_handle *handle, bucket_seed seed);
 BUCKET_MUST_USE uint32_t bucket_text_set_insert(bucket_handle *handle, const uint8_t *key, size_t len);
 BUCKET_MUST_USE uint32_t bucket_text_set_contains(bucket_handle *handle, const uint8_t *key, size_t len);
 BUCKET_MUST_USE uint32_t bucket_text_set_remove(bucket_handle *handle, const uint8_t *key, size_t len);
+
+/* ---- A store: a map from byte strings to byte strings. It keeps copies of both. All calls also take the time to read or to copy
+ * the bytes. ---- */
+
+/* As bucket_map_new. OK, NO_MEMORY, OPEN. O(1). */
+BUCKET_MUST_USE uint32_t bucket_store_new(bucket_handle *handle, size_t capacity, bucket_seed seed);
+
+/* Inserts a pair. OK; PRESENT: nothing changes. NO_MEMORY, for the copies or as of a map: the key is absent. */
+BUCKET_MUST_USE uint32_t bucket_store_insert(bucket_handle *handle, const uint8_t *key, size_t len, const uint8_t *value,
+                                             size_t value_len);
+
+/* Inserts a pair: OK; or puts the value in the place of an earlier one: PRESENT. NO_MEMORY as of insert, or for a copy of the value:
+ * all stays. */
+BUCKET_MUST_USE uint32_t bucket_store_upsert(bucket_handle *handle, const uint8_t *key, size_t len, const uint8_t *value,
+                                             size_t value_len);
+
+/* Writes the value out, and its length to `value_len`: OK; or TOO_LONG: its first `room` bytes, and its whole length. ABSENT. */
+BUCKET_MUST_USE uint32_t bucket_store_get(bucket_handle *handle, const uint8_t *key, size_t len, uint8_t *out, size_t room,
+                                          size_t *value_len);
+
+/* OK, ABSENT. */
+BUCKET_MUST_USE uint32_t bucket_store_contains(bucket_handle *handle, const uint8_t *key, size_t len);
+
+/* Removes a pair. OK, ABSENT. */
+BUCKET_MUST_USE uint32_t bucket_store_remove(bucket_handle *handle, const uint8_t *key, size_t len);
 
 /* ---- A cache from uint64_t to uint64_t. Where a key's bucket is full, the pair of it that was touched longest ago goes. ---- */
 
@@ -200,9 +258,9 @@ BUCKET_MUST_USE uint32_t bucket_cache_contains(bucket_handle *handle, uint64_t k
 /* Removes a pair, and writes its value out. OK, ABSENT. */
 BUCKET_MUST_USE uint32_t bucket_cache_remove(bucket_handle *handle, uint64_t key, uint64_t *value);
 
-/* ---- A cache from byte strings to uint64_t: the same. put and upsert copy their key, and may answer NO_MEMORY for that; no other
- * call copies it. Of a key that goes, `gone_len` is the length, and `gone` gets as many bytes as it has room
- * for. ---- */
+/* ---- A cache from byte strings to uint64_t: the same. put and upsert copy a key that is absent, and may answer NO_MEMORY for that;
+ * for one that is there they never do. No other call copies it. Of a key that goes, `gone_len` is the length, and `gone` gets as
+ * many bytes as it has room for. ---- */
 
 BUCKET_MUST_USE uint32_t bucket_text_cache_new(bucket_handle *handle, size_t minimum, size_t maximum, bucket_seed seed);
 BUCKET_MUST_USE uint32_t bucket_text_cache_put(bucket_handle *handle, const uint8_t *key, size_t len, uint64_t value,
@@ -267,6 +325,24 @@ BUCKET_MUST_USE BUCKET_INLINE uint32_t bucket_guarded_text_map_remove(bucket_han
 }
 #define bucket_text_map_remove bucket_guarded_text_map_remove
 
+BUCKET_MUST_USE BUCKET_INLINE uint32_t bucket_guarded_text_map_add(bucket_handle *handle, const uint8_t *key, size_t len,
+                                                                   uint64_t amount, uint64_t *total) {
+    return bucket_text_map_add(handle, bucket_guarded_key(key, len), len, amount, total);
+}
+#define bucket_text_map_add bucket_guarded_text_map_add
+
+BUCKET_MUST_USE BUCKET_INLINE uint32_t bucket_guarded_text_map_get_or_insert(bucket_handle *handle, const uint8_t *key,
+                                                                             size_t len, uint64_t value, uint64_t *held) {
+    return bucket_text_map_get_or_insert(handle, bucket_guarded_key(key, len), len, value, held);
+}
+#define bucket_text_map_get_or_insert bucket_guarded_text_map_get_or_insert
+
+BUCKET_MUST_USE BUCKET_INLINE uint32_t bucket_guarded_text_map_remove_if_equal(bucket_handle *handle, const uint8_t *key,
+                                                                               size_t len, uint64_t value, uint64_t *held) {
+    return bucket_text_map_remove_if_equal(handle, bucket_guarded_key(key, len), len, value, held);
+}
+#define bucket_text_map_remove_if_equal bucket_guarded_text_map_remove_if_equal
+
 BUCKET_MUST_USE BUCKET_INLINE uint32_t bucket_guarded_text_set_insert(bucket_handle *handle, const uint8_t *key, size_t len) {
     return bucket_text_set_insert(handle, bucket_guarded_key(key, len), len);
 }
@@ -281,6 +357,35 @@ BUCKET_MUST_USE BUCKET_INLINE uint32_t bucket_guarded_text_set_remove(bucket_han
     return bucket_text_set_remove(handle, bucket_guarded_key(key, len), len);
 }
 #define bucket_text_set_remove bucket_guarded_text_set_remove
+
+BUCKET_MUST_USE BUCKET_INLINE uint32_t bucket_guarded_store_insert(bucket_handle *handle, const uint8_t *key, size_t len,
+                                                                   const uint8_t *value, size_t value_len) {
+    return bucket_store_insert(handle, bucket_guarded_key(key, len), len, bucket_guarded_key(value, value_len), value_len);
+}
+#define bucket_store_insert bucket_guarded_store_insert
+
+BUCKET_MUST_USE BUCKET_INLINE uint32_t bucket_guarded_store_upsert(bucket_handle *handle, const uint8_t *key, size_t len,
+                                                                   const uint8_t *value, size_t value_len) {
+    return bucket_store_upsert(handle, bucket_guarded_key(key, len), len, bucket_guarded_key(value, value_len), value_len);
+}
+#define bucket_store_upsert bucket_guarded_store_upsert
+
+BUCKET_MUST_USE BUCKET_INLINE uint32_t bucket_guarded_store_get(bucket_handle *handle, const uint8_t *key, size_t len,
+                                                                uint8_t *out, size_t room, size_t *value_len) {
+    uint8_t none = 0;
+    return bucket_store_get(handle, bucket_guarded_key(key, len), len, room > 0 ? out : &none, room, value_len);
+}
+#define bucket_store_get bucket_guarded_store_get
+
+BUCKET_MUST_USE BUCKET_INLINE uint32_t bucket_guarded_store_contains(bucket_handle *handle, const uint8_t *key, size_t len) {
+    return bucket_store_contains(handle, bucket_guarded_key(key, len), len);
+}
+#define bucket_store_contains bucket_guarded_store_contains
+
+BUCKET_MUST_USE BUCKET_INLINE uint32_t bucket_guarded_store_remove(bucket_handle *handle, const uint8_t *key, size_t len) {
+    return bucket_store_remove(handle, bucket_guarded_key(key, len), len);
+}
+#define bucket_store_remove bucket_guarded_store_remove
 
 BUCKET_MUST_USE BUCKET_INLINE uint32_t bucket_guarded_text_cache_put(bucket_handle *handle, const uint8_t *key, size_t len,
                                                                      uint64_t value, uint8_t *gone, size_t gone_room,

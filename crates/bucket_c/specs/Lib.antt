@@ -1,9 +1,11 @@
 pub mod Codes
 pub mod Hashing
 pub mod Maps
+pub mod Copies
 pub mod Caches
 pub mod Tables
 pub mod Texts
+pub mod Stores
 pub mod Owning
 pub mod Opening
 pub mod Copying

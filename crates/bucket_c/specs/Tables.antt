@@ -1,6 +1,6 @@
 -- What an exported call does to a handle's table. On a closed handle it answers `closed`, on one of another kind `other_kind`, and
 -- nothing happens: what it would write out is kept. Else it does this to what the handle holds.
-use Rattle.std.specs.Prelude.{ℕ, ◌≡◌, ◌⊎◌, Bool, List, Option, Some, None, Vec, nat_eq}
+use Rattle.std.specs.Prelude.{ℕ, ◌≡◌, ◌*◌, ◌⊎◌, Bool, List, Option, Some, None, Vec, length, nat_eq}
 use Rattle.std.specs.Cmp.Lexicographic.{pointwise}
 use Rattle.std.specs.declared.alloc.Global.{Global}
 use Rattle.bucket_table.specs.Views.ArraysView.{TableView}
@@ -10,7 +10,7 @@ use Rattle.bucket_c.specs.Codes.{closed, no_memory, ok, opened, other_kind}
 use Rattle.bucket_c.specs.declared.seed.Beginning.{Beginning}
 use Rattle.bucket_c.specs.declared.seed.SeededHasher.{SeededHasher}
 use Rattle.bucket_c.specs.declared.tables.Table.{Table}
-use Rattle.bucket_c.specs.declared.tables.Table.TheVariants.{Map, TextMap, TextSet, Cache, TextCache}
+use Rattle.bucket_c.specs.declared.tables.Table.TheVariants.{Map, TextMap, Set, TextSet, Store, Cache, TextCache}
 
 -- a byte string, and when two are equal
 abbrev pub Text : Type 0
@@ -60,6 +60,24 @@ module _ (does : Caches Text → ℕ → Caches Text → Type 0) (Kept : Type 0)
   OnTextCache (Some (TextCache cache)) code new = (after : Caches Text) × (new ≡ Some (TextCache after)) × does cache code after
   OnTextCache (Some table) code new = (code ≡ other_kind) × (new ≡ Some table) × Kept
 
+-- the same of the kind whose tables are made of a view, and have one
+module _ {View : Type 0} (put : View → Table) (of : Table → Option View) (does : View → ℕ → View → Type 0) (Kept : Type 0) where
+  abbrev pub OnHeld : Table → Option View → ℕ → Option Table → Type 0
+  OnHeld table None code new = (code ≡ other_kind) × (new ≡ Some table) × Kept
+  OnHeld table (Some view) code new = (after : View) × (new ≡ Some (put after)) × does view code after
+
+  abbrev pub On : Option Table → ℕ → Option Table → Type 0
+  On None code new = (code ≡ closed) × (new ≡ None) × Kept
+  On (Some table) code new = OnHeld table (of table) code new
+
+abbrev pub set_of : Table → Option (Maps ℕ (Unit {0}))
+set_of (Set set) = Some set
+set_of table = None
+
+abbrev pub store_of : Table → Option (Maps Text Text)
+store_of (Store map) = Some map
+store_of table = None
+
 -- a closed handle is opened on a table, or stays closed at allocation failure; an open one stays as it is
 abbrev pub Opens : Table → Option Table → ℕ → Option Table → Type 0
 Opens table None code new = ((code ≡ ok) × (new ≡ Some table)) ⊎ ((code ≡ no_memory) × (new ≡ None))
@@ -70,6 +88,19 @@ abbrev pub len_of : Option Table → ℕ
 len_of None = 0
 len_of (Some (Map map)) = map_len map
 len_of (Some (TextMap map)) = map_len map
+len_of (Some (Set set)) = map_len set
 len_of (Some (TextSet set)) = map_len set
+len_of (Some (Store map)) = map_len map
 len_of (Some (Cache cache)) = map_len (map_of cache)
 len_of (Some (TextCache cache)) = map_len (map_of cache)
+
+-- how many slots the current array has
+abbrev pub capacity_of : Option Table → ℕ
+capacity_of None = 0
+capacity_of (Some (Map map)) = map.slots
+capacity_of (Some (TextMap map)) = map.slots
+capacity_of (Some (Set set)) = set.slots
+capacity_of (Some (TextSet set)) = set.slots
+capacity_of (Some (Store map)) = map.slots
+capacity_of (Some (Cache cache)) = 32 * length cache.arrays.current
+capacity_of (Some (TextCache cache)) = 32 * length cache.arrays.current

@@ -28,9 +28,12 @@ macro_rules! on_table {
 }
 
 mod any;
+mod bytes;
 mod cache;
 mod caches;
 mod codes;
+mod copied_key;
+mod copies;
 mod copying;
 mod handle;
 mod held;
@@ -39,6 +42,9 @@ mod maps;
 mod parts;
 mod pieces;
 mod seed;
+mod set;
+mod store;
+mod stores;
 mod tables;
 mod text_cache;
 mod text_map;

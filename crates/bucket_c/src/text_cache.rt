@@ -1,5 +1,5 @@
-//! Exports: a cache from byte strings to words. `put` and `upsert` copy their key, and can fail for
-//! that; no other call copies it.
+//! Exports: a cache from byte strings to words. `put` and `upsert` copy a key that the cache hasn't,
+//! and can fail for that; no other call copies it.
 //!
 //! Each call but `new` also returns `CLOSED` and `OTHER_KIND`, and then does nothing.
 ghost use Rattle.std.specs.Prelude.{◌≡◌};
@@ -83,7 +83,7 @@ pub extern "C" fn bucket_text_cache_upsert(
         handle.old.held.table result handle.new.held.table }
 {
     on_table!(handle, alloc, TextCache(cache) =>
-        texts::upsert_cached(cache, alloc, key, value, gone, len, before))
+        texts::upsert(cache, alloc, key, value, gone, len, before))
 }
 
 /// Writes out the value under a key, and touches its pair.
