@@ -9,7 +9,7 @@ use Rattle.bucket_c.specs.declared.tables.Table.TheVariants.{Map, TextMap, Set, 
 
 -- no pair and no slot is left; the hasher and the capacities stay
 abbrev pub map_cleared : {K V : Type 0} → Maps K V → Maps K V
-map_cleared map = record map { entries = []; slots = 0; old_slots = 0 }
+map_cleared map = record map { entries = []; slots = 0; old_slots = 0; bucket_lens = [] }
 
 abbrev pub cache_cleared : {K : Type 0} → Caches K → Caches K
 cache_cleared cache =

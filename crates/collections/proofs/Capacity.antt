@@ -272,18 +272,23 @@ module _ {K V H : Type 0} where
       → map_of s ≡ record (map_of t) { minimum = 0 }
   least_gone t s is = rw is refl
 
+  -- a table without slots has no buckets
+  pub no_buckets : (t : TableView K V H) → (map_of t).slots ≡ 0 → (map_of t).old_slots ≡ 0 → (map_of t).bucket_lens ≡ []
+  no_buckets t none alone =
+      rw (nil_from_length t.arrays.current (omega (arith, none)), nil_from_length t.arrays.linked (omega (arith, alone))) refl
+
   -- and then all slots go
   pub slots_gone : (t s u : TableView K V H) → s ≡ record t { arrays = with_minimum t.arrays 0 } → u.hasher ≡ s.hasher
       → u.arrays ≡ record s.arrays { current = []; linked = []; tickets = first_tickets 0 }
-      → map_of u ≡ record (map_of t) { entries = []; minimum = 0; slots = 0; old_slots = 0 }
+      → map_of u ≡ record (map_of t) { entries = []; minimum = 0; slots = 0; old_slots = 0; bucket_lens = [] }
   slots_gone t s u is hasher arrays = rw (arrays, hasher, is) refl
 
 module _ {K V H : Type 0} (eq : K → K → Bool) (old : MapView K V H) (unique : IsUnique eq old) (len : ℕ)
     (len_is : len ≡ min (map_len old) (2 ^ 64 - 1)) where
   -- a map without a pair has no slots left
-  pub shrinks_none : {E : Type 0} (new : MapView K V H) → len ≡ 0 → new ≡ record old { entries = []; minimum = 0; slots = 0; old_slots = 0 }
-      → ShrinksToFit {E = E} eq old (Ok tt) new
-  shrinks_none new none is =
+  pub shrinks_none : {E : Type 0} (new : MapView K V H) → (old.slots ≡ 0 → old.old_slots ≡ 0 → old.bucket_lens ≡ []) → len ≡ 0
+      → new ≡ record old { entries = []; minimum = 0; slots = 0; old_slots = 0; bucket_lens = [] } → ShrinksToFit {E = E} eq old (Ok tt) new
+  shrinks_none new buckets none is =
       let empty = nil_from_length old.entries (omega (arith, len_is, none)) in
       record {
         stays = rw is (record {
@@ -298,7 +303,7 @@ module _ {K V H : Type 0} (eq : K → K → Bool) (old : MapView K V H) (unique 
           };
         });
         fitted = rw is (record { alone = refl; none = λ gone. refl; some = λ some. absurd (some refl) });
-        ready = λ had. (refl, rw (is, empty, had.none empty, had.alone) refl);
+        ready = λ had. (refl, rw (is, empty, had.none empty, had.alone, buckets (had.none empty) had.alone) refl);
         none = λ gone. refl;
       }
 

@@ -14,14 +14,15 @@ use Rattle.collections.proofs.Staying.{adds_after, replaces_after, stays_after}
 
 -- a map that was made empty
 pub new_is : {K V H : Type 0} (m : MapView K V H) → IsEmpty m → m.minimum ≡ 0 → m.maximum ≡ 2 ^ 63
-    → (m.slots ≡ 0) × (m.old_slots ≡ 0) → m ≡ empty_map m.hasher
-new_is m empty minimum maximum (slots, old_slots) = λ i. record {
+    → (m.slots ≡ 0) × (m.old_slots ≡ 0) → m.bucket_lens ≡ [] → m ≡ empty_map m.hasher
+new_is m empty minimum maximum (slots, old_slots) buckets = λ i. record {
   entries = empty i;
   hasher = m.hasher;
   minimum = minimum i;
   maximum = maximum i;
   slots = slots i;
   old_slots = old_slots i;
+  bucket_lens = buckets i;
 }
 
 module _ {K V H : Type 0} (eq : K → K → Bool) where
@@ -118,7 +119,8 @@ module _ {K V H : Type 0} (eq : K → K → Bool) where
 
   -- a map of which no more is said than that it was made empty
   pub put_into_new : (first made : MapView K V H) (pairs : List (K × V)) → IsEmpty first → first.minimum ≡ 0 → first.maximum ≡ 2 ^ 63
-      → (first.slots ≡ 0) × (first.old_slots ≡ 0) → PutsAll eq first pairs made → PutsAll eq (empty_map made.hasher) pairs made
-  put_into_new first made pairs empty minimum maximum slots puts =
+      → (first.slots ≡ 0) × (first.old_slots ≡ 0) → first.bucket_lens ≡ [] → PutsAll eq first pairs made
+      → PutsAll eq (empty_map made.hasher) pairs made
+  put_into_new first made pairs empty minimum maximum slots buckets puts =
       subst (λ (h : H). PutsAll eq (empty_map h) pairs made) (sym puts.kept.hasher)
-      (subst (λ m. PutsAll eq m pairs made) (new_is first empty minimum maximum slots) puts)
+      (subst (λ m. PutsAll eq m pairs made) (new_is first empty minimum maximum slots buckets) puts)

@@ -5,23 +5,26 @@ use Rattle.std.specs.Cmp.{IsEquivalence}
 use Rattle.std.specs.List.{AllByRecursion, IsDistinct, cons_option}
 use Rattle.std.specs.Map.{keys_of, set_value}
 use Rattle.std.proofs.lemmas.Bool.{cases_Bool}
-use Rattle.std.proofs.lemmas.List.{append_assoc, length-set, map-append}
+use Rattle.std.proofs.lemmas.List.{append_assoc, length-append, length-set, map-append}
 use Rattle.std.proofs.lemmas.List.Elements.{filter_map-append}
 use Rattle.std.proofs.lemmas.Map.Keys.{IsDistinct-head, IsDistinct-tail}
 use Rattle.bucket_slots.specs.ArrayView.{bucket_at}
-use Rattle.bucket_slots.specs.BucketView.{BucketView, Place, block_at, bucket_with_value, entries_in, flattened, row_at, rows_with, slot_in, with_slot_at}
+use Rattle.bucket_slots.specs.BucketView.{BucketView, Place, block_at, bucket_with_value, entries_in, flattened, pairs_in, row_at, rows_with}
+use Rattle.bucket_slots.specs.BucketView.{slot_in, with_slot_at}
 use Rattle.bucket_slots.specs.Slots.{Slot, live, live_entries, live_entry, live_pair, slot_at, slot_with_value}
-use Rattle.bucket_slots.proofs.CallerLemmas.{live_is}
+use Rattle.bucket_slots.proofs.CallerLemmas.{length-entries_in, live_is}
 use Rattle.bucket_table.specs.Map.Lending.{with_value}
 use Rattle.bucket_table.specs.Rehash.Relocation.{entries_among}
 use Rattle.bucket_table.specs.Views.ArraysView.{ArraysView, TableView, entries_of, pairs_of}
 use Rattle.bucket_table.specs.Views.Sides.{arrays_with, bucket_on, buckets_on}
+use Rattle.bucket_table.specs.Walking.Row.{row_of}
 use Rattle.bucket_table.specs.declared.arrays.side.Side.{Side}
 use Rattle.bucket_table.specs.declared.arrays.side.Side.TheVariants.{Current, Old}
 use Rattle.collections.specs.Maps.{map_of, map_with_value}
 use Rattle.bucket_table.specs.Map.LookingUp.{IsThere}
 use Rattle.bucket_table.specs.Map.MapState.{ChangesValue, state_of}
 use Rattle.collections.specs.Changes.{Holds}
+use Rattle.collections.proofs.Buckets.{lens_same}
 use Rattle.collections.proofs.Lookups.{IsForm, distinct_permuted, distinct_with}
 use Rattle.collections.proofs.Steps.{replaces}
 
@@ -61,6 +64,10 @@ swapped_map f x y old new s = record {
   before = ap (map f) s.before ∙ map-append f s.front (x ∷ s.rest);
   after = ap (map f) s.after ∙ map-append f s.front (y ∷ s.rest);
 }
+
+pub swapped_len : {A : Type 0} (x y : A) (old new : List A) → IsSwapped x y old new → length new ≡ length old
+swapped_len x y old new s =
+    ap length s.after ∙ length-append s.front (y ∷ s.rest) ∙ sym (length-append s.front (x ∷ s.rest)) ∙ sym (ap length s.before)
 
 module _ {K V : Type 0} (p : K × V) (w : V) (b : ℕ) where
   abbrev Swaps : List ((K × V) × ℕ) → List ((K × V) × ℕ) → Type 0
@@ -111,6 +118,22 @@ module _ {K V : Type 0} (p : K × V) (w : V) (b : ℕ) where
       swapped_after _ _ (entries_among a.current) _ _ (among_swapped a.linked i new within s)
 
 module _ {K V : Type 0} (p : K × V) (w : V) where
+  -- each bucket has as many pairs as it had
+  pub buckets_swapped : (a : ArraysView K V) (side : Side) (i : ℕ) (at : Place)
+      → live_pair (slot_in (bucket_on a side i) at) ≡ Some p
+      → map (λ bucket. length (pairs_in bucket)) (row_of (arrays_with a side i (bucket_with_value (bucket_on a side i) at w)))
+      ≡ map (λ bucket. length (pairs_in bucket)) (row_of a)
+  buckets_swapped a side i at here =
+      let s = bucket_on a side i in
+      let is = live_is (slot_in s at) p here in
+      let new : bucket_with_value s at w ≡ with_slot_at s at.block at.pos (live (p.0, w) is.0) =
+      ap (λ slot. with_slot_at s at.block at.pos (slot_with_value slot w)) is.1 in
+      let swapped = subst (λ t. IsSwapped (p, is.0) ((p.0, w), is.0) (entries_in s) (entries_in t)) (sym new)
+      (bucket_swapped p w is.0 s at.block at.pos is.1) in
+      lens_same a side i (bucket_with_value s at w)
+      (sym (length-entries_in (bucket_with_value s at w))
+      ∙ swapped_len _ _ (entries_in s) (entries_in (bucket_with_value s at w)) swapped ∙ length-entries_in s)
+
   pub pairs_swapped : (a : ArraysView K V) (side : Side) (i : ℕ) (at : Place) → i < length (buckets_on a side)
       → live_pair (slot_in (bucket_on a side i) at) ≡ Some p
       → IsSwapped p (p.0, w) (pairs_of a) (pairs_of (arrays_with a side i (bucket_with_value (bucket_on a side i) at w)))
@@ -163,6 +186,7 @@ module _ {K V : Type 0} (eq : K → K → Bool) (laws : IsEquivalence eq) (wants
       ap (λ l. set_value wants l w) s.before ∙ set_in_place s.front s.rest (subst (λ l. IsDistinct eq (keys_of l)) s.before distinct) in
       let entries = s.after ∙ sym set in
       let lens = same_len t side i (bucket_with_value (bucket_on t.arrays side i) at w) in
+      let buckets = buckets_swapped p w t.arrays side i at here in
       let others = same_others t side i (bucket_with_value (bucket_on t.arrays side i) at w) in
       λ j. record {
         entries = entries j;
@@ -171,6 +195,7 @@ module _ {K V : Type 0} (eq : K → K → Bool) (laws : IsEquivalence eq) (wants
         maximum = others.1 j;
         slots = lens.0 j;
         old_slots = lens.1 j;
+        bucket_lens = buckets j;
       }
 
   -- and another value stands beside the key

@@ -35,3 +35,4 @@ pub mod Picking
 pub mod InPlace
 pub mod EntryLoans
 pub mod SetClones
+pub mod Buckets

@@ -117,7 +117,8 @@ module _ {K H : Type 0} (eq : K → K → Bool) (laws : IsEquivalence eq) where
 
   -- a set of which no more is said than that it was made empty
   pub keys_into_new : (first made : MapView K (Unit {0}) H) (keys : List K) → IsEmpty first → first.minimum ≡ 0 → first.maximum ≡ 2 ^ 63
-      → (first.slots ≡ 0) × (first.old_slots ≡ 0) → PutsKeys eq first keys made → PutsKeys eq (empty_map made.hasher) keys made
-  keys_into_new first made keys empty minimum maximum slots puts =
+      → (first.slots ≡ 0) × (first.old_slots ≡ 0) → first.bucket_lens ≡ [] → PutsKeys eq first keys made
+      → PutsKeys eq (empty_map made.hasher) keys made
+  keys_into_new first made keys empty minimum maximum slots buckets puts =
       subst (λ (h : H). PutsKeys eq (empty_map h) keys made) (sym puts.kept.hasher)
-      (subst (λ m. PutsKeys eq m keys made) (new_is first empty minimum maximum slots) puts)
+      (subst (λ m. PutsKeys eq m keys made) (new_is first empty minimum maximum slots buckets) puts)

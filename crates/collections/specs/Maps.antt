@@ -1,11 +1,14 @@
 -- What contracts see of a collection, in the words of std's `HashMap`.
-use Rattle.std.specs.Prelude.{ℕ, ◌≡◌, ◌*◌, Bool, List, [], length, Option, is_some}
-use Rattle.std.specs.List.{IsDistinct}
+use Rattle.std.specs.Prelude.{ℕ, ◌≡◌, ◌*◌, Bool, List, [], drop, length, map, slice_index_or, take, Option, is_some}
+use Rattle.std.specs.List.{IsDistinct, sum}
 use Rattle.std.specs.Map.{keys_of, lookup, set_value}
+use Rattle.bucket_slots.specs.BucketView.{pairs_in}
 use Rattle.bucket_table.specs.Views.ArraysView.{TableView, pairs_of}
+use Rattle.bucket_table.specs.Walking.Row.{row_of}
 
 -- the pairs, in an order that any call may change, the hasher, the least number of slots that a shrink leaves and the
--- greatest that a growth makes, the number of slots, and that of the old slots whose pairs are on their way to these
+-- greatest that a growth makes, the number of slots, that of the old slots whose pairs are on their way to these, and how
+-- many pairs each bucket has, in the order of the pairs: first the buckets of these slots, then those of the old ones
 pub record MapView (K V H : Type 0) : Type 0 where
   pub entries : List (K × V)
   pub hasher : H
@@ -13,6 +16,7 @@ pub record MapView (K V H : Type 0) : Type 0 where
   pub maximum : ℕ
   pub slots : ℕ
   pub old_slots : ℕ
+  pub bucket_lens : List ℕ
 
 -- the map that a table is
 abbrev pub map_of : {K V H : Type 0} → TableView K V H → MapView K V H
@@ -23,12 +27,21 @@ map_of table = record {
   maximum = table.arrays.maximum;
   slots = 32 * length table.arrays.current;
   old_slots = 32 * length table.arrays.linked;
+  bucket_lens = map (λ bucket. length (pairs_in bucket)) (row_of table.arrays);
 }
 
 module _ {K V H : Type 0} where
   -- how many pairs
   abbrev pub map_len : MapView K V H → ℕ
   map_len m = length m.entries
+
+  -- how many pairs stand before those of a bucket
+  abbrev pub pairs_before : MapView K V H → ℕ → ℕ
+  pairs_before m index = sum (take index m.bucket_lens)
+
+  -- the pairs of a bucket; none past the last
+  abbrev pub pairs_in_bucket : MapView K V H → ℕ → List (K × V)
+  pairs_in_bucket m index = take (slice_index_or m.bucket_lens index 0) (drop (pairs_before m index) m.entries)
 
   abbrev pub IsEmpty : MapView K V H → Type 0
   IsEmpty m = m.entries ≡ []

@@ -4,7 +4,7 @@
 //! it, and answers as std's `HashMap` does.
 //!
 //! Ports scc's `src/hash_cache.rs` to an owned cache: a borrow stands where scc locks.
-ghost use Rattle.std.specs.Prelude.{◌≤◌, ◌≡◌, ◌↔◌, ◌^◌, ◌*◌, ◌-◌, ◌++◌, [], Err, IsTrue, is_some, length, max, min};
+ghost use Rattle.std.specs.Prelude.{◌≤◌, ◌<◌, ◌≡◌, ◌↔◌, ◌^◌, ◌*◌, ◌-◌, ◌++◌, [], Err, IsTrue, is_some, length, max, min};
 ghost use Rattle.std.specs.Borrow.{sem};
 ghost use Rattle.std.specs.Option.{option_copied};
 ghost use Rattle.bucket_slots.specs.Sizing.{IsLeastPowerOfTwo};
@@ -15,7 +15,7 @@ ghost use Rattle.bucket_table.specs.Views.ArraysView.{pairs_of};
 ghost use Rattle.bucket_table.specs.declared.hash_table.NotInserted.TheVariants.{Memory};
 ghost use Rattle.collections.specs.Changes.{Puts, Removes};
 ghost use Rattle.collections.specs.Crowding.{LacksBucket};
-ghost use Rattle.collections.specs.Maps.{contains_by, get_by, IsEmpty, map_len, map_of};
+ghost use Rattle.collections.specs.Maps.{contains_by, get_by, IsEmpty, map_len, map_of, pairs_in_bucket};
 
 mod changing;
 mod draining;
@@ -170,6 +170,24 @@ impl<K: Eq, V, H: KeyHash<K>> HashCache<K, V, H> {
     {
         self.room.learn();
         self.table.for_each(f);
+    }
+
+    /// Calls a function with each pair of one bucket once, in the order of the view, and returns
+    /// whether there is such a bucket. The buckets count from those of the slots on, then those of
+    /// the old slots: one after the other they have the pairs of `for_each`, as long as no call
+    /// changes the cache in between. No pair is touched.
+    ///
+    /// Moves nothing, and takes no memory. O(32, and the square of the number of blocks of the
+    /// bucket's chain), and the function's calls. Own.
+    pub fn for_each_in<F: FnMut(&K, &V)>(&self, bucket: usize, f: &mut F) -> bool
+        requires callable { F.IsAlwaysCallable f.old }
+        ensures again { F.IsAlwaysCallable f.new }
+        ensures there { IsTrue result ↔ bucket < length (map_of self.now).bucket_lens }
+        ensures calls { CallsEach (λ state own value last. F.step state own value tt last) f.old
+            (pairs_in_bucket (map_of self.now) bucket) f.new }
+    {
+        self.room.learn();
+        self.table.for_each_in(bucket, f)
     }
 
     /// Returns the number of slots, chains left out.

@@ -10,7 +10,7 @@
 //!
 //! Ports scc's `src/hash_index.rs` to an owned index: a generation that the caller hands in stands
 //! where scc asks its collector.
-ghost use Rattle.std.specs.Prelude.{◌≡◌, ◌↔◌, ◌-◌, ◌*◌, ◌^◌, [], Err, IsTrue, is_some, length, min};
+ghost use Rattle.std.specs.Prelude.{◌≡◌, ◌<◌, ◌↔◌, ◌-◌, ◌*◌, ◌^◌, [], Err, IsTrue, is_some, length, min};
 ghost use Rattle.std.specs.Option.{option_copied};
 ghost use Rattle.std.specs.Borrow.{Bor};
 ghost use Rattle.bucket_slots.specs.Marking.{HasNoNewMark, MarksBy};
@@ -21,7 +21,7 @@ ghost use Rattle.bucket_table.specs.Views.ArraysView.{marks_of, pairs_of};
 ghost use Rattle.bucket_table.specs.declared.hash_table.NotInserted.TheVariants.{Memory};
 ghost use Rattle.collections.specs.Changes.{Inserts, ReadsOut, Reserves, Stays, TakesOut};
 ghost use Rattle.collections.specs.Crowding.{LacksSlots};
-ghost use Rattle.collections.specs.Maps.{contains_by, get_by, IsEmpty, map_len, map_of};
+ghost use Rattle.collections.specs.Maps.{contains_by, get_by, IsEmpty, map_len, map_of, pairs_in_bucket};
 ghost use Rattle.collections.specs.Marks.{KeepsMarks, LosesNoKeptMark, MarksRemoved};
 ghost use Rattle.collections.specs.Slots.{GrowsSlots, LosesSlots};
 
@@ -148,6 +148,24 @@ impl<K: Eq, V, H: KeyHash<K>> HashIndex<K, V, H> {
     {
         self.room.learn();
         self.table.for_each(f);
+    }
+
+    /// Calls a function with each pair of one bucket once, in the order of the view, and with no
+    /// tombstone's, and returns whether there is such a bucket. The buckets count from those of the
+    /// slots on, then those of the old slots: one after the other they have the pairs of `for_each`,
+    /// as long as no call changes the index in between.
+    ///
+    /// Moves nothing, and takes no memory. O(32, and the square of the number of blocks of the
+    /// bucket's chain), and the function's calls. Own.
+    pub fn for_each_in<F: FnMut(&K, &V)>(&self, bucket: usize, f: &mut F) -> bool
+        requires callable { F.IsAlwaysCallable f.old }
+        ensures again { F.IsAlwaysCallable f.new }
+        ensures there { IsTrue result ↔ bucket < length (map_of self.now).bucket_lens }
+        ensures calls { CallsEach (λ state own value last. F.step state own value tt last) f.old
+            (pairs_in_bucket (map_of self.now) bucket) f.new }
+    {
+        self.room.learn();
+        self.table.for_each_in(bucket, f)
     }
 
     /// Returns the value under a key, or under the keys that a form stands for; `None` where the

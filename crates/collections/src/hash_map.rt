@@ -1,17 +1,18 @@
 //! A map from keys to values.
 //!
-//! Model: `MapView`, the pairs in an order that any call may change, the hasher and the slots. A
-//! map answers as std's `HashMap` does: `get` is a look-up of the pairs.
+//! Model: `MapView`, the pairs in an order that any call may change, the hasher, the slots and how
+//! many pairs each bucket has. A map answers as std's `HashMap` does: `get` is a look-up of the
+//! pairs.
 //!
 //! Ports scc's `src/hash_map.rs` to an owned map: a borrow stands where scc locks.
-ghost use Rattle.std.specs.Prelude.{◌≡◌, ◌↔◌, ◌-◌, ◌^◌, [], Err, IsTrue, OnErr, is_some, min};
+ghost use Rattle.std.specs.Prelude.{◌≡◌, ◌<◌, ◌↔◌, ◌-◌, ◌^◌, [], Err, IsTrue, OnErr, is_some, length, min};
 ghost use Rattle.std.specs.Option.{option_copied};
 ghost use Rattle.std.specs.Borrow.{Bor, MutBor};
 ghost use Rattle.bucket_slots.specs.Walking.{CallsEach};
 ghost use Rattle.bucket_table.specs.Map.LookingUp.{IsThere};
 ghost use Rattle.bucket_table.specs.declared.hash_table.NotInserted.TheVariants.{Memory};
 ghost use Rattle.collections.specs.Crowding.{LacksRoom};
-ghost use Rattle.collections.specs.Maps.{contains_by, get_by, IsEmpty, map_len};
+ghost use Rattle.collections.specs.Maps.{contains_by, get_by, IsEmpty, map_len, pairs_in_bucket};
 ghost use Rattle.collections.specs.Changes.{Inserts, Removes, Retains, Rewrites, Upserts};
 ghost use Rattle.collections.specs.Slots.{GrowsSlots, KeepsSlots, LosesSlots};
 
@@ -79,6 +80,7 @@ impl<K: Eq, V, H: KeyHash<K>> HashMap<K, V, H> {
         ensures minimum { result.minimum ≡ 0 }
         ensures maximum { result.maximum ≡ 2 ^ 63 }
         ensures slots { (result.slots ≡ 0) × (result.old_slots ≡ 0) }
+        ensures buckets { result.bucket_lens ≡ [] }
     {
         Self::with_minimum(alloc, hasher, 0)
     }
@@ -145,6 +147,25 @@ impl<K: Eq, V, H: KeyHash<K>> HashMap<K, V, H> {
     {
         self.room.learn();
         self.table.for_each(f);
+    }
+
+    /// Calls a function with each pair of one bucket once, in the order of the view, and returns
+    /// whether there is such a bucket. The buckets count from those of the slots on, then those of
+    /// the old slots: one after the other they have the pairs of `for_each`, as long as no call
+    /// changes the map in between.
+    ///
+    /// Moves nothing, and takes no memory. O(32, and the square of the number of blocks of the
+    /// bucket's chain), and the function's calls. Own.
+    #[inline(always)]
+    pub fn for_each_in<F: FnMut(&K, &V)>(&self, bucket: usize, f: &mut F) -> bool
+        requires callable { F.IsAlwaysCallable f.old }
+        ensures again { F.IsAlwaysCallable f.new }
+        ensures there { IsTrue result ↔ bucket < length self.now.bucket_lens }
+        ensures calls { CallsEach (λ state own value last. F.step state own value tt last) f.old
+            (pairs_in_bucket self.now bucket) f.new }
+    {
+        self.room.learn();
+        self.table.for_each_in(bucket, f)
     }
 
     /// Returns the number of slots, chains left out.
@@ -318,7 +339,8 @@ impl<K: Eq + Drop, V: Drop, H: KeyHash<K>> HashMap<K, V, H> {
     ///
     /// Never refused. O(slots). scc: `HashMap::clear_sync`.
     pub fn clear(&mut self)
-        ensures { self.new ≡ record self.old { entries = []; slots = 0; old_slots = 0 } }
+        ensures { self.new
+            ≡ record self.old { entries = []; slots = 0; old_slots = 0; bucket_lens = [] } }
     {
         self.room.learn();
         self.table.clear();
@@ -345,6 +367,7 @@ impl<K: Eq + Hash, V> HashMap<K, V, DefaultHash> {
         ensures minimum { result.minimum ≡ 0 }
         ensures maximum { result.maximum ≡ 2 ^ 63 }
         ensures slots { (result.slots ≡ 0) × (result.old_slots ≡ 0) }
+        ensures buckets { result.bucket_lens ≡ [] }
     {
         Self::with_hasher(alloc, StdHash::new(BuildHasherDefault::new()))
     }
@@ -361,6 +384,7 @@ impl<K: Eq + Hash, V> HashMap<K, V, StdHash<RandomState>> {
         ensures minimum { result.minimum ≡ 0 }
         ensures maximum { result.maximum ≡ 2 ^ 63 }
         ensures slots { (result.slots ≡ 0) × (result.old_slots ≡ 0) }
+        ensures buckets { result.bucket_lens ≡ [] }
     {
         Self::with_hasher(alloc, StdHash::new(state))
     }

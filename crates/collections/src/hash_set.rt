@@ -3,7 +3,7 @@
 //! Model: `MapView`, whose pairs are the keys beside `()`.
 //!
 //! Ports scc's `src/hash_set.rs` to an owned set.
-ghost use Rattle.std.specs.Prelude.{◌≡◌, ◌↔◌, ◌-◌, ◌^◌, [], Err, IfOk, IsOk, IsTrue, is_some, min, true};
+ghost use Rattle.std.specs.Prelude.{◌≡◌, ◌<◌, ◌↔◌, ◌-◌, ◌^◌, [], Err, IfOk, IsOk, IsTrue, is_some, length, min, true};
 ghost use Rattle.std.specs.Fn.{CalledAt};
 ghost use Rattle.std.specs.Map.{keys_of};
 ghost use Rattle.bucket_table.specs.declared.hash_table.NotInserted.TheVariants.{Memory};
@@ -12,7 +12,7 @@ ghost use Rattle.collections.specs.Copies.{IsCopy};
 ghost use Rattle.collections.specs.Crowding.{LacksRoom};
 ghost use Rattle.collections.specs.Slots.{GrowsSlots, LosesSlots};
 ghost use Rattle.collections.specs.Keys.{CallsEachKey, RetainsKeys};
-ghost use Rattle.collections.specs.Maps.{contains_by, IsEmpty, map_len};
+ghost use Rattle.collections.specs.Maps.{contains_by, IsEmpty, map_len, pairs_in_bucket};
 
 mod algebra;
 mod cloning;
@@ -67,6 +67,7 @@ impl<K: Eq, H: KeyHash<K>> HashSet<K, H> {
         ensures minimum { result.minimum ≡ 0 }
         ensures maximum { result.maximum ≡ 2 ^ 63 }
         ensures slots { (result.slots ≡ 0) × (result.old_slots ≡ 0) }
+        ensures buckets { result.bucket_lens ≡ [] }
     {
         HashSet {
             map: HashMap::with_hasher(alloc, hasher),
@@ -151,6 +152,29 @@ impl<K: Eq, H: KeyHash<K>> HashSet<K, H> {
         };
         self.map.for_each_ref(&mut visit);
     }
+
+    /// Calls a function with each key of one bucket once, in the order of the view, and returns
+    /// whether there is such a bucket. The buckets count from those of the slots on, then those of
+    /// the old slots: one after the other they have the keys of `for_each`, as long as no call
+    /// changes the set in between.
+    ///
+    /// Moves nothing, and takes no memory. O(32, and the square of the number of blocks of the
+    /// bucket's chain), and the function's calls. Own.
+    pub fn for_each_in<F: FnMut(&K)>(&self, bucket: usize, f: &mut F) -> bool
+        requires callable { F.IsAlwaysCallable f.old }
+        ensures again { F.IsAlwaysCallable f.new }
+        ensures there { IsTrue result ↔ bucket < length self.now.bucket_lens }
+        ensures calls { CallsEachKey F.FnMut f.old (keys_of (pairs_in_bucket self.now bucket))
+            f.new }
+    {
+        let mut visit = |key: &K, _value: &()|
+            requires { F.IsAlwaysCallable f.now }
+            ensures { CalledAt F.FnMut f.entry.now key.now tt f.exit.now }
+        {
+            f(key);
+        };
+        self.map.for_each_in(bucket, &mut visit)
+    }
 }
 
 impl<K: Eq + Drop, H: KeyHash<K>> HashSet<K, H> {
@@ -216,7 +240,8 @@ impl<K: Eq + Drop, H: KeyHash<K>> HashSet<K, H> {
     ///
     /// Never refused. O(slots). scc: `HashSet::clear_sync`.
     pub fn clear(&mut self)
-        ensures { self.new ≡ record self.old { entries = []; slots = 0; old_slots = 0 } }
+        ensures { self.new
+            ≡ record self.old { entries = []; slots = 0; old_slots = 0; bucket_lens = [] } }
     {
         self.map.clear();
     }
@@ -249,6 +274,7 @@ impl<K: Eq + Hash> HashSet<K, DefaultHash> {
         ensures minimum { result.minimum ≡ 0 }
         ensures maximum { result.maximum ≡ 2 ^ 63 }
         ensures slots { (result.slots ≡ 0) × (result.old_slots ≡ 0) }
+        ensures buckets { result.bucket_lens ≡ [] }
     {
         Self::with_hasher(alloc, StdHash::new(BuildHasherDefault::new()))
     }
@@ -265,6 +291,7 @@ impl<K: Eq + Hash> HashSet<K, StdHash<RandomState>> {
         ensures minimum { result.minimum ≡ 0 }
         ensures maximum { result.maximum ≡ 2 ^ 63 }
         ensures slots { (result.slots ≡ 0) × (result.old_slots ≡ 0) }
+        ensures buckets { result.bucket_lens ≡ [] }
     {
         Self::with_hasher(alloc, StdHash::new(state))
     }

@@ -1,6 +1,6 @@
 //! Stories of a cache of numbers: which pair goes for another, which of the calls touch a pair, and
 //! what is seen of the cache then.
-use super::iterating::{Pairs, gone_over, same_pairs, walk_numbers, walk_pairs};
+use super::iterating::{MOST_BUCKETS, Pairs, gone_over, same_pairs, walk_numbers, walk_pairs};
 use super::{At, cache_changes, check_same, lru_caches, steps, write};
 use Made::*;
 use Step::*;

@@ -1,5 +1,5 @@
 //! Stories of an index of numbers: what each call answers, and which pairs are seen then.
-use super::iterating::{Pairs, gone_over, same_pairs, walk_numbers, walk_pairs};
+use super::iterating::{MOST_BUCKETS, Pairs, gone_over, same_pairs, walk_numbers, walk_pairs};
 use super::{At, check_same, steps};
 use Step::*;
 use bucket_table::script::{FixedGeneration, ScriptHash};

@@ -74,6 +74,11 @@ impl Pairs {
         self.keys.len
     }
 
+    // Whether another walk gave the same in the same order.
+    pub(super) fn is_as(&self, other: &Pairs) -> bool {
+        self.keys.is_as(&other.keys) && self.values.is_as(&other.values)
+    }
+
     // Whether each key is below 256 and came once.
     pub(super) fn are_distinct(&self) -> bool {
         self.keys.is_distinct()
@@ -112,8 +117,7 @@ pub(super) fn walk_numbers<'a, I: Iterator<Item = &'a u64> + Drop>(numbers: I) -
 // How many pairs came, where other walks gave the same pairs, keys and values in the same order:
 // keys below 256, each once, and as many values; or else none.
 pub(super) fn same_pairs(met: &Pairs, pairs: &Pairs, keys: &Walk, values: &Walk) -> Option<usize> {
-    let are_as = met.keys.is_as(&pairs.keys) && met.values.is_as(&pairs.values);
-    let are_as = are_as && met.keys.is_as(keys) && met.values.is_as(values);
+    let are_as = met.is_as(pairs) && met.keys.is_as(keys) && met.values.is_as(values);
     if are_as && met.keys.is_distinct() && keys.len == values.len {
         Some(keys.len)
     } else {
@@ -121,9 +125,12 @@ pub(super) fn same_pairs(met: &Pairs, pairs: &Pairs, keys: &Walk, values: &Walk)
     }
 }
 
+/// More buckets than a collection has whose pairs are gone over.
+pub(super) const MOST_BUCKETS: usize = 10_000;
+
 // How many pairs a collection gives: keys below 256, each once and with the value that a look-up
-// finds. `for_each`, the iterator of pairs, and those of keys and of values give the same in the
-// same order; or else none.
+// finds. `for_each`, `for_each_in` of one bucket after the other, the iterator of pairs, and those
+// of keys and of values give the same in the same order; or else none.
 macro_rules! gone_over {
     ($collection:expr, $look:ident) => {{
         let mut met = Pairs::new();
@@ -133,6 +140,17 @@ macro_rules! gone_over {
                 Some((key, value)) if $collection.$look(&key) == Some(&value) => {}
                 _ => return None,
             }
+        }
+        let (mut in_turn, mut is_over) = (Pairs::new(), false);
+        for bucket in 0..MOST_BUCKETS {
+            let mut meet = |key: &u64, value: &u64| in_turn.add(*key, *value);
+            if !$collection.for_each_in(bucket, &mut meet) {
+                is_over = true;
+                break;
+            }
+        }
+        if !is_over || !met.is_as(&in_turn) {
+            return None;
         }
         let pairs = walk_pairs($collection.into_iter());
         let (keys, values) = (walk_numbers($collection.keys()), walk_numbers($collection.values()));

@@ -1,6 +1,6 @@
 //! The steps of stories of a map of numbers: what each call answers, how many slots there are then,
 //! and which pairs `for_each` hands over and the iterators give.
-use super::iterating::{Pairs, gone_over, same_pairs, walk_numbers, walk_pairs};
+use super::iterating::{MOST_BUCKETS, Pairs, gone_over, same_pairs, walk_numbers, walk_pairs};
 use super::{At, check_same, write};
 use Step::*;
 use bucket_table::script::ScriptHash;

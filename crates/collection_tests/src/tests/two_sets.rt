@@ -1,6 +1,7 @@
 //! What two sets have together, apart, and of one alone.
 ghost use Rattle.std.specs.Iterator.{IsFinite};
 
+use super::iterating::MOST_BUCKETS;
 use super::sets::{Set, fill_set};
 use super::{check_same, std_sets, steps};
 use bucket_table::script::ScriptHash;
@@ -80,6 +81,12 @@ fn check_row(rt: &impl Abort, alloc: Global, one: &Set, other: &Set, row: &Row, 
         let found = joined(alloc, one, other, call);
         check_listed(rt, alloc, found, ranges, (number, call, "operator"));
     }
+    check_same(
+        rt,
+        bucket_by_bucket(alloc, one),
+        Some(called_with(alloc, one)),
+        (number, "buckets"),
+    );
 }
 
 // The calls, and the keys that each is to hand over.
@@ -159,6 +166,17 @@ fn called_with(alloc: Global, set: &Set) -> Vec<u64> {
     let mut keys = Vec::new(alloc);
     set.for_each_ref(&mut |key: &u64| put(&mut keys, Some(key)));
     keys
+}
+
+// The keys that it is called with for one bucket after the other; none where these have no end.
+fn bucket_by_bucket(alloc: Global, set: &Set) -> Option<Vec<u64>> {
+    let mut keys = Vec::new(alloc);
+    for bucket in 0..MOST_BUCKETS {
+        if !set.for_each_in(bucket, &mut |key: &u64| put(&mut keys, Some(key))) {
+            return Some(keys);
+        }
+    }
+    None
 }
 
 // The keys that an iterator gives: two that it is asked for, the rest in a loop, and what comes

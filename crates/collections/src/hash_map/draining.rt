@@ -32,7 +32,8 @@ impl<K: Eq, V, H: KeyHash<K>> HashMap<K, V, H> {
     pub fn drain(&mut self) -> Drain<K, V>
         ensures rest { result ≡ self.old.entries }
         ensures unique { IsUnique K.eq self.old }
-        ensures map { self.new ≡ record self.old { entries = []; slots = 0; old_slots = 0 } }
+        ensures map { self.new
+            ≡ record self.old { entries = []; slots = 0; old_slots = 0; bucket_lens = [] } }
     {
         self.room.learn();
         self.table.sound();

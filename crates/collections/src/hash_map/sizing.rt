@@ -2,7 +2,7 @@
 //!
 //! The minimum, which scc's `reserve` raises, is what the plan of a resize keeps to. `try_reserve`
 //! and `shrink_to_fit` go beside the plan: they move all pairs at once.
-ghost use Rattle.std.specs.Prelude.{◌≤◌, ◌≡◌, ◌^◌, IsErr, OnOk, min};
+ghost use Rattle.std.specs.Prelude.{◌≤◌, ◌≡◌, ◌^◌, [], IsErr, OnOk, min};
 ghost use Rattle.bucket_slots.specs.Sizing.{IsPowerIn};
 ghost use Rattle.collections.specs.Capacity.{AreTooMany, IsMinimumFor, MakesRoom, ShrinksTo, ShrinksToFit, TakesSlots};
 ghost use Rattle.collections.specs.Changes.{Reserves, Stays};
@@ -32,6 +32,7 @@ impl<K: Eq, V, H: KeyHash<K>> HashMap<K, V, H> {
         ensures minimum { IsMinimumFor pairs result.minimum }
         ensures maximum { result.maximum ≡ 2 ^ 63 }
         ensures slots { (result.slots ≡ 0) × (result.old_slots ≡ 0) }
+        ensures buckets { result.bucket_lens ≡ [] }
     {
         Self::with_minimum(alloc, hasher, minimum_for(pairs))
     }
@@ -47,6 +48,7 @@ impl<K: Eq, V, H: KeyHash<K>> HashMap<K, V, H> {
         ensures minimum { result.minimum ≡ min slots (2 ^ 63) }
         ensures maximum { result.maximum ≡ 2 ^ 63 }
         ensures slots { (result.slots ≡ 0) × (result.old_slots ≡ 0) }
+        ensures buckets { result.bucket_lens ≡ [] }
     {
         let minimum = slots.min(MAXIMUM_CAPACITY_LIMIT);
         HashMap {
@@ -66,6 +68,7 @@ impl<K: Eq + Hash, V> HashMap<K, V, DefaultHash> {
         ensures minimum { IsMinimumFor pairs result.minimum }
         ensures maximum { result.maximum ≡ 2 ^ 63 }
         ensures slots { (result.slots ≡ 0) × (result.old_slots ≡ 0) }
+        ensures buckets { result.bucket_lens ≡ [] }
     {
         Self::with_capacity_and_hasher(alloc, pairs, DefaultHash::default())
     }

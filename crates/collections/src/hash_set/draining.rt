@@ -52,7 +52,8 @@ impl<K: Eq, H: KeyHash<K>> HashSet<K, H> {
     pub fn drain(&mut self) -> Drain<K>
         ensures rest { result ≡ keys_of self.old.entries }
         ensures unique { IsUnique K.eq self.old }
-        ensures set { self.new ≡ record self.old { entries = []; slots = 0; old_slots = 0 } }
+        ensures set { self.new
+            ≡ record self.old { entries = []; slots = 0; old_slots = 0; bucket_lens = [] } }
     {
         Drain {
             inner: DrainKeys {

@@ -1,5 +1,5 @@
 //! How many slots a set has, as of a map: room for keys that come, and slots that go.
-ghost use Rattle.std.specs.Prelude.{◌≡◌, ◌^◌, min};
+ghost use Rattle.std.specs.Prelude.{◌≡◌, ◌^◌, [], min};
 ghost use Rattle.collections.specs.Capacity.{IsMinimumFor, MakesRoom, ShrinksTo, ShrinksToFit};
 ghost use Rattle.collections.specs.Changes.{Reserves};
 ghost use Rattle.collections.specs.Maps.{IsEmpty};
@@ -25,6 +25,7 @@ impl<K: Eq, H: KeyHash<K>> HashSet<K, H> {
         ensures minimum { IsMinimumFor keys result.minimum }
         ensures maximum { result.maximum ≡ 2 ^ 63 }
         ensures slots { (result.slots ≡ 0) × (result.old_slots ≡ 0) }
+        ensures buckets { result.bucket_lens ≡ [] }
     {
         HashSet {
             map: HashMap::with_capacity_and_hasher(alloc, keys, hasher),
@@ -42,6 +43,7 @@ impl<K: Eq, H: KeyHash<K>> HashSet<K, H> {
         ensures minimum { result.minimum ≡ min slots (2 ^ 63) }
         ensures maximum { result.maximum ≡ 2 ^ 63 }
         ensures slots { (result.slots ≡ 0) × (result.old_slots ≡ 0) }
+        ensures buckets { result.bucket_lens ≡ [] }
     {
         HashSet {
             map: HashMap::with_minimum(alloc, hasher, slots),
@@ -59,6 +61,7 @@ impl<K: Eq + Hash> HashSet<K, DefaultHash> {
         ensures minimum { IsMinimumFor keys result.minimum }
         ensures maximum { result.maximum ≡ 2 ^ 63 }
         ensures slots { (result.slots ≡ 0) × (result.old_slots ≡ 0) }
+        ensures buckets { result.bucket_lens ≡ [] }
     {
         Self::with_capacity_and_hasher(alloc, keys, DefaultHash::default())
     }

@@ -1,7 +1,7 @@
 use Rattle.std.proofs.Common.{ap, subst, sym, ◌∙◌}
 use Rattle.collections.specs.Changes.{Stays}
 use Rattle.collections.specs.Maps.{map_of}
-use Rattle.collections.proofs.Capacity.{least_gone, none_moving, shrinks_moved, shrinks_none, shrinks_ready, shrinks_refused, slots_gone}
+use Rattle.collections.proofs.Capacity.{least_gone, no_buckets, none_moving, shrinks_moved, shrinks_none, shrinks_ready, shrinks_refused, slots_gone}
 use Rattle.collections.proofs.Capacity.{some_moving}
 use Rattle.collections.proofs.hash_map.HashMap.shrink_to_fit.Goals as goal
 
@@ -10,7 +10,7 @@ returns-then-pairs-eq0 g c =
     let gone = slots_gone c.self.inside.table c.set_minimum.new.self c.clear.new.self c.set_minimum.ensures c.clear.ensures.hasher
     c.clear.ensures.arrays in
     rw (← c.self.view_is) (shrinks_none g.K.PartialEq.eq (map_of c.self.inside.table) c.sound.ensures.one_map.distinct
-    c.len-pairs.result c.len-pairs.ensures.count (map_of c.clear.new.self) c.if-pairs-eq0.true gone)
+    c.len-pairs.result c.len-pairs.ensures.count (map_of c.clear.new.self) (no_buckets c.self.inside.table) c.if-pairs-eq0.true gone)
 
 pub returns-in_default : goal.returns-in_default
 returns-in_default g c =
