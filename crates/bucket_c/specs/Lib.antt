@@ -5,6 +5,7 @@ pub mod Caches
 pub mod Tables
 pub mod Texts
 pub mod Owning
+pub mod Lending
 pub mod Opening
 pub mod Copying
 pub mod Steps

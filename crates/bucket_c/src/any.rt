@@ -23,22 +23,20 @@ pub extern "C" fn bucket_free(alloc: Global, handle: &mut Handle)
 ///
 /// O(slots / 32). `HashMap::len`.
 #[unsafe(no_mangle)]
-pub extern "C" fn bucket_len(alloc: Global, handle: &mut Handle) -> usize
+pub extern "C" fn bucket_len(handle: &mut Handle) -> usize
     ensures len { result ≡ min (len_of handle.old.held.table) (2 ^ 64 - 1) }
-    ensures same { handle.new.held.table ≡ handle.old.held.table }
+    ensures same { handle.new ≡ handle.old }
 {
-    let Some(table) = handle.take(alloc) else {
+    if !handle.live {
         return 0;
-    };
-    let len = match &*table {
+    }
+    match &*handle.held.table() {
         Table::Map(map) => map.len(),
         Table::TextMap(map) => map.len(),
         Table::TextSet(set) => set.len(),
         Table::Cache(cache) => cache.len(),
         Table::TextCache(cache) => cache.len(),
-    };
-    handle.put(table);
-    len
+    }
 }
 
 /// Drops all pairs and all slots.
