@@ -12,7 +12,8 @@
  *     other pointer is null;
  *   - buffers, outputs and the handle don't overlap;
  *   - a handle begins as BUCKET_HANDLE, and C neither reads nor writes its fields, nor uses a copy beside the original;
- *   - one call at a time on a handle, in any thread: a lock, or a thread's start or join, orders the calls of two threads;
+ *   - one call at a time on a handle, also of those that take it by `const`, in any thread: a lock, or a thread's start or join,
+ *     orders the calls of two threads;
  *   - no call in a signal handler, or in the forked child of a process with threads;
  *   - `malloc` and `free` are of one allocator, whose blocks are aligned to 16, or to each lesser power of two that divides their size.
  * Else a call has no other condition: whatever was called before, it answers by a code.
@@ -119,10 +120,10 @@ typedef struct bucket_text_pair {
 void bucket_free(bucket_handle *handle);
 
 /* How many pairs or keys; 0 if closed. O(n / 32). */
-size_t bucket_len(bucket_handle *handle);
+size_t bucket_len(const bucket_handle *handle);
 
 /* How many slots the current array has; 0 if closed. O(1). */
-size_t bucket_capacity(bucket_handle *handle);
+size_t bucket_capacity(const bucket_handle *handle);
 
 /* Drops all pairs and slots; the seed and the capacity stay. OK, CLOSED. O(n). */
 BUCKET_MUST_USE uint32_t bucket_clear(bucket_handle *handle);
@@ -137,13 +138,13 @@ BUCKET_MUST_USE uint32_t bucket_shrink(bucket_handle *handle);
 /* Copies pairs of a map or a cache to `out`, as many as there is room for, and `count` is how many: those after the first `start`,
  * in an order that stays until a call changes the collection (bucket_cache_get does). So a loop that adds each count to `start`
  * gets each pair once. OK, CLOSED, OTHER_KIND: its keys are texts. O(n). */
-BUCKET_MUST_USE uint32_t bucket_pairs(bucket_handle *handle, size_t start, bucket_pair *out, size_t room, size_t *count);
+BUCKET_MUST_USE uint32_t bucket_pairs(const bucket_handle *handle, size_t start, bucket_pair *out, size_t room, size_t *count);
 
 /* The same of a text map, a text cache or a text set, whose values are 0. `rows` gets each key's length and its value, and `bytes`
  * the keys' bytes, one after another: as many pairs as fit in both. A `count` of 0 before the end: the next key is longer than
  * `bytes`. OK, CLOSED, OTHER_KIND. O(n). */
-BUCKET_MUST_USE uint32_t bucket_texts(bucket_handle *handle, size_t start, bucket_text_pair *rows, size_t room, uint8_t *bytes,
-                                      size_t bytes_room, size_t *count);
+BUCKET_MUST_USE uint32_t bucket_texts(const bucket_handle *handle, size_t start, bucket_text_pair *rows, size_t room,
+                                      uint8_t *bytes, size_t bytes_room, size_t *count);
 
 /* ---- A map from uint64_t to uint64_t ---- */
 
@@ -161,10 +162,10 @@ BUCKET_MUST_USE uint32_t bucket_map_insert(bucket_handle *handle, uint64_t key, 
 BUCKET_MUST_USE uint32_t bucket_map_upsert(bucket_handle *handle, uint64_t key, uint64_t value, uint64_t *earlier);
 
 /* Writes the value out. OK, ABSENT. */
-BUCKET_MUST_USE uint32_t bucket_map_get(bucket_handle *handle, uint64_t key, uint64_t *value);
+BUCKET_MUST_USE uint32_t bucket_map_get(const bucket_handle *handle, uint64_t key, uint64_t *value);
 
 /* OK, ABSENT. */
-BUCKET_MUST_USE uint32_t bucket_map_contains(bucket_handle *handle, uint64_t key);
+BUCKET_MUST_USE uint32_t bucket_map_contains(const bucket_handle *handle, uint64_t key);
 
 /* Removes a pair, and writes its value out. OK, ABSENT. */
 BUCKET_MUST_USE uint32_t bucket_map_remove(bucket_handle *handle, uint64_t key, uint64_t *value);
@@ -186,8 +187,8 @@ BUCKET_MUST_USE uint32_t bucket_text_map_new(bucket_handle *handle, size_t capac
 BUCKET_MUST_USE uint32_t bucket_text_map_insert(bucket_handle *handle, const uint8_t *key, size_t len, uint64_t value);
 BUCKET_MUST_USE uint32_t bucket_text_map_upsert(bucket_handle *handle, const uint8_t *key, size_t len, uint64_t value,
                                                 uint64_t *earlier);
-BUCKET_MUST_USE uint32_t bucket_text_map_get(bucket_handle *handle, const uint8_t *key, size_t len, uint64_t *value);
-BUCKET_MUST_USE uint32_t bucket_text_map_contains(bucket_handle *handle, const uint8_t *key, size_t len);
+BUCKET_MUST_USE uint32_t bucket_text_map_get(const bucket_handle *handle, const uint8_t *key, size_t len, uint64_t *value);
+BUCKET_MUST_USE uint32_t bucket_text_map_contains(const bucket_handle *handle, const uint8_t *key, size_t len);
 BUCKET_MUST_USE uint32_t bucket_text_map_remove(bucket_handle *handle, const uint8_t *key, size_t len, uint64_t *value);
 BUCKET_MUST_USE uint32_t bucket_text_map_add(bucket_handle *handle, const uint8_t *key, size_t len, uint64_t amount,
                                              uint64_t *total);
@@ -200,12 +201,12 @@ BUCKET_MUST_USE uint32_t bucket_text_map_remove_if_equal(bucket_handle *handle, 
 
 BUCKET_MUST_USE uint32_t bucket_set_new(bucket_handle *handle, bucket_seed seed);
 BUCKET_MUST_USE uint32_t bucket_set_insert(bucket_handle *handle, uint64_t key);
-BUCKET_MUST_USE uint32_t bucket_set_contains(bucket_handle *handle, uint64_t key);
+BUCKET_MUST_USE uint32_t bucket_set_contains(const bucket_handle *handle, uint64_t key);
 BUCKET_MUST_USE uint32_t bucket_set_remove(bucket_handle *handle, uint64_t key);
 
 BUCKET_MUST_USE uint32_t bucket_text_set_new(bucket_handle *handle, bucket_seed seed);
 BUCKET_MUST_USE uint32_t bucket_text_set_insert(bucket_handle *handle, const uint8_t *key, size_t len);
-BUCKET_MUST_USE uint32_t bucket_text_set_contains(bucket_handle *handle, const uint8_t *key, size_t len);
+BUCKET_MUST_USE uint32_t bucket_text_set_contains(const bucket_handle *handle, const uint8_t *key, size_t len);
 BUCKET_MUST_USE uint32_t bucket_text_set_remove(bucket_handle *handle, const uint8_t *key, size_t len);
 
 /* ---- A store: a map from byte strings to byte strings. It keeps copies of both. All calls also take the time to read or to copy
@@ -224,11 +225,11 @@ BUCKET_MUST_USE uint32_t bucket_store_upsert(bucket_handle *handle, const uint8_
                                              size_t value_len);
 
 /* Writes the value out, and its length to `value_len`: OK; or TOO_LONG: its first `room` bytes, and its whole length. ABSENT. */
-BUCKET_MUST_USE uint32_t bucket_store_get(bucket_handle *handle, const uint8_t *key, size_t len, uint8_t *out, size_t room,
+BUCKET_MUST_USE uint32_t bucket_store_get(const bucket_handle *handle, const uint8_t *key, size_t len, uint8_t *out, size_t room,
                                           size_t *value_len);
 
 /* OK, ABSENT. */
-BUCKET_MUST_USE uint32_t bucket_store_contains(bucket_handle *handle, const uint8_t *key, size_t len);
+BUCKET_MUST_USE uint32_t bucket_store_contains(const bucket_handle *handle, const uint8_t *key, size_t len);
 
 /* Removes a pair. OK, ABSENT. */
 BUCKET_MUST_USE uint32_t bucket_store_remove(bucket_handle *handle, const uint8_t *key, size_t len);
@@ -250,10 +251,10 @@ BUCKET_MUST_USE uint32_t bucket_cache_upsert(bucket_handle *handle, uint64_t key
 BUCKET_MUST_USE uint32_t bucket_cache_get(bucket_handle *handle, uint64_t key, uint64_t *value);
 
 /* Writes the value out. OK, ABSENT. */
-BUCKET_MUST_USE uint32_t bucket_cache_peek(bucket_handle *handle, uint64_t key, uint64_t *value);
+BUCKET_MUST_USE uint32_t bucket_cache_peek(const bucket_handle *handle, uint64_t key, uint64_t *value);
 
 /* OK, ABSENT. */
-BUCKET_MUST_USE uint32_t bucket_cache_contains(bucket_handle *handle, uint64_t key);
+BUCKET_MUST_USE uint32_t bucket_cache_contains(const bucket_handle *handle, uint64_t key);
 
 /* Removes a pair, and writes its value out. OK, ABSENT. */
 BUCKET_MUST_USE uint32_t bucket_cache_remove(bucket_handle *handle, uint64_t key, uint64_t *value);
@@ -268,8 +269,8 @@ BUCKET_MUST_USE uint32_t bucket_text_cache_put(bucket_handle *handle, const uint
 BUCKET_MUST_USE uint32_t bucket_text_cache_upsert(bucket_handle *handle, const uint8_t *key, size_t len, uint64_t value,
                                                   uint8_t *gone, size_t gone_room, size_t *gone_len, uint64_t *before);
 BUCKET_MUST_USE uint32_t bucket_text_cache_get(bucket_handle *handle, const uint8_t *key, size_t len, uint64_t *value);
-BUCKET_MUST_USE uint32_t bucket_text_cache_peek(bucket_handle *handle, const uint8_t *key, size_t len, uint64_t *value);
-BUCKET_MUST_USE uint32_t bucket_text_cache_contains(bucket_handle *handle, const uint8_t *key, size_t len);
+BUCKET_MUST_USE uint32_t bucket_text_cache_peek(const bucket_handle *handle, const uint8_t *key, size_t len, uint64_t *value);
+BUCKET_MUST_USE uint32_t bucket_text_cache_contains(const bucket_handle *handle, const uint8_t *key, size_t len);
 BUCKET_MUST_USE uint32_t bucket_text_cache_remove(bucket_handle *handle, const uint8_t *key, size_t len, uint64_t *value);
 
 /* ---- Null pointers ----
@@ -281,14 +282,14 @@ BUCKET_INLINE const uint8_t *bucket_guarded_key(const uint8_t *key, size_t len) 
     return len > 0 ? key : &none;
 }
 
-BUCKET_MUST_USE BUCKET_INLINE uint32_t bucket_guarded_pairs(bucket_handle *handle, size_t start, bucket_pair *out, size_t room,
-                                                            size_t *count) {
+BUCKET_MUST_USE BUCKET_INLINE uint32_t bucket_guarded_pairs(const bucket_handle *handle, size_t start, bucket_pair *out,
+                                                            size_t room, size_t *count) {
     bucket_pair none = {0, 0};
     return bucket_pairs(handle, start, room > 0 ? out : &none, room, count);
 }
 #define bucket_pairs bucket_guarded_pairs
 
-BUCKET_MUST_USE BUCKET_INLINE uint32_t bucket_guarded_texts(bucket_handle *handle, size_t start, bucket_text_pair *rows,
+BUCKET_MUST_USE BUCKET_INLINE uint32_t bucket_guarded_texts(const bucket_handle *handle, size_t start, bucket_text_pair *rows,
                                                             size_t room, uint8_t *bytes, size_t bytes_room, size_t *count) {
     bucket_text_pair row = {0, 0};
     uint8_t byte = 0;
@@ -308,13 +309,14 @@ BUCKET_MUST_USE BUCKET_INLINE uint32_t bucket_guarded_text_map_upsert(bucket_han
 }
 #define bucket_text_map_upsert bucket_guarded_text_map_upsert
 
-BUCKET_MUST_USE BUCKET_INLINE uint32_t bucket_guarded_text_map_get(bucket_handle *handle, const uint8_t *key, size_t len,
+BUCKET_MUST_USE BUCKET_INLINE uint32_t bucket_guarded_text_map_get(const bucket_handle *handle, const uint8_t *key, size_t len,
                                                                    uint64_t *value) {
     return bucket_text_map_get(handle, bucket_guarded_key(key, len), len, value);
 }
 #define bucket_text_map_get bucket_guarded_text_map_get
 
-BUCKET_MUST_USE BUCKET_INLINE uint32_t bucket_guarded_text_map_contains(bucket_handle *handle, const uint8_t *key, size_t len) {
+BUCKET_MUST_USE BUCKET_INLINE uint32_t bucket_guarded_text_map_contains(const bucket_handle *handle, const uint8_t *key,
+                                                                        size_t len) {
     return bucket_text_map_contains(handle, bucket_guarded_key(key, len), len);
 }
 #define bucket_text_map_contains bucket_guarded_text_map_contains
@@ -348,7 +350,8 @@ BUCKET_MUST_USE BUCKET_INLINE uint32_t bucket_guarded_text_set_insert(bucket_han
 }
 #define bucket_text_set_insert bucket_guarded_text_set_insert
 
-BUCKET_MUST_USE BUCKET_INLINE uint32_t bucket_guarded_text_set_contains(bucket_handle *handle, const uint8_t *key, size_t len) {
+BUCKET_MUST_USE BUCKET_INLINE uint32_t bucket_guarded_text_set_contains(const bucket_handle *handle, const uint8_t *key,
+                                                                        size_t len) {
     return bucket_text_set_contains(handle, bucket_guarded_key(key, len), len);
 }
 #define bucket_text_set_contains bucket_guarded_text_set_contains
@@ -370,14 +373,14 @@ BUCKET_MUST_USE BUCKET_INLINE uint32_t bucket_guarded_store_upsert(bucket_handle
 }
 #define bucket_store_upsert bucket_guarded_store_upsert
 
-BUCKET_MUST_USE BUCKET_INLINE uint32_t bucket_guarded_store_get(bucket_handle *handle, const uint8_t *key, size_t len,
+BUCKET_MUST_USE BUCKET_INLINE uint32_t bucket_guarded_store_get(const bucket_handle *handle, const uint8_t *key, size_t len,
                                                                 uint8_t *out, size_t room, size_t *value_len) {
     uint8_t none = 0;
     return bucket_store_get(handle, bucket_guarded_key(key, len), len, room > 0 ? out : &none, room, value_len);
 }
 #define bucket_store_get bucket_guarded_store_get
 
-BUCKET_MUST_USE BUCKET_INLINE uint32_t bucket_guarded_store_contains(bucket_handle *handle, const uint8_t *key, size_t len) {
+BUCKET_MUST_USE BUCKET_INLINE uint32_t bucket_guarded_store_contains(const bucket_handle *handle, const uint8_t *key, size_t len) {
     return bucket_store_contains(handle, bucket_guarded_key(key, len), len);
 }
 #define bucket_store_contains bucket_guarded_store_contains
@@ -411,13 +414,14 @@ BUCKET_MUST_USE BUCKET_INLINE uint32_t bucket_guarded_text_cache_get(bucket_hand
 }
 #define bucket_text_cache_get bucket_guarded_text_cache_get
 
-BUCKET_MUST_USE BUCKET_INLINE uint32_t bucket_guarded_text_cache_peek(bucket_handle *handle, const uint8_t *key, size_t len,
+BUCKET_MUST_USE BUCKET_INLINE uint32_t bucket_guarded_text_cache_peek(const bucket_handle *handle, const uint8_t *key, size_t len,
                                                                       uint64_t *value) {
     return bucket_text_cache_peek(handle, bucket_guarded_key(key, len), len, value);
 }
 #define bucket_text_cache_peek bucket_guarded_text_cache_peek
 
-BUCKET_MUST_USE BUCKET_INLINE uint32_t bucket_guarded_text_cache_contains(bucket_handle *handle, const uint8_t *key, size_t len) {
+BUCKET_MUST_USE BUCKET_INLINE uint32_t bucket_guarded_text_cache_contains(const bucket_handle *handle, const uint8_t *key,
+                                                                          size_t len) {
     return bucket_text_cache_contains(handle, bucket_guarded_key(key, len), len);
 }
 #define bucket_text_cache_contains bucket_guarded_text_cache_contains

@@ -70,14 +70,14 @@ pub(crate) const EVICTED: u32 = 7;
 unsafe extern "C" {
     pub(crate) fn bucket_version() -> u32;
     pub(crate) fn bucket_free(handle: *mut Raw);
-    pub(crate) fn bucket_len(handle: *mut Raw) -> usize;
-    pub(crate) fn bucket_capacity(handle: *mut Raw) -> usize;
+    pub(crate) fn bucket_len(handle: *const Raw) -> usize;
+    pub(crate) fn bucket_capacity(handle: *const Raw) -> usize;
     pub(crate) fn bucket_clear(handle: *mut Raw) -> u32;
     pub(crate) fn bucket_reserve(handle: *mut Raw, additional: usize) -> u32;
     pub(crate) fn bucket_shrink(handle: *mut Raw) -> u32;
-    pub(crate) fn bucket_pairs(handle: *mut Raw, start: usize, out: *mut Pair, room: usize, count: &mut usize) -> u32;
+    pub(crate) fn bucket_pairs(handle: *const Raw, start: usize, out: *mut Pair, room: usize, count: &mut usize) -> u32;
     pub(crate) fn bucket_texts(
-        handle: *mut Raw,
+        handle: *const Raw,
         start: usize,
         rows: *mut TextPair,
         room: usize,
@@ -89,8 +89,8 @@ unsafe extern "C" {
     pub(crate) fn bucket_map_new(handle: *mut Raw, capacity: usize, seed: Seed) -> u32;
     pub(crate) fn bucket_map_insert(handle: *mut Raw, key: u64, value: u64) -> u32;
     pub(crate) fn bucket_map_upsert(handle: *mut Raw, key: u64, value: u64, earlier: &mut u64) -> u32;
-    pub(crate) fn bucket_map_get(handle: *mut Raw, key: u64, value: &mut u64) -> u32;
-    pub(crate) fn bucket_map_contains(handle: *mut Raw, key: u64) -> u32;
+    pub(crate) fn bucket_map_get(handle: *const Raw, key: u64, value: &mut u64) -> u32;
+    pub(crate) fn bucket_map_contains(handle: *const Raw, key: u64) -> u32;
     pub(crate) fn bucket_map_remove(handle: *mut Raw, key: u64, value: &mut u64) -> u32;
     pub(crate) fn bucket_map_add(handle: *mut Raw, key: u64, amount: u64, total: &mut u64) -> u32;
     pub(crate) fn bucket_map_get_or_insert(handle: *mut Raw, key: u64, value: u64, held: &mut u64) -> u32;
@@ -99,8 +99,8 @@ unsafe extern "C" {
     pub(crate) fn bucket_text_map_new(handle: *mut Raw, capacity: usize, seed: Seed) -> u32;
     pub(crate) fn bucket_text_map_insert(handle: *mut Raw, key: *const u8, len: usize, value: u64) -> u32;
     pub(crate) fn bucket_text_map_upsert(handle: *mut Raw, key: *const u8, len: usize, value: u64, earlier: &mut u64) -> u32;
-    pub(crate) fn bucket_text_map_get(handle: *mut Raw, key: *const u8, len: usize, value: &mut u64) -> u32;
-    pub(crate) fn bucket_text_map_contains(handle: *mut Raw, key: *const u8, len: usize) -> u32;
+    pub(crate) fn bucket_text_map_get(handle: *const Raw, key: *const u8, len: usize, value: &mut u64) -> u32;
+    pub(crate) fn bucket_text_map_contains(handle: *const Raw, key: *const u8, len: usize) -> u32;
     pub(crate) fn bucket_text_map_remove(handle: *mut Raw, key: *const u8, len: usize, value: &mut u64) -> u32;
     pub(crate) fn bucket_text_map_add(handle: *mut Raw, key: *const u8, len: usize, amount: u64, total: &mut u64) -> u32;
     pub(crate) fn bucket_text_map_get_or_insert(handle: *mut Raw, key: *const u8, len: usize, value: u64, held: &mut u64) -> u32;
@@ -108,34 +108,34 @@ unsafe extern "C" {
 
     pub(crate) fn bucket_set_new(handle: *mut Raw, seed: Seed) -> u32;
     pub(crate) fn bucket_set_insert(handle: *mut Raw, key: u64) -> u32;
-    pub(crate) fn bucket_set_contains(handle: *mut Raw, key: u64) -> u32;
+    pub(crate) fn bucket_set_contains(handle: *const Raw, key: u64) -> u32;
     pub(crate) fn bucket_set_remove(handle: *mut Raw, key: u64) -> u32;
 
     pub(crate) fn bucket_text_set_new(handle: *mut Raw, seed: Seed) -> u32;
     pub(crate) fn bucket_text_set_insert(handle: *mut Raw, key: *const u8, len: usize) -> u32;
-    pub(crate) fn bucket_text_set_contains(handle: *mut Raw, key: *const u8, len: usize) -> u32;
+    pub(crate) fn bucket_text_set_contains(handle: *const Raw, key: *const u8, len: usize) -> u32;
     pub(crate) fn bucket_text_set_remove(handle: *mut Raw, key: *const u8, len: usize) -> u32;
 
     pub(crate) fn bucket_store_new(handle: *mut Raw, capacity: usize, seed: Seed) -> u32;
     pub(crate) fn bucket_store_insert(handle: *mut Raw, key: *const u8, len: usize, value: *const u8, value_len: usize) -> u32;
     pub(crate) fn bucket_store_upsert(handle: *mut Raw, key: *const u8, len: usize, value: *const u8, value_len: usize) -> u32;
     pub(crate) fn bucket_store_get(
-        handle: *mut Raw,
+        handle: *const Raw,
         key: *const u8,
         len: usize,
         out: *mut u8,
         room: usize,
         value_len: &mut usize,
     ) -> u32;
-    pub(crate) fn bucket_store_contains(handle: *mut Raw, key: *const u8, len: usize) -> u32;
+    pub(crate) fn bucket_store_contains(handle: *const Raw, key: *const u8, len: usize) -> u32;
     pub(crate) fn bucket_store_remove(handle: *mut Raw, key: *const u8, len: usize) -> u32;
 
     pub(crate) fn bucket_cache_new(handle: *mut Raw, minimum: usize, maximum: usize, seed: Seed) -> u32;
     pub(crate) fn bucket_cache_put(handle: *mut Raw, key: u64, value: u64, gone_key: &mut u64, gone_value: &mut u64) -> u32;
     pub(crate) fn bucket_cache_upsert(handle: *mut Raw, key: u64, value: u64, gone_key: &mut u64, before: &mut u64) -> u32;
     pub(crate) fn bucket_cache_get(handle: *mut Raw, key: u64, value: &mut u64) -> u32;
-    pub(crate) fn bucket_cache_peek(handle: *mut Raw, key: u64, value: &mut u64) -> u32;
-    pub(crate) fn bucket_cache_contains(handle: *mut Raw, key: u64) -> u32;
+    pub(crate) fn bucket_cache_peek(handle: *const Raw, key: u64, value: &mut u64) -> u32;
+    pub(crate) fn bucket_cache_contains(handle: *const Raw, key: u64) -> u32;
     pub(crate) fn bucket_cache_remove(handle: *mut Raw, key: u64, value: &mut u64) -> u32;
 
     pub(crate) fn bucket_text_cache_new(handle: *mut Raw, minimum: usize, maximum: usize, seed: Seed) -> u32;
@@ -160,8 +160,8 @@ unsafe extern "C" {
         before: &mut u64,
     ) -> u32;
     pub(crate) fn bucket_text_cache_get(handle: *mut Raw, key: *const u8, len: usize, value: &mut u64) -> u32;
-    pub(crate) fn bucket_text_cache_peek(handle: *mut Raw, key: *const u8, len: usize, value: &mut u64) -> u32;
-    pub(crate) fn bucket_text_cache_contains(handle: *mut Raw, key: *const u8, len: usize) -> u32;
+    pub(crate) fn bucket_text_cache_peek(handle: *const Raw, key: *const u8, len: usize, value: &mut u64) -> u32;
+    pub(crate) fn bucket_text_cache_contains(handle: *const Raw, key: *const u8, len: usize) -> u32;
     pub(crate) fn bucket_text_cache_remove(handle: *mut Raw, key: *const u8, len: usize, value: &mut u64) -> u32;
 }
 

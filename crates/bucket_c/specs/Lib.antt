@@ -7,6 +7,7 @@ pub mod Tables
 pub mod Texts
 pub mod Stores
 pub mod Owning
+pub mod Lending
 pub mod Opening
 pub mod Copying
 pub mod Steps

@@ -36,14 +36,14 @@ pub extern "C" fn bucket_free(alloc: Global, handle: &mut Handle)
 ///
 /// O(slots / 32). `HashMap::len`.
 #[unsafe(no_mangle)]
-pub extern "C" fn bucket_len(alloc: Global, handle: &mut Handle) -> usize
+pub extern "C" fn bucket_len(handle: &mut Handle) -> usize
     ensures len { result ≡ min (len_of handle.old.held.table) (2 ^ 64 - 1) }
-    ensures same { handle.new.held.table ≡ handle.old.held.table }
+    ensures same { handle.new ≡ handle.old }
 {
-    let Some(table) = handle.take(alloc) else {
+    if !handle.live {
         return 0;
-    };
-    let len = match &*table {
+    }
+    match &*handle.held.table() {
         Table::Map(map) => map.len(),
         Table::TextMap(map) => map.len(),
         Table::Set(set) => set.len(),
@@ -51,23 +51,21 @@ pub extern "C" fn bucket_len(alloc: Global, handle: &mut Handle) -> usize
         Table::Store(map) => map.len(),
         Table::Cache(cache) => cache.len(),
         Table::TextCache(cache) => cache.len(),
-    };
-    handle.put(table);
-    len
+    }
 }
 
 /// Returns how many slots the current array has; 0 where the handle is closed.
 ///
 /// O(1). `HashMap::capacity`.
 #[unsafe(no_mangle)]
-pub extern "C" fn bucket_capacity(alloc: Global, handle: &mut Handle) -> usize
+pub extern "C" fn bucket_capacity(handle: &mut Handle) -> usize
     ensures capacity { result ≡ capacity_of handle.old.held.table }
-    ensures same { handle.new.held.table ≡ handle.old.held.table }
+    ensures same { handle.new ≡ handle.old }
 {
-    let Some(table) = handle.take(alloc) else {
+    if !handle.live {
         return 0;
-    };
-    let capacity = match &*table {
+    }
+    match &*handle.held.table() {
         Table::Map(map) => map.capacity(),
         Table::TextMap(map) => map.capacity(),
         Table::Set(set) => set.capacity(),
@@ -75,9 +73,7 @@ pub extern "C" fn bucket_capacity(alloc: Global, handle: &mut Handle) -> usize
         Table::Store(map) => map.capacity(),
         Table::Cache(cache) => cache.capacity(),
         Table::TextCache(cache) => cache.capacity(),
-    };
-    handle.put(table);
-    capacity
+    }
 }
 
 /// Drops all pairs and all slots.

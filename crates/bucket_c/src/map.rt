@@ -8,7 +8,7 @@ ghost use Rattle.bucket_c.specs.Copies.{AddsTo, GetsOrInserts};
 ghost use Rattle.bucket_c.specs.Hashing.{word_hash};
 ghost use Rattle.bucket_c.specs.Maps.{Finds, InsertsOne, RemovesEqual, RemovesOne, UpsertsOne};
 ghost use Rattle.bucket_c.specs.Opening.{IsNew};
-ghost use Rattle.bucket_c.specs.Tables.{Maps, OnMap, Opens};
+ghost use Rattle.bucket_c.specs.Tables.{Maps, OnMap, Opens, Reads, map_in};
 ghost use Rattle.bucket_c.specs.declared.tables.Table.TheVariants.{Map};
 
 use crate::codes::{CLOSED, OTHER_KIND};
@@ -73,28 +73,24 @@ pub extern "C" fn bucket_map_upsert(
 ///
 /// Returns `OK`, `ABSENT`. O(1) expected. `HashMap::get`.
 #[unsafe(no_mangle)]
-pub extern "C" fn bucket_map_get(
-    alloc: Global,
-    handle: &mut Handle,
-    key: u64,
-    value: &mut u64,
-) -> u32
-    ensures { OnMap (λ old code new. Finds (nat_eq key) old value.old code value.new × (new ≡ old))
-        (value.new ≡ value.old) handle.old.held.table result handle.new.held.table }
+pub extern "C" fn bucket_map_get(handle: &mut Handle, key: u64, value: &mut u64) -> u32
+    ensures found { Reads map_in (λ map code. Finds (nat_eq key) map value.old code value.new)
+        (value.new ≡ value.old) handle.old.held.table result }
+    ensures same { handle.new ≡ handle.old }
 {
-    on_table!(handle, alloc, Map(map) => maps::get(map, &key, value))
+    on_shared!(handle, Map(map) => maps::get(map, &key, value))
 }
 
 /// Tests whether the map has a key.
 ///
 /// Returns `OK`, `ABSENT`. O(1) expected. `HashMap::contains`.
 #[unsafe(no_mangle)]
-pub extern "C" fn bucket_map_contains(alloc: Global, handle: &mut Handle, key: u64) -> u32
-    ensures { OnMap (λ old code new. (code ≡ found_code (get nat_eq old key)) × (new ≡ old))
-        (Unit {0})
-        handle.old.held.table result handle.new.held.table }
+pub extern "C" fn bucket_map_contains(handle: &mut Handle, key: u64) -> u32
+    ensures found { Reads map_in (λ map code. code ≡ found_code (get nat_eq map key))
+        (Unit {0}) handle.old.held.table result }
+    ensures same { handle.new ≡ handle.old }
 {
-    on_table!(handle, alloc, Map(map) => maps::contains(map, &key))
+    on_shared!(handle, Map(map) => maps::contains(map, &key))
 }
 
 /// Takes out the pair whose key is equal, and writes out its value.

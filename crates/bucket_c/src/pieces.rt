@@ -7,7 +7,6 @@ use crate::copying;
 use crate::copying::{Pair, TextPair};
 use crate::handle::Handle;
 use crate::tables::Table;
-use std::alloc::Global;
 
 /// Copies pairs of a map or a cache of words, from one on, as many as there is room for, and writes
 /// out how many.
@@ -15,7 +14,6 @@ use std::alloc::Global;
 /// Returns `OK`, `CLOSED`, `OTHER_KIND`. O(slots). `HashMap::for_each`.
 #[unsafe(no_mangle)]
 pub extern "C" fn bucket_pairs(
-    alloc: Global,
     handle: &mut Handle,
     start: usize,
     out: &mut [Pair],
@@ -23,12 +21,12 @@ pub extern "C" fn bucket_pairs(
 ) -> u32
     ensures copied { CopiesWordsOf start handle.old.held.table out.old count.old result out.new
         count.new }
-    ensures same { handle.new.held.table ≡ handle.old.held.table }
+    ensures same { handle.new ≡ handle.old }
 {
-    let Some(table) = handle.take(alloc) else {
+    if !handle.live {
         return CLOSED;
-    };
-    let code = match &*table {
+    }
+    match &*handle.held.table() {
         Table::Map(map) => {
             *count = copying::copy_map(map, start, out);
             OK
@@ -38,9 +36,7 @@ pub extern "C" fn bucket_pairs(
             OK
         }
         _ => OTHER_KIND,
-    };
-    handle.put(table);
-    code
+    }
 }
 
 /// Copies pairs under byte strings, from one on, as many as fit: the lengths of their keys and
@@ -49,7 +45,6 @@ pub extern "C" fn bucket_pairs(
 /// Returns `OK`, `CLOSED`, `OTHER_KIND`. O(slots). `HashMap::for_each`.
 #[unsafe(no_mangle)]
 pub extern "C" fn bucket_texts(
-    alloc: Global,
     handle: &mut Handle,
     start: usize,
     rows: &mut [TextPair],
@@ -59,12 +54,12 @@ pub extern "C" fn bucket_texts(
     ensures copied { CopiesTextsOf start handle.old.held.table rows.old bytes.old count.old
         result rows.new
         bytes.new count.new }
-    ensures same { handle.new.held.table ≡ handle.old.held.table }
+    ensures same { handle.new ≡ handle.old }
 {
-    let Some(table) = handle.take(alloc) else {
+    if !handle.live {
         return CLOSED;
-    };
-    let code = match &*table {
+    }
+    match &*handle.held.table() {
         Table::TextMap(map) => {
             *count = copying::copy_text_map(map, start, rows, bytes);
             OK
@@ -78,7 +73,5 @@ pub extern "C" fn bucket_texts(
             OK
         }
         _ => OTHER_KIND,
-    };
-    handle.put(table);
-    code
+    }
 }

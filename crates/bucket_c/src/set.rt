@@ -7,7 +7,7 @@ ghost use Rattle.bucket_c.specs.Codes.{found_code};
 ghost use Rattle.bucket_c.specs.Hashing.{word_hash};
 ghost use Rattle.bucket_c.specs.Maps.{InsertsOne, RemovesKey};
 ghost use Rattle.bucket_c.specs.Opening.{IsNew};
-ghost use Rattle.bucket_c.specs.Tables.{Maps, On, Opens, set_of};
+ghost use Rattle.bucket_c.specs.Tables.{Maps, OnSet, Opens, Reads, set_in};
 ghost use Rattle.bucket_c.specs.declared.tables.Table.TheVariants.{Set};
 
 use crate::codes::{CLOSED, OTHER_KIND};
@@ -37,7 +37,7 @@ pub extern "C" fn bucket_set_new(alloc: Global, handle: &mut Handle, seed: Seed)
 /// expected. `HashSet::insert_new`.
 #[unsafe(no_mangle)]
 pub extern "C" fn bucket_set_insert(alloc: Global, handle: &mut Handle, key: u64) -> u32
-    ensures { On Set set_of (InsertsOne nat_eq word_hash key tt) (Unit {0})
+    ensures { OnSet (InsertsOne nat_eq word_hash key tt) (Unit {0})
         handle.old.held.table result handle.new.held.table }
 {
     on_table!(handle, alloc, Set(set) => maps::insert_key(set, key))
@@ -47,12 +47,12 @@ pub extern "C" fn bucket_set_insert(alloc: Global, handle: &mut Handle, key: u64
 ///
 /// Returns `OK`, `ABSENT`. O(1) expected. `HashSet::contains`.
 #[unsafe(no_mangle)]
-pub extern "C" fn bucket_set_contains(alloc: Global, handle: &mut Handle, key: u64) -> u32
-    ensures { On Set set_of
-        (λ old code new. (code ≡ found_code (get nat_eq old key)) × (new ≡ old)) (Unit {0})
-        handle.old.held.table result handle.new.held.table }
+pub extern "C" fn bucket_set_contains(handle: &mut Handle, key: u64) -> u32
+    ensures found { Reads set_in (λ set code. code ≡ found_code (get nat_eq set key))
+        (Unit {0}) handle.old.held.table result }
+    ensures same { handle.new ≡ handle.old }
 {
-    on_table!(handle, alloc, Set(set) => maps::contains_key(set, &key))
+    on_shared!(handle, Set(set) => maps::contains_key(set, &key))
 }
 
 /// Takes out the key that is equal.
@@ -60,7 +60,7 @@ pub extern "C" fn bucket_set_contains(alloc: Global, handle: &mut Handle, key: u
 /// Returns `OK`, `ABSENT`. O(1) expected. `HashSet::take`.
 #[unsafe(no_mangle)]
 pub extern "C" fn bucket_set_remove(alloc: Global, handle: &mut Handle, key: u64) -> u32
-    ensures { On Set set_of (RemovesKey nat_eq (nat_eq key)) (Unit {0})
+    ensures { OnSet (RemovesKey nat_eq (nat_eq key)) (Unit {0})
         handle.old.held.table result handle.new.held.table }
 {
     on_table!(handle, alloc, Set(set) => maps::remove_key(set, &key))

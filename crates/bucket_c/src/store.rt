@@ -8,7 +8,8 @@ ghost use Rattle.bucket_c.specs.Codes.{found_code};
 ghost use Rattle.bucket_c.specs.Maps.{Drops};
 ghost use Rattle.bucket_c.specs.Opening.{IsNew};
 ghost use Rattle.bucket_c.specs.Stores.{FindsBytes, InsertsBytes, UpsertsBytes};
-ghost use Rattle.bucket_c.specs.Tables.{Maps, On, Opens, Text, has_bytes, store_of, text_eq};
+ghost use Rattle.bucket_c.specs.Tables.{Maps, OnStore, Opens, Reads, Text};
+ghost use Rattle.bucket_c.specs.Tables.{has_bytes, store_in, text_eq};
 ghost use Rattle.bucket_c.specs.declared.tables.Table.TheVariants.{Store};
 
 use crate::codes::{CLOSED, OTHER_KIND};
@@ -48,7 +49,7 @@ pub extern "C" fn bucket_store_insert(
     key: &[u8],
     value: &[u8],
 ) -> u32
-    ensures { On Store store_of (InsertsBytes key.now value.now) (Unit {0})
+    ensures { OnStore (InsertsBytes key.now value.now) (Unit {0})
         handle.old.held.table result handle.new.held.table }
 {
     on_table!(handle, alloc, Store(map) => stores::insert(map, alloc, key, value))
@@ -65,7 +66,7 @@ pub extern "C" fn bucket_store_upsert(
     key: &[u8],
     value: &[u8],
 ) -> u32
-    ensures { On Store store_of (UpsertsBytes key.now value.now) (Unit {0})
+    ensures { OnStore (UpsertsBytes key.now value.now) (Unit {0})
         handle.old.held.table result handle.new.held.table }
 {
     on_table!(handle, alloc, Store(map) => stores::upsert(map, alloc, key, value))
@@ -77,30 +78,30 @@ pub extern "C" fn bucket_store_upsert(
 /// value's length. `HashMap::get`.
 #[unsafe(no_mangle)]
 pub extern "C" fn bucket_store_get(
-    alloc: Global,
     handle: &mut Handle,
     key: &[u8],
     bytes: &mut [u8],
     len: &mut usize,
 ) -> u32
-    ensures { On Store store_of (λ old code new. FindsBytes (get_by (has_bytes key.now) old)
-        bytes.old len.old code bytes.new len.new
-        × (new ≡ old)) ((bytes.new ≡ bytes.old) × (len.new ≡ len.old))
-        handle.old.held.table result handle.new.held.table }
+    ensures found { Reads store_in
+        (λ map code. FindsBytes (get_by (has_bytes key.now) map) bytes.old len.old code bytes.new
+        len.new) ((bytes.new ≡ bytes.old) × (len.new ≡ len.old)) handle.old.held.table result }
+    ensures same { handle.new ≡ handle.old }
 {
-    on_table!(handle, alloc, Store(map) => stores::get(map, key, bytes, len))
+    on_shared!(handle, Store(map) => stores::get(map, key, bytes, len))
 }
 
 /// Tests whether the store has a key.
 ///
 /// Returns `OK`, `ABSENT`. O(1) expected. `HashMap::get`.
 #[unsafe(no_mangle)]
-pub extern "C" fn bucket_store_contains(alloc: Global, handle: &mut Handle, key: &[u8]) -> u32
-    ensures { On Store store_of
-        (λ old code new. (code ≡ found_code (get_by (has_bytes key.now) old)) × (new ≡ old))
-        (Unit {0}) handle.old.held.table result handle.new.held.table }
+pub extern "C" fn bucket_store_contains(handle: &mut Handle, key: &[u8]) -> u32
+    ensures found { Reads store_in
+        (λ map code. code ≡ found_code (get_by (has_bytes key.now) map))
+        (Unit {0}) handle.old.held.table result }
+    ensures same { handle.new ≡ handle.old }
 {
-    on_table!(handle, alloc, Store(map) => maps::contains(map, key))
+    on_shared!(handle, Store(map) => maps::contains(map, key))
 }
 
 /// Takes out the pair whose key is equal, and drops it.
@@ -108,7 +109,7 @@ pub extern "C" fn bucket_store_contains(alloc: Global, handle: &mut Handle, key:
 /// Returns `OK`, `ABSENT`. O(1) expected. `HashMap::remove`.
 #[unsafe(no_mangle)]
 pub extern "C" fn bucket_store_remove(alloc: Global, handle: &mut Handle, key: &[u8]) -> u32
-    ensures { On Store store_of (Drops text_eq (has_bytes key.now)) (Unit {0})
+    ensures { OnStore (Drops text_eq (has_bytes key.now)) (Unit {0})
         handle.old.held.table result handle.new.held.table }
 {
     on_table!(handle, alloc, Store(map) => maps::drop_pair(map, key))

@@ -8,6 +8,7 @@ ghost use Rattle.bucket_c.specs.Codes.{found_code};
 ghost use Rattle.bucket_c.specs.Maps.{Finds, RemovesEqual, RemovesOne};
 ghost use Rattle.bucket_c.specs.Opening.{IsNew};
 ghost use Rattle.bucket_c.specs.Tables.{Maps, OnTextMap, Opens, Text, has_bytes, text_eq};
+ghost use Rattle.bucket_c.specs.Tables.{Reads, text_map_in};
 ghost use Rattle.bucket_c.specs.Texts.{AddsToText, GetsOrInsertsText, InsertsText, UpsertsText};
 ghost use Rattle.bucket_c.specs.declared.tables.Table.TheVariants.{TextMap};
 
@@ -79,29 +80,26 @@ pub extern "C" fn bucket_text_map_upsert(
 ///
 /// Returns `OK`, `ABSENT`. O(1) expected. `HashMap::get`.
 #[unsafe(no_mangle)]
-pub extern "C" fn bucket_text_map_get(
-    alloc: Global,
-    handle: &mut Handle,
-    key: &[u8],
-    value: &mut u64,
-) -> u32
-    ensures { OnTextMap (λ old code new. Finds (has_bytes key.now) old value.old code value.new ×
-        (new ≡ old))
-        (value.new ≡ value.old) handle.old.held.table result handle.new.held.table }
+pub extern "C" fn bucket_text_map_get(handle: &mut Handle, key: &[u8], value: &mut u64) -> u32
+    ensures found { Reads text_map_in
+        (λ map code. Finds (has_bytes key.now) map value.old code value.new)
+        (value.new ≡ value.old) handle.old.held.table result }
+    ensures same { handle.new ≡ handle.old }
 {
-    on_table!(handle, alloc, TextMap(map) => maps::get(map, key, value))
+    on_shared!(handle, TextMap(map) => maps::get(map, key, value))
 }
 
 /// Tests whether the map has a key.
 ///
 /// Returns `OK`, `ABSENT`. O(1) expected. `HashMap::contains`.
 #[unsafe(no_mangle)]
-pub extern "C" fn bucket_text_map_contains(alloc: Global, handle: &mut Handle, key: &[u8]) -> u32
-    ensures { OnTextMap (λ old code new. (code ≡ found_code (get_by (has_bytes key.now) old)) ×
-        (new ≡ old))
-        (Unit {0}) handle.old.held.table result handle.new.held.table }
+pub extern "C" fn bucket_text_map_contains(handle: &mut Handle, key: &[u8]) -> u32
+    ensures found { Reads text_map_in
+        (λ map code. code ≡ found_code (get_by (has_bytes key.now) map))
+        (Unit {0}) handle.old.held.table result }
+    ensures same { handle.new ≡ handle.old }
 {
-    on_table!(handle, alloc, TextMap(map) => maps::contains(map, key))
+    on_shared!(handle, TextMap(map) => maps::contains(map, key))
 }
 
 /// Takes out the pair whose key is equal, and writes out its value.

@@ -8,6 +8,7 @@ ghost use Rattle.bucket_c.specs.Codes.{found_code};
 ghost use Rattle.bucket_c.specs.Maps.{RemovesKey};
 ghost use Rattle.bucket_c.specs.Opening.{IsNew};
 ghost use Rattle.bucket_c.specs.Tables.{Maps, OnTextSet, Opens, Text, has_bytes, text_eq};
+ghost use Rattle.bucket_c.specs.Tables.{Reads, text_set_in};
 ghost use Rattle.bucket_c.specs.Texts.{InsertsText};
 ghost use Rattle.bucket_c.specs.declared.tables.Table.TheVariants.{TextSet};
 
@@ -48,12 +49,13 @@ pub extern "C" fn bucket_text_set_insert(alloc: Global, handle: &mut Handle, key
 ///
 /// Returns `OK`, `ABSENT`. O(1) expected. `HashSet::contains`.
 #[unsafe(no_mangle)]
-pub extern "C" fn bucket_text_set_contains(alloc: Global, handle: &mut Handle, key: &[u8]) -> u32
-    ensures { OnTextSet (λ old code new. (code ≡ found_code (get_by (has_bytes key.now) old)) ×
-        (new ≡ old))
-        (Unit {0}) handle.old.held.table result handle.new.held.table }
+pub extern "C" fn bucket_text_set_contains(handle: &mut Handle, key: &[u8]) -> u32
+    ensures found { Reads text_set_in
+        (λ set code. code ≡ found_code (get_by (has_bytes key.now) set))
+        (Unit {0}) handle.old.held.table result }
+    ensures same { handle.new ≡ handle.old }
 {
-    on_table!(handle, alloc, TextSet(set) => maps::contains_key(set, key))
+    on_shared!(handle, TextSet(set) => maps::contains_key(set, key))
 }
 
 /// Takes out the key that is equal.
