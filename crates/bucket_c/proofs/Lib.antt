@@ -3,4 +3,5 @@ mod Crosses
 mod CopiedTexts
 mod Holding
 mod KeysCalled
+mod Lent
 mod Refused

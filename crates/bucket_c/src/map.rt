@@ -113,7 +113,7 @@ pub extern "C" fn bucket_map_remove(
 /// out the sum.
 ///
 /// Returns `OK` if the key was absent, `PRESENT` if it was there; `NO_MEMORY` if allocation fails,
-/// and all stays. O(1) expected. `HashMap::entry_ref`.
+/// and all stays. O(1) expected. `HashMap::get_mut`, `HashMap::insert`.
 #[unsafe(no_mangle)]
 pub extern "C" fn bucket_map_add(
     alloc: Global,
@@ -132,7 +132,7 @@ pub extern "C" fn bucket_map_add(
 /// Inserts a pair whose key the map hasn't, and writes out the value that is there then.
 ///
 /// Returns `OK`; `PRESENT` if the key was there; `NO_MEMORY` if allocation fails, and all stays.
-/// O(1) expected. `HashMap::entry_ref`.
+/// O(1) expected. `HashMap::get`, `HashMap::insert`.
 #[unsafe(no_mangle)]
 pub extern "C" fn bucket_map_get_or_insert(
     alloc: Global,

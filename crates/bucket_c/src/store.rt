@@ -41,7 +41,7 @@ pub extern "C" fn bucket_store_new(
 /// Inserts a pair whose key the store hasn't.
 ///
 /// Returns `OK`; `PRESENT` if the key is there, `NO_MEMORY` if allocation fails: all stays. O(1)
-/// expected. `HashMap::entry_ref`.
+/// expected. `HashMap::contains`, `HashMap::insert`.
 #[unsafe(no_mangle)]
 pub extern "C" fn bucket_store_insert(
     alloc: Global,
@@ -58,7 +58,7 @@ pub extern "C" fn bucket_store_insert(
 /// Inserts a pair, or puts its value in the place of the one that is there, which is dropped.
 ///
 /// Returns `OK` if the key was absent, `PRESENT` if it was there; `NO_MEMORY` if allocation fails,
-/// and all stays. O(1) expected. `HashMap::entry_ref`.
+/// and all stays. O(1) expected. `HashMap::get_mut`, `HashMap::insert`.
 #[unsafe(no_mangle)]
 pub extern "C" fn bucket_store_upsert(
     alloc: Global,

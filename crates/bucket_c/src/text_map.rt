@@ -41,7 +41,7 @@ pub extern "C" fn bucket_text_map_new(
 /// Inserts a pair whose key the map hasn't.
 ///
 /// Returns `OK`; `PRESENT` if the key is there, `NO_MEMORY` if allocation fails: all stays. O(1)
-/// expected. `HashMap::entry_ref`.
+/// expected. `HashMap::contains`, `HashMap::insert`.
 #[unsafe(no_mangle)]
 pub extern "C" fn bucket_text_map_insert(
     alloc: Global,
@@ -59,7 +59,7 @@ pub extern "C" fn bucket_text_map_insert(
 /// one.
 ///
 /// Returns `OK` if the key was absent, `PRESENT` if it was there; `NO_MEMORY` if allocation fails,
-/// and all stays. O(1) expected. `HashMap::entry_ref`.
+/// and all stays. O(1) expected. `HashMap::get_mut`, `HashMap::insert`.
 #[unsafe(no_mangle)]
 pub extern "C" fn bucket_text_map_upsert(
     alloc: Global,
@@ -123,7 +123,7 @@ pub extern "C" fn bucket_text_map_remove(
 /// out the sum.
 ///
 /// Returns `OK` if the key was absent, `PRESENT` if it was there; `NO_MEMORY` if allocation fails,
-/// and all stays. O(1) expected. `HashMap::entry_ref`.
+/// and all stays. O(1) expected. `HashMap::get_mut`, `HashMap::insert`.
 #[unsafe(no_mangle)]
 pub extern "C" fn bucket_text_map_add(
     alloc: Global,
@@ -141,7 +141,7 @@ pub extern "C" fn bucket_text_map_add(
 /// Inserts a pair whose key the map hasn't, and writes out the value that is there then.
 ///
 /// Returns `OK`; `PRESENT` if the key was there; `NO_MEMORY` if allocation fails, and all stays.
-/// O(1) expected. `HashMap::entry_ref`.
+/// O(1) expected. `HashMap::get`, `HashMap::insert`.
 #[unsafe(no_mangle)]
 pub extern "C" fn bucket_text_map_get_or_insert(
     alloc: Global,
