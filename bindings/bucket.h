@@ -135,6 +135,22 @@ BUCKET_MUST_USE uint32_t bucket_reserve(bucket_handle *handle, size_t additional
 /* Leaves as few slots as the pairs take. OK; NO_MEMORY, unless there is no pair or they are as few already. CLOSED, OTHER_KIND. O(n). */
 BUCKET_MUST_USE uint32_t bucket_shrink(bucket_handle *handle);
 
+/* Copies the pairs of one bucket to `out`, those after its first `start`, as many as there is room for, and `count` is how many. The
+ * buckets have the numbers from 0 on; one after the other they have each pair once, as long as no call changes the collection
+ * (bucket_cache_get does). A key that is a byte string is told as 0, and a set's values are 0. OK; ABSENT: past the last bucket, `count`
+ * is 0. CLOSED, OTHER_KIND: a text set, a store. O(pairs of the bucket). */
+BUCKET_MUST_USE uint32_t bucket_pairs_in(const bucket_handle *handle, size_t bucket, size_t start, bucket_pair *out, size_t room,
+                                         size_t *count);
+
+/* A place in all pairs, to go on reading from: bucket_read and bucket_values, at the end of this header, move it. It begins as
+ * BUCKET_START, and means nothing once a call has changed the collection; to use it then does no harm. */
+typedef struct bucket_place {
+    size_t bucket;
+    size_t pair;
+} bucket_place;
+
+#define BUCKET_START {0, 0}
+
 /* Copies pairs of a map or a cache to `out`, as many as there is room for, and `count` is how many: those after the first `start`,
  * in an order that stays until a call changes the collection (bucket_cache_get does). So a loop that adds each count to `start`
  * gets each pair once. OK, CLOSED, OTHER_KIND: its keys are texts. O(n). */
@@ -281,6 +297,13 @@ BUCKET_INLINE const uint8_t *bucket_guarded_key(const uint8_t *key, size_t len) 
     static const uint8_t none = 0;
     return len > 0 ? key : &none;
 }
+
+BUCKET_MUST_USE BUCKET_INLINE uint32_t bucket_guarded_pairs_in(const bucket_handle *handle, size_t bucket, size_t start,
+                                                               bucket_pair *out, size_t room, size_t *count) {
+    bucket_pair none = {0, 0};
+    return bucket_pairs_in(handle, bucket, start, room > 0 ? out : &none, room, count);
+}
+#define bucket_pairs_in bucket_guarded_pairs_in
 
 BUCKET_MUST_USE BUCKET_INLINE uint32_t bucket_guarded_pairs(const bucket_handle *handle, size_t start, bucket_pair *out,
                                                             size_t room, size_t *count) {
@@ -431,6 +454,68 @@ BUCKET_MUST_USE BUCKET_INLINE uint32_t bucket_guarded_text_cache_remove(bucket_h
     return bucket_text_cache_remove(handle, bucket_guarded_key(key, len), len, value);
 }
 #define bucket_text_cache_remove bucket_guarded_text_cache_remove
+
+/* ---- Readings of all pairs ---- */
+
+/* bucket_read(handle, place, out, room, count) copies pairs from a place on, as bucket_pairs_in does of one bucket, as many as there is
+ * room for, moves the place behind them, and `count` is how many. OK; ABSENT: none is left, `count` is 0. CLOSED, OTHER_KIND. One call
+ * O(its pairs, and the empty buckets between them), all of a reading O(n). */
+BUCKET_MUST_USE BUCKET_INLINE uint32_t bucket_guarded_read(const bucket_handle *handle, bucket_place *place, bucket_pair *out,
+                                                           size_t room, size_t *count) {
+    size_t read = 0;
+    uint32_t code;
+    do {
+        size_t more = 0;
+        code = bucket_pairs_in(handle, place->bucket, place->pair, room > 0 ? out + read : out, room - read, &more);
+        if (code != BUCKET_OK) {
+            break;
+        }
+        read += more;
+        if (read < room) {
+            place->bucket++;
+            place->pair = 0;
+        } else {
+            place->pair += more;
+        }
+    } while (read < room);
+    if (code == BUCKET_OK || code == BUCKET_ABSENT) {
+        *count = read;
+    }
+    return code == BUCKET_ABSENT && read > 0 ? (uint32_t)BUCKET_OK : code;
+}
+#define bucket_read bucket_guarded_read
+
+/* bucket_values(handle, place, out, room, count) does the same with the values alone. */
+BUCKET_MUST_USE BUCKET_INLINE uint32_t bucket_guarded_values(const bucket_handle *handle, bucket_place *place, uint64_t *out,
+                                                             size_t room, size_t *count) {
+    bucket_pair pairs[32];
+    size_t read = 0;
+    size_t more;
+    size_t piece;
+    do {
+        size_t at;
+        uint32_t code;
+        piece = room - read < 32 ? room - read : 32;
+        more = 0;
+        code = bucket_read(handle, place, pairs, piece, &more);
+        if (code == BUCKET_ABSENT && read > 0) {
+            break;
+        }
+        if (code != BUCKET_OK) {
+            if (code == BUCKET_ABSENT) {
+                *count = 0;
+            }
+            return code;
+        }
+        for (at = 0; at < more; at++) {
+            out[read + at] = pairs[at].value;
+        }
+        read += more;
+    } while (more == piece && read < room);
+    *count = read;
+    return BUCKET_OK;
+}
+#define bucket_values bucket_guarded_values
 
 #ifdef __cplusplus
 }

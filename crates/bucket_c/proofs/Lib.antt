@@ -1,6 +1,7 @@
 mod Copied
 mod Crosses
 mod CopiedTexts
+mod InBucket
 mod Holding
 mod KeysCalled
 mod Lent

@@ -12,5 +12,6 @@ pub mod Opening
 pub mod Copying
 pub mod Steps
 pub mod Any
+pub mod Buckets
 pub mod Pieces
 pub mod Sizing

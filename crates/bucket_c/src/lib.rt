@@ -42,6 +42,7 @@ macro_rules! on_shared {
 }
 
 mod any;
+mod buckets;
 mod bytes;
 mod cache;
 mod caches;

@@ -1,7 +1,9 @@
 //! Exports that copy pairs out, from one place of their order on.
 ghost use Rattle.std.specs.Prelude.{◌≡◌};
+ghost use Rattle.bucket_c.specs.Buckets.{CopiesBucketOf};
 ghost use Rattle.bucket_c.specs.Pieces.{CopiesTextsOf, CopiesWordsOf};
 
+use crate::buckets;
 use crate::codes::{CLOSED, OK, OTHER_KIND};
 use crate::copying;
 use crate::copying::{Pair, TextPair};
@@ -72,6 +74,36 @@ pub extern "C" fn bucket_texts(
             *count = copying::copy_text_cache(cache, start, rows, bytes);
             OK
         }
+        _ => OTHER_KIND,
+    }
+}
+
+/// Copies the pairs of one bucket, from one on, as many as there is room for, and writes out how
+/// many. A key that is a byte string is told as 0, and a set's keys are beside 0.
+///
+/// Returns `OK`; `ABSENT` past the last bucket; `CLOSED`; `OTHER_KIND` of a set of byte strings and
+/// of a store. O(pairs of the bucket). `HashMap::for_each_in`.
+#[unsafe(no_mangle)]
+pub extern "C" fn bucket_pairs_in(
+    handle: &mut Handle,
+    bucket: usize,
+    start: usize,
+    out: &mut [Pair],
+    count: &mut usize,
+) -> u32
+    ensures copied { CopiesBucketOf bucket start handle.old.held.table out.old count.old result
+        out.new count.new }
+    ensures same { handle.new ≡ handle.old }
+{
+    if !handle.live {
+        return CLOSED;
+    }
+    match &*handle.held.table() {
+        Table::Map(map) => buckets::copy_map(map, bucket, start, out, count),
+        Table::TextMap(map) => buckets::copy_text_map(map, bucket, start, out, count),
+        Table::Set(set) => buckets::copy_set(set, bucket, start, out, count),
+        Table::Cache(cache) => buckets::copy_cache(cache, bucket, start, out, count),
+        Table::TextCache(cache) => buckets::copy_text_cache(cache, bucket, start, out, count),
         _ => OTHER_KIND,
     }
 }
