@@ -647,7 +647,7 @@ template <class K> class word_iterator {
   private:
     void refill() noexcept {
         at_ = count_ = 0;
-        if (bucket_pairs(in_, &place_, pairs_, room, &count_) != BUCKET_OK) {
+        if (bucket_read(in_, &place_, pairs_, room, &count_) != BUCKET_OK) {
             count_ = 0;
         }
     }

@@ -17,12 +17,20 @@ pub(crate) struct Handle {
     live: bool,
 }
 
-/// A `bucket_place`: where a reading of all values stands.
+/// A `bucket_place`: where a reading of all pairs stands.
 #[repr(C)]
 #[derive(Clone)]
 pub(crate) struct Place {
     bucket: usize,
     pair: usize,
+}
+
+/// A `bucket_pair`; the key is 0 where it is a byte string.
+#[repr(C)]
+#[derive(Clone, Copy)]
+pub(crate) struct Pair {
+    pub(crate) key: u64,
+    pub(crate) value: u64,
 }
 
 // SAFETY: it is proved that a handle may go to another thread, by `handles_cross` in
@@ -36,8 +44,34 @@ impl Handle {
     pub(crate) const CLOSED: Handle = Handle { held: null_mut(), live: false };
 }
 
+impl Pair {
+    pub(crate) const NONE: Pair = Pair { key: 0, value: 0 };
+}
+
 impl Place {
     pub(crate) const START: Place = Place { bucket: 0, pair: 0 };
+
+    /// Reads pairs from this place on into a buffer, moves the place behind them, and returns how many they are:
+    /// as many as there is room for, or all that are left. It is `bucket_read` of the header.
+    pub(crate) fn read(&mut self, handle: &Handle, out: &mut [Pair]) -> usize {
+        let mut read = 0;
+        while read < out.len() {
+            let rest = &mut out[read..];
+            let mut more = 0;
+            // SAFETY: the handle is no other call's meanwhile, and the room is that of the rest.
+            let code = unsafe { bucket_pairs_in(handle, self.bucket, self.pair, rest.as_mut_ptr(), rest.len(), &mut more) };
+            if code != OK {
+                break;
+            }
+            if more < rest.len() {
+                *self = Place { bucket: self.bucket + 1, pair: 0 };
+            } else {
+                self.pair += more;
+            }
+            read += more;
+        }
+        read
+    }
 }
 
 impl Drop for Handle {
@@ -54,7 +88,14 @@ unsafe extern "C" {
     pub(crate) fn bucket_capacity(handle: *const Handle) -> usize;
     pub(crate) fn bucket_reserve(handle: *mut Handle, additional: usize) -> u32;
     pub(crate) fn bucket_shrink(handle: *mut Handle) -> u32;
-    pub(crate) fn bucket_values(handle: *const Handle, place: *mut Place, out: *mut u64, room: usize, count: *mut usize) -> u32;
+    fn bucket_pairs_in(
+        handle: *const Handle,
+        bucket: usize,
+        start: usize,
+        out: *mut Pair,
+        room: usize,
+        count: *mut usize,
+    ) -> u32;
 
     pub(crate) fn bucket_map_new(handle: *mut Handle, capacity: usize, seed: Seed) -> u32;
     pub(crate) fn bucket_map_get(handle: *const Handle, key: u64, value: *mut u64) -> u32;

@@ -1,6 +1,6 @@
 //! The nodes that pairs stand in, and the reading of all of them.
 
-use crate::ffi::{bucket_values, Handle, Place, OK};
+use crate::ffi::{Handle, Pair, Place};
 use std::alloc::{alloc, Layout};
 use std::marker::PhantomData;
 use std::mem::replace;
@@ -93,7 +93,7 @@ impl<K, V> List<K, V> {
     }
 }
 
-/// How many addresses are read at a time.
+/// How many pairs are read at a time; their values are the addresses.
 const PIECE: usize = 64;
 
 /// A reading of the addresses of all nodes of a table that nobody changes. It takes no memory. All of it
@@ -101,7 +101,7 @@ const PIECE: usize = 64;
 #[derive(Clone)]
 pub(crate) struct Walk {
     place: Place,
-    piece: [u64; PIECE],
+    piece: [Pair; PIECE],
     /// Where the addresses that are left stand in the piece.
     next: usize,
     end: usize,
@@ -109,7 +109,7 @@ pub(crate) struct Walk {
 
 impl Walk {
     pub const fn new() -> Walk {
-        Walk { place: Place::START, piece: [0; PIECE], next: 0, end: 0 }
+        Walk { place: Place::START, piece: [Pair::NONE; PIECE], next: 0, end: 0 }
     }
 
     /// The next address. The handle is the same at each call, and the table unchanged.
@@ -118,17 +118,14 @@ impl Walk {
         if self.next == self.end {
             self.read(handle);
         }
-        let address = *self.piece[..self.end].get(self.next)?;
+        let address = self.piece[..self.end].get(self.next)?.value;
         self.next += 1;
         Some(address)
     }
 
     fn read(&mut self, handle: &Handle) {
-        let mut count = 0;
-        // SAFETY: as in `kind`; the room is the piece's.
-        let code = unsafe { bucket_values(handle, &mut self.place, self.piece.as_mut_ptr(), PIECE, &mut count) };
         self.next = 0;
-        self.end = if code == OK { count } else { 0 };
+        self.end = self.place.read(handle, &mut self.piece);
     }
 }
 

@@ -8,7 +8,7 @@ use std::path::{Path, PathBuf};
 type Call = (Vec<String>, String);
 
 /// The types of C, and what Rust has for each.
-const TYPES: [(&str, &str); 14] = [
+const TYPES: [(&str, &str); 15] = [
     ("void", ""),
     ("bool", "bool"),
     ("void *", "*mut u8"),
@@ -22,6 +22,7 @@ const TYPES: [(&str, &str); 14] = [
     ("bucket_handle *", "*mut Handle"),
     ("const bucket_handle *", "*const Handle"),
     ("bucket_place *", "*mut Place"),
+    ("bucket_pair *", "*mut Pair"),
     ("bucket_seed", "Seed"),
 ];
 
@@ -136,6 +137,7 @@ fn each_structure_has_the_headers_fields() {
     for (c, file, rust) in [
         ("bucket_handle", "ffi.rs", "Handle"),
         ("bucket_place", "ffi.rs", "Place"),
+        ("bucket_pair", "ffi.rs", "Pair"),
         ("bucket_seed", "seed.rs", "Seed"),
     ] {
         let fields = c_fields(&header, c);
