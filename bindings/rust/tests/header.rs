@@ -128,7 +128,7 @@ fn rust_fields(source: &str, name: &str) -> Vec<(String, String)> {
     assert!(before.rfind("#[repr(C)]") > before.rfind('}'), "{name} has C's layout");
     let body = body.split_once('}').unwrap().0;
     let fields = body.split(',').filter_map(|field| field.trim().split_once(": "));
-    fields.map(|(name, kind)| (name.trim_start_matches("pub ").to_string(), kind.to_string())).collect()
+    fields.map(|(name, kind)| (name.trim_start_matches("pub(crate) ").trim_start_matches("pub ").to_string(), kind.to_string())).collect()
 }
 
 #[test]
