@@ -18,6 +18,6 @@ pub bucket_copied : (bucket start : ℕ) (lens : List ℕ) (pairs : List (ℕ ×
     → (IsTrue there ↔ bucket < length lens) → CopiesPairs start pairs old count new
     → CopiesBucket bucket start lens pairs old (cond there ok absent) new count
 bucket_copied bucket start lens pairs old new count true is copied =
-    record { there = λ _. refl; past = λ past. absurd (omega (arith, past, is.0 tt)); copied = copied }
+    record { there = λ _. refl; past = λ past. absurd (omega (arith, past, is.0 refl)); copied = copied }
 bucket_copied bucket start lens pairs old new count false is copied =
     record { there = λ less. let never : IsTrue false = is.1 less in absurd cc; past = λ _. refl; copied = copied }

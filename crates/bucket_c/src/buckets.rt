@@ -45,14 +45,14 @@ pub fn copy_map(
 
 /// The same of a map whose keys are byte strings, each of which is told as 0.
 pub fn copy_text_map(
-    map: &HashMap<Vec<u8>, u64, SeededHash>,
+    table: &HashMap<Vec<u8>, u64, SeededHash>,
     bucket: usize,
     start: usize,
     out: &mut [Pair],
     count: &mut usize,
 ) -> u32
-    ensures { CopiesBucket bucket start map.now.bucket_lens
-        (map value_alone (pairs_in_bucket map.now bucket)) out.old result out.new count.new }
+    ensures { CopiesBucket bucket start table.now.bucket_lens
+        (map value_alone (pairs_in_bucket table.now bucket)) out.old result out.new count.new }
 {
     let mut skip = start;
     let mut copied = 0;
@@ -60,7 +60,7 @@ pub fn copy_text_map(
         ensures { (skip.exit, copied.exit, out.exit.now)
             ≡ next_copied (skip.entry, copied.entry, out.entry.now) (0, value.now) }
     { copy_next(&mut skip, &mut copied, out, 0, *value) };
-    let there = map.for_each_in(bucket, &mut visit);
+    let there = table.for_each_in(bucket, &mut visit);
     *count = copied;
     code_of(there)
 }

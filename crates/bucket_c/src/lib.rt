@@ -1,5 +1,5 @@
-//! Maps, a set and caches of the library `collections` for C: a handle that C carries, and a code
-//! for each answer.
+//! Maps, sets, a store and caches of the library `collections` for C: a handle that C carries, and a
+//! code for each answer.
 //!
 //! A call that changes the table takes it out of its handle, makes one call of the library, and
 //! puts it back; one that reads is lent the table where it lies. A call requires nothing of its

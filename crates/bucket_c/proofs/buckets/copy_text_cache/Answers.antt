@@ -16,5 +16,5 @@ returns c =
     let all = pairs_copied c.args.start c.args.out.now (map value_alone pairs) _ (folds-map next_copied value_alone _ pairs _ went.1) in
     let count = c.copied-2-1.given.1 (λ i. (sym went.0 i).1) in
     let out = c.out-1.given.1.1 (λ i. (sym went.0 i).2) in
-    let copied = record { asked = all.asked; are = all.are; count_is = count ∙ all.count_is; written = out ∙ all.written } in
-    rw c.code_of.ensures (bucket_copied _ _ _ _ _ _ _ _ c.for_each_in-there.ensures.there copied)
+    rw c.code_of.ensures (bucket_copied _ _ _ _ _ _ _ _ c.for_each_in-there.ensures.there
+    (record { asked = all.asked; are = all.are; count_is = count ∙ all.count_is; written = out ∙ all.written }))

@@ -6,9 +6,9 @@ use Rattle.bucket_c.specs.Texts.{UpsertsTextInto}
 use Rattle.bucket_c.proofs.Lent.{touches_lent}
 use Rattle.bucket_c.proofs.texts.upsert.Goals as goal
 
-pub returns-in-Some : goal.returns-in-Some
+pub returns-then-contains : goal.returns-then-contains
 unfolding UpsertsTextInto
-returns-in-Some c =
+returns-then-contains c =
     let old = c.args.cache.now in
     let wants = has_bytes c.args.key.now in
     let lent = c.get_mut.follows in
