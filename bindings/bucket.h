@@ -507,7 +507,7 @@ BUCKET_MUST_USE BUCKET_INLINE uint32_t bucket_guarded_values(const bucket_handle
             }
             return code;
         }
-        for (at = 0; at < more; at++) {
+        for (at = 0; at < more && at < piece; at++) {
             out[read + at] = pairs[at].value;
         }
         read += more;

@@ -30,6 +30,9 @@ is_clean() {
         2>"$folder/log" || fail "the header doesn't compile by $2"
 }
 
+# The calls that answer no code.
+no_code='bucket_free\|bucket_len\|bucket_capacity\|bucket_version'
+
 # A dropped code warns, at each of the calls that answer one; left out where the compiler has no such warning.
 warns() {
     echo '__attribute__((warn_unused_result)) int call(void); void drop(void); void drop(void) { call(); }' >"$folder/known.c"
@@ -40,14 +43,14 @@ warns() {
     "$1" "-std=$2" "-I$bindings" -x "$3" -c "$sources/dropped.c" -o "$folder/dropped" -Werror=unused-result 2>"$folder/log" &&
         fail "a dropped code compiles by $2"
     "$1" "-std=$2" "-I$bindings" -x "$3" -c "$sources/dropped.c" -o "$folder/dropped" 2>"$folder/log"
-    # All calls but two answer a code.
-    [ "$(grep -c 'unused-result\]' "$folder/log")" = "$(grep -vcx 'bucket_free\|bucket_len' "$folder/declared")" ] ||
+    [ "$(grep -c 'unused-result\]' "$folder/log")" = "$(grep -vcx "$no_code" "$folder/named")" ] ||
         fail "not each dropped code warns by $2"
 }
 
-# The header names what the library exports, and no more but its own guards.
+# The header names what the library exports, and no more but its own guards and two readings.
 nm -g --defined-only "$folder/libbucket.so" | sed -n 's/^.* T \(bucket_[a-z_]*\)$/\1/p' | sort >"$folder/exported"
-grep -o '\bbucket_[a-z_]*(' "$bindings/bucket.h" | tr -d '(' | grep -v '^bucket_guarded_' | sort -u >"$folder/declared"
+grep -o '\bbucket_[a-z_]*(' "$bindings/bucket.h" | tr -d '(' | grep -v '^bucket_guarded_' | sort -u >"$folder/named"
+grep -vx 'bucket_read\|bucket_values' "$folder/named" >"$folder/declared"
 diff "$folder/exported" "$folder/declared" >"$folder/log" || fail "exported (<) and declared (>) differ"
 echo "$(wc -l <"$folder/declared") calls exported and declared"
 
@@ -70,6 +73,8 @@ cc -std=c11 "${strict[@]}" -c "$sources/no_null.c" -o "$folder/no_null.o" 2>"$fo
 watched=("$folder/no_null.o" "$folder/libbucket.a" "${watches[@]}")
 cc -std=c11 "${strict[@]}" "$sources/calls.c" "${watched[@]}" -o "$folder/calls" 2>"$folder/log" || fail "no C links"
 run "$folder/calls"
+cc -std=c11 "${strict[@]}" "$sources/more_calls.c" "${watched[@]}" -o "$folder/more_calls" 2>"$folder/log" || fail "no C links"
+run "$folder/more_calls"
 wraps=-Wl,--wrap=malloc,--wrap=realloc,--wrap=free
 cc -std=c11 "${strict[@]}" "$sources/refused.c" "$folder/libbucket.a" "$wraps" -o "$folder/refused" 2>"$folder/log" ||
     fail "no C links"
@@ -85,11 +90,16 @@ if is_there c++ "C++"; then
     c++ -std=c++11 "${strict[@]}" -x c++ "$sources/calls.c" -x none "${watched[@]}" -o "$folder/calls++" \
         2>"$folder/log" || fail "no C++ links"
     run "$folder/calls++"
+    c++ -std=c++11 "${strict[@]}" -x c++ "$sources/more_calls.c" -x none "${watched[@]}" -o "$folder/more_calls++" \
+        2>"$folder/log" || fail "no C++ links"
+    run "$folder/more_calls++"
 fi
 
 if is_there valgrind "the memory of C"; then
-    valgrind -q --error-exitcode=9 --leak-check=full "$folder/calls" >"$folder/output" 2>"$folder/log" ||
-        fail "valgrind finds an error or a leak"
+    for calls in calls more_calls; do
+        valgrind -q --error-exitcode=9 --leak-check=full "$folder/$calls" >"$folder/output" 2>"$folder/log" ||
+            fail "valgrind finds an error or a leak"
+    done
     echo "valgrind finds no error and no leak"
 fi
 
