@@ -29,7 +29,7 @@ lies R s (block_ptr b o) x = part_keyless R s full_share x b o
 lies R s null_ptr x = tt
 
 Table-send : IsSend table.the_row
-Table-send = search (HashMap-send, HashSet-send, HashCache-send, hash.the_send, beginning.the_send, hasher.the_send, crosses, sendable) depth 60
+Table-send = search (HashMap-send, HashSet-send, HashCache-send, hash.the_send, beginning.the_send, hasher.the_send, crosses, sendable) depth 30
 
 owned-Keyless : (alloc : Global) (at : Ptr) (held : Option table.the_row.Denot) → Keyless (owned alloc at held)
 owned-Keyless alloc at None = tt

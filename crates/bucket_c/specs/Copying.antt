@@ -6,7 +6,7 @@ use Rattle.bucket_c.specs.Tables.{Text}
 use Rattle.bucket_c.specs.declared.copying.Pair.{Pair}
 use Rattle.bucket_c.specs.declared.copying.TextPair.{TextPair}
 use Rattle.bucket_c.specs.declared.tables.Table.{Table}
-use Rattle.bucket_c.specs.declared.tables.Table.TheVariants.{Map, TextMap, Set, TextSet, Store, Cache, TextCache}
+use Rattle.bucket_c.specs.declared.tables.Table.TheVariants.{Map, TextMap, TextSet, Cache, TextCache}
 
 -- a buffer whose front is written over
 abbrev pub with_front : {A : Type 0} → List A → List A → List A
@@ -16,18 +16,14 @@ with_front front buffer = front ++ drop (length front) buffer
 abbrev pub word_pairs : Table → Option (List (ℕ × ℕ))
 word_pairs (Map map) = Some map.entries
 word_pairs (TextMap map) = None
-word_pairs (Set set) = None
 word_pairs (TextSet set) = None
-word_pairs (Store map) = None
 word_pairs (Cache cache) = Some (pairs_of cache.arrays)
 word_pairs (TextCache cache) = None
 
 abbrev pub text_pairs : Table → Option (List (Text × ℕ))
 text_pairs (Map map) = None
 text_pairs (TextMap map) = Some map.entries
-text_pairs (Set set) = None
 text_pairs (TextSet set) = Some (map (λ key. (key, 0)) (keys_of set.entries))
-text_pairs (Store map) = None
 text_pairs (Cache cache) = None
 text_pairs (TextCache cache) = Some (pairs_of cache.arrays)
 

@@ -28,7 +28,7 @@ pub struct TextPair {
 
 /// Copies a pair to the next place, where none is to be passed over first and there is room.
 #[inline(always)]
-pub fn copy_next(skip: &mut usize, count: &mut usize, out: &mut [Pair], key: u64, value: u64)
+fn copy_next(skip: &mut usize, count: &mut usize, out: &mut [Pair], key: u64, value: u64)
     ensures { (skip.new, count.new, out.new) ≡ next_copied (skip.old, count.old, out.old) (
       key,
       value,

@@ -1,14 +1,13 @@
 //! Exports that copy pairs out, from one place of their order on.
 ghost use Rattle.std.specs.Prelude.{◌≡◌};
-ghost use Rattle.bucket_c.specs.Buckets.{CopiesBucketOf};
 ghost use Rattle.bucket_c.specs.Pieces.{CopiesTextsOf, CopiesWordsOf};
 
-use crate::buckets;
 use crate::codes::{CLOSED, OK, OTHER_KIND};
 use crate::copying;
 use crate::copying::{Pair, TextPair};
 use crate::handle::Handle;
 use crate::tables::Table;
+use std::alloc::Global;
 
 /// Copies pairs of a map or a cache of words, from one on, as many as there is room for, and writes
 /// out how many.
@@ -16,6 +15,7 @@ use crate::tables::Table;
 /// Returns `OK`, `CLOSED`, `OTHER_KIND`. O(slots). `HashMap::for_each`.
 #[unsafe(no_mangle)]
 pub extern "C" fn bucket_pairs(
+    alloc: Global,
     handle: &mut Handle,
     start: usize,
     out: &mut [Pair],
@@ -23,12 +23,12 @@ pub extern "C" fn bucket_pairs(
 ) -> u32
     ensures copied { CopiesWordsOf start handle.old.held.table out.old count.old result out.new
         count.new }
-    ensures same { handle.new ≡ handle.old }
+    ensures same { handle.new.held.table ≡ handle.old.held.table }
 {
-    if !handle.live {
+    let Some(table) = handle.take(alloc) else {
         return CLOSED;
-    }
-    match &*handle.held.table() {
+    };
+    let code = match &*table {
         Table::Map(map) => {
             *count = copying::copy_map(map, start, out);
             OK
@@ -38,7 +38,9 @@ pub extern "C" fn bucket_pairs(
             OK
         }
         _ => OTHER_KIND,
-    }
+    };
+    handle.put(table);
+    code
 }
 
 /// Copies pairs under byte strings, from one on, as many as fit: the lengths of their keys and
@@ -47,6 +49,7 @@ pub extern "C" fn bucket_pairs(
 /// Returns `OK`, `CLOSED`, `OTHER_KIND`. O(slots). `HashMap::for_each`.
 #[unsafe(no_mangle)]
 pub extern "C" fn bucket_texts(
+    alloc: Global,
     handle: &mut Handle,
     start: usize,
     rows: &mut [TextPair],
@@ -56,12 +59,12 @@ pub extern "C" fn bucket_texts(
     ensures copied { CopiesTextsOf start handle.old.held.table rows.old bytes.old count.old
         result rows.new
         bytes.new count.new }
-    ensures same { handle.new ≡ handle.old }
+    ensures same { handle.new.held.table ≡ handle.old.held.table }
 {
-    if !handle.live {
+    let Some(table) = handle.take(alloc) else {
         return CLOSED;
-    }
-    match &*handle.held.table() {
+    };
+    let code = match &*table {
         Table::TextMap(map) => {
             *count = copying::copy_text_map(map, start, rows, bytes);
             OK
@@ -75,35 +78,7 @@ pub extern "C" fn bucket_texts(
             OK
         }
         _ => OTHER_KIND,
-    }
-}
-
-/// Copies the pairs of one bucket, from one on, as many as there is room for, and writes out how
-/// many. A key that is a byte string is told as 0, and a set's keys are beside 0.
-///
-/// Returns `OK`; `ABSENT` past the last bucket; `CLOSED`; `OTHER_KIND` of a set of byte strings and
-/// of a store. O(pairs of the bucket). `HashMap::for_each_in`.
-#[unsafe(no_mangle)]
-pub extern "C" fn bucket_pairs_in(
-    handle: &mut Handle,
-    bucket: usize,
-    start: usize,
-    out: &mut [Pair],
-    count: &mut usize,
-) -> u32
-    ensures copied { CopiesBucketOf bucket start handle.old.held.table out.old count.old result
-        out.new count.new }
-    ensures same { handle.new ≡ handle.old }
-{
-    if !handle.live {
-        return CLOSED;
-    }
-    match &*handle.held.table() {
-        Table::Map(map) => buckets::copy_map(map, bucket, start, out, count),
-        Table::TextMap(map) => buckets::copy_text_map(map, bucket, start, out, count),
-        Table::Set(set) => buckets::copy_set(set, bucket, start, out, count),
-        Table::Cache(cache) => buckets::copy_cache(cache, bucket, start, out, count),
-        Table::TextCache(cache) => buckets::copy_text_cache(cache, bucket, start, out, count),
-        _ => OTHER_KIND,
-    }
+    };
+    handle.put(table);
+    code
 }
