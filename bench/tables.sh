@@ -136,7 +136,7 @@ awk -v maps="$maps" '
             line(sizes[s], "fill", "  put, the first half, ns", 1)
             line(sizes[s], "touch", "  get, present, ns", 1)
             line(sizes[s], "absent", "  get, absent, ns", 1)
-            line(sizes[s], "evict", "  put, mostly with an eviction, ns", 1)
+            line(sizes[s], "evict", "  put, mostly evicting, ns", 1)
         }
     }' "$folder/figures"
 

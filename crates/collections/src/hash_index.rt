@@ -154,13 +154,10 @@ impl<K: Eq, V, H: KeyHash<K>> HashIndex<K, V, H> {
         self.table.for_each(f);
     }
 
-    /// Calls a function with each pair of one bucket once, in the order of the view, and with no
-    /// tombstone's, and returns whether there is such a bucket. The buckets count from those of the
-    /// slots on, then those of the old slots: one after the other they have the pairs of `for_each`,
-    /// as long as no call changes the index in between.
+    /// Calls a function with each pair of one bucket and with no tombstone, and returns whether
+    /// there is such a bucket, as `HashMap::for_each_in`.
     ///
-    /// Moves nothing, and takes no memory. O(32, and the square of the number of blocks of the
-    /// bucket's chain), and the function's calls. Own.
+    /// Moves nothing, and takes no memory. O(1) expected, and the function's calls. Own.
     pub fn for_each_in<F: FnMut(&K, &V)>(&self, bucket: usize, f: &mut F) -> bool
         requires callable { F.IsAlwaysCallable f.old }
         ensures again { F.IsAlwaysCallable f.new }

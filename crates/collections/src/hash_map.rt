@@ -160,13 +160,11 @@ impl<K: Eq, V, H: KeyHash<K>> HashMap<K, V, H> {
         self.table.for_each(f);
     }
 
-    /// Calls a function with each pair of one bucket once, in the order of the view, and returns
-    /// whether there is such a bucket. The buckets count from those of the slots on, then those of
-    /// the old slots: one after the other they have the pairs of `for_each`, as long as no call
-    /// changes the map in between.
+    /// Calls a function with each pair of one bucket, in the order of the view, and returns whether
+    /// there is such a bucket. The buckets of the slots count first, then those of the old slots:
+    /// together they have the pairs of `for_each`, until a call changes the map.
     ///
-    /// Moves nothing, and takes no memory. O(32, and the square of the number of blocks of the
-    /// bucket's chain), and the function's calls. Own.
+    /// Moves nothing, and takes no memory. O(1) expected, and the function's calls. Own.
     #[inline(always)]
     pub fn for_each_in<F: FnMut(&K, &V)>(&self, bucket: usize, f: &mut F) -> bool
         requires callable { F.IsAlwaysCallable f.old }
@@ -190,8 +188,7 @@ impl<K: Eq, V, H: KeyHash<K>> HashMap<K, V, H> {
         self.table.num_slots()
     }
 
-    /// Returns the value under a key, or under the keys that a form stands for; `None` if the map
-    /// hasn't the key.
+    /// Returns the value under a key, or under the keys that a form stands for; `None` if absent.
     ///
     /// Moves nothing, and takes no memory. O(1) expected. scc: `HashMap::peek_with`.
     #[inline(always)]
