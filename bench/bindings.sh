@@ -1,27 +1,47 @@
 #!/usr/bin/env bash
-# What calls of bindings/ take with a million pairs: from Rust beside std's map, hashed by SipHash and
-# by a folded multiplication, and from C++ beside unordered_map. Prints the least of some rounds, in
-# nanoseconds, and asserts nothing: times depend on the machine.
+# What calls of bindings/ take with a million pairs: from C beside unordered_map and, where it is there,
+# GLib's GHashTable; from C++ beside that map and, where they are there, tsl::robin_map and
+# absl::flat_hash_map; from Rust beside std's map, hashed by SipHash and by a folded multiplication; from
+# Python beside dict, set and lru_cache. Prints the processor, its load, and the least of some rounds, in
+# nanoseconds. It asserts nothing: times depend on the machine.
 #
 # usage: bench/bindings.sh [ROUNDS]
 #
-# Needs rt and ar, for the library; cargo for Rust's times, and c++ for C++'s.
+# Needs rt and binutils, for the library. A language whose compiler (c++, cargo) or headers (python3-dev)
+# aren't there is left out.
 set -u
 
-root=$(dirname -- "$(readlink -f -- "${BASH_SOURCE[0]}")")/..
+bindings=$(dirname -- "$(readlink -f -- "${BASH_SOURCE[0]}")")/../bindings
 rounds=${1:-3}
 folder=$(mktemp -d) || exit 1
 trap 'rm -rf "$folder"' EXIT
 
-"$root/bindings/build" "$folder" || exit 1
+"$bindings/build" "$folder" || exit 1
+export BUCKET_LIB_DIR=$folder BUCKET_INCLUDE=$bindings CARGO_TARGET_DIR=$folder/target
+echo "$(sed -n 's/^model name[^:]*: //p' /proc/cpuinfo | head -n 1), load $(cut -d ' ' -f 1 /proc/loadavg)"
 
-if command -v cargo >/dev/null; then
-    (cd "$root/bindings/rust" && BUCKET_LIB_DIR=$folder CARGO_TARGET_DIR=$folder/target \
-        cargo run --release --offline --quiet --example times "$rounds") || exit 1
-    rm -f "$root/bindings/rust/Cargo.lock"
+# The libraries behind absl's map, where pkg-config knows them.
+absl=()
+if pkg-config --exists absl_flat_hash_map 2>/dev/null; then
+    read -ra absl <<<"-DHAS_FLAT_HASH_MAP $(pkg-config --cflags --libs absl_flat_hash_map absl_hash)"
 fi
+
+glib=()
+if pkg-config --exists glib-2.0 2>/dev/null; then
+    read -ra glib <<<"-DHAS_GLIB $(pkg-config --cflags --libs glib-2.0)"
+fi
+
 if command -v c++ >/dev/null; then
-    c++ -std=c++11 -O2 "-I$root/bindings" "$root/bench/unordered_map.cpp" "$folder/libbucket.a" \
-        -o "$folder/unordered_map" || exit 1
-    "$folder/unordered_map" "$rounds" || exit 1
+    c++ -std=c++11 -O2 "-I$bindings" "$bindings/../bench/unordered_map.cpp" "$folder/libbucket.a" "${glib[@]}" -o "$folder/c" ||
+        exit 1
+    "$folder/c" "$rounds" || exit 1
+    c++ -std=c++17 -O2 "-I$bindings" "$bindings/cpp/times.cpp" "$folder/libbucket.a" "${absl[@]}" -o "$folder/c++" || exit 1
+    "$folder/c++" "$rounds" || exit 1
+fi
+if command -v cargo >/dev/null; then
+    (cd "$bindings/rust" && cargo run --release --offline --quiet --example times "$rounds") || exit 1
+    rm -f "$bindings/rust/Cargo.lock"
+fi
+if python3 "$bindings/python/build_wheel.py" --package "$folder/package" >"$folder/log" 2>&1; then
+    PYTHONPATH=$folder/package python3 "$bindings/python/times.py" "$rounds" || exit 1
 fi

@@ -1,5 +1,10 @@
-// Prints what calls take with a million pairs, in nanoseconds a call: of bindings/bucket.h, and of std::unordered_map.
+// Prints what calls take with a million pairs, in nanoseconds a call: of bindings/bucket.h, of std::unordered_map, and, where
+// HAS_GLIB is defined, of GHashTable, whose keys and values are pointers.
 #include "bucket.h"
+
+#ifdef HAS_GLIB
+#include <glib.h>
+#endif
 
 #include <chrono>
 #include <cstdio>
@@ -36,6 +41,18 @@ static std::vector<uint64_t> words(uint64_t seed) {
     return words;
 }
 
+#ifdef HAS_GLIB
+// GLib's hash of a pointer is its low half, which is as random as these keys.
+static void time_glib(const std::vector<uint64_t> &there, const std::vector<uint64_t> &others) {
+    GHashTable *map = g_hash_table_new(nullptr, nullptr);
+    add("GHashTable: 1 insert", there, [&](uint64_t key) { return g_hash_table_insert(map, GSIZE_TO_POINTER(key), GSIZE_TO_POINTER(key)); });
+    add("GHashTable: 2 hit", there, [&](uint64_t key) { return GPOINTER_TO_SIZE(g_hash_table_lookup(map, GSIZE_TO_POINTER(key))); });
+    add("GHashTable: 3 miss", others, [&](uint64_t key) { return g_hash_table_contains(map, GSIZE_TO_POINTER(key)); });
+    add("GHashTable: 4 remove", there, [&](uint64_t key) { return g_hash_table_remove(map, GSIZE_TO_POINTER(key)); });
+    g_hash_table_unref(map);
+}
+#endif
+
 int main(int argc, char **argv) {
     int rounds = argc > 1 ? std::atoi(argv[1]) : 3;
     std::vector<uint64_t> there = words(1), others = words(uint64_t(1) << 40);
@@ -55,9 +72,12 @@ int main(int argc, char **argv) {
         add("unordered_map: 2 hit", there, [&](uint64_t key) { return std_map.find(key)->second; });
         add("unordered_map: 3 miss", others, [&](uint64_t key) { return std_map.count(key); });
         add("unordered_map: 4 remove", there, [&](uint64_t key) { return std_map.erase(key); });
+#ifdef HAS_GLIB
+        time_glib(there, others);
+#endif
     }
     for (const auto &row : least) {
-        std::printf("C++, %-25s%8.1f ns a call\n", row.first.c_str(), row.second);
+        std::printf("C, %-25s%8.1f ns a call\n", row.first.c_str(), row.second);
     }
     return 0;
 }

@@ -1,4 +1,4 @@
-/* Hash maps, a set and caches for C and C++, proved to do what is said here. Link libbucket.a, or libbucket.so.
+/* Hash maps, sets, a store and caches for C and C++, proved to do what is said here. Link libbucket.a, or libbucket.so.
  *
  *     bucket_handle ages = BUCKET_HANDLE;
  *     uint64_t age;
@@ -12,7 +12,8 @@
  *     other pointer is null;
  *   - buffers, outputs and the handle don't overlap;
  *   - a handle begins as BUCKET_HANDLE, and C neither reads nor writes its fields, nor uses a copy beside the original;
- *   - one call at a time on a handle, in any thread: a lock, or a thread's start or join, orders the calls of two threads;
+ *   - one call at a time on a handle, also of those that take it by `const`, in any thread: a lock, or a thread's start or join,
+ *     orders the calls of two threads;
  *   - no call in a signal handler, or in the forked child of a process with threads;
  *   - `malloc` and `free` are of one allocator, whose blocks are aligned to 16, or to each lesser power of two that divides their size.
  * Else a call has no other condition: whatever was called before, it answers by a code.
@@ -37,6 +38,9 @@ _Static_assert(sizeof(size_t) == 8, "size_t has 64 bits");
 typedef char bucket_size_t_has_64_bits[sizeof(size_t) == 8 ? 1 : -1];
 #endif
 
+/* Behind that, since a compiler that has it for 64 bits alone ends here. */
+#include <stdlib.h>
+
 /* A code that a caller drops warns; before C23 and C++17, gcc also warns of a cast to void. */
 #if defined(__cplusplus) ? __cplusplus >= 201703L : defined(__STDC_VERSION__) && __STDC_VERSION__ >= 202000L
 #define BUCKET_MUST_USE [[nodiscard]]
@@ -58,16 +62,25 @@ typedef char bucket_size_t_has_64_bits[sizeof(size_t) == 8 ? 1 : -1];
 extern "C" {
 #endif
 
+#define BUCKET_VERSION_MAJOR 0
+#define BUCKET_VERSION_MINOR 2
+#define BUCKET_VERSION_PATCH 0
+#define BUCKET_VERSION (BUCKET_VERSION_MAJOR * 65536 + BUCKET_VERSION_MINOR * 256 + BUCKET_VERSION_PATCH)
+
+/* BUCKET_VERSION of the library that is linked. */
+uint32_t bucket_version(void);
+
 /* What a call answers. */
 enum bucket_code {
     BUCKET_OK = 0,
     BUCKET_ABSENT = 1,     /* the key is absent */
-    BUCKET_PRESENT = 2,    /* the key is there: not inserted; of an upsert: its value is another one now */
+    BUCKET_PRESENT = 2,    /* the key is there: not inserted; of an upsert or an addition: its value is another one now */
     BUCKET_NO_MEMORY = 3,  /* allocation failed; all pairs stay */
     BUCKET_CLOSED = 4,     /* the handle is closed */
     BUCKET_OPEN = 5,       /* a `new` of a handle that is open */
     BUCKET_OTHER_KIND = 6, /* the handle holds a collection of another kind */
-    BUCKET_EVICTED = 7     /* of a cache: done, and another pair went for this one */
+    BUCKET_EVICTED = 7,    /* of a cache: done, and another pair went for this one */
+    BUCKET_TOO_LONG = 8    /* of a store: the value is longer than the room; its front is written out */
 };
 
 typedef struct bucket_handle {
@@ -101,16 +114,20 @@ typedef struct bucket_pair {
 
 typedef struct bucket_text_pair {
     size_t len; /* of the key */
-    uint64_t value;
+    uint64_t value; /* 0 of a set, and of a store the value's length */
 } bucket_text_pair;
 
 /* ---- Of each kind ---- */
 
-/* Frees what the handle holds, and closes it; a closed one stays closed. O(n). */
+/* Frees what the handle holds, and closes it; a closed one stays closed. O(n). bucket_free_values, at the end of this header, also hands
+ * each value to a function. */
 void bucket_free(bucket_handle *handle);
 
 /* How many pairs or keys; 0 if closed. O(n / 32). */
-size_t bucket_len(bucket_handle *handle);
+size_t bucket_len(const bucket_handle *handle);
+
+/* How many slots the current array has; 0 if closed. O(1). */
+size_t bucket_capacity(const bucket_handle *handle);
 
 /* Drops all pairs and slots; the seed and the capacity stay. OK, CLOSED. O(n). */
 BUCKET_MUST_USE uint32_t bucket_clear(bucket_handle *handle);
@@ -122,16 +139,38 @@ BUCKET_MUST_USE uint32_t bucket_reserve(bucket_handle *handle, size_t additional
 /* Leaves as few slots as the pairs take. OK; NO_MEMORY, unless there is no pair or they are as few already. CLOSED, OTHER_KIND. O(n). */
 BUCKET_MUST_USE uint32_t bucket_shrink(bucket_handle *handle);
 
+/* Copies the pairs of one bucket to `out`, those after its first `start`, as many as there is room for, and `count` is how many. The
+ * buckets have the numbers from 0 on; one after the other they have each pair once, as long as no call changes the collection
+ * (bucket_cache_get does). A key or a value that is a byte string is told as 0, and a set's values are 0. OK; ABSENT: past the last
+ * bucket, `count` is 0. CLOSED. O(pairs of the bucket). */
+BUCKET_MUST_USE uint32_t bucket_pairs_in(const bucket_handle *handle, size_t bucket, size_t start, bucket_pair *out, size_t room,
+                                         size_t *count);
+
+/* The same of byte strings: `rows` gets the length of each key and its value, 0 of a set and the value's length of a store, and `bytes`
+ * the keys' bytes, one after another: as many pairs as fit in both. OK; ABSENT: past the last bucket, `count` is 0. CLOSED,
+ * OTHER_KIND: its keys are words. O(pairs of the bucket). */
+BUCKET_MUST_USE uint32_t bucket_texts_in(const bucket_handle *handle, size_t bucket, size_t start, bucket_text_pair *rows, size_t room,
+                                         uint8_t *bytes, size_t bytes_room, size_t *count);
+
+/* A place in all pairs, to go on reading from: bucket_read, bucket_values and bucket_read_texts, at the end of this header, move it. It
+ * begins as BUCKET_START, and means nothing once a call has changed the collection; to use it then does no harm. */
+typedef struct bucket_place {
+    size_t bucket;
+    size_t pair;
+} bucket_place;
+
+#define BUCKET_START {0, 0}
+
 /* Copies pairs of a map or a cache to `out`, as many as there is room for, and `count` is how many: those after the first `start`,
  * in an order that stays until a call changes the collection (bucket_cache_get does). So a loop that adds each count to `start`
- * gets each pair once. OK, CLOSED, OTHER_KIND: its keys are texts. O(n). */
-BUCKET_MUST_USE uint32_t bucket_pairs(bucket_handle *handle, size_t start, bucket_pair *out, size_t room, size_t *count);
+ * gets each pair once. OK, CLOSED, OTHER_KIND: a set, also one of words, or its keys are texts. O(n). */
+BUCKET_MUST_USE uint32_t bucket_pairs(const bucket_handle *handle, size_t start, bucket_pair *out, size_t room, size_t *count);
 
 /* The same of a text map, a text cache or a text set, whose values are 0. `rows` gets each key's length and its value, and `bytes`
  * the keys' bytes, one after another: as many pairs as fit in both. A `count` of 0 before the end: the next key is longer than
  * `bytes`. OK, CLOSED, OTHER_KIND. O(n). */
-BUCKET_MUST_USE uint32_t bucket_texts(bucket_handle *handle, size_t start, bucket_text_pair *rows, size_t room, uint8_t *bytes,
-                                      size_t bytes_room, size_t *count);
+BUCKET_MUST_USE uint32_t bucket_texts(const bucket_handle *handle, size_t start, bucket_text_pair *rows, size_t room,
+                                      uint8_t *bytes, size_t bytes_room, size_t *count);
 
 /* ---- A map from uint64_t to uint64_t ---- */
 
@@ -149,35 +188,82 @@ BUCKET_MUST_USE uint32_t bucket_map_insert(bucket_handle *handle, uint64_t key, 
 BUCKET_MUST_USE uint32_t bucket_map_upsert(bucket_handle *handle, uint64_t key, uint64_t value, uint64_t *earlier);
 
 /* Writes the value out. OK, ABSENT. */
-BUCKET_MUST_USE uint32_t bucket_map_get(bucket_handle *handle, uint64_t key, uint64_t *value);
+BUCKET_MUST_USE uint32_t bucket_map_get(const bucket_handle *handle, uint64_t key, uint64_t *value);
 
 /* OK, ABSENT. */
-BUCKET_MUST_USE uint32_t bucket_map_contains(bucket_handle *handle, uint64_t key);
+BUCKET_MUST_USE uint32_t bucket_map_contains(const bucket_handle *handle, uint64_t key);
 
-/* Removes a pair, and writes its value out. OK, ABSENT. */
+/* Removes a pair, and writes its value out. OK, ABSENT. bucket_map_remove_if, at the end of this header, removes many. */
 BUCKET_MUST_USE uint32_t bucket_map_remove(bucket_handle *handle, uint64_t key, uint64_t *value);
 
-/* ---- A map from byte strings to uint64_t: the same. The map keeps copies of its keys. insert and upsert copy their key, and may
- * answer NO_MEMORY for that; no other call copies it. ---- */
+/* Adds to a value, modulo 2^64: PRESENT; or inserts `amount`: OK. Either way `total` gets the sum. NO_MEMORY as of insert: the key is
+ * absent. */
+BUCKET_MUST_USE uint32_t bucket_map_add(bucket_handle *handle, uint64_t key, uint64_t amount, uint64_t *total);
+
+/* Inserts a pair: OK; or PRESENT: nothing changes. Either way `held` gets the value that is there now. NO_MEMORY as of insert. */
+BUCKET_MUST_USE uint32_t bucket_map_get_or_insert(bucket_handle *handle, uint64_t key, uint64_t value, uint64_t *held);
+
+/* Removes a pair if it has this value: OK. PRESENT: it has another one, which `held` gets, and stays. ABSENT. */
+BUCKET_MUST_USE uint32_t bucket_map_remove_if_equal(bucket_handle *handle, uint64_t key, uint64_t value, uint64_t *held);
+
+/* ---- A map from byte strings to uint64_t: the same. The map keeps copies of its keys. insert, upsert, add and get_or_insert copy a
+ * key that is absent, and may answer NO_MEMORY for that; for one that is there they never do. No other call copies it. ---- */
 
 BUCKET_MUST_USE uint32_t bucket_text_map_new(bucket_handle *handle, size_t capacity, bucket_seed seed);
 BUCKET_MUST_USE uint32_t bucket_text_map_insert(bucket_handle *handle, const uint8_t *key, size_t len, uint64_t value);
 BUCKET_MUST_USE uint32_t bucket_text_map_upsert(bucket_handle *handle, const uint8_t *key, size_t len, uint64_t value,
                                                 uint64_t *earlier);
-BUCKET_MUST_USE uint32_t bucket_text_map_get(bucket_handle *handle, const uint8_t *key, size_t len, uint64_t *value);
-BUCKET_MUST_USE uint32_t bucket_text_map_contains(bucket_handle *handle, const uint8_t *key, size_t len);
+BUCKET_MUST_USE uint32_t bucket_text_map_get(const bucket_handle *handle, const uint8_t *key, size_t len, uint64_t *value);
+BUCKET_MUST_USE uint32_t bucket_text_map_contains(const bucket_handle *handle, const uint8_t *key, size_t len);
 BUCKET_MUST_USE uint32_t bucket_text_map_remove(bucket_handle *handle, const uint8_t *key, size_t len, uint64_t *value);
+BUCKET_MUST_USE uint32_t bucket_text_map_add(bucket_handle *handle, const uint8_t *key, size_t len, uint64_t amount,
+                                             uint64_t *total);
+BUCKET_MUST_USE uint32_t bucket_text_map_get_or_insert(bucket_handle *handle, const uint8_t *key, size_t len, uint64_t value,
+                                                       uint64_t *held);
+BUCKET_MUST_USE uint32_t bucket_text_map_remove_if_equal(bucket_handle *handle, const uint8_t *key, size_t len, uint64_t value,
+                                                         uint64_t *held);
 
-/* ---- A set of byte strings: the same, without values ---- */
+/* ---- A set of uint64_t, and one of byte strings: the same as maps, without values ---- */
+
+BUCKET_MUST_USE uint32_t bucket_set_new(bucket_handle *handle, bucket_seed seed);
+BUCKET_MUST_USE uint32_t bucket_set_insert(bucket_handle *handle, uint64_t key);
+BUCKET_MUST_USE uint32_t bucket_set_contains(const bucket_handle *handle, uint64_t key);
+BUCKET_MUST_USE uint32_t bucket_set_remove(bucket_handle *handle, uint64_t key);
 
 BUCKET_MUST_USE uint32_t bucket_text_set_new(bucket_handle *handle, bucket_seed seed);
 BUCKET_MUST_USE uint32_t bucket_text_set_insert(bucket_handle *handle, const uint8_t *key, size_t len);
-BUCKET_MUST_USE uint32_t bucket_text_set_contains(bucket_handle *handle, const uint8_t *key, size_t len);
+BUCKET_MUST_USE uint32_t bucket_text_set_contains(const bucket_handle *handle, const uint8_t *key, size_t len);
 BUCKET_MUST_USE uint32_t bucket_text_set_remove(bucket_handle *handle, const uint8_t *key, size_t len);
+
+/* ---- A store: a map from byte strings to byte strings. It keeps copies of both. All calls also take the time to read or to copy
+ * the bytes. ---- */
+
+/* As bucket_map_new. OK, NO_MEMORY, OPEN. O(1). */
+BUCKET_MUST_USE uint32_t bucket_store_new(bucket_handle *handle, size_t capacity, bucket_seed seed);
+
+/* Inserts a pair. OK; PRESENT: nothing changes. NO_MEMORY, for the copies or as of a map: the key is absent. */
+BUCKET_MUST_USE uint32_t bucket_store_insert(bucket_handle *handle, const uint8_t *key, size_t len, const uint8_t *value,
+                                             size_t value_len);
+
+/* Inserts a pair: OK; or puts the value in the place of an earlier one: PRESENT. NO_MEMORY as of insert, or for a copy of the value:
+ * all stays. */
+BUCKET_MUST_USE uint32_t bucket_store_upsert(bucket_handle *handle, const uint8_t *key, size_t len, const uint8_t *value,
+                                             size_t value_len);
+
+/* Writes the value out, and its length to `value_len`: OK; or TOO_LONG: its first `room` bytes, and its whole length. ABSENT. */
+BUCKET_MUST_USE uint32_t bucket_store_get(const bucket_handle *handle, const uint8_t *key, size_t len, uint8_t *out, size_t room,
+                                          size_t *value_len);
+
+/* OK, ABSENT. */
+BUCKET_MUST_USE uint32_t bucket_store_contains(const bucket_handle *handle, const uint8_t *key, size_t len);
+
+/* Removes a pair. OK, ABSENT. */
+BUCKET_MUST_USE uint32_t bucket_store_remove(bucket_handle *handle, const uint8_t *key, size_t len);
 
 /* ---- A cache from uint64_t to uint64_t. Where a key's bucket is full, the pair of it that was touched longest ago goes. ---- */
 
-/* At least `minimum` and at most `maximum` slots, or the least power of two that is at least `maximum` and 64. OK, NO_MEMORY, OPEN. */
+/* At least `minimum` slots, or 2^63, and at most the least power of two that is at least `maximum`, `minimum` and 64, or 2^63. OK,
+ * NO_MEMORY, OPEN. */
 BUCKET_MUST_USE uint32_t bucket_cache_new(bucket_handle *handle, size_t minimum, size_t maximum, bucket_seed seed);
 
 /* Puts a pair: OK; or EVICTED: another went for it, and is written out. PRESENT, NO_MEMORY as of a map: it isn't put. */
@@ -192,17 +278,17 @@ BUCKET_MUST_USE uint32_t bucket_cache_upsert(bucket_handle *handle, uint64_t key
 BUCKET_MUST_USE uint32_t bucket_cache_get(bucket_handle *handle, uint64_t key, uint64_t *value);
 
 /* Writes the value out. OK, ABSENT. */
-BUCKET_MUST_USE uint32_t bucket_cache_peek(bucket_handle *handle, uint64_t key, uint64_t *value);
+BUCKET_MUST_USE uint32_t bucket_cache_peek(const bucket_handle *handle, uint64_t key, uint64_t *value);
 
 /* OK, ABSENT. */
-BUCKET_MUST_USE uint32_t bucket_cache_contains(bucket_handle *handle, uint64_t key);
+BUCKET_MUST_USE uint32_t bucket_cache_contains(const bucket_handle *handle, uint64_t key);
 
 /* Removes a pair, and writes its value out. OK, ABSENT. */
 BUCKET_MUST_USE uint32_t bucket_cache_remove(bucket_handle *handle, uint64_t key, uint64_t *value);
 
-/* ---- A cache from byte strings to uint64_t: the same. put and upsert copy their key, and may answer NO_MEMORY for that; no other
- * call copies it. Of a key that goes, `gone_len` is the length, and `gone` gets as many bytes as it has room
- * for. ---- */
+/* ---- A cache from byte strings to uint64_t: the same. put and upsert copy a key that is absent, and may answer NO_MEMORY for that;
+ * for one that is there they never do. No other call copies it. Of a key that goes, `gone_len` is the length, and `gone` gets as
+ * many bytes as it has room for. ---- */
 
 BUCKET_MUST_USE uint32_t bucket_text_cache_new(bucket_handle *handle, size_t minimum, size_t maximum, bucket_seed seed);
 BUCKET_MUST_USE uint32_t bucket_text_cache_put(bucket_handle *handle, const uint8_t *key, size_t len, uint64_t value,
@@ -210,8 +296,8 @@ BUCKET_MUST_USE uint32_t bucket_text_cache_put(bucket_handle *handle, const uint
 BUCKET_MUST_USE uint32_t bucket_text_cache_upsert(bucket_handle *handle, const uint8_t *key, size_t len, uint64_t value,
                                                   uint8_t *gone, size_t gone_room, size_t *gone_len, uint64_t *before);
 BUCKET_MUST_USE uint32_t bucket_text_cache_get(bucket_handle *handle, const uint8_t *key, size_t len, uint64_t *value);
-BUCKET_MUST_USE uint32_t bucket_text_cache_peek(bucket_handle *handle, const uint8_t *key, size_t len, uint64_t *value);
-BUCKET_MUST_USE uint32_t bucket_text_cache_contains(bucket_handle *handle, const uint8_t *key, size_t len);
+BUCKET_MUST_USE uint32_t bucket_text_cache_peek(const bucket_handle *handle, const uint8_t *key, size_t len, uint64_t *value);
+BUCKET_MUST_USE uint32_t bucket_text_cache_contains(const bucket_handle *handle, const uint8_t *key, size_t len);
 BUCKET_MUST_USE uint32_t bucket_text_cache_remove(bucket_handle *handle, const uint8_t *key, size_t len, uint64_t *value);
 
 /* ---- Null pointers ----
@@ -223,20 +309,36 @@ BUCKET_INLINE const uint8_t *bucket_guarded_key(const uint8_t *key, size_t len) 
     return len > 0 ? key : &none;
 }
 
-BUCKET_MUST_USE BUCKET_INLINE uint32_t bucket_guarded_pairs(bucket_handle *handle, size_t start, bucket_pair *out, size_t room,
-                                                            size_t *count) {
+BUCKET_MUST_USE BUCKET_INLINE uint32_t bucket_guarded_pairs_in(const bucket_handle *handle, size_t bucket, size_t start,
+                                                               bucket_pair *out, size_t room, size_t *count) {
+    bucket_pair none = {0, 0};
+    return bucket_pairs_in(handle, bucket, start, room > 0 ? out : &none, room, count);
+}
+#define bucket_pairs_in bucket_guarded_pairs_in
+
+BUCKET_MUST_USE BUCKET_INLINE uint32_t bucket_guarded_pairs(const bucket_handle *handle, size_t start, bucket_pair *out,
+                                                            size_t room, size_t *count) {
     bucket_pair none = {0, 0};
     return bucket_pairs(handle, start, room > 0 ? out : &none, room, count);
 }
 #define bucket_pairs bucket_guarded_pairs
 
-BUCKET_MUST_USE BUCKET_INLINE uint32_t bucket_guarded_texts(bucket_handle *handle, size_t start, bucket_text_pair *rows,
+BUCKET_MUST_USE BUCKET_INLINE uint32_t bucket_guarded_texts(const bucket_handle *handle, size_t start, bucket_text_pair *rows,
                                                             size_t room, uint8_t *bytes, size_t bytes_room, size_t *count) {
     bucket_text_pair row = {0, 0};
     uint8_t byte = 0;
     return bucket_texts(handle, start, room > 0 ? rows : &row, room, bytes_room > 0 ? bytes : &byte, bytes_room, count);
 }
 #define bucket_texts bucket_guarded_texts
+
+BUCKET_MUST_USE BUCKET_INLINE uint32_t bucket_guarded_texts_in(const bucket_handle *handle, size_t bucket, size_t start,
+                                                               bucket_text_pair *rows, size_t room, uint8_t *bytes,
+                                                               size_t bytes_room, size_t *count) {
+    bucket_text_pair row = {0, 0};
+    uint8_t byte = 0;
+    return bucket_texts_in(handle, bucket, start, room > 0 ? rows : &row, room, bytes_room > 0 ? bytes : &byte, bytes_room, count);
+}
+#define bucket_texts_in bucket_guarded_texts_in
 
 BUCKET_MUST_USE BUCKET_INLINE uint32_t bucket_guarded_text_map_insert(bucket_handle *handle, const uint8_t *key, size_t len,
                                                                       uint64_t value) {
@@ -250,13 +352,14 @@ BUCKET_MUST_USE BUCKET_INLINE uint32_t bucket_guarded_text_map_upsert(bucket_han
 }
 #define bucket_text_map_upsert bucket_guarded_text_map_upsert
 
-BUCKET_MUST_USE BUCKET_INLINE uint32_t bucket_guarded_text_map_get(bucket_handle *handle, const uint8_t *key, size_t len,
+BUCKET_MUST_USE BUCKET_INLINE uint32_t bucket_guarded_text_map_get(const bucket_handle *handle, const uint8_t *key, size_t len,
                                                                    uint64_t *value) {
     return bucket_text_map_get(handle, bucket_guarded_key(key, len), len, value);
 }
 #define bucket_text_map_get bucket_guarded_text_map_get
 
-BUCKET_MUST_USE BUCKET_INLINE uint32_t bucket_guarded_text_map_contains(bucket_handle *handle, const uint8_t *key, size_t len) {
+BUCKET_MUST_USE BUCKET_INLINE uint32_t bucket_guarded_text_map_contains(const bucket_handle *handle, const uint8_t *key,
+                                                                        size_t len) {
     return bucket_text_map_contains(handle, bucket_guarded_key(key, len), len);
 }
 #define bucket_text_map_contains bucket_guarded_text_map_contains
@@ -267,12 +370,31 @@ BUCKET_MUST_USE BUCKET_INLINE uint32_t bucket_guarded_text_map_remove(bucket_han
 }
 #define bucket_text_map_remove bucket_guarded_text_map_remove
 
+BUCKET_MUST_USE BUCKET_INLINE uint32_t bucket_guarded_text_map_add(bucket_handle *handle, const uint8_t *key, size_t len,
+                                                                   uint64_t amount, uint64_t *total) {
+    return bucket_text_map_add(handle, bucket_guarded_key(key, len), len, amount, total);
+}
+#define bucket_text_map_add bucket_guarded_text_map_add
+
+BUCKET_MUST_USE BUCKET_INLINE uint32_t bucket_guarded_text_map_get_or_insert(bucket_handle *handle, const uint8_t *key,
+                                                                             size_t len, uint64_t value, uint64_t *held) {
+    return bucket_text_map_get_or_insert(handle, bucket_guarded_key(key, len), len, value, held);
+}
+#define bucket_text_map_get_or_insert bucket_guarded_text_map_get_or_insert
+
+BUCKET_MUST_USE BUCKET_INLINE uint32_t bucket_guarded_text_map_remove_if_equal(bucket_handle *handle, const uint8_t *key,
+                                                                               size_t len, uint64_t value, uint64_t *held) {
+    return bucket_text_map_remove_if_equal(handle, bucket_guarded_key(key, len), len, value, held);
+}
+#define bucket_text_map_remove_if_equal bucket_guarded_text_map_remove_if_equal
+
 BUCKET_MUST_USE BUCKET_INLINE uint32_t bucket_guarded_text_set_insert(bucket_handle *handle, const uint8_t *key, size_t len) {
     return bucket_text_set_insert(handle, bucket_guarded_key(key, len), len);
 }
 #define bucket_text_set_insert bucket_guarded_text_set_insert
 
-BUCKET_MUST_USE BUCKET_INLINE uint32_t bucket_guarded_text_set_contains(bucket_handle *handle, const uint8_t *key, size_t len) {
+BUCKET_MUST_USE BUCKET_INLINE uint32_t bucket_guarded_text_set_contains(const bucket_handle *handle, const uint8_t *key,
+                                                                        size_t len) {
     return bucket_text_set_contains(handle, bucket_guarded_key(key, len), len);
 }
 #define bucket_text_set_contains bucket_guarded_text_set_contains
@@ -281,6 +403,35 @@ BUCKET_MUST_USE BUCKET_INLINE uint32_t bucket_guarded_text_set_remove(bucket_han
     return bucket_text_set_remove(handle, bucket_guarded_key(key, len), len);
 }
 #define bucket_text_set_remove bucket_guarded_text_set_remove
+
+BUCKET_MUST_USE BUCKET_INLINE uint32_t bucket_guarded_store_insert(bucket_handle *handle, const uint8_t *key, size_t len,
+                                                                   const uint8_t *value, size_t value_len) {
+    return bucket_store_insert(handle, bucket_guarded_key(key, len), len, bucket_guarded_key(value, value_len), value_len);
+}
+#define bucket_store_insert bucket_guarded_store_insert
+
+BUCKET_MUST_USE BUCKET_INLINE uint32_t bucket_guarded_store_upsert(bucket_handle *handle, const uint8_t *key, size_t len,
+                                                                   const uint8_t *value, size_t value_len) {
+    return bucket_store_upsert(handle, bucket_guarded_key(key, len), len, bucket_guarded_key(value, value_len), value_len);
+}
+#define bucket_store_upsert bucket_guarded_store_upsert
+
+BUCKET_MUST_USE BUCKET_INLINE uint32_t bucket_guarded_store_get(const bucket_handle *handle, const uint8_t *key, size_t len,
+                                                                uint8_t *out, size_t room, size_t *value_len) {
+    uint8_t none = 0;
+    return bucket_store_get(handle, bucket_guarded_key(key, len), len, room > 0 ? out : &none, room, value_len);
+}
+#define bucket_store_get bucket_guarded_store_get
+
+BUCKET_MUST_USE BUCKET_INLINE uint32_t bucket_guarded_store_contains(const bucket_handle *handle, const uint8_t *key, size_t len) {
+    return bucket_store_contains(handle, bucket_guarded_key(key, len), len);
+}
+#define bucket_store_contains bucket_guarded_store_contains
+
+BUCKET_MUST_USE BUCKET_INLINE uint32_t bucket_guarded_store_remove(bucket_handle *handle, const uint8_t *key, size_t len) {
+    return bucket_store_remove(handle, bucket_guarded_key(key, len), len);
+}
+#define bucket_store_remove bucket_guarded_store_remove
 
 BUCKET_MUST_USE BUCKET_INLINE uint32_t bucket_guarded_text_cache_put(bucket_handle *handle, const uint8_t *key, size_t len,
                                                                      uint64_t value, uint8_t *gone, size_t gone_room,
@@ -306,13 +457,14 @@ BUCKET_MUST_USE BUCKET_INLINE uint32_t bucket_guarded_text_cache_get(bucket_hand
 }
 #define bucket_text_cache_get bucket_guarded_text_cache_get
 
-BUCKET_MUST_USE BUCKET_INLINE uint32_t bucket_guarded_text_cache_peek(bucket_handle *handle, const uint8_t *key, size_t len,
+BUCKET_MUST_USE BUCKET_INLINE uint32_t bucket_guarded_text_cache_peek(const bucket_handle *handle, const uint8_t *key, size_t len,
                                                                       uint64_t *value) {
     return bucket_text_cache_peek(handle, bucket_guarded_key(key, len), len, value);
 }
 #define bucket_text_cache_peek bucket_guarded_text_cache_peek
 
-BUCKET_MUST_USE BUCKET_INLINE uint32_t bucket_guarded_text_cache_contains(bucket_handle *handle, const uint8_t *key, size_t len) {
+BUCKET_MUST_USE BUCKET_INLINE uint32_t bucket_guarded_text_cache_contains(const bucket_handle *handle, const uint8_t *key,
+                                                                          size_t len) {
     return bucket_text_cache_contains(handle, bucket_guarded_key(key, len), len);
 }
 #define bucket_text_cache_contains bucket_guarded_text_cache_contains
@@ -322,6 +474,280 @@ BUCKET_MUST_USE BUCKET_INLINE uint32_t bucket_guarded_text_cache_remove(bucket_h
     return bucket_text_cache_remove(handle, bucket_guarded_key(key, len), len, value);
 }
 #define bucket_text_cache_remove bucket_guarded_text_cache_remove
+
+/* ---- Readings of all pairs ---- */
+
+/* bucket_read(handle, place, out, room, count) copies pairs from a place on, as bucket_pairs_in does of one bucket, as many as there is
+ * room for, moves the place behind them, and `count` is how many. OK; ABSENT: none is left, `count` is 0. CLOSED, OTHER_KIND. One call
+ * O(its pairs, and the empty buckets between them), all of a reading O(n). */
+BUCKET_MUST_USE BUCKET_INLINE uint32_t bucket_guarded_read(const bucket_handle *handle, bucket_place *place, bucket_pair *out,
+                                                           size_t room, size_t *count) {
+    size_t read = 0;
+    uint32_t code;
+    do {
+        size_t more = 0;
+        code = bucket_pairs_in(handle, place->bucket, place->pair, room > 0 ? out + read : out, room - read, &more);
+        if (code != BUCKET_OK) {
+            break;
+        }
+        read += more;
+        if (read < room) {
+            place->bucket++;
+            place->pair = 0;
+        } else {
+            place->pair += more;
+        }
+    } while (read < room);
+    if (code == BUCKET_OK || code == BUCKET_ABSENT) {
+        *count = read;
+    }
+    if (code == BUCKET_ABSENT && read > 0) {
+        return BUCKET_OK;
+    }
+    return code;
+}
+#define bucket_read bucket_guarded_read
+
+/* bucket_values(handle, place, out, room, count) does the same with the values alone. */
+BUCKET_MUST_USE BUCKET_INLINE uint32_t bucket_guarded_values(const bucket_handle *handle, bucket_place *place, uint64_t *out,
+                                                             size_t room, size_t *count) {
+    bucket_pair pairs[32];
+    size_t read = 0;
+    size_t more;
+    size_t piece;
+    do {
+        size_t at;
+        uint32_t code;
+        piece = room - read < 32 ? room - read : 32;
+        more = 0;
+        code = bucket_read(handle, place, pairs, piece, &more);
+        if (code == BUCKET_ABSENT && read > 0) {
+            break;
+        }
+        if (code != BUCKET_OK) {
+            if (code == BUCKET_ABSENT) {
+                *count = 0;
+            }
+            return code;
+        }
+        for (at = 0; at < more && at < piece; at++) {
+            out[read + at] = pairs[at].value;
+        }
+        read += more;
+    } while (more == piece && read < room);
+    *count = read;
+    return BUCKET_OK;
+}
+#define bucket_values bucket_guarded_values
+
+/* bucket_read_texts(handle, place, rows, room, bytes, bytes_room, count) does the same with byte strings, as bucket_texts_in does of one
+ * bucket: as many pairs as fit in both buffers. A `count` of 0 with OK: the next key is longer than `bytes`, or there is no row. */
+BUCKET_MUST_USE BUCKET_INLINE uint32_t bucket_guarded_read_texts(const bucket_handle *handle, bucket_place *place,
+                                                                 bucket_text_pair *rows, size_t room, uint8_t *bytes,
+                                                                 size_t bytes_room, size_t *count) {
+    size_t read = 0;
+    size_t used = 0;
+    uint32_t code;
+    for (;;) {
+        bucket_pair next;
+        size_t more = 0;
+        size_t left = 0;
+        size_t end;
+        code = bucket_texts_in(handle, place->bucket, place->pair, room > 0 ? rows + read : rows, room - read,
+                               bytes_room > 0 ? bytes + used : bytes, bytes_room - used, &more);
+        if (code != BUCKET_OK) {
+            break;
+        }
+        for (end = read + more; read < end; read++) {
+            used += rows[read].len;
+        }
+        place->pair += more;
+        /* What is left of the bucket doesn't fit. */
+        code = bucket_pairs_in(handle, place->bucket, place->pair, &next, 1, &left);
+        if (code != BUCKET_OK || left > 0) {
+            break;
+        }
+        place->bucket++;
+        place->pair = 0;
+    }
+    if (code == BUCKET_OK || code == BUCKET_ABSENT) {
+        *count = read;
+    }
+    if (code == BUCKET_ABSENT && read > 0) {
+        return BUCKET_OK;
+    }
+    return code;
+}
+#define bucket_read_texts bucket_guarded_read_texts
+
+/* What bucket_each calls: it may look up in the handle, but changes nothing in it. */
+typedef void (*bucket_visit)(uint64_t key, uint64_t value, void *data);
+
+/* bucket_each(handle, visit, data) calls visit(key, value, data) once for each pair, in the order of bucket_read and with what that
+ * gives: a key or a value that is a byte string is told as 0, and a set's values are 0. `data` may be null. If `visit` changes the handle
+ * all the same (bucket_cache_get does), pairs may come twice or not at all. OK, CLOSED. O(n). */
+BUCKET_MUST_USE BUCKET_INLINE uint32_t bucket_guarded_each(const bucket_handle *handle, bucket_visit visit, void *data) {
+    bucket_place place = BUCKET_START;
+    bucket_pair pairs[32];
+    size_t count = 0;
+    uint32_t code;
+    while ((code = bucket_read(handle, &place, pairs, 32, &count)) == BUCKET_OK) {
+        size_t at;
+        for (at = 0; at < count && at < 32; at++) {
+            visit(pairs[at].key, pairs[at].value, data);
+        }
+    }
+    if (code == BUCKET_ABSENT) {
+        return BUCKET_OK;
+    }
+    return code;
+}
+#define bucket_each bucket_guarded_each
+
+/* What bucket_free_values calls: it makes no call on the handle. */
+typedef void (*bucket_destroy)(uint64_t value);
+
+/* Whether the values are words: OK; CLOSED; OTHER_KIND: a set, a store. */
+BUCKET_MUST_USE BUCKET_INLINE uint32_t bucket_guarded_has_values(const bucket_handle *handle) {
+    const uint8_t none = 0;
+    uint32_t code = bucket_map_contains(handle, 0);
+    if (code == BUCKET_OTHER_KIND) {
+        code = bucket_text_map_contains(handle, &none, 0);
+    }
+    if (code == BUCKET_OTHER_KIND) {
+        code = bucket_cache_contains(handle, 0);
+    }
+    if (code == BUCKET_OTHER_KIND) {
+        code = bucket_text_cache_contains(handle, &none, 0);
+    }
+    if (code == BUCKET_ABSENT) {
+        return BUCKET_OK;
+    }
+    return code;
+}
+
+/* bucket_free_values(handle, destroy) calls destroy(value) once for each pair, in the order of bucket_values, and then bucket_free. OK;
+ * CLOSED; OTHER_KIND: a set or a store: nothing is destroyed, and it stays open. O(n). No other call destroys a value: one that
+ * bucket_map_upsert or bucket_map_remove writes out, or that a cache evicts, is the caller's. */
+BUCKET_MUST_USE BUCKET_INLINE uint32_t bucket_guarded_free_values(bucket_handle *handle, bucket_destroy destroy) {
+    bucket_place place = BUCKET_START;
+    uint64_t values[32];
+    size_t count = 0;
+    uint32_t code = bucket_guarded_has_values(handle);
+    if (code != BUCKET_OK) {
+        return code;
+    }
+    while (bucket_values(handle, &place, values, 32, &count) == BUCKET_OK) {
+        size_t at;
+        for (at = 0; at < count && at < 32; at++) {
+            destroy(values[at]);
+        }
+    }
+    bucket_free(handle);
+    return BUCKET_OK;
+}
+#define bucket_free_values bucket_guarded_free_values
+
+/* ---- Removals of many pairs ---- */
+
+/* Whether a pair goes: it may look up in the handle, but changes nothing in it. */
+typedef bool (*bucket_test)(uint64_t key, uint64_t value, void *data);
+
+#ifdef __cplusplus
+#define BUCKET_BLOCK(memory) static_cast<uint64_t *>(memory)
+#else
+#define BUCKET_BLOCK(memory) ((uint64_t *)(memory))
+#endif
+
+/* Doubles the room of a block of keys. Whether there is memory; else the block stays. */
+BUCKET_MUST_USE BUCKET_INLINE bool bucket_guarded_grow(uint64_t **keys, size_t *room) {
+    uint64_t *block;
+    if (*room >> 60 != 0) {
+        return false; /* 16 bytes a key pass 2^64 */
+    }
+    block = BUCKET_BLOCK(realloc(*keys, 2 * *room * sizeof **keys));
+    if (!block) {
+        return false;
+    }
+    *keys = block;
+    *room *= 2;
+    return true;
+}
+
+/* Keeps the keys of the pairs that pass a test in a block, which the caller frees whatever comes back; it may be null. OK, NO_MEMORY,
+ * CLOSED, OTHER_KIND. */
+BUCKET_MUST_USE BUCKET_INLINE uint32_t bucket_guarded_keys_if(const bucket_handle *handle, bucket_test test, void *data,
+                                                              uint64_t **keys, size_t *kept) {
+    bucket_place place = BUCKET_START;
+    bucket_pair pairs[32];
+    size_t room = 64;
+    size_t count = 0;
+    uint32_t code = BUCKET_NO_MEMORY;
+    *keys = BUCKET_BLOCK(malloc(room * sizeof **keys));
+    while (*keys && (code = bucket_read(handle, &place, pairs, 32, &count)) == BUCKET_OK) {
+        size_t at;
+        for (at = 0; at < count && at < 32; at++) {
+            if (!test(pairs[at].key, pairs[at].value, data)) {
+                continue;
+            }
+            if (*kept == room && !bucket_guarded_grow(keys, &room)) {
+                return BUCKET_NO_MEMORY;
+            }
+            (*keys)[(*kept)++] = pairs[at].key;
+        }
+    }
+    if (code == BUCKET_ABSENT) {
+        return BUCKET_OK;
+    }
+    return code;
+}
+
+/* Of a set if `is_set`, else of a map. */
+BUCKET_MUST_USE BUCKET_INLINE uint32_t bucket_guarded_remove_if(bucket_handle *handle, bool is_set, bucket_test test, void *data,
+                                                                size_t *removed) {
+    uint64_t *keys;
+    uint64_t value = 0;
+    size_t kept = 0;
+    size_t gone = 0;
+    size_t at;
+    uint32_t code = is_set ? bucket_set_contains(handle, 0) : bucket_map_contains(handle, 0);
+    if (code != BUCKET_OK && code != BUCKET_ABSENT) {
+        return code;
+    }
+    code = bucket_guarded_keys_if(handle, test, data, &keys, &kept);
+    for (at = 0; code == BUCKET_OK && at < kept; at++) {
+        code = is_set ? bucket_set_remove(handle, keys[at]) : bucket_map_remove(handle, keys[at], &value);
+        if (code == BUCKET_OK) {
+            gone++;
+        } else if (code == BUCKET_ABSENT) {
+            code = BUCKET_OK;
+        }
+    }
+    free(keys);
+    if (code == BUCKET_OK) {
+        *removed = gone;
+    }
+    return code;
+}
+
+/* bucket_map_remove_if(handle, test, data, removed) removes the pairs of a map from uint64_t to uint64_t for which
+ * test(key, value, data) is true, and `removed` is how many. All pairs are tested, in the order of bucket_read, before any goes; the
+ * keys of those that go are kept in a block of 8 to 16 bytes a key, at least 512. OK; NO_MEMORY: there is none for the block, and all
+ * pairs stay. Once all keys are in the block all of them go, since no removal answers NO_MEMORY. `test` frees nothing that a pair
+ * names, since the pair may stay after a yes; if it changes the handle all the same, others may go, or fewer. CLOSED, OTHER_KIND.
+ * O(n). */
+BUCKET_MUST_USE BUCKET_INLINE uint32_t bucket_guarded_map_remove_if(bucket_handle *handle, bucket_test test, void *data,
+                                                                    size_t *removed) {
+    return bucket_guarded_remove_if(handle, false, test, data, removed);
+}
+#define bucket_map_remove_if bucket_guarded_map_remove_if
+
+/* bucket_set_remove_if(handle, test, data, removed) does the same with the keys of a set of uint64_t. The value of each is 0. */
+BUCKET_MUST_USE BUCKET_INLINE uint32_t bucket_guarded_set_remove_if(bucket_handle *handle, bucket_test test, void *data,
+                                                                    size_t *removed) {
+    return bucket_guarded_remove_if(handle, true, test, data, removed);
+}
+#define bucket_set_remove_if bucket_guarded_set_remove_if
 
 #ifdef __cplusplus
 }

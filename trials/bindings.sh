@@ -1,19 +1,19 @@
 #!/usr/bin/env bash
 # Links the proved library of bindings/ to programs of C, C++, Rust and Python, and runs them: each
-# call with each code; every allocation refused in turn, and what is held then; calls by chance beside
-# std's map and a dict; the Python module's copies, threads, iterations and arguments, and what it makes
-# of each code; the order of pairs beside a SipHash of the trial's own; under valgrind, that nothing is
-# read or written that isn't allocated, and all is freed. The header names what is exported, compiles
-# without a warning, lets no null pointer through, refuses a machine of 32 bits and warns of a code that
-# is dropped.
+# call with each code; every allocation refused in turn, and what is held then; under valgrind, that
+# nothing is read or written that isn't allocated, and all is freed. The header names what is exported,
+# compiles without a warning, lets no null pointer through, refuses a machine of 32 bits and warns of a
+# code that is dropped. Then the tests of bucket.hpp, of the Rust crate and of the Python module, by
+# `cpp/test`, `rust/test` and `python/test` of bindings/: the heads of these tell what they try.
 #
-# Needs rt, ar, nm, python3 and a C compiler cc on the PATH. A language whose compiler (c++, cargo) or
+# Needs rt, binutils, python3 and a C compiler cc on the PATH. A language whose compiler (c++, cargo) or
 # valgrind isn't there is left out, and a line says so. Ends with status 0 where all was right, else
 # with 1.
 set -u
 source "$(dirname "${BASH_SOURCE[0]}")/lib/running.sh"
 sources=$root/trials/lib/bindings
 bindings=$root/bindings
+source "$bindings/lib/libraries.sh"
 need_rt
 
 "$bindings/build" "$folder" >"$folder/log" 2>&1 || fail "the library isn't built"
@@ -31,6 +31,9 @@ is_clean() {
         2>"$folder/log" || fail "the header doesn't compile by $2"
 }
 
+# The calls that answer no code.
+no_code='bucket_free\|bucket_len\|bucket_capacity\|bucket_version'
+
 # A dropped code warns, at each of the calls that answer one; left out where the compiler has no such warning.
 warns() {
     echo '__attribute__((warn_unused_result)) int call(void); void drop(void); void drop(void) { call(); }' >"$folder/known.c"
@@ -41,14 +44,14 @@ warns() {
     "$1" "-std=$2" "-I$bindings" -x "$3" -c "$sources/dropped.c" -o "$folder/dropped" -Werror=unused-result 2>"$folder/log" &&
         fail "a dropped code compiles by $2"
     "$1" "-std=$2" "-I$bindings" -x "$3" -c "$sources/dropped.c" -o "$folder/dropped" 2>"$folder/log"
-    # All calls but two answer a code.
-    [ "$(grep -c 'unused-result\]' "$folder/log")" = "$(grep -vcx 'bucket_free\|bucket_len' "$folder/declared")" ] ||
+    [ "$(grep -c 'unused-result\]' "$folder/log")" = "$(grep -vcx "$no_code" "$folder/named")" ] ||
         fail "not each dropped code warns by $2"
 }
 
-# The header names what the library exports, and no more but its own guards.
-nm -g --defined-only "$folder/libbucket.so" | sed -n 's/^.* T \(bucket_[a-z_]*\)$/\1/p' | sort >"$folder/exported"
-grep -o '\bbucket_[a-z_]*(' "$bindings/bucket.h" | tr -d '(' | grep -v '^bucket_guarded_' | sort -u >"$folder/declared"
+# The header names what the library exports, and no more but its own guards and readings.
+nm -g --defined-only "$folder/libbucket.so" | sed -n 's/^.* T \(bucket_[a-z_]*\)$/\1/p' | LC_ALL=C sort >"$folder/exported"
+grep -o '\bbucket_[a-z_]*(' "$bindings/bucket.h" | tr -d '(' | grep -v '^bucket_guarded_' | sort -u >"$folder/named"
+declared "$bindings/bucket.h" >"$folder/declared"
 diff "$folder/exported" "$folder/declared" >"$folder/log" || fail "exported (<) and declared (>) differ"
 echo "$(wc -l <"$folder/declared") calls exported and declared"
 
@@ -71,6 +74,10 @@ cc -std=c11 "${strict[@]}" -c "$sources/no_null.c" -o "$folder/no_null.o" 2>"$fo
 watched=("$folder/no_null.o" "$folder/libbucket.a" "${watches[@]}")
 cc -std=c11 "${strict[@]}" "$sources/calls.c" "${watched[@]}" -o "$folder/calls" 2>"$folder/log" || fail "no C links"
 run "$folder/calls"
+cc -std=c11 "${strict[@]}" "$sources/more_calls.c" "${watched[@]}" -o "$folder/more_calls" 2>"$folder/log" || fail "no C links"
+run "$folder/more_calls"
+cc -std=c11 "${strict[@]}" "$sources/reading.c" "${watched[@]}" -o "$folder/reading" 2>"$folder/log" || fail "no C links"
+run "$folder/reading"
 wraps=-Wl,--wrap=malloc,--wrap=realloc,--wrap=free
 cc -std=c11 "${strict[@]}" "$sources/refused.c" "$folder/libbucket.a" "$wraps" -o "$folder/refused" 2>"$folder/log" ||
     fail "no C links"
@@ -86,31 +93,28 @@ if is_there c++ "C++"; then
     c++ -std=c++11 "${strict[@]}" -x c++ "$sources/calls.c" -x none "${watched[@]}" -o "$folder/calls++" \
         2>"$folder/log" || fail "no C++ links"
     run "$folder/calls++"
+    c++ -std=c++11 "${strict[@]}" -x c++ "$sources/more_calls.c" -x none "${watched[@]}" -o "$folder/more_calls++" \
+        2>"$folder/log" || fail "no C++ links"
+    run "$folder/more_calls++"
+    c++ -std=c++11 "${strict[@]}" -x c++ "$sources/reading.c" -x none "${watched[@]}" -o "$folder/reading++" \
+        2>"$folder/log" || fail "no C++ links"
+    run "$folder/reading++"
 fi
 
 if is_there valgrind "the memory of C"; then
-    valgrind -q --error-exitcode=9 --leak-check=full "$folder/calls" >"$folder/output" 2>"$folder/log" ||
-        fail "valgrind finds an error or a leak"
+    for calls in calls more_calls reading; do
+        valgrind -q --error-exitcode=9 --leak-check=full "$folder/$calls" >"$folder/output" 2>"$folder/log" ||
+            fail "valgrind finds an error or a leak"
+    done
     echo "valgrind finds no error and no leak"
 fi
 
-if is_there cargo "Rust"; then
-    (cd "$bindings/rust" && BUCKET_LIB_DIR=$folder CARGO_TARGET_DIR=$folder/target \
-        cargo test --release --offline --quiet) >"$folder/log" 2>&1 || fail "a test of the Rust crate fails"
-    echo "$(cat "$bindings"/rust/tests/*.rs | grep -c '^#\[test\]') tests of the Rust crate pass"
-    rm -f "$bindings/rust/Cargo.lock"
+# The tests of the three wrappers, each by one command of its own.
+export BUCKET_LIB_DIR=$folder BUCKET_INCLUDE=$bindings
+if is_there c++ "bucket.hpp"; then
+    run "$bindings/cpp/test"
 fi
-
-export BUCKET_LIB=$folder/libbucket.so PYTHONPATH=$bindings PYTHONDONTWRITEBYTECODE=1
-run python3 "$sources/beside_dict.py"
-run python3 "$sources/module_tests.py"
-run python3 "$sources/seeds.py"
-
-# A library whose calls answer what BUCKET_CODE says, but for those that open a handle.
-{
-    echo '#include <stdlib.h>'
-    sed 's/.*/unsigned long &(void) { return strtoul(getenv("BUCKET_CODE"), 0, 10); }/
-        s/\(.*_new(void) { return \).*;/\10;/' "$folder/declared"
-} >"$folder/answers.c"
-cc -shared -fPIC "$folder/answers.c" -o "$folder/answers.so" 2>"$folder/log" || fail "no library of answers links"
-BUCKET_LIB=$folder/answers.so run python3 "$sources/codes.py"
+if is_there cargo "Rust"; then
+    CARGO_TARGET_DIR=$folder/target run "$bindings/rust/test"
+fi
+run "$bindings/python/test"

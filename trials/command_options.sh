@@ -46,7 +46,7 @@ in_repository() {
 called 0 bhtable --help
 says output "usage: bhtable [--prove] < FILE" --prove --help --version
 called 0 check --help
-says output "usage: ./check [--quick]" --quick --help "200 processor minutes" "5 minutes"
+says output "usage: ./check [--quick]" --quick --help "processor minutes" "5 minutes"
 
 called 1 bhtable --quickly
 says log --quickly

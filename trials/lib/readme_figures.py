@@ -28,7 +28,7 @@ THOUSAND = 1000
 # collection of the bindings.
 EDITS = r"([\d,]+) wrong bodies"
 CALLS = r"([\d,]+) calls by chance on the four collections .*? ([\d,]+) of them while allocations fail"
-BOUND_CALLS = r"([\d,]+) on each kind of collection from Rust and from Python"
+BOUND_CALLS = r"([\d,]+) on each kind of collection from C\+\+, from Rust and from Python"
 
 
 def fail(why):
@@ -112,8 +112,9 @@ def compare_counts(text, root):
     compare_exact("wrong bodies", [found(EDITS, text)], [edits])
     compare_exact("calls by chance", found(CALLS, text), calls_by_chance(root))
     for file, pattern in (
-        ("bindings/rust/tests/calls.rs", r"const CALLS: usize = ([\d_]+);"),
-        ("trials/lib/bindings/beside_dict.py", r"(?m)^CALLS = ([\d_]+)$"),
+        ("bindings/cpp/tests/random.cpp", r"constexpr int calls = (\d+);"),
+        ("bindings/rust/tests/common/mod.rs", r"unwrap_or\(([\d_]+)\)"),
+        ("bindings/python/tests/test_chance.py", r'CALLS = int\(os.environ.get\("BUCKET_CALLS", "(\d+)"\)\)'),
     ):
         calls = number(found(pattern, (root / file).read_text()))
         compare_exact(f"calls of {file}", [found(BOUND_CALLS, text)], [calls])

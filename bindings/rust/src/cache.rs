@@ -1,34 +1,57 @@
-//! A cache from `u64` to `u64`.
+//! A cache and its iterators.
 
-use crate::ffi::*;
-use crate::pieces::print_words;
-use crate::{Iter, NoMemory, NotInserted};
-use std::fmt;
+mod all;
+mod by_key;
 
-/// What an upsert of a cache did.
-#[derive(Debug, Clone, PartialEq, Eq)]
-pub enum Upserted<K> {
-    /// The key was absent. The pair is in, and none went for it.
-    Added,
-    /// The key was absent. The pair is in, and this one went for it.
-    Evicted(K, u64),
-    /// The key was there, beside this value.
-    Replaced(u64),
+pub use crate::iter::{Drain, IntoIter, Iter, IterMut};
+
+use crate::kind::Caches;
+use crate::table::Table;
+use crate::{Key, NoMemory, Seed};
+
+/// A bounded map: where there is no room for a new pair, one that was touched longest ago goes.
+///
+/// ```
+/// use bucket::Cache;
+///
+/// let mut pages = Cache::new(100)?;
+/// pages.put("/".to_string(), "welcome".to_string())?;
+/// if let Some(page) = pages.get("/") {
+///     assert_eq!(page, "welcome");
+/// }
+/// assert!(pages.len() <= pages.cap());
+/// # Ok::<(), bucket::NoMemory>(())
+/// ```
+///
+/// It isn't one list of all pairs by their use, as the crate `lru` has it, but buckets of 32 slots, each with a list
+/// of its own, of at least 64 slots together: a pair goes for a new one of its bucket, so a cache evicts before all
+/// its slots are taken (some 60 of 64 stay, or 231 of 256), and while it grows. What goes is its bucket's oldest.
+///
+/// [`put`](Cache::put), [`get`](Cache::get) and [`get_mut`](Cache::get_mut) touch a pair; [`peek`](Cache::peek),
+/// [`contains`](Cache::contains) and the iterators touch none.
+pub struct Cache<K, V> {
+    table: Table<Caches, K, V>,
 }
 
-/// A cache from `u64` to `u64`: where a key's bucket is full, the pair of it that was touched longest
-/// ago goes.
-pub struct Cache(Handle);
+/// The least number of slots that a cache may have at most, and the greatest.
+const LEAST_SLOTS: usize = 64;
+const MOST_SLOTS: usize = 1 << 63;
 
-impl Cache {
-    /// An empty cache of at most this many slots, or the least power of two that is at least 64 and this.
-    /// It hashes by a random seed.
+impl<K: Key, V> Cache<K, V> {
+    /// An empty cache that grows to the least power of two that is at least so many slots and 64. It hashes by a
+    /// random seed.
     ///
     /// # Errors
     ///
     /// An allocation failed.
-    pub fn new(maximum: usize) -> Result<Cache, NoMemory> {
-        Cache::with_seed(maximum, Seed::random())
+    ///
+    /// ```
+    /// let cache: bucket::Cache<u64, String> = bucket::Cache::new(1000)?;
+    /// assert_eq!((cache.len(), cache.cap()), (0, 1024));
+    /// # Ok::<(), bucket::NoMemory>(())
+    /// ```
+    pub fn new(maximum: usize) -> Result<Cache<K, V>, NoMemory> {
+        Cache::opened(0, maximum, None)
     }
 
     /// The same, hashed by this seed.
@@ -36,109 +59,77 @@ impl Cache {
     /// # Errors
     ///
     /// An allocation failed.
-    pub fn with_seed(maximum: usize, seed: Seed) -> Result<Cache, NoMemory> {
-        Cache::with_capacity_and_seed(0, maximum, seed)
+    ///
+    /// ```
+    /// use bucket::{Cache, Seed};
+    ///
+    /// let cache: Cache<u64, u64> = Cache::with_seed(1000, Seed::FIXED)?; // for keys that no enemy chooses
+    /// # Ok::<(), bucket::NoMemory>(())
+    /// ```
+    pub fn with_seed(maximum: usize, seed: Seed) -> Result<Cache<K, V>, NoMemory> {
+        Cache::opened(0, maximum, Some(seed))
     }
 
-    /// An empty cache of at least and at most so many slots.
+    /// The same, of at least `minimum` slots from the first pair on, and of as many at most if that is more than
+    /// `maximum`.
     ///
     /// # Errors
     ///
     /// An allocation failed.
-    pub fn with_capacity_and_seed(minimum: usize, maximum: usize, seed: Seed) -> Result<Cache, NoMemory> {
-        Ok(Cache(Handle::open(|handle| unsafe { bucket_cache_new(handle, minimum, maximum, seed) })?))
-    }
-
-    /// Puts a pair whose key is absent, and returns the pair that went for it.
     ///
-    /// # Errors
+    /// ```
+    /// use bucket::{Cache, Seed};
     ///
-    /// The key is there, or an allocation failed; the pairs are as they were.
-    #[inline]
-    pub fn put(&mut self, key: u64, value: u64) -> Result<Option<(u64, u64)>, NotInserted> {
-        let mut gone = (0, 0);
-        match unsafe { bucket_cache_put(self.0.raw(), key, value, &mut gone.0, &mut gone.1) } {
-            EVICTED => Ok(Some(gone)),
-            code => inserted(code).map(|()| None),
-        }
+    /// let cache: Cache<u64, u64> = Cache::with_capacity_and_seed(1024, 4096, Seed::random())?;
+    /// assert_eq!(cache.cap(), 4096);
+    /// let cache: Cache<u64, u64> = Cache::with_capacity_and_seed(2000, 1000, Seed::random())?;
+    /// assert_eq!(cache.cap(), 2048);
+    /// # Ok::<(), bucket::NoMemory>(())
+    /// ```
+    pub fn with_capacity_and_seed(minimum: usize, maximum: usize, seed: Seed) -> Result<Cache<K, V>, NoMemory> {
+        Cache::opened(minimum, maximum, Some(seed))
     }
 
-    /// Puts a pair, or writes its value over an earlier one; either way it is touched.
+    fn opened(minimum: usize, maximum: usize, seed: Option<Seed>) -> Result<Cache<K, V>, NoMemory> {
+        let mut cache = Cache { table: Table::new(Caches { minimum, maximum }, seed) };
+        cache.table.open()?;
+        Ok(cache)
+    }
+}
+
+impl<K, V> Cache<K, V> {
+    /// How many pairs. O(1).
     ///
-    /// # Errors
-    ///
-    /// An allocation failed; the pairs are as they were.
-    #[inline]
-    pub fn upsert(&mut self, key: u64, value: u64) -> Result<Upserted<u64>, NoMemory> {
-        let mut gone = (0, 0);
-        match unsafe { bucket_cache_upsert(self.0.raw(), key, value, &mut gone.0, &mut gone.1) } {
-            OK => Ok(Upserted::Added),
-            EVICTED => Ok(Upserted::Evicted(gone.0, gone.1)),
-            PRESENT => Ok(Upserted::Replaced(gone.1)),
-            _ => Err(NoMemory),
-        }
-    }
-
-    /// Upserts pairs, in their order.
-    ///
-    /// # Errors
-    ///
-    /// An allocation failed; the pairs before that one are in.
-    pub fn try_extend(&mut self, pairs: impl IntoIterator<Item = (u64, u64)>) -> Result<(), NoMemory> {
-        pairs.into_iter().try_for_each(|(key, value)| self.upsert(key, value).map(|_| ()))
-    }
-
-    /// The value at a key, whose pair is touched.
-    #[inline]
-    pub fn get(&mut self, key: u64) -> Option<u64> {
-        found(|value| unsafe { bucket_cache_get(self.0.raw(), key, value) })
-    }
-
-    /// The value at a key; no pair is touched.
-    #[inline]
-    pub fn peek(&self, key: u64) -> Option<u64> {
-        found(|value| unsafe { bucket_cache_peek(self.0.raw(), key, value) })
-    }
-
-    /// Whether a key is there; no pair is touched.
-    #[inline]
-    pub fn contains_key(&self, key: u64) -> bool {
-        unsafe { bucket_cache_contains(self.0.raw(), key) == OK }
-    }
-
-    /// Removes a pair, and returns its value.
-    #[inline]
-    pub fn remove(&mut self, key: u64) -> Option<u64> {
-        found(|value| unsafe { bucket_cache_remove(self.0.raw(), key, value) })
-    }
-
-    /// How many pairs. O(slots / 32).
+    /// ```
+    /// let mut cache = bucket::Cache::new(100)?;
+    /// cache.put(1, 2)?;
+    /// assert_eq!(cache.len(), 1);
+    /// # Ok::<(), bucket::NoMemory>(())
+    /// ```
     pub fn len(&self) -> usize {
-        self.0.len()
+        self.table.len()
     }
 
-    /// Whether there is no pair. O(slots / 32).
+    /// Whether there is no pair. O(1).
+    ///
+    /// ```
+    /// assert!(bucket::Cache::<u64, u64>::new(100)?.is_empty());
+    /// # Ok::<(), bucket::NoMemory>(())
+    /// ```
     pub fn is_empty(&self) -> bool {
         self.len() == 0
     }
 
-    /// The pairs, copied out in up to four pieces; none is touched. No step of the iterator takes memory.
+    /// How many slots it may have at most. It never has more pairs; a bucket whose 32 slots are taken evicts, though others
+    /// may have room.
     ///
-    /// # Errors
-    ///
-    /// An allocation failed; there is no iterator.
-    pub fn iter(&self) -> Result<Iter<'_>, NoMemory> {
-        Iter::new(&self.0)
-    }
-
-    /// Drops all pairs and slots.
-    pub fn clear(&mut self) {
-        self.0.clear()
-    }
-}
-
-impl fmt::Debug for Cache {
-    fn fmt(&self, f: &mut fmt::Formatter<'_>) -> fmt::Result {
-        print_words(f, self.iter())
+    /// ```
+    /// assert_eq!(bucket::Cache::<u64, u64>::new(100)?.cap(), 128);
+    /// assert_eq!(bucket::Cache::<u64, u64>::new(1)?.cap(), 64);
+    /// # Ok::<(), bucket::NoMemory>(())
+    /// ```
+    pub fn cap(&self) -> usize {
+        let Caches { minimum, maximum } = self.table.kind;
+        maximum.max(minimum).clamp(LEAST_SLOTS, MOST_SLOTS).next_power_of_two()
     }
 }

@@ -1,144 +1,307 @@
-//! A map from `u64` to `u64`.
+//! A map, its entries and its iterators.
 
-use crate::ffi::*;
-use crate::pieces::print_words;
-use crate::{Iter, NoMemory, NotInserted};
-use std::fmt;
+mod all;
+mod by_key;
+mod entry;
+mod places;
+mod traits;
 
-/// A map from `u64` to `u64`.
-pub struct Map(Handle);
+pub use crate::iter::{Drain, IntoIter, IntoKeys, IntoValues, Iter, IterMut, Keys, Values, ValuesMut};
+pub use all::ExtractIf;
+pub use entry::Entry;
+pub use places::{OccupiedEntry, VacantEntry};
 
-impl Map {
-    /// An empty map that hashes by a random seed.
+use crate::kind::Maps;
+use crate::table::Table;
+use crate::{Key, NoMemory, Seed};
+
+/// A hash map, as std's `HashMap`.
+///
+/// ```
+/// use bucket::Map;
+///
+/// let mut visits = Map::new();
+/// for page in ["/", "/about", "/"] {
+///     *visits.entry(page).or_insert(0)? += 1;
+/// }
+/// assert_eq!(visits["/"], 2);
+/// visits.retain(|_, count| *count > 1);
+/// assert_eq!(visits, Map::from([("/", 2)]));
+/// # Ok::<(), bucket::NoMemory>(())
+/// ```
+///
+/// It is `Send`, if its keys and values are, and not `Sync`, since the library takes one call at a time on a table,
+/// look-ups too. Threads share one in a [`Mutex`](crate#threads).
+///
+/// It may outlive what its values borrow, unless their `Drop` looks at it:
+///
+/// ```
+/// let mut map = bucket::Map::new();
+/// let text = "Ann".to_string();
+/// map.insert(1, &text)?;
+/// # Ok::<(), bucket::NoMemory>(())
+/// ```
+///
+/// ```compile_fail,E0597
+/// struct Printed<'a>(&'a str);
+///
+/// impl Drop for Printed<'_> {
+///     fn drop(&mut self) {
+///         println!("{}", self.0);
+///     }
+/// }
+/// let mut map = bucket::Map::new();
+/// let text = "Ann".to_string();
+/// map.insert(1, Printed(&text)).unwrap();
+/// ```
+pub struct Map<K, V> {
+    table: Table<Maps, K, V>,
+}
+
+impl<K, V> Map<K, V> {
+    /// An empty map that hashes by a random seed. Takes no memory: the first insertion does.
     ///
-    /// # Errors
+    /// ```
+    /// use bucket::Map;
     ///
-    /// An allocation failed.
-    pub fn new() -> Result<Map, NoMemory> {
-        Map::with_seed(Seed::random())
+    /// let mut map = Map::new();
+    /// map.insert(-1, "one below")?;
+    /// # Ok::<(), bucket::NoMemory>(())
+    /// ```
+    pub const fn new() -> Map<K, V> {
+        Map { table: Table::new(Maps { capacity: 0 }, None) }
     }
 
-    /// An empty map that hashes by this seed.
+    /// An empty map whose first insertion makes room for so many pairs. Takes no memory;
+    /// [`reserve`](Map::reserve) takes it at once.
     ///
-    /// # Errors
+    /// ```
+    /// use bucket::Map;
     ///
-    /// An allocation failed.
-    pub fn with_seed(seed: Seed) -> Result<Map, NoMemory> {
+    /// let map: Map<u64, u64> = Map::with_capacity(1000);
+    /// assert!(map.capacity() >= 1000);
+    /// ```
+    pub const fn with_capacity(capacity: usize) -> Map<K, V> {
+        Map { table: Table::new(Maps { capacity }, None) }
+    }
+
+    /// An empty map that hashes by this seed. Takes no memory.
+    ///
+    /// ```
+    /// use bucket::{Map, Seed};
+    ///
+    /// let map: Map<u64, u64> = Map::with_seed(Seed::FIXED); // for keys that no enemy chooses
+    /// assert!(map.is_empty());
+    /// ```
+    pub const fn with_seed(seed: Seed) -> Map<K, V> {
         Map::with_capacity_and_seed(0, seed)
     }
 
-    /// An empty map whose first array has room for this many pairs.
+    /// An empty map that hashes by this seed, and whose first insertion makes room for so many pairs. Takes no
+    /// memory.
     ///
-    /// # Errors
+    /// ```
+    /// use bucket::{Map, Seed};
     ///
-    /// An allocation failed.
-    pub fn with_capacity_and_seed(capacity: usize, seed: Seed) -> Result<Map, NoMemory> {
-        Ok(Map(Handle::open(|handle| unsafe { bucket_map_new(handle, capacity, seed) })?))
+    /// let map: Map<String, u64> = Map::with_capacity_and_seed(100, Seed::from_bytes([7; 16]));
+    /// assert!(map.capacity() >= 100);
+    /// ```
+    pub const fn with_capacity_and_seed(capacity: usize, seed: Seed) -> Map<K, V> {
+        Map { table: Table::new(Maps { capacity }, Some(seed)) }
     }
+}
 
-    /// A map of these pairs, by a random seed; of two with one key, the later.
+impl<K: Key, V> Map<K, V> {
+    /// A map of these pairs, by a random seed; of two with one key, the later value.
     ///
     /// # Errors
     ///
-    /// An allocation failed.
-    pub fn try_from_iter(pairs: impl IntoIterator<Item = (u64, u64)>) -> Result<Map, NoMemory> {
-        let mut map = Map::new()?;
+    /// An allocation failed; the pairs are dropped.
+    ///
+    /// ```
+    /// use bucket::Map;
+    ///
+    /// let map = Map::try_from_iter([("a", 1), ("b", 2), ("a", 3)])?;
+    /// assert_eq!((map.len(), map["a"]), (2, 3));
+    /// # Ok::<(), bucket::NoMemory>(())
+    /// ```
+    pub fn try_from_iter(pairs: impl IntoIterator<Item = (K, V)>) -> Result<Map<K, V>, NoMemory> {
+        let mut map = Map::new();
         map.try_extend(pairs)?;
         Ok(map)
     }
 
-    /// Upserts pairs, in their order.
+    /// Inserts pairs, in their order.
     ///
     /// # Errors
     ///
-    /// An allocation failed; the pairs before that one are in.
-    pub fn try_extend(&mut self, pairs: impl IntoIterator<Item = (u64, u64)>) -> Result<(), NoMemory> {
-        pairs.into_iter().try_for_each(|(key, value)| self.upsert(key, value).map(|_| ()))
+    /// An allocation failed: the pairs before that one are in, it is dropped, and those behind it weren't asked
+    /// for.
+    ///
+    /// ```
+    /// use bucket::Map;
+    ///
+    /// let mut map = Map::new();
+    /// map.try_extend((0..100).map(|number| (number, number * number)))?;
+    /// assert_eq!(map[&7], 49);
+    /// # Ok::<(), bucket::NoMemory>(())
+    /// ```
+    pub fn try_extend(&mut self, pairs: impl IntoIterator<Item = (K, V)>) -> Result<(), NoMemory> {
+        let mut pairs = pairs.into_iter();
+        // As std does: pairs that come to a map that isn't empty may have keys that are there.
+        let least = pairs.size_hint().0;
+        let room = if self.is_empty() { least } else { least.div_ceil(2) };
+        if room > 0 {
+            // Where there is no such room, the pairs may still find theirs.
+            let _ = self.reserve(room);
+        }
+        pairs.try_for_each(|(key, value)| self.insert(key, value).map(drop))
     }
 
-    /// Inserts a pair whose key is absent.
+    /// A copy of the map, by the same seed, or a random one if it has that.
     ///
     /// # Errors
     ///
-    /// The key is there, or an allocation failed; the pairs are as they were.
-    #[inline]
-    pub fn insert(&mut self, key: u64, value: u64) -> Result<(), NotInserted> {
-        inserted(unsafe { bucket_map_insert(self.0.raw(), key, value) })
-    }
-
-    /// Puts a value at a key, and returns the earlier one.
+    /// An allocation failed; the copy is dropped. `V::clone` may have errors of its own.
     ///
-    /// # Errors
+    /// ```
+    /// use bucket::Map;
     ///
-    /// An allocation failed; the pairs are as they were.
-    #[inline]
-    pub fn upsert(&mut self, key: u64, value: u64) -> Result<Option<u64>, NoMemory> {
-        upserted(|earlier| unsafe { bucket_map_upsert(self.0.raw(), key, value, earlier) })
+    /// let map = Map::from([(1, "one".to_string())]);
+    /// assert_eq!(map.try_clone()?, map);
+    /// # Ok::<(), bucket::NoMemory>(())
+    /// ```
+    pub fn try_clone(&self) -> Result<Map<K, V>, NoMemory>
+    where
+        V: Clone,
+    {
+        let mut copy = Map { table: self.table.like() };
+        if !self.is_empty() {
+            copy.reserve(self.len())?;
+        }
+        copy.table.copy_from(&self.table, |copy, key, value| copy.upsert(key, value).map(drop))?;
+        Ok(copy)
     }
 
-    /// The value at a key.
-    #[inline]
-    pub fn get(&self, key: u64) -> Option<u64> {
-        found(|value| unsafe { bucket_map_get(self.0.raw(), key, value) })
-    }
-
-    /// Whether a key is there.
-    #[inline]
-    pub fn contains_key(&self, key: u64) -> bool {
-        unsafe { bucket_map_contains(self.0.raw(), key) == OK }
-    }
-
-    /// Removes a pair, and returns its value.
-    #[inline]
-    pub fn remove(&mut self, key: u64) -> Option<u64> {
-        found(|value| unsafe { bucket_map_remove(self.0.raw(), key, value) })
-    }
-
-    /// How many pairs. O(slots / 32).
-    pub fn len(&self) -> usize {
-        self.0.len()
-    }
-
-    /// Whether there is no pair. O(slots / 32).
-    pub fn is_empty(&self) -> bool {
-        self.len() == 0
-    }
-
-    /// The pairs, copied out in up to four pieces. No step of the iterator takes memory.
-    ///
-    /// # Errors
-    ///
-    /// An allocation failed; there is no iterator.
-    pub fn iter(&self) -> Result<Iter<'_>, NoMemory> {
-        Iter::new(&self.0)
-    }
-
-    /// Makes room for so many more pairs.
+    /// Makes room for so many more pairs. O(slots).
     ///
     /// # Errors
     ///
     /// An allocation failed, or no array has so many slots; the pairs are as they were.
-    pub fn try_reserve(&mut self, additional: usize) -> Result<(), NoMemory> {
-        self.0.try_reserve(additional)
+    ///
+    /// ```
+    /// use bucket::{Map, NoMemory};
+    ///
+    /// let mut map: Map<u64, u64> = Map::new();
+    /// map.reserve(1000)?;
+    /// assert_eq!(map.reserve(usize::MAX), Err(NoMemory));
+    /// # Ok::<(), NoMemory>(())
+    /// ```
+    pub fn reserve(&mut self, additional: usize) -> Result<(), NoMemory> {
+        self.table.reserve(additional)
     }
 
-    /// Leaves as few slots as the pairs take.
+    /// The same as [`reserve`](Map::reserve), by the name that std has for a call that may fail.
+    ///
+    /// # Errors
+    ///
+    /// An allocation failed, or no array has so many slots; the pairs are as they were.
+    ///
+    /// ```
+    /// use bucket::Map;
+    ///
+    /// let mut map: Map<u64, u64> = Map::new();
+    /// assert!(map.try_reserve(10).is_ok() && map.try_reserve(usize::MAX).is_err());
+    /// ```
+    pub fn try_reserve(&mut self, additional: usize) -> Result<(), NoMemory> {
+        self.table.reserve(additional)
+    }
+
+    /// Leaves as few slots as the pairs take, and forgets the room that `with_capacity` asked for. O(slots).
     ///
     /// # Errors
     ///
     /// An allocation failed; the pairs are as they were.
+    ///
+    /// ```
+    /// use bucket::Map;
+    ///
+    /// let mut map = Map::from([(1, 2)]);
+    /// map.reserve(10_000)?;
+    /// map.shrink_to_fit()?;
+    /// assert!(map.capacity() < 10_000);
+    /// # Ok::<(), bucket::NoMemory>(())
+    /// ```
     pub fn shrink_to_fit(&mut self) -> Result<(), NoMemory> {
-        self.0.shrink_to_fit()
+        self.table.shrink_to_fit()
     }
 
-    /// Drops all pairs and slots.
-    pub fn clear(&mut self) {
-        self.0.clear()
+    /// Leaves as few slots as so many pairs take, if there are more; at least as many as the pairs that there are
+    /// take. A map without a pair gives its slots up, and the first insertion makes room for so many: that takes no
+    /// memory. Else the slots become as few as the pairs take, and then as many as are asked for, so all pairs may be
+    /// moved twice. O(slots).
+    ///
+    /// # Errors
+    ///
+    /// An allocation failed; the pairs are as they were. There may be fewer slots than were asked for.
+    ///
+    /// ```
+    /// use bucket::Map;
+    ///
+    /// let mut map = Map::from([(1, 2)]);
+    /// map.reserve(10_000)?;
+    /// map.shrink_to(100)?;
+    /// assert!(map.capacity() >= 100 && map.capacity() < 10_000);
+    /// # Ok::<(), bucket::NoMemory>(())
+    /// ```
+    pub fn shrink_to(&mut self, least: usize) -> Result<(), NoMemory> {
+        if self.capacity() <= least {
+            return Ok(());
+        }
+        if self.is_empty() {
+            self.clear();
+            self.table.kind.capacity = least;
+            return Ok(());
+        }
+        self.table.shrink_to_fit()?;
+        match least.checked_sub(self.len()) {
+            Some(room) if room > 0 => self.reserve(room),
+            _ => Ok(()),
+        }
     }
 }
 
-impl fmt::Debug for Map {
-    fn fmt(&self, f: &mut fmt::Formatter<'_>) -> fmt::Result {
-        print_words(f, self.iter())
+impl<K, V> Map<K, V> {
+    /// How many slots there are, or will be as the first pair is inserted. An insertion may make more before each
+    /// slot has a pair. O(1).
+    ///
+    /// ```
+    /// use bucket::Map;
+    ///
+    /// let mut map = Map::from([(1, 2)]);
+    /// map.reserve(1000)?;
+    /// assert!(map.capacity() >= 1001);
+    /// # Ok::<(), bucket::NoMemory>(())
+    /// ```
+    pub fn capacity(&self) -> usize {
+        self.table.slots().max(self.table.kind.capacity)
+    }
+
+    /// How many pairs. O(1).
+    ///
+    /// ```
+    /// assert_eq!(bucket::Map::from([(1, 'a'), (2, 'b')]).len(), 2);
+    /// ```
+    pub fn len(&self) -> usize {
+        self.table.len()
+    }
+
+    /// Whether there is no pair. O(1).
+    ///
+    /// ```
+    /// assert!(bucket::Map::<u64, u64>::new().is_empty());
+    /// ```
+    pub fn is_empty(&self) -> bool {
+        self.len() == 0
     }
 }

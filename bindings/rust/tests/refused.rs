@@ -1,173 +1,328 @@
-//! Refuses each allocation of a call in turn: a call that fails changes nothing, and none aborts.
+//! Refuses each allocation of a call in turn, alone and with all after it, those of the library too: a call that
+//! fails changes nothing, hands back what it says, and none aborts.
+#![cfg(target_env = "gnu")]
 
-use bucket::{Cache, Map, NoMemory, NotInserted, Seed, TextCache, TextMap, TextSet, Upserted};
-use std::alloc::{GlobalAlloc, Layout, System};
-use std::cell::Cell;
-use std::collections::{BTreeMap, BTreeSet};
+mod common;
+mod refusing;
+
+use bucket::map::Entry;
+use bucket::{Cache, Key, Map, NoMemory, Reason, Seed, Set};
+use common::{Counted, Tally};
+use refusing::{granting, held};
+use std::collections::BTreeMap;
 use std::fmt::{Debug, Write};
-use std::ptr::null_mut;
+use std::process::Command;
 
-thread_local! {
-    /// How many allocations of this thread are granted from here on.
-    static GRANTED: Cell<usize> = const { Cell::new(usize::MAX) };
-    /// Whether one was refused.
-    static REFUSED: Cell<bool> = const { Cell::new(false) };
+/// A key of a number.
+trait Numbered: Key + Clone + Ord + Debug {
+    fn of(number: u64) -> Self;
 }
 
-/// The system's memory, less what is refused.
-struct Refusing;
-
-fn is_granted() -> bool {
-    let granted = GRANTED.get();
-    if granted == 0 {
-        REFUSED.set(true);
-        return false;
-    }
-    GRANTED.set(granted.saturating_sub((granted != usize::MAX) as usize));
-    true
-}
-
-// SAFETY: each block is the system's.
-unsafe impl GlobalAlloc for Refusing {
-    unsafe fn alloc(&self, layout: Layout) -> *mut u8 {
-        if is_granted() { unsafe { System.alloc(layout) } } else { null_mut() }
-    }
-
-    unsafe fn realloc(&self, block: *mut u8, layout: Layout, size: usize) -> *mut u8 {
-        if is_granted() { unsafe { System.realloc(block, layout, size) } } else { null_mut() }
-    }
-
-    unsafe fn dealloc(&self, block: *mut u8, layout: Layout) {
-        unsafe { System.dealloc(block, layout) }
+impl Numbered for u64 {
+    fn of(number: u64) -> u64 {
+        number * 0x1_0001
     }
 }
 
-#[global_allocator]
-static ALLOCATOR: Refusing = Refusing;
-
-/// Makes a call that is granted so many allocations, and returns its answer and whether one was refused.
-fn granting<T>(granted: usize, call: impl FnOnce() -> T) -> (T, bool) {
-    REFUSED.set(false);
-    GRANTED.set(granted);
-    let answer = call();
-    GRANTED.set(usize::MAX);
-    (answer, REFUSED.get())
-}
-
-/// Grants a call no allocation, then one and so on, until none is refused; each time `is_same` holds
-/// then. Returns the last answer.
-fn refuse_each<T: Debug>(call: impl Fn() -> Result<T, NoMemory>, is_same: impl Fn() -> bool) -> T {
-    let mut granted = 0;
-    loop {
-        let (answer, was_refused) = granting(granted, &call);
-        if !was_refused {
-            assert!(granted > 0, "the call takes no memory");
-            return answer.unwrap();
-        }
-        assert_eq!(answer.unwrap_err(), NoMemory);
-        assert!(is_same());
-        granted += 1;
+impl Numbered for String {
+    fn of(number: u64) -> String {
+        format!("a key of its own, number {number}")
     }
 }
 
-fn text(number: u64) -> Vec<u8> {
-    format!("a key of its own, number {number}").into_bytes()
+/// A way to insert a pair whose key is absent: its pair comes back where the call says so.
+type Way<K> = (&'static str, fn(&mut Map<K, Counted>, K, Counted) -> Result<(), Option<(K, Counted)>>);
+
+fn ways<K: Key>() -> [Way<K>; 7] {
+    [
+        ("insert", |map, key, value| map.insert(key, value).map(|earlier| assert!(earlier.is_none())).map_err(|NoMemory| None)),
+        ("try_insert", |map, key, value| match map.try_insert(key, value) {
+            Ok(_) => Ok(()),
+            Err(error) if error.reason == Reason::NoMemory => Err(Some(error.into_pair())),
+            Err(_) => unreachable!(),
+        }),
+        ("or_insert", |map, key, value| map.entry(key).or_insert(value).map(|_| ()).map_err(|NoMemory| None)),
+        ("or_insert_with", |map, key, value| map.entry(key).or_insert_with(|| value).map(|_| ()).map_err(|NoMemory| None)),
+        ("insert_entry", |map, key, value| map.entry(key).insert_entry(value).map(|_| ()).map_err(|NoMemory| None)),
+        ("vacant", |map, key, value| match map.entry(key) {
+            Entry::Occupied(_) => unreachable!(),
+            Entry::Vacant(entry) => entry.try_insert(value).map(|_| ()).map_err(|error| Some(error.into_pair())),
+        }),
+        ("try_extend", |map, key, value| map.try_extend([(key, value)]).map_err(|NoMemory| None)),
+    ]
 }
 
-/// How many pairs an iterator has, and what their values come to.
-fn summed<K>(pairs: impl Iterator<Item = (K, u64)>) -> (usize, u64) {
-    pairs.fold((0, 0), |(count, sum), (_, value)| (count + 1, sum + value))
-}
-
-#[test]
-fn an_iteration_fails_as_it_begins_or_not_at_all() {
-    let map = Map::try_from_iter((0..900).map(|key| (key, key))).unwrap();
-    let sum = refuse_each(|| map.iter().map(summed), || map.len() == 900 && map.get(899) == Some(899));
-    assert_eq!(sum, (900, 899 * 900 / 2));
-
-    let texts = TextMap::try_from_iter((0..900).map(|key| (text(key), key))).unwrap();
-    let sum = refuse_each(|| texts.iter().map(summed), || texts.len() == 900 && texts.get(text(899)) == Some(899));
-    assert_eq!(sum, (900, 899 * 900 / 2));
-
-    let set = TextSet::try_from_iter((0..900).map(text)).unwrap();
-    let count = refuse_each(|| set.iter().map(Iterator::count), || set.len() == 900 && set.contains(text(899)));
-    assert_eq!(count, 900);
-
-    let mut cache = Cache::new(1 << 14).unwrap();
-    cache.try_extend((0..300).map(|key| (key, key))).unwrap();
-    // A cache that grows may have evicted some of them, but not the last one.
-    let kept = summed(cache.iter().unwrap());
-    let sum = refuse_each(|| cache.iter().map(summed), || cache.len() == kept.0 && cache.peek(299) == Some(299));
-    assert_eq!(sum, kept);
-
-    let mut cache = TextCache::new(1 << 14).unwrap();
-    cache.try_extend((0..300).map(|key| (text(key), key))).unwrap();
-    let kept = summed(cache.iter().unwrap());
-    let sum = refuse_each(|| cache.iter().map(summed), || cache.len() == kept.0 && cache.peek(text(299)) == Some(299));
-    assert_eq!(sum, kept);
-}
-
-/// Puts pairs to a full cache, each with no allocation granted at first, then one more each time, and
-/// compares what the cache holds after each call. Every third key is longer than all before it. Returns
-/// how often a call failed, and how often a pair went though an allocation was refused.
-fn fill(put: impl Fn(&mut TextCache, &[u8], u64) -> Result<Option<(Vec<u8>, u64)>, NoMemory>) -> (usize, usize) {
-    let mut cache = TextCache::with_seed(64, Seed::FIXED).unwrap();
-    let mut std = BTreeMap::new();
-    let (mut failed, mut spared) = (0, 0);
-    for number in 0..400 {
-        let mut key = text(number);
-        key.resize(key.len() + (number / 3 * 3) as usize, b'.');
-        for granted in 0.. {
-            let (answer, was_refused) = granting(granted, || put(&mut cache, &key, number));
-            let Ok(gone) = answer else {
-                assert!(was_refused);
-                assert_eq!(cache.iter().unwrap().collect::<BTreeMap<_, _>>(), std);
-                failed += 1;
-                continue;
-            };
-            assert_eq!(std.insert(key, number), None);
-            if let Some((key, value)) = gone {
-                assert_eq!(std.remove(&key), Some(value));
-                spared += was_refused as usize;
+/// Inserts pairs, each with one more allocation granted until none is refused.
+fn insertions_lose_nothing<K: Numbered>(pairs: u64) {
+    for (name, way) in ways::<K>() {
+        for all_after in [false, true] {
+            let before = held();
+            let tally = Tally::default();
+            let mut map = Map::new();
+            let mut std = BTreeMap::new();
+            let mut failed = 0;
+            for number in 0..pairs {
+                for granted in 0.. {
+                    let (key, value) = (K::of(number), tally.value(number));
+                    let (answer, refused) = granting(granted, all_after, || way(&mut map, key, value));
+                    let is_in = answer.is_ok();
+                    match answer {
+                        Ok(()) => assert_eq!(std.insert(K::of(number), number), None),
+                        Err(back) => {
+                            assert!(refused > 0, "{name}");
+                            assert!(back.is_none_or(|(key, value)| key == K::of(number) && value.number == number));
+                            failed += 1;
+                        }
+                    }
+                    assert_eq!((map.len(), tally.there()), (std.len(), std.len() as isize), "{name}");
+                    if number % 16 == 0 || !is_in {
+                        assert!(std.iter().all(|(key, number)| map.get(key).map(|value| value.number) == Some(*number)));
+                        assert_eq!(map.iter().count(), std.len());
+                    }
+                    if is_in {
+                        break;
+                    }
+                }
             }
-            assert_eq!(cache.iter().unwrap().collect::<BTreeMap<_, _>>(), std);
-            break;
+            // `try_extend` does without the room that it was refused.
+            assert!(failed >= pairs || name == "try_extend" && !all_after, "{name}");
+            drop((map, std, tally));
+            assert_eq!(held(), before, "{name}");
         }
     }
-    (failed, spared)
 }
 
 #[test]
-fn a_text_cache_loses_no_pair_that_it_does_not_return() {
-    let (failed, spared) = fill(|cache, key, value| match cache.put(key, value) {
-        Err(NotInserted::Present) => panic!("no key comes twice"),
-        answer => answer.map_err(|_| NoMemory),
+fn insertions_of_words_lose_nothing() {
+    insertions_lose_nothing::<u64>(300);
+}
+
+#[test]
+fn insertions_of_texts_lose_nothing() {
+    insertions_lose_nothing::<String>(150);
+}
+
+/// A map of some pairs.
+fn map_of<K: Numbered>(tally: &Tally, pairs: u64) -> Map<K, Counted> {
+    (0..pairs).map(|number| (K::of(number), tally.value(number))).collect()
+}
+
+/// Calls on a key that is there, and those that read or remove, succeed without memory.
+fn what_is_there_needs_no_memory<K: Numbered>() {
+    let tally = Tally::default();
+    let before = held();
+    let mut map: Map<K, Counted> = map_of(&tally, 500);
+    let other = map_of::<K>(&tally, 500);
+    let (keys, values): (Vec<K>, Vec<Counted>) = (0..500).map(|number| (K::of(number), tally.value(number + 1))).unzip();
+    let mut text = String::with_capacity(100_000);
+    let ((), refused) = granting(0, true, || {
+        assert!(map == other && map.iter().count() == 500 && map.iter_mut().len() == 500);
+        assert!(keys.iter().all(|key| map.contains_key(key) && map.get(key).is_some() && map.get_mut(key).is_some()));
+        write!(text, "{map:?} {:?}", map.keys()).unwrap();
+        assert!(Map::<K, u8>::new().is_empty() && Map::<K, u8>::with_capacity(1000).capacity() >= 1000);
     });
-    assert!(failed > 100 && spared > 100);
-    let (failed, spared) = fill(|cache, key, value| match cache.upsert(key, value)? {
-        Upserted::Added => Ok(None),
-        Upserted::Evicted(key, value) => Ok(Some((key, value))),
-        Upserted::Replaced(_) => panic!("no key comes twice"),
+    assert_eq!(refused, 0);
+    let ((), refused) = granting(0, true, || {
+        for (key, value) in keys.into_iter().zip(values) {
+            let number = value.number;
+            let earlier = map.insert(key, value).unwrap().unwrap();
+            assert_eq!(earlier.number + 1, number);
+        }
     });
-    assert!(failed > 100 && spared > 100);
+    // A node is asked for first, and in its absence the key that is there is found.
+    assert!(refused <= 500);
+    let keys: Vec<K> = (0..500).map(K::of).collect();
+    let ((), _) = granting(0, true, || {
+        for (key, other) in keys.iter().zip(&keys[1..]).take(100).step_by(2) {
+            assert!(map.remove(key).is_some() && map.remove_entry(other).is_some());
+        }
+        assert_eq!(map.len(), 400);
+        map.retain(|_, value| value.number % 2 == 0);
+        assert_eq!(map.extract_if(|_, value| value.number % 4 == 0).count(), 100);
+        map.shrink_to_fit().ok();
+        assert_eq!(map.len(), 100);
+        assert_eq!(map.drain().count(), 100);
+        map.clear();
+        assert_eq!(other.into_iter().take(10).count(), 10);
+    });
+    drop((map, keys, text));
+    assert_eq!((held(), tally.there()), (before, 0));
 }
 
 #[test]
-fn a_failure_is_printed() {
-    let texts = TextMap::try_from_iter([("Ann", 30)]).unwrap();
-    let set = TextSet::try_from_iter([&b"\xff\""[..]]).unwrap();
-    let mut line = String::with_capacity(100);
-    let (answer, _) = granting(0, || write!(line, "{texts:?} {set:?}"));
-    assert_eq!((answer, &line[..]), (Ok(()), "<allocation failed> <allocation failed>"));
-    // A key that isn't text is printed as a byte string.
-    assert_eq!(format!("{texts:?} {set:?}"), "{\"Ann\": 30} {b\"\\xff\\\"\"}");
+fn a_word_that_is_there_needs_no_memory() {
+    what_is_there_needs_no_memory::<u64>();
 }
 
 #[test]
-fn keys_are_whole_however_long_they_are() {
-    let keys: BTreeSet<_> = (0..600).map(|number| vec![number as u8; number * number % 5000]).collect();
-    let set = TextSet::try_from_iter(&keys).unwrap();
-    let found = refuse_each(|| set.iter().map(|left| left.map(|key| key.len()).sum::<usize>()), || set.len() == keys.len());
-    assert_eq!(found, keys.iter().map(Vec::len).sum());
-    assert_eq!(set.iter().unwrap().collect::<BTreeSet<_>>(), keys);
+fn a_text_that_is_there_needs_no_memory() {
+    what_is_there_needs_no_memory::<String>();
+}
+
+/// Grants a call no allocation, then one and so on, until none is refused. `is_same` holds after each failure.
+fn refuse_each<T>(all_after: bool, mut call: impl FnMut() -> Result<T, NoMemory>, mut is_same: impl FnMut() -> bool) -> T {
+    for granted in 0.. {
+        let (answer, refused) = granting(granted, all_after, &mut call);
+        match answer {
+            Ok(answer) if refused == 0 => return answer,
+            // A call may do without what it was refused.
+            Ok(_) => {}
+            Err(NoMemory) => assert!(refused > 0 && is_same()),
+        }
+    }
+    unreachable!()
+}
+
+fn whole_maps_are_made_or_not<K: Numbered>() {
+    for all_after in [false, true] {
+        let before = held();
+        let tally = Tally::default();
+        let map: Map<K, Counted> = map_of(&tally, 200);
+        let copy = refuse_each(all_after, || map.try_clone(), || tally.there() == 200);
+        assert!(copy == map && tally.there() == 400);
+        drop(copy);
+        let pairs = || (0..200).map(|number| (K::of(number), tally.value(number)));
+        // To make a text takes memory that can't be refused.
+        if std::mem::size_of::<K>() == 8 {
+            let made = refuse_each(all_after, || Map::try_from_iter(pairs()), || tally.there() == 200);
+            assert!(made == map);
+        }
+        let map = std::cell::RefCell::new(map);
+        refuse_each(all_after, || map.borrow_mut().reserve(5000), || map.borrow().len() == 200);
+        refuse_each(all_after, || map.borrow_mut().shrink_to_fit(), || map.borrow().len() == 200);
+        refuse_each(all_after, || map.borrow_mut().shrink_to(1000), || map.borrow().len() == 200);
+        assert!(map.into_inner() == map_of(&tally, 200));
+        // Without a pair nothing is asked for.
+        for fill in [0, 1] {
+            let mut empty: Map<K, Counted> = Map::with_capacity(5000);
+            empty.extend((0..fill).map(|number| (K::of(number), tally.value(number))));
+            empty.retain(|_, _| false);
+            let (blocks, capacity) = (held(), empty.capacity());
+            assert_eq!(granting(0, all_after, || empty.shrink_to(100)), (Ok(()), 0));
+            assert!(capacity > 100 && empty.capacity() == 100 && held() <= blocks);
+        }
+        drop(tally);
+        assert_eq!(held(), before);
+    }
+}
+
+#[test]
+fn whole_maps_of_words_are_made_or_not() {
+    whole_maps_are_made_or_not::<u64>();
+}
+
+#[test]
+fn whole_maps_of_texts_are_made_or_not() {
+    whole_maps_are_made_or_not::<String>();
+}
+
+#[test]
+fn a_set_loses_no_key() {
+    for all_after in [false, true] {
+        let before = held();
+        let mut set = Set::new();
+        let mut failed = 0;
+        for number in 0..200u64 {
+            for granted in 0.. {
+                let key = String::of(number);
+                let (answer, refused) = granting(granted, all_after, || match number % 3 {
+                    0 => set.insert(key),
+                    1 => set.replace(key).map(|earlier| earlier.is_none()),
+                    _ => set.get_or_insert(key).map(|_| true),
+                });
+                match answer {
+                    Ok(was_absent) => assert!(was_absent),
+                    Err(NoMemory) => assert!(refused > 0),
+                }
+                failed += answer.is_err() as usize;
+                assert_eq!((set.len(), set.iter().count()), (number as usize + answer.is_ok() as usize, set.len()));
+                if answer.is_ok() {
+                    break;
+                }
+            }
+            let (first, again) = (String::of(0), String::of(number));
+            let (answer, _) = granting(0, true, || (set.insert(first), set.replace(again).map(|key| key.is_some())));
+            assert_eq!(answer, (Ok(false), Ok(true)));
+        }
+        assert!(failed >= 200 && (0..200).all(|number| set.contains(&String::of(number))));
+        drop(set);
+        assert_eq!(held(), before);
+    }
+}
+
+/// Puts pairs to a small cache, each with one more allocation granted until none is refused, and compares what it
+/// holds after each call.
+fn a_cache_loses_nothing<K: Numbered>() {
+    for all_after in [false, true] {
+        let before = held();
+        let tally = Tally::default();
+        let mut cache: Cache<K, Counted> = refuse_each(all_after, || Cache::with_seed(128, Seed::FIXED), || true);
+        let mut std = BTreeMap::new();
+        let (mut failed, mut evicted) = (0, 0);
+        for number in 0..600 {
+            for granted in 0.. {
+                let (key, value) = (K::of(number), tally.value(number));
+                let (answer, refused) = granting(granted, all_after, || match number % 4 {
+                    0 => cache.put(key, value).map_err(|NoMemory| None),
+                    1 => cache.try_put(key, value).map_err(|error| Some(error.into_pair())),
+                    2 => cache.try_insert(key, value).map_err(|error| Some(error.into_pair())),
+                    // What is evicted for it isn't handed out.
+                    _ => cache.get_or_insert_with(key, || value).map(|_| None).map_err(|NoMemory| None),
+                });
+                let is_in = answer.is_ok();
+                match answer {
+                    Ok(gone) => {
+                        std.insert(K::of(number), number);
+                        evicted += gone.is_some() as usize;
+                        if number % 4 == 3 {
+                            std.retain(|key, _| cache.contains(key));
+                        }
+                        if let Some((key, value)) = gone {
+                            assert_eq!(std.remove(&key), Some(value.number));
+                        }
+                    }
+                    Err(back) => {
+                        assert!(refused > 0 && back.is_none_or(|(key, value)| key == K::of(number) && value.number == number));
+                        failed += 1;
+                    }
+                }
+                assert_eq!((cache.len(), tally.there()), (std.len(), std.len() as isize));
+                assert!(cache.iter().all(|(key, value)| std.get(key) == Some(&value.number)));
+                if is_in {
+                    break;
+                }
+            }
+            // A key that is there needs no memory.
+            let (key, value) = (K::of(number), tally.value(number));
+            let (answer, _) = granting(0, true, || cache.put(key, value));
+            assert_eq!(answer.unwrap().map(|(key, value)| (key, value.number)), Some((K::of(number), number)));
+        }
+        assert!(failed >= 600 && evicted > 100);
+        drop((cache, std, tally));
+        assert_eq!(held(), before);
+    }
+}
+
+#[test]
+fn a_cache_of_words_loses_nothing() {
+    a_cache_loses_nothing::<u64>();
+}
+
+#[test]
+fn a_cache_of_texts_loses_nothing() {
+    a_cache_loses_nothing::<String>();
+}
+
+#[test]
+fn a_trait_that_cannot_fail_ends_as_stds_do() {
+    const NAME: &str = "a_trait_that_cannot_fail_ends_as_stds_do";
+    if std::env::var_os("BUCKET_TEST_ABORTS").is_some() {
+        let mut map: Map<u64, u64> = Map::new();
+        granting(0, true, || map.extend([(1, 2)]));
+        return;
+    }
+    let mut again = Command::new(std::env::current_exe().unwrap());
+    let output = again.args(["--exact", NAME, "--nocapture"]).env("BUCKET_TEST_ABORTS", "1").output().unwrap();
+    assert!(!output.status.success());
+    assert!(String::from_utf8_lossy(&output.stderr).contains("memory allocation of"), "{output:?}");
 }

@@ -4,6 +4,7 @@ use base.Shift.{Keyless}
 use denote.Exit.{Exit, unchanged, leaves, hidden, under}
 use denote.Memory.{lone}
 use denote.Param.Send.{IsSend, AllSend, Quiet, owning_send, part_keyless, struct_send, sendable}
+use denote.Param.SendFields.{variants_send}
 use denote.RattleType.{RattleType}
 use denote.RawPtr.{Ptr, block_ptr, null_ptr, lies_at}
 use denote.Struct.Owning.{shape, fields, to}
@@ -28,8 +29,31 @@ lies : (R : RattleType) → IsSend R → (p : Ptr) (x : R.Denot) → Keyless (li
 lies R s (block_ptr b o) x = part_keyless R s full_share x b o
 lies R s null_ptr x = tt
 
+-- one search a kind: one over all kinds goes back over each when a later one takes it too deep
+ruleset each_kind = (HashMap-send, HashSet-send, HashCache-send, hash.the_send, beginning.the_send, hasher.the_send, crosses, sendable)
+
 Table-send : IsSend table.the_row
-Table-send = search (HashMap-send, HashSet-send, HashCache-send, hash.the_send, beginning.the_send, hasher.the_send, crosses, sendable) depth 30
+Table-send =
+    variants_send
+    table.enum (
+      (search each_kind depth 30, tt),
+      (
+        (search each_kind depth 30, tt),
+        (
+          (search each_kind depth 30, tt),
+          (
+            (search each_kind depth 30, tt),
+            (
+              (search each_kind depth 30, tt),
+              (
+                (search each_kind depth 30, tt),
+                ((search each_kind depth 30, tt), tt),
+              ),
+            ),
+          ),
+        ),
+      ),
+    )
 
 owned-Keyless : (alloc : Global) (at : Ptr) (held : Option table.the_row.Denot) → Keyless (owned alloc at held)
 owned-Keyless alloc at None = tt

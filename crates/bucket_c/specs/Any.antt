@@ -5,7 +5,7 @@ use Rattle.bucket_c.specs.Codes.{closed, ok, other_kind}
 use Rattle.bucket_c.specs.Sizing.{MakesRoomBy, ShrinksBy}
 use Rattle.bucket_c.specs.Tables.{Caches, Maps, Text, text_eq}
 use Rattle.bucket_c.specs.declared.tables.Table.{Table}
-use Rattle.bucket_c.specs.declared.tables.Table.TheVariants.{Map, TextMap, TextSet, Cache, TextCache}
+use Rattle.bucket_c.specs.declared.tables.Table.TheVariants.{Map, TextMap, Set, TextSet, Store, Cache, TextCache}
 
 -- no pair and no slot is left; the hasher and the capacities stay
 abbrev pub map_cleared : {K V : Type 0} → Maps K V → Maps K V
@@ -18,7 +18,9 @@ cache_cleared cache =
 abbrev pub cleared : Table → Table
 cleared (Map map) = Map (map_cleared map)
 cleared (TextMap map) = TextMap (map_cleared map)
+cleared (Set set) = Set (map_cleared set)
 cleared (TextSet set) = TextSet (map_cleared set)
+cleared (Store map) = Store (map_cleared map)
 cleared (Cache cache) = Cache (cache_cleared cache)
 cleared (TextCache cache) = TextCache (cache_cleared cache)
 
@@ -33,8 +35,12 @@ ReservesMore additional (Some (Map old)) code new =
     (map : Maps ℕ ℕ) × (new ≡ Some (Map map)) × MakesRoomBy nat_eq additional old code map
 ReservesMore additional (Some (TextMap old)) code new =
     (map : Maps Text ℕ) × (new ≡ Some (TextMap map)) × MakesRoomBy text_eq additional old code map
+ReservesMore additional (Some (Set old)) code new =
+    (set : Maps ℕ (Unit {0})) × (new ≡ Some (Set set)) × MakesRoomBy nat_eq additional old code set
 ReservesMore additional (Some (TextSet old)) code new =
     (set : Maps Text (Unit {0})) × (new ≡ Some (TextSet set)) × MakesRoomBy text_eq additional old code set
+ReservesMore additional (Some (Store old)) code new =
+    (map : Maps Text Text) × (new ≡ Some (Store map)) × MakesRoomBy text_eq additional old code map
 ReservesMore additional (Some table) code new = (code ≡ other_kind) × (new ≡ Some table)
 
 -- the least number of slots is 0 from now on, and as few slots as the pairs take are left
@@ -42,5 +48,7 @@ abbrev pub Shrinks : Option Table → ℕ → Option Table → Type 0
 Shrinks None code new = (code ≡ closed) × (new ≡ None)
 Shrinks (Some (Map old)) code new = (map : Maps ℕ ℕ) × (new ≡ Some (Map map)) × ShrinksBy nat_eq old code map
 Shrinks (Some (TextMap old)) code new = (map : Maps Text ℕ) × (new ≡ Some (TextMap map)) × ShrinksBy text_eq old code map
+Shrinks (Some (Set old)) code new = (set : Maps ℕ (Unit {0})) × (new ≡ Some (Set set)) × ShrinksBy nat_eq old code set
 Shrinks (Some (TextSet old)) code new = (set : Maps Text (Unit {0})) × (new ≡ Some (TextSet set)) × ShrinksBy text_eq old code set
+Shrinks (Some (Store old)) code new = (map : Maps Text Text) × (new ≡ Some (Store map)) × ShrinksBy text_eq old code map
 Shrinks (Some table) code new = (code ≡ other_kind) × (new ≡ Some table)

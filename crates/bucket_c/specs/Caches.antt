@@ -33,10 +33,10 @@ module _ {K V : Type 0} where
   value_before (Ok (Replaced earlier)) = Some earlier
   value_before (Err back) = None
 
--- the bytes of a key that went, as many as a buffer has room for, and its length
-abbrev pub key_copied : List ℕ → ℕ → Option Text → List ℕ × ℕ
-key_copied bytes len None = (bytes, len)
-key_copied bytes len (Some key) = (take (length bytes) key.items ++ drop (length key.items) bytes, length key.items)
+-- the bytes of a byte string, if there is one, as many as a buffer has room for, and its length
+abbrev pub text_copied : List ℕ → ℕ → Option Text → List ℕ × ℕ
+text_copied bytes len None = (bytes, len)
+text_copied bytes len (Some text) = (take (length bytes) text.items ++ drop (length text.items) bytes, length text.items)
 
 module _ {K V H : Type 0} (eq : K → K → Bool) (test : K → Bool) where
   -- the pair under a key that passes a test is touched, and its value is written out, if it is there

@@ -30,6 +30,9 @@ other_kind = 6
 abbrev pub evicted : ℕ
 evicted = 7
 
+abbrev pub too_long : ℕ
+too_long = 8
+
 -- of a look-up and a removal
 abbrev pub found_code : {A : Type 0} → Option A → ℕ
 found_code (Some answer) = ok

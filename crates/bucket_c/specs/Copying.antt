@@ -6,33 +6,48 @@ use Rattle.bucket_c.specs.Tables.{Text}
 use Rattle.bucket_c.specs.declared.copying.Pair.{Pair}
 use Rattle.bucket_c.specs.declared.copying.TextPair.{TextPair}
 use Rattle.bucket_c.specs.declared.tables.Table.{Table}
-use Rattle.bucket_c.specs.declared.tables.Table.TheVariants.{Map, TextMap, TextSet, Cache, TextCache}
+use Rattle.bucket_c.specs.declared.tables.Table.TheVariants.{Map, TextMap, Set, TextSet, Store, Cache, TextCache}
 
 -- a buffer whose front is written over
 abbrev pub with_front : {A : Type 0} → List A → List A → List A
 with_front front buffer = front ++ drop (length front) buffer
 
--- the pairs under words that a table has, and those under byte strings; the keys of a set are beside 0
+-- the pairs under words that a table has
 abbrev pub word_pairs : Table → Option (List (ℕ × ℕ))
 word_pairs (Map map) = Some map.entries
 word_pairs (TextMap map) = None
+word_pairs (Set set) = None
 word_pairs (TextSet set) = None
+word_pairs (Store map) = None
 word_pairs (Cache cache) = Some (pairs_of cache.arrays)
 word_pairs (TextCache cache) = None
 
-abbrev pub text_pairs : Table → Option (List (Text × ℕ))
-text_pairs (Map map) = None
-text_pairs (TextMap map) = Some map.entries
-text_pairs (TextSet set) = Some (map (λ key. (key, 0)) (keys_of set.entries))
-text_pairs (Cache cache) = None
-text_pairs (TextCache cache) = Some (pairs_of cache.arrays)
+-- what one of the pairs under byte strings leaves in two buffers: bytes, and a row
+abbrev pub Piece : Type 0
+Piece = List ℕ × TextPair
+
+abbrev pub text_piece : Text × ℕ → Piece
+text_piece pair = (pair.0.items, record { len = length pair.0.items; value = pair.1 })
+
+abbrev pub key_piece : Text → Piece
+key_piece key = text_piece (key, 0)
+
+-- of a store's pair, the length of its value
+abbrev pub store_piece : Text × Text → Piece
+store_piece pair = text_piece (pair.0, length pair.1.items)
+
+abbrev pub text_pieces : Table → Option (List Piece)
+text_pieces (Map m) = None
+text_pieces (TextMap m) = Some (map text_piece m.entries)
+text_pieces (Set s) = None
+text_pieces (TextSet s) = Some (map key_piece (keys_of s.entries))
+text_pieces (Store m) = None
+text_pieces (Cache c) = None
+text_pieces (TextCache c) = Some (map text_piece (pairs_of c.arrays))
 
 -- a pair as C sees it
 abbrev pub pair_of : ℕ × ℕ → Pair
 pair_of pair = record { key = pair.0; value = pair.1 }
-
-abbrev pub text_pair_of : Text × ℕ → TextPair
-text_pair_of pair = record { len = length pair.0.items; value = pair.1 }
 
 -- the pairs from one on are copied to the front of a buffer, as many as there is room for
 pub record CopiesPairs (start : ℕ) (pairs : List (ℕ × ℕ)) (old : List Pair) (count : ℕ) (new : List Pair) : Type 0 where
@@ -41,21 +56,24 @@ pub record CopiesPairs (start : ℕ) (pairs : List (ℕ × ℕ)) (old : List Pai
   pub count_is : count ≡ length asked
   pub written : new ≡ with_front (map pair_of asked) old
 
--- the longest front of a list that fits: each pair in a row, and the bytes of all keys in so many
-abbrev pub fitting : ℕ → ℕ → List (Text × ℕ) → List (Text × ℕ)
+-- the longest front of a list that fits: each piece in a row, and the bytes of all in so many
+abbrev pub fitting : ℕ → ℕ → List Piece → List Piece
 fitting rows bytes [] = []
-fitting rows bytes (pair ∷ pairs) =
-    if nat_lt 0 rows && nat_le (length pair.0.items) bytes then pair ∷ fitting (rows - 1) (bytes - length pair.0.items) pairs else []
+fitting rows bytes (piece ∷ pieces) =
+    if nat_lt 0 rows && nat_le (length piece.0) bytes then piece ∷ fitting (rows - 1) (bytes - length piece.0) pieces else []
 
--- the keys' bytes, one after another
-abbrev pub bytes_of : List (Text × ℕ) → List ℕ
-bytes_of pairs = flat_map (λ pair. pair.0.items) pairs
+-- the pieces' rows, and their bytes, one after another
+abbrev pub rows_of : List Piece → List TextPair
+rows_of pieces = map (λ piece. piece.1) pieces
 
--- the pairs from one on are copied to the fronts of two buffers, as many as fit: lengths and values, and the bytes of keys
-pub record CopiesTexts (start : ℕ) (pairs : List (Text × ℕ)) (old : List TextPair) (bytes : List ℕ) (count : ℕ) (new : List TextPair)
+abbrev pub bytes_of : List Piece → List ℕ
+bytes_of pieces = flat_map (λ piece. piece.0) pieces
+
+-- the pieces from one on are copied to the fronts of two buffers, as many as fit
+pub record CopiesTexts (start : ℕ) (pieces : List Piece) (old : List TextPair) (bytes : List ℕ) (count : ℕ) (new : List TextPair)
     (after : List ℕ) : Type 0 where
-  pub asked : List (Text × ℕ)
-  pub are : asked ≡ fitting (length old) (length bytes) (drop start pairs)
+  pub asked : List Piece
+  pub are : asked ≡ fitting (length old) (length bytes) (drop start pieces)
   pub count_is : count ≡ length asked
-  pub written : new ≡ with_front (map text_pair_of asked) old
+  pub written : new ≡ with_front (rows_of asked) old
   pub keys : after ≡ with_front (bytes_of asked) bytes

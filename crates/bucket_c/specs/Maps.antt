@@ -1,12 +1,12 @@
 -- What a call does to a map or a set, by the code that it answers: some answer of the library's call has this code, and the
 -- library's clauses hold of that answer.
-use Rattle.std.specs.Prelude.{ℕ, ◌≡◌, Bool, Option, Result, unwrap_or}
+use Rattle.std.specs.Prelude.{ℕ, ◌≡◌, Bool, MatchOption, Option, Result, unwrap_or}
 use Rattle.std.specs.declared.alloc.AllocFailed.{AllocFailed}
 use Rattle.bucket_table.specs.declared.hash_table.NotInserted.{NotInserted}
-use Rattle.collections.specs.Changes.{Inserts, Removes, SetRemoves, Upserts}
+use Rattle.collections.specs.Changes.{Inserts, Removes, SetRemoves, Takes, Upserts}
 use Rattle.collections.specs.Crowding.{LacksRoom}
 use Rattle.collections.specs.Maps.{MapView, get, get_by}
-use Rattle.bucket_c.specs.Codes.{found_code, insert_code, no_memory, upsert_code}
+use Rattle.bucket_c.specs.Codes.{absent, found_code, insert_code, no_memory, ok, present, upsert_code}
 
 module _ {K H : Type 0} where
   -- a value is written out if a key that passes a test is there
@@ -34,3 +34,13 @@ module _ {K H : Type 0} (eq : K → K → Bool) (test : K → Bool) where
 
   abbrev pub RemovesKey : MapView K (Unit {0}) H → ℕ → MapView K (Unit {0}) H → Type 0
   RemovesKey old code new = (answer : Option K) × (code ≡ found_code answer) × SetRemoves eq test old answer new
+
+  -- the pair under a key that passes a test goes, if there is one
+  abbrev pub Drops : {V : Type 0} → MapView K V H → ℕ → MapView K V H → Type 0
+  Drops {V} old code new = (answer : Option (K × V)) × (code ≡ found_code answer) × Removes eq test old answer new
+
+  -- the pair under a key that passes a test goes if it has a value; another value that it has is written out, and nothing changes
+  abbrev pub RemovesEqual : ℕ → ℕ → MapView K ℕ H → ℕ → MapView K ℕ H → ℕ → Type 0
+  RemovesEqual value before old code new after = MatchOption (get_by test old) ((code ≡ absent) × (new ≡ old) × (after ≡ before))
+      (λ held. (held ≡ value → (code ≡ ok) × ((own : K) × Takes eq old test (own, value) new) × (after ≡ before))
+      × ((held ≡ value → ⊥) → (code ≡ present) × (new ≡ old) × (after ≡ held)))

@@ -1,13 +1,26 @@
 //! Exports that take a handle of any kind.
 ghost use Rattle.std.specs.Prelude.{◌≡◌, ◌-◌, ◌^◌, None, min};
 ghost use Rattle.bucket_c.specs.Any.{Clears, ReservesMore, Shrinks};
-ghost use Rattle.bucket_c.specs.Tables.{len_of};
+ghost use Rattle.bucket_c.specs.Tables.{capacity_of, len_of};
 
 use crate::codes::{CLOSED, OK, OTHER_KIND};
 use crate::handle::Handle;
 use crate::maps;
 use crate::tables::Table;
 use std::alloc::Global;
+
+/// The version of these calls, 0.2.0: 65536 for a major one, 256 for a minor one.
+const VERSION: u32 = 512;
+
+/// Returns the version of these calls.
+///
+/// O(1). Own.
+#[unsafe(no_mangle)]
+pub extern "C" fn bucket_version() -> u32
+    ensures { result ≡ 512 }
+{
+    VERSION
+}
 
 /// Frees what the handle holds, and closes it.
 ///
@@ -23,22 +36,44 @@ pub extern "C" fn bucket_free(alloc: Global, handle: &mut Handle)
 ///
 /// O(slots / 32). `HashMap::len`.
 #[unsafe(no_mangle)]
-pub extern "C" fn bucket_len(alloc: Global, handle: &mut Handle) -> usize
+pub extern "C" fn bucket_len(handle: &mut Handle) -> usize
     ensures len { result ≡ min (len_of handle.old.held.table) (2 ^ 64 - 1) }
-    ensures same { handle.new.held.table ≡ handle.old.held.table }
+    ensures same { handle.new ≡ handle.old }
 {
-    let Some(table) = handle.take(alloc) else {
+    if !handle.live {
         return 0;
-    };
-    let len = match &*table {
+    }
+    match &*handle.held.table() {
         Table::Map(map) => map.len(),
         Table::TextMap(map) => map.len(),
+        Table::Set(set) => set.len(),
         Table::TextSet(set) => set.len(),
+        Table::Store(map) => map.len(),
         Table::Cache(cache) => cache.len(),
         Table::TextCache(cache) => cache.len(),
-    };
-    handle.put(table);
-    len
+    }
+}
+
+/// Returns how many slots the current array has; 0 where the handle is closed.
+///
+/// O(1). `HashMap::capacity`.
+#[unsafe(no_mangle)]
+pub extern "C" fn bucket_capacity(handle: &mut Handle) -> usize
+    ensures capacity { result ≡ capacity_of handle.old.held.table }
+    ensures same { handle.new ≡ handle.old }
+{
+    if !handle.live {
+        return 0;
+    }
+    match &*handle.held.table() {
+        Table::Map(map) => map.capacity(),
+        Table::TextMap(map) => map.capacity(),
+        Table::Set(set) => set.capacity(),
+        Table::TextSet(set) => set.capacity(),
+        Table::Store(map) => map.capacity(),
+        Table::Cache(cache) => cache.capacity(),
+        Table::TextCache(cache) => cache.capacity(),
+    }
 }
 
 /// Drops all pairs and all slots.
@@ -54,7 +89,9 @@ pub extern "C" fn bucket_clear(alloc: Global, handle: &mut Handle) -> u32
     match &mut *table {
         Table::Map(map) => map.clear(),
         Table::TextMap(map) => map.clear(),
+        Table::Set(set) => set.clear(),
         Table::TextSet(set) => set.clear(),
+        Table::Store(map) => map.clear(),
         Table::Cache(cache) => cache.clear(),
         Table::TextCache(cache) => cache.clear(),
     }
@@ -77,7 +114,9 @@ pub extern "C" fn bucket_reserve(alloc: Global, handle: &mut Handle, additional:
     let code = match &mut *table {
         Table::Map(map) => maps::reserve(map, additional),
         Table::TextMap(map) => maps::reserve(map, additional),
+        Table::Set(set) => maps::reserve_keys(set, additional),
         Table::TextSet(set) => maps::reserve_keys(set, additional),
+        Table::Store(map) => maps::reserve(map, additional),
         _ => OTHER_KIND,
     };
     handle.put(table);
@@ -98,7 +137,9 @@ pub extern "C" fn bucket_shrink(alloc: Global, handle: &mut Handle) -> u32
     let code = match &mut *table {
         Table::Map(map) => maps::shrink(map),
         Table::TextMap(map) => maps::shrink(map),
+        Table::Set(set) => maps::shrink_keys(set),
         Table::TextSet(set) => maps::shrink_keys(set),
+        Table::Store(map) => maps::shrink(map),
         _ => OTHER_KIND,
     };
     handle.put(table);

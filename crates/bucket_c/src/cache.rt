@@ -8,7 +8,7 @@ ghost use Rattle.bucket_c.specs.Codes.{found_code};
 ghost use Rattle.bucket_c.specs.Hashing.{word_hash};
 ghost use Rattle.bucket_c.specs.Maps.{Finds};
 ghost use Rattle.bucket_c.specs.Opening.{IsNewCache};
-ghost use Rattle.bucket_c.specs.Tables.{Caches, OnCache, Opens};
+ghost use Rattle.bucket_c.specs.Tables.{Caches, OnCache, Opens, Reads, cache_in};
 ghost use Rattle.bucket_c.specs.declared.tables.Table.TheVariants.{Cache};
 
 use crate::caches;
@@ -101,29 +101,25 @@ pub extern "C" fn bucket_cache_get(
 ///
 /// Returns `OK`, `ABSENT`. O(1) expected. `HashCache::peek`.
 #[unsafe(no_mangle)]
-pub extern "C" fn bucket_cache_peek(
-    alloc: Global,
-    handle: &mut Handle,
-    key: u64,
-    value: &mut u64,
-) -> u32
-    ensures { OnCache (λ old code new. Finds (nat_eq key) (map_of old) value.old code value.new ×
-        (new ≡ old))
-        (value.new ≡ value.old) handle.old.held.table result handle.new.held.table }
+pub extern "C" fn bucket_cache_peek(handle: &mut Handle, key: u64, value: &mut u64) -> u32
+    ensures found { Reads cache_in
+        (λ cache code. Finds (nat_eq key) (map_of cache) value.old code value.new)
+        (value.new ≡ value.old) handle.old.held.table result }
+    ensures same { handle.new ≡ handle.old }
 {
-    on_table!(handle, alloc, Cache(cache) => caches::peek(cache, &key, value))
+    on_shared!(handle, Cache(cache) => caches::peek(cache, &key, value))
 }
 
 /// Tests whether the cache has a key, and touches no pair.
 ///
 /// Returns `OK`, `ABSENT`. O(1) expected. `HashCache::contains`.
 #[unsafe(no_mangle)]
-pub extern "C" fn bucket_cache_contains(alloc: Global, handle: &mut Handle, key: u64) -> u32
-    ensures { OnCache (λ old code new. (code ≡ found_code (get nat_eq (map_of old) key)) × (new ≡
-        old))
-        (Unit {0}) handle.old.held.table result handle.new.held.table }
+pub extern "C" fn bucket_cache_contains(handle: &mut Handle, key: u64) -> u32
+    ensures found { Reads cache_in (λ cache code. code ≡ found_code (get nat_eq (map_of cache) key))
+        (Unit {0}) handle.old.held.table result }
+    ensures same { handle.new ≡ handle.old }
 {
-    on_table!(handle, alloc, Cache(cache) => caches::contains(cache, &key))
+    on_shared!(handle, Cache(cache) => caches::contains(cache, &key))
 }
 
 /// Takes out the pair whose key is equal, and writes out its value.

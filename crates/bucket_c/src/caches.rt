@@ -1,12 +1,13 @@
 //! The library's calls on caches, each of which answers by a code.
-ghost use Rattle.std.specs.Prelude.{◌≡◌, ◌++◌, drop, length, nat_eq, take, unwrap_or};
+ghost use Rattle.std.specs.Prelude.{◌≡◌, nat_eq, unwrap_or};
 ghost use Rattle.collections.specs.Maps.{get_by, map_of};
-ghost use Rattle.bucket_c.specs.Caches.{GetsOne, PutsOne, TakesOne, UpsertsInto, key_copied};
+ghost use Rattle.bucket_c.specs.Caches.{GetsOne, PutsOne, TakesOne, UpsertsInto, text_copied};
 ghost use Rattle.bucket_c.specs.Codes.{found_code};
 ghost use Rattle.bucket_c.specs.Hashing.{text_hash, word_hash};
 ghost use Rattle.bucket_c.specs.Maps.{Finds};
 ghost use Rattle.bucket_c.specs.Tables.{text_eq};
 
+use crate::bytes::copy_out;
 use crate::codes::{ABSENT, EVICTED, NO_MEMORY, OK, PRESENT};
 use crate::seed::SeededHash;
 use bucket_table::key_hash::KeyHash;
@@ -128,16 +129,6 @@ pub fn upsert(
     }
 }
 
-/// Writes a key's length out, and as many of its bytes as there is room for.
-fn copy_key(key: &[u8], bytes: &mut [u8], len: &mut usize)
-    ensures bytes { bytes.new ≡ take (length bytes.old) key.now ++ drop (length key.now) bytes.old }
-    ensures len { len.new ≡ length key.now }
-{
-    *len = key.len();
-    let count = key.len().min(bytes.len());
-    bytes[..count].copy_from_slice(&key[..count]);
-}
-
 /// As `put`, of a cache whose keys are byte strings.
 pub fn put_text(
     cache: &mut HashCache<Vec<u8>, u64, SeededHash>,
@@ -147,13 +138,13 @@ pub fn put_text(
     len: &mut usize,
     before: &mut u64,
 ) -> u32
-    ensures { PutsOne text_eq text_hash key value (key_copied bytes.old len.old) before.old
+    ensures { PutsOne text_eq text_hash key value (text_copied bytes.old len.old) before.old
         cache.old result cache.new (bytes.new, len.new) before.new }
 {
     match cache.put(key, value) {
         Ok(None) => OK,
         Ok(Some((own, held))) => {
-            copy_key(&own, bytes, len);
+            copy_out(&own, bytes, len);
             *before = held;
             EVICTED
         }
@@ -171,13 +162,13 @@ pub fn upsert_text(
     len: &mut usize,
     before: &mut u64,
 ) -> u32
-    ensures { UpsertsInto text_eq text_hash key value (key_copied bytes.old len.old) before.old
+    ensures { UpsertsInto text_eq text_hash key value (text_copied bytes.old len.old) before.old
         cache.old result cache.new (bytes.new, len.new) before.new }
 {
     match cache.upsert(key, value) {
         Ok(Upserted::Added) => OK,
         Ok(Upserted::Evicted(own, held)) => {
-            copy_key(&own, bytes, len);
+            copy_out(&own, bytes, len);
             *before = held;
             EVICTED
         }

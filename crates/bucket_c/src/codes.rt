@@ -23,3 +23,6 @@ pub const OTHER_KIND: u32 = 6;
 
 /// Done, and a pair went for the one that is in.
 pub const EVICTED: u32 = 7;
+
+/// The value is longer than the room for it, and its front is written out.
+pub const TOO_LONG: u32 = 8;

@@ -2,7 +2,7 @@
 ghost use Rattle.std.specs.Prelude.{◌≡◌, map};
 ghost use Rattle.std.specs.Map.{keys_of};
 ghost use Rattle.bucket_table.specs.Views.ArraysView.{pairs_of};
-ghost use Rattle.bucket_c.specs.Copying.{CopiesPairs, CopiesTexts};
+ghost use Rattle.bucket_c.specs.Copying.{CopiesPairs, CopiesTexts, key_piece, text_piece};
 ghost use Rattle.bucket_c.specs.Steps.{next_copied, next_text};
 
 use crate::seed::SeededHash;
@@ -18,7 +18,7 @@ pub struct Pair {
     pub value: u64,
 }
 
-/// A pair under a byte string: the key's length, and the value.
+/// A pair under a byte string: the key's length, and the value; of a store, the value's length.
 #[repr(C)]
 #[derive(Clone, Copy)]
 pub struct TextPair {
@@ -28,7 +28,7 @@ pub struct TextPair {
 
 /// Copies a pair to the next place, where none is to be passed over first and there is room.
 #[inline(always)]
-fn copy_next(skip: &mut usize, count: &mut usize, out: &mut [Pair], key: u64, value: u64)
+pub fn copy_next(skip: &mut usize, count: &mut usize, out: &mut [Pair], key: u64, value: u64)
     ensures { (skip.new, count.new, out.new) ≡ next_copied (skip.old, count.old, out.old) (
       key,
       value,
@@ -73,16 +73,16 @@ pub fn copy_cache(cache: &HashCache<u64, u64, SeededHash>, start: usize, out: &m
 /// Where a copy of pairs under byte strings stands: how many are to be passed over, for how many
 /// there may be room, how many are copied, and where the bytes of their keys end.
 #[derive(Clone, Copy)]
-struct Place {
-    skip: usize,
-    room: usize,
-    count: usize,
-    end: usize,
+pub struct Place {
+    pub skip: usize,
+    pub room: usize,
+    pub count: usize,
+    pub end: usize,
 }
 
 /// Copies a pair to the next row, and its key behind the others, where none is to be passed over
 /// first and they fit.
-fn copy_next_text(
+pub fn copy_next_text(
     place: &mut Place,
     rows: &mut [TextPair],
     bytes: &mut [u8],
@@ -90,7 +90,7 @@ fn copy_next_text(
     value: u64,
 )
     ensures { (place.new, rows.new, bytes.new)
-        ≡ next_text (place.old, rows.old, bytes.old) (key.now, value) }
+        ≡ next_text (place.old, rows.old, bytes.old) (text_piece (key.now, value)) }
 {
     if place.skip > 0 {
         place.skip -= 1;
@@ -115,12 +115,13 @@ fn copy_next_text(
 
 /// Copies a map's pairs from one on, as many as fit, and returns how many.
 pub fn copy_text_map(
-    map: &HashMap<Vec<u8>, u64, SeededHash>,
+    table: &HashMap<Vec<u8>, u64, SeededHash>,
     start: usize,
     rows: &mut [TextPair],
     bytes: &mut [u8],
 ) -> usize
-    ensures { CopiesTexts start map.now.entries rows.old bytes.old result rows.new bytes.new }
+    ensures { CopiesTexts start (map text_piece table.now.entries) rows.old bytes.old result
+        rows.new bytes.new }
 {
     let mut place = Place {
         skip: start,
@@ -130,9 +131,9 @@ pub fn copy_text_map(
     };
     let mut visit = |key: &Vec<u8>, value: &u64|
         ensures { (place.exit, rows.exit.now, bytes.exit.now)
-            ≡ next_text (place.entry, rows.entry.now, bytes.entry.now) (key.now, value.now) }
+            ≡ next_text (place.entry, rows.entry.now, bytes.entry.now) (text_piece (key.now, value.now)) }
     { copy_next_text(&mut place, rows, bytes, key, *value) };
-    map.for_each_ref(&mut visit);
+    table.for_each_ref(&mut visit);
     place.count
 }
 
@@ -143,7 +144,7 @@ pub fn copy_text_set(
     rows: &mut [TextPair],
     bytes: &mut [u8],
 ) -> usize
-    ensures { CopiesTexts start (map (λ key. (key, 0)) (keys_of set.now.entries)) rows.old
+    ensures { CopiesTexts start (map key_piece (keys_of set.now.entries)) rows.old
         bytes.old result rows.new bytes.new }
 {
     let mut place = Place {
@@ -154,7 +155,7 @@ pub fn copy_text_set(
     };
     let mut visit = |key: &Vec<u8>|
         ensures { (place.exit, rows.exit.now, bytes.exit.now)
-            ≡ next_text (place.entry, rows.entry.now, bytes.entry.now) (key.now, 0) }
+            ≡ next_text (place.entry, rows.entry.now, bytes.entry.now) (key_piece key.now) }
     { copy_next_text(&mut place, rows, bytes, key, 0) };
     set.for_each_ref(&mut visit);
     place.count
@@ -167,7 +168,7 @@ pub fn copy_text_cache(
     rows: &mut [TextPair],
     bytes: &mut [u8],
 ) -> usize
-    ensures { CopiesTexts start (pairs_of cache.now.arrays) rows.old bytes.old result rows.new
+    ensures { CopiesTexts start (map text_piece (pairs_of cache.now.arrays)) rows.old bytes.old result rows.new
         bytes.new }
 {
     let mut place = Place {
@@ -178,7 +179,7 @@ pub fn copy_text_cache(
     };
     let mut visit = |key: &Vec<u8>, value: &u64|
         ensures { (place.exit, rows.exit.now, bytes.exit.now)
-            ≡ next_text (place.entry, rows.entry.now, bytes.entry.now) (key.now, value.now) }
+            ≡ next_text (place.entry, rows.entry.now, bytes.entry.now) (text_piece (key.now, value.now)) }
     { copy_next_text(&mut place, rows, bytes, key, *value) };
     cache.for_each(&mut visit);
     place.count

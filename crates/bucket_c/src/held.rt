@@ -1,5 +1,6 @@
 //! A table on the heap as a pointer that C can carry.
 ghost use Rattle.std.specs.Prelude.{◌≡◌, true, Option, Some, None, is_some};
+ghost use Rattle.std.specs.Borrow.{sem};
 ghost use Rattle.bucket_c.specs.declared.tables.Table.{Table};
 ghost use Rattle.bucket_c.specs.Owning.{table_coded};
 
@@ -28,6 +29,8 @@ impl Model for Held {
 unsafe impl Send for Held {}
 
 impl Held {
+    ghost use Rattle.bucket_c.specs.Lending.{lends_table};
+
     /// Holds nothing.
     pub fn none(alloc: Global) -> Held
         ensures { result.table ≡ None }
@@ -51,6 +54,15 @@ impl Held {
         ensures { self.table ≡ Some result.value }
     {
         self.into_parts().into_box()
+    }
+
+    /// Lends the table, by `&mut` to a reader too: an export can't take a struct with `also_shares`.
+    pub fn table(&mut self) -> &mut Table
+        requires { is_some self.old.table ≡ true }
+        ensures* writes_back { sem 𝓛 (lends_table self.entry result) }
+        ensures value { self.old.table ≡ Some result.now }
+    {
+        unsafe { &mut *(self.at as *mut Table) }
     }
 
     fn of_parts(parts: Parts<Table, Global>) -> Held

@@ -1,10 +1,11 @@
-//! Maps, a set and caches of the library `collections` for C: a handle that C carries, and a code
-//! for each answer.
+//! Maps, sets, a store and caches of the library `collections` for C: a handle that C carries, and a
+//! code for each answer.
 //!
-//! Each call takes the table out of its handle, makes one call of the library, and puts the table
-//! back. It requires nothing of its caller: on a closed handle, and on one of another kind, it
-//! answers by a code. `specs/Tables.antt` says what a clause means there, and `specs/Codes.antt`
-//! which answer has which code. Keys are hashed by a seed, `seed.rt`.
+//! A call that changes the table takes it out of its handle, makes one call of the library, and
+//! puts it back; one that reads is lent the table where it lies. A call requires nothing of its
+//! caller: on a closed handle, and on one of another kind, it answers by a code.
+//! `specs/Tables.antt` says what a clause means there, and `specs/Codes.antt` which answer has
+//! which code. Keys are hashed by a seed, `seed.rt`.
 //!
 //! `held.rt` keeps the table's block as a pointer, and `parts.rt` takes a box apart: their proofs
 //! alone follow the pointer. `bindings/bucket.h` declares the calls for C.
@@ -27,10 +28,27 @@ macro_rules! on_table {
     }};
 }
 
+// Makes a call that only reads what a handle holds, where that is of the call's kind.
+macro_rules! on_shared {
+    ($handle:ident, $kind:ident($held:ident) => $call:expr) => {{
+        if !$handle.live {
+            return CLOSED;
+        }
+        match &*$handle.held.table() {
+            Table::$kind($held) => $call,
+            _ => OTHER_KIND,
+        }
+    }};
+}
+
 mod any;
+mod buckets;
+mod bytes;
 mod cache;
 mod caches;
 mod codes;
+mod copied_key;
+mod copies;
 mod copying;
 mod handle;
 mod held;
@@ -39,8 +57,12 @@ mod maps;
 mod parts;
 mod pieces;
 mod seed;
+mod set;
+mod store;
+mod stores;
 mod tables;
 mod text_cache;
 mod text_map;
 mod text_set;
 mod texts;
+mod texts_in;

@@ -4,17 +4,18 @@
 ghost use Rattle.std.specs.Prelude.{◌≡◌, ℕ, nat_eq};
 ghost use Rattle.collections.specs.Maps.{get};
 ghost use Rattle.bucket_c.specs.Codes.{found_code};
+ghost use Rattle.bucket_c.specs.Copies.{AddsTo, GetsOrInserts};
 ghost use Rattle.bucket_c.specs.Hashing.{word_hash};
-ghost use Rattle.bucket_c.specs.Maps.{Finds, InsertsOne, RemovesOne, UpsertsOne};
+ghost use Rattle.bucket_c.specs.Maps.{Finds, InsertsOne, RemovesEqual, RemovesOne, UpsertsOne};
 ghost use Rattle.bucket_c.specs.Opening.{IsNew};
-ghost use Rattle.bucket_c.specs.Tables.{Maps, OnMap, Opens};
+ghost use Rattle.bucket_c.specs.Tables.{Maps, OnMap, Opens, Reads, map_in};
 ghost use Rattle.bucket_c.specs.declared.tables.Table.TheVariants.{Map};
 
 use crate::codes::{CLOSED, OTHER_KIND};
 use crate::handle::Handle;
-use crate::maps;
 use crate::seed::{Seed, hash_by};
 use crate::tables::Table;
+use crate::{copies, maps};
 use collections::hash_map::HashMap;
 use std::alloc::Global;
 
@@ -72,28 +73,24 @@ pub extern "C" fn bucket_map_upsert(
 ///
 /// Returns `OK`, `ABSENT`. O(1) expected. `HashMap::get`.
 #[unsafe(no_mangle)]
-pub extern "C" fn bucket_map_get(
-    alloc: Global,
-    handle: &mut Handle,
-    key: u64,
-    value: &mut u64,
-) -> u32
-    ensures { OnMap (λ old code new. Finds (nat_eq key) old value.old code value.new × (new ≡ old))
-        (value.new ≡ value.old) handle.old.held.table result handle.new.held.table }
+pub extern "C" fn bucket_map_get(handle: &mut Handle, key: u64, value: &mut u64) -> u32
+    ensures found { Reads map_in (λ map code. Finds (nat_eq key) map value.old code value.new)
+        (value.new ≡ value.old) handle.old.held.table result }
+    ensures same { handle.new ≡ handle.old }
 {
-    on_table!(handle, alloc, Map(map) => maps::get(map, &key, value))
+    on_shared!(handle, Map(map) => maps::get(map, &key, value))
 }
 
 /// Tests whether the map has a key.
 ///
 /// Returns `OK`, `ABSENT`. O(1) expected. `HashMap::contains`.
 #[unsafe(no_mangle)]
-pub extern "C" fn bucket_map_contains(alloc: Global, handle: &mut Handle, key: u64) -> u32
-    ensures { OnMap (λ old code new. (code ≡ found_code (get nat_eq old key)) × (new ≡ old))
-        (Unit {0})
-        handle.old.held.table result handle.new.held.table }
+pub extern "C" fn bucket_map_contains(handle: &mut Handle, key: u64) -> u32
+    ensures found { Reads map_in (λ map code. code ≡ found_code (get nat_eq map key))
+        (Unit {0}) handle.old.held.table result }
+    ensures same { handle.new ≡ handle.old }
 {
-    on_table!(handle, alloc, Map(map) => maps::contains(map, &key))
+    on_shared!(handle, Map(map) => maps::contains(map, &key))
 }
 
 /// Takes out the pair whose key is equal, and writes out its value.
@@ -110,4 +107,62 @@ pub extern "C" fn bucket_map_remove(
         (value.new ≡ value.old) handle.old.held.table result handle.new.held.table }
 {
     on_table!(handle, alloc, Map(map) => maps::remove(map, &key, value))
+}
+
+/// Adds to the value under a key, modulo 2^64, or inserts the key beside what is to be added; writes
+/// out the sum.
+///
+/// Returns `OK` if the key was absent, `PRESENT` if it was there; `NO_MEMORY` if allocation fails,
+/// and all stays. O(1) expected. `HashMap::get_mut`, `HashMap::insert`.
+#[unsafe(no_mangle)]
+pub extern "C" fn bucket_map_add(
+    alloc: Global,
+    handle: &mut Handle,
+    key: u64,
+    amount: u64,
+    total: &mut u64,
+) -> u32
+    ensures { OnMap (λ old code new. AddsTo nat_eq word_hash (nat_eq key) ⊥ amount total.old old
+        code new total.new)
+        (total.new ≡ total.old) handle.old.held.table result handle.new.held.table }
+{
+    on_table!(handle, alloc, Map(map) => copies::add(map, alloc, &key, amount, total))
+}
+
+/// Inserts a pair whose key the map hasn't, and writes out the value that is there then.
+///
+/// Returns `OK`; `PRESENT` if the key was there; `NO_MEMORY` if allocation fails, and all stays.
+/// O(1) expected. `HashMap::get`, `HashMap::insert`.
+#[unsafe(no_mangle)]
+pub extern "C" fn bucket_map_get_or_insert(
+    alloc: Global,
+    handle: &mut Handle,
+    key: u64,
+    value: u64,
+    held: &mut u64,
+) -> u32
+    ensures { OnMap (λ old code new. GetsOrInserts nat_eq word_hash (nat_eq key) ⊥ value held.old
+        old code new held.new)
+        (held.new ≡ held.old) handle.old.held.table result handle.new.held.table }
+{
+    on_table!(handle, alloc, Map(map) => copies::get_or_insert(map, alloc, &key, value, held))
+}
+
+/// Takes out the pair under a key if it has this value; another one that it has is written out.
+///
+/// Returns `OK`; `PRESENT` if it has another one, and it stays; `ABSENT`. O(1) expected.
+/// `HashMap::get`, `HashMap::remove`.
+#[unsafe(no_mangle)]
+pub extern "C" fn bucket_map_remove_if_equal(
+    alloc: Global,
+    handle: &mut Handle,
+    key: u64,
+    value: u64,
+    held: &mut u64,
+) -> u32
+    ensures { OnMap (λ old code new. RemovesEqual nat_eq (nat_eq key) value held.old old code new
+        held.new)
+        (held.new ≡ held.old) handle.old.held.table result handle.new.held.table }
+{
+    on_table!(handle, alloc, Map(map) => maps::remove_if_equal(map, &key, value, held))
 }

@@ -3,7 +3,7 @@ ghost use Rattle.std.specs.Prelude.{◌≡◌};
 ghost use Rattle.collections.specs.Maps.{get_by};
 ghost use Rattle.bucket_c.specs.Codes.{found_code};
 ghost use Rattle.bucket_c.specs.Sizing.{MakesRoomBy, ShrinksBy};
-ghost use Rattle.bucket_c.specs.Maps.{Finds, InsertsOne, RemovesKey, RemovesOne, UpsertsOne};
+ghost use Rattle.bucket_c.specs.Maps.{Drops, Finds, InsertsOne, RemovesEqual, RemovesKey, RemovesOne, UpsertsOne};
 
 use crate::codes::{ABSENT, NO_MEMORY, OK, PRESENT};
 use bucket_table::key_hash::KeyHash;
@@ -13,7 +13,11 @@ use collections::key_form::KeyForm;
 
 /// Inserts a pair whose key the map hasn't.
 #[inline(always)]
-pub fn insert<K: Eq + Drop, H: KeyHash<K>>(map: &mut HashMap<K, u64, H>, key: K, value: u64) -> u32
+pub fn insert<K: Eq + Drop, V: Drop, H: KeyHash<K>>(
+    map: &mut HashMap<K, V, H>,
+    key: K,
+    value: V,
+) -> u32
     ensures { InsertsOne K.eq H.hash_of key value map.old result map.new }
 {
     match map.insert(key, value) {
@@ -107,7 +111,7 @@ pub fn get<K: Eq, H: KeyHash<K>, Q: KeyForm<K, H>>(
 
 /// Tests whether the map has a key that a form stands for.
 #[inline(always)]
-pub fn contains<K: Eq, H: KeyHash<K>, Q: KeyForm<K, H>>(map: &HashMap<K, u64, H>, key: Q) -> u32
+pub fn contains<K: Eq, V, H: KeyHash<K>, Q: KeyForm<K, H>>(map: &HashMap<K, V, H>, key: Q) -> u32
     ensures { result ≡ found_code (get_by (Q.stands_for key) map.now) }
 {
     match map.get(key) {
@@ -132,6 +136,42 @@ pub fn remove<K: Eq + Drop, H: KeyHash<K>, Q: KeyForm<K, H>>(
         }
         None => ABSENT,
     }
+}
+
+/// Takes out the pair under the keys that a form stands for, and drops it.
+pub fn drop_pair<K: Eq + Drop, V: Drop, H: KeyHash<K>, Q: KeyForm<K, H>>(
+    map: &mut HashMap<K, V, H>,
+    key: Q,
+) -> u32
+    ensures { Drops K.eq (Q.stands_for key) map.old result map.new }
+{
+    match map.remove(key) {
+        Some(_pair) => OK,
+        None => ABSENT,
+    }
+}
+
+/// Takes out the pair under the keys that a form stands for, if it has this value; another one that
+/// it has is written out.
+#[inline(always)]
+pub fn remove_if_equal<K: Eq + Drop, H: KeyHash<K>, Q: KeyForm<K, H>>(
+    map: &mut HashMap<K, u64, H>,
+    key: Q,
+    value: u64,
+    held: &mut u64,
+) -> u32
+    ensures { RemovesEqual K.eq (Q.stands_for key) value held.old map.old result map.new held.new }
+{
+    let own = match map.get(key) {
+        Some(own) => *own,
+        None => return ABSENT,
+    };
+    if own != value {
+        *held = own;
+        return PRESENT;
+    }
+    let _ = map.remove(key);
+    OK
 }
 
 /// Inserts a key that the set hasn't.

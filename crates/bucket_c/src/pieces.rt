@@ -1,13 +1,13 @@
 //! Exports that copy pairs out, from one place of their order on.
 ghost use Rattle.std.specs.Prelude.{◌≡◌};
+ghost use Rattle.bucket_c.specs.Buckets.{CopiesTextsIn, CopiesWordsIn};
 ghost use Rattle.bucket_c.specs.Pieces.{CopiesTextsOf, CopiesWordsOf};
 
 use crate::codes::{CLOSED, OK, OTHER_KIND};
-use crate::copying;
 use crate::copying::{Pair, TextPair};
 use crate::handle::Handle;
 use crate::tables::Table;
-use std::alloc::Global;
+use crate::{buckets, copying, texts_in};
 
 /// Copies pairs of a map or a cache of words, from one on, as many as there is room for, and writes
 /// out how many.
@@ -15,7 +15,6 @@ use std::alloc::Global;
 /// Returns `OK`, `CLOSED`, `OTHER_KIND`. O(slots). `HashMap::for_each`.
 #[unsafe(no_mangle)]
 pub extern "C" fn bucket_pairs(
-    alloc: Global,
     handle: &mut Handle,
     start: usize,
     out: &mut [Pair],
@@ -23,12 +22,12 @@ pub extern "C" fn bucket_pairs(
 ) -> u32
     ensures copied { CopiesWordsOf start handle.old.held.table out.old count.old result out.new
         count.new }
-    ensures same { handle.new.held.table ≡ handle.old.held.table }
+    ensures same { handle.new ≡ handle.old }
 {
-    let Some(table) = handle.take(alloc) else {
+    if !handle.live {
         return CLOSED;
-    };
-    let code = match &*table {
+    }
+    match &*handle.held.table() {
         Table::Map(map) => {
             *count = copying::copy_map(map, start, out);
             OK
@@ -38,9 +37,7 @@ pub extern "C" fn bucket_pairs(
             OK
         }
         _ => OTHER_KIND,
-    };
-    handle.put(table);
-    code
+    }
 }
 
 /// Copies pairs under byte strings, from one on, as many as fit: the lengths of their keys and
@@ -49,7 +46,6 @@ pub extern "C" fn bucket_pairs(
 /// Returns `OK`, `CLOSED`, `OTHER_KIND`. O(slots). `HashMap::for_each`.
 #[unsafe(no_mangle)]
 pub extern "C" fn bucket_texts(
-    alloc: Global,
     handle: &mut Handle,
     start: usize,
     rows: &mut [TextPair],
@@ -59,12 +55,12 @@ pub extern "C" fn bucket_texts(
     ensures copied { CopiesTextsOf start handle.old.held.table rows.old bytes.old count.old
         result rows.new
         bytes.new count.new }
-    ensures same { handle.new.held.table ≡ handle.old.held.table }
+    ensures same { handle.new ≡ handle.old }
 {
-    let Some(table) = handle.take(alloc) else {
+    if !handle.live {
         return CLOSED;
-    };
-    let code = match &*table {
+    }
+    match &*handle.held.table() {
         Table::TextMap(map) => {
             *count = copying::copy_text_map(map, start, rows, bytes);
             OK
@@ -78,7 +74,67 @@ pub extern "C" fn bucket_texts(
             OK
         }
         _ => OTHER_KIND,
-    };
-    handle.put(table);
-    code
+    }
+}
+
+/// Copies the pairs of one bucket, from one on, as many as there is room for, and writes out how
+/// many. A key or a value that is a byte string is told as 0, and a set's keys are beside 0.
+///
+/// Returns `OK`; `ABSENT` past the last bucket; `CLOSED`. O(pairs of the bucket).
+/// `HashMap::for_each_in`.
+#[unsafe(no_mangle)]
+pub extern "C" fn bucket_pairs_in(
+    handle: &mut Handle,
+    bucket: usize,
+    start: usize,
+    out: &mut [Pair],
+    count: &mut usize,
+) -> u32
+    ensures copied { CopiesWordsIn bucket start handle.old.held.table out.old count.old result
+        out.new count.new }
+    ensures same { handle.new ≡ handle.old }
+{
+    if !handle.live {
+        return CLOSED;
+    }
+    match &*handle.held.table() {
+        Table::Map(map) => buckets::copy_map(map, bucket, start, out, count),
+        Table::TextMap(map) => buckets::copy_text_map(map, bucket, start, out, count),
+        Table::Set(set) => buckets::copy_set(set, bucket, start, out, count),
+        Table::TextSet(set) => buckets::copy_text_set(set, bucket, start, out, count),
+        Table::Store(map) => buckets::copy_store(map, bucket, start, out, count),
+        Table::Cache(cache) => buckets::copy_cache(cache, bucket, start, out, count),
+        Table::TextCache(cache) => buckets::copy_text_cache(cache, bucket, start, out, count),
+    }
+}
+
+/// Copies the pairs of one bucket under byte strings, from one on, as many as fit: the lengths of
+/// their keys and their values, and their keys one after another. The keys of a set are beside 0,
+/// those of a store beside the lengths of their values.
+///
+/// Returns `OK`; `ABSENT` past the last bucket; `CLOSED`, `OTHER_KIND`. O(pairs of the bucket).
+/// `HashMap::for_each_in`.
+#[unsafe(no_mangle)]
+pub extern "C" fn bucket_texts_in(
+    handle: &mut Handle,
+    bucket: usize,
+    start: usize,
+    rows: &mut [TextPair],
+    bytes: &mut [u8],
+    count: &mut usize,
+) -> u32
+    ensures copied { CopiesTextsIn bucket start handle.old.held.table rows.old bytes.old count.old
+        result rows.new bytes.new count.new }
+    ensures same { handle.new ≡ handle.old }
+{
+    if !handle.live {
+        return CLOSED;
+    }
+    match &*handle.held.table() {
+        Table::TextMap(map) => texts_in::copy_map(map, bucket, start, rows, bytes, count),
+        Table::TextSet(set) => texts_in::copy_set(set, bucket, start, rows, bytes, count),
+        Table::Store(map) => texts_in::copy_store(map, bucket, start, rows, bytes, count),
+        Table::TextCache(cache) => texts_in::copy_cache(cache, bucket, start, rows, bytes, count),
+        _ => OTHER_KIND,
+    }
 }

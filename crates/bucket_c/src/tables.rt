@@ -9,7 +9,9 @@ use collections::hash_set::HashSet;
 pub enum Table {
     Map(HashMap<u64, u64, SeededHash>),
     TextMap(HashMap<Vec<u8>, u64, SeededHash>),
+    Set(HashSet<u64, SeededHash>),
     TextSet(HashSet<Vec<u8>, SeededHash>),
+    Store(HashMap<Vec<u8>, Vec<u8>, SeededHash>),
     Cache(HashCache<u64, u64, SeededHash>),
     TextCache(HashCache<Vec<u8>, u64, SeededHash>),
 }

@@ -1,5 +1,5 @@
-//! Exports: a cache from byte strings to words. `put` and `upsert` copy their key, and can fail for
-//! that; no other call copies it.
+//! Exports: a cache from byte strings to words. `put` and `upsert` copy a key that the cache hasn't,
+//! and can fail for that; no other call copies it.
 //!
 //! Each call but `new` also returns `CLOSED` and `OTHER_KIND`, and then does nothing.
 ghost use Rattle.std.specs.Prelude.{◌≡◌};
@@ -9,6 +9,7 @@ ghost use Rattle.bucket_c.specs.Codes.{found_code};
 ghost use Rattle.bucket_c.specs.Maps.{Finds};
 ghost use Rattle.bucket_c.specs.Opening.{IsNewCache};
 ghost use Rattle.bucket_c.specs.Tables.{Caches, OnTextCache, Opens, Text, has_bytes, text_eq};
+ghost use Rattle.bucket_c.specs.Tables.{Reads, text_cache_in};
 ghost use Rattle.bucket_c.specs.Texts.{PutsText, UpsertsTextInto};
 ghost use Rattle.bucket_c.specs.declared.tables.Table.TheVariants.{TextCache};
 
@@ -83,7 +84,7 @@ pub extern "C" fn bucket_text_cache_upsert(
         handle.old.held.table result handle.new.held.table }
 {
     on_table!(handle, alloc, TextCache(cache) =>
-        texts::upsert_cached(cache, alloc, key, value, gone, len, before))
+        texts::upsert(cache, alloc, key, value, gone, len, before))
 }
 
 /// Writes out the value under a key, and touches its pair.
@@ -107,29 +108,26 @@ pub extern "C" fn bucket_text_cache_get(
 ///
 /// Returns `OK`, `ABSENT`. O(1) expected. `HashCache::peek`.
 #[unsafe(no_mangle)]
-pub extern "C" fn bucket_text_cache_peek(
-    alloc: Global,
-    handle: &mut Handle,
-    key: &[u8],
-    value: &mut u64,
-) -> u32
-    ensures { OnTextCache (λ old code new. Finds (has_bytes key.now) (map_of old) value.old code
-        value.new
-        × (new ≡ old)) (value.new ≡ value.old) handle.old.held.table result handle.new.held.table }
+pub extern "C" fn bucket_text_cache_peek(handle: &mut Handle, key: &[u8], value: &mut u64) -> u32
+    ensures found { Reads text_cache_in
+        (λ cache code. Finds (has_bytes key.now) (map_of cache) value.old code value.new)
+        (value.new ≡ value.old) handle.old.held.table result }
+    ensures same { handle.new ≡ handle.old }
 {
-    on_table!(handle, alloc, TextCache(cache) => caches::peek(cache, key, value))
+    on_shared!(handle, TextCache(cache) => caches::peek(cache, key, value))
 }
 
 /// Tests whether the cache has a key, and touches no pair.
 ///
 /// Returns `OK`, `ABSENT`. O(1) expected. `HashCache::contains`.
 #[unsafe(no_mangle)]
-pub extern "C" fn bucket_text_cache_contains(alloc: Global, handle: &mut Handle, key: &[u8]) -> u32
-    ensures { OnTextCache (λ old code new. (code ≡ found_code (get_by (has_bytes key.now) (map_of
-        old)))
-        × (new ≡ old)) (Unit {0}) handle.old.held.table result handle.new.held.table }
+pub extern "C" fn bucket_text_cache_contains(handle: &mut Handle, key: &[u8]) -> u32
+    ensures found { Reads text_cache_in
+        (λ cache code. code ≡ found_code (get_by (has_bytes key.now) (map_of cache)))
+        (Unit {0}) handle.old.held.table result }
+    ensures same { handle.new ≡ handle.old }
 {
-    on_table!(handle, alloc, TextCache(cache) => caches::contains(cache, key))
+    on_shared!(handle, TextCache(cache) => caches::contains(cache, key))
 }
 
 /// Takes out the pair whose key is equal, and writes out its value.

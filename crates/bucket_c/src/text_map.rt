@@ -1,21 +1,22 @@
-//! Exports: a map from byte strings to words. An insertion copies its key, and can fail for that; no
-//! other call copies it.
+//! Exports: a map from byte strings to words. An insertion copies a key that the map hasn't, and can
+//! fail for that; no other call copies it.
 //!
 //! Each call but `new` also returns `CLOSED` and `OTHER_KIND`, and then does nothing.
 ghost use Rattle.std.specs.Prelude.{◌≡◌, ℕ};
 ghost use Rattle.collections.specs.Maps.{get_by};
 ghost use Rattle.bucket_c.specs.Codes.{found_code};
-ghost use Rattle.bucket_c.specs.Maps.{Finds, RemovesOne};
+ghost use Rattle.bucket_c.specs.Maps.{Finds, RemovesEqual, RemovesOne};
 ghost use Rattle.bucket_c.specs.Opening.{IsNew};
 ghost use Rattle.bucket_c.specs.Tables.{Maps, OnTextMap, Opens, Text, has_bytes, text_eq};
-ghost use Rattle.bucket_c.specs.Texts.{InsertsText, UpsertsText};
+ghost use Rattle.bucket_c.specs.Tables.{Reads, text_map_in};
+ghost use Rattle.bucket_c.specs.Texts.{AddsToText, GetsOrInsertsText, InsertsText, UpsertsText};
 ghost use Rattle.bucket_c.specs.declared.tables.Table.TheVariants.{TextMap};
 
 use crate::codes::{CLOSED, OTHER_KIND};
 use crate::handle::Handle;
 use crate::seed::{Seed, hash_by};
 use crate::tables::Table;
-use crate::{maps, texts};
+use crate::{copies, maps};
 use collections::hash_map::HashMap;
 use std::alloc::Global;
 
@@ -40,7 +41,7 @@ pub extern "C" fn bucket_text_map_new(
 /// Inserts a pair whose key the map hasn't.
 ///
 /// Returns `OK`; `PRESENT` if the key is there, `NO_MEMORY` if allocation fails: all stays. O(1)
-/// expected. `HashMap::insert`.
+/// expected. `HashMap::contains`, `HashMap::insert`.
 #[unsafe(no_mangle)]
 pub extern "C" fn bucket_text_map_insert(
     alloc: Global,
@@ -51,14 +52,14 @@ pub extern "C" fn bucket_text_map_insert(
     ensures { OnTextMap (InsertsText key.now value) (Unit {0})
         handle.old.held.table result handle.new.held.table }
 {
-    on_table!(handle, alloc, TextMap(map) => texts::insert(map, alloc, key, value))
+    on_table!(handle, alloc, TextMap(map) => copies::insert(map, alloc, key, value))
 }
 
 /// Inserts a pair, or writes its value beside the key that is there, and writes out the earlier
 /// one.
 ///
 /// Returns `OK` if the key was absent, `PRESENT` if it was there; `NO_MEMORY` if allocation fails,
-/// and all stays. O(1) expected. `HashMap::upsert`.
+/// and all stays. O(1) expected. `HashMap::get_mut`, `HashMap::insert`.
 #[unsafe(no_mangle)]
 pub extern "C" fn bucket_text_map_upsert(
     alloc: Global,
@@ -72,36 +73,33 @@ pub extern "C" fn bucket_text_map_upsert(
         (earlier.new ≡ earlier.old)
         handle.old.held.table result handle.new.held.table }
 {
-    on_table!(handle, alloc, TextMap(map) => texts::upsert(map, alloc, key, value, earlier))
+    on_table!(handle, alloc, TextMap(map) => copies::upsert(map, alloc, key, value, earlier))
 }
 
 /// Writes out the value under a key.
 ///
 /// Returns `OK`, `ABSENT`. O(1) expected. `HashMap::get`.
 #[unsafe(no_mangle)]
-pub extern "C" fn bucket_text_map_get(
-    alloc: Global,
-    handle: &mut Handle,
-    key: &[u8],
-    value: &mut u64,
-) -> u32
-    ensures { OnTextMap (λ old code new. Finds (has_bytes key.now) old value.old code value.new ×
-        (new ≡ old))
-        (value.new ≡ value.old) handle.old.held.table result handle.new.held.table }
+pub extern "C" fn bucket_text_map_get(handle: &mut Handle, key: &[u8], value: &mut u64) -> u32
+    ensures found { Reads text_map_in
+        (λ map code. Finds (has_bytes key.now) map value.old code value.new)
+        (value.new ≡ value.old) handle.old.held.table result }
+    ensures same { handle.new ≡ handle.old }
 {
-    on_table!(handle, alloc, TextMap(map) => maps::get(map, key, value))
+    on_shared!(handle, TextMap(map) => maps::get(map, key, value))
 }
 
 /// Tests whether the map has a key.
 ///
 /// Returns `OK`, `ABSENT`. O(1) expected. `HashMap::contains`.
 #[unsafe(no_mangle)]
-pub extern "C" fn bucket_text_map_contains(alloc: Global, handle: &mut Handle, key: &[u8]) -> u32
-    ensures { OnTextMap (λ old code new. (code ≡ found_code (get_by (has_bytes key.now) old)) ×
-        (new ≡ old))
-        (Unit {0}) handle.old.held.table result handle.new.held.table }
+pub extern "C" fn bucket_text_map_contains(handle: &mut Handle, key: &[u8]) -> u32
+    ensures found { Reads text_map_in
+        (λ map code. code ≡ found_code (get_by (has_bytes key.now) map))
+        (Unit {0}) handle.old.held.table result }
+    ensures same { handle.new ≡ handle.old }
 {
-    on_table!(handle, alloc, TextMap(map) => maps::contains(map, key))
+    on_shared!(handle, TextMap(map) => maps::contains(map, key))
 }
 
 /// Takes out the pair whose key is equal, and writes out its value.
@@ -119,4 +117,61 @@ pub extern "C" fn bucket_text_map_remove(
         handle.old.held.table result handle.new.held.table }
 {
     on_table!(handle, alloc, TextMap(map) => maps::remove(map, key, value))
+}
+
+/// Adds to the value under a key, modulo 2^64, or inserts the key beside what is to be added; writes
+/// out the sum.
+///
+/// Returns `OK` if the key was absent, `PRESENT` if it was there; `NO_MEMORY` if allocation fails,
+/// and all stays. O(1) expected. `HashMap::get_mut`, `HashMap::insert`.
+#[unsafe(no_mangle)]
+pub extern "C" fn bucket_text_map_add(
+    alloc: Global,
+    handle: &mut Handle,
+    key: &[u8],
+    amount: u64,
+    total: &mut u64,
+) -> u32
+    ensures { OnTextMap (λ old code new. AddsToText key.now amount total.old old code new total.new)
+        (total.new ≡ total.old) handle.old.held.table result handle.new.held.table }
+{
+    on_table!(handle, alloc, TextMap(map) => copies::add(map, alloc, key, amount, total))
+}
+
+/// Inserts a pair whose key the map hasn't, and writes out the value that is there then.
+///
+/// Returns `OK`; `PRESENT` if the key was there; `NO_MEMORY` if allocation fails, and all stays.
+/// O(1) expected. `HashMap::get`, `HashMap::insert`.
+#[unsafe(no_mangle)]
+pub extern "C" fn bucket_text_map_get_or_insert(
+    alloc: Global,
+    handle: &mut Handle,
+    key: &[u8],
+    value: u64,
+    held: &mut u64,
+) -> u32
+    ensures { OnTextMap (λ old code new. GetsOrInsertsText key.now value held.old old code new
+        held.new)
+        (held.new ≡ held.old) handle.old.held.table result handle.new.held.table }
+{
+    on_table!(handle, alloc, TextMap(map) => copies::get_or_insert(map, alloc, key, value, held))
+}
+
+/// Takes out the pair under a key if it has this value; another one that it has is written out.
+///
+/// Returns `OK`; `PRESENT` if it has another one, and it stays; `ABSENT`. O(1) expected.
+/// `HashMap::get`, `HashMap::remove`.
+#[unsafe(no_mangle)]
+pub extern "C" fn bucket_text_map_remove_if_equal(
+    alloc: Global,
+    handle: &mut Handle,
+    key: &[u8],
+    value: u64,
+    held: &mut u64,
+) -> u32
+    ensures { OnTextMap (λ old code new. RemovesEqual text_eq (has_bytes key.now) value held.old
+        old code new held.new)
+        (held.new ≡ held.old) handle.old.held.table result handle.new.held.table }
+{
+    on_table!(handle, alloc, TextMap(map) => maps::remove_if_equal(map, key, value, held))
 }

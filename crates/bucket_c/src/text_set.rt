@@ -1,5 +1,5 @@
-//! Exports: a set of byte strings. An insertion copies its key, and can fail for that; no other call
-//! copies it.
+//! Exports: a set of byte strings. An insertion copies a key that the set hasn't, and can fail for
+//! that; no other call copies it.
 //!
 //! Each call but `new` also returns `CLOSED` and `OTHER_KIND`, and then does nothing.
 ghost use Rattle.std.specs.Prelude.{◌≡◌};
@@ -8,14 +8,15 @@ ghost use Rattle.bucket_c.specs.Codes.{found_code};
 ghost use Rattle.bucket_c.specs.Maps.{RemovesKey};
 ghost use Rattle.bucket_c.specs.Opening.{IsNew};
 ghost use Rattle.bucket_c.specs.Tables.{Maps, OnTextSet, Opens, Text, has_bytes, text_eq};
-ghost use Rattle.bucket_c.specs.Texts.{InsertsKeyText};
+ghost use Rattle.bucket_c.specs.Tables.{Reads, text_set_in};
+ghost use Rattle.bucket_c.specs.Texts.{InsertsText};
 ghost use Rattle.bucket_c.specs.declared.tables.Table.TheVariants.{TextSet};
 
 use crate::codes::{CLOSED, OTHER_KIND};
 use crate::handle::Handle;
 use crate::seed::{Seed, hash_by};
 use crate::tables::Table;
-use crate::{maps, texts};
+use crate::{copies, maps};
 use collections::hash_set::HashSet;
 use std::alloc::Global;
 
@@ -35,25 +36,26 @@ pub extern "C" fn bucket_text_set_new(alloc: Global, handle: &mut Handle, seed: 
 /// Inserts a key that the set hasn't.
 ///
 /// Returns `OK`; `PRESENT` if the key is there, `NO_MEMORY` if allocation fails: all stays. O(1)
-/// expected. `HashSet::insert`.
+/// expected. `HashSet::contains`, `HashSet::insert_new`.
 #[unsafe(no_mangle)]
 pub extern "C" fn bucket_text_set_insert(alloc: Global, handle: &mut Handle, key: &[u8]) -> u32
-    ensures { OnTextSet (InsertsKeyText key.now) (Unit {0})
+    ensures { OnTextSet (InsertsText key.now tt) (Unit {0})
         handle.old.held.table result handle.new.held.table }
 {
-    on_table!(handle, alloc, TextSet(set) => texts::insert_key(set, alloc, key))
+    on_table!(handle, alloc, TextSet(set) => copies::insert_key(set, alloc, key))
 }
 
 /// Tests whether the set has a key.
 ///
 /// Returns `OK`, `ABSENT`. O(1) expected. `HashSet::contains`.
 #[unsafe(no_mangle)]
-pub extern "C" fn bucket_text_set_contains(alloc: Global, handle: &mut Handle, key: &[u8]) -> u32
-    ensures { OnTextSet (λ old code new. (code ≡ found_code (get_by (has_bytes key.now) old)) ×
-        (new ≡ old))
-        (Unit {0}) handle.old.held.table result handle.new.held.table }
+pub extern "C" fn bucket_text_set_contains(handle: &mut Handle, key: &[u8]) -> u32
+    ensures found { Reads text_set_in
+        (λ set code. code ≡ found_code (get_by (has_bytes key.now) set))
+        (Unit {0}) handle.old.held.table result }
+    ensures same { handle.new ≡ handle.old }
 {
-    on_table!(handle, alloc, TextSet(set) => maps::contains_key(set, key))
+    on_shared!(handle, TextSet(set) => maps::contains_key(set, key))
 }
 
 /// Takes out the key that is equal.

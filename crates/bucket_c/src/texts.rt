@@ -1,75 +1,15 @@
-//! Calls that copy their key, since a collection owns the keys that it keeps.
-ghost use Rattle.std.specs.Prelude.{◌≡◌, ◌<◌, IfOk, OnErr, length};
-ghost use Rattle.bucket_c.specs.Texts.{InsertsKeyText, InsertsText, PutsText};
-ghost use Rattle.bucket_c.specs.Texts.{UpsertsText, UpsertsTextInto};
+//! Calls on caches of byte strings, which own copies of their keys: a key is copied only where the
+//! cache hasn't it.
+ghost use Rattle.std.specs.Prelude.{◌≡◌};
+ghost use Rattle.bucket_c.specs.Texts.{PutsText, UpsertsTextInto};
 
-use crate::codes::NO_MEMORY;
+use crate::bytes::copy_of;
+use crate::caches;
+use crate::codes::{NO_MEMORY, PRESENT};
 use crate::seed::SeededHash;
-use crate::{caches, maps};
 use collections::hash_cache::HashCache;
-use collections::hash_map::HashMap;
-use collections::hash_set::HashSet;
-use std::alloc::{AllocError, Global};
-
-/// Copies a key.
-///
-/// # Errors
-///
-/// Allocation failure. An empty key takes no memory.
-fn copy_of(alloc: Global, key: &[u8]) -> Result<Vec<u8>, AllocError>
-    ensures copied { IfOk result (λ own. own.items ≡ key.now) }
-    ensures memory { OnErr result (0 < length key.now) }
-{
-    if key.is_empty() {
-        return Ok(Vec::new(alloc));
-    }
-    Vec::from_slice(alloc, key)
-}
-
-/// Inserts a pair whose key the map hasn't.
-#[tactic(auto, unfolding(crate::specs::Texts::InsertsText))]
-pub fn insert(
-    map: &mut HashMap<Vec<u8>, u64, SeededHash>,
-    alloc: Global,
-    key: &[u8],
-    value: u64,
-) -> u32
-    ensures { InsertsText key.now value map.old result map.new }
-{
-    match copy_of(alloc, key) {
-        Ok(own) => maps::insert(map, own, value),
-        Err(_) => NO_MEMORY,
-    }
-}
-
-/// Inserts a pair, or writes its value beside the key that is there, and writes out the earlier
-/// one.
-#[tactic(auto, unfolding(crate::specs::Texts::UpsertsText))]
-pub fn upsert(
-    map: &mut HashMap<Vec<u8>, u64, SeededHash>,
-    alloc: Global,
-    key: &[u8],
-    value: u64,
-    earlier: &mut u64,
-) -> u32
-    ensures { UpsertsText key.now value earlier.old map.old result map.new earlier.new }
-{
-    match copy_of(alloc, key) {
-        Ok(own) => maps::upsert(map, own, value, earlier),
-        Err(_) => NO_MEMORY,
-    }
-}
-
-/// Inserts a key that the set hasn't.
-#[tactic(auto, unfolding(crate::specs::Texts::InsertsKeyText))]
-pub fn insert_key(set: &mut HashSet<Vec<u8>, SeededHash>, alloc: Global, key: &[u8]) -> u32
-    ensures { InsertsKeyText key.now set.old result set.new }
-{
-    match copy_of(alloc, key) {
-        Ok(own) => maps::insert_key(set, own),
-        Err(_) => NO_MEMORY,
-    }
-}
+use std::alloc::Global;
+use std::mem::replace;
 
 /// Puts a pair whose key the cache hasn't, and writes out the pair that goes for it.
 #[tactic(auto, unfolding(crate::specs::Texts::PutsText))]
@@ -86,6 +26,9 @@ pub fn put(
         bytes.new len.new
         before.new }
 {
+    if cache.contains(key) {
+        return PRESENT;
+    }
     match copy_of(alloc, key) {
         Ok(own) => caches::put_text(cache, own, value, bytes, len, before),
         Err(_) => NO_MEMORY,
@@ -95,7 +38,7 @@ pub fn put(
 /// Puts a pair, and writes out the pair that goes for it; or writes its value beside the key that
 /// is there, and writes out the earlier one.
 #[tactic(auto, unfolding(crate::specs::Texts::UpsertsTextInto))]
-pub fn upsert_cached(
+pub fn upsert(
     cache: &mut HashCache<Vec<u8>, u64, SeededHash>,
     alloc: Global,
     key: &[u8],
@@ -108,6 +51,15 @@ pub fn upsert_cached(
         cache.new bytes.new
         len.new before.new }
 {
+    if cache.contains(key) {
+        return match cache.get_mut(key) {
+            Some(held) => {
+                *before = replace(held, value);
+                PRESENT
+            }
+            None => unreachable!(),
+        };
+    }
     match copy_of(alloc, key) {
         Ok(own) => caches::upsert_text(cache, own, value, bytes, len, before),
         Err(_) => NO_MEMORY,

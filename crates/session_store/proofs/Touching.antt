@@ -1,11 +1,11 @@
 -- What a deadline that is written leaves.
-use Rattle.std.proofs.Common.{ℕ, ◌≡◌, ◌∙◌, Bool, true, false, cond, nat_eq, Option, Some, None, inl, inr, refl, sym, ap}
+use Rattle.std.proofs.Common.{ℕ, ◌≡◌, ◌∙◌, Bool, true, false, cond, nat_eq, Some, None, inl, inr, refl, sym, ap}
 use Rattle.std.proofs.lemmas.Bool.{cases_Bool}
 use Rattle.std.proofs.lemmas.Cmp.{nat_eq_equiv}
 use Rattle.std.specs.HashMap.Eq.{lookup_congr}
 use Rattle.collections.specs.Changes.{Replaces}
 use Rattle.collections.specs.Maps.{map_of}
-use Rattle.session_store.specs.Sessions.{Becomes, Renews, alive, deadline_at, has_expired, session_at, sessions_with}
+use Rattle.session_store.specs.Sessions.{Renews, alive, deadline_at, has_expired, session_at, sessions_with}
 use Rattle.session_store.specs.declared.store.Session.{Session}
 use Rattle.session_store.specs.declared.store.Store.{Store}
 

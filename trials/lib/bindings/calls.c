@@ -309,7 +309,7 @@ static int recent_texts(bucket_seed seed) {
 
 // A pointer is null beside the length or the room 0, as that of an empty std::string_view; a pointer to a call allows it too.
 static int null_texts(bucket_seed seed) {
-    uint32_t (*contains)(bucket_handle *, const uint8_t *, size_t) = bucket_text_map_contains;
+    uint32_t (*contains)(const bucket_handle *, const uint8_t *, size_t) = bucket_text_map_contains;
     bucket_handle map = BUCKET_HANDLE, set = BUCKET_HANDLE;
     bucket_text_pair row = {7, 8};
     uint64_t value = 77;

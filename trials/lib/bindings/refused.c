@@ -4,6 +4,7 @@
 
 #include <stdio.h>
 #include <stdlib.h>
+#include <string.h>
 
 static size_t left = SIZE_MAX;
 static bool refused;
@@ -41,30 +42,60 @@ void __wrap_free(void *block) {
 
 #define ENTRIES 3000
 
-enum kind { MAP, TEXT_MAP, TEXT_SET, CACHE, TEXT_CACHE, KINDS };
+enum kind { MAP, TEXT_MAP, SET, TEXT_SET, STORE, CACHE, TEXT_CACHE, KINDS };
+
+// What a look-up answers here where the value isn't the one that was put.
+enum { WRONG = 99 };
 
 static uint32_t open_kind(enum kind kind, bucket_handle *handle) {
     bucket_seed seed = BUCKET_FIXED_SEED;
     switch (kind) {
     case MAP: return bucket_map_new(handle, 0, seed);
     case TEXT_MAP: return bucket_text_map_new(handle, 0, seed);
+    case SET: return bucket_set_new(handle, seed);
     case TEXT_SET: return bucket_text_set_new(handle, seed);
+    case STORE: return bucket_store_new(handle, 0, seed);
     case CACHE: return bucket_cache_new(handle, 0, 1 << 20, seed);
     default: return bucket_text_cache_new(handle, 0, 1 << 20, seed);
     }
 }
 
-// Puts a pair by one of its kind's calls; PRESENT counts as an error, since no key comes twice.
-static uint32_t put(enum kind kind, bucket_handle *handle, uint64_t key) {
+// The four calls that put a pair to a map, in turn. One that is there stays as it is.
+static uint32_t put_map(bucket_handle *handle, uint64_t key, bool is_there) {
+    uint64_t word;
+    switch (key % 4) {
+    case 0: return bucket_map_insert(handle, key, key);
+    case 1: return bucket_map_upsert(handle, key, key, &word);
+    case 2: return bucket_map_add(handle, key, is_there ? 0 : key, &word);
+    default: return bucket_map_get_or_insert(handle, key, key, &word);
+    }
+}
+
+static uint32_t put_text_map(bucket_handle *handle, uint64_t key, bool is_there) {
+    const uint8_t *bytes = (const uint8_t *)&key;
+    uint64_t word;
+    switch (key % 4) {
+    case 0: return bucket_text_map_insert(handle, bytes, 8, key);
+    case 1: return bucket_text_map_upsert(handle, bytes, 8, key, &word);
+    case 2: return bucket_text_map_add(handle, bytes, 8, is_there ? 0 : key, &word);
+    default: return bucket_text_map_get_or_insert(handle, bytes, 8, key, &word);
+    }
+}
+
+// Puts a pair by one of its kind's calls: PRESENT if the key is there, and then no memory is wanted.
+static uint32_t put(enum kind kind, bucket_handle *handle, uint64_t key, bool is_there) {
     const uint8_t *bytes = (const uint8_t *)&key;
     uint8_t gone[8];
     uint64_t word, other;
     size_t len;
     switch (kind) {
-    case MAP: return key % 2 ? bucket_map_insert(handle, key, key) : bucket_map_upsert(handle, key, key, &word);
-    case TEXT_MAP:
-        return key % 2 ? bucket_text_map_insert(handle, bytes, 8, key) : bucket_text_map_upsert(handle, bytes, 8, key, &word);
+    case MAP: return put_map(handle, key, is_there);
+    case TEXT_MAP: return put_text_map(handle, key, is_there);
+    case SET: return bucket_set_insert(handle, key);
     case TEXT_SET: return bucket_text_set_insert(handle, bytes, 8);
+    case STORE:
+        return key % 2 || is_there ? bucket_store_insert(handle, bytes, 8, bytes, 8)
+                                   : bucket_store_upsert(handle, bytes, 8, bytes, 8);
     case CACHE:
         return key % 2 ? bucket_cache_put(handle, key, key, &word, &other) : bucket_cache_upsert(handle, key, key, &word, &other);
     default:
@@ -73,30 +104,91 @@ static uint32_t put(enum kind kind, bucket_handle *handle, uint64_t key) {
     }
 }
 
-static uint32_t has(enum kind kind, bucket_handle *handle, uint64_t key) {
+// Looks a key up, and its value, if the kind has values.
+static uint32_t has(enum kind kind, const bucket_handle *handle, uint64_t key) {
     const uint8_t *bytes = (const uint8_t *)&key;
+    uint64_t word = key;
+    size_t len = 8;
+    uint32_t code;
     switch (kind) {
-    case MAP: return bucket_map_contains(handle, key);
-    case TEXT_MAP: return bucket_text_map_contains(handle, bytes, 8);
-    case TEXT_SET: return bucket_text_set_contains(handle, bytes, 8);
-    case CACHE: return bucket_cache_contains(handle, key);
-    default: return bucket_text_cache_contains(handle, bytes, 8);
+    case MAP: code = bucket_map_get(handle, key, &word); break;
+    case TEXT_MAP: code = bucket_text_map_get(handle, bytes, 8, &word); break;
+    case SET: code = bucket_set_contains(handle, key); break;
+    case TEXT_SET: code = bucket_text_set_contains(handle, bytes, 8); break;
+    case STORE: code = bucket_store_get(handle, bytes, 8, (uint8_t *)&word, 8, &len); break;
+    case CACHE: code = bucket_cache_peek(handle, key, &word); break;
+    default: code = bucket_text_cache_peek(handle, bytes, 8, &word); break;
     }
+    return word == key && len == 8 ? code : (uint32_t)WRONG;
 }
 
 static uint32_t take(enum kind kind, bucket_handle *handle, uint64_t key) {
     const uint8_t *bytes = (const uint8_t *)&key;
     uint64_t word;
     switch (kind) {
-    case MAP: return bucket_map_remove(handle, key, &word);
-    case TEXT_MAP: return bucket_text_map_remove(handle, bytes, 8, &word);
+    case MAP: return key % 2 ? bucket_map_remove(handle, key, &word) : bucket_map_remove_if_equal(handle, key, key, &word);
+    case TEXT_MAP:
+        return key % 2 ? bucket_text_map_remove(handle, bytes, 8, &word)
+                       : bucket_text_map_remove_if_equal(handle, bytes, 8, key, &word);
+    case SET: return bucket_set_remove(handle, key);
     case TEXT_SET: return bucket_text_set_remove(handle, bytes, 8);
+    case STORE: return bucket_store_remove(handle, bytes, 8);
     case CACHE: return bucket_cache_remove(handle, key, &word);
     default: return bucket_text_cache_remove(handle, bytes, 8, &word);
     }
 }
 
-// Puts keys with the allocation at `at` and all after it refused. Returns 1 where one was, 0 where none was, -1 if wrong.
+// A reading of all pairs takes no memory, and gives as many as there are.
+static bool reads_all(const bucket_handle *handle) {
+    size_t bucket = 0, all = 0, count = 0;
+    bucket_pair pairs[64];
+    while (bucket_pairs_in(handle, bucket, 0, pairs, 64, &count) == BUCKET_OK && count < 64) {
+        all += count;
+        bucket++;
+    }
+    return all == bucket_len(handle);
+}
+
+// The keys below `end` that were put are there, and no others. To put one of them again takes no memory.
+static bool holds(enum kind kind, bucket_handle *handle, const bool *is_in, uint64_t end, size_t in) {
+    if (bucket_len(handle) != in || !reads_all(handle)) {
+        return false;
+    }
+    for (uint64_t key = 0; key < end; key++) {
+        if (has(kind, handle, key) != (is_in[key] ? BUCKET_OK : BUCKET_ABSENT) ||
+            (is_in[key] && put(kind, handle, key, true) != BUCKET_PRESENT)) {
+            return false;
+        }
+    }
+    return bucket_len(handle) == in;
+}
+
+// Removals go on without memory; then memory is back, and nothing is left. Where pairs were evicted, any key may be gone.
+static bool removes(enum kind kind, bucket_handle *handle, const bool *is_in, bool has_evicted) {
+    for (uint64_t key = 0; key < ENTRIES; key++) {
+        uint32_t code = take(kind, handle, key);
+        if (!has_evicted && code != (is_in[key] ? BUCKET_OK : BUCKET_ABSENT)) {
+            return false;
+        }
+    }
+    left = SIZE_MAX;
+    for (uint64_t key = 0; !has_evicted && key < ENTRIES; key++) {
+        if (take(kind, handle, key) != BUCKET_ABSENT) {
+            return false;
+        }
+    }
+    return true;
+}
+
+// Memory is back, and the handle is freed: all blocks are given back. Returns 1 where an allocation was refused, 0 where none was,
+// -1 if something was wrong.
+static int ended(bucket_handle *handle, bool is_right, bool was_refused) {
+    left = SIZE_MAX;
+    bucket_free(handle);
+    return is_right && held == 0 ? was_refused : -1;
+}
+
+// Puts keys with the allocation at `at` and all after it refused. Returns as `ended`.
 static int run(enum kind kind, size_t at) {
     static bool is_in[ENTRIES];
     bucket_handle handle = BUCKET_HANDLE;
@@ -104,59 +196,96 @@ static int run(enum kind kind, size_t at) {
     left = at;
     refused = false;
     if (open_kind(kind, &handle) == BUCKET_NO_MEMORY) {
-        left = SIZE_MAX;
-        return refused && has(kind, &handle, 0) == BUCKET_CLOSED && held == 0 ? 1 : -1;
+        return ended(&handle, refused && has(kind, &handle, 0) == BUCKET_CLOSED, true);
     }
     for (uint64_t key = 0; key < ENTRIES; key++) {
         refused = false;
-        uint32_t code = put(kind, &handle, key);
+        uint32_t code = put(kind, &handle, key, false);
         is_in[key] = code != BUCKET_NO_MEMORY;
         evicted += code == BUCKET_EVICTED;
         if (code == BUCKET_OK || code == BUCKET_EVICTED) {
             in++;
         } else if (code != BUCKET_NO_MEMORY || !refused || has(kind, &handle, key) != BUCKET_ABSENT) {
-            return -1;
+            return ended(&handle, false, true);
         } else if (first == ENTRIES) {
             first = key;
         }
         // Nothing is lost right after the first refusal, nor at the end.
-        for (uint64_t earlier = 0; evicted == 0 && (key == first || key + 1 == ENTRIES) && earlier <= key; earlier++) {
-            if (has(kind, &handle, earlier) != (is_in[earlier] ? BUCKET_OK : BUCKET_ABSENT)) {
-                return -1;
-            }
+        bool is_asked = evicted == 0 && (key == first || key + 1 == ENTRIES);
+        if (bucket_len(&handle) + evicted != in || (is_asked && !holds(kind, &handle, is_in, key + 1, in))) {
+            return ended(&handle, false, true);
         }
     }
-    if (bucket_len(&handle) + evicted != in) {
-        return -1;
+    return ended(&handle, removes(kind, &handle, is_in, evicted > 0), first < ENTRIES);
+}
+
+// Opens a handle, and puts so many keys. Whether all are in.
+static bool fill(enum kind kind, bucket_handle *handle, uint64_t entries) {
+    bool are_in = open_kind(kind, handle) == BUCKET_OK;
+    for (uint64_t key = 0; key < entries; key++) {
+        are_in = are_in && put(kind, handle, key, false) == BUCKET_OK;
     }
-    // Removals go on without memory; then memory is back.
+    return are_in;
+}
+
+// Puts longer values to a store in the place of those that are there, as run. One that is refused leaves the value that was there.
+static int run_values(size_t at) {
+    static const uint8_t longer[40] = {1, 2, 3};
+    bucket_handle handle = BUCKET_HANDLE;
+    bool is_right = fill(STORE, &handle, 50), any = false;
+    left = at;
+    for (uint64_t key = 0; key < 50; key++) {
+        const uint8_t *bytes = (const uint8_t *)&key;
+        uint8_t out[40] = {0};
+        size_t len = 0;
+        refused = false;
+        uint32_t code = bucket_store_upsert(&handle, bytes, 8, longer, sizeof longer);
+        uint32_t found = bucket_store_get(&handle, bytes, 8, out, sizeof out, &len);
+        is_right = is_right && code == (refused ? BUCKET_NO_MEMORY : BUCKET_PRESENT) && found == BUCKET_OK &&
+            (refused ? len == 8 && memcmp(out, bytes, 8) == 0 : len == sizeof longer && memcmp(out, longer, len) == 0);
+        any = any || refused;
+    }
+    return ended(&handle, is_right && bucket_len(&handle) == 50, any);
+}
+
+static bool is_odd(uint64_t key, uint64_t value, void *data) {
+    (void)value, (void)data;
+    return key % 2 == 1;
+}
+
+// Removes all odd keys by one call, as run. Where it is refused, all stay.
+static int run_removals(enum kind kind, size_t at) {
+    static bool is_in[ENTRIES];
+    bucket_handle handle = BUCKET_HANDLE;
+    size_t removed = 79;
+    bool is_right = fill(kind, &handle, ENTRIES);
+    left = at;
+    refused = false;
+    uint32_t code = kind == SET ? bucket_set_remove_if(&handle, is_odd, NULL, &removed)
+                                : bucket_map_remove_if(&handle, is_odd, NULL, &removed);
+    bool any = refused;
     for (uint64_t key = 0; key < ENTRIES; key++) {
-        uint32_t code = take(kind, &handle, key);
-        if (evicted == 0 && code != (is_in[key] ? BUCKET_OK : BUCKET_ABSENT)) {
-            return -1;
-        }
+        is_in[key] = any || key % 2 == 0;
     }
-    left = SIZE_MAX;
-    for (uint64_t key = 0; evicted == 0 && key < ENTRIES; key++) {
-        if (take(kind, &handle, key) != BUCKET_ABSENT) {
-            return -1;
-        }
-    }
-    bucket_free(&handle);
-    return held == 0 ? first < ENTRIES : -1;
+    is_right = is_right && code == (any ? BUCKET_NO_MEMORY : BUCKET_OK) && removed == (any ? 79 : ENTRIES / 2) &&
+        holds(kind, &handle, is_in, ENTRIES, any ? ENTRIES : ENTRIES / 2);
+    return ended(&handle, is_right, any);
 }
 
 int main(void) {
     size_t all = 0;
-    for (enum kind kind = MAP; kind < KINDS; kind++) {
+    // Behind the kinds: the values of a store, and the removals of many of a map and of a set.
+    for (int row = 0; row < KINDS + 3; row++) {
         // Of a kind with byte strings, the later allocations are mostly copies of keys: every 37th of those.
-        bool has_texts = kind == TEXT_MAP || kind == TEXT_SET || kind == TEXT_CACHE;
+        bool has_texts = row == TEXT_MAP || row == TEXT_SET || row == STORE || row == TEXT_CACHE;
         int found = 1;
         for (size_t at = 0; found == 1; at += has_texts && at > 200 ? 37 : 1, all++) {
-            found = run(kind, at);
+            found = row < KINDS ? run((enum kind)row, at)
+                : row == KINDS  ? run_values(at)
+                                : run_removals(row == KINDS + 1 ? MAP : SET, at);
         }
         if (found != 0) {
-            printf("kind %d: wrong where an allocation was refused\n", (int)kind);
+            printf("row %d: wrong where an allocation was refused\n", row);
             return 1;
         }
     }

@@ -1,0 +1,6 @@
+// deleted
+#include "bucket.hpp"
+
+bucket::cache<int, int> a(64), b(64);
+void copy();
+void copy() { a = b; }

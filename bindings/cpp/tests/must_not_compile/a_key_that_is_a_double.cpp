@@ -1,0 +1,4 @@
+// a key is an integral type or an enum of at most 64 bits, or std::string
+#include "bucket.hpp"
+
+bucket::map<double, int> all;

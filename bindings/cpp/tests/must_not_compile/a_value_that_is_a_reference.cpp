@@ -1,0 +1,4 @@
+// a value is an object, neither const nor an array
+#include "bucket.hpp"
+
+bucket::map<int, int &> all;

@@ -1,0 +1,9 @@
+// A second unit that includes the header: the program links, and both share what is inline.
+#include "bucket.hpp"
+
+std::size_t second_unit();
+
+std::size_t second_unit() {
+    bucket::map<std::string, int> all{{"a", 1}};
+    return all.size();
+}

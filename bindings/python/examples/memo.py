@@ -1,0 +1,58 @@
+"""A decorator that remembers a function's answers, and at most so many: `functools.lru_cache` over bucket.Cache.
+
+    @memo(maxsize=1000)
+    def collatz(number): ..
+
+A call whose arguments are one int, str or bytes has it as its key; other arguments are told by their repr, so
+they have to be ones whose repr says all. Run as a program it finds the longest Collatz run below a number, and
+shows that the memory stays bounded.
+"""
+
+import functools
+import sys
+
+import bucket
+
+NOTHING = object()
+
+
+def memo(maxsize=128):
+    def decorate(function):
+        answers = bucket.Cache(maxsize)
+
+        @functools.wraps(function)
+        def remembered(*arguments, **named):
+            key = arguments[0] if len(arguments) == 1 and not named else None
+            if type(key) not in (int, str, bytes) or type(key) is int and not -(1 << 63) <= key < 1 << 64:
+                # The front keeps such keys apart from strs that are arguments, but for one that looks the same.
+                key = f"\0{arguments!r}{sorted(named.items())!r}"
+            answer = answers.get(key, NOTHING)
+            if answer is NOTHING:
+                answers[key] = answer = function(*arguments, **named)
+            return answer
+
+        remembered.cache_info = answers.cache_info
+        remembered.cache_clear = answers.clear
+        return remembered
+
+    return decorate
+
+
+@memo(maxsize=10_000)
+def steps(number):
+    """How many steps it takes from a number to 1, halving an even one, and else by three times it plus one."""
+    if number == 1:
+        return 0
+    return 1 + steps(number // 2 if number % 2 == 0 else 3 * number + 1)
+
+
+def main():
+    below = int(sys.argv[1]) if len(sys.argv) > 1 else 20_000
+    longest = max(range(1, below), key=steps)
+    info = steps.cache_info()
+    print(f"{longest} takes {steps(longest)} steps, the most below {below}")
+    print(f"{info.hits} answers were remembered, {info.misses} weren't, and {info.currsize} of {info.maxsize} are kept")
+
+
+if __name__ == "__main__":
+    main()

@@ -1,0 +1,365 @@
+/* The type Cache: a mapping of at most `maxsize` pairs, from which the pair goes that was touched longest ago.
+ *
+ * The library's cache has twice as many slots as there may be pairs. So hardly ever is one of its buckets of 32 slots full, and it
+ * is the order here, a ring of all nodes by their last touch, that says which pair goes. */
+#include "collection.h"
+
+/* ---- The order of use ---- */
+
+void order_begin(Cache *cache) {
+    cache->order.before = cache->order.next = &cache->order;
+}
+
+void order_leave(Node *node) {
+    node->before->next = node->next;
+    node->next->before = node->before;
+}
+
+static void order_append(Cache *cache, Node *node) {
+    node->before = cache->order.before;
+    node->next = &cache->order;
+    node->before->next = node;
+    cache->order.before = node;
+}
+
+int cache_touch(Cache *cache, const Key *key, Node **node) {
+    bucket_handle *handle = &cache->table.handles[key->kind];
+    uint64_t value = 0;
+    uint32_t code = key->kind == WORDS ? bucket_cache_get(handle, key->word, &value)
+                                       : bucket_text_cache_get(handle, key->text, key->len, &value);
+    if (code == BUCKET_OK) {
+        *node = (Node *)(uintptr_t)value;
+        order_leave(*node);
+        order_append(cache, *node);
+        return 1;
+    }
+    return code == BUCKET_ABSENT || code == BUCKET_CLOSED ? 0 : code_refused(code);
+}
+
+/* ---- Puts ---- */
+
+/* Opened with so many slots at once, so that a small one never grows. */
+enum { FIRST_SLOTS = 1024 };
+
+static uint32_t cache_open(Cache *cache, int kind) {
+    bucket_handle *handle = &cache->table.handles[kind];
+    bucket_seed seed = cache->table.state->seed;
+    size_t most = 2 * cache->maxsize, least = most < FIRST_SLOTS ? most : FIRST_SLOTS;
+    return kind == WORDS ? bucket_cache_new(handle, least, most, seed) : bucket_text_cache_new(handle, least, most, seed);
+}
+
+/* The library's put. `gone` gets the node that was evicted, if one was. */
+static uint32_t put_new(Cache *cache, const Key *key, Node *node, Node **gone) {
+    bucket_handle *handle = &cache->table.handles[key->kind];
+    uint64_t value = (uint64_t)(uintptr_t)node, gone_key = 0, gone_value = 0;
+    size_t gone_len = 0;
+    uint32_t code = key->kind == WORDS
+        ? bucket_cache_put(handle, key->word, value, &gone_key, &gone_value)
+        : bucket_text_cache_put(handle, key->text, key->len, value, NULL, 0, &gone_len, &gone_value);
+    *gone = code == BUCKET_EVICTED ? (Node *)(uintptr_t)gone_value : NULL;
+    return code;
+}
+
+/* Puts a node whose key is absent. If the cache is full, the one at `oldest` goes. */
+static int insert(Cache *cache, const Key *key, Node *node, const Key *oldest, Node **gone) {
+    Table *table = &cache->table;
+    uint32_t code = put_new(cache, key, node, gone);
+    if (code == BUCKET_CLOSED) {
+        code = cache_open(cache, key->kind);
+        code = code == BUCKET_OK ? put_new(cache, key, node, gone) : code;
+    }
+    if (code != BUCKET_OK && code != BUCKET_EVICTED) {
+        return code_refused(code);
+    }
+    table->lens[key->kind]++;
+    table->version++;
+    order_append(cache, node);
+    if (code == BUCKET_EVICTED) {
+        table->lens[key->kind]--;
+        order_leave(*gone);
+        (*gone)->next = NULL;
+    } else if (oldest != NULL) {
+        return table_take(table, oldest, gone) < 0 ? -1 : 0;
+    }
+    return 0;
+}
+
+static int put_absent(Cache *cache, const Key *at, PyObject *key, PyObject *value, Node **gone) {
+    Table *table = &cache->table;
+    Key oldest;
+    bool is_full = table_len(table) >= cache->maxsize;
+    /* The key of the pair that goes is made before anything changes, since that may fail. It's one that was put, so no code of
+     * another's runs but for a type with an odd metaclass. */
+    if (is_full) {
+        PyObject *oldest_key = Py_NewRef(cache->order.next->key);
+        KeyCode code = key_of(&oldest, oldest_key);
+        Py_DECREF(oldest_key);
+        if (code != KEY_OK) {
+            return code == KEY_NONE ? key_refused(key) : -1;
+        }
+    }
+    Node *node = node_new(table->state, key, value);
+    int code = node == NULL ? -1 : insert(cache, at, node, is_full ? &oldest : NULL, gone);
+    if (is_full) {
+        key_end(&oldest);
+    }
+    if (code < 0 && node != NULL && node->next == NULL) {
+        nodes_drop(table->state, node); /* it didn't come into the order */
+    }
+    return code;
+}
+
+int cache_put(Cache *cache, PyObject *key, PyObject *value, Node **gone) {
+    Key at;
+    Node *node;
+    KeyCode code = key_of(&at, key);
+    *gone = NULL;
+    if (code != KEY_OK) {
+        return code == KEY_NONE ? key_refused(key) : -1;
+    }
+    PyObject *earlier = NULL;
+    int is_there = cache_touch(cache, &at, &node), done = is_there < 0 ? -1 : 0;
+    if (is_there == 1) {
+        earlier = node->value;
+        node->value = Py_NewRef(value);
+    } else if (is_there == 0 && cache->maxsize > 0) {
+        done = put_absent(cache, &at, key, value, gone);
+    }
+    key_end(&at);
+    Py_XDECREF(earlier);
+    return done;
+}
+
+/* ---- The type ---- */
+
+static int cache_init(PyObject *self, PyObject *args, PyObject *kwargs) {
+    static char *names[] = {"maxsize", NULL};
+    Py_ssize_t maxsize = 128;
+    if (!PyArg_ParseTupleAndKeywords(args, kwargs, "|n:Cache", names, &maxsize)) {
+        return -1;
+    }
+    if (maxsize < 0) {
+        PyErr_SetString(PyExc_ValueError, "maxsize isn't negative");
+        return -1;
+    }
+    Cache *cache = (Cache *)self;
+    cache->maxsize = (size_t)maxsize;
+    cache->hits = cache->misses = 0;
+    return collection_clear(self);
+}
+
+static PyObject *cache_new(PyTypeObject *type, PyObject *args, PyObject *kwargs) {
+    Cache *cache = (Cache *)collection_new(type, args, kwargs);
+    if (cache != NULL) {
+        cache->maxsize = 128;
+    }
+    return (PyObject *)cache;
+}
+
+static PyObject *cache_clear(PyObject *self, PyObject *unused) {
+    (void)unused;
+    ((Cache *)self)->hits = ((Cache *)self)->misses = 0;
+    collection_clear(self);
+    Py_RETURN_NONE;
+}
+
+static PyObject *cache_peek(PyObject *self, PyObject *const *args, Py_ssize_t count) {
+    Node *node;
+    if (count < 1 || count > 2) {
+        PyErr_Format(PyExc_TypeError, "peek takes from 1 to 2 arguments, not %zd", count);
+        return NULL;
+    }
+    int is_there = table_look((Table *)self, args[0], false, &node);
+    return is_there == 1 ? Py_NewRef(node->value) : is_there < 0 ? NULL : Py_NewRef(count == 2 ? args[1] : Py_None);
+}
+
+static PyObject *cache_put_call(PyObject *self, PyObject *const *args, Py_ssize_t count) {
+    Node *gone;
+    if (count != 2) {
+        PyErr_Format(PyExc_TypeError, "put takes 2 arguments, not %zd", count);
+        return NULL;
+    }
+    PyObject *pair = PyTuple_New(2);
+    if (pair == NULL || cache_put((Cache *)self, args[0], args[1], &gone) < 0) {
+        Py_XDECREF(pair);
+        return NULL;
+    }
+    if (gone == NULL) {
+        Py_DECREF(pair);
+        Py_RETURN_NONE;
+    }
+    PyTuple_SetItem(pair, 0, Py_NewRef(gone->key));
+    PyTuple_SetItem(pair, 1, Py_NewRef(gone->value));
+    nodes_drop(((Table *)self)->state, gone);
+    return pair;
+}
+
+/* _cache_of(type, maxsize): an empty cache of a type below Cache, without a call of its `__init__`. */
+PyObject *cache_made(PyObject *module, PyObject *args) {
+    PyTypeObject *type;
+    Py_ssize_t maxsize;
+    State *state = state_of_module(module);
+    if (!PyArg_ParseTuple(args, "O!n", &PyType_Type, &type, &maxsize)) {
+        return NULL;
+    }
+    PyObject *made = PyObject_CallMethod((PyObject *)type, "__new__", "O", type);
+    if (made != NULL && (!is_cache(state, made) || maxsize < 0)) {
+        PyErr_SetString(PyExc_TypeError, "a type below Cache and a size are wanted");
+        Py_CLEAR(made);
+    }
+    if (made != NULL) {
+        ((Cache *)made)->maxsize = (size_t)maxsize;
+    }
+    return made;
+}
+
+static PyObject *cache_copy(PyObject *self, PyObject *unused) {
+    State *state = ((Table *)self)->state;
+    (void)unused;
+    Table *made = table_new(state, state->cache);
+    if (made == NULL) {
+        return NULL;
+    }
+    ((Cache *)made)->maxsize = ((Cache *)self)->maxsize;
+    if (table_merge(made, self) < 0) {
+        Py_CLEAR(made);
+    }
+    return (PyObject *)made;
+}
+
+static PyObject *cache_reduce(PyObject *self, PyObject *unused) {
+    (void)unused;
+    PyObject *attributes = collection_attributes(self);
+    PyObject *pairs = attributes == NULL ? NULL : iterator_new((Table *)self, GIVES_ITEMS);
+    if (pairs == NULL) {
+        Py_XDECREF(attributes);
+        return NULL;
+    }
+    return Py_BuildValue("O(On)NON", ((Table *)self)->state->make_cache, Py_TYPE(self), (Py_ssize_t)((Cache *)self)->maxsize,
+                         attributes, Py_None, pairs);
+}
+
+static PyObject *cache_repr(PyObject *self) {
+    PyObject *name = PyObject_GetAttrString((PyObject *)Py_TYPE(self), "__name__"), *shown = NULL;
+    int running = name == NULL ? -1 : Py_ReprEnter(self);
+    if (running > 0) {
+        shown = PyUnicode_FromFormat("%U({...})", name);
+    } else if (running == 0) {
+        PyObject *dict = dict_of((Table *)self);
+        if (dict != NULL) {
+            shown = PyUnicode_FromFormat("%U(%R, maxsize=%zu, currsize=%zd)", name, dict, ((Cache *)self)->maxsize,
+                                         collection_len(self));
+            Py_DECREF(dict);
+        }
+        Py_ReprLeave(self);
+    }
+    Py_XDECREF(name);
+    return shown;
+}
+
+static PyObject *cache_maxsize(PyObject *self, void *unused) {
+    (void)unused;
+    return PyLong_FromSize_t(((Cache *)self)->maxsize);
+}
+
+static PyObject *cache_currsize(PyObject *self, void *unused) {
+    (void)unused;
+    return PyLong_FromSsize_t(collection_len(self));
+}
+
+static PyObject *cache_hits(PyObject *self, void *unused) {
+    (void)unused;
+    return PyLong_FromUnsignedLongLong(((Cache *)self)->hits);
+}
+
+static PyObject *cache_misses(PyObject *self, void *unused) {
+    (void)unused;
+    return PyLong_FromUnsignedLongLong(((Cache *)self)->misses);
+}
+
+static PyObject *cache_capacity(PyObject *self, void *unused) {
+    Table *table = (Table *)self;
+    (void)unused;
+    return PyLong_FromSize_t(bucket_capacity(&table->handles[WORDS]) + bucket_capacity(&table->handles[TEXTS]));
+}
+
+static PyObject *cache_info(PyObject *self, PyObject *unused) {
+    Cache *cache = (Cache *)self;
+    (void)unused;
+    return PyObject_CallFunction(cache->table.state->cache_info, "KKnn", (unsigned long long)cache->hits,
+                                 (unsigned long long)cache->misses, (Py_ssize_t)cache->maxsize, collection_len(self));
+}
+
+static PyGetSetDef cache_attributes[] = {
+    {"maxsize", cache_maxsize, NULL, "How many pairs there may be.", NULL},
+    {"currsize", cache_currsize, NULL, "How many pairs there are.", NULL},
+    {"hits", cache_hits, NULL, "How many look-ups found their key.", NULL},
+    {"misses", cache_misses, NULL, "How many look-ups didn't.", NULL},
+    {"capacity", cache_capacity, NULL, "How many slots the library has taken.", NULL},
+    {NULL, NULL, NULL, NULL, NULL},
+};
+
+static PyMethodDef cache_methods[] = {
+    {"get", (PyCFunction)(void (*)(void))pairs_get, METH_FASTCALL,
+     "get($self, key, default=None, /)\n--\n\nThe value at a key, whose pair is touched, or the default. O(1)."},
+    {"peek", (PyCFunction)(void (*)(void))cache_peek, METH_FASTCALL,
+     "peek($self, key, default=None, /)\n--\n\nThe value at a key, or the default. Touches and counts nothing. O(1)."},
+    {"put", (PyCFunction)(void (*)(void))cache_put_call, METH_FASTCALL,
+     "put($self, key, value, /)\n--\n\nPuts a pair, as []= does, and returns the pair that went for it, or None. O(1)."},
+    {"setdefault", (PyCFunction)(void (*)(void))pairs_setdefault, METH_FASTCALL,
+     "setdefault($self, key, default=None, /)\n--\n\nThe value at a key, as of get; or the default, which is put there. O(1)."},
+    {"pop", (PyCFunction)(void (*)(void))pairs_pop, METH_FASTCALL,
+     "pop(key[, default])\n\nRemoves a pair, and returns its value, or the default; else KeyError. O(1)."},
+    {"popitem", pairs_popitem, METH_NOARGS,
+     "popitem($self, /)\n--\n\nRemoves the pair touched longest ago, and returns it; KeyError if there is none. O(1)."},
+    {"update", (PyCFunction)(void (*)(void))pairs_update, METH_VARARGS | METH_KEYWORDS,
+     "update([other], **pairs)\n\nPuts the pairs of a mapping or of an iterable of pairs, then the keywords'."},
+    {"clear", cache_clear, METH_NOARGS, "clear($self, /)\n--\n\nRemoves all pairs, and counts anew. O(n)."},
+    {"copy", cache_copy, METH_NOARGS,
+     "copy($self, /)\n--\n\nA Cache of the same pairs in the same order, which counts anew. O(n)."},
+    {"keys", pairs_keys, METH_NOARGS, "keys($self, /)\n--\n\nA live view of the keys."},
+    {"values", pairs_values, METH_NOARGS, "values($self, /)\n--\n\nA live view of the values."},
+    {"items", pairs_items, METH_NOARGS, "items($self, /)\n--\n\nA live view of the pairs."},
+    {"cache_info", cache_info, METH_NOARGS,
+     "cache_info($self, /)\n--\n\nhits, misses, maxsize and currsize, as of functools.lru_cache."},
+    {"__reduce__", cache_reduce, METH_NOARGS, "For copies and pickles."},
+    {"__sizeof__", collection_sizeof, METH_NOARGS, "About how many bytes it takes, without keys and values."},
+    {"__class_getitem__", Py_GenericAlias, METH_O | METH_CLASS, "Cache[str, int], for type hints."},
+    {NULL, NULL, 0, NULL},
+};
+
+static PyMemberDef cache_members[] = {
+    {"__weaklistoffset__", T_PYSSIZET, offsetof(Table, weakrefs), READONLY, NULL},
+    {NULL, 0, 0, 0, NULL},
+};
+
+static PyType_Slot cache_slots[] = {
+    {Py_tp_doc, "Cache(maxsize=128)\n\nA mapping of at most `maxsize` pairs: a further one lets the pair go that was touched longest\n"
+                "ago. [], get, setdefault and what puts a pair touch it; peek, in, views and iterations don't. An iteration gives the\n"
+                "pair touched longest ago first, from a copy of the order. Above 32 pairs another pair may go earlier, where\n"
+                "one of the library's buckets of 32 slots is full: of twice as many slots as pairs that is rare."},
+    {Py_tp_new, cache_new},
+    {Py_tp_init, cache_init},
+    {Py_tp_dealloc, collection_dealloc},
+    {Py_tp_traverse, collection_traverse},
+    {Py_tp_clear, collection_clear},
+    {Py_tp_members, cache_members},
+    {Py_tp_getset, cache_attributes},
+    {Py_tp_methods, cache_methods},
+    {Py_tp_repr, cache_repr},
+    {Py_tp_hash, PyObject_HashNotImplemented},
+    {Py_tp_richcompare, pairs_compare},
+    {Py_tp_iter, collection_iter},
+    {Py_mp_length, collection_len},
+    {Py_mp_subscript, pairs_subscript},
+    {Py_mp_ass_subscript, pairs_ass_subscript},
+    {Py_sq_contains, collection_contains},
+    {0, NULL},
+};
+
+PyType_Spec cache_spec = {
+    .name = "bucket.Cache",
+    .basicsize = sizeof(Cache),
+    .flags = Py_TPFLAGS_DEFAULT | Py_TPFLAGS_HAVE_GC | Py_TPFLAGS_BASETYPE,
+    .slots = cache_slots,
+};

@@ -1,0 +1,246 @@
+/* What the files of the extension module share: a collection, its nodes, keys and readings.
+ *
+ * A collection has two tables of the library: one of words, for ints from -2^63 to 2^63 - 1, and one of byte strings, for all other
+ * keys. A pair is a node, and its address is the value in a table. So a key comes back as the object that was put.
+ *
+ * An object of another's may run Python code when it is let go, compared or shown, and that code may change the collection. So
+ * each function here first brings the tables and the nodes in order, and then lets objects go; what it uses afterwards it holds. */
+#ifndef BUCKET_COLLECTION_H
+#define BUCKET_COLLECTION_H
+
+#define PY_SSIZE_T_CLEAN
+#include <Python.h>
+#include <structmember.h>
+
+#include <bucket.h>
+
+/* A pair. Of a set `value` is NULL. `before` and `next` are its neighbours in a cache's order of use; `next` also links nodes that
+ * are to be let go. */
+typedef struct Node {
+    PyObject *key;
+    PyObject *value;
+    struct Node *before;
+    struct Node *next;
+} Node;
+
+/* What a module holds: there is one for each interpreter, or more if it's imported anew. Its collections share it, since at the end
+ * of the interpreter the garbage collector may free the module first; the types are NULL then. */
+typedef struct State {
+    Py_ssize_t holders; /* how many collections there are, and the module */
+    PyTypeObject *map, *set, *cache;
+    PyTypeObject *keys, *values, *items, *iterator;
+    PyObject *make_map;   /* copyreg.__newobj__ */
+    PyObject *make_set;   /* the module's _set_of */
+    PyObject *make_cache; /* the module's _cache_of */
+    PyObject *cache_info; /* the named tuple of cache_info() */
+    bucket_seed seed;
+    Py_ssize_t nodes; /* how many there are */
+    int depth;        /* how many calls of nodes_drop are running */
+    Node *waiting;    /* what the outermost one has yet to let go */
+} State;
+
+enum { WORDS, TEXTS, KINDS };
+
+/* A map, a set or a cache. */
+typedef struct Table {
+    PyObject_HEAD
+    State *state;
+    bucket_handle handles[KINDS]; /* a closed one has no pair yet */
+    size_t lens[KINDS];           /* how many pairs each has */
+    uint64_t version;             /* another one after each call that adds or removes a pair */
+    bucket_place spot;            /* where the last popitem found a pair */
+    bool is_cache;
+    PyObject *weakrefs;
+} Table;
+
+typedef struct Cache {
+    Table table;
+    Node order; /* its `next` was touched longest ago, its `before` last */
+    size_t maxsize;
+    uint64_t hits, misses;
+} Cache;
+
+/* ---- keys.c ---- */
+
+enum { NEAR_BYTES = 120 };
+
+/* How a key stands in a table: a word, or bytes whose first one tells of which type the key is. */
+typedef struct Key {
+    int kind;
+    uint64_t word;
+    const uint8_t *text;
+    size_t len;
+    uint8_t *far; /* where the bytes are, if there are many */
+    uint8_t near[NEAR_BYTES];
+} Key;
+
+typedef enum { KEY_ERROR = -1, KEY_NONE, KEY_OK } KeyCode;
+
+/* KEY_OK; KEY_NONE: the object is no key, so no pair has it; KEY_ERROR: an exception is set. Only after KEY_OK is there anything
+ * that key_end has to free. */
+KeyCode key_of(Key *key, PyObject *object);
+void key_end(Key *key);
+/* Raises what tells why an object is no key. Returns -1. */
+int key_refused(PyObject *object);
+/* Raises KeyError. */
+void key_missing(PyObject *object);
+
+/* ---- table.c ---- */
+
+static inline size_t table_len(const Table *table) {
+    return table->lens[WORDS] + table->lens[TEXTS];
+}
+
+/* A node of a pair, or NULL and MemoryError. It holds both objects. */
+Node *node_new(State *state, PyObject *key, PyObject *value);
+/* Frees nodes that stand in no table, linked by `next`, and lets their objects go: this may run any Python code. */
+void nodes_drop(State *state, Node *nodes);
+
+/* Raises what a code means that isn't an answer. Returns -1. */
+int code_refused(uint32_t code);
+
+/* 1, and the node at a key; 0: it is absent; -1: an exception is set. No pair is touched. */
+int table_find(const Table *table, const Key *key, Node **node);
+/* Puts a node whose key is absent. 0; -1: MemoryError, and nothing has changed. Of a map or a set. */
+int table_insert(Table *table, const Key *key, Node *node);
+/* Takes the node at a key out: 1. 0: it is absent; -1: an exception is set. */
+int table_take(Table *table, const Key *key, Node **node);
+/* As table_find and table_take, of an object that may be no key. A cache is touched by `touches`. */
+int table_look(Table *table, PyObject *object, bool touches, Node **node);
+int table_remove(Table *table, PyObject *object, Node **node);
+/* Puts a value at a key, also of a cache. 0 or -1. */
+int table_put(Table *table, PyObject *key, PyObject *value);
+/* Takes some node out: 1; of a cache the one touched longest ago. 0: there is none; -1: an exception is set. */
+int table_take_some(Table *table, Node **node);
+/* Takes all nodes out, and returns them linked by `next`. */
+Node *table_take_all(Table *table);
+/* Exchanges what two collections of one type hold. */
+void table_exchange(Table *left, Table *right);
+
+/* ---- reading.c ---- */
+
+enum { PIECE = 64 };
+
+/* Where a reading of all nodes stands. */
+typedef struct Reading {
+    Table *table;
+    uint64_t version;
+    int kind;
+    bucket_place place;
+    size_t at, count;
+    Node **all; /* of a cache that others may touch meanwhile */
+    uint64_t nodes[PIECE];
+} Reading;
+
+/* Begins a reading while which no other code runs: reading_next gives each node once, then NULL. */
+void reading_begin(Reading *reading, Table *table);
+/* Begins one while which other code may run. 0; -1: MemoryError. reading_end ends it. A cache is read in its order of use. */
+int reading_begin_shared(Reading *reading, Table *table);
+void reading_end(Reading *reading);
+Node *reading_next(Reading *reading);
+/* The next node of a shared one; NULL at the end, or with RuntimeError once a pair was added or removed. */
+Node *reading_step(Reading *reading);
+
+/* ---- kinds.c ---- */
+
+State *state_of_module(PyObject *module);
+/* Lets go of a state, which the last holder frees. */
+void state_leave(State *state);
+/* The module's state by a type of it, or by a type below one; NULL of any other type. No exception is set. */
+State *state_of_type(PyTypeObject *type);
+State *state_of(PyObject *left, PyObject *right);
+/* An empty collection of a type. */
+Table *table_new(State *state, PyTypeObject *type);
+bool is_map(const State *state, PyObject *object);
+bool is_set(const State *state, PyObject *object);
+bool is_cache(const State *state, PyObject *object);
+PyObject *collection_new(PyTypeObject *type, PyObject *args, PyObject *kwargs);
+void collection_dealloc(PyObject *self);
+int collection_traverse(PyObject *self, visitproc visit, void *arg);
+int collection_clear(PyObject *self);
+Py_ssize_t collection_len(PyObject *self);
+int collection_contains(PyObject *self, PyObject *key);
+PyObject *collection_iter(PyObject *self);
+PyObject *collection_sizeof(PyObject *self, PyObject *unused);
+/* The attributes of a collection, as a pickle has them; a new reference, Py_None if there are none. */
+PyObject *collection_attributes(PyObject *self);
+
+/* ---- pairs.c: what maps and caches share ---- */
+
+PyObject *pairs_subscript(PyObject *self, PyObject *key);
+int pairs_ass_subscript(PyObject *self, PyObject *key, PyObject *value);
+PyObject *pairs_get(PyObject *self, PyObject *const *args, Py_ssize_t count);
+PyObject *pairs_setdefault(PyObject *self, PyObject *const *args, Py_ssize_t count);
+PyObject *pairs_pop(PyObject *self, PyObject *const *args, Py_ssize_t count);
+PyObject *pairs_popitem(PyObject *self, PyObject *unused);
+PyObject *pairs_update(PyObject *self, PyObject *args, PyObject *kwargs);
+PyObject *pairs_keys(PyObject *self, PyObject *unused);
+PyObject *pairs_values(PyObject *self, PyObject *unused);
+PyObject *pairs_items(PyObject *self, PyObject *unused);
+PyObject *pairs_compare(PyObject *self, PyObject *other, int op);
+PyObject *pair_of(PyObject *key, PyObject *value);
+
+/* ---- merging.c ---- */
+
+/* Puts the pairs of a mapping, or of an iterable of pairs. 0; -1: an exception is set, and the pairs before it are put. */
+int table_merge(Table *table, PyObject *other);
+/* A new dict of a collection's pairs. */
+PyObject *dict_of(Table *table);
+/* Whether an object is a dict, or a map or a cache of the module. */
+bool has_pairs(const State *state, PyObject *object);
+
+/* ---- iterating.c ---- */
+
+typedef enum { GIVES_KEYS, GIVES_VALUES, GIVES_ITEMS } Gives;
+PyObject *iterator_new(Table *table, Gives gives);
+extern PyType_Spec iterator_spec;
+
+/* ---- views.c ---- */
+
+PyObject *view_new(Table *table, PyTypeObject *type);
+bool is_set_like(const State *state, PyObject *object);
+extern PyType_Spec keys_spec, values_spec, items_spec;
+
+/* What sets and views of keys and of pairs have in common. */
+PyObject *set_like_compare(PyObject *self, PyObject *other, int op);
+PyObject *set_like_isdisjoint(PyObject *self, PyObject *other);
+/* Whether each item of one is in the other: 1, 0, -1. */
+int are_all_in(PyObject *items, PyObject *other);
+
+/* ---- map.c, set.c, cache.c ---- */
+
+extern PyType_Spec map_spec, set_spec, cache_spec;
+
+/* Puts the keys of an iterable into a set. 0 or -1. */
+int set_add_all(Table *set, PyObject *keys);
+
+/* 1, and the node at a key of a cache, which is touched; 0, -1. */
+int cache_touch(Cache *cache, const Key *key, Node **node);
+/* Puts a pair, which is then the last one touched. `gone` gets the node that went for it, which the caller drops. 0; -1: an
+ * exception is set, and nothing has changed. */
+int cache_put(Cache *cache, PyObject *key, PyObject *value, Node **gone);
+void order_begin(Cache *cache);
+void order_leave(Node *node);
+PyObject *cache_made(PyObject *module, PyObject *args);
+PyObject *set_made(PyObject *module, PyObject *args);
+
+/* ---- algebra.c ---- */
+
+PyObject *set_or(PyObject *left, PyObject *right);
+PyObject *set_and(PyObject *left, PyObject *right);
+PyObject *set_minus(PyObject *left, PyObject *right);
+PyObject *set_xor(PyObject *left, PyObject *right);
+PyObject *set_or_into(PyObject *self, PyObject *other);
+PyObject *set_and_into(PyObject *self, PyObject *other);
+PyObject *set_minus_into(PyObject *self, PyObject *other);
+PyObject *set_xor_into(PyObject *self, PyObject *other);
+PyObject *set_union(PyObject *self, PyObject *others);
+PyObject *set_intersection(PyObject *self, PyObject *others);
+PyObject *set_difference(PyObject *self, PyObject *others);
+PyObject *set_symmetric_difference(PyObject *self, PyObject *other);
+PyObject *set_update(PyObject *self, PyObject *others);
+PyObject *set_intersection_update(PyObject *self, PyObject *others);
+PyObject *set_difference_update(PyObject *self, PyObject *others);
+PyObject *set_symmetric_difference_update(PyObject *self, PyObject *other);
+
+#endif

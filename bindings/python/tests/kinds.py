@@ -1,0 +1,80 @@
+"""The types of the module bucket, filled beside a dict or a set, for tests."""
+
+import collections
+import gc
+
+import bucket
+from bucket import _bucket
+
+
+def word(number):
+    return number * 7919 - 1000
+
+
+def text(number):
+    return f"key {number}"
+
+
+def raw(number):
+    return b"key %d" % number
+
+
+def mixed(number):
+    """Of each five keys one is an int below 2**63, one an int above, a str in ASCII, another str, bytes."""
+    return [word(number), (1 << 63) + number, text(number), f"schlüssel {number}", raw(number)][number % 5]
+
+
+KEYS = [word, text, raw, mixed]
+Kind = collections.namedtuple("Kind", "type key")
+MAPS = [Kind(bucket.Map, key) for key in KEYS]
+SETS = [Kind(bucket.Set, key) for key in KEYS]
+CACHES = [Kind(lambda: bucket.Cache(1 << 14), key) for key in KEYS]
+KINDS = [*MAPS, *CACHES, *SETS]
+
+
+class Other:
+    """Some value of a class of its own."""
+
+
+def put(made, key, value):
+    if isinstance(made, (bucket.Set, set)):
+        made.add(key)
+    else:
+        made[key] = value
+
+
+def filled(kind, count):
+    """A collection of so many keys, and a dict or a set of the same; a large cache may have let some go."""
+    made, model = kind.type(), {}
+    for number in range(count):
+        put(made, kind.key(number), number)
+        model[kind.key(number)] = number
+    if kind in CACHES:
+        model = {key: value for key, value in model.items() if key in made}
+    return made, set(model) if kind in SETS else model
+
+
+def contents(made):
+    """What is in a collection, each key looked up."""
+    if isinstance(made, bucket.Set):
+        return {key for key in made if key in made}
+    look = made.peek if hasattr(made, "peek") else made.get
+    return {key: look(key) for key in made}
+
+
+def raised(call, *arguments, **options):
+    """The type of what a call raises, or None."""
+    try:
+        call(*arguments, **options)
+    except Exception as error:
+        return type(error)
+    return None
+
+
+def nodes_of(test, call):
+    """Makes a call, and asserts that no pair stays behind."""
+    gc.collect()
+    before = _bucket._nodes()
+    call()
+    gc.collect()
+    test.assertEqual(_bucket._nodes(), before)

@@ -1,0 +1,158 @@
+//! The two families of tables, each with a kind for words and one for texts.
+
+use crate::ffi::*;
+use crate::key::sealed::Form;
+use crate::Seed;
+
+/// The calls that both families have. On a closed handle each answers `CLOSED`.
+pub(crate) trait Kind: Copy {
+    /// Opens a closed handle.
+    fn open(self, is_text: bool, handle: &mut Handle, seed: Seed) -> u32;
+    /// Writes a key's value out, and touches no pair.
+    fn find(handle: &Handle, key: Form<'_>, value: &mut u64) -> u32;
+    fn contains(handle: &Handle, key: Form<'_>) -> u32;
+    /// Removes a pair, and writes its value out.
+    fn remove(handle: &mut Handle, key: Form<'_>, value: &mut u64) -> u32;
+}
+
+/// Maps, whose first array has room for so many pairs.
+#[derive(Clone, Copy)]
+pub(crate) struct Maps {
+    pub capacity: usize,
+}
+
+/// Caches of at least and at most so many slots.
+#[derive(Clone, Copy)]
+pub(crate) struct Caches {
+    pub minimum: usize,
+    pub maximum: usize,
+}
+
+// SAFETY, of each call: a declaration fits its export, a handle is closed or was opened by the library, a
+// pointer and a length are those of a slice, and an output is a value of its own.
+
+impl Kind for Maps {
+    fn open(self, is_text: bool, handle: &mut Handle, seed: Seed) -> u32 {
+        match is_text {
+            false => unsafe { bucket_map_new(handle, self.capacity, seed) },
+            true => unsafe { bucket_text_map_new(handle, self.capacity, seed) },
+        }
+    }
+
+    #[inline(always)]
+    fn find(handle: &Handle, key: Form<'_>, value: &mut u64) -> u32 {
+        match key {
+            Form::Word(word) => unsafe { bucket_map_get(handle, word, value) },
+            Form::Bytes(text) => unsafe { bucket_text_map_get(handle, text.as_ptr(), text.len(), value) },
+        }
+    }
+
+    #[inline(always)]
+    fn contains(handle: &Handle, key: Form<'_>) -> u32 {
+        match key {
+            Form::Word(word) => unsafe { bucket_map_contains(handle, word) },
+            Form::Bytes(text) => unsafe { bucket_text_map_contains(handle, text.as_ptr(), text.len()) },
+        }
+    }
+
+    #[inline(always)]
+    fn remove(handle: &mut Handle, key: Form<'_>, value: &mut u64) -> u32 {
+        match key {
+            Form::Word(word) => unsafe { bucket_map_remove(handle, word, value) },
+            Form::Bytes(text) => unsafe { bucket_text_map_remove(handle, text.as_ptr(), text.len(), value) },
+        }
+    }
+}
+
+impl Maps {
+    /// `OK`: the pair is inserted; `PRESENT`: the key was there, and its value is written out.
+    #[inline(always)]
+    pub fn get_or_insert(handle: &mut Handle, key: Form<'_>, value: u64, held: &mut u64) -> u32 {
+        match key {
+            Form::Word(word) => unsafe { bucket_map_get_or_insert(handle, word, value, held) },
+            Form::Bytes(text) => unsafe {
+                bucket_text_map_get_or_insert(handle, text.as_ptr(), text.len(), value, held)
+            },
+        }
+    }
+}
+
+impl Kind for Caches {
+    fn open(self, is_text: bool, handle: &mut Handle, seed: Seed) -> u32 {
+        match is_text {
+            false => unsafe { bucket_cache_new(handle, self.minimum, self.maximum, seed) },
+            true => unsafe { bucket_text_cache_new(handle, self.minimum, self.maximum, seed) },
+        }
+    }
+
+    #[inline(always)]
+    fn find(handle: &Handle, key: Form<'_>, value: &mut u64) -> u32 {
+        match key {
+            Form::Word(word) => unsafe { bucket_cache_peek(handle, word, value) },
+            Form::Bytes(text) => unsafe { bucket_text_cache_peek(handle, text.as_ptr(), text.len(), value) },
+        }
+    }
+
+    #[inline(always)]
+    fn contains(handle: &Handle, key: Form<'_>) -> u32 {
+        match key {
+            Form::Word(word) => unsafe { bucket_cache_contains(handle, word) },
+            Form::Bytes(text) => unsafe { bucket_text_cache_contains(handle, text.as_ptr(), text.len()) },
+        }
+    }
+
+    #[inline(always)]
+    fn remove(handle: &mut Handle, key: Form<'_>, value: &mut u64) -> u32 {
+        match key {
+            Form::Word(word) => unsafe { bucket_cache_remove(handle, word, value) },
+            Form::Bytes(text) => unsafe { bucket_text_cache_remove(handle, text.as_ptr(), text.len(), value) },
+        }
+    }
+}
+
+/// Where the key of a pair that goes is written: nowhere, since its node has it.
+struct Gone {
+    word: u64,
+    byte: u8,
+    len: usize,
+}
+
+impl Gone {
+    const NONE: Gone = Gone { word: 0, byte: 0, len: 0 };
+}
+
+impl Caches {
+    /// Writes a key's value out, and touches its pair.
+    #[inline(always)]
+    pub fn touch(handle: &mut Handle, key: Form<'_>, value: &mut u64) -> u32 {
+        match key {
+            Form::Word(word) => unsafe { bucket_cache_get(handle, word, value) },
+            Form::Bytes(text) => unsafe { bucket_text_cache_get(handle, text.as_ptr(), text.len(), value) },
+        }
+    }
+
+    /// `OK`: the pair is put; `EVICTED`: and the value of the pair that went is written out; `PRESENT`: it isn't
+    /// put, since the key is there.
+    #[inline(always)]
+    pub fn put(handle: &mut Handle, key: Form<'_>, value: u64, before: &mut u64) -> u32 {
+        let mut gone = Gone::NONE;
+        match key {
+            Form::Word(word) => unsafe { bucket_cache_put(handle, word, value, &mut gone.word, before) },
+            Form::Bytes(text) => unsafe {
+                bucket_text_cache_put(handle, text.as_ptr(), text.len(), value, &mut gone.byte, 0, &mut gone.len, before)
+            },
+        }
+    }
+
+    /// The same, but `PRESENT`: the value is the key's now, and its earlier one is written out.
+    #[inline(always)]
+    pub fn upsert(handle: &mut Handle, key: Form<'_>, value: u64, before: &mut u64) -> u32 {
+        let mut gone = Gone::NONE;
+        match key {
+            Form::Word(word) => unsafe { bucket_cache_upsert(handle, word, value, &mut gone.word, before) },
+            Form::Bytes(text) => unsafe {
+                bucket_text_cache_upsert(handle, text.as_ptr(), text.len(), value, &mut gone.byte, 0, &mut gone.len, before)
+            },
+        }
+    }
+}

@@ -1,0 +1,60 @@
+-- What an exported call copies of the pairs of one bucket.
+use Rattle.std.specs.Prelude.{ℕ, ◌≡◌, ◌<◌, ◌≤◌, List, Option, Some, None, length, map}
+use Rattle.std.specs.Map.{keys_of}
+use Rattle.collections.specs.Maps.{map_of, pairs_in_bucket}
+use Rattle.bucket_c.specs.Codes.{absent, ok}
+use Rattle.bucket_c.specs.Copying.{CopiesPairs, CopiesTexts, Piece, key_piece, store_piece, text_piece}
+use Rattle.bucket_c.specs.Tables.{Reads}
+use Rattle.bucket_c.specs.declared.copying.Pair.{Pair}
+use Rattle.bucket_c.specs.declared.copying.TextPair.{TextPair}
+use Rattle.bucket_c.specs.declared.tables.Table.{Table}
+use Rattle.bucket_c.specs.declared.tables.Table.TheVariants.{Map, TextMap, Set, TextSet, Store, Cache, TextCache}
+
+-- pairs as words: a key or a value that is a byte string is told as 0, and a set's keys are beside 0
+abbrev pub value_alone : {K : Type 0} → K × ℕ → ℕ × ℕ
+value_alone pair = (0, pair.1)
+
+abbrev pub beside_zero : ℕ → ℕ × ℕ
+beside_zero key = (key, 0)
+
+abbrev pub no_words : {A : Type 0} → A → ℕ × ℕ
+no_words pair = (0, 0)
+
+-- how many pairs each bucket of a table has, and the pairs of one bucket as words
+abbrev pub words_in : ℕ → Table → List ℕ × List (ℕ × ℕ)
+words_in bucket (Map m) = (m.bucket_lens, pairs_in_bucket m bucket)
+words_in bucket (TextMap m) = (m.bucket_lens, map value_alone (pairs_in_bucket m bucket))
+words_in bucket (Set s) = (s.bucket_lens, map beside_zero (keys_of (pairs_in_bucket s bucket)))
+words_in bucket (TextSet s) = (s.bucket_lens, map no_words (keys_of (pairs_in_bucket s bucket)))
+words_in bucket (Store m) = (m.bucket_lens, map no_words (pairs_in_bucket m bucket))
+words_in bucket (Cache c) = ((map_of c).bucket_lens, pairs_in_bucket (map_of c) bucket)
+words_in bucket (TextCache c) = ((map_of c).bucket_lens, map value_alone (pairs_in_bucket (map_of c) bucket))
+
+-- the same of the pairs under byte strings, as what they leave in two buffers
+abbrev pub texts_in : ℕ → Table → Option (List ℕ × List Piece)
+texts_in bucket (Map m) = None
+texts_in bucket (TextMap m) = Some (m.bucket_lens, map text_piece (pairs_in_bucket m bucket))
+texts_in bucket (Set s) = None
+texts_in bucket (TextSet s) = Some (s.bucket_lens, map key_piece (keys_of (pairs_in_bucket s bucket)))
+texts_in bucket (Store m) = Some (m.bucket_lens, map store_piece (pairs_in_bucket m bucket))
+texts_in bucket (Cache c) = None
+texts_in bucket (TextCache c) = Some ((map_of c).bucket_lens, map text_piece (pairs_in_bucket (map_of c) bucket))
+
+-- what was copied, and the code, by whether there is such a bucket; past the last one there are no pairs
+pub record CopiesBucket (bucket : ℕ) (lens : List ℕ) (Copied : Type 0) (code : ℕ) : Type 0 where
+  pub there : bucket < length lens → code ≡ ok
+  pub past : length lens ≤ bucket → code ≡ absent
+  pub copied : Copied
+
+module _ (bucket start : ℕ) where
+  -- the pairs of a bucket, from one on, are copied to the front of a buffer, as many as there is room for
+  abbrev pub CopiesWordsIn : Option Table → List Pair → ℕ → ℕ → List Pair → ℕ → Type 0
+  CopiesWordsIn table old before code new count =
+      Reads (λ t. Some (words_in bucket t)) (λ all code. CopiesBucket bucket all.0 (CopiesPairs start all.1 old count new) code)
+      ((new ≡ old) × (count ≡ before)) table code
+
+  -- the same into two buffers, as many as fit in both
+  abbrev pub CopiesTextsIn : Option Table → List TextPair → List ℕ → ℕ → ℕ → List TextPair → List ℕ → ℕ → Type 0
+  CopiesTextsIn table old bytes before code new after count =
+      Reads (texts_in bucket) (λ all code. CopiesBucket bucket all.0 (CopiesTexts start all.1 old bytes count new after) code)
+      ((new ≡ old) × (after ≡ bytes) × (count ≡ before)) table code

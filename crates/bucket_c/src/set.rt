@@ -1,0 +1,67 @@
+//! Exports: a set of words.
+//!
+//! Each call but `new` also returns `CLOSED` and `OTHER_KIND`, and then does nothing.
+ghost use Rattle.std.specs.Prelude.{◌≡◌, ℕ, nat_eq};
+ghost use Rattle.collections.specs.Maps.{get};
+ghost use Rattle.bucket_c.specs.Codes.{found_code};
+ghost use Rattle.bucket_c.specs.Hashing.{word_hash};
+ghost use Rattle.bucket_c.specs.Maps.{InsertsOne, RemovesKey};
+ghost use Rattle.bucket_c.specs.Opening.{IsNew};
+ghost use Rattle.bucket_c.specs.Tables.{Maps, OnSet, Opens, Reads, set_in};
+ghost use Rattle.bucket_c.specs.declared.tables.Table.TheVariants.{Set};
+
+use crate::codes::{CLOSED, OTHER_KIND};
+use crate::handle::Handle;
+use crate::maps;
+use crate::seed::{Seed, hash_by};
+use crate::tables::Table;
+use collections::hash_set::HashSet;
+use std::alloc::Global;
+
+/// Opens a closed handle on an empty set.
+///
+/// Returns `OK`; `NO_MEMORY`, and the handle stays closed; `OPEN`, and what it holds stays. O(1).
+/// Own.
+#[unsafe(no_mangle)]
+pub extern "C" fn bucket_set_new(alloc: Global, handle: &mut Handle, seed: Seed) -> u32
+    ensures { (set : Maps ℕ (Unit {0})) × IsNew 0 seed set
+        × Opens (Set set) handle.old.held.table result handle.new.held.table }
+{
+    let set = HashSet::with_capacity_and_hasher(alloc, 0, hash_by(seed));
+    handle.open(alloc, Table::Set(set))
+}
+
+/// Inserts a key that the set hasn't.
+///
+/// Returns `OK`; `PRESENT` if the key is there, `NO_MEMORY` if allocation fails: all stays. O(1)
+/// expected. `HashSet::insert_new`.
+#[unsafe(no_mangle)]
+pub extern "C" fn bucket_set_insert(alloc: Global, handle: &mut Handle, key: u64) -> u32
+    ensures { OnSet (InsertsOne nat_eq word_hash key tt) (Unit {0})
+        handle.old.held.table result handle.new.held.table }
+{
+    on_table!(handle, alloc, Set(set) => maps::insert_key(set, key))
+}
+
+/// Tests whether the set has a key.
+///
+/// Returns `OK`, `ABSENT`. O(1) expected. `HashSet::contains`.
+#[unsafe(no_mangle)]
+pub extern "C" fn bucket_set_contains(handle: &mut Handle, key: u64) -> u32
+    ensures found { Reads set_in (λ set code. code ≡ found_code (get nat_eq set key))
+        (Unit {0}) handle.old.held.table result }
+    ensures same { handle.new ≡ handle.old }
+{
+    on_shared!(handle, Set(set) => maps::contains_key(set, &key))
+}
+
+/// Takes out the key that is equal.
+///
+/// Returns `OK`, `ABSENT`. O(1) expected. `HashSet::take`.
+#[unsafe(no_mangle)]
+pub extern "C" fn bucket_set_remove(alloc: Global, handle: &mut Handle, key: u64) -> u32
+    ensures { OnSet (RemovesKey nat_eq (nat_eq key)) (Unit {0})
+        handle.old.held.table result handle.new.held.table }
+{
+    on_table!(handle, alloc, Set(set) => maps::remove_key(set, &key))
+}
