@@ -3,7 +3,6 @@ use Rattle.bucket_table.proofs.Words.{BucketView, List, append-nil, append_assoc
 use Rattle.bucket_table.proofs.Words.{take, zero, [], ℕ, ◌++◌, ◌+◌, ◌<◌, ◌∙◌, ◌∷◌, ◌≡◌}
 use Rattle.std.specs.Borrow.{Bor}
 use Rattle.bucket_slots.proofs.CallingEach.{calls_joined}
-pub use Rattle.bucket_slots.proofs.CallingEach.{calls_same}
 use Rattle.bucket_slots.specs.Walking.{CallsEach}
 use Rattle.bucket_table.specs.Map.LookingUp.{pairs_in_all}
 
@@ -18,6 +17,11 @@ module _ {K V : Type 0} where
       ∙ ap (λ ps. pairs_in b ++ ps) (pairs_in_all-more bs i (omega arith)))
 
   module _ {S : Type 0} (step : S → Bor K → Bor V → S → Type 0) where
+    -- the same pairs
+    pub calls_same : (first last : S) (pairs others : List (K × V)) → pairs ≡ others → CallsEach step first pairs last
+        → CallsEach step first others last
+    calls_same first last pairs others same calls = subst (λ ps. CallsEach step first ps last) same calls
+
     -- one bucket more of an array
     pub calls_more : (first now next : S) (bs : List (BucketView K V)) (i : ℕ) (b : BucketView K V) → i < length bs → b ≡ bucket_at bs i
         → CallsEach step first (pairs_in_all (take i bs)) now → CallsEach step now (pairs_in b) next
