@@ -1,11 +1,11 @@
 -- A walk over the own slots of a bucket by a bitmap of those that are left.
-use Rattle.bucket_slots.proofs.Words.{BucketView, IsLowest, IsMaskOf, MovesToNext, Place, SetsBit, [], ap, arith, drop, false, filter_map-append}
-use Rattle.bucket_slots.proofs.Words.{flattened, free, is_live, IsTrue, live_pair, live_pairs, ne_eqb, pairs_ahead, pairs_in, append-nil, refl, row_at}
+use Rattle.bucket_slots.proofs.Words.{BucketView, IsLowest, IsMaskOf, MovesToNext, Place, SetsBit, [], ap, arith, drop, filter_map-append}
+use Rattle.bucket_slots.proofs.Words.{flattened, free, is_live, IsTrue, live_pair, live_pairs, ne_eqb, pairs_ahead, pairs_in, append-nil, refl}
 use Rattle.bucket_slots.proofs.Words.{bit_at-zero, cases_lt, inl, inr, slot_at, slot_in, suc, sym, zero, ℕ, List, ◌++◌, ◌+◌, ◌-◌, ◌<◌, ◌∙◌, ◌∷◌, ◌≡◌, ◌≢◌, ◌≤◌, ◌^◌}
 use Rattle.std.proofs.Math.Seq.{drop-nil}
 use Rattle.std.proofs.lemmas.Nat.Bits.{bit_at_above}
 use Rattle.bucket_slots.specs.ArrayView.{bucket_at}
-use Rattle.bucket_slots.specs.Layout.Bitmaps.{KeepsAfter, KeepsFrom}
+use Rattle.bucket_slots.specs.Layout.Bitmaps.{KeepsAfter}
 use Rattle.bucket_slots.specs.Layout.Digests.{AreDigests, DigestLists, digest_at}
 use Rattle.bucket_slots.specs.OwnWalks.{AreAllAfter, AreAllOwn, AreOwnAfter, NamesFrom}
 use Rattle.bucket_slots.specs.Walking.{position_after}

@@ -1,4 +1,4 @@
-use Rattle.bucket_slots.proofs.Words.{arith, of_calls, refl, rules, ◌∙◌}
+use Rattle.bucket_slots.proofs.Words.{arith, of_calls, rules, ◌∙◌}
 use Rattle.bucket_slots.proofs.Bitmaps.{ones-cleared, ones-none}
 use Rattle.bucket_slots.proofs.LiveMasks.{calling_done, calling_first, calling_next, live_read, named_filled}
 use Rattle.bucket_slots.proofs.bucket.row.Row.for_each_of.Goals as goal

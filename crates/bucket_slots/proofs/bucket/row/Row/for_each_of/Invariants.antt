@@ -1,4 +1,4 @@
-use Rattle.bucket_slots.proofs.Words.{always_mut, ones, ◌+◌, ◌<◌, ◌^◌, ◌≡◌}
+use Rattle.bucket_slots.proofs.Words.{always_mut, ones, ◌+◌, ◌≡◌}
 use Rattle.bucket_slots.proofs.LiveMasks.{IsCalling}
 use Rattle.bucket_slots.proofs.bucket.row.Row.for_each_of.Given as goal
 
