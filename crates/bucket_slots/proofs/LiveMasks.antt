@@ -1,7 +1,10 @@
 -- The live slots of a row that a loop over their mask has still to come to.
-use Rattle.bucket_slots.proofs.Words.{Bor, CallsEach, IsLowest, IsMaskOf, List, SetsBit, Slot, Some, [], ap, arith, bit_at-zero}
-use Rattle.bucket_slots.proofs.Words.{cases_eq, cases_lt, drop, drop-drop, drop_all, drop_more, false, free, get_or-drop, inl, inr}
-use Rattle.bucket_slots.proofs.Words.{is_free, is_live, length, live_pair, live_pairs, pair_of, refl, slot_at, sym, true, ℕ}
+use Rattle.bucket_slots.proofs.Words.{Bor, CallsEach, IsLowest, IsMaskOf, List, SetsBit, Slot, Some, [], ap, arith}
+use Rattle.bucket_slots.proofs.Words.{bit_at-zero}
+use Rattle.bucket_slots.proofs.Words.{cases_eq, cases_lt, drop, drop-drop, drop_all, drop_more, false, free}
+use Rattle.bucket_slots.proofs.Words.{get_or-drop, inl, inr}
+use Rattle.bucket_slots.proofs.Words.{is_free, is_live, length, live_pair, live_pairs, pair_of, refl, slot_at, sym}
+use Rattle.bucket_slots.proofs.Words.{true, ℕ}
 use Rattle.bucket_slots.proofs.Words.{◌+◌, ◌-◌, ◌<◌, ◌∙◌, ◌∷◌, ◌≡◌, ◌≤◌}
 use Rattle.bucket_slots.specs.OwnWalks.{NamesFrom}
 use Rattle.bucket_slots.proofs.CallerLemmas.{live_from_pair}

@@ -1,7 +1,10 @@
 -- A walk over the own slots of a bucket by a bitmap of those that are left.
-use Rattle.bucket_slots.proofs.Words.{BucketView, IsLowest, IsMaskOf, MovesToNext, Place, SetsBit, [], ap, arith, drop, filter_map-append}
-use Rattle.bucket_slots.proofs.Words.{flattened, free, is_live, IsTrue, live_pair, live_pairs, ne_eqb, pairs_ahead, pairs_in, append-nil, refl}
-use Rattle.bucket_slots.proofs.Words.{bit_at-zero, cases_lt, inl, inr, slot_at, slot_in, suc, sym, zero, ℕ, List, ◌++◌, ◌+◌, ◌-◌, ◌<◌, ◌∙◌, ◌∷◌, ◌≡◌, ◌≢◌, ◌≤◌, ◌^◌}
+use Rattle.bucket_slots.proofs.Words.{BucketView, IsLowest, IsMaskOf, MovesToNext, Place, SetsBit, [], ap, arith, drop}
+use Rattle.bucket_slots.proofs.Words.{filter_map-append}
+use Rattle.bucket_slots.proofs.Words.{flattened, free, is_live, IsTrue, live_pair, live_pairs, ne_eqb, pairs_ahead}
+use Rattle.bucket_slots.proofs.Words.{pairs_in, append-nil, refl}
+use Rattle.bucket_slots.proofs.Words.{bit_at-zero, cases_lt, inl, inr, slot_at, slot_in, suc, sym, zero, ℕ, List, ◌++◌}
+use Rattle.bucket_slots.proofs.Words.{◌+◌, ◌-◌, ◌<◌, ◌∙◌, ◌∷◌, ◌≡◌, ◌≢◌, ◌≤◌, ◌^◌}
 use Rattle.std.proofs.Math.Seq.{drop-nil}
 use Rattle.std.proofs.lemmas.Nat.Bits.{bit_at_above}
 use Rattle.bucket_slots.specs.ArrayView.{bucket_at}
@@ -15,7 +18,8 @@ use Rattle.bucket_slots.proofs.NextPlaces.{pairs_ahead-inside}
 use Rattle.bucket_slots.proofs.NextSlots.{live_pairs-live}
 
 -- none is past the last own slot
-pub keeps_none : (bits : ℕ) (at : Place) (from : ℕ) → bits < 2 ^ 32 → (at.pos ≤ 32 → from ≡ position_after at.pos) → 32 ≤ from
+pub keeps_none : (bits : ℕ) (at : Place) (from : ℕ) → bits < 2 ^ 32 → (at.pos ≤ 32 → from ≡ position_after at.pos)
+    → 32 ≤ from
     → KeepsAfter bits at 0
 keeps_none bits at from fits near past = record {
   own = λ own. record {
@@ -33,7 +37,8 @@ keeps_none bits at from fits near past = record {
 
 module _ {K V : Type 0} where
   -- those of the live own slots that are after a place
-  pub own_after : (bucket : BucketView K V) (live : ℕ) (at : Place) (left : ℕ) → IsMaskOf is_live bucket.own live → KeepsAfter live at left
+  pub own_after : (bucket : BucketView K V) (live : ℕ) (at : Place) (left : ℕ) → IsMaskOf is_live bucket.own live
+      → KeepsAfter live at left
       → left ≢ 0 → AreOwnAfter bucket at left
   own_after bucket live at left mask keeps some = go at.block refl
     where
@@ -50,7 +55,8 @@ module _ {K V : Type 0} where
       go (suc block) is = absurd (some (keeps.chained (λ own. omega (arith, is, own))))
 
   -- where there are none and no chain, no pair is ahead
-  none_ahead : (bucket : BucketView K V) (live block pos : ℕ) → AreAllOwn bucket live → KeepsAfter live (record { block = block; pos = pos }) 0
+  none_ahead : (bucket : BucketView K V) (live block pos : ℕ) → AreAllOwn bucket live
+      → KeepsAfter live (record { block = block; pos = pos }) 0
       → pairs_ahead bucket (record { block = block; pos = pos }) ≡ []
   none_ahead bucket live zero pos all keeps =
       let from = keeps.own refl in
@@ -58,11 +64,13 @@ module _ {K V : Type 0} where
         ahead = λ i after. from.ahead i after ∙ bit-mask is_live bucket.own live all.mask i free refl;
         behind = from.behind;
       } in
-      rw (all.chainless, append-nil (drop (position_after pos) bucket.own)) (no_pair bucket.own (position_after pos) names)
+      rw (all.chainless, append-nil (drop (position_after pos) bucket.own)) (no_pair bucket.own (position_after pos)
+      names)
   none_ahead bucket live (suc block) pos all keeps =
       rw (all.chainless, drop-nil (position_after pos)) refl
 
-  pub all_after : (bucket : BucketView K V) (live : ℕ) (at : Place) (left : ℕ) → AreAllOwn bucket live → KeepsAfter live at left
+  pub all_after : (bucket : BucketView K V) (live : ℕ) (at : Place) (left : ℕ) → AreAllOwn bucket live
+      → KeepsAfter live at left
       → AreAllAfter bucket at left
   all_after bucket live at left all keeps = record {
     none = λ none. none_ahead bucket live at.block at.pos all (rw none at keeps);
@@ -88,7 +96,8 @@ module _ {K V : Type 0} where
     pub left : AreOwnAfter bucket to rest
 
   -- it is the one of the lowest bit
-  pub steps_own : (bucket : BucketView K V) (at to : Place) (left pos after : ℕ) → AreOwnAfter bucket at left → IsLowest left pos
+  pub steps_own : (bucket : BucketView K V) (at to : Place) (left pos after : ℕ) → AreOwnAfter bucket at left
+      → IsLowest left pos
       → SetsBit left pos 0 after → to ≡ record { block = 0; pos = pos } → StepsOwn bucket at to after
   steps_own bucket at to left pos after own low clears is = rw is (
       let from = position_after at.pos in
@@ -97,7 +106,8 @@ module _ {K V : Type 0} where
       let behind = flattened bucket.chain in
       let next = next_pair bucket.own left from pos pair.0 own.names low pair.1 in
       let past : position_after pos ≡ pos + 1 = rw (ne_eqb pos 32 (λ same. omega (arith, same, low.within))) refl in
-      let ahead : pairs_ahead bucket (record { block = 0; pos = at.pos }) ≡ pair.0 ∷ pairs_ahead bucket (record { block = 0; pos = pos }) =
+      let ahead : pairs_ahead bucket (record { block = 0; pos = at.pos })
+      ≡ pair.0 ∷ pairs_ahead bucket (record { block = 0; pos = pos }) =
       filter_map-append live_pair (drop from bucket.own) behind
       ∙ ap (λ pairs. pairs ++ live_pairs behind) next
       ∙ ap (λ pairs. pair.0 ∷ pairs) (sym (filter_map-append live_pair (drop (pos + 1) bucket.own) behind))

@@ -1,5 +1,6 @@
 -- The buckets of both arrays in a row, and the pairs behind a place in it.
-use Rattle.std.specs.Prelude.{ℕ, ◌≡◌, ◌≢◌, ◌<◌, ◌+◌, ◌-◌, nat_lt, if◌then◌else◌, List, ◌∷◌, ◌++◌, Option, Some, drop, length}
+use Rattle.std.specs.Prelude.{ℕ, ◌≡◌, ◌≢◌, ◌<◌, ◌+◌, ◌-◌, nat_lt, if◌then◌else◌, List, ◌∷◌, ◌++◌, Option, Some, drop}
+use Rattle.std.specs.Prelude.{length}
 use Rattle.std.specs.Borrow.{Bor}
 use Rattle.bucket_slots.specs.ArrayView.{bucket_at}
 use Rattle.bucket_slots.specs.BucketView.{BucketView, Place}
@@ -34,13 +35,15 @@ pub record MovesOn {K V : Type 0} (buckets : List (BucketView K V)) (index : ℕ
   pub first : pairs_from buckets index at ≡ moves.pair ∷ pairs_from buckets to_index to
 
 -- a bucket of a row stands in an array, at an index of its own
-pub record StandsAt {K V : Type 0} (buckets : List (BucketView K V)) (index : ℕ) (array : List (BucketView K V)) (own : ℕ) : Type 0 where
+pub record StandsAt {K V : Type 0} (buckets : List (BucketView K V)) (index : ℕ) (array : List (BucketView K V))
+    (own : ℕ) : Type 0 where
   pub inside : index < length buckets
   pub within : own < length array
   pub same : bucket_at array own ≡ bucket_at buckets index
 
 -- a bucket of a row has live own slots after a place, those of a bitmap
-pub record HasOwnLeft {K V : Type 0} (buckets : List (BucketView K V)) (index : ℕ) (at : Place) (bucket : BucketView K V) (left : ℕ)
+pub record HasOwnLeft {K V : Type 0} (buckets : List (BucketView K V)) (index : ℕ) (at : Place)
+    (bucket : BucketView K V) (left : ℕ)
     : Type 0 where
   pub within : index < length buckets
   pub here : bucket ≡ bucket_at buckets index

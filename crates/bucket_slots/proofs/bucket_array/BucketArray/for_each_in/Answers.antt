@@ -10,7 +10,8 @@ returns-in_default-clause-calls g c =
 
 pub returns-then-live-ne0-clause-calls : goal.returns-then-live-ne0-clause-calls
 returns-then-live-ne0-clause-calls g c =
-    calls_same _ c.args.f.now c.for_each_own.new.f _ _ (ap pairs_in c.bucket-then-live-ne0.ensures) c.for_each_own.ensures.calls
+    calls_same _ c.args.f.now c.for_each_own.new.f _ _ (ap pairs_in c.bucket-then-live-ne0.ensures)
+    c.for_each_own.ensures.calls
 
 pub returns-else-live-ne0-clause-calls : goal.returns-else-live-ne0-clause-calls
 returns-else-live-ne0-clause-calls g c =

@@ -9,13 +9,19 @@ pub loop-index-preserved : goal.loop-index-preserved
 loop-index-preserved g c =
     let array = c.in-Some.array in (
       c.for_each_in.ensures.again,
-      calls_more _ c.args.f.now c.loop-index.f c.for_each_in.new.f array c.loop-index.index (bucket_at array c.loop-index.index)
-          (omega (arith, c.loop-index-test.true, c.len-index-end.ensures.value)) refl c.loop-index.invariant.1 c.for_each_in.ensures.calls,
+      calls_more _ c.args.f.now c.loop-index.f c.for_each_in.new.f array c.loop-index.index
+          (bucket_at array c.loop-index.index)
+          (omega (arith, c.loop-index-test.true, c.len-index-end.ensures.value)) refl c.loop-index.invariant.1
+          c.for_each_in.ensures.calls,
     )
 
 pub returns-clause-calls : goal.returns-clause-calls
 returns-clause-calls g c =
     let array = c.in-Some.array in
-    let all = take_all c.loop-index.index array (omega (arith, c.loop-index-test.false, c.len-index-end.ensures.value)) in
+    let all = take_all c.loop-index.index array (omega (
+      arith,
+      c.loop-index-test.false,
+      c.len-index-end.ensures.value,
+    )) in
     calls_same _ c.args.f.now c.loop-index.f (pairs_in_all (take c.loop-index.index array)) _
     (ap pairs_in_all all ∙ sym (ap (λ held. pairs_in_all (list_of held)) c.in-Some.is)) c.loop-index.invariant.1

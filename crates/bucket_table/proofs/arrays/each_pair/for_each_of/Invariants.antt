@@ -8,4 +8,5 @@ use Rattle.bucket_table.proofs.arrays.each_pair.for_each_of.Given as goal
 abbrev pub invariant-loop-index : goal.invariant-loop-index
 invariant-loop-index g l =
     always_mut g.F.FnMut l.f
-    × CallsEach (λ state own value last. goal.F-step g state own value tt last) l.fn.f (pairs_in_all (take l.index l.array)) l.f
+    × CallsEach (λ state own value last. goal.F-step g state own value tt last) l.fn.f (pairs_in_all (take l.index
+    l.array)) l.f

@@ -13,7 +13,8 @@ loop-called-preserved g c =
     let low = c.lowest_bit-pos.ensures in
     let clears = c.without_lowest-left.ensures.bits _ low in (
       λ always. let here = c.loop-called.invariant.0 always in search of_calls,
-      calling_next _ c.args.f.now c.loop-called.f c.f.new.self c.args.self.now _ _ _ c.pair.result.0 c.pair.result.1 calling low
+      calling_next _ c.args.f.now c.loop-called.f c.f.new.self c.args.self.now _ _ _ c.pair.result.0 c.pair.result.1
+          calling low
           clears (live_read c.args.self.now _ _ _ calling.names low ∙ c.pair.ensures) c.f.ensures,
       omega (arith, ones-cleared _ _ _ clears low.set, c.loop-called.invariant.2),
     )
@@ -25,4 +26,8 @@ returns-clause-calls g c =
     calling_done _ c.args.f.now c.loop-called.f c.args.self.now (rw none at calling)
 
 pub pair-requires : goal.pair-requires
-pair-requires g c = (search rules, named_filled c.args.self.now _ _ _ c.loop-called.invariant.1.names c.lowest_bit-pos.ensures)
+pair-requires g c = (
+  search rules,
+  named_filled c.args.self.now _ _ _ c.loop-called.invariant.1.names
+      c.lowest_bit-pos.ensures,
+)

@@ -19,7 +19,8 @@ returns-clause-steps g c =
     let has = lent_is _ _ _ _ _ c.in-Some.bucket c.self.invariant c.if-self-eq0.false c.in-Some.is in
     let moved = c.next_own-self-inside.ensures.moves in
     sym c.self.view_is
-    ∙ first_own (row_of c.self.inside.arrays.now) c.self.inside.index _ _ c.in-Some.bucket _ has _ moved c.entry.ensures.pair
+    ∙ first_own (row_of c.self.inside.arrays.now) c.self.inside.index _ _ c.in-Some.bucket _ has _ moved
+    c.entry.ensures.pair
 
 pub returns-clause-goes : goal.returns-clause-goes
 returns-clause-goes g c =
