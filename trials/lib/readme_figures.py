@@ -19,7 +19,7 @@ LONGEST = [
 ]
 
 # The crates whose lines README counts, and the sentence that tells how many.
-CRATES = ["bucket_slots", "bucket_table", "collections", "bucket_c"]
+CRATES = ["bucket_slots", "bucket_table", "collections", "bucket_calls", "bucket_c"]
 LINES = r"have ([\d,]+) lines of code, ([\d,]+) of specs and ([\d,]+) of proofs"
 # They are told in thousands, and may be one thousand off.
 THOUSAND = 1000

@@ -1,39 +1,47 @@
 /* The type Cache: a mapping of at most `maxsize` pairs, from which the pair goes that was touched longest ago.
  *
  * The library's cache has twice as many slots as there may be pairs. So hardly ever is one of its buckets of 32 slots full, and it
- * is the order here, a ring of all nodes by their last touch, that says which pair goes. */
+ * is the order here, a ring of all nodes by their last touch, that says which pair goes. Where a bucket is full, a chain goes: all
+ * pairs of one hash, of which a look-up touches all for the library. */
 #include "collection.h"
 
 /* ---- The order of use ---- */
 
 void order_begin(Cache *cache) {
-    cache->order.before = cache->order.next = &cache->order;
+    cache->order.before = cache->order.after = &cache->order;
 }
 
-void order_leave(Node *node) {
-    node->before->next = node->next;
-    node->next->before = node->before;
+void order_leave(Used *used) {
+    used->before->after = used->after;
+    used->after->before = used->before;
 }
 
-static void order_append(Cache *cache, Node *node) {
-    node->before = cache->order.before;
-    node->next = &cache->order;
-    node->before->next = node;
-    cache->order.before = node;
+static void order_append(Cache *cache, Used *used) {
+    used->before = cache->order.before;
+    used->after = &cache->order;
+    used->before->after = used;
+    cache->order.before = used;
+}
+
+/* All nodes of a chain leave the order. Returns how many they are. */
+static size_t order_leave_all(Node *first) {
+    size_t count = 0;
+    for (Node *node = first; node != NULL; node = node->next) {
+        order_leave((Used *)node);
+        count++;
+    }
+    return count;
 }
 
 int cache_touch(Cache *cache, const Key *key, Node **node) {
-    bucket_handle *handle = &cache->table.handles[key->kind];
-    uint64_t value = 0;
-    uint32_t code = key->kind == WORDS ? bucket_cache_get(handle, key->word, &value)
-                                       : bucket_text_cache_get(handle, key->text, key->len, &value);
-    if (code == BUCKET_OK) {
-        *node = (Node *)(uintptr_t)value;
-        order_leave(*node);
-        order_append(cache, *node);
-        return 1;
+    uint64_t first = 0;
+    uint32_t code = bucket_cache_get(&cache->table.handles[key->kind], key->word, &first);
+    int is_there = node_found(code, first, key, node);
+    if (is_there == 1) {
+        order_leave((Used *)*node);
+        order_append(cache, (Used *)*node);
     }
-    return code == BUCKET_ABSENT || code == BUCKET_CLOSED ? 0 : code_refused(code);
+    return is_there;
 }
 
 /* ---- Puts ---- */
@@ -43,70 +51,56 @@ enum { FIRST_SLOTS = 1024 };
 
 static uint32_t cache_open(Cache *cache, int kind) {
     bucket_handle *handle = &cache->table.handles[kind];
-    bucket_seed seed = cache->table.state->seed;
     size_t most = 2 * cache->maxsize, least = most < FIRST_SLOTS ? most : FIRST_SLOTS;
-    return kind == WORDS ? bucket_cache_new(handle, least, most, seed) : bucket_text_cache_new(handle, least, most, seed);
+    return bucket_cache_new(handle, least, most, cache->table.state->seed);
 }
 
-/* The library's put. `gone` gets the node that was evicted, if one was. */
-static uint32_t put_new(Cache *cache, const Key *key, Node *node, Node **gone) {
-    bucket_handle *handle = &cache->table.handles[key->kind];
-    uint64_t value = (uint64_t)(uintptr_t)node, gone_key = 0, gone_value = 0;
-    size_t gone_len = 0;
-    uint32_t code = key->kind == WORDS
-        ? bucket_cache_put(handle, key->word, value, &gone_key, &gone_value)
-        : bucket_text_cache_put(handle, key->text, key->len, value, NULL, 0, &gone_len, &gone_value);
-    *gone = code == BUCKET_EVICTED ? (Node *)(uintptr_t)gone_value : NULL;
+/* The library's put. `gone` gets the chain that was evicted, if one was. */
+static uint32_t put_first(Cache *cache, const Key *key, Node *node, Node **gone) {
+    uint64_t word = 0, first = 0;
+    uint32_t code = bucket_cache_put(&cache->table.handles[key->kind], key->word, (uint64_t)(uintptr_t)node, &word, &first);
+    *gone = code == BUCKET_EVICTED ? (Node *)(uintptr_t)first : NULL;
     return code;
 }
 
-/* Puts a node whose key is absent. If the cache is full, the one at `oldest` goes. */
-static int insert(Cache *cache, const Key *key, Node *node, const Key *oldest, Node **gone) {
+/* Puts a node whose key is absent, behind the chain's last one if there is a chain. `gone` gets the chain that was evicted, if one
+ * was. 0; -1: MemoryError, and nothing has changed. */
+static int insert(Cache *cache, const Key *key, Node *node, Node *last, Node **gone) {
     Table *table = &cache->table;
-    uint32_t code = put_new(cache, key, node, gone);
-    if (code == BUCKET_CLOSED) {
-        code = cache_open(cache, key->kind);
-        code = code == BUCKET_OK ? put_new(cache, key, node, gone) : code;
+    if (last != NULL) {
+        last->next = node;
+    } else {
+        uint32_t code = put_first(cache, key, node, gone);
+        if (code == BUCKET_CLOSED) {
+            code = cache_open(cache, key->kind);
+            code = code == BUCKET_OK ? put_first(cache, key, node, gone) : code;
+        }
+        if (code != BUCKET_OK && code != BUCKET_EVICTED) {
+            return code_refused(code);
+        }
     }
-    if (code != BUCKET_OK && code != BUCKET_EVICTED) {
-        return code_refused(code);
-    }
+    order_append(cache, (Used *)node);
     table->lens[key->kind]++;
+    table->lens[key->kind] -= order_leave_all(*gone);
     table->version++;
-    order_append(cache, node);
-    if (code == BUCKET_EVICTED) {
-        table->lens[key->kind]--;
-        order_leave(*gone);
-        (*gone)->next = NULL;
-    } else if (oldest != NULL) {
-        return table_take(table, oldest, gone) < 0 ? -1 : 0;
-    }
     return 0;
 }
 
-static int put_absent(Cache *cache, const Key *at, PyObject *key, PyObject *value, Node **gone) {
+/* The same of a pair. If there is one too many then, the one goes that was touched longest ago. */
+static int put_absent(Cache *cache, const Key *at, PyObject *key, PyObject *value, Node *last, Node **gone) {
     Table *table = &cache->table;
-    Key oldest;
-    bool is_full = table_len(table) >= cache->maxsize;
-    /* The key of the pair that goes is made before anything changes, since that may fail. It's one that was put, so no code of
-     * another's runs but for a type with an odd metaclass. */
-    if (is_full) {
-        PyObject *oldest_key = Py_NewRef(cache->order.next->key);
-        KeyCode code = key_of(&oldest, oldest_key);
-        Py_DECREF(oldest_key);
-        if (code != KEY_OK) {
-            return code == KEY_NONE ? key_refused(key) : -1;
-        }
+    Node *node = node_new(table, key, value);
+    if (node == NULL) {
+        return -1;
     }
-    Node *node = node_new(table->state, key, value);
-    int code = node == NULL ? -1 : insert(cache, at, node, is_full ? &oldest : NULL, gone);
-    if (is_full) {
-        key_end(&oldest);
+    if (insert(cache, at, node, last, gone) < 0) {
+        nodes_drop(table->state, node);
+        return -1;
     }
-    if (code < 0 && node != NULL && node->next == NULL) {
-        nodes_drop(table->state, node); /* it didn't come into the order */
+    if (*gone == NULL && table_len(table) > cache->maxsize) {
+        return table_take_some(table, gone) < 0 ? -1 : 0;
     }
-    return code;
+    return 0;
 }
 
 int cache_put(Cache *cache, PyObject *key, PyObject *value, Node **gone) {
@@ -123,9 +117,8 @@ int cache_put(Cache *cache, PyObject *key, PyObject *value, Node **gone) {
         earlier = node->value;
         node->value = Py_NewRef(value);
     } else if (is_there == 0 && cache->maxsize > 0) {
-        done = put_absent(cache, &at, key, value, gone);
+        done = put_absent(cache, &at, key, value, node, gone);
     }
-    key_end(&at);
     Py_XDECREF(earlier);
     return done;
 }
@@ -278,9 +271,8 @@ static PyObject *cache_misses(PyObject *self, void *unused) {
 }
 
 static PyObject *cache_capacity(PyObject *self, void *unused) {
-    Table *table = (Table *)self;
     (void)unused;
-    return PyLong_FromSize_t(bucket_capacity(&table->handles[WORDS]) + bucket_capacity(&table->handles[TEXTS]));
+    return PyLong_FromSize_t(table_capacity((Table *)self));
 }
 
 static PyObject *cache_info(PyObject *self, PyObject *unused) {
@@ -305,7 +297,8 @@ static PyMethodDef cache_methods[] = {
     {"peek", (PyCFunction)(void (*)(void))cache_peek, METH_FASTCALL,
      "peek($self, key, default=None, /)\n--\n\nThe value at a key, or the default. Touches and counts nothing. O(1)."},
     {"put", (PyCFunction)(void (*)(void))cache_put_call, METH_FASTCALL,
-     "put($self, key, value, /)\n--\n\nPuts a pair, as []= does, and returns the pair that went for it, or None. O(1)."},
+     "put($self, key, value, /)\n--\n\nPuts a pair, as []= does, and returns the pair that went for it, or None. If several went,\n"
+     "which had one hash, it returns the one that was put first. O(1)."},
     {"setdefault", (PyCFunction)(void (*)(void))pairs_setdefault, METH_FASTCALL,
      "setdefault($self, key, default=None, /)\n--\n\nThe value at a key, as of get; or the default, which is put there. O(1)."},
     {"pop", (PyCFunction)(void (*)(void))pairs_pop, METH_FASTCALL,
@@ -337,7 +330,8 @@ static PyType_Slot cache_slots[] = {
     {Py_tp_doc, "Cache(maxsize=128)\n\nA mapping of at most `maxsize` pairs: a further one lets the pair go that was touched longest\n"
                 "ago. [], get, setdefault and what puts a pair touch it; peek, in, views and iterations don't. An iteration gives the\n"
                 "pair touched longest ago first, from a copy of the order. Above 32 pairs another pair may go earlier, where\n"
-                "one of the library's buckets of 32 slots is full: of twice as many slots as pairs that is rare."},
+                "one of the library's buckets of 32 slots is full: of twice as many slots as pairs that is rare. Then all go whose\n"
+                "keys have one hash, as \"a\" and b\"a\" do."},
     {Py_tp_new, cache_new},
     {Py_tp_init, cache_init},
     {Py_tp_dealloc, collection_dealloc},

@@ -1,7 +1,8 @@
 /* What the files of the extension module share: a collection, its nodes, keys and readings.
  *
- * A collection has two tables of the library: one of words, for ints from -2^63 to 2^63 - 1, and one of byte strings, for all other
- * keys. A pair is a node, and its address is the value in a table. So a key comes back as the object that was put.
+ * A collection has two tables of the library, both of words: one of ints from -2^63 to 2^63 - 1, and one of Python's hashes, for
+ * all other keys. A pair is a node. The value in a table is the address of the first node of a chain: the nodes of one word, which
+ * are several only where keys have one hash. A node holds its key, so that comes back as the object that was put.
  *
  * An object of another's may run Python code when it is let go, compared or shown, and that code may change the collection. So
  * each function here first brings the tables and the nodes in order, and then lets objects go; what it uses afterwards it holds. */
@@ -14,14 +15,20 @@
 
 #include <bucket.h>
 
-/* A pair. Of a set `value` is NULL. `before` and `next` are its neighbours in a cache's order of use; `next` also links nodes that
- * are to be let go. */
+/* A pair. Of a set `value` is NULL. `next` is the next node of the chain; of a node that stands in no table, the next one that is
+ * to be let go. */
 typedef struct Node {
     PyObject *key;
     PyObject *value;
-    struct Node *before;
     struct Node *next;
 } Node;
+
+/* A pair of a cache, and its neighbours in the order of use. */
+typedef struct Used {
+    Node node;
+    struct Used *before;
+    struct Used *after;
+} Used;
 
 /* What a module holds: there is one for each interpreter, or more if it's imported anew. Its collections share it, since at the end
  * of the interpreter the garbage collector may free the module first; the types are NULL then. */
@@ -39,7 +46,7 @@ typedef struct State {
     Node *waiting;    /* what the outermost one has yet to let go */
 } State;
 
-enum { WORDS, TEXTS, KINDS };
+enum { WORDS, HASHED, KINDS };
 
 /* A map, a set or a cache. */
 typedef struct Table {
@@ -55,31 +62,30 @@ typedef struct Table {
 
 typedef struct Cache {
     Table table;
-    Node order; /* its `next` was touched longest ago, its `before` last */
+    Used order; /* its `after` was touched longest ago, its `before` last */
     size_t maxsize;
     uint64_t hits, misses;
 } Cache;
 
 /* ---- keys.c ---- */
 
-enum { NEAR_BYTES = 120 };
-
-/* How a key stands in a table: a word, or bytes whose first one tells of which type the key is. */
+/* How a key stands in a table. */
 typedef struct Key {
     int kind;
     uint64_t word;
-    const uint8_t *text;
-    size_t len;
-    uint8_t *far; /* where the bytes are, if there are many */
-    uint8_t near[NEAR_BYTES];
+    /* Of one of HASHED: the object, which the caller holds, and the one of int, str and bytes that its type is or is below. */
+    PyObject *object;
+    PyTypeObject *base;
 } Key;
 
 typedef enum { KEY_ERROR = -1, KEY_NONE, KEY_OK } KeyCode;
 
-/* KEY_OK; KEY_NONE: the object is no key, so no pair has it; KEY_ERROR: an exception is set. Only after KEY_OK is there anything
- * that key_end has to free. */
+/* KEY_OK; KEY_NONE: the object is no key, so no pair has it; KEY_ERROR: an exception is set. */
 KeyCode key_of(Key *key, PyObject *object);
-void key_end(Key *key);
+/* The key of a pair. No other code runs, and it doesn't fail. */
+void key_of_node(Key *key, const Node *node);
+/* Whether an object that was put, and has the word of a key of HASHED, is the same key. No other code runs. */
+bool key_equals(const Key *key, PyObject *object);
 /* Raises what tells why an object is no key. Returns -1. */
 int key_refused(PyObject *object);
 /* Raises KeyError. */
@@ -88,21 +94,27 @@ void key_missing(PyObject *object);
 /* ---- table.c ---- */
 
 static inline size_t table_len(const Table *table) {
-    return table->lens[WORDS] + table->lens[TEXTS];
+    return table->lens[WORDS] + table->lens[HASHED];
 }
 
-/* A node of a pair, or NULL and MemoryError. It holds both objects. */
-Node *node_new(State *state, PyObject *key, PyObject *value);
+/* How many slots the library has taken. */
+static inline size_t table_capacity(const Table *table) {
+    return bucket_capacity(&table->handles[WORDS]) + bucket_capacity(&table->handles[HASHED]);
+}
+
+/* A node of a pair for a table, or NULL and MemoryError. It holds both objects. */
+Node *node_new(const Table *table, PyObject *key, PyObject *value);
 /* Frees nodes that stand in no table, linked by `next`, and lets their objects go: this may run any Python code. */
 void nodes_drop(State *state, Node *nodes);
 
 /* Raises what a code means that isn't an answer. Returns -1. */
 int code_refused(uint32_t code);
 
-/* 1, and the node at a key; 0: it is absent; -1: an exception is set. No pair is touched. */
+/* 1, and the node at a key; 0: it is absent, and `node` is the last one of its chain, or NULL if there is none; -1: an exception is
+ * set. No pair is touched. */
 int table_find(const Table *table, const Key *key, Node **node);
-/* Puts a node whose key is absent. 0; -1: MemoryError, and nothing has changed. Of a map or a set. */
-int table_insert(Table *table, const Key *key, Node *node);
+/* The same of a look-up of the library's, by its code and the first node of the chain. */
+int node_found(uint32_t code, uint64_t first, const Key *key, Node **node);
 /* Takes the node at a key out: 1. 0: it is absent; -1: an exception is set. */
 int table_take(Table *table, const Key *key, Node **node);
 /* As table_find and table_take, of an object that may be no key. A cache is touched by `touches`. */
@@ -129,7 +141,8 @@ typedef struct Reading {
     bucket_place place;
     size_t at, count;
     Node **all; /* of a cache that others may touch meanwhile */
-    uint64_t nodes[PIECE];
+    Node *rest; /* of the chain that is being read */
+    uint64_t firsts[PIECE];
 } Reading;
 
 /* Begins a reading while which no other code runs: reading_next gives each node once, then NULL. */
@@ -214,13 +227,13 @@ extern PyType_Spec map_spec, set_spec, cache_spec;
 /* Puts the keys of an iterable into a set. 0 or -1. */
 int set_add_all(Table *set, PyObject *keys);
 
-/* 1, and the node at a key of a cache, which is touched; 0, -1. */
+/* As table_find, and a pair that is there is touched. */
 int cache_touch(Cache *cache, const Key *key, Node **node);
-/* Puts a pair, which is then the last one touched. `gone` gets the node that went for it, which the caller drops. 0; -1: an
- * exception is set, and nothing has changed. */
+/* Puts a pair, which is then the last one touched. `gone` gets the node that went for it, or a whole chain, in the order of the
+ * puts: the caller drops it. 0; -1: an exception is set, and nothing has changed. */
 int cache_put(Cache *cache, PyObject *key, PyObject *value, Node **gone);
 void order_begin(Cache *cache);
-void order_leave(Node *node);
+void order_leave(Used *used);
 PyObject *cache_made(PyObject *module, PyObject *args);
 PyObject *set_made(PyObject *module, PyObject *args);
 

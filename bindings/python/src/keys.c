@@ -1,83 +1,42 @@
 /* Keys: how an int, a str or bytes stands in a table.
  *
- * An int from -2^63 to 2^63 - 1 is a word, in two's complement. All else are bytes behind one that tells the type: a str in UTF-8,
- * where a lone surrogate has three bytes, bytes as they are, an int from 2^63 on in eight. So no two keys are one but those that a
- * dict takes for one. */
+ * An int from -2^63 to 2^63 - 1 is its own word, in two's complement. The word of another key is Python's hash of it, which a str
+ * and bytes keep once it is made. Keys of one hash, as "a" and b"a", are told apart by their types and by what they hold, and no
+ * code of others' runs for that. So no two keys are one but those that a dict takes for one. */
 #include "collection.h"
 
 #include <string.h>
 
-enum { INT_TAG = 'i', STR_TAG = 's', BYTES_TAG = 'b' };
-
-/* Writes the tag and the bytes. */
-static KeyCode key_of_text(Key *key, uint8_t tag, const char *bytes, Py_ssize_t len) {
-    uint8_t *out = key->near;
-    key->far = NULL;
-    if (len >= NEAR_BYTES) {
-        out = key->far = PyMem_Malloc((size_t)len + 1);
-        if (out == NULL) {
-            PyErr_NoMemory();
-            return KEY_ERROR;
-        }
-    }
-    out[0] = tag;
-    memcpy(out + 1, bytes, (size_t)len);
-    key->kind = TEXTS;
-    key->text = out;
-    key->len = (size_t)len + 1;
-    return KEY_OK;
+static KeyCode key_by_hash(Key *key, PyObject *object, PyTypeObject *base) {
+    /* An object of a class below hashes as its base does, whatever the class makes of it. */
+    hashfunc hash = Py_TYPE(object) == base ? PyObject_Hash : (hashfunc)PyType_GetSlot(base, Py_tp_hash);
+    Py_hash_t word = hash(object);
+    *key = (Key){.kind = HASHED, .word = (uint64_t)word, .object = object, .base = base};
+    return word == -1 ? KEY_ERROR : KEY_OK;
 }
 
 static KeyCode key_of_int(Key *key, PyObject *object) {
     int overflow;
     long long word = PyLong_AsLongLongAndOverflow(object, &overflow);
     if (overflow == 0) {
-        key->kind = WORDS;
-        key->word = (uint64_t)word;
-        key->far = NULL;
+        *key = (Key){.kind = WORDS, .word = (uint64_t)word};
         return KEY_OK;
     }
     if (overflow < 0) {
         return KEY_NONE;
     }
-    unsigned long long large = PyLong_AsUnsignedLongLong(object);
-    if (large == (unsigned long long)-1 && PyErr_Occurred()) {
+    if (PyLong_AsUnsignedLongLong(object) == (unsigned long long)-1 && PyErr_Occurred()) {
         if (!PyErr_ExceptionMatches(PyExc_OverflowError)) {
             return KEY_ERROR;
         }
         PyErr_Clear();
         return KEY_NONE;
     }
-    return key_of_text(key, INT_TAG, (const char *)&large, sizeof large);
+    return key_by_hash(key, object, &PyLong_Type);
 }
 
-static KeyCode key_of_bytes(Key *key, PyObject *object) {
-    char *bytes;
-    Py_ssize_t len;
-    if (PyBytes_AsStringAndSize(object, &bytes, &len) < 0) {
-        return KEY_ERROR;
-    }
-    return key_of_text(key, BYTES_TAG, bytes, len);
-}
-
-static KeyCode key_of_str(Key *key, PyObject *object) {
-    Py_ssize_t len;
-    const char *utf8 = PyUnicode_AsUTF8AndSize(object, &len);
-    if (utf8 != NULL) {
-        return key_of_text(key, STR_TAG, utf8, len);
-    }
-    if (!PyErr_ExceptionMatches(PyExc_UnicodeEncodeError)) {
-        return KEY_ERROR;
-    }
-    PyErr_Clear();
-    PyObject *bytes = PyUnicode_AsEncodedString(object, "utf-8", "surrogatepass");
-    char *start;
-    KeyCode code = KEY_ERROR;
-    if (bytes != NULL && PyBytes_AsStringAndSize(bytes, &start, &len) == 0) {
-        code = key_of_text(key, STR_TAG, start, len);
-    }
-    Py_XDECREF(bytes);
-    return code;
+static KeyCode key_of_base(Key *key, PyObject *object, PyTypeObject *base) {
+    return base == &PyLong_Type ? key_of_int(key, object) : key_by_hash(key, object, base);
 }
 
 /* Whether two types have one object as an attribute: 1, 0, -1. */
@@ -108,31 +67,37 @@ static PyTypeObject *base_of(PyObject *object) {
                                 : NULL;
 }
 
-static KeyCode key_of_base(Key *key, PyObject *object, const PyTypeObject *base) {
-    return base == &PyLong_Type ? key_of_int(key, object)
-        : base == &PyUnicode_Type ? key_of_str(key, object)
-                                  : key_of_bytes(key, object);
-}
-
 KeyCode key_of(Key *key, PyObject *object) {
-    if (PyLong_CheckExact(object)) {
-        return key_of_int(key, object);
-    }
-    if (PyUnicode_CheckExact(object)) {
-        return key_of_str(key, object);
+    PyTypeObject *type = Py_TYPE(object);
+    if (type == &PyUnicode_Type || type == &PyLong_Type || type == &PyBytes_Type) {
+        return key_of_base(key, object, type);
     }
     PyTypeObject *base = base_of(object);
     if (base == NULL) {
         return KEY_NONE;
     }
-    int plain = is_plain(Py_TYPE(object), base);
+    int plain = is_plain(type, base);
     return plain == 1 ? key_of_base(key, object, base) : plain == 0 ? KEY_NONE : KEY_ERROR;
 }
 
-void key_end(Key *key) {
-    if (key->far != NULL) {
-        PyMem_Free(key->far);
+void key_of_node(Key *key, const Node *node) {
+    (void)key_of_base(key, node->key, base_of(node->key));
+}
+
+bool key_equals(const Key *key, PyObject *object) {
+    if (Py_TYPE(object) != key->base && base_of(object) != key->base) {
+        return false;
     }
+    /* None of these calls fails: a str that was hashed is whole, and an int that is a key has 64 bits. */
+    if (key->base == &PyUnicode_Type) {
+        return PyUnicode_Compare(key->object, object) == 0;
+    }
+    if (key->base == &PyLong_Type) {
+        return PyLong_AsUnsignedLongLong(key->object) == PyLong_AsUnsignedLongLong(object);
+    }
+    Py_ssize_t len = PyBytes_Size(object);
+    return PyBytes_Size(key->object) == len &&
+        memcmp(PyBytes_AsString(key->object), PyBytes_AsString(object), (size_t)len) == 0;
 }
 
 int key_refused(PyObject *object) {

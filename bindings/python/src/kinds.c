@@ -115,9 +115,9 @@ PyObject *collection_iter(PyObject *self) {
     return iterator_new((Table *)self, GIVES_KEYS);
 }
 
-/* An estimate: the bytes of byte strings that the library copies aren't in it. */
+/* An estimate: a slot of the library takes some 18 bytes. */
 PyObject *collection_sizeof(PyObject *self, PyObject *unused) {
-    static const size_t slot_sizes[KINDS] = {18, 34};
+    enum { SLOT_BYTES = 18 };
     Table *table = (Table *)self;
     (void)unused;
     PyObject *own = PyObject_CallMethod((PyObject *)&PyBaseObject_Type, "__sizeof__", "O", self);
@@ -126,10 +126,8 @@ PyObject *collection_sizeof(PyObject *self, PyObject *unused) {
     }
     size_t size = PyLong_AsSize_t(own);
     Py_DECREF(own);
-    for (int kind = WORDS; kind < KINDS; kind++) {
-        size += bucket_capacity(&table->handles[kind]) * slot_sizes[kind] + table->lens[kind] * sizeof(Node);
-    }
-    return PyLong_FromSize_t(size);
+    size += table_len(table) * (table->is_cache ? sizeof(Used) : sizeof(Node));
+    return PyLong_FromSize_t(size + table_capacity(table) * SLOT_BYTES);
 }
 
 PyObject *collection_attributes(PyObject *self) {

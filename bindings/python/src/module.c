@@ -51,7 +51,8 @@ static PyMethodDef functions[] = {
     {"seeded", seeded, METH_O,
      "seeded($module, seed, /)\n--\n\n"
      "Collections whose first key comes from now on hash by these 16 bytes; by None: by random ones.\n\n"
-     "Each process begins with random ones, or with PYTHONHASHSEED."},
+     "Each process begins with random ones, or with PYTHONHASHSEED. Of a str, bytes and an int from 2**63 on it is Python's\n"
+     "hash that is hashed so, and of strs and bytes that is another one in each process, or by PYTHONHASHSEED."},
     {"_nodes", count_nodes, METH_NOARGS, "How many pairs there are in memory, for tests."},
     {"_set_of", set_made, METH_VARARGS, "For pickles of a Set."},
     {"_cache_of", cache_made, METH_VARARGS, "For pickles of a Cache."},

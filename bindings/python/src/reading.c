@@ -8,6 +8,7 @@ void reading_begin(Reading *reading, Table *table) {
     reading->place = (bucket_place)BUCKET_START;
     reading->at = reading->count = 0;
     reading->all = NULL;
+    reading->rest = NULL;
 }
 
 int reading_begin_shared(Reading *reading, Table *table) {
@@ -22,8 +23,8 @@ int reading_begin_shared(Reading *reading, Table *table) {
         return -1;
     }
     Cache *cache = (Cache *)table;
-    for (Node *node = cache->order.next; node != &cache->order; node = node->next) {
-        reading->all[reading->count++] = node;
+    for (Used *used = cache->order.after; used != &cache->order; used = used->after) {
+        reading->all[reading->count++] = &used->node;
     }
     return 0;
 }
@@ -31,20 +32,19 @@ int reading_begin_shared(Reading *reading, Table *table) {
 void reading_end(Reading *reading) {
     PyMem_Free(reading->all);
     reading->all = NULL;
+    reading->rest = NULL;
     reading->at = reading->count = 0;
     reading->kind = KINDS;
 }
 
-Node *reading_next(Reading *reading) {
-    if (reading->all != NULL) {
-        return reading->at < reading->count ? reading->all[reading->at++] : NULL;
-    }
+/* The first node of the next chain, or NULL. */
+static Node *next_first(Reading *reading) {
     while (reading->at == reading->count) {
         if (reading->kind == KINDS) {
             return NULL;
         }
         size_t count = 0;
-        uint32_t code = bucket_values(&reading->table->handles[reading->kind], &reading->place, reading->nodes, PIECE, &count);
+        uint32_t code = bucket_values(&reading->table->handles[reading->kind], &reading->place, reading->firsts, PIECE, &count);
         reading->at = 0;
         reading->count = code == BUCKET_OK ? count : 0;
         if (reading->count == 0) {
@@ -52,7 +52,16 @@ Node *reading_next(Reading *reading) {
             reading->place = (bucket_place)BUCKET_START;
         }
     }
-    return (Node *)(uintptr_t)reading->nodes[reading->at++];
+    return (Node *)(uintptr_t)reading->firsts[reading->at++];
+}
+
+Node *reading_next(Reading *reading) {
+    if (reading->all != NULL) {
+        return reading->at < reading->count ? reading->all[reading->at++] : NULL;
+    }
+    Node *node = reading->rest != NULL ? reading->rest : next_first(reading);
+    reading->rest = node == NULL ? NULL : node->next;
+    return node;
 }
 
 Node *reading_step(Reading *reading) {

@@ -5,16 +5,16 @@
 
 enum { DEEPEST = 50 };
 
-Node *node_new(State *state, PyObject *key, PyObject *value) {
-    Node *node = PyMem_Malloc(sizeof *node);
+Node *node_new(const Table *table, PyObject *key, PyObject *value) {
+    Node *node = PyMem_Malloc(table->is_cache ? sizeof(Used) : sizeof(Node));
     if (node == NULL) {
         PyErr_NoMemory();
         return NULL;
     }
-    state->nodes++;
+    table->state->nodes++;
     node->key = Py_NewRef(key);
     node->value = Py_XNewRef(value);
-    node->before = node->next = NULL;
+    node->next = NULL;
     return node;
 }
 
@@ -65,66 +65,103 @@ int code_refused(uint32_t code) {
     return -1;
 }
 
-/* What a look-up or a removal answers: 1, 0, -1. A table that isn't open has no pair. */
-static int found(uint32_t code, uint64_t value, Node **node) {
-    if (code == BUCKET_OK) {
-        *node = (Node *)(uintptr_t)value;
+/* A table that isn't open has no pair. */
+int node_found(uint32_t code, uint64_t first, const Key *key, Node **node) {
+    *node = NULL;
+    if (code != BUCKET_OK) {
+        return code == BUCKET_ABSENT || code == BUCKET_CLOSED ? 0 : code_refused(code);
+    }
+    *node = (Node *)(uintptr_t)first;
+    if (key->kind == WORDS) {
         return 1;
     }
-    return code == BUCKET_ABSENT || code == BUCKET_CLOSED ? 0 : code_refused(code);
+    while ((*node)->key != key->object && !key_equals(key, (*node)->key)) {
+        if ((*node)->next == NULL) {
+            return 0;
+        }
+        *node = (*node)->next;
+    }
+    return 1;
+}
+
+/* The library's look-up, which touches no pair. */
+static uint32_t look(const Table *table, const Key *key, uint64_t *first) {
+    const bucket_handle *handle = &table->handles[key->kind];
+    return table->is_cache ? bucket_cache_peek(handle, key->word, first) : bucket_map_get(handle, key->word, first);
 }
 
 int table_find(const Table *table, const Key *key, Node **node) {
-    const bucket_handle *handle = &table->handles[key->kind];
-    uint64_t value = 0;
-    uint32_t code;
-    if (key->kind == WORDS) {
-        code = table->is_cache ? bucket_cache_peek(handle, key->word, &value) : bucket_map_get(handle, key->word, &value);
-    } else {
-        code = table->is_cache ? bucket_text_cache_peek(handle, key->text, key->len, &value)
-                               : bucket_text_map_get(handle, key->text, key->len, &value);
-    }
-    return found(code, value, node);
+    uint64_t first = 0;
+    uint32_t code = look(table, key, &first);
+    return node_found(code, first, key, node);
 }
 
-static uint32_t insert(bucket_handle *handle, const Key *key, Node *node) {
-    uint64_t value = (uint64_t)(uintptr_t)node;
-    return key->kind == WORDS ? bucket_map_insert(handle, key->word, value)
-                              : bucket_text_map_insert(handle, key->text, key->len, value);
-}
-
-int table_insert(Table *table, const Key *key, Node *node) {
+/* Puts a node whose key is absent, behind the last one of its chain if there is one. 0; -1: MemoryError, and nothing has changed.
+ * Of a map or a set. */
+static int insert(Table *table, const Key *key, Node *node, Node *last) {
     bucket_handle *handle = &table->handles[key->kind];
-    uint32_t code = insert(handle, key, node);
-    if (code == BUCKET_CLOSED) {
-        bucket_seed seed = table->state->seed;
-        code = key->kind == WORDS ? bucket_map_new(handle, 0, seed) : bucket_text_map_new(handle, 0, seed);
-        code = code == BUCKET_OK ? insert(handle, key, node) : code;
-    }
-    if (code != BUCKET_OK) {
-        return code_refused(code);
+    uint64_t first = (uint64_t)(uintptr_t)node;
+    if (last != NULL) {
+        last->next = node;
+    } else {
+        uint32_t code = bucket_map_insert(handle, key->word, first);
+        if (code == BUCKET_CLOSED) {
+            code = bucket_map_new(handle, 0, table->state->seed);
+            code = code == BUCKET_OK ? bucket_map_insert(handle, key->word, first) : code;
+        }
+        if (code != BUCKET_OK) {
+            return code_refused(code);
+        }
     }
     table->lens[key->kind]++;
     table->version++;
     return 0;
 }
 
-int table_take(Table *table, const Key *key, Node **node) {
+/* Takes the only node of a word out. */
+static int take_only(Table *table, const Key *key, Node **node) {
     bucket_handle *handle = &table->handles[key->kind];
-    uint64_t value = 0;
-    uint32_t code;
-    if (key->kind == WORDS) {
-        code = table->is_cache ? bucket_cache_remove(handle, key->word, &value) : bucket_map_remove(handle, key->word, &value);
-    } else {
-        code = table->is_cache ? bucket_text_cache_remove(handle, key->text, key->len, &value)
-                               : bucket_text_map_remove(handle, key->text, key->len, &value);
+    uint64_t first = 0;
+    uint32_t code = table->is_cache ? bucket_cache_remove(handle, key->word, &first) : bucket_map_remove(handle, key->word, &first);
+    return node_found(code, first, key, node);
+}
+
+/* Takes the first of several nodes out of a chain: the table gets the second one in its place, which takes no memory. In a cache of
+ * the library's that is a touch. 1 or -1. */
+static int take_first(Table *table, const Key *key, const Node *first) {
+    bucket_handle *handle = &table->handles[key->kind];
+    uint64_t second = (uint64_t)(uintptr_t)first->next, gone = 0, earlier = 0;
+    uint32_t code = table->is_cache ? bucket_cache_upsert(handle, key->word, second, &gone, &earlier)
+                                    : bucket_map_upsert(handle, key->word, second, &earlier);
+    return code == BUCKET_PRESENT ? 1 : code_refused(code);
+}
+
+/* Takes the node at a key of HASHED out, wherever it stands in its chain. 1, 0, -1. */
+static int take_hashed(Table *table, const Key *key, Node **node) {
+    uint64_t first = 0;
+    uint32_t code = look(table, key, &first);
+    int is_there = node_found(code, first, key, node);
+    if (is_there != 1) {
+        return is_there;
     }
-    int is_there = found(code, value, node);
+    Node *before = (Node *)(uintptr_t)first;
+    if (before == *node) {
+        return before->next == NULL ? take_only(table, key, node) : take_first(table, key, before);
+    }
+    while (before->next != *node) {
+        before = before->next;
+    }
+    before->next = (*node)->next;
+    return 1;
+}
+
+int table_take(Table *table, const Key *key, Node **node) {
+    int is_there = key->kind == WORDS ? take_only(table, key, node) : take_hashed(table, key, node);
     if (is_there == 1) {
         table->lens[key->kind]--;
         table->version++;
         if (table->is_cache) {
-            order_leave(*node);
+            order_leave((Used *)*node);
         }
         (*node)->next = NULL;
     }
@@ -144,46 +181,33 @@ int table_look(Table *table, PyObject *object, bool touches, Node **node) {
         int is_there = code == KEY_NONE ? 0 : cache_touch(cache, &key, node);
         cache->hits += is_there == 1;
         cache->misses += is_there == 0;
-        if (code == KEY_OK) {
-            key_end(&key);
-        }
         return is_there;
     }
-    if (code == KEY_NONE) {
-        return 0;
-    }
-    int is_there = table_find(table, &key, node);
-    key_end(&key);
-    return is_there;
+    return code == KEY_NONE ? 0 : table_find(table, &key, node);
 }
 
 int table_remove(Table *table, PyObject *object, Node **node) {
     Key key;
     KeyCode code = key_of(&key, object);
-    if (code != KEY_OK) {
-        return code == KEY_NONE ? 0 : -1;
-    }
-    int is_there = table_take(table, &key, node);
-    key_end(&key);
-    return is_there;
+    return code == KEY_OK ? table_take(table, &key, node) : code == KEY_NONE ? 0 : -1;
 }
 
 /* Puts a value at a key of a map or a set. `earlier` gets the value that was there, which the caller lets go. */
 static int put(Table *table, const Key *at, PyObject *key, PyObject *value, PyObject **earlier) {
-    Node *node;
-    int is_there = table_find(table, at, &node);
+    Node *found;
+    int is_there = table_find(table, at, &found);
     if (is_there == 1) {
-        *earlier = node->value;
-        node->value = Py_XNewRef(value);
+        *earlier = found->value;
+        found->value = Py_XNewRef(value);
     }
     if (is_there != 0) {
         return is_there == 1 ? 0 : -1;
     }
-    node = node_new(table->state, key, value);
+    Node *node = node_new(table, key, value);
     if (node == NULL) {
         return -1;
     }
-    if (table_insert(table, at, node) < 0) {
+    if (insert(table, at, node, found) < 0) {
         nodes_drop(table->state, node);
         return -1;
     }
@@ -204,22 +228,26 @@ int table_put(Table *table, PyObject *key, PyObject *value) {
     }
     PyObject *earlier = NULL;
     int done = put(table, &at, key, value, &earlier);
-    key_end(&at);
     Py_XDECREF(earlier);
     return done;
 }
 
 /* ---- All, or some ---- */
 
-/* Some node of a map or a set, or NULL. A reading goes on where the last one stood, and begins anew once it is at the end. So all
- * calls of a loop together cost what one reading does. */
+/* Some node of a map or a set, or NULL. A reading goes on where the last one stood, which stays at a chain of several, and begins
+ * anew once it is at the end. So all calls of a loop together cost what one reading does. */
 static Node *some_node(Table *table) {
-    int kind = table->lens[WORDS] > 0 ? WORDS : TEXTS;
+    int kind = table->lens[WORDS] > 0 ? WORDS : HASHED;
     for (int tries = 0; tries < 2 && table->lens[kind] > 0; tries++) {
-        uint64_t value = 0;
+        bucket_place spot = table->spot;
+        uint64_t first = 0;
         size_t count = 0;
-        if (bucket_values(&table->handles[kind], &table->spot, &value, 1, &count) == BUCKET_OK && count == 1) {
-            return (Node *)(uintptr_t)value;
+        if (bucket_values(&table->handles[kind], &table->spot, &first, 1, &count) == BUCKET_OK && count == 1) {
+            Node *node = (Node *)(uintptr_t)first;
+            if (node->next != NULL) {
+                table->spot = spot;
+            }
+            return node;
         }
         table->spot = (bucket_place)BUCKET_START;
     }
@@ -230,15 +258,14 @@ int table_take_some(Table *table, Node **node) {
     if (table_len(table) == 0) {
         return 0;
     }
-    Node *chosen = table->is_cache ? ((Cache *)table)->order.next : some_node(table);
+    Node *chosen = table->is_cache ? &((Cache *)table)->order.after->node : some_node(table);
     if (chosen == NULL) {
         PyErr_SetString(PyExc_RuntimeError, "a collection's table has lost its pairs");
         return -1;
     }
-    PyObject *key = Py_NewRef(chosen->key);
-    int is_there = table_remove(table, key, node);
-    Py_DECREF(key);
-    return is_there;
+    Key key;
+    key_of_node(&key, chosen);
+    return table_take(table, &key, node);
 }
 
 Node *table_take_all(Table *table) {

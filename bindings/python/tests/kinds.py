@@ -2,6 +2,7 @@
 
 import collections
 import gc
+import sys
 
 import bucket
 from bucket import _bucket
@@ -24,7 +25,13 @@ def mixed(number):
     return [word(number), (1 << 63) + number, text(number), f"schlüssel {number}", raw(number)][number % 5]
 
 
-KEYS = [word, text, raw, mixed]
+def alike(number):
+    """Of each six keys a str and bytes have one hash, and four ints from 2**63 on another."""
+    group, member = divmod(number, 6)
+    return [text(group), raw(group)][member] if member < 2 else (1 << 63) + group + (member - 2) * sys.hash_info.modulus
+
+
+KEYS = [word, text, raw, mixed, alike]
 Kind = collections.namedtuple("Kind", "type key")
 MAPS = [Kind(bucket.Map, key) for key in KEYS]
 SETS = [Kind(bucket.Set, key) for key in KEYS]

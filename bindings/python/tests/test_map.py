@@ -266,7 +266,7 @@ class Maps(unittest.TestCase):
     def test_the_size_in_bytes_grows_with_the_pairs(self):
         for kind in MAPS + CACHES:
             small, large = filled(kind, 0)[0], filled(kind, 5000)[0]
-            self.assertGreater(sys.getsizeof(large), sys.getsizeof(small) + 5000 * 32)
+            self.assertGreater(sys.getsizeof(large), sys.getsizeof(small) + 5000 * 24)
 
     def test_a_write_of_a_value_is_no_change_of_size(self):
         for kind in MAPS + CACHES:

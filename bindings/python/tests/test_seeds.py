@@ -51,8 +51,8 @@ def word_message(key):
 
 
 def text_message(key):
-    bytes_ = b"s" + key.encode()
-    return len(bytes_).to_bytes(8, "little") + bytes_
+    """A str has Python's hash as its word."""
+    return word_message(hash(key))
 
 
 def filled(keys, seed):

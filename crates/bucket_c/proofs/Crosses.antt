@@ -15,11 +15,11 @@ use Rattle.std.specs.declared.alloc.Global.{Global}
 use Rattle.std.proofs.Crossing.{crosses, frees}
 use Rattle.bucket_table.proofs.key_hash.std_hash.StdHash.TheSendSync as hash
 use Rattle.collections.proofs.Crosses.{HashCache-send, HashMap-send, HashSet-send}
+use Rattle.bucket_calls.proofs.seed.Beginning.TheSendSync as beginning
+use Rattle.bucket_calls.proofs.seed.SeededHasher.TheSendSync as hasher
 use Rattle.bucket_c.specs.Owning.{owned}
 use Rattle.bucket_c.specs.contracts.held.Held as held
 use Rattle.bucket_c.specs.contracts.tables.Table as table
-use Rattle.bucket_c.proofs.seed.Beginning.TheSendSync as beginning
-use Rattle.bucket_c.proofs.seed.SeededHasher.TheSendSync as hasher
 
 quiet : {D X : Type 0} (f : D → X) (e : Exit X) → Quiet e → Quiet (hidden (under f e))
 quiet f unchanged q = λ x w. tt

@@ -1,9 +1,2 @@
-mod Copied
 mod Crosses
-mod CopiedTexts
-mod Folds
-mod InBucket
 mod Holding
-mod KeysCalled
-mod Lent
-mod Refused

@@ -1,9 +1,9 @@
 -- What a call does that handles of several kinds take.
 use Rattle.std.specs.Prelude.{ℕ, ◌≡◌, [], Option, Some, None, nat_eq}
 use Rattle.bucket_table.specs.Rehash.State.{first_tickets}
-use Rattle.bucket_c.specs.Codes.{closed, ok, other_kind}
-use Rattle.bucket_c.specs.Sizing.{MakesRoomBy, ShrinksBy}
-use Rattle.bucket_c.specs.Tables.{Caches, Maps, Text, text_eq}
+use Rattle.bucket_calls.specs.Codes.{closed, ok, other_kind}
+use Rattle.bucket_calls.specs.Sizing.{MakesRoomBy, ShrinksBy}
+use Rattle.bucket_calls.specs.Views.{Caches, Maps, Text, text_eq}
 use Rattle.bucket_c.specs.declared.tables.Table.{Table}
 use Rattle.bucket_c.specs.declared.tables.Table.TheVariants.{Map, TextMap, Set, TextSet, Store, Cache, TextCache}
 

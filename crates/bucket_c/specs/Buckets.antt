@@ -1,24 +1,14 @@
 -- What an exported call copies of the pairs of one bucket.
-use Rattle.std.specs.Prelude.{ℕ, ◌≡◌, ◌<◌, ◌≤◌, List, Option, Some, None, length, map}
+use Rattle.std.specs.Prelude.{ℕ, ◌≡◌, List, Option, Some, None, map}
 use Rattle.std.specs.Map.{keys_of}
 use Rattle.collections.specs.Maps.{map_of, pairs_in_bucket}
-use Rattle.bucket_c.specs.Codes.{absent, ok}
-use Rattle.bucket_c.specs.Copying.{CopiesPairs, CopiesTexts, Piece, key_piece, store_piece, text_piece}
+use Rattle.bucket_calls.specs.Buckets.{CopiesBucket, beside_zero, no_words, value_alone}
+use Rattle.bucket_calls.specs.Copying.{CopiesPairs, CopiesTexts, Piece, key_piece, store_piece, text_piece}
+use Rattle.bucket_calls.specs.declared.copying.Pair.{Pair}
+use Rattle.bucket_calls.specs.declared.copying.TextPair.{TextPair}
 use Rattle.bucket_c.specs.Tables.{Reads}
-use Rattle.bucket_c.specs.declared.copying.Pair.{Pair}
-use Rattle.bucket_c.specs.declared.copying.TextPair.{TextPair}
 use Rattle.bucket_c.specs.declared.tables.Table.{Table}
 use Rattle.bucket_c.specs.declared.tables.Table.TheVariants.{Map, TextMap, Set, TextSet, Store, Cache, TextCache}
-
--- pairs as words: a key or a value that is a byte string is told as 0, and a set's keys are beside 0
-abbrev pub value_alone : {K : Type 0} → K × ℕ → ℕ × ℕ
-value_alone pair = (0, pair.1)
-
-abbrev pub beside_zero : ℕ → ℕ × ℕ
-beside_zero key = (key, 0)
-
-abbrev pub no_words : {A : Type 0} → A → ℕ × ℕ
-no_words pair = (0, 0)
 
 -- how many pairs each bucket of a table has, and the pairs of one bucket as words
 abbrev pub words_in : ℕ → Table → List ℕ × List (ℕ × ℕ)
@@ -39,12 +29,6 @@ texts_in bucket (TextSet s) = Some (s.bucket_lens, map key_piece (keys_of (pairs
 texts_in bucket (Store m) = Some (m.bucket_lens, map store_piece (pairs_in_bucket m bucket))
 texts_in bucket (Cache c) = None
 texts_in bucket (TextCache c) = Some ((map_of c).bucket_lens, map text_piece (pairs_in_bucket (map_of c) bucket))
-
--- what was copied, and the code, by whether there is such a bucket; past the last one there are no pairs
-pub record CopiesBucket (bucket : ℕ) (lens : List ℕ) (Copied : Type 0) (code : ℕ) : Type 0 where
-  pub there : bucket < length lens → code ≡ ok
-  pub past : length lens ≤ bucket → code ≡ absent
-  pub copied : Copied
 
 module _ (bucket start : ℕ) where
   -- the pairs of a bucket, from one on, are copied to the front of a buffer, as many as there is room for

@@ -1,17 +1,7 @@
-pub mod Codes
-pub mod Hashing
-pub mod Maps
-pub mod Copies
-pub mod Caches
 pub mod Tables
-pub mod Texts
-pub mod Stores
 pub mod Owning
 pub mod Lending
 pub mod Opening
-pub mod Copying
-pub mod Steps
 pub mod Any
 pub mod Buckets
 pub mod Pieces
-pub mod Sizing

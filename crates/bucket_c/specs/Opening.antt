@@ -3,9 +3,9 @@ use Rattle.std.specs.Prelude.{ℕ, ◌≡◌, ◌^◌, max, min}
 use Rattle.bucket_slots.specs.Sizing.{IsLeastPowerOfTwo}
 use Rattle.collections.specs.Capacity.{IsMinimumFor}
 use Rattle.collections.specs.Maps.{IsEmpty, map_of}
-use Rattle.bucket_c.specs.Hashing.{initial_hasher}
-use Rattle.bucket_c.specs.Tables.{Caches, Maps}
-use Rattle.bucket_c.specs.declared.seed.Seed.{Seed}
+use Rattle.bucket_calls.specs.Hashing.{initial_hasher}
+use Rattle.bucket_calls.specs.Views.{Caches, Maps}
+use Rattle.bucket_calls.specs.declared.seed.Seed.{Seed}
 
 -- an empty map that hashes by the seed, and has room for so many pairs from its first insertion on
 pub record IsNew {K V : Type 0} (capacity : ℕ) (seed : Seed) (map : Maps K V) : Type 0 where

@@ -1,11 +1,34 @@
 -- What an exported call copies of a handle's pairs.
-use Rattle.std.specs.Prelude.{ℕ, ◌≡◌, List, Option}
-use Rattle.bucket_c.specs.Codes.{ok}
-use Rattle.bucket_c.specs.Copying.{CopiesPairs, CopiesTexts, text_pieces, word_pairs}
+use Rattle.std.specs.Prelude.{ℕ, ◌≡◌, List, Option, Some, None, map}
+use Rattle.std.specs.Map.{keys_of}
+use Rattle.bucket_table.specs.Views.ArraysView.{pairs_of}
+use Rattle.bucket_calls.specs.Codes.{ok}
+use Rattle.bucket_calls.specs.Copying.{CopiesPairs, CopiesTexts, Piece, key_piece, text_piece}
+use Rattle.bucket_calls.specs.declared.copying.Pair.{Pair}
+use Rattle.bucket_calls.specs.declared.copying.TextPair.{TextPair}
 use Rattle.bucket_c.specs.Tables.{Reads}
-use Rattle.bucket_c.specs.declared.copying.Pair.{Pair}
-use Rattle.bucket_c.specs.declared.copying.TextPair.{TextPair}
 use Rattle.bucket_c.specs.declared.tables.Table.{Table}
+use Rattle.bucket_c.specs.declared.tables.Table.TheVariants.{Map, TextMap, Set, TextSet, Store, Cache, TextCache}
+
+-- the pairs under words that a table has
+abbrev pub word_pairs : Table → Option (List (ℕ × ℕ))
+word_pairs (Map map) = Some map.entries
+word_pairs (TextMap map) = None
+word_pairs (Set set) = None
+word_pairs (TextSet set) = None
+word_pairs (Store map) = None
+word_pairs (Cache cache) = Some (pairs_of cache.arrays)
+word_pairs (TextCache cache) = None
+
+-- what its pairs under byte strings leave in two buffers
+abbrev pub text_pieces : Table → Option (List Piece)
+text_pieces (Map m) = None
+text_pieces (TextMap m) = Some (map text_piece m.entries)
+text_pieces (Set s) = None
+text_pieces (TextSet s) = Some (map key_piece (keys_of s.entries))
+text_pieces (Store m) = None
+text_pieces (Cache c) = None
+text_pieces (TextCache c) = Some (map text_piece (pairs_of c.arrays))
 
 module _ (start : ℕ) where
   -- the pairs of words that there are, or nothing where the handle is closed or of another kind

@@ -1,34 +1,11 @@
 -- What an exported call does to a handle's table. On a closed handle it answers `closed`, on one of another kind `other_kind`, and
 -- nothing happens: what it would write out is kept. Else it does this to what the handle holds.
-use Rattle.std.specs.Prelude.{ℕ, ◌≡◌, ◌*◌, ◌⊎◌, Bool, List, Option, Some, None, Vec, length, nat_eq}
-use Rattle.std.specs.Cmp.Lexicographic.{pointwise}
-use Rattle.std.specs.declared.alloc.Global.{Global}
-use Rattle.bucket_table.specs.Views.ArraysView.{TableView}
-use Rattle.bucket_table.specs.declared.key_hash.std_hash.StdHash.{StdHash}
-use Rattle.collections.specs.Maps.{MapView, map_len, map_of}
-use Rattle.bucket_c.specs.Codes.{closed, no_memory, ok, opened, other_kind}
-use Rattle.bucket_c.specs.declared.seed.Beginning.{Beginning}
-use Rattle.bucket_c.specs.declared.seed.SeededHasher.{SeededHasher}
+use Rattle.std.specs.Prelude.{ℕ, ◌≡◌, ◌*◌, ◌⊎◌, Option, Some, None, length}
+use Rattle.collections.specs.Maps.{map_len, map_of}
+use Rattle.bucket_calls.specs.Codes.{closed, no_memory, ok, opened, other_kind}
+use Rattle.bucket_calls.specs.Views.{Caches, Maps, Text}
 use Rattle.bucket_c.specs.declared.tables.Table.{Table}
 use Rattle.bucket_c.specs.declared.tables.Table.TheVariants.{Map, TextMap, Set, TextSet, Store, Cache, TextCache}
-
--- a byte string, and when two are equal
-abbrev pub Text : Type 0
-Text = Vec ℕ Global
-
-abbrev pub text_eq : Text → Text → Bool
-text_eq key other = pointwise nat_eq key.items other.items
-
--- whether a byte string has these bytes
-abbrev pub has_bytes : List ℕ → Text → Bool
-has_bytes bytes key = pointwise nat_eq bytes key.items
-
--- the pairs of a kind, as clauses see them
-abbrev pub Maps : Type 0 → Type 0 → Type 0
-Maps K V = MapView K V (StdHash (Beginning SeededHasher))
-
-abbrev pub Caches : Type 0 → Type 0
-Caches K = TableView K ℕ (StdHash (Beginning SeededHasher))
 
 -- what a table holds, if it is of a kind
 abbrev pub map_in : Table → Option (Maps ℕ ℕ)

@@ -3,10 +3,10 @@ ghost use Rattle.std.specs.Prelude.{◌≡◌, ◌-◌, ◌^◌, None, min};
 ghost use Rattle.bucket_c.specs.Any.{Clears, ReservesMore, Shrinks};
 ghost use Rattle.bucket_c.specs.Tables.{capacity_of, len_of};
 
-use crate::codes::{CLOSED, OK, OTHER_KIND};
 use crate::handle::Handle;
-use crate::maps;
 use crate::tables::Table;
+use bucket_calls::codes::{CLOSED, OK, OTHER_KIND};
+use bucket_calls::maps;
 use std::alloc::Global;
 
 /// The version of these calls, 0.2.0: 65536 for a major one, 256 for a minor one.

@@ -3,19 +3,20 @@
 //! Each call but `new` also returns `CLOSED` and `OTHER_KIND`, and then does nothing.
 ghost use Rattle.std.specs.Prelude.{◌≡◌, ℕ, nat_eq, unwrap_or};
 ghost use Rattle.collections.specs.Maps.{get, map_of};
-ghost use Rattle.bucket_c.specs.Caches.{GetsOne, PutsOne, TakesOne, UpsertsInto};
-ghost use Rattle.bucket_c.specs.Codes.{found_code};
-ghost use Rattle.bucket_c.specs.Hashing.{word_hash};
-ghost use Rattle.bucket_c.specs.Maps.{Finds};
+ghost use Rattle.bucket_calls.specs.Caches.{GetsOne, PutsOne, TakesOne, UpsertsInto};
+ghost use Rattle.bucket_calls.specs.Codes.{found_code};
+ghost use Rattle.bucket_calls.specs.Hashing.{word_hash};
+ghost use Rattle.bucket_calls.specs.Maps.{Finds};
+ghost use Rattle.bucket_calls.specs.Views.{Caches};
 ghost use Rattle.bucket_c.specs.Opening.{IsNewCache};
-ghost use Rattle.bucket_c.specs.Tables.{Caches, OnCache, Opens, Reads, cache_in};
+ghost use Rattle.bucket_c.specs.Tables.{OnCache, Opens, Reads, cache_in};
 ghost use Rattle.bucket_c.specs.declared.tables.Table.TheVariants.{Cache};
 
-use crate::caches;
-use crate::codes::{CLOSED, OTHER_KIND};
 use crate::handle::Handle;
-use crate::seed::{Seed, hash_by};
 use crate::tables::Table;
+use bucket_calls::caches;
+use bucket_calls::codes::{CLOSED, OTHER_KIND};
+use bucket_calls::seed::{Seed, hash_by};
 use collections::hash_cache::HashCache;
 use std::alloc::Global;
 

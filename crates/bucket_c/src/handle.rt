@@ -2,9 +2,9 @@
 ghost use Rattle.std.specs.Prelude.{◌≡◌, Some, None, is_some, MatchOption};
 ghost use Rattle.bucket_c.specs.Tables.{Opens};
 
-use crate::codes::{NO_MEMORY, OK, OPEN};
 use crate::held::Held;
 use crate::tables::Table;
+use bucket_calls::codes::{NO_MEMORY, OK, OPEN};
 use std::alloc::Global;
 use std::marker::Send;
 use std::mem::replace;

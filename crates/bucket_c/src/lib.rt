@@ -1,11 +1,10 @@
 //! Maps, sets, a store and caches of the library `collections` for C: a handle that C carries, and a
 //! code for each answer.
 //!
-//! A call that changes the table takes it out of its handle, makes one call of the library, and
+//! A call that changes the table takes it out of its handle, makes one call of `bucket_calls`, and
 //! puts it back; one that reads is lent the table where it lies. A call requires nothing of its
 //! caller: on a closed handle, and on one of another kind, it answers by a code.
-//! `specs/Tables.antt` says what a clause means there, and `specs/Codes.antt` which answer has
-//! which code. Keys are hashed by a seed, `seed.rt`.
+//! `specs/Tables.antt` says what a clause means there. The codes and the seed are of `bucket_calls`.
 //!
 //! `held.rt` keeps the table's block as a pointer, and `parts.rt` takes a box apart: their proofs
 //! alone follow the pointer. `bindings/bucket.h` declares the calls for C.
@@ -42,27 +41,15 @@ macro_rules! on_shared {
 }
 
 mod any;
-mod buckets;
-mod bytes;
 mod cache;
-mod caches;
-mod codes;
-mod copied_key;
-mod copies;
-mod copying;
 mod handle;
 mod held;
 mod map;
-mod maps;
 mod parts;
 mod pieces;
-mod seed;
 mod set;
 mod store;
-mod stores;
 mod tables;
 mod text_cache;
 mod text_map;
 mod text_set;
-mod texts;
-mod texts_in;

@@ -3,19 +3,20 @@
 //! Each call but `new` also returns `CLOSED` and `OTHER_KIND`, and then does nothing.
 ghost use Rattle.std.specs.Prelude.{◌≡◌, ℕ, nat_eq};
 ghost use Rattle.collections.specs.Maps.{get};
-ghost use Rattle.bucket_c.specs.Codes.{found_code};
-ghost use Rattle.bucket_c.specs.Copies.{AddsTo, GetsOrInserts};
-ghost use Rattle.bucket_c.specs.Hashing.{word_hash};
-ghost use Rattle.bucket_c.specs.Maps.{Finds, InsertsOne, RemovesEqual, RemovesOne, UpsertsOne};
+ghost use Rattle.bucket_calls.specs.Codes.{found_code};
+ghost use Rattle.bucket_calls.specs.Copies.{AddsTo, GetsOrInserts};
+ghost use Rattle.bucket_calls.specs.Hashing.{word_hash};
+ghost use Rattle.bucket_calls.specs.Maps.{Finds, InsertsOne, RemovesEqual, RemovesOne, UpsertsOne};
+ghost use Rattle.bucket_calls.specs.Views.{Maps};
 ghost use Rattle.bucket_c.specs.Opening.{IsNew};
-ghost use Rattle.bucket_c.specs.Tables.{Maps, OnMap, Opens, Reads, map_in};
+ghost use Rattle.bucket_c.specs.Tables.{OnMap, Opens, Reads, map_in};
 ghost use Rattle.bucket_c.specs.declared.tables.Table.TheVariants.{Map};
 
-use crate::codes::{CLOSED, OTHER_KIND};
 use crate::handle::Handle;
-use crate::seed::{Seed, hash_by};
 use crate::tables::Table;
-use crate::{copies, maps};
+use bucket_calls::codes::{CLOSED, OTHER_KIND};
+use bucket_calls::seed::{Seed, hash_by};
+use bucket_calls::{copies, maps};
 use collections::hash_map::HashMap;
 use std::alloc::Global;
 

@@ -3,11 +3,11 @@ ghost use Rattle.std.specs.Prelude.{◌≡◌};
 ghost use Rattle.bucket_c.specs.Buckets.{CopiesTextsIn, CopiesWordsIn};
 ghost use Rattle.bucket_c.specs.Pieces.{CopiesTextsOf, CopiesWordsOf};
 
-use crate::codes::{CLOSED, OK, OTHER_KIND};
-use crate::copying::{Pair, TextPair};
 use crate::handle::Handle;
 use crate::tables::Table;
-use crate::{buckets, copying, texts_in};
+use bucket_calls::codes::{CLOSED, OK, OTHER_KIND};
+use bucket_calls::copying::{Pair, TextPair};
+use bucket_calls::{buckets, copying, texts_in};
 
 /// Copies pairs of a map or a cache of words, from one on, as many as there is room for, and writes
 /// out how many.

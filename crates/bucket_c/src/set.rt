@@ -3,18 +3,19 @@
 //! Each call but `new` also returns `CLOSED` and `OTHER_KIND`, and then does nothing.
 ghost use Rattle.std.specs.Prelude.{◌≡◌, ℕ, nat_eq};
 ghost use Rattle.collections.specs.Maps.{get};
-ghost use Rattle.bucket_c.specs.Codes.{found_code};
-ghost use Rattle.bucket_c.specs.Hashing.{word_hash};
-ghost use Rattle.bucket_c.specs.Maps.{InsertsOne, RemovesKey};
+ghost use Rattle.bucket_calls.specs.Codes.{found_code};
+ghost use Rattle.bucket_calls.specs.Hashing.{word_hash};
+ghost use Rattle.bucket_calls.specs.Maps.{InsertsOne, RemovesKey};
+ghost use Rattle.bucket_calls.specs.Views.{Maps};
 ghost use Rattle.bucket_c.specs.Opening.{IsNew};
-ghost use Rattle.bucket_c.specs.Tables.{Maps, OnSet, Opens, Reads, set_in};
+ghost use Rattle.bucket_c.specs.Tables.{OnSet, Opens, Reads, set_in};
 ghost use Rattle.bucket_c.specs.declared.tables.Table.TheVariants.{Set};
 
-use crate::codes::{CLOSED, OTHER_KIND};
 use crate::handle::Handle;
-use crate::maps;
-use crate::seed::{Seed, hash_by};
 use crate::tables::Table;
+use bucket_calls::codes::{CLOSED, OTHER_KIND};
+use bucket_calls::maps;
+use bucket_calls::seed::{Seed, hash_by};
 use collections::hash_set::HashSet;
 use std::alloc::Global;
 

@@ -4,19 +4,19 @@
 //! Each call but `new` also returns `CLOSED` and `OTHER_KIND`, and then does nothing.
 ghost use Rattle.std.specs.Prelude.{◌≡◌};
 ghost use Rattle.collections.specs.Maps.{get_by};
-ghost use Rattle.bucket_c.specs.Codes.{found_code};
-ghost use Rattle.bucket_c.specs.Maps.{Drops};
+ghost use Rattle.bucket_calls.specs.Codes.{found_code};
+ghost use Rattle.bucket_calls.specs.Maps.{Drops};
+ghost use Rattle.bucket_calls.specs.Stores.{FindsBytes, InsertsBytes, UpsertsBytes};
+ghost use Rattle.bucket_calls.specs.Views.{Maps, Text, has_bytes, text_eq};
 ghost use Rattle.bucket_c.specs.Opening.{IsNew};
-ghost use Rattle.bucket_c.specs.Stores.{FindsBytes, InsertsBytes, UpsertsBytes};
-ghost use Rattle.bucket_c.specs.Tables.{Maps, OnStore, Opens, Reads, Text};
-ghost use Rattle.bucket_c.specs.Tables.{has_bytes, store_in, text_eq};
+ghost use Rattle.bucket_c.specs.Tables.{OnStore, Opens, Reads, store_in};
 ghost use Rattle.bucket_c.specs.declared.tables.Table.TheVariants.{Store};
 
-use crate::codes::{CLOSED, OTHER_KIND};
 use crate::handle::Handle;
-use crate::seed::{Seed, hash_by};
 use crate::tables::Table;
-use crate::{maps, stores};
+use bucket_calls::codes::{CLOSED, OTHER_KIND};
+use bucket_calls::seed::{Seed, hash_by};
+use bucket_calls::{maps, stores};
 use collections::hash_map::HashMap;
 use std::alloc::Global;
 

@@ -1,5 +1,5 @@
 //! The collections that a handle can hold.
-use crate::seed::SeededHash;
+use bucket_calls::seed::SeededHash;
 use collections::hash_cache::HashCache;
 use collections::hash_map::HashMap;
 use collections::hash_set::HashSet;

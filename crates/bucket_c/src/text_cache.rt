@@ -4,20 +4,20 @@
 //! Each call but `new` also returns `CLOSED` and `OTHER_KIND`, and then does nothing.
 ghost use Rattle.std.specs.Prelude.{◌≡◌};
 ghost use Rattle.collections.specs.Maps.{get_by, map_of};
-ghost use Rattle.bucket_c.specs.Caches.{GetsOne, TakesOne};
-ghost use Rattle.bucket_c.specs.Codes.{found_code};
-ghost use Rattle.bucket_c.specs.Maps.{Finds};
+ghost use Rattle.bucket_calls.specs.Caches.{GetsOne, TakesOne};
+ghost use Rattle.bucket_calls.specs.Codes.{found_code};
+ghost use Rattle.bucket_calls.specs.Maps.{Finds};
+ghost use Rattle.bucket_calls.specs.Texts.{PutsText, UpsertsTextInto};
+ghost use Rattle.bucket_calls.specs.Views.{Caches, Text, has_bytes, text_eq};
 ghost use Rattle.bucket_c.specs.Opening.{IsNewCache};
-ghost use Rattle.bucket_c.specs.Tables.{Caches, OnTextCache, Opens, Text, has_bytes, text_eq};
-ghost use Rattle.bucket_c.specs.Tables.{Reads, text_cache_in};
-ghost use Rattle.bucket_c.specs.Texts.{PutsText, UpsertsTextInto};
+ghost use Rattle.bucket_c.specs.Tables.{OnTextCache, Opens, Reads, text_cache_in};
 ghost use Rattle.bucket_c.specs.declared.tables.Table.TheVariants.{TextCache};
 
-use crate::codes::{CLOSED, OTHER_KIND};
 use crate::handle::Handle;
-use crate::seed::{Seed, hash_by};
 use crate::tables::Table;
-use crate::{caches, texts};
+use bucket_calls::codes::{CLOSED, OTHER_KIND};
+use bucket_calls::seed::{Seed, hash_by};
+use bucket_calls::{caches, texts};
 use collections::hash_cache::HashCache;
 use std::alloc::Global;
 

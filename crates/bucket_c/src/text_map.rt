@@ -4,19 +4,19 @@
 //! Each call but `new` also returns `CLOSED` and `OTHER_KIND`, and then does nothing.
 ghost use Rattle.std.specs.Prelude.{◌≡◌, ℕ};
 ghost use Rattle.collections.specs.Maps.{get_by};
-ghost use Rattle.bucket_c.specs.Codes.{found_code};
-ghost use Rattle.bucket_c.specs.Maps.{Finds, RemovesEqual, RemovesOne};
+ghost use Rattle.bucket_calls.specs.Codes.{found_code};
+ghost use Rattle.bucket_calls.specs.Maps.{Finds, RemovesEqual, RemovesOne};
+ghost use Rattle.bucket_calls.specs.Texts.{AddsToText, GetsOrInsertsText, InsertsText, UpsertsText};
+ghost use Rattle.bucket_calls.specs.Views.{Maps, Text, has_bytes, text_eq};
 ghost use Rattle.bucket_c.specs.Opening.{IsNew};
-ghost use Rattle.bucket_c.specs.Tables.{Maps, OnTextMap, Opens, Text, has_bytes, text_eq};
-ghost use Rattle.bucket_c.specs.Tables.{Reads, text_map_in};
-ghost use Rattle.bucket_c.specs.Texts.{AddsToText, GetsOrInsertsText, InsertsText, UpsertsText};
+ghost use Rattle.bucket_c.specs.Tables.{OnTextMap, Opens, Reads, text_map_in};
 ghost use Rattle.bucket_c.specs.declared.tables.Table.TheVariants.{TextMap};
 
-use crate::codes::{CLOSED, OTHER_KIND};
 use crate::handle::Handle;
-use crate::seed::{Seed, hash_by};
 use crate::tables::Table;
-use crate::{copies, maps};
+use bucket_calls::codes::{CLOSED, OTHER_KIND};
+use bucket_calls::seed::{Seed, hash_by};
+use bucket_calls::{copies, maps};
 use collections::hash_map::HashMap;
 use std::alloc::Global;
 

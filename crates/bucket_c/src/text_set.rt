@@ -4,19 +4,19 @@
 //! Each call but `new` also returns `CLOSED` and `OTHER_KIND`, and then does nothing.
 ghost use Rattle.std.specs.Prelude.{◌≡◌};
 ghost use Rattle.collections.specs.Maps.{get_by};
-ghost use Rattle.bucket_c.specs.Codes.{found_code};
-ghost use Rattle.bucket_c.specs.Maps.{RemovesKey};
+ghost use Rattle.bucket_calls.specs.Codes.{found_code};
+ghost use Rattle.bucket_calls.specs.Maps.{RemovesKey};
+ghost use Rattle.bucket_calls.specs.Texts.{InsertsText};
+ghost use Rattle.bucket_calls.specs.Views.{Maps, Text, has_bytes, text_eq};
 ghost use Rattle.bucket_c.specs.Opening.{IsNew};
-ghost use Rattle.bucket_c.specs.Tables.{Maps, OnTextSet, Opens, Text, has_bytes, text_eq};
-ghost use Rattle.bucket_c.specs.Tables.{Reads, text_set_in};
-ghost use Rattle.bucket_c.specs.Texts.{InsertsText};
+ghost use Rattle.bucket_c.specs.Tables.{OnTextSet, Opens, Reads, text_set_in};
 ghost use Rattle.bucket_c.specs.declared.tables.Table.TheVariants.{TextSet};
 
-use crate::codes::{CLOSED, OTHER_KIND};
 use crate::handle::Handle;
-use crate::seed::{Seed, hash_by};
 use crate::tables::Table;
-use crate::{copies, maps};
+use bucket_calls::codes::{CLOSED, OTHER_KIND};
+use bucket_calls::seed::{Seed, hash_by};
+use bucket_calls::{copies, maps};
 use collections::hash_set::HashSet;
 use std::alloc::Global;
 

@@ -1,5 +1,5 @@
 //! The iterators over the keys and the values of a collection by value: each step takes out a pair
-//! of the table, returns one half, and drops the other. As in `iterating`, none has a `size_hint`.
+//! of the table, returns one half, and drops the other.
 ghost use Rattle.std.specs.Iterator.{YieldsFirst, item_count};
 
 use bucket_slots::lru::LruList;

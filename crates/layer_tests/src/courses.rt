@@ -150,9 +150,7 @@ fn call<L: LruList + Drop, const TYPE: u8>(
     Ok(())
 }
 
-// Removes pairs by a sweep, or asks for a resize, for an array, for a bucket by two names, or
-// whether a probe finds a key. Beside some old arrays a ticket is left open for a while, so that
-// they stay.
+// A sweep, a resize, an array, a bucket by two names, or a question whether a probe finds a key.
 fn call_directly<L: LruList + Drop, const TYPE: u8>(
     rt: &impl Abort,
     table: &mut Table<L, TYPE>,
@@ -160,48 +158,91 @@ fn call_directly<L: LruList + Drop, const TYPE: u8>(
     now: &Answers,
 ) -> Result<(), Fail> {
     let (key, rest) = (course.key(), course.step() % 8);
-    let (slots, has_old) = (table.num_slots(), table.has_linked_array());
-    let hash = table.hash(&key);
-    let there = course.map.contains_key(&key);
     match course.step() % 16 {
-        0..=1 => {
-            let pairs = course.map.len();
-            course.map.retain(|key, _value| *key % 8 != rest);
-            let keep = |key: &u64, _value: &u64| *key % 8 != rest;
-            let gone = pairs.wrapping_sub(course.map.len());
-            check_same(rt, table.sweep(&keep, now)?, gone, ("swept", rest));
+        0..=1 => sweep(rt, table, course, now, rest),
+        2..=6 => resize(rt, table, course, rest),
+        7..=8 => {
+            course.settle(rt, table);
+            Ok(())
         }
-        2..=6 => {
-            let done = table.try_resize()?;
-            check_same(rt, table.num_slots() != slots, done, ("a resize", slots));
-            check_same(rt, done && has_old, false, ("beside an old array", slots));
-            if done && rest < 4 {
-                course.is_open = table.start_incremental_rehash().is_some();
-                course.opened = course.opened.wrapping_add(u64::from(course.is_open));
-            }
-        }
-        7..=8 => course.settle(rt, table),
         9 => {
+            let slots = table.num_slots();
             let wanted = if slots == 0 { 64 } else { slots };
             let found = table.get_or_create_array()?.num_slots();
             check_same(rt, found, wanted, ("an array", slots));
+            Ok(())
         }
-        10..=12 => {
-            let locked = table.writer_sync(hash)?;
-            let found = locked.search(&key, hash).is_valid();
-            check_same(rt, found, there, ("locked", key));
-            let locked = table.try_reserve_bucket(hash)?;
-            let found = locked.search(&key, hash).is_valid();
-            check_same(rt, found, there, ("reserved", key));
-        }
+        10..=12 => lock(rt, table, key, course.map.contains_key(&key)),
         _ => {
-            let mut probe = EqProbe::new(&key);
-            let found = table.peek_entry_by(hash, &mut probe).is_some();
-            check_same(rt, found, there, ("asked", key));
-            check_same(rt, probe.asked() <= KEYS, true, ("how often", key));
+            ask(rt, table, key, course.map.contains_key(&key));
+            Ok(())
         }
     }
+}
+
+// Removes the pairs whose keys leave a rest.
+fn sweep<L: LruList + Drop, const TYPE: u8>(
+    rt: &impl Abort,
+    table: &mut Table<L, TYPE>,
+    course: &mut Course,
+    now: &Answers,
+    rest: u64,
+) -> Result<(), Fail> {
+    let pairs = course.map.len();
+    course.map.retain(|key, _value| *key % 8 != rest);
+    let keep = |key: &u64, _value: &u64| *key % 8 != rest;
+    let gone = pairs.wrapping_sub(course.map.len());
+    check_same(rt, table.sweep(&keep, now)?, gone, ("swept", rest));
     Ok(())
+}
+
+// Asks for a resize. Beside some old arrays a ticket is left open for a while, so that they stay.
+fn resize<L: LruList + Drop, const TYPE: u8>(
+    rt: &impl Abort,
+    table: &mut Table<L, TYPE>,
+    course: &mut Course,
+    rest: u64,
+) -> Result<(), Fail> {
+    let (slots, has_old) = (table.num_slots(), table.has_linked_array());
+    let done = table.try_resize()?;
+    check_same(rt, table.num_slots() != slots, done, ("a resize", slots));
+    check_same(rt, done && has_old, false, ("beside an old array", slots));
+    if done && rest < 4 {
+        course.is_open = table.start_incremental_rehash().is_some();
+        course.opened = course.opened.wrapping_add(u64::from(course.is_open));
+    }
+    Ok(())
+}
+
+// Searches the bucket of a key, which two calls lend.
+fn lock<L: LruList + Drop, const TYPE: u8>(
+    rt: &impl Abort,
+    table: &mut Table<L, TYPE>,
+    key: u64,
+    there: bool,
+) -> Result<(), Fail> {
+    let hash = table.hash(&key);
+    let found = table.writer_sync(hash)?.search(&key, hash).is_valid();
+    check_same(rt, found, there, ("locked", key));
+    let found = table
+        .try_reserve_bucket(hash)?
+        .search(&key, hash)
+        .is_valid();
+    check_same(rt, found, there, ("reserved", key));
+    Ok(())
+}
+
+// Asks a probe, of at most each key once.
+fn ask<L: LruList + Drop, const TYPE: u8>(
+    rt: &impl Abort,
+    table: &Table<L, TYPE>,
+    key: u64,
+    there: bool,
+) {
+    let mut probe = EqProbe::new(&key);
+    let found = table.peek_entry_by(table.hash(&key), &mut probe).is_some();
+    check_same(rt, found, there, ("asked", key));
+    check_same(rt, probe.asked() <= KEYS, true, ("how often", key));
 }
 
 // Plays a course from a new table to one whose pairs are gone.

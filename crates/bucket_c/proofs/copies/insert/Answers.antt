@@ -1,7 +1,0 @@
-use Rattle.std.proofs.Common.{inr}
-use Rattle.bucket_c.specs.Copies.{InsertsCopy}
-use Rattle.bucket_c.proofs.copies.insert.Goals as goal
-
-pub returns : goal.returns
-unfolding InsertsCopy
-returns g c = inr c.add_copy.ensures

@@ -1,7 +1,0 @@
-use Rattle.std.proofs.Common.{inl}
-use Rattle.bucket_c.specs.Stores.{UpsertsBytes}
-use Rattle.bucket_c.proofs.stores.upsert.Goals as goal
-
-pub returns-in-Ok : goal.returns-in-Ok
-unfolding UpsertsBytes
-returns-in-Ok c = inl (c.in-Ok.held, c.in-Ok.ensures.copied, c.upsert.ensures.0)

@@ -1,0 +1,18 @@
+use Rattle.std.proofs.Common.{ℕ, ◌≡◌, ◌∙◌, sym}
+use Rattle.collections.specs.Maps.{pairs_in_bucket}
+use Rattle.collections.proofs.Visits.{pairs_visited_from}
+use Rattle.bucket_calls.specs.Steps.{next_copied}
+use Rattle.bucket_calls.proofs.Copied.{pairs_copied}
+use Rattle.bucket_calls.proofs.InBucket.{bucket_copied}
+use Rattle.bucket_calls.proofs.buckets.copy_map.Goals as goal
+
+pub returns : goal.returns
+returns c =
+    let went = pairs_visited_from {A = ℕ × ℕ × ℕ} (λ s. (s.0.now, s.1.now, s.2.now)) (λ s. (s.0.ghost_name, s.1.ghost_name, s.2.ghost_name)) _
+    (λ before pair after. after ≡ next_copied before pair) _ _ _ c.for_each_in-there.ensures.calls
+    (λ s own value t kept e. ((λ i. (e.met.0.0 i, e.met.0.1 i, e.met.0.2 i)), e.met.1)) in
+    let all = pairs_copied c.args.start c.args.out.now (pairs_in_bucket c.args.map.now c.args.bucket) _ went.1 in
+    let count = c.copied-2-1.given.1 (λ i. (sym went.0 i).1) in
+    let out = c.out-1.given.1.1 (λ i. (sym went.0 i).2) in
+    rw c.code_of.ensures (bucket_copied _ _ _ _ c.for_each_in-there.ensures.there
+    (record { asked = all.asked; are = all.are; count_is = count ∙ all.count_is; written = out ∙ all.written }))

@@ -1,0 +1,67 @@
+//! Calls on caches of byte strings, which own copies of their keys: a key is copied only where the
+//! cache hasn't it.
+ghost use Rattle.std.specs.Prelude.{◌≡◌};
+ghost use Rattle.bucket_calls.specs.Texts.{PutsText, UpsertsTextInto};
+
+use crate::bytes::copy_of;
+use crate::caches;
+use crate::codes::{NO_MEMORY, PRESENT};
+use crate::seed::SeededHash;
+use collections::hash_cache::HashCache;
+use std::alloc::Global;
+use std::mem::replace;
+
+/// Puts a pair whose key the cache hasn't, and writes out the pair that goes for it.
+#[tactic(auto, unfolding(crate::specs::Texts::PutsText))]
+pub fn put(
+    cache: &mut HashCache<Vec<u8>, u64, SeededHash>,
+    alloc: Global,
+    key: &[u8],
+    value: u64,
+    bytes: &mut [u8],
+    len: &mut usize,
+    before: &mut u64,
+) -> u32
+    ensures { PutsText key.now value bytes.old len.old before.old cache.old result cache.new
+        bytes.new len.new
+        before.new }
+{
+    if cache.contains(key) {
+        return PRESENT;
+    }
+    match copy_of(alloc, key) {
+        Ok(own) => caches::put_text(cache, own, value, bytes, len, before),
+        Err(_) => NO_MEMORY,
+    }
+}
+
+/// Puts a pair, and writes out the pair that goes for it; or writes its value beside the key that
+/// is there, and writes out the earlier one.
+#[tactic(auto, unfolding(crate::specs::Texts::UpsertsTextInto))]
+pub fn upsert(
+    cache: &mut HashCache<Vec<u8>, u64, SeededHash>,
+    alloc: Global,
+    key: &[u8],
+    value: u64,
+    bytes: &mut [u8],
+    len: &mut usize,
+    before: &mut u64,
+) -> u32
+    ensures { UpsertsTextInto key.now value bytes.old len.old before.old cache.old result
+        cache.new bytes.new
+        len.new before.new }
+{
+    if cache.contains(key) {
+        return match cache.get_mut(key) {
+            Some(held) => {
+                *before = replace(held, value);
+                PRESENT
+            }
+            None => unreachable!(),
+        };
+    }
+    match copy_of(alloc, key) {
+        Ok(own) => caches::upsert_text(cache, own, value, bytes, len, before),
+        Err(_) => NO_MEMORY,
+    }
+}
