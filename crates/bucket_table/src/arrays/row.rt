@@ -93,6 +93,16 @@ impl<K, V, L: LruList, const TYPE: u8> Arrays<K, V, L, TYPE> {
         self.bucket_of_mut(Side::Old, index - len)
     }
 
+    /// Writes the digest of a bucket of the row, which only a current one has. No bucket changes.
+    #[inline(always)]
+    pub(crate) fn settle_nth(&mut self, index: usize)
+        ensures { self.new ≡ self.old }
+    {
+        if index < self.len() {
+            self.settle_on(Side::Current, index);
+        }
+    }
+
     /// Moves a place to the bucket with the next live slot of the row, but to no live slot. Returns
     /// that bucket and its live own slots after the place, as a bitmap. It gives up at a bucket whose
     /// digest is lost and that has no live own slot after the place.
