@@ -1,5 +1,6 @@
 -- Walks, cursors and sweeps.
 pub mod Row
+pub mod OwnLeft
 pub mod Filters
 pub mod Each
 pub mod EachPair
