@@ -119,14 +119,12 @@ awk -v maps="$maps" '
             if (s < 4) {
                 line(sizes[s], "large", "  insert, large enough, ns", 1)
                 grown(sizes[s])
-                line(sizes[s], "emptied", "  remove, large enough, ns", 1)
             }
             line(sizes[s], "hit", "  hit, ns", 1)
             line(sizes[s], "miss", "  miss, ns", 1)
             line(sizes[s], "churn", "  remove one, insert one, ns", 1)
             line(sizes[s], "remove", "  remove, ns", 1)
             line(sizes[s], "walk", "  walk, ns a pair", 1)
-            line(sizes[s], "iter", "  iterator, ns a pair", 1)
             line(sizes[s], "sweep", "  sweep or retain, ns a pair", 1)
             line(sizes[s], "bytes", "  bytes a pair", 1)
             line(sizes[s], "longest", "  longest insertion, us", 1000)
@@ -154,7 +152,7 @@ if [ -n "$with_instructions" ] && command -v valgrind >/dev/null; then
             >/dev/null 2>&1
         callgrind_annotate --inclusive=yes --threshold=100 "$folder/calls" | tr -d , |
             awk -v map="$map" '
-                match($0, /(insert|find|miss|churn|remove)_all|::sum|::iterated|::drop_odd/) {
+                match($0, /(insert|find|miss|churn|remove)_all|::sum|::drop_odd/) {
                     name = substr($0, RSTART, RLENGTH)
                     if (!(name in count)) count[name] = $1
                 }
@@ -164,9 +162,8 @@ if [ -n "$with_instructions" ] && command -v valgrind >/dev/null; then
                         count["miss_all"] / 64000
                     printf "churn %.0f, remove %.0f, ",
                         count["churn_all"] / 64000, count["remove_all"] / 64000
-                    printf "walk %.1f, iterator %.1f, sweep %.1f\n",
-                        count["::sum"] / 64000, count["::iterated"] / 64000,
-                        count["::drop_odd"] / 64000
+                    printf "walk %.1f, sweep %.1f\n",
+                        count["::sum"] / 64000, count["::drop_odd"] / 64000
                 }'
     done
 fi

@@ -24,7 +24,6 @@ mod moving;
 mod part;
 mod parts;
 mod sizing;
-mod walking;
 mod writing;
 
 use crate::bucket::room::fits_in_memory;

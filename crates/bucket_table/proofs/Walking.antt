@@ -1,6 +1,5 @@
 -- Walks, cursors and sweeps.
 pub mod Row
-pub mod OwnLeft
 pub mod Filters
 pub mod Each
 pub mod EachPair

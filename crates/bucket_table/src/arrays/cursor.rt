@@ -174,9 +174,7 @@ impl<K: Eq + Drop, V: Drop, L: LruList + Drop, const TYPE: u8> Arrays<K, V, L, T
             × (self.new ≡ arrays_with self.old Current index left) }
     {
         self.room_of(Side::Current);
-        let stops = visitor.visit(self.bucket_of_mut(Side::Current, index), flag);
-        self.settle_on(Side::Current, index);
-        stops
+        visitor.visit(self.bucket_of_mut(Side::Current, index), flag)
     }
 
     /// Removes each pair of a current bucket for which `keep` returns false; in an index it becomes
@@ -194,9 +192,7 @@ impl<K: Eq + Drop, V: Drop, L: LruList + Drop, const TYPE: u8> Arrays<K, V, L, T
             (G.epoch_of generation.now) self.old index result self.new }
     {
         self.room_of(Side::Current);
-        let gone = retain_in(self.bucket_of_mut(Side::Current, index), keep, generation);
-        self.settle_on(Side::Current, index);
-        gone
+        retain_in(self.bucket_of_mut(Side::Current, index), keep, generation)
     }
 }
 

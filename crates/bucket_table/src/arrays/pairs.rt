@@ -7,7 +7,7 @@ ghost use Rattle.std.specs.Iterator.{YieldsFirstBy, item_count};
 ghost use Rattle.bucket_table.specs.Views.ArraysView.{pairs_of};
 
 use super::Arrays;
-use bucket_slots::bucket::{Bucket, EntryPtr};
+use bucket_slots::bucket::EntryPtr;
 use bucket_slots::lru::LruList;
 use std::alloc::AllocError;
 use std::iter::FusedIterator;
@@ -17,16 +17,11 @@ use std::marker::{Model, PhantomData};
 pub struct Kind<const TYPE: u8> {}
 
 /// The pairs of the arrays that are left, those behind a place.
-///
-/// `here` and `left` keep what is read of the place's bucket once for all of its pairs: the bucket, and
-/// its live own slots behind the place. Where `left` is 0, they say nothing.
 #[derive(Drop)]
 pub struct ArraysPairs<'a, K, V, L: LruList, const TYPE: u8, R> {
     arrays: &'a Arrays<K, V, L, TYPE>,
     index: usize,
     at: EntryPtr<K, V, TYPE>,
-    here: Option<&'a Bucket<K, V, L, TYPE>>,
-    left: u32,
     loan: PhantomData<R>,
 }
 
@@ -35,13 +30,11 @@ pub type TablePairs<'a, K, V, L, const TYPE: u8> = ArraysPairs<'a, K, V, L, TYPE
 
 impl<'a, K, V, L: LruList, const TYPE: u8, R> Model for ArraysPairs<'a, K, V, L, TYPE, R> {
     ghost use Rattle.std.specs.Prelude.{List};
-    ghost use Rattle.bucket_table.specs.Walking.Row.{LendsLeft, pairs_from, row_of};
+    ghost use Rattle.bucket_table.specs.Walking.Row.{pairs_from, row_of};
 
     ghost Value = { List (K × V) };
 
     ghost view = { λ pairs. pairs_from (row_of pairs.arrays.now) pairs.index pairs.at };
-
-    ghost invariant = { λ pairs. LendsLeft (row_of pairs.arrays.now) pairs.index pairs.at pairs.here pairs.left };
 }
 
 impl<'a, K, V, L: LruList, const TYPE: u8> Iterator
@@ -52,19 +45,15 @@ impl<'a, K, V, L: LruList, const TYPE: u8> Iterator
 
     ghost remaining = { item_count (λ left. left) };
 
-    #[inline(always)]
     fn next(&mut self) -> Option<(&'a K, &'a V)> {
-        if self.left == 0 {
-            return self.next_bucket();
+        if !self.arrays.has_row() {
+            return None;
         }
         self.arrays.row_room();
-        match self.here {
-            Some(bucket) => {
-                self.left = bucket.next_own(&mut self.at, self.left);
-                Some(bucket.entry(&self.at))
-            }
-            None => unreachable!(),
-        }
+        let Some(bucket) = self.arrays.next_slot(&mut self.index, &mut self.at) else {
+            return None;
+        };
+        Some(bucket.entry(&self.at))
     }
 
     /// O(slots that are left): it counts the pairs.
@@ -79,42 +68,6 @@ impl<'a, K, V, L: LruList, const TYPE: u8> Iterator
 }
 
 impl<'a, K, V, L: LruList, const TYPE: u8> ArraysPairs<'a, K, V, L, TYPE, &'a Kind<TYPE>> {
-    /// Returns the next pair, found from the place alone.
-    #[inline(always)]
-    fn next_bucket(&mut self) -> Option<(&'a K, &'a V)>
-        ensures { YieldsFirstBy (λ pair. (pair.0.now, pair.1.now)) (λ left. left) self.old result
-            self.new }
-    {
-        self.left = 0;
-        if !self.arrays.has_row() {
-            return None;
-        }
-        self.arrays.row_room();
-        let Some((bucket, left)) = self.arrays.next_own(&mut self.index, &mut self.at) else {
-            return self.next_slot();
-        };
-        self.left = bucket.next_own(&mut self.at, left);
-        self.here = Some(bucket);
-        Some(bucket.entry(&self.at))
-    }
-
-    /// Returns the next pair, whether it is in an own slot or in a chain.
-    #[inline(always)]
-    fn next_slot(&mut self) -> Option<(&'a K, &'a V)>
-        ensures { YieldsFirstBy (λ pair. (pair.0.now, pair.1.now)) (λ left. left) self.old result
-            self.new }
-    {
-        self.left = 0;
-        if !self.arrays.has_row() {
-            return None;
-        }
-        self.arrays.row_room();
-        let Some(bucket) = self.arrays.next_slot(&mut self.index, &mut self.at) else {
-            return None;
-        };
-        Some(bucket.entry(&self.at))
-    }
-
     /// Returns an iterator over the same pairs.
     fn again(&self) -> Self
         ensures { result ≡ self.now }
@@ -123,8 +76,6 @@ impl<'a, K, V, L: LruList, const TYPE: u8> ArraysPairs<'a, K, V, L, TYPE, &'a Ki
             arrays: self.arrays,
             index: self.index,
             at: self.at.clone(),
-            here: self.here,
-            left: self.left,
             loan: PhantomData,
         }
     }
@@ -168,8 +119,6 @@ impl<K, V, L: LruList, const TYPE: u8> Arrays<K, V, L, TYPE> {
             arrays: self,
             index: 0,
             at: EntryPtr::null(),
-            here: None,
-            left: 0,
             loan: PhantomData,
         }
     }

@@ -86,8 +86,6 @@ impl<K: Eq + Drop, V: Drop, H: KeyHash<K>, L: LruList + Drop, const TYPE: u8> Ha
         ensures hasher { self.new.hasher ≡ self.old.hasher }
     {
         self.arrays.row_room();
-        let gone = retain_each_in(self.arrays.nth_mut(index), keep, generation);
-        self.arrays.settle_nth(index);
-        gone
+        retain_each_in(self.arrays.nth_mut(index), keep, generation)
     }
 }
