@@ -105,7 +105,9 @@ static PyMethodDef map_methods[] = {
     {"update", (PyCFunction)(void (*)(void))pairs_update, METH_VARARGS | METH_KEYWORDS,
      "update([other], **pairs)\n\nPuts the pairs of a mapping or of an iterable of pairs, then the keywords'."},
     {"clear", map_clear, METH_NOARGS, "clear($self, /)\n--\n\nRemoves all pairs. O(n)."},
-    {"copy", map_copy, METH_NOARGS, "copy($self, /)\n--\n\nA Map of the same pairs. O(n)."},
+    {"copy", map_copy, METH_NOARGS,
+     "copy($self, /)\n--\n\nA Map of the same pairs. They come in the order of their hashes, so this takes up to\n"
+     "O(n * n); a Map filled in another order takes O(n)."},
     {"fromkeys", (PyCFunction)(void (*)(void))map_fromkeys, METH_FASTCALL | METH_CLASS,
      "fromkeys($type, keys, value=None, /)\n--\n\nA map of these keys, all with one value."},
     {"keys", pairs_keys, METH_NOARGS, "keys($self, /)\n--\n\nA live view of the keys."},
