@@ -2,10 +2,12 @@
 //!
 //! Words are compared as bytes. A word that isn't UTF-8 equals no known word, so it needs no test
 //! of its own.
-ghost use Rattle.std.specs.Prelude.{◌≡◌, ◌↔◌, ℕ, List, [], ◌∷◌, IfNone, IfOk, IfSome, IsSome, MatchOption, OnErr};
+ghost use Rattle.std.specs.Prelude.{◌≡◌, ◌↔◌, ℕ, List, [], ◌∷◌, IfNone, IfOk, IfSome, IsSome};
+ghost use Rattle.std.specs.Prelude.{MatchOption, OnErr};
 ghost use Rattle.line_io.specs.Meanings.{IsMeant};
 ghost use Rattle.bhtable_lines.specs.Layout.Forms.{AsksNothing, Begins, form_word};
-ghost use Rattle.bhtable_lines.specs.Requests.{AreLimits, Asks, call_line, end_word, hash_word, kind_word, mark_word, request_line};
+ghost use Rattle.bhtable_lines.specs.Requests.{AreLimits, Asks, call_line, end_word, hash_word};
+ghost use Rattle.bhtable_lines.specs.Requests.{kind_word, mark_word, request_line};
 ghost use Rattle.line_io.specs.Words.{Part, part_of, parts_of};
 ghost use Rattle.bhtable_lines.specs.declared.request.NewTable.{NewTable};
 ghost use Rattle.bhtable_lines.specs.declared.request.Request.{Request};

@@ -3,13 +3,15 @@
 //! Calls are gathered and passed to the table together, since it allocates room for all their
 //! replies at once. They are answered before a `new`, an `epoch` or a question, before the output
 //! is written, and when 1,024 are gathered.
-ghost use Rattle.std.specs.Prelude.{◌≡◌, ◌⊎◌, ◌≤◌, ◌↔◌, ℕ, List, [], ◌∷◌, ◌++◌, Option, IfErr, IfOk, IsSome, MatchResult, OnErr, OnOk};
+ghost use Rattle.std.specs.Prelude.{◌≡◌, ◌⊎◌, ◌≤◌, ◌↔◌, ℕ, List, [], ◌∷◌, ◌++◌, Option, IfErr};
+ghost use Rattle.std.specs.Prelude.{IfOk, IsSome, MatchResult, OnErr, OnOk};
 ghost use Rattle.std.specs.Prelude.{length, nat_eq, true};
 ghost use Rattle.bhtable_lines.specs.Answers.{Tells, fresh_table, told};
 ghost use Rattle.bhtable_lines.specs.Layout.Stops.{IsLack, IsOutputUpTo};
 ghost use Rattle.bhtable_lines.specs.Outputs.{HasAnswered};
 ghost use Rattle.bhtable_lines.specs.Requests.{AreLimits, Asks};
-ghost use Rattle.bhtable_lines.specs.Layout.Sessions.{HasEnded, HasReplied, HasStopped, HasTaken, IsBadAt, table_at_hand, table_of};
+ghost use Rattle.bhtable_lines.specs.Layout.Sessions.{HasEnded, HasReplied, HasStopped, HasTaken};
+ghost use Rattle.bhtable_lines.specs.Layout.Sessions.{IsBadAt, table_at_hand, table_of};
 ghost use Rattle.line_io.specs.Words.{parts_of};
 ghost use Rattle.bucket_table.specs.Views.ArraysView.{IsOneMap};
 ghost use Rattle.bucket_table.specs.Scripts.Calls.{Step};

@@ -53,7 +53,8 @@ pub fn copy_text_map(
     count: &mut usize,
 ) -> u32
     ensures { CopiesBucket bucket table.now.bucket_lens
-        (CopiesPairs start (map value_alone (pairs_in_bucket table.now bucket)) out.old count.new out.new) result }
+        (CopiesPairs start (map value_alone (pairs_in_bucket table.now bucket)) out.old count.new
+        out.new) result }
 {
     let mut skip = start;
     let mut copied = 0;
@@ -75,7 +76,8 @@ pub fn copy_set(
     count: &mut usize,
 ) -> u32
     ensures { CopiesBucket bucket set.now.bucket_lens
-        (CopiesPairs start (map beside_zero (keys_of (pairs_in_bucket set.now bucket))) out.old count.new out.new) result }
+        (CopiesPairs start (map beside_zero (keys_of (pairs_in_bucket set.now bucket))) out.old
+        count.new out.new) result }
 {
     let mut skip = start;
     let mut copied = 0;
@@ -97,7 +99,8 @@ pub fn copy_text_set(
     count: &mut usize,
 ) -> u32
     ensures { CopiesBucket bucket set.now.bucket_lens
-        (CopiesPairs start (map no_words (keys_of (pairs_in_bucket set.now bucket))) out.old count.new out.new) result }
+        (CopiesPairs start (map no_words (keys_of (pairs_in_bucket set.now bucket))) out.old
+        count.new out.new) result }
 {
     let mut skip = start;
     let mut copied = 0;
@@ -119,7 +122,8 @@ pub fn copy_store(
     count: &mut usize,
 ) -> u32
     ensures { CopiesBucket bucket store.now.bucket_lens
-        (CopiesPairs start (map no_words (pairs_in_bucket store.now bucket)) out.old count.new out.new) result }
+        (CopiesPairs start (map no_words (pairs_in_bucket store.now bucket)) out.old count.new
+        out.new) result }
 {
     let mut skip = start;
     let mut copied = 0;
@@ -141,7 +145,8 @@ pub fn copy_cache(
     count: &mut usize,
 ) -> u32
     ensures { CopiesBucket bucket (map_of cache.now).bucket_lens
-        (CopiesPairs start (pairs_in_bucket (map_of cache.now) bucket) out.old count.new out.new) result }
+        (CopiesPairs start (pairs_in_bucket (map_of cache.now) bucket) out.old count.new out.new)
+        result }
 {
     let mut skip = start;
     let mut copied = 0;
@@ -163,7 +168,8 @@ pub fn copy_text_cache(
     count: &mut usize,
 ) -> u32
     ensures { CopiesBucket bucket (map_of cache.now).bucket_lens
-        (CopiesPairs start (map value_alone (pairs_in_bucket (map_of cache.now) bucket)) out.old count.new out.new) result }
+        (CopiesPairs start (map value_alone (pairs_in_bucket (map_of cache.now) bucket)) out.old
+        count.new out.new) result }
 {
     let mut skip = start;
     let mut copied = 0;

@@ -1,7 +1,8 @@
 //! The library's calls that are given a key in some form, each of which answers by a code. The key
 //! itself is made only where the map or the set hasn't it.
 ghost use Rattle.std.specs.Prelude.{◌≡◌, false};
-ghost use Rattle.bucket_calls.specs.Copies.{AddsCopy, AddsTo, GetsOrInserts, InsertsCopy, UpsertsCopy};
+ghost use Rattle.bucket_calls.specs.Copies.{AddsCopy, AddsTo, GetsOrInserts, InsertsCopy};
+ghost use Rattle.bucket_calls.specs.Copies.{UpsertsCopy};
 ghost use Rattle.collections.specs.Maps.{contains_by};
 
 use crate::codes::{NO_MEMORY, PRESENT};

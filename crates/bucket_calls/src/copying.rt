@@ -131,7 +131,8 @@ pub fn copy_text_map(
     };
     let mut visit = |key: &Vec<u8>, value: &u64|
         ensures { (place.exit, rows.exit.now, bytes.exit.now)
-            ≡ next_text (place.entry, rows.entry.now, bytes.entry.now) (text_piece (key.now, value.now)) }
+            ≡ next_text (place.entry, rows.entry.now, bytes.entry.now)
+            (text_piece (key.now, value.now)) }
     { copy_next_text(&mut place, rows, bytes, key, *value) };
     table.for_each_ref(&mut visit);
     place.count
@@ -168,8 +169,8 @@ pub fn copy_text_cache(
     rows: &mut [TextPair],
     bytes: &mut [u8],
 ) -> usize
-    ensures { CopiesTexts start (map text_piece (pairs_of cache.now.arrays)) rows.old bytes.old result rows.new
-        bytes.new }
+    ensures { CopiesTexts start (map text_piece (pairs_of cache.now.arrays)) rows.old bytes.old
+        result rows.new bytes.new }
 {
     let mut place = Place {
         skip: start,
@@ -179,7 +180,8 @@ pub fn copy_text_cache(
     };
     let mut visit = |key: &Vec<u8>, value: &u64|
         ensures { (place.exit, rows.exit.now, bytes.exit.now)
-            ≡ next_text (place.entry, rows.entry.now, bytes.entry.now) (text_piece (key.now, value.now)) }
+            ≡ next_text (place.entry, rows.entry.now, bytes.entry.now)
+            (text_piece (key.now, value.now)) }
     { copy_next_text(&mut place, rows, bytes, key, *value) };
     cache.for_each(&mut visit);
     place.count

@@ -3,7 +3,8 @@ ghost use Rattle.std.specs.Prelude.{◌≡◌};
 ghost use Rattle.collections.specs.Maps.{get_by};
 ghost use Rattle.bucket_calls.specs.Codes.{found_code};
 ghost use Rattle.bucket_calls.specs.Sizing.{MakesRoomBy, ShrinksBy};
-ghost use Rattle.bucket_calls.specs.Maps.{Drops, Finds, InsertsOne, RemovesEqual, RemovesKey, RemovesOne, UpsertsOne};
+ghost use Rattle.bucket_calls.specs.Maps.{Drops, Finds, InsertsOne, RemovesEqual, RemovesKey};
+ghost use Rattle.bucket_calls.specs.Maps.{RemovesOne, UpsertsOne};
 
 use crate::codes::{ABSENT, NO_MEMORY, OK, PRESENT};
 use bucket_table::key_hash::KeyHash;

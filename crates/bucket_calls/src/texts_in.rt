@@ -23,7 +23,8 @@ pub fn copy_map(
     count: &mut usize,
 ) -> u32
     ensures { CopiesBucket bucket table.now.bucket_lens
-        (CopiesTexts start (map text_piece (pairs_in_bucket table.now bucket)) rows.old bytes.old count.new rows.new bytes.new)
+        (CopiesTexts start (map text_piece (pairs_in_bucket table.now bucket)) rows.old bytes.old
+        count.new rows.new bytes.new)
         result }
 {
     let mut place = Place {
@@ -34,7 +35,8 @@ pub fn copy_map(
     };
     let mut visit = |key: &Vec<u8>, value: &u64|
         ensures { (place.exit, rows.exit.now, bytes.exit.now)
-            ≡ next_text (place.entry, rows.entry.now, bytes.entry.now) (text_piece (key.now, value.now)) }
+            ≡ next_text (place.entry, rows.entry.now, bytes.entry.now)
+            (text_piece (key.now, value.now)) }
     { copy_next_text(&mut place, rows, bytes, key, *value) };
     let there = table.for_each_in(bucket, &mut visit);
     *count = place.count;
@@ -51,7 +53,8 @@ pub fn copy_set(
     count: &mut usize,
 ) -> u32
     ensures { CopiesBucket bucket set.now.bucket_lens
-        (CopiesTexts start (map key_piece (keys_of (pairs_in_bucket set.now bucket))) rows.old bytes.old count.new rows.new bytes.new)
+        (CopiesTexts start (map key_piece (keys_of (pairs_in_bucket set.now bucket))) rows.old
+        bytes.old count.new rows.new bytes.new)
         result }
 {
     let mut place = Place {
@@ -79,7 +82,8 @@ pub fn copy_store(
     count: &mut usize,
 ) -> u32
     ensures { CopiesBucket bucket store.now.bucket_lens
-        (CopiesTexts start (map store_piece (pairs_in_bucket store.now bucket)) rows.old bytes.old count.new rows.new bytes.new)
+        (CopiesTexts start (map store_piece (pairs_in_bucket store.now bucket)) rows.old bytes.old
+        count.new rows.new bytes.new)
         result }
 {
     let mut place = Place {
@@ -90,7 +94,8 @@ pub fn copy_store(
     };
     let mut visit = |key: &Vec<u8>, value: &Vec<u8>|
         ensures { (place.exit, rows.exit.now, bytes.exit.now)
-            ≡ next_text (place.entry, rows.entry.now, bytes.entry.now) (store_piece (key.now, value.now)) }
+            ≡ next_text (place.entry, rows.entry.now, bytes.entry.now)
+            (store_piece (key.now, value.now)) }
     { copy_next_text(&mut place, rows, bytes, key, value.len() as u64) };
     let there = store.for_each_in(bucket, &mut visit);
     *count = place.count;
@@ -107,7 +112,8 @@ pub fn copy_cache(
     count: &mut usize,
 ) -> u32
     ensures { CopiesBucket bucket (map_of cache.now).bucket_lens
-        (CopiesTexts start (map text_piece (pairs_in_bucket (map_of cache.now) bucket)) rows.old bytes.old count.new rows.new bytes.new)
+        (CopiesTexts start (map text_piece (pairs_in_bucket (map_of cache.now) bucket)) rows.old
+        bytes.old count.new rows.new bytes.new)
         result }
 {
     let mut place = Place {
@@ -118,7 +124,8 @@ pub fn copy_cache(
     };
     let mut visit = |key: &Vec<u8>, value: &u64|
         ensures { (place.exit, rows.exit.now, bytes.exit.now)
-            ≡ next_text (place.entry, rows.entry.now, bytes.entry.now) (text_piece (key.now, value.now)) }
+            ≡ next_text (place.entry, rows.entry.now, bytes.entry.now)
+            (text_piece (key.now, value.now)) }
     { copy_next_text(&mut place, rows, bytes, key, *value) };
     let there = cache.for_each_in(bucket, &mut visit);
     *count = place.count;

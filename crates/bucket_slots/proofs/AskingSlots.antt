@@ -11,7 +11,8 @@ use Rattle.bucket_slots.proofs.ChangedSlots.{live-value}
 use Rattle.bucket_slots.proofs.Counting.{tally}
 use Rattle.std.proofs.lemmas.List.{get_or-append_right, set-append_right, take_more}
 use Rattle.bucket_slots.specs.Walking.{AsksSlot, AsksSlots}
-use Rattle.bucket_slots.proofs.LiveMasks.{NamesFrom, lowest_ahead, named_live, names_all, names_next}
+use Rattle.bucket_slots.specs.OwnWalks.{NamesFrom}
+use Rattle.bucket_slots.proofs.LiveMasks.{lowest_ahead, named_live, names_all, names_next}
 use Rattle.bucket_slots.proofs.Masks.{bit_is_not, within}
 
 -- a slot with another value is live as before

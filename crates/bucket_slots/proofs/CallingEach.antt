@@ -22,6 +22,11 @@ module _ {S K V : Type 0} (step : S → Bor K → Bor V → S → Type 0) where
   calls_joined first between last (pair ∷ pairs) others (o, v, is, (next, call, calls)) more =
       (o, v, is, (next, call, calls_joined next between last pairs others calls more))
 
+  -- the same pairs
+  pub calls_same : (first last : S) (pairs others : List (K × V)) → pairs ≡ others → CallsEach step first pairs last
+      → CallsEach step first others last
+  calls_same first last pairs others same calls = subst (λ (ps : List (K × V)). CallsEach step first ps last) same calls
+
   -- one more
   pub one_more : (first now next : S) (all rest later : List (K × V)) (own : Bor K) (value : Bor V) → IsAmid first all now rest
       → rest ≡ (own.now, value.now) ∷ later → step now own value next → IsAmid first all next later

@@ -30,6 +30,7 @@ pub mod OwnPairs
 pub mod LiveMasks
 pub mod AskingSlots
 pub mod NextPlaces
+pub mod OwnWalks
 pub mod BucketRemoving
 pub mod BucketMoving
 pub mod BucketRecency

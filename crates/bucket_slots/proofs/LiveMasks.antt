@@ -1,8 +1,12 @@
 -- The live slots of a row that a loop over their mask has still to come to.
-use Rattle.bucket_slots.proofs.Words.{Bor, CallsEach, IsLowest, IsMaskOf, List, SetsBit, Slot, Some, [], ap, arith, bit_at, bit_at-zero}
-use Rattle.bucket_slots.proofs.Words.{cases_eq, cases_lt, cond, drop, drop-drop, drop_all, drop_more, false, free, get_or-drop, inl, inr}
-use Rattle.bucket_slots.proofs.Words.{is_free, is_live, length, live_pair, live_pairs, pair_of, refl, slot_at, sym, true, ℕ}
+use Rattle.bucket_slots.proofs.Words.{Bor, CallsEach, IsLowest, IsMaskOf, List, SetsBit, Slot, Some, [], ap, arith}
+use Rattle.bucket_slots.proofs.Words.{bit_at-zero}
+use Rattle.bucket_slots.proofs.Words.{cases_eq, cases_lt, drop, drop-drop, drop_all, drop_more, false, free}
+use Rattle.bucket_slots.proofs.Words.{get_or-drop, inl, inr}
+use Rattle.bucket_slots.proofs.Words.{is_free, is_live, length, live_pair, live_pairs, pair_of, refl, slot_at, sym}
+use Rattle.bucket_slots.proofs.Words.{true, ℕ}
 use Rattle.bucket_slots.proofs.Words.{◌+◌, ◌-◌, ◌<◌, ◌∙◌, ◌∷◌, ◌≡◌, ◌≤◌}
+use Rattle.bucket_slots.specs.OwnWalks.{NamesFrom}
 use Rattle.bucket_slots.proofs.CallerLemmas.{live_from_pair}
 use Rattle.bucket_slots.proofs.CallingEach.{IsAmid, done, one_more}
 use Rattle.bucket_slots.proofs.FirstPlaces.{live_occupied}
@@ -10,11 +14,6 @@ use Rattle.bucket_slots.proofs.Masks.{bit-mask, bit_is, bit_is_not, within}
 use Rattle.bucket_slots.proofs.NextSlots.{live_pairs-live, live_pairs-skip}
 
 module _ {K V : Type 0} where
-  -- the bits are those of the live slots from a position on
-  pub record NamesFrom (slots : List (Slot K V)) (left from : ℕ) : Type 0 where
-    pub ahead : (i : ℕ) → from ≤ i → bit_at left i ≡ cond (is_live (slot_at slots i)) 1 0
-    pub behind : (i : ℕ) → i < from → bit_at left i ≡ 0
-
   pub names_all : (slots : List (Slot K V)) (left : ℕ) → IsMaskOf is_live slots left → NamesFrom slots left 0
   names_all slots left mask = record {
     ahead = λ i after. bit-mask is_live slots left mask i free refl;

@@ -1,11 +1,11 @@
 -- The pairs before a slot and behind it, whatever stands in it.
 use Rattle.bucket_slots.proofs.Words.{BucketView, IsBucketOf, IsChain, List, None, Place, Slot, Some, [], add-one, ap, append_assoc, arith}
 use Rattle.bucket_slots.proofs.Words.{block_at, cons_option, drop, filter_map-append, flattened, free, get_or, length, live_pair}
-use Rattle.bucket_slots.proofs.Words.{live_pairs, map, pairs_ahead, pairs_in, refl, set, set-get_or, set_split, slot_in, slot_marked}
+use Rattle.bucket_slots.proofs.Words.{live_pairs, map, pairs_ahead, pairs_in, refl, set, set_split, slot_in, slot_marked}
 use Rattle.bucket_slots.proofs.Words.{slots_marked, slots_vacated, slots_vacated_at, slots_without, suc, sym, take, with_slot, with_slot_at}
 use Rattle.bucket_slots.proofs.Words.{zero, ℕ, ◌++◌, ◌+◌, ◌<◌, ◌∙◌, ◌∷◌, ◌≡◌}
 use Rattle.std.proofs.lemmas.List.{append_cancel_right}
-use Rattle.bucket_slots.proofs.CallerLemmas.{entries_unlinked, length-vacated, live_from_pair, live_is, there}
+use Rattle.bucket_slots.proofs.CallerLemmas.{entries_unlinked, length-vacated, live_from_pair, live_is, there, with_slot-same}
 use Rattle.bucket_slots.proofs.ChangedSlots.{live_inside}
 use Rattle.bucket_slots.proofs.Entries.{map-entries_in}
 use Rattle.bucket_slots.proofs.FirstPlaces.{block_short}
@@ -36,12 +36,6 @@ module _ {K V : Type 0} where
   -- the live pairs before a place
   pairs_before : BucketView K V → Place → List (K × V)
   pairs_before s at = live_pairs (slots_before (s.own ∷ s.chain) at.block at.pos)
-
-  with_slot-same : (s : BucketView K V) (block pos : ℕ) → with_slot_at s block pos (slot_in s (record { block = block; pos = pos })) ≡ s
-  with_slot-same s zero pos = ap (λ own. record s { own = own }) (set-get_or s.own pos free)
-  with_slot-same s (suc i) pos =
-      ap (λ chain. record s { chain = chain })
-      (ap (λ row. set s.chain i row) (set-get_or (get_or s.chain i []) pos free) ∙ set-get_or s.chain i [])
 
   cut_rows : (rows : List (List (Slot K V))) (block pos : ℕ) (x : Slot K V) (ahead : List (K × V)) → pos < length (get_or rows block [])
       → live_pairs (drop (pos + 1) (get_or rows block []) ++ flattened (drop (suc block) rows)) ≡ ahead

@@ -24,6 +24,7 @@ mod moving;
 mod part;
 mod parts;
 mod sizing;
+mod walking;
 mod writing;
 
 use crate::bucket::room::fits_in_memory;

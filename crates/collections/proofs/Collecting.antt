@@ -1,7 +1,9 @@
 -- Many pairs or keys put in turn: one more of them.
 use Rattle.std.proofs.Common.{◌≡◌, Bool, Option, Some, None}
-use Rattle.std.proofs.Common.{List, [], ◌∷◌, ◌++◌, refl, sym, subst, ◌∙◌}
+use Rattle.std.proofs.Common.{List, [], ◌∷◌, ◌++◌, ap, refl, sym, subst, ◌∙◌}
 use Rattle.std.specs.Option.{MatchOption}
+use Rattle.std.specs.List.{FoldsTo}
+use Rattle.std.specs.Map.{update_all}
 use Rattle.std.specs.Prelude.{Ok, ◌^◌}
 use Rattle.std.proofs.lemmas.List.Sorted.{IsPermutation-refl}
 use Rattle.std.proofs.lemmas.Map.{update_all_push}
@@ -117,10 +119,30 @@ module _ {K V H : Type 0} (eq : K → K → Bool) where
     kept = keeps_then old mid new puts.kept stays.kept;
   }
 
-  -- a map of which no more is said than that it was made empty
-  pub put_into_new : (first made : MapView K V H) (pairs : List (K × V)) → IsEmpty first → first.minimum ≡ 0 → first.maximum ≡ 2 ^ 63
-      → (first.slots ≡ 0) × (first.old_slots ≡ 0) → first.bucket_lens ≡ [] → PutsAll eq first pairs made
+  -- a map moved its pairs, and then some were put
+  pub stays_then_put : (old mid new : MapView K V H) (pairs : List (K × V)) → Stays eq old mid → PutsAll eq mid pairs new
+      → PutsAll eq old pairs new
+  stays_then_put old mid new pairs stays puts =
+      let turn = from_before pairs puts.between puts.stays puts.in_turn in
+      record {
+        between = turn.0;
+        in_turn = turn.1;
+        stays = turn.2;
+        gets = λ q. puts.gets q ∙ ap (λ (held : K → Option V). update_all eq held pairs q) (λ i k. stays.gets k i);
+        kept = keeps_then old mid new stays.kept puts.kept;
+      }
+    where
+      from_before : (pairs : List (K × V)) (between : MapView K V H) → Stays eq between new
+          → FoldsTo (λ before p after. Puts eq before p.0 p.1 after) mid pairs between
+          → (b : MapView K V H) × FoldsTo (λ before p after. Puts eq before p.0 p.1 after) old pairs b × Stays eq b new
+      from_before [] between last is = (old, refl, stays_after eq old mid new stays (subst (λ m. Stays eq m new) (sym is) last))
+      from_before (p ∷ ps) between last went = (between, (went.0, put_after old mid went.0 stays p.0 p.1 went.1, went.2), last)
+
+  -- a map of which no more is said than that it was made empty, and that room was made in it
+  pub put_into_new : (first ready made : MapView K V H) (pairs : List (K × V)) → IsEmpty first → first.minimum ≡ 0 → first.maximum ≡ 2 ^ 63
+      → (first.slots ≡ 0) × (first.old_slots ≡ 0) → first.bucket_lens ≡ [] → Stays eq first ready → PutsAll eq ready pairs made
       → PutsAll eq (empty_map made.hasher) pairs made
-  put_into_new first made pairs empty minimum maximum slots buckets puts =
-      subst (λ (h : H). PutsAll eq (empty_map h) pairs made) (sym puts.kept.hasher)
-      (subst (λ m. PutsAll eq m pairs made) (new_is first empty minimum maximum slots buckets) puts)
+  put_into_new first ready made pairs empty minimum maximum slots buckets stays puts =
+      let all = stays_then_put first ready made pairs stays puts in
+      subst (λ (h : H). PutsAll eq (empty_map h) pairs made) (sym all.kept.hasher)
+      (subst (λ m. PutsAll eq m pairs made) (new_is first empty minimum maximum slots buckets) all)

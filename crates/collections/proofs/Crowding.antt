@@ -4,9 +4,10 @@ use Rattle.std.proofs.Common.{List}
 use Rattle.std.proofs.Common.{[], ◌∷◌, ◌⊎◌, inl, inr}
 use Rattle.std.proofs.Common.{length, map, refl, sym, subst, ap, ◌∙◌, arith, append-nil, length-append}
 use Rattle.std.specs.List.{All}
-use Rattle.std.proofs.lemmas.Bool.{cases_lt, false≢true}
+use Rattle.std.proofs.lemmas.Bool.{cases_lt}
 use Rattle.std.specs.List.Sorted.{IsPermutation}
 use Rattle.std.proofs.lemmas.List.Sorted.{IsPermutation-refl}
+use Rattle.std.proofs.lemmas.List.{get_or-append-add, get_or-map}
 use Rattle.std.proofs.lemmas.List.Sums.{sum_by-append, sum_by-cons}
 use Rattle.bucket_slots.specs.declared.bucket.TheConstants.{INDEX}
 use Rattle.bucket_slots.specs.ArrayView.{bucket_at}
@@ -36,7 +37,7 @@ use Rattle.bucket_table.proofs.Moves.HomesByDivision.{home_of-interval}
 use Rattle.bucket_table.proofs.Moves.MovingPairs.{homed-permutation, homed_here}
 use Rattle.bucket_table.proofs.Views.SideChanges.{homes_on, pairs_exchanged}
 use Rattle.collections.proofs.Found.{found, same_buckets}
-use Rattle.collections.specs.Crowding.{HasAtHome, KeepsHome, LacksBucket, LacksRoom}
+use Rattle.collections.specs.Crowding.{HasAtHome, HasInOld, KeepsHome, LacksBucket, LacksRoom}
 use Rattle.collections.specs.Maps.{map_of}
 
 module _ {K V : Type 0} where
@@ -140,6 +141,24 @@ module _ {K V H : Type 0} (kind : ℕ) (hash_of : H → K → ℕ) (key : K) (n 
             (pairs_of old.arrays) (pairs_of new.arrays) kept.pairs) there.1,
       )
 
+  -- so many pairs in the old home, as the map has it
+  in_old : (count i : ℕ) → IsHome (length old.arrays.linked) n i → KeepsPairs (state_of kind old) (state_of kind new)
+      → count ≤ length (pairs_in (bucket_at old.arrays.linked i)) → HasInOld count (hash_of old.hasher) key (map_of old)
+  in_old count i home kept many =
+      let lens = λ (b : BucketView K V). length (pairs_in b) in
+      let from = length old.arrays.linked in
+      let to = length old.arrays.current in
+      let same : new.hasher ≡ old.hasher = hasher_kept _ _ kept in
+      let hashed : n ≡ hash_of old.hasher key = own ∙ ap (λ h. hash_of h key) same in
+      let buckets : (32 * from) / 32 ≡ from = omega arith in
+      let here : home_of ((32 * from) / 32) (hash_of old.hasher key) ≡ i =
+      rw (← hashed, buckets) (home_of-interval from i n home.own) in
+      let place : (32 * to) / 32 + i ≡ length old.arrays.current + i = omega arith in
+      let read = get_or-map lens (old.arrays.current ++ old.arrays.linked) (to + i) empty_bucket 0
+      (omega (arith, home.within, length-append old.arrays.current old.arrays.linked)) in
+      let there = get_or-append-add old.arrays.current old.arrays.linked i empty_bucket in
+      (omega (arith, home.within), rw (here, place, read, there) many)
+
   pub laws_on : (side : Side) (index : ℕ) → IsHome (length (buckets_on new.arrays side)) n index
       → IsBucketOf kind (bucket_on new.arrays side index)
   laws_on Current index home =
@@ -178,7 +197,7 @@ module _ {K V H : Type 0} (kind : ℕ) (hash_of : H → K → ℕ) (key : K) (n 
   -- where no bucket was found, the old home had more than 32 pairs if arrays stood and grew
   pub old_full : IsRefused kind n old new → ((length old.arrays.current ≡ 0) ⊎ (length old.arrays.current < length old.arrays.linked))
       ⊎ ((i : ℕ) × IsHome (length new.arrays.linked) n i × (33 ≤ length (pairs_in (bucket_at old.arrays.linked i)))
-      × (bucket_at new.arrays.linked i ≡ bucket_at old.arrays.linked i) × (length new.arrays.linked ≡ length old.arrays.linked))
+      × (length new.arrays.linked ≡ length old.arrays.linked))
   old_full refused = elim (cases_lt 0 (length new.arrays.current)) [
     | inr none ↦ inl (inl (omega (arith, none, refused.prepared.kept.current_len)))
     | inl stands ↦ from_source (refused.home stands)
@@ -187,7 +206,7 @@ module _ {K V H : Type 0} (kind : ℕ) (hash_of : H → K → ℕ) (key : K) (n 
       from_source : HomeWantsMemory n old.arrays new.arrays
           → ((length old.arrays.current ≡ 0) ⊎ (length old.arrays.current < length old.arrays.linked))
           ⊎ ((i : ℕ) × IsHome (length new.arrays.linked) n i × (33 ≤ length (pairs_in (bucket_at old.arrays.linked i)))
-          × (bucket_at new.arrays.linked i ≡ bucket_at old.arrays.linked i) × (length new.arrays.linked ≡ length old.arrays.linked))
+          × (length new.arrays.linked ≡ length old.arrays.linked))
       from_source (index, home, wants) =
           let i = wants.index in
           let run = refused.prepared.units.stands (omega (arith, wants.within)) in
@@ -205,11 +224,7 @@ module _ {K V H : Type 0} (kind : ℕ) (hash_of : H → K → ℕ) (key : K) (n 
                         subst (λ (k : ℕ). length (pairs_in (bucket_at old.arrays.linked k)) ≤ 32) same less;
                   }))
                 ] in
-                let still : bucket_at new.arrays.linked i ≡ bucket_at old.arrays.linked i = elim (run.spent i) [
-                  | inl same ↦ same
-                  | inr spent ↦ absurd (false≢true (sym wants.alive ∙ spent.0))
-                ] in
-                inr (i, old_home index i home wants.within wants.one (omega (arith, longer, len, run.len)), many, still, run.len)
+                inr (i, old_home index i home wants.within wants.one (omega (arith, longer, len, run.len)), many, run.len)
           ]
 
   -- no bucket was found
@@ -217,8 +232,7 @@ module _ {K V H : Type 0} (kind : ℕ) (hash_of : H → K → ℕ) (key : K) (n 
   none_found refused = elim (old_full refused) [
     | inl (inl none) ↦ inl (inl (omega (arith, none)))
     | inl (inr shorter) ↦ inl (inr (omega (arith, shorter)))
-    | inr (i, home, many, still, len) ↦ inr (before_on 33 Old i (length old.arrays.linked) refused.prepared.map len home
-        (subst (λ (b : BucketView K V). 33 ≤ length (pairs_in b)) (sym still) many))
+    | inr (i, home, many, len) ↦ inr (in_old 33 i (subst (λ (l : ℕ). IsHome l n i) len home) refused.prepared.map many)
   ]
 
   pub none_found_room : IsRefused kind n old new → LacksRoom hash_of key (map_of old)

@@ -6,6 +6,7 @@ use Rattle.std.specs.List.{IsDistinct}
 use Rattle.std.specs.Map.{keys_of}
 use Rattle.std.specs.Option.{IfNone, IfSome, option_copied_mut}
 use Rattle.bucket_slots.specs.BucketView.{bucket_with_value}
+use Rattle.bucket_slots.specs.Evicting.{slots_touched}
 use Rattle.bucket_table.specs.Map.Lending.{WritesUnder}
 use Rattle.bucket_table.specs.Map.LookingUp.{IsAbsent, IsThere}
 use Rattle.bucket_table.specs.Map.MapState.{ChangesValue, state_of}
@@ -29,17 +30,17 @@ module _ {K V H : Type 0} (eq : K → K → Bool) (laws : IsEquivalence eq) (kin
       (p ∷ changed.rest) changed.before distinct))
 
   -- what is written through the loan
-  pub lent_replaces : (hash : ℕ) (loan : Option (MutBor V)) (s : TableView K V H) (v : V)
-      → IfSome loan (λ lent. WritesUnder wants kind hash t lent.now v s)
+  pub lent_replaces : (touches : Bool) (hash : ℕ) (loan : Option (MutBor V)) (s : TableView K V H) (v : V)
+      → IfSome loan (λ lent. WritesUnder touches wants kind hash t lent.now v s)
       → IfSome loan (λ lent. (own : K) × Replaces eq (map_of t) wants (own, lent.now) v (map_of s) × KeepsSlots (map_of t) (map_of s))
-  lent_replaces hash None s v wrote = tt
-  lent_replaces hash (Some lent) s v wrote =
+  lent_replaces touches hash None s v wrote = tt
+  lent_replaces touches hash (Some lent) s v wrote =
       let own = wrote.map.0 in
       let changed = wrote.map.2 in
       let after = distinct_changed s (own, lent.now) v changed in (
         own,
         replaces eq laws kind t s distinct after wants alike (own, lent.now) v wrote.map.1 changed,
-        changed_keeps kind hash t s wants (λ bucket at. bucket_with_value bucket at v) true wrote.arrays,
+        changed_keeps kind hash t s wants (λ bucket at. bucket_with_value (slots_touched touches bucket at) at v) true wrote.arrays,
       )
 
   -- what is lent

@@ -13,11 +13,12 @@ use Rattle.std.proofs.lemmas.List.Elements.{AllZip-push}
 use Rattle.std.proofs.lemmas.List.Folds.{list_any-append}
 use Rattle.std.proofs.lemmas.Map.Views.{any-filter_same}
 use Rattle.collections.specs.Clones.{IsClonedKey, JoinsClones, PutsClones, PutsClonesFrom, PutsKeyClone}
-use Rattle.collections.specs.Collecting.{empty_map}
+use Rattle.collections.specs.Changes.{Stays}
+use Rattle.collections.specs.Collecting.{PutsKeys, empty_map}
 use Rattle.collections.specs.Keys.{keys_of_either, keys_of_one, keys_outside, keys_within}
 use Rattle.collections.specs.Maps.{IsUnique, MapView, contains}
 use Rattle.collections.proofs.Lookups.{lookup_same}
-use Rattle.collections.proofs.SetCollecting.{no_key_put, one_more_key}
+use Rattle.collections.proofs.SetCollecting.{no_key_put, one_more_key, stays_then_keys}
 
 -- what an iterator over lent items of a list gave, all of it
 drained : {S A : Type 0} (rest : S → List A) (s : S) (lent : List (Bor A)) → Drains (YieldsFirstRef rest) s lent
@@ -103,17 +104,21 @@ module _ {K H : Type 0} (eq : K → K → Bool) (laws : IsEquivalence eq) (IsKey
 
   module _ (IsHasher : H → H → Type 0) (own other first made : MapView K (Unit {0}) H) (empty : first ≡ empty_map first.hasher)
       (hasher : IsHasher own.hasher first.hasher) where
-    -- a set that was empty, into which clones of all keys of an iterator were put
-    pub joined : {S : Type 0} (rest : S → List K) (s : S) (keys : List K) (joins : Bool → Bool → Bool) → rest s ≡ keys
+    -- a set that was empty, in which room was made, and into which clones of all keys of an iterator were put
+    pub joined : {S : Type 0} (ready : MapView K (Unit {0}) H) → Stays eq first ready → (rest : S → List K) (s : S) (keys : List K)
+        (joins : Bool → Bool → Bool) → rest s ≡ keys
         → ((q : K) → list_any (eq q) keys ≡ joins (contains eq own q) (contains eq other q))
-        → PutsClonesFrom eq IsKey (YieldsFirstRef rest) s first made → JoinsClones eq IsKey IsHasher own other keys joins made
-    joined rest s keys joins is any (lent, drains, put) =
+        → PutsClonesFrom eq IsKey (YieldsFirstRef rest) s ready made → JoinsClones eq IsKey IsHasher own other keys joins made
+    joined ready stays rest s keys joins is any (lent, drains, put) =
         let all : map (λ (k : Bor K). k.now) lent ≡ keys = drained rest s lent drains ∙ is in
-        let kept : made.hasher ≡ first.hasher = put.puts.kept.hasher in
+        let puts = stays_then_keys eq laws first ready made put.clones stays put.puts in
+        let kept : made.hasher ≡ first.hasher = puts.kept.hasher in
         let begun : first ≡ empty_map made.hasher = empty ∙ ap (λ h. empty_map h) (sym kept) in
-        let into : PutsClones eq IsKey (empty_map made.hasher) keys made =
-        subst (λ l. PutsClones eq IsKey (empty_map made.hasher) l made) all
-        (subst (λ m. PutsClones eq IsKey m (map (λ (k : Bor K). k.now) lent) made) begun put) in
+        let into : PutsClones eq IsKey (empty_map made.hasher) keys made = record {
+          clones = put.clones;
+          one_each = subst (λ l. AllZip (IsClonedKey eq IsKey) l put.clones) all put.one_each;
+          puts = subst (λ m. PutsKeys eq m put.clones made) begun puts;
+        } in
         record {
           puts = into;
           has = λ q. into.puts.has q ∙ any_clone eq laws IsKey q keys into.clones into.one_each ∙ any q;

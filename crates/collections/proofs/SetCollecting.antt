@@ -3,7 +3,7 @@ use Rattle.std.proofs.Common.{◌≡◌, ◌||◌, Bool, true, false, cond, Opti
 use Rattle.std.proofs.Common.{refl, sym, ap, subst, ◌∙◌}
 use Rattle.std.specs.Prelude.{MatchBool, Ok, ◌^◌}
 use Rattle.std.specs.Cmp.{IsEquivalence}
-use Rattle.std.specs.List.{list_any}
+use Rattle.std.specs.List.{FoldsTo, list_any}
 use Rattle.std.proofs.lemmas.List.Folds.{list_any-append}
 use Rattle.std.proofs.slice.Lists.{chained_more}
 use Rattle.collections.specs.Changes.{Adds, Keeps, Stays}
@@ -115,10 +115,29 @@ module _ {K H : Type 0} (eq : K → K → Bool) (laws : IsEquivalence eq) where
     kept = keeps_then eq old mid new puts.kept stays.kept;
   }
 
-  -- a set of which no more is said than that it was made empty
-  pub keys_into_new : (first made : MapView K (Unit {0}) H) (keys : List K) → IsEmpty first → first.minimum ≡ 0 → first.maximum ≡ 2 ^ 63
-      → (first.slots ≡ 0) × (first.old_slots ≡ 0) → first.bucket_lens ≡ [] → PutsKeys eq first keys made
-      → PutsKeys eq (empty_map made.hasher) keys made
-  keys_into_new first made keys empty minimum maximum slots buckets puts =
-      subst (λ (h : H). PutsKeys eq (empty_map h) keys made) (sym puts.kept.hasher)
-      (subst (λ m. PutsKeys eq m keys made) (new_is first empty minimum maximum slots buckets) puts)
+  -- a set moved its keys, and then some were inserted
+  pub stays_then_keys : (old mid new : MapView K (Unit {0}) H) (keys : List K) → Stays eq old mid → PutsKeys eq mid keys new
+      → PutsKeys eq old keys new
+  stays_then_keys old mid new keys stays puts =
+      let turn = from_before keys puts.between puts.stays puts.in_turn in
+      record {
+        between = turn.0;
+        in_turn = turn.1;
+        stays = turn.2;
+        has = λ q. puts.has q ∙ ap (λ (o : Option (Unit {0})). is_some o || list_any (eq q) keys) (stays.gets q);
+        kept = keeps_then eq old mid new stays.kept puts.kept;
+      }
+    where
+      from_before : (keys : List K) (between : MapView K (Unit {0}) H) → Stays eq between new → FoldsTo (PutsKey eq) mid keys between
+          → (b : MapView K (Unit {0}) H) × FoldsTo (PutsKey eq) old keys b × Stays eq b new
+      from_before [] between last is = (old, refl, stays_after eq old mid new stays (subst (λ m. Stays eq m new) (sym is) last))
+      from_before (k ∷ ks) between last went = (between, (went.0, put_after old mid went.0 stays k went.1, went.2), last)
+
+  -- a set of which no more is said than that it was made empty, and that room was made in it
+  pub keys_into_new : (first ready made : MapView K (Unit {0}) H) (keys : List K) → IsEmpty first → first.minimum ≡ 0
+      → first.maximum ≡ 2 ^ 63 → (first.slots ≡ 0) × (first.old_slots ≡ 0) → first.bucket_lens ≡ [] → Stays eq first ready
+      → PutsKeys eq ready keys made → PutsKeys eq (empty_map made.hasher) keys made
+  keys_into_new first ready made keys empty minimum maximum slots buckets stays puts =
+      let all = stays_then_keys first ready made keys stays puts in
+      subst (λ (h : H). PutsKeys eq (empty_map h) keys made) (sym all.kept.hasher)
+      (subst (λ m. PutsKeys eq m keys made) (new_is first empty minimum maximum slots buckets) all)

@@ -33,7 +33,7 @@ use Rattle.bucket_table.specs.declared.hash_table.NotInserted.TheVariants.{Memor
 use Rattle.bucket_table.proofs.Map.MapKept.{hasher_kept}
 use Rattle.bucket_table.proofs.Moves.MovingPairs.{homed-permutation, homed_here}
 use Rattle.collections.specs.Changes.{Stays}
-use Rattle.collections.specs.Crowding.{HasAtHome, LacksBucket}
+use Rattle.collections.specs.Crowding.{HasAtHome}
 use Rattle.collections.specs.Maps.{MapView, map_of}
 use Rattle.collections.specs.Slots.{ChangesSlots, GrowsSlots, KeepsSlots, LosesSlots, MakesSlots, ShrinksSlots}
 use Rattle.collections.proofs.Crowding.{at_home, ready_len}
@@ -329,27 +329,6 @@ module _ {K V H : Type 0} (hash_of : H → K → ℕ) (key : K) where
 -- as many slots, and as many old ones
 pub slots_same : {K V H : Type 0} (old new : MapView K V H) → new.slots ≡ old.slots → new.old_slots ≡ old.old_slots → KeepsSlots old new
 slots_same old new slots old_slots = record { slots = slots; old_slots = inl old_slots }
-
--- a call that keeps the slots leaves a bucket as hard to find
-pub lacks_before : {K V H : Type 0} (eq : K → K → Bool) (hash_of : H → K → ℕ) (key : K) (old new : MapView K V H) → Stays eq old new
-    → KeepsSlots old new → LacksBucket hash_of key new → LacksBucket hash_of key old
-lacks_before {K} {V} {H} eq hash_of key old new stays keeps lacks = elim lacks [
-  | inl (inl none) ↦ inl (inl (omega (arith, none, keeps.slots)))
-  | inl (inr fewer) ↦ elim keeps.old_slots [
-    | inl same ↦ inl (inr (omega (arith, fewer, same, keeps.slots)))
-    | inr gone ↦ absurd (omega (arith, fewer, gone))
-  ]
-  | inr many ↦ elim keeps.old_slots [
-    | inl same ↦
-        let there = rw (same, stays.kept.hasher) at many in
-        inr (
-          there.0,
-          rw (← homed-permutation (hash_of old.hasher) (old.old_slots / 32) (home_of (old.old_slots / 32) (hash_of old.hasher key))
-              old.entries new.entries stays.entries) there.1,
-        )
-    | inr gone ↦ absurd (omega (arith, many.0, gone))
-  ]
-]
 
 module _ {K V H : Type 0} (hash_of : H → K → ℕ) (key : K) (old new : TableView K V H) (placed : ArePlaced (hash_of new.hasher) new.arrays)
     (beside : 0 < length new.arrays.linked → 0 < length new.arrays.current) where

@@ -3,12 +3,14 @@ use Rattle.std.proofs.Common.{ℕ, ◌≡◌, Bool, true, false, Some, None, ref
 use Rattle.std.specs.Cmp.{IsEquivalence}
 use Rattle.std.specs.List.{IsDistinct}
 use Rattle.std.specs.Map.{keys_of}
-use Rattle.std.proofs.lemmas.List.Sorted.{All-permutation, IsPermutation-sym}
+use Rattle.std.proofs.lemmas.List.Sorted.{All-permutation, IsPermutation-sym, IsPermutation-trans}
+use Rattle.std.proofs.lemmas.Option.{same_Some}
+use Rattle.bucket_slots.proofs.CallerLemmas.{bucket_with_value-same}
 use Rattle.bucket_slots.specs.BucketView.{BucketView, Place, bucket_with_value, slot_in}
 use Rattle.bucket_slots.specs.Evicting.{slots_touched}
 use Rattle.bucket_slots.specs.Slots.{live_pair}
 use Rattle.bucket_table.specs.Map.ByKey.{ChangesPlace, PreparesThen, StandsAt}
-use Rattle.bucket_table.specs.Map.Lending.{with_value}
+use Rattle.bucket_table.specs.Map.Lending.{WritesUnder, with_value}
 use Rattle.bucket_table.specs.Map.LookingUp.{IsAbsent, IsThere}
 use Rattle.bucket_table.specs.Map.MapState.{ChangesValue, KeepsPairs, state_of}
 use Rattle.bucket_table.specs.Map.Preparing.{IsPrepared}
@@ -42,15 +44,6 @@ module _ {K V H : Type 0} (eq : K → K → Bool) (laws : IsEquivalence eq) (t b
     -- no pair is there to touch
     pub untouched : IsPrepared 67 hash t b → IsTouched eq wants false t b
     untouched prepared = record { map = kept; between = b; carried = prepared.kept; alone = prepared.alone; touched = refl }
-
-    -- nor is one lent
-    pub unwritten : IsPrepared 67 hash t b → IsAbsent wants (pairs_of b.arrays)
-        → (get_by wants (map_of t) ≡ None) × Stays eq (map_of t) (map_of b) × IsWritten true wants eq false t b
-    unwritten prepared absent = (
-      missed absent,
-      kept,
-      record { between = b; map = kept; carried = prepared.kept; alone = prepared.alone; written = refl },
-    )
 
     module _ (side : Side) (index : ℕ) (at : Place)
         (moved : PreparesThen 67 hash t (λ between. ChangesPlace wants (slots_touched true) side index at between b))
@@ -102,3 +95,30 @@ module _ {K V H : Type 0} (eq : K → K → Bool) (laws : IsEquivalence eq) (t b
               (put_there moved.between.arrays side index touched_bucket moved.done.0.within)
               ∙ ap (λ arrays. record { hasher = moved.between.hasher; arrays = arrays })
               (set_again moved.between.arrays side index touched_bucket (bucket_with_value touched_bucket at v))
+
+module _ {K V H : Type 0} (eq : K → K → Bool) (laws : IsEquivalence eq) (t s : TableView K V H)
+    (distinct : IsDistinct eq (keys_of (pairs_of t.arrays))) (wants : K → Bool) (alike : IsForm eq wants) (hash : ℕ) where
+  -- where the value that was lent is written again, its pair was touched and nothing else
+  pub read_touched : (own : K) (value : V) → IsThere wants (pairs_of t.arrays) (own, value) → WritesUnder true wants 67 hash t value value s
+      → IsTouched eq wants true t s
+  read_touched own value there wrote =
+      let (side, index, at, stands, is) = wrote.arrays.done in
+      let between = wrote.arrays.between in
+      let prepared = wrote.arrays.prepared in
+      let left = slots_touched true (bucket_on between.arrays side index) at in
+      let changed = wrote.map.2 in
+      let kept : KeepsPairs (state_of 67 t) (state_of 67 s) =
+      record { pairs = IsPermutation-trans _ _ _ changed.before changed.after.pairs; others = changed.after.others } in
+      let found = there_before wants (state_of 67 t) (state_of 67 between) stands.pair prepared.map stands.there in
+      let same : stands.pair.1 ≡ value = same_Some stands.pair.1 value
+      (sym (form_there eq laws wants alike (pairs_of t.arrays) stands.pair distinct found.0 found.1)
+      ∙ form_there eq laws wants alike (pairs_of t.arrays) (own, value) distinct there.0 there.1) in
+      let again : bucket_with_value left at value ≡ left =
+      ap (λ v. bucket_with_value left at v) (sym same) ∙ bucket_with_value-same left at stands.pair stands.slot in
+      record {
+        map = stays eq laws 67 t s distinct (distinct_permuted eq laws (pairs_of t.arrays) (pairs_of s.arrays) kept.pairs distinct) kept;
+        between = between;
+        carried = prepared.kept;
+        alone = prepared.alone;
+        touched = (side, index, at, stands, is ∙ ap (λ c. with_bucket between side index c) again);
+      }

@@ -23,33 +23,40 @@ module _ {K V H : Type 0} (eq : K → K → Bool) (laws : IsEquivalence eq) (t s
   wrote_place true b wrote = wrote
   wrote_place false b same = same
 
-  pub written : (r : Bool) → PreparesThen 67 hash t (λ between. WritesAt wants r between s) → IsWritten false wants eq r t s
-  written r moved = record {
+  placed : (touches r : Bool) → PreparesThen 67 hash t (λ between. WritesPlace touches wants r between s) → IsWritten touches wants eq r t s
+  placed touches r moved = record {
     between = moved.between;
     map = stays eq laws 67 t moved.between distinct (distinct_permuted eq laws (pairs_of t.arrays) (pairs_of moved.between.arrays)
         moved.prepared.map.pairs distinct) moved.prepared.map;
     carried = moved.prepared.kept;
     alone = moved.prepared.alone;
-    written = wrote_place r moved.between moved.done;
+    written = moved.done;
   }
 
-  -- what is written through a loan
-  pub lent_written : (loan : Option (MutBor V)) (v : V) → IfSome loan (λ lent. WritesUnder wants 67 hash t lent.now v s)
-      → IfSome loan (λ lent. ((own : K) × Replaces eq (map_of t) wants (own, lent.now) v (map_of s)) × IsWritten false wants eq true t s)
-  lent_written None v wrote = tt
-  lent_written (Some lent) v wrote = (
-    (let both = lent_replaces eq laws 67 t distinct wants alike hash (Some lent) s v wrote in (both.0, both.1)),
-    written true (record { between = wrote.arrays.between; prepared = wrote.arrays.prepared; done = (v, wrote.arrays.done) }),
-  )
+  pub written : (r : Bool) → PreparesThen 67 hash t (λ between. WritesAt wants r between s) → IsWritten false wants eq r t s
+  written r moved =
+      let done = wrote_place r moved.between moved.done in
+      placed false r (record { between = moved.between; prepared = moved.prepared; done = done })
 
-  -- where nothing is lent
-  pub lent_unwritten : (loan : Option (MutBor V)) → IfNone loan (IsPrepared 67 hash t s)
-      → IfNone loan (IsAbsent wants (pairs_of t.arrays))
-      → IfNone loan ((get_by wants (map_of t) ≡ None) × Stays eq (map_of t) (map_of s) × IsWritten false wants eq false t s)
-  lent_unwritten (Some lent) prepared absent = tt
-  lent_unwritten None prepared absent =
-      let none = lent_none eq laws 67 t distinct wants alike hash None s prepared absent in (
-        none.0,
-        none.1,
-        record { between = s; map = none.1; carried = prepared.kept; alone = prepared.alone; written = refl },
-      )
+  module _ (touches : Bool) where
+    -- what is written through a loan
+    pub lent_written : (loan : Option (MutBor V)) (v : V) → IfSome loan (λ lent. WritesUnder touches wants 67 hash t lent.now v s)
+        → IfSome loan (λ lent. ((own : K) × Replaces eq (map_of t) wants (own, lent.now) v (map_of s))
+        × IsWritten touches wants eq true t s)
+    lent_written None v wrote = tt
+    lent_written (Some lent) v wrote = (
+      (let both = lent_replaces eq laws 67 t distinct wants alike touches hash (Some lent) s v wrote in (both.0, both.1)),
+      placed touches true (record { between = wrote.arrays.between; prepared = wrote.arrays.prepared; done = (v, wrote.arrays.done) }),
+    )
+
+    -- where nothing is lent
+    pub lent_unwritten : (loan : Option (MutBor V)) → IfNone loan (IsPrepared 67 hash t s)
+        → IfNone loan (IsAbsent wants (pairs_of t.arrays))
+        → IfNone loan ((get_by wants (map_of t) ≡ None) × Stays eq (map_of t) (map_of s) × IsWritten touches wants eq false t s)
+    lent_unwritten (Some lent) prepared absent = tt
+    lent_unwritten None prepared absent =
+        let none = lent_none eq laws 67 t distinct wants alike hash None s prepared absent in (
+          none.0,
+          none.1,
+          record { between = s; map = none.1; carried = prepared.kept; alone = prepared.alone; written = refl },
+        )

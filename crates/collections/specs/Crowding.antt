@@ -1,5 +1,5 @@
 -- When an insertion may fail to allocate.
-use Rattle.std.specs.Prelude.{ℕ, ◌+◌, ◌/◌, ◌<◌, ◌≤◌, ◌≡◌, ◌⊎◌, Bool, List, filter, length}
+use Rattle.std.specs.Prelude.{ℕ, ◌+◌, ◌/◌, ◌<◌, ◌≤◌, ◌≡◌, ◌⊎◌, Bool, List, filter, length, slice_index_or}
 use Rattle.bucket_slots.specs.ArrayView.{bucket_at}
 use Rattle.bucket_slots.specs.BucketLaws.{IsBucketOf}
 use Rattle.bucket_slots.specs.BucketView.{BucketView, marks_in, pairs_in}
@@ -15,11 +15,15 @@ use Rattle.collections.specs.Maps.{MapView, map_of}
 abbrev pub HasAtHome : {K V : Type 0} → ℕ → (K → ℕ) → K → ℕ → List (K × V) → Type 0
 HasAtHome count hash key slots pairs = (0 < slots) × (count ≤ homed_len hash (slots / 32) (home_of (slots / 32) (hash key)) pairs)
 
--- finding a bucket for a key may fail to allocate: the map has no slots, or moves to fewer slots than it had, or the key's old bucket was
--- the home of more pairs than it has slots
+-- among the old slots, the bucket of a key has so many pairs, at least
+abbrev pub HasInOld : {K V H : Type 0} → ℕ → (K → ℕ) → K → MapView K V H → Type 0
+HasInOld count hash key map = (0 < map.old_slots)
+    × (count ≤ slice_index_or map.bucket_lens (map.slots / 32 + home_of (map.old_slots / 32) (hash key)) 0)
+
+-- finding a bucket for a key may fail to allocate: the map has no slots, or moves to fewer slots than it had, or the key's old bucket has
+-- more pairs than own slots
 abbrev pub LacksBucket : {K V H : Type 0} → (H → K → ℕ) → K → MapView K V H → Type 0
-LacksBucket hash_of key map = ((map.slots ≡ 0) ⊎ (map.slots < map.old_slots))
-    ⊎ HasAtHome 33 (hash_of map.hasher) key map.old_slots map.entries
+LacksBucket hash_of key map = ((map.slots ≡ 0) ⊎ (map.slots < map.old_slots)) ⊎ HasInOld 33 (hash_of map.hasher) key map
 
 -- so may inserting a key, or its bucket is the home of as many pairs as it has slots; a caller that needs this definition unfolds it, since
 -- an automatic search would otherwise go through all of it

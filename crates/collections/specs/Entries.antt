@@ -5,6 +5,7 @@ use Rattle.std.specs.declared.cmp.PartialEq as equals
 use Rattle.bucket_table.specs.declared.key_hash.KeyHash as key_hash
 use Rattle.collections.specs.Maps.{MapView}
 use Rattle.collections.specs.Changes.{Replaces}
+use Rattle.collections.specs.Slots.{KeepsSlots}
 use Rattle.collections.specs.declared.hash_map.entry.Entry.{Entry}
 use Rattle.collections.specs.declared.hash_map.entry.Entry.TheVariants.{Occupied, Vacant}
 
@@ -24,8 +25,10 @@ module _ {K V H : Type 0} {equal : equals.Ghosts K} {hashing : key_hash.Ghosts H
   is_occupied (Occupied entry) = true
   is_occupied (Vacant entry) = false
 
-  -- if the map has the key, its value is what a call leaves; else the map is as it was
+  -- if the map has the key, its value is what a call leaves, and the slots stay; else the map is as it was
   abbrev pub Modifies : (K → K → Bool) → (MutBor V → MutBor V → Type 0) → Entry K V H equal hashing → MapView K V H → Type 0
   Modifies eq changes (Occupied entry) new =
-      (own : K) × (before after : MutBor V) × changes before after × Replaces eq entry.map.now (eq entry.key) (own, before.now) after.now new
+      ((own : K) × (before after : MutBor V) × changes before after
+      × Replaces eq entry.map.now (eq entry.key) (own, before.now) after.now new)
+      × KeepsSlots entry.map.now new
   Modifies eq changes (Vacant entry) new = new ≡ entry.map.now

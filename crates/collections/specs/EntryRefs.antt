@@ -5,6 +5,7 @@ use Rattle.std.specs.declared.cmp.PartialEq as equals
 use Rattle.bucket_table.specs.declared.key_hash.KeyHash as key_hash
 use Rattle.collections.specs.Maps.{MapView}
 use Rattle.collections.specs.Changes.{Replaces}
+use Rattle.collections.specs.Slots.{KeepsSlots}
 use Rattle.collections.specs.declared.key_form.KeyForm as key_form
 use Rattle.collections.specs.declared.hash_map.entry.by_form.EntryRef.{EntryRef}
 use Rattle.collections.specs.declared.hash_map.entry.by_form.EntryRef.TheVariants.{Occupied, Vacant}
@@ -25,9 +26,10 @@ module _ {K V H Q : Type 0} {equal : equals.Ghosts K} {hashing : key_hash.Ghosts
   is_ref_occupied (Occupied entry) = true
   is_ref_occupied (Vacant entry) = false
 
-  -- if the map has such a key, its value is what a call leaves; else the map is as it was
+  -- if the map has such a key, its value is what a call leaves, and the slots stay; else the map is as it was
   abbrev pub ModifiesRef : (K → K → Bool) → (Q → K → Bool) → (MutBor V → MutBor V → Type 0) → EntryRef K V H Q equal hashing form
       → MapView K V H → Type 0
-  ModifiesRef eq stands_for changes (Occupied entry) new = (own : K) × (before after : MutBor V) × changes before after
-      × Replaces eq entry.map.now (stands_for entry.form) (own, before.now) after.now new
+  ModifiesRef eq stands_for changes (Occupied entry) new = ((own : K) × (before after : MutBor V) × changes before after
+      × Replaces eq entry.map.now (stands_for entry.form) (own, before.now) after.now new)
+      × KeepsSlots entry.map.now new
   ModifiesRef eq stands_for changes (Vacant entry) new = new ≡ entry.map.now

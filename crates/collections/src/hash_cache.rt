@@ -4,7 +4,8 @@
 //! `map_of` it, and answers as std's `HashMap` does.
 //!
 //! Ports scc's `src/hash_cache.rs` to an owned cache: a call borrows where scc locks.
-ghost use Rattle.std.specs.Prelude.{◌≤◌, ◌<◌, ◌≡◌, ◌↔◌, ◌^◌, ◌*◌, ◌-◌, ◌++◌, [], Err, IsTrue, is_some, length, max, min};
+ghost use Rattle.std.specs.Prelude.{◌≤◌, ◌<◌, ◌≡◌, ◌↔◌, ◌^◌, ◌*◌, ◌-◌, ◌++◌, [], Err, IsTrue};
+ghost use Rattle.std.specs.Prelude.{is_some, length, max, min};
 ghost use Rattle.std.specs.Borrow.{sem};
 ghost use Rattle.std.specs.Option.{option_copied};
 ghost use Rattle.bucket_slots.specs.Sizing.{IsLeastPowerOfTwo};
@@ -15,7 +16,8 @@ ghost use Rattle.bucket_table.specs.Views.ArraysView.{pairs_of};
 ghost use Rattle.bucket_table.specs.declared.hash_table.NotInserted.TheVariants.{Memory};
 ghost use Rattle.collections.specs.Changes.{Puts, Removes};
 ghost use Rattle.collections.specs.Crowding.{LacksBucket};
-ghost use Rattle.collections.specs.Maps.{contains_by, get_by, IsEmpty, map_len, map_of, pairs_in_bucket};
+ghost use Rattle.collections.specs.Maps.{contains_by, get_by, IsEmpty, map_len, map_of};
+ghost use Rattle.collections.specs.Maps.{pairs_in_bucket};
 
 mod changing;
 mod draining;
@@ -249,10 +251,10 @@ impl<K: Eq + Drop, V: Drop, H: KeyHash<K>> HashCache<K, V, H> {
         let hash = key.hash_by(self.table.hasher());
         match self
             .table
-            .touch_place(hash, &mut FormProbe::<Q, H>::new(key))
+            .touch_mut_by(hash, &mut FormProbe::<Q, H>::new(key))
         {
-            Ok(spot) => Some(self.table.entry_at(&spot).1),
-            Err(_) => None,
+            Some(value) => Some(value),
+            None => None,
         }
     }
 

@@ -10,7 +10,8 @@
 //!
 //! Ports scc's `src/hash_index.rs` to an owned index: the caller passes a generation where scc asks
 //! its collector.
-ghost use Rattle.std.specs.Prelude.{◌≡◌, ◌<◌, ◌↔◌, ◌-◌, ◌*◌, ◌^◌, [], Err, IsTrue, is_some, length, min};
+ghost use Rattle.std.specs.Prelude.{◌≡◌, ◌<◌, ◌↔◌, ◌-◌, ◌*◌, ◌^◌, [], Err, IsTrue, is_some, length};
+ghost use Rattle.std.specs.Prelude.{min};
 ghost use Rattle.std.specs.Option.{option_copied};
 ghost use Rattle.std.specs.Borrow.{Bor};
 ghost use Rattle.bucket_slots.specs.Marking.{HasNoNewMark, MarksBy};
@@ -21,7 +22,8 @@ ghost use Rattle.bucket_table.specs.Views.ArraysView.{marks_of, pairs_of};
 ghost use Rattle.bucket_table.specs.declared.hash_table.NotInserted.TheVariants.{Memory};
 ghost use Rattle.collections.specs.Changes.{Inserts, ReadsOut, Reserves, Stays, TakesOut};
 ghost use Rattle.collections.specs.Crowding.{LacksSlots};
-ghost use Rattle.collections.specs.Maps.{contains_by, get_by, IsEmpty, map_len, map_of, pairs_in_bucket};
+ghost use Rattle.collections.specs.Maps.{contains_by, get_by, IsEmpty, map_len, map_of};
+ghost use Rattle.collections.specs.Maps.{pairs_in_bucket};
 ghost use Rattle.collections.specs.Marks.{KeepsMarks, LosesNoKeptMark, MarksRemoved};
 ghost use Rattle.collections.specs.Slots.{GrowsSlots, LosesSlots};
 

@@ -5,7 +5,8 @@
 //! pairs.
 //!
 //! Ports scc's `src/hash_map.rs` to an owned map: a call borrows where scc locks.
-ghost use Rattle.std.specs.Prelude.{◌≡◌, ◌<◌, ◌↔◌, ◌-◌, ◌^◌, [], Err, IsTrue, OnErr, is_some, length, min};
+ghost use Rattle.std.specs.Prelude.{◌≡◌, ◌<◌, ◌↔◌, ◌-◌, ◌^◌, [], Err, IsTrue, OnErr, is_some};
+ghost use Rattle.std.specs.Prelude.{length, min};
 ghost use Rattle.std.specs.Option.{option_copied};
 ghost use Rattle.std.specs.Borrow.{Bor, MutBor};
 ghost use Rattle.bucket_slots.specs.Walking.{CallsEach};

@@ -3,7 +3,8 @@
 //! A bucket's size depends on its type parameters, so generic code that takes one out of a vector
 //! has to prove that it takes fewer than 2^63 bytes. A slice of the vector implies it, so callers
 //! need no premise.
-ghost use Rattle.std.specs.Prelude.{◌≡◌, ◌<◌, ◌%◌, None, length, slice_set, slice_index_or, OnOk, OnErr, IfErr, IfOk};
+ghost use Rattle.std.specs.Prelude.{◌≡◌, ◌<◌, ◌%◌, None, length, slice_set, slice_index_or, OnOk};
+ghost use Rattle.std.specs.Prelude.{OnErr, IfErr, IfOk};
 ghost use Rattle.bucket_slots.specs.BucketView.{empty_bucket, first_place, pairs_in};
 ghost use Rattle.bucket_slots.specs.Clearing.{slots_after_insertion, slots_for_insertion};
 ghost use Rattle.bucket_slots.specs.Placing.{place_for_next};

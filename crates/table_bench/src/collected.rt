@@ -40,6 +40,15 @@ impl Measured for Collected {
     }
 
     #[inline(never)]
+    fn iterated(&self) -> u64 {
+        let mut sum: u64 = 0;
+        for (_, value) in self.iter() {
+            sum = sum.wrapping_add(*value);
+        }
+        sum
+    }
+
+    #[inline(never)]
     fn drop_odd(&mut self) -> u64 {
         let before = self.len();
         let mut keep = |_key: &u64, value: &mut u64| -> bool { *value % 2 == 0 };

@@ -65,6 +65,10 @@ fn run_ends<M: Measured>(
     print_time(rt, wants_times, "walk", start, pairs)?;
     require(sum == sum_between(pairs, twice))?;
     let start = Instant::now(rt)?;
+    let sum = map.iterated();
+    print_time(rt, wants_times, "iter", start, pairs)?;
+    require(sum == sum_between(pairs, twice))?;
+    let start = Instant::now(rt)?;
     require(remove_all(map, pairs, twice) == pairs)?;
     print_time(rt, wants_times, "remove", start, pairs)?;
     require(insert_all(map, 0, pairs) == pairs)?;
@@ -73,7 +77,8 @@ fn run_ends<M: Measured>(
     print_time(rt, wants_times, "sweep", start, pairs)
 }
 
-/// Prints what an insertion costs in a map that was large enough from the start.
+/// Prints what an insertion costs in a map that was large enough from the start, and then a removal,
+/// where the map keeps its size.
 pub(crate) fn run_large<M: Measured>(
     rt: &HostRuntime,
     wants_times: bool,
@@ -82,7 +87,10 @@ pub(crate) fn run_large<M: Measured>(
     let mut map = M::with_room(rt.alloc(), pairs)?;
     let start = Instant::now(rt)?;
     require(insert_all(&mut map, 0, pairs) == pairs)?;
-    print_time(rt, wants_times, "large", start, pairs)
+    print_time(rt, wants_times, "large", start, pairs)?;
+    let start = Instant::now(rt)?;
+    require(remove_all(&mut map, 0, pairs) == pairs)?;
+    print_time(rt, wants_times, "emptied", start, pairs)
 }
 
 /// Prints how long single insertions took in a map that grows to so many pairs: the longest, the

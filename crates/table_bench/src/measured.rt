@@ -25,6 +25,9 @@ pub(crate) trait Measured: Drop {
     /// Returns the sum of all values, wrapping.
     fn sum(&mut self) -> u64;
 
+    /// Returns that sum by the map's iterator.
+    fn iterated(&self) -> u64;
+
     /// Removes each odd key, and returns how many were removed.
     fn drop_odd(&mut self) -> u64;
 }
@@ -70,6 +73,15 @@ impl Measured for Table {
     }
 
     #[inline(never)]
+    fn iterated(&self) -> u64 {
+        let mut sum: u64 = 0;
+        for (_, value) in self.pairs() {
+            sum = sum.wrapping_add(*value);
+        }
+        sum
+    }
+
+    #[inline(never)]
     fn drop_odd(&mut self) -> u64 {
         match self.sweep(&|_key: &u64, value: &u64| -> bool { value % 2 == 0 }, &()) {
             Ok(count) => count as u64,
@@ -111,6 +123,15 @@ impl Measured for Map {
 
     #[inline(never)]
     fn sum(&mut self) -> u64 {
+        let mut sum: u64 = 0;
+        for (_, value) in self.iter() {
+            sum = sum.wrapping_add(*value);
+        }
+        sum
+    }
+
+    #[inline(never)]
+    fn iterated(&self) -> u64 {
         let mut sum: u64 = 0;
         for (_, value) in self.iter() {
             sum = sum.wrapping_add(*value);

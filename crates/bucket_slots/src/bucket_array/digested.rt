@@ -12,7 +12,7 @@ ghost use Rattle.bucket_slots.specs.Slots.{is_live, live_pair};
 
 use super::digests::{Digests, is_lost};
 use super::known::{find_in, known_in, peek_in};
-use super::parts::{bucket_in, place_in};
+use super::parts::{bucket_in, made_bucket_in, place_in};
 use super::{BucketArray, sizing};
 use crate::bucket::{CACHE, EntryPtr, KeyProbe};
 use crate::lru::LruList;
@@ -20,7 +20,7 @@ use std::alloc::Global;
 use std::mem;
 
 impl<K, V, L: LruList, const TYPE: u8> BucketArray<K, V, L, TYPE> {
-    ghost use Rattle.bucket_slots.specs.ArrayLoans.{LendsEntryOf};
+    ghost use Rattle.bucket_slots.specs.ArrayLoans.{LendsEntryOf, LendsTouchedOf};
 
     /// Returns what `Bucket::peek_entry_by` returns.
     ///
@@ -145,6 +145,7 @@ impl<K, V, L: LruList, const TYPE: u8> BucketArray<K, V, L, TYPE> {
     /// Makes the pair in a live slot the one touched last in its bucket. The digest stays.
     ///
     /// Takes no memory. O(1).
+    #[inline(always)]
     pub fn touch(&mut self, index: usize, at: &EntryPtr<K, V, TYPE>)
         requires cache { TYPE ≡ CACHE }
         requires within { index < length self.old }
@@ -163,6 +164,40 @@ impl<K, V, L: LruList, const TYPE: u8> BucketArray<K, V, L, TYPE> {
             index,
         );
         bucket_in(&mut self.parts, part, offset).update_lru_tail(at);
+    }
+
+    /// Makes the pair in a live slot the one touched last in its bucket, and lends it, its value
+    /// for writing. The digest stays.
+    ///
+    /// Takes no memory. O(1), but O(blocks in the chain) for a slot there.
+    #[inline(always)]
+    pub fn touch_entry_mut(&mut self, index: usize, at: &EntryPtr<K, V, TYPE>) -> (&K, &mut V)
+        requires cache { TYPE ≡ CACHE }
+        requires within { index < length self.old }
+        requires live_slot { IsTrue (is_live (slot_in (bucket_at self.old index) at.now)) }
+        ensures* writes_back { sem 𝓛
+            (LendsTouchedOf K.row V.row L.row TYPE.row
+            (record { KEEPS = L.KEEPS; listed = L.listed; IsTail = L.IsTail }) L.Default
+            self.entry index at.now result) }
+        ensures pair { live_pair (slot_in (bucket_at self.old index) at.now)
+            ≡ Some (result.0.now, result.1.now) }
+    {
+        if at.block() != 0 {
+            return self.entry_mut(index, at);
+        }
+        self.room();
+        sizing::below(index, self.len);
+        let (part, offset) = place_in(
+            &self.parts,
+            &self.spare,
+            self.len,
+            self.part_bits,
+            self.part_mask,
+            index,
+        );
+        let bucket = made_bucket_in(&mut self.parts, part, offset);
+        bucket.update_lru_tail(at);
+        bucket.entry_mut(at)
     }
 
     /// Writes a bucket's digest from what the bucket holds. No bucket changes.

@@ -1,12 +1,12 @@
 -- A value beside a wanted key was lent, after its slot was found.
-use Rattle.bucket_table.proofs.Words.{Bool, List, Place, Side, Slot, Some, TableView, live_pair, pairs_of, refl, same_Some, slot_in, subst}
-use Rattle.bucket_table.proofs.Words.{sym, ℕ, ◌∙◌, ◌≡◌}
+use Rattle.bucket_table.proofs.Words.{Bool, List, Place, Side, Slot, Some, TableView, bucket_with_value, live_pair, pairs_of, same_Some}
+use Rattle.bucket_table.proofs.Words.{slot_in, slots_touched, subst, sym, ℕ, ◌∙◌, ◌≡◌}
 use Rattle.bucket_table.specs.Map.ByKey.{StandsAt}
-use Rattle.bucket_table.specs.Map.Lending.{WritesUnder, with_value}
+use Rattle.bucket_table.specs.Map.Lending.{WritesUnder}
 use Rattle.bucket_table.specs.Map.LookingUp.{IsThere}
 use Rattle.bucket_table.specs.Map.MapState.{ChangesValue, state_of}
 use Rattle.bucket_table.specs.Map.Preparing.{IsPrepared}
-use Rattle.bucket_table.specs.Views.Sides.{bucket_on}
+use Rattle.bucket_table.specs.Views.Sides.{bucket_on, with_bucket}
 use Rattle.bucket_table.proofs.Scripts.CallSteps.{then_changed, there_before}
 
 -- the pair in the slot is the one that the search found
@@ -27,16 +27,16 @@ module _ {K V H : Type 0} (wants : K → Bool) (kind hash : ℕ) (old between : 
   pub lent_there : IsThere wants (pairs_of old.arrays) (own, before)
   lent_there = there_before wants (state_of kind old) (state_of kind between) (own, before) prepared.map there
 
-  -- and another value is written there
-  pub lent_writes : (value : V) → ChangesValue (state_of kind between) (own, before) value
-      (state_of kind (with_value between side i at value))
-      → WritesUnder wants kind hash old before value (with_value between side i at value)
-  lent_writes value wrote = record {
+  -- and another value is written there, and the slot is touched where the call touches
+  pub lent_writes : (touches : Bool) (value : V) (new : TableView K V H)
+      → new ≡ with_bucket between side i (bucket_with_value (slots_touched touches (bucket_on between.arrays side i) at) at value)
+      → ChangesValue (state_of kind between) (own, before) value (state_of kind new)
+      → WritesUnder touches wants kind hash old before value new
+  lent_writes touches value new is wrote = record {
     map = (
       own,
       there.1,
-      then_changed (state_of kind old) (state_of kind between) (state_of kind (with_value between side i at value)) (own, before) value
-          prepared.map wrote,
+      then_changed (state_of kind old) (state_of kind between) (state_of kind new) (own, before) value prepared.map wrote,
     );
-    arrays = record { between = between; prepared = prepared; done = (side, i, at, stands, refl) };
+    arrays = record { between = between; prepared = prepared; done = (side, i, at, stands, is) };
   }

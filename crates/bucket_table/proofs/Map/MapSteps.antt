@@ -220,11 +220,11 @@ module _ {K V H : Type 0} {eq : K → K → Bool} (laws : IsEquivalence eq) (has
       leaves _ [] [] b x (All-nil _) (distinct_kept eq laws (pairs_of a) _ one.distinct pairs)
       (record { pairs = pairs; others = state_is kind hasher a side i b })
 
-  -- another value beside one key
-  pub wrote : (p : K × V) (value : V) (at : Place) → live_pair (slot_in was at) ≡ Some p
-      → Leaves (ChangesValue (state a) p value) (bucket_with_value was at value)
-  wrote p value at here =
-      let old = was in
+  -- another value beside one key, whose slot is touched or not
+  pub wrote_touching : (touches : Bool) (p : K × V) (value : V) (at : Place) → live_pair (slot_in was at) ≡ Some p
+      → Leaves (ChangesValue (state a) p value) (bucket_with_value (slots_touched touches was at) at value)
+  wrote_touching touches p value at here =
+      let old = slots_touched touches was at in
       let new = bucket_with_value old at value in
       let r = rewritten old at p value here in
       let pair : (K × V) × ℕ → K × V = λ e. e.0 in
@@ -256,3 +256,7 @@ module _ {K V H : Type 0} {eq : K → K → Bool} (laws : IsEquivalence eq) (has
       laws (pairs_of a) (p ∷ rest) one.distinct before in
       leaves _ (f ∷ []) (e ∷ []) new x (All-cons P f [] own (All-nil P)) (distinct_kept eq laws ((p.0, value) ∷ rest) _ keys after)
       (record { rest = rest; before = before; after = record { pairs = after; others = state_is kind hasher a side i new } })
+
+  pub wrote : (p : K × V) (value : V) (at : Place) → live_pair (slot_in was at) ≡ Some p
+      → Leaves (ChangesValue (state a) p value) (bucket_with_value was at value)
+  wrote = wrote_touching false

@@ -5,7 +5,7 @@ use Rattle.bucket_table.proofs.Words.{slots_marked, slots_touched, slots_without
 use Rattle.bucket_table.specs.Map.MapState.{ChangesValue, TakesPair, state_of}
 use Rattle.bucket_table.proofs.Map.LockedSteps.{taken_through}
 use Rattle.bucket_table.proofs.Map.MapKept.{one_map_kept}
-use Rattle.bucket_table.proofs.Map.MapSteps.{Leaves, marked, removed, touched, wrote}
+use Rattle.bucket_table.proofs.Map.MapSteps.{Leaves, marked, removed, touched, wrote, wrote_touching}
 use Rattle.bucket_table.proofs.Views.Keeping.{keeps_same}
 use Rattle.bucket_table.proofs.Views.SideChanges.{IsChangeable, changeable_holding}
 
@@ -53,3 +53,8 @@ module _ {K V H : Type 0} {eq : K → K → Bool} (laws : IsEquivalence eq) (has
   pub writes : (value : V)
       → Leaves laws hash kind side i one held (ChangesValue (state a) p value) (bucket_with_value (bucket_on a side i) at value)
   writes value = wrote laws hash kind side i one held p value at here
+
+  -- and it was touched or not
+  pub writes_touching : (touches : Bool) (value : V) → Leaves laws hash kind side i one held (ChangesValue (state a) p value)
+      (bucket_with_value (slots_touched touches (bucket_on a side i) at) at value)
+  writes_touching touches value = wrote_touching laws hash kind side i one held touches p value at here

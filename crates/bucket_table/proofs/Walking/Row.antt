@@ -59,6 +59,23 @@ module _ {K V : Type 0} where
     }
   ]
 
+  -- a bucket of the current array stands in the row
+  pub current_in_row : (a : ArraysView K V) (index : ℕ) → index < length a.current
+      → (index < length (row_of a)) × (bucket_at a.current index ≡ bucket_at (row_of a) index)
+  current_in_row a index below = (
+    omega (arith, below, length-append a.current a.linked),
+    sym (get_or_append_left a.current a.linked empty_bucket index below),
+  )
+
+  -- and one of the old array behind them
+  pub old_in_row : (a : ArraysView K V) (index own : ℕ) → own ≡ index - length a.current → length a.current ≤ index
+      → own < length a.linked → (index < length (row_of a)) × (bucket_at a.linked own ≡ bucket_at (row_of a) index)
+  old_in_row a index own same past within = (
+    omega (arith, same, past, within, length-append a.current a.linked),
+    ap (λ n. bucket_at a.linked n) same
+        ∙ sym (get_or-append_right a.current a.linked (length a.current) index empty_bucket refl past),
+  )
+
   pub row_of-row_with : (a : ArraysView K V) (index : ℕ) (b : BucketView K V) → row_of (row_with a index b) ≡ set (row_of a) index b
   row_of-row_with a index b = elim (cases_lt index (length a.current)) [
     | inl below ↦ ap row_of (with_current a index b below) ∙ sym (set-append_left a.current a.linked index b below)

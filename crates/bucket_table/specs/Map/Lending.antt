@@ -6,6 +6,7 @@ use Rattle.std.specs.declared.cmp.PartialEq as equals
 use Rattle.std.specs.declared.default.Default as default
 use Rattle.bucket_slots.specs.declared.lru.LruList as list
 use Rattle.bucket_slots.specs.BucketView.{Place, bucket_with_value}
+use Rattle.bucket_slots.specs.Evicting.{slots_touched}
 use Rattle.bucket_table.specs.Map.ByKey.{ChangesAt, PreparesThen, Swaps}
 use Rattle.bucket_table.specs.Map.MapState.{state_of}
 use Rattle.bucket_table.specs.Map.Preparing.{IsPrepared}
@@ -20,11 +21,12 @@ abbrev pub with_value : {K V H : Type 0} → TableView K V H → Side → ℕ �
 with_value table side index at value = with_bucket table side index (bucket_with_value (bucket_on table.arrays side index) at value)
 
 -- the value beside a wanted key was this one and is that one; for it a unit was worked and the sources of a hash's home moved, and then one
--- slot was written
-pub record WritesUnder {K V H : Type 0} (wants : K → Bool) (kind hash : ℕ) (old : TableView K V H) (before value : V)
+-- slot was written, and touched if the call touches
+pub record WritesUnder {K V H : Type 0} (touches : Bool) (wants : K → Bool) (kind hash : ℕ) (old : TableView K V H) (before value : V)
     (new : TableView K V H) : Type 0 where
   pub map : Swaps wants value (state_of kind old) (Ok before) (state_of kind new)
-  pub arrays : PreparesThen kind hash old (λ between. ChangesAt wants (λ bucket at. bucket_with_value bucket at value) true between new)
+  pub arrays : PreparesThen kind hash old (λ between.
+      ChangesAt wants (λ bucket at. bucket_with_value (slots_touched touches bucket at) at value) true between new)
 
 module _ (K V H L : RattleType) (TYPE : ℕ) (equal : equals.Ghosts K.Denot) (hashing : key_hash.Ghosts H.Denot K.Denot)
     (listing : list.Ghosts L.Denot) (fresh : default.Ghosts L.Denot) (table : MutBor (TableView K.Denot V.Denot H.Denot)) where
@@ -33,10 +35,10 @@ module _ (K V H L : RattleType) (TYPE : ℕ) (equal : equals.Ghosts K.Denot) (ha
   LendsSlot side index at loan =
       Lends (table_row K V H L (number TYPE) equal hashing listing fresh) V table loan (with_value table.now side index at)
 
-  -- the value beside a wanted key was what the loan showed, and is the last one written through it; where there is no loan a unit was
-  -- worked
-  abbrev pub LendsUnder : (K.Denot → Bool) → ℕ → Option (MutBor V.Denot) → Fml
-  LendsUnder wants hash loan =
+  -- the value beside a wanted key was what the loan showed, and is the last one written through it, and its slot is touched if the call
+  -- touches; where there is no loan a unit was worked
+  abbrev pub LendsUnder : Bool → (K.Denot → Bool) → ℕ → Option (MutBor V.Denot) → Fml
+  LendsUnder touches wants hash loan =
       LendsSo (table_row K V H L (number TYPE) equal hashing listing fresh) V table loan
-      (λ new value. IfSome loan (λ lent. WritesUnder wants TYPE hash table.now lent.now value new))
+      (λ new value. IfSome loan (λ lent. WritesUnder touches wants TYPE hash table.now lent.now value new))
       (λ new. IfNone loan (IsPrepared TYPE hash table.now new))

@@ -1,7 +1,9 @@
 -- The buckets of both arrays in a row, and the pairs behind a place in it.
-use Rattle.std.specs.Prelude.{ℕ, ◌≡◌, ◌<◌, ◌+◌, ◌-◌, nat_lt, if◌then◌else◌, List, ◌∷◌, ◌++◌, drop, length}
+use Rattle.std.specs.Prelude.{ℕ, ◌≡◌, ◌≢◌, ◌<◌, ◌+◌, ◌-◌, nat_lt, if◌then◌else◌, List, [], ◌∷◌, ◌++◌, drop}
+use Rattle.std.specs.Prelude.{length}
 use Rattle.bucket_slots.specs.ArrayView.{bucket_at}
 use Rattle.bucket_slots.specs.BucketView.{BucketView, Place}
+use Rattle.bucket_slots.specs.OwnWalks.{AreOwnAfter}
 use Rattle.bucket_slots.specs.Walking.{MovesToNext, pairs_ahead}
 use Rattle.bucket_table.specs.Map.LookingUp.{pairs_in_all}
 use Rattle.bucket_table.specs.Views.ArraysView.{ArraysView}
@@ -30,3 +32,24 @@ pub record MovesOn {K V : Type 0} (buckets : List (BucketView K V)) (index : ℕ
   pub from : Place
   pub moves : MovesToNext (bucket_at buckets to_index) from to
   pub first : pairs_from buckets index at ≡ moves.pair ∷ pairs_from buckets to_index to
+
+-- a bucket of a row stands in an array, at an index of its own
+pub record StandsAt {K V : Type 0} (buckets : List (BucketView K V)) (index : ℕ) (array : List (BucketView K V))
+    (own : ℕ) : Type 0 where
+  pub inside : index < length buckets
+  pub within : own < length array
+  pub same : bucket_at array own ≡ bucket_at buckets index
+
+-- a bucket of a row has live own slots after a place, those of a bitmap
+pub record HasOwnLeft {K V : Type 0} (buckets : List (BucketView K V)) (index : ℕ) (at : Place)
+    (bucket : BucketView K V) (left : ℕ)
+    : Type 0 where
+  pub within : index < length buckets
+  pub here : bucket ≡ bucket_at buckets index
+  pub some : left ≢ 0
+  pub own : AreOwnAfter bucket at left
+
+-- where a bitmap isn't 0, its bits are the live own slots after a place in a bucket that is lent, alone
+abbrev pub LendsLeft : {K V : Type 0} → List (BucketView K V) → ℕ → Place → List (BucketView K V) → ℕ → Type 0
+LendsLeft {K} {V} buckets index at lent left =
+    left ≢ 0 → (bucket : BucketView K V) × (lent ≡ bucket ∷ []) × HasOwnLeft buckets index at bucket left

@@ -174,7 +174,9 @@ impl<K: Eq + Drop, V: Drop, L: LruList + Drop, const TYPE: u8> Arrays<K, V, L, T
             × (self.new ≡ arrays_with self.old Current index left) }
     {
         self.room_of(Side::Current);
-        visitor.visit(self.bucket_of_mut(Side::Current, index), flag)
+        let stops = visitor.visit(self.bucket_of_mut(Side::Current, index), flag);
+        self.settle_on(Side::Current, index);
+        stops
     }
 
     /// Removes each pair of a current bucket for which `keep` returns false; in an index it becomes
@@ -192,7 +194,9 @@ impl<K: Eq + Drop, V: Drop, L: LruList + Drop, const TYPE: u8> Arrays<K, V, L, T
             (G.epoch_of generation.now) self.old index result self.new }
     {
         self.room_of(Side::Current);
-        retain_in(self.bucket_of_mut(Side::Current, index), keep, generation)
+        let gone = retain_in(self.bucket_of_mut(Side::Current, index), keep, generation);
+        self.settle_on(Side::Current, index);
+        gone
     }
 }
 

@@ -3,10 +3,12 @@ ghost use Rattle.std.specs.Prelude.{◌<◌, ◌^◌, ◌↔◌, IsTrue, length}
 ghost use Rattle.bucket_slots.specs.ArrayView.{bucket_at};
 ghost use Rattle.bucket_slots.specs.BucketView.{pairs_in};
 ghost use Rattle.bucket_slots.specs.Walking.{CallsEach};
-ghost use Rattle.bucket_table.specs.Views.ArraysView.{pairs_of};
+ghost use Rattle.bucket_table.specs.Map.LookingUp.{pairs_in_all};
+ghost use Rattle.bucket_table.specs.Views.ArraysView.{list_of, pairs_of};
 ghost use Rattle.bucket_table.specs.Walking.Row.{row_of};
 
 use super::Arrays;
+use bucket_slots::bucket_array::BucketArray;
 use bucket_slots::lru::LruList;
 
 impl<K, V, L: LruList, const TYPE: u8> Arrays<K, V, L, TYPE> {
@@ -18,15 +20,8 @@ impl<K, V, L: LruList, const TYPE: u8> Arrays<K, V, L, TYPE> {
         ensures calls { CallsEach (λ state own value last. F.step state own value tt last) f.old
             (pairs_of self.now) f.new }
     {
-        if !self.has_row() {
-            return;
-        }
-        self.row_room();
-        let mut index = 0;
-        while let Some(bucket) = self.nth(index) {
-            bucket.for_each(f);
-            index += 1;
-        }
+        for_each_of(&self.current, f);
+        for_each_of(&self.linked, f);
     }
 
     /// Calls a function with each pair of one bucket of the row, and returns whether there is such
@@ -40,14 +35,29 @@ impl<K, V, L: LruList, const TYPE: u8> Arrays<K, V, L, TYPE> {
         ensures calls { CallsEach (λ state own value last. F.step state own value tt last) f.old
             (pairs_in (bucket_at (row_of self.now) index)) f.new }
     {
-        if !self.has_row() {
-            return false;
-        }
-        self.row_room();
-        if let Some(bucket) = self.nth(index) {
-            bucket.for_each(f);
+        if let Some((array, own)) = self.array_at(index) {
+            array.for_each_in(own, f);
             return true;
         }
         false
+    }
+}
+
+/// Calls a function with each pair of an array.
+#[inline(always)]
+fn for_each_of<K, V, L: LruList, F: FnMut(&K, &V), const TYPE: u8>(
+    held: &Option<BucketArray<K, V, L, TYPE>>,
+    f: &mut F,
+)
+    requires callable { F.IsAlwaysCallable f.old }
+    ensures again { F.IsAlwaysCallable f.new }
+    ensures calls { CallsEach (λ state own value last. F.step state own value tt last) f.old
+        (pairs_in_all (list_of held.now)) f.new }
+{
+    let Some(array) = held else {
+        return;
+    };
+    for index in 0..array.len() {
+        array.for_each_in(index, f);
     }
 }

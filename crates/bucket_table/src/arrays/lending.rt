@@ -8,7 +8,7 @@ ghost use Rattle.bucket_slots.specs.Slots.{is_live, live_pair};
 ghost use Rattle.bucket_slots.specs.Evicting.{slots_touched};
 ghost use Rattle.bucket_slots.specs.Digested.{TakesWanted, UpsertsIn};
 ghost use Rattle.bucket_table.specs.Map.ByKey.{InsertsIn};
-ghost use Rattle.bucket_table.specs.Views.ArrayLoan.{LendsBucketOf, LendsEntryOf, array_with};
+ghost use Rattle.bucket_table.specs.Views.ArrayLoan.{LendsBucketOf, LendsEntryOf, LendsTouchedOf, array_with};
 ghost use Rattle.bucket_table.specs.Views.ArraysView.{list_of};
 ghost use Rattle.bucket_table.specs.Views.Sides.{bucket_on, buckets_on};
 
@@ -19,7 +19,7 @@ use bucket_slots::bucket_array::{BucketArray, NotPut};
 use bucket_slots::lru::LruList;
 
 impl<K, V, L: LruList, const TYPE: u8> Arrays<K, V, L, TYPE> {
-    ghost use Rattle.bucket_table.specs.Views.ArraysLoan.{LendsBucketOn, LendsEntryOn};
+    ghost use Rattle.bucket_table.specs.Views.ArraysLoan.{LendsBucketOn, LendsEntryOn, LendsTouchedOn};
 
     /// Returns a bucket of one side.
     #[inline(always)]
@@ -66,6 +66,31 @@ impl<K, V, L: LruList, const TYPE: u8> Arrays<K, V, L, TYPE> {
         match side {
             Side::Current => entry_in(&mut self.current, index, at),
             Side::Old => entry_in(&mut self.linked, index, at),
+        }
+    }
+
+    /// Makes the pair in a live slot of that bucket the one touched last there, and lends it, its
+    /// value for writing.
+    #[inline(always)]
+    pub(crate) fn touch_entry_of(
+        &mut self,
+        side: Side,
+        index: usize,
+        at: &EntryPtr<K, V, TYPE>,
+    ) -> (&K, &mut V)
+        requires cache { TYPE ≡ CACHE }
+        requires within { index < length (buckets_on self.old side) }
+        requires live_slot { IsTrue (is_live (slot_in (bucket_on self.old side index) at.now)) }
+        ensures* writes_back { sem 𝓛
+            (LendsTouchedOn K.row V.row L.row TYPE.row
+            (record { KEEPS = L.KEEPS; listed = L.listed; IsTail = L.IsTail }) L.Default
+            self.entry side index at.now result) }
+        ensures pair { live_pair (slot_in (bucket_on self.old side index) at.now)
+            ≡ Some (result.0.now, result.1.now) }
+    {
+        match side {
+            Side::Current => touch_entry_in(&mut self.current, index, at),
+            Side::Old => touch_entry_in(&mut self.linked, index, at),
         }
     }
 
@@ -117,6 +142,30 @@ fn entry_in<'a, K, V, L: LruList, const TYPE: u8>(
 {
     match held {
         Some(array) => array.entry_mut(index, at),
+        None => unreachable!(),
+    }
+}
+
+/// Makes the pair in a live slot of a bucket of one side the one touched last there, and lends it,
+/// its value for writing.
+#[inline(always)]
+fn touch_entry_in<'a, K, V, L: LruList, const TYPE: u8>(
+    held: &'a mut Option<BucketArray<K, V, L, TYPE>>,
+    index: usize,
+    at: &EntryPtr<K, V, TYPE>,
+) -> (&'a K, &'a mut V)
+    requires cache { TYPE ≡ CACHE }
+    requires within { index < length (list_of held.old) }
+    requires live_slot { IsTrue (is_live (slot_in (bucket_at (list_of held.old) index) at.now)) }
+    ensures* writes_back { sem 𝓛
+        (LendsTouchedOf K.row V.row L.row TYPE.row
+        (record { KEEPS = L.KEEPS; listed = L.listed; IsTail = L.IsTail }) L.Default
+        held.entry index at.now result) }
+    ensures pair { live_pair (slot_in (bucket_at (list_of held.old) index) at.now)
+        ≡ Some (result.0.now, result.1.now) }
+{
+    match held {
+        Some(array) => array.touch_entry_mut(index, at),
         None => unreachable!(),
     }
 }

@@ -7,21 +7,27 @@ ghost use Rattle.std.specs.Iterator.{YieldsFirstBy, item_count};
 ghost use Rattle.bucket_table.specs.Views.ArraysView.{pairs_of};
 
 use super::Arrays;
-use bucket_slots::bucket::EntryPtr;
+use bucket_slots::bucket::{Bucket, EntryPtr};
 use bucket_slots::lru::LruList;
 use std::alloc::AllocError;
 use std::iter::FusedIterator;
 use std::marker::{Model, PhantomData};
+use std::slice;
 
 /// Stands for a kind of table in a type.
 pub struct Kind<const TYPE: u8> {}
 
 /// The pairs of the arrays that are left, those behind a place.
+///
+/// `here` and `left` keep what is read of the place's bucket once for all of its pairs: the bucket,
+/// alone in a slice, and its live own slots behind the place. Where `left` is 0, they say nothing.
 #[derive(Drop)]
 pub struct ArraysPairs<'a, K, V, L: LruList, const TYPE: u8, R> {
     arrays: &'a Arrays<K, V, L, TYPE>,
     index: usize,
     at: EntryPtr<K, V, TYPE>,
+    here: &'a [Bucket<K, V, L, TYPE>],
+    left: u32,
     loan: PhantomData<R>,
 }
 
@@ -30,11 +36,13 @@ pub type TablePairs<'a, K, V, L, const TYPE: u8> = ArraysPairs<'a, K, V, L, TYPE
 
 impl<'a, K, V, L: LruList, const TYPE: u8, R> Model for ArraysPairs<'a, K, V, L, TYPE, R> {
     ghost use Rattle.std.specs.Prelude.{List};
-    ghost use Rattle.bucket_table.specs.Walking.Row.{pairs_from, row_of};
+    ghost use Rattle.bucket_table.specs.Walking.Row.{LendsLeft, pairs_from, row_of};
 
     ghost Value = { List (K × V) };
 
     ghost view = { λ pairs. pairs_from (row_of pairs.arrays.now) pairs.index pairs.at };
+
+    ghost invariant = { λ pairs. LendsLeft (row_of pairs.arrays.now) pairs.index pairs.at pairs.here.now pairs.left };
 }
 
 impl<'a, K, V, L: LruList, const TYPE: u8> Iterator
@@ -45,14 +53,21 @@ impl<'a, K, V, L: LruList, const TYPE: u8> Iterator
 
     ghost remaining = { item_count (λ left. left) };
 
+    #[inline(always)]
     fn next(&mut self) -> Option<(&'a K, &'a V)> {
-        if !self.arrays.has_row() {
+        if !self.arrays.has_row_or(self.left != 0) {
             return None;
         }
         self.arrays.row_room();
-        let Some(bucket) = self.arrays.next_slot(&mut self.index, &mut self.at) else {
-            return None;
+        let found = self
+            .arrays
+            .own_left(&mut self.index, &mut self.at, self.here, self.left);
+        let Some((bucket, left)) = found else {
+            self.left = 0;
+            return self.next_slot();
         };
+        self.left = bucket.next_own(&mut self.at, left);
+        self.here = slice::from_ref(bucket);
         Some(bucket.entry(&self.at))
     }
 
@@ -68,6 +83,23 @@ impl<'a, K, V, L: LruList, const TYPE: u8> Iterator
 }
 
 impl<'a, K, V, L: LruList, const TYPE: u8> ArraysPairs<'a, K, V, L, TYPE, &'a Kind<TYPE>> {
+    /// Returns the next pair, whether it is in an own slot or in a chain.
+    #[inline(always)]
+    fn next_slot(&mut self) -> Option<(&'a K, &'a V)>
+        ensures { YieldsFirstBy (λ pair. (pair.0.now, pair.1.now)) (λ left. left) self.old result
+            self.new }
+    {
+        self.left = 0;
+        if !self.arrays.has_row() {
+            return None;
+        }
+        self.arrays.row_room();
+        let Some(bucket) = self.arrays.next_slot(&mut self.index, &mut self.at) else {
+            return None;
+        };
+        Some(bucket.entry(&self.at))
+    }
+
     /// Returns an iterator over the same pairs.
     fn again(&self) -> Self
         ensures { result ≡ self.now }
@@ -76,6 +108,8 @@ impl<'a, K, V, L: LruList, const TYPE: u8> ArraysPairs<'a, K, V, L, TYPE, &'a Ki
             arrays: self.arrays,
             index: self.index,
             at: self.at.clone(),
+            here: self.here,
+            left: self.left,
             loan: PhantomData,
         }
     }
@@ -119,6 +153,8 @@ impl<K, V, L: LruList, const TYPE: u8> Arrays<K, V, L, TYPE> {
             arrays: self,
             index: 0,
             at: EntryPtr::null(),
+            here: &[],
+            left: 0,
             loan: PhantomData,
         }
     }

@@ -1,15 +1,17 @@
 //! The buckets of both arrays in a row, those of the current one first, and a place that moves
 //! from live slot to live slot.
-ghost use Rattle.std.specs.Prelude.{◌≡◌, ◌<◌, ◌≤◌, ◌^◌, [], false, IfNone, IfSome, IsTrue, MatchOption, length};
+ghost use Rattle.std.specs.Prelude.{◌≡◌, ◌≢◌, ◌<◌, ◌≤◌, ◌^◌, [], false, IfNone, IfSome, IsTrue, MatchOption, length};
 ghost use Rattle.std.specs.Borrow.{sem};
 ghost use Rattle.bucket_slots.specs.ArrayRoom.{BucketFits};
 ghost use Rattle.bucket_slots.specs.ArrayView.{bucket_at};
 ghost use Rattle.bucket_slots.specs.BucketView.{slot_in};
+ghost use Rattle.bucket_slots.specs.OwnWalks.{AreOwnAfter};
 ghost use Rattle.bucket_slots.specs.Slots.{is_live};
-ghost use Rattle.bucket_table.specs.Walking.Row.{MovesOn, pairs_from, row_of};
+ghost use Rattle.bucket_table.specs.Walking.Row.{HasOwnLeft, LendsLeft, MovesOn, StandsAt, pairs_from, row_of};
 
 use super::{Arrays, Side};
 use bucket_slots::bucket::{Bucket, EntryPtr};
+use bucket_slots::bucket_array::BucketArray;
 use bucket_slots::lru::LruList;
 
 impl<K, V, L: LruList, const TYPE: u8> Arrays<K, V, L, TYPE> {
@@ -25,6 +27,16 @@ impl<K, V, L: LruList, const TYPE: u8> Arrays<K, V, L, TYPE> {
         self.has_current()
     }
 
+    /// Tests whether the row has a bucket, unless it is known to have one.
+    #[inline(always)]
+    pub(super) fn has_row_or(&self, known: bool) -> bool
+        requires { IsTrue known → 0 < length (row_of self.now) }
+        ensures some { IsTrue result → 0 < length (row_of self.now) }
+        ensures none { result ≡ false → row_of self.now ≡ [] }
+    {
+        known || self.has_row()
+    }
+
     /// States that a bucket fits in memory; does nothing at run time. Generic code calls it before
     /// it reads a bucket.
     #[inline(always)]
@@ -34,7 +46,9 @@ impl<K, V, L: LruList, const TYPE: u8> Arrays<K, V, L, TYPE> {
             (record { KEEPS = L.KEEPS; listed = L.listed; IsTail = L.IsTail }) L.Default }
     {
         self.sound();
-        self.room_of(Side::Current);
+        if let Some(array) = &self.current {
+            array.room();
+        }
     }
 
     /// Returns a bucket of the row; `None` past its end.
@@ -55,6 +69,25 @@ impl<K, V, L: LruList, const TYPE: u8> Arrays<K, V, L, TYPE> {
         None
     }
 
+    /// Returns the array in which a bucket of the row stands, and the bucket's index there; `None`
+    /// past the row's end.
+    #[inline(always)]
+    pub(super) fn array_at(&self, index: usize) -> Option<(&BucketArray<K, V, L, TYPE>, usize)>
+        ensures array { MatchOption result (length (row_of self.now) ≤ index) (λ found.
+            StandsAt (row_of self.now) index found.0.now found.1) }
+        ensures few { IfSome result (λ _. index < 2 ^ 58) }
+    {
+        let len = self.len();
+        if index < len {
+            return Some((self.array_of(Side::Current), index));
+        }
+        let own = index - len;
+        if own < self.old_len() {
+            return Some((self.array_of(Side::Old), own));
+        }
+        None
+    }
+
     /// Lends that bucket for writing.
     #[inline(always)]
     pub(crate) fn nth_mut(&mut self, index: usize) -> &mut Bucket<K, V, L, TYPE>
@@ -70,6 +103,65 @@ impl<K, V, L: LruList, const TYPE: u8> Arrays<K, V, L, TYPE> {
             return self.bucket_of_mut(Side::Current, index);
         }
         self.bucket_of_mut(Side::Old, index - len)
+    }
+
+    /// Writes the digest of a bucket of the row, which only a current one has. No bucket changes.
+    #[inline(always)]
+    pub(crate) fn settle_nth(&mut self, index: usize)
+        ensures { self.new ≡ self.old }
+    {
+        if index < self.len() {
+            self.settle_on(Side::Current, index);
+        }
+    }
+
+    /// Returns a bucket and its live own slots after a place, as a bitmap: the bucket that is lent with
+    /// its bitmap, or where that is 0, those that `next_own` comes to.
+    #[inline(always)]
+    pub(super) fn own_left<'a>(
+        &'a self,
+        index: &mut usize,
+        at: &mut EntryPtr<K, V, TYPE>,
+        here: &'a [Bucket<K, V, L, TYPE>],
+        left: u32,
+    ) -> Option<(&'a Bucket<K, V, L, TYPE>, u32)>
+        requires { LendsLeft (row_of self.now) index.old at.old here.now left }
+        ensures left { pairs_from (row_of self.now) index.old at.old
+            ≡ pairs_from (row_of self.now) index.new at.new }
+        ensures own { IfSome result (λ found.
+            HasOwnLeft (row_of self.now) index.new at.new found.0.now found.1) }
+    {
+        if left != 0 {
+            return Some((&here[0], left));
+        }
+        self.next_own(index, at)
+    }
+
+    /// Moves a place to the bucket with the next live slot of the row, but to no live slot. Returns
+    /// that bucket and its live own slots after the place, as a bitmap. It gives up at a bucket whose
+    /// digest is lost and that has no live own slot after the place.
+    #[inline(always)]
+    pub(super) fn next_own(
+        &self,
+        index: &mut usize,
+        at: &mut EntryPtr<K, V, TYPE>,
+    ) -> Option<(&Bucket<K, V, L, TYPE>, u32)>
+        ensures left { pairs_from (row_of self.now) index.old at.old
+            ≡ pairs_from (row_of self.now) index.new at.new }
+        ensures own { IfSome result (λ found.
+            HasOwnLeft (row_of self.now) index.new at.new found.0.now found.1) }
+    {
+        'buckets: while let Some((array, own)) = self.array_at(*index) {
+            let Some(left) = array.own_after(own, at) else {
+                return own_in(array.bucket(own), at);
+            };
+            if left != 0 {
+                return Some((array.bucket(own), left));
+            }
+            *index += 1;
+            *at = EntryPtr::null();
+        }
+        None
     }
 
     /// Moves a place to the next live slot of the row, and returns that slot's bucket; `None` where
@@ -97,4 +189,20 @@ impl<K, V, L: LruList, const TYPE: u8> Arrays<K, V, L, TYPE> {
         }
         None
     }
+}
+
+/// Returns a bucket and its live own slots after a place, as a bitmap, if there are any.
+#[inline(always)]
+fn own_in<'a, K, V, L: LruList, const TYPE: u8>(
+    bucket: &'a Bucket<K, V, L, TYPE>,
+    at: &EntryPtr<K, V, TYPE>,
+) -> Option<(&'a Bucket<K, V, L, TYPE>, u32)>
+    ensures { IfSome result (λ found.
+        (found.0.now ≡ bucket.now) × (found.1 ≢ 0) × AreOwnAfter bucket.now at.now found.1) }
+{
+    let left = bucket.own_after(at);
+    if left == 0 {
+        return None;
+    }
+    Some((bucket, left))
 }

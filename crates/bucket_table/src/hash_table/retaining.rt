@@ -86,6 +86,8 @@ impl<K: Eq + Drop, V: Drop, H: KeyHash<K>, L: LruList + Drop, const TYPE: u8> Ha
         ensures hasher { self.new.hasher ≡ self.old.hasher }
     {
         self.arrays.row_room();
-        retain_each_in(self.arrays.nth_mut(index), keep, generation)
+        let gone = retain_each_in(self.arrays.nth_mut(index), keep, generation);
+        self.arrays.settle_nth(index);
+        gone
     }
 }

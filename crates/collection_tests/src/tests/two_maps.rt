@@ -21,8 +21,6 @@ enum Turn {
     Clones,
     /// The other map becomes a copy of the first.
     Copies,
-    /// Allocating a clone of the first fails.
-    LacksMemory,
     /// Whether the maps are equal.
     AreEqual(bool),
     /// Keys are inserted, each into one map and then into the other: the maps are equal when both
@@ -49,19 +47,23 @@ const STORIES: &[Story] = steps! {
     Story { name: "a change of a map leaves its copy",
         starts: ((ScriptHash::Spread, 0), (ScriptHash::Id, 0)), turns: steps! {
             One(Fills(128, 159)), One(Fills(0, 32)), Clones, AreEqual(true), Other(Len(63)),
-            One(Slots(128)), Other(Removes(150, Some((150, 150)))), One(Upserts(1, 10, Some(1))),
+            Other(Slots(128)), One(Slots(128)), Other(Removes(150, Some((150, 150)))),
+            One(Upserts(1, 10, Some(1))),
             One(Fills(40, 41)), One(Holds(150, Some(150))), One(Holds(1, Some(10))), One(Len(64)),
             Other(Holds(150, None)), Other(Holds(1, Some(1))), Other(Holds(40, None)),
             Other(Len(62)), One(Clears), One(Len(0)), Other(Len(62)) } },
-    // A copy has the minimum of its map, and an empty one takes no memory.
-    Story { name: "a copy is refused where there is no memory for it",
+    // A copy has the minimum of its map, and takes memory for its pairs alone.
+    Story { name: "a map whose minimum can't be allocated is copied",
         starts: ((ScriptHash::Id, 0), (ScriptHash::Id, 0)), turns: steps! {
-            One(Inserts(1, 10)), One(Reserves(MOST, MOST)), LacksMemory, One(Holds(1, Some(10))),
-            One(Len(1)), One(Clears), Clones, Other(Len(0)), Other(Slots(0)) } },
+            One(Inserts(1, 10)), One(Reserves(MOST, MOST)), Clones, Other(Holds(1, Some(10))),
+            Other(Len(1)), Other(Slots(64)), One(Clears), Clones, Other(Len(0)),
+            Other(Slots(0)) } },
+    // All keys share the first of two buckets, and the other is empty, so the map doesn't grow. Its
+    // copy has room for 100 pairs from the first.
     Story { name: "numbers are copied",
         starts: ((ScriptHash::Spread, 0), (ScriptHash::Spread, 0)), turns: steps! {
-            One(Fills(0, 100)), Copies, AreEqual(true), One(Removes(7, Some((7, 7)))),
-            Other(Holds(7, Some(7))), Other(Len(100)) } },
+            One(Fills(0, 100)), One(Slots(64)), Copies, AreEqual(true), Other(Slots(128)),
+            One(Removes(7, Some((7, 7)))), Other(Holds(7, Some(7))), Other(Len(100)) } },
     // The first map grows when its last key is inserted, and the other has room from the first.
     Story { name: "a map amid a growth is equal to its like",
         starts: ((ScriptHash::Spread, 0), (ScriptHash::Id, 128)), turns: steps! {
@@ -104,7 +106,6 @@ fn play(rt: &impl Abort, alloc: Global, one: &mut Map, other: &mut Map, at: At, 
             check_same(rt, (is_made, *other.hasher()), (true, *one.hasher()), at);
         }
         Copies => check_same(rt, renew(other, one.try_copy(alloc)), true, at),
-        LacksMemory => check_same(rt, renew(other, one.try_clone(alloc)), false, at),
         AreEqual(equal) => check_equal(rt, &*one, &*other, *equal, at),
         FillInTurn(from, to) => fill_in_turn(rt, one, other, *from, *to),
     }

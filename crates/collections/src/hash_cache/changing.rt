@@ -60,13 +60,8 @@ impl<K: Eq + Drop, V: Drop, H: KeyHash<K>> HashCache<K, V, H> {
         self.room.learn();
         self.table.sound();
         let hash = key.hash_by(self.table.hasher());
-        match self
-            .table
-            .touch_place(hash, &mut FormProbe::<Q, H>::new(key))
-        {
-            Ok(spot) => Some(self.table.entry_mut_at(spot.side, spot.index, &spot.at).1),
-            Err(_) => None,
-        }
+        self.table
+            .touch_mut_by(hash, &mut FormProbe::<Q, H>::new(key))
     }
 
     /// Returns a mutable reference to the value under a key, or under the keys that a form stands

@@ -31,7 +31,8 @@ pub enum Upserted<K, V> {
 }
 
 impl<K: Eq + Drop, V: Drop, H: KeyHash<K>> HashCache<K, V, H> {
-    ghost use Rattle.collections.specs.CacheUpserts.{GetsOrInserts, PutsVacant, UpsertsInOrder, UpsertsOrEvicts};
+    ghost use Rattle.collections.specs.CacheUpserts.{GetsOrInserts, PutsVacant, UpsertsInOrder};
+    ghost use Rattle.collections.specs.CacheUpserts.{UpsertsOrEvicts};
 
     /// Inserts a pair whose key the cache hasn't, as `put` does, or replaces the value of the equal
     /// key, which stays. Either way its pair is now the most recently used one of its bucket.

@@ -25,7 +25,7 @@ impl<K: Eq + Clone, V: Clone, H: KeyHash<K> + Clone> HashMap<K, V, H> {
         self.room.learn();
         let minimum = self.table.minimum_capacity();
         let hasher = self.table.hasher().clone()?;
-        let mut copy = HashMap::with_minimum(alloc, hasher, minimum);
+        let mut copy = HashMap::with_room(alloc, hasher, minimum, self.len());
         let mut pairs = self.iter();
         while let Some(pair) = pairs.next() {
             let (key, value) = pair;

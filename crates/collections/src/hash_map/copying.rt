@@ -51,7 +51,8 @@ impl<K: Eq + Copy, V: Copy, H: KeyHash<K> + Copy> HashMap<K, V, H> {
         self.room.learn();
         self.table.sound();
         let minimum = self.table.minimum_capacity();
-        let mut copy = Some(HashMap::with_minimum(alloc, *self.table.hasher(), minimum));
+        let roomy = HashMap::with_room(alloc, *self.table.hasher(), minimum, self.len());
+        let mut copy = Some(roomy);
         self.pour(&mut copy);
         match copy {
             Some(own) => Ok(own),

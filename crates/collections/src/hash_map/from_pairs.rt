@@ -21,8 +21,9 @@ impl<K: Eq + Hash + Drop, V: Drop> FromIterator<(K, V)> for HashMap<K, V, Defaul
         alloc: Global,
         iter: U,
     ) -> Result<HashMap<K, V, DefaultHash>, AllocError> {
-        let mut map = HashMap::new(alloc);
         let mut pairs = iter.into_iter();
+        let mut map = HashMap::new(alloc);
+        let _ = map.try_reserve(pairs.size_hint().0);
         match map.try_extend(&mut pairs) {
             Ok(()) => Ok(map),
             Err(_) => Err(AllocError),

@@ -5,7 +5,8 @@
 //! at once.
 ghost use Rattle.std.specs.Prelude.{◌≤◌, ◌≡◌, ◌^◌, [], IsErr, OnOk, min};
 ghost use Rattle.bucket_slots.specs.Sizing.{IsPowerIn};
-ghost use Rattle.collections.specs.Capacity.{AreTooMany, IsMinimumFor, MakesRoom, ShrinksTo, ShrinksToFit, TakesSlots};
+ghost use Rattle.collections.specs.Capacity.{AreTooMany, IsMinimumFor, MakesRoom, ShrinksTo};
+ghost use Rattle.collections.specs.Capacity.{ShrinksToFit, TakesSlots};
 ghost use Rattle.collections.specs.Changes.{Reserves, Stays};
 ghost use Rattle.collections.specs.Maps.{IsEmpty};
 
@@ -76,6 +77,8 @@ impl<K: Eq + Hash, V> HashMap<K, V, DefaultHash> {
 }
 
 impl<K: Eq + Drop, V: Drop, H: KeyHash<K>> HashMap<K, V, H> {
+    ghost use Rattle.collections.specs.Room.{MapFits};
+
     /// Raises the minimum, and returns by how much: by `additional`, or by 0 if it would pass the
     /// maximum. The pairs stay. No clause says that slots are allocated.
     ///
@@ -88,6 +91,21 @@ impl<K: Eq + Drop, V: Drop, H: KeyHash<K>> HashMap<K, V, H> {
         let raised = self.table.reserve_capacity(additional);
         self.table.sound();
         raised
+    }
+
+    /// Returns an empty map whose minimum is this number of slots, or 2^63, and that has room for
+    /// so many pairs if that can be allocated. Pairs that come in the order of another map's slots
+    /// would otherwise all go to the first buckets.
+    pub(super) fn with_room(alloc: Global, hasher: H, slots: usize, pairs: usize) -> Self
+        requires { MapFits K.row V.row H.row K.PartialEq H.KeyHash }
+        ensures empty { IsEmpty result }
+        ensures hasher { result.hasher ≡ hasher }
+        ensures minimum { result.minimum ≡ min slots (2 ^ 63) }
+        ensures maximum { result.maximum ≡ 2 ^ 63 }
+    {
+        let mut made = Self::with_minimum(alloc, hasher, slots);
+        let _ = made.try_reserve(pairs);
+        made
     }
 
     /// Makes room for `additional` pairs: all pairs then stand in one array, and with the

@@ -21,8 +21,9 @@ impl<K: Eq + Hash + Drop> FromIterator<K> for HashSet<K, DefaultHash> {
         alloc: Global,
         iter: U,
     ) -> Result<HashSet<K, DefaultHash>, AllocError> {
-        let mut set = HashSet::new(alloc);
         let mut keys = iter.into_iter();
+        let mut set = HashSet::new(alloc);
+        let _ = set.try_reserve(keys.size_hint().0);
         match set.try_extend(&mut keys) {
             Ok(()) => Ok(set),
             Err(_) => Err(AllocError),

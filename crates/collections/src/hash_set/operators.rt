@@ -1,7 +1,7 @@
 //! `&own | &other` and its kin, which insert clones of keys into a new set.
 //!
-//! The new set has the first one's allocator, and a clone of its hasher. A call fails if allocation
-//! does, or if a key's clone isn't equal to the key.
+//! The new set has the first one's allocator, a clone of its hasher, and room for as many keys as
+//! the first one has. A call fails if allocation does, or if a key's clone isn't equal to the key.
 ghost use Rattle.std.specs.Prelude.{◌&&◌, ◌||◌, IfOk, OnOk, not};
 ghost use Rattle.std.specs.Iterator.{IsFinite};
 ghost use Rattle.collections.specs.Clones.{JoinsClones, PutsClonesFrom, PutsKeyClone};
@@ -54,6 +54,7 @@ impl<'a, 'b, K: Eq + Clone, H: KeyHash<K> + Clone> BitOr<&'b HashSet<K, H>> for 
 
     fn bitor(self, other: &'b HashSet<K, H>) -> Result<HashSet<K, H>, AllocError> {
         let mut made = self.empty_like()?;
+        let _ = made.try_reserve(self.len());
         let mut keys = self.union(other);
         made.put_clones(&mut keys)?;
         Ok(made)
@@ -70,6 +71,7 @@ impl<'a, 'b, K: Eq + Clone, H: KeyHash<K> + Clone> BitAnd<&'b HashSet<K, H>> for
 
     fn bitand(self, other: &'b HashSet<K, H>) -> Result<HashSet<K, H>, AllocError> {
         let mut made = self.empty_like()?;
+        let _ = made.try_reserve(self.len().min(other.len()));
         let mut keys = self.intersection(other);
         made.put_clones(&mut keys)?;
         Ok(made)
@@ -86,6 +88,7 @@ impl<'a, 'b, K: Eq + Clone, H: KeyHash<K> + Clone> Sub<&'b HashSet<K, H>> for &'
 
     fn sub(self, other: &'b HashSet<K, H>) -> Result<HashSet<K, H>, AllocError> {
         let mut made = self.empty_like()?;
+        let _ = made.try_reserve(self.len());
         let mut keys = self.difference(other);
         made.put_clones(&mut keys)?;
         Ok(made)
@@ -102,6 +105,7 @@ impl<'a, 'b, K: Eq + Clone, H: KeyHash<K> + Clone> BitXor<&'b HashSet<K, H>> for
 
     fn bitxor(self, other: &'b HashSet<K, H>) -> Result<HashSet<K, H>, AllocError> {
         let mut made = self.empty_like()?;
+        let _ = made.try_reserve(self.len());
         let mut keys = self.symmetric_difference(other);
         made.put_clones(&mut keys)?;
         Ok(made)

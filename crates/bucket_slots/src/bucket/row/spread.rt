@@ -3,7 +3,7 @@ ghost use Rattle.std.specs.Prelude.{◌≡◌, ◌≢◌, ◌+◌, ◌<◌, ◌�
 ghost use Rattle.bucket_slots.specs.Layout.OwnSpreading.{SpreadsOwn};
 ghost use Rattle.bucket_slots.specs.Spreading.{IsShifted};
 
-use crate::bucket::bits::{lowest_bit, without_bit};
+use crate::bucket::bits::{lowest_bit, without_lowest};
 use crate::bucket::remove::unlist;
 use crate::bucket::row::Row;
 use crate::bucket::transfer::target_at;
@@ -49,7 +49,7 @@ impl<K: Drop, V: Drop, const LEN: usize> Row<K, V, LEN> {
             let Some(free) = target.free_own() else {
                 break;
             };
-            left = without_bit(left, pos);
+            left = without_lowest(left);
             let pair = self.block.read(pos as usize);
             *tail = unlist::<L, TYPE>(lru, *tail, pos as u8);
             target.fill(&EntryPtr::at(0, free), (hash % 256) as u8, pair);

@@ -51,3 +51,6 @@ pub returns-clause-retained : goal.returns-clause-retained
 returns-clause-retained g c =
     retained _ c.args.bucket.now c.pairs.bucket c.pairs.at _ (c.find_next.ensures.end c.pairs-test.false).ahead
     (omega (arith, c.len-before.ensures, c.len-before.type_inv)) (rw (c.len-before.ensures, c.len.ensures) refl) c.pairs.invariant.0
+
+pub returns-clause-left : goal.returns-clause-left
+returns-clause-left g c = c.pairs.invariant.1

@@ -1,5 +1,6 @@
 //! The call of an entry of either kind that makes a value of the key.
-ghost use Rattle.std.specs.Prelude.{◌≡◌, ◌⊎◌, Err, None, Ok, false, IfErr, IfOk, MatchOption, OnErr};
+ghost use Rattle.std.specs.Prelude.{◌≡◌, ◌⊎◌, Err, None, Ok, false, IfErr, IfOk, MatchOption};
+ghost use Rattle.std.specs.Prelude.{OnErr};
 ghost use Rattle.std.specs.Borrow.{Bor, sem};
 ghost use Rattle.collections.specs.Changes.{FailsToAdd};
 ghost use Rattle.collections.specs.Crowding.{LacksRoom};

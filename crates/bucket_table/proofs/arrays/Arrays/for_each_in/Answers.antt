@@ -4,4 +4,5 @@ use Rattle.bucket_table.proofs.arrays.Arrays.for_each_in.Goals as goal
 
 pub returns-in-Some-clause-calls : goal.returns-in-Some-clause-calls
 returns-in-Some-clause-calls g c =
-    calls_same _ c.args.f.now c.for_each.new.f _ _ (ap pairs_in c.in-Some.ensures.bucket.1) c.for_each.ensures.calls
+    calls_same _ c.args.f.now c.for_each_in.new.f _ _ (ap pairs_in c.in-Some.ensures.array.same)
+    c.for_each_in.ensures.calls

@@ -1,4 +1,4 @@
-use Rattle.bucket_table.proofs.Words.{refl}
+use Rattle.bucket_table.proofs.Words.{false, refl}
 use Rattle.bucket_table.proofs.Map.Lending.{lent_there, lent_writes}
 use Rattle.bucket_table.proofs.hash_table.HashTable.get_mut_by.Goals as goal
 
@@ -13,7 +13,7 @@ returns-in-Some g c =
       (
         refl,
         λ value. lent_writes (g.P.KeyProbe.wants c.args.probe.now) g.row.TYPE _ c.args.self.now between prepared o.side o.index o.at stands
-            own _ e.pair value (e.map value),
+            own _ e.pair false value _ refl (e.map value),
         tt,
       ),
       record {

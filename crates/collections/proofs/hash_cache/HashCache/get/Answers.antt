@@ -1,38 +1,39 @@
-use Rattle.std.proofs.Common.{refl, sym}
-use Rattle.collections.proofs.Touching.{missed, shown, touched, untouched}
+use Rattle.std.proofs.Common.{None, Some, refl}
+use Rattle.collections.proofs.Loans.{lent_value}
+use Rattle.collections.proofs.Touching.{read_touched, untouched}
 use Rattle.collections.proofs.hash_cache.HashCache.get.Goals as goal
 
-pub returns-in-Ok : goal.returns-in-Ok
-returns-in-Ok g c =
+pub returns-in-Some : goal.returns-in-Some
+returns-in-Some g c =
     let eq = g.K.PartialEq.eq in
     let laws = g.met.K.Eq.laws in
     let t = c.self.inside.table in
-    let b = c.touch_place.new.self in
     let distinct = c.sound.ensures.one_map.distinct in
     let wants = g.Q.KeyForm.stands_for c.new.result.form in
     let alike = g.met.Q.KeyForm.alike c.new.result.form in
-    let e = c.in-Ok.ensures in
-    let o = c.in-Ok.spot in
+    let value = c.in-Some.value.now in
+    let found = c.in-Some.ensures.found in
+    let lent = c.touch_mut_by.follows in
     rw (← c.self.view_is, ← c.new.ensures.form) (
-      (refl, λ _. tt, touched eq laws t b distinct wants alike c.touch_place.ensures.map _ o.side o.index o.at e.touched e.found),
-      record {
-        ends = tt;
-        value = shown eq laws t b distinct wants alike c.touch_place.ensures.map _ o.side o.index o.at e.touched e.found _
-            c.entry_at.ensures;
-      },
+      (
+        refl,
+        λ _. tt,
+        read_touched eq laws t (lent.lender value) distinct wants alike _ found.0 value found.1 (rw c.in-Some.is at lent.holds value),
+      ),
+      record { ends = tt; value = lent_value eq laws 67 t distinct wants alike (Some c.in-Some.value) found tt },
     )
 
-pub returns-in-Err : goal.returns-in-Err
-returns-in-Err g c =
+pub returns-in-None : goal.returns-in-None
+returns-in-None g c =
     let eq = g.K.PartialEq.eq in
     let laws = g.met.K.Eq.laws in
     let t = c.self.inside.table in
-    let b = c.touch_place.new.self in
     let distinct = c.sound.ensures.one_map.distinct in
     let wants = g.Q.KeyForm.stands_for c.new.result.form in
     let alike = g.met.Q.KeyForm.alike c.new.result.form in
-    let e = c.in-Err.ensures in
+    let lent = c.touch_mut_by.follows in
+    let prepared = rw c.in-None.is at lent.holds-at-none in
     rw (← c.self.view_is, ← c.new.ensures.form) (
-      (refl, λ _. tt, untouched eq laws t b distinct wants alike c.touch_place.ensures.map _ e.prepared),
-      record { ends = tt; value = sym (missed eq laws t b distinct wants alike c.touch_place.ensures.map e.absent) },
+      (refl, λ _. tt, untouched eq laws t lent.lender-at-none distinct wants alike prepared.map _ prepared),
+      record { ends = tt; value = lent_value eq laws 67 t distinct wants alike None tt c.in-None.ensures.absent },
     )

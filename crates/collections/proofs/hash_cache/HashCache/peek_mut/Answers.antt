@@ -1,4 +1,4 @@
-use Rattle.std.proofs.Common.{refl}
+use Rattle.std.proofs.Common.{false, refl}
 use Rattle.collections.proofs.Loans.{lent_value}
 use Rattle.collections.proofs.Writing.{lent_unwritten, lent_written}
 use Rattle.collections.proofs.hash_cache.HashCache.peek_mut.Goals as goal
@@ -17,8 +17,8 @@ returns g c =
     rw (← c.self.view_is, ← c.new.ensures.form) (
       (
         refl,
-        λ value. lent_written eq laws t (lent.lender value) distinct wants alike _ loan value (lent.holds value),
-        lent_unwritten eq laws t lent.lender-at-none distinct wants alike _ loan lent.holds-at-none found.absent,
+        λ value. lent_written eq laws t (lent.lender value) distinct wants alike _ false loan value (lent.holds value),
+        lent_unwritten eq laws t lent.lender-at-none distinct wants alike _ false loan lent.holds-at-none found.absent,
       ),
       record { writes_back = tt; value = lent_value eq laws 67 t distinct wants alike loan found.found found.absent },
     )

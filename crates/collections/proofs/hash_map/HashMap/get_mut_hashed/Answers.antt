@@ -1,4 +1,4 @@
-use Rattle.std.proofs.Common.{refl}
+use Rattle.std.proofs.Common.{false, refl}
 use Rattle.collections.proofs.Loans.{lent_none, lent_replaces, lent_value}
 use Rattle.collections.proofs.hash_map.HashMap.get_mut_hashed.Goals as goal
 
@@ -16,7 +16,7 @@ returns g c =
     rw (← c.self.view_is, ← c.new.ensures.form) (
       (
         refl,
-        λ value. lent_replaces eq laws 83 t distinct wants alike _ loan (lent.lender value) value (lent.holds value),
+        λ value. lent_replaces eq laws 83 t distinct wants alike false _ loan (lent.lender value) value (lent.holds value),
         lent_none eq laws 83 t distinct wants alike _ loan lent.lender-at-none lent.holds-at-none found.absent,
       ),
       record { writes_back = tt; value = lent_value eq laws 83 t distinct wants alike loan found.found found.absent },

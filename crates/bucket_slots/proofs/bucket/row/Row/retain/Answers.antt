@@ -16,7 +16,8 @@ loop-left-preserved g c =
     let (slot, asked, is) = c.retain_at.ensures.asked in (
       λ always. c.retain_at.ensures.again,
       rw is (asking_next _ c.args.keep.now c.loop-left.keep c.retain_at.new.keep c.args.self.now c.loop-left.self c.loop-left.left _ _ slot
-          c.loop-left.invariant.1 c.lowest_bit-pos.ensures c.without_bit-left.ensures.bits asked),
+          c.loop-left.invariant.1 c.lowest_bit-pos.ensures (c.without_lowest-left.ensures.bits _
+          c.lowest_bit-pos.ensures) asked),
     )
 
 pub returns-clause-asked : goal.returns-clause-asked

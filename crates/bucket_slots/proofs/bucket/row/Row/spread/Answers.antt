@@ -24,7 +24,7 @@ fill-requires g c =
     (search rules, (search rules, (rw c.at.ensures vacant.within, rw c.at.ensures vacant.slot)))
 
 pub loop-left-smaller : goal.loop-left-smaller
-loop-left-smaller g c = c.without_bit-left.ensures.less c.lowest_bit-pos.ensures.set
+loop-left-smaller g c = c.without_lowest-left.ensures.less
 
 pub loop-left-preserved : goal.loop-left-preserved
 loop-left-preserved g c =
@@ -47,7 +47,8 @@ loop-left-preserved g c =
     let once = subst IsRecencyOrder c.unlist.ensures.order (g.met.L.LruList.distinct _ _ c.unlist.ensures.tail).0 in
     let laws : IsBucketOf g.row.TYPE (bucket_at targets i) = rw (← c.target_at-target.ensures.bucket) c.sound.ensures in
     let next = spreading_next _ _ _ _ _ _ _ _ _ _ _ _ _ _ c.loop-left.invariant.0 _ c.lowest_bit-pos.ensures _
-    c.without_bit-left.ensures.bits once key value c.pair.ensures number c.hash_of-hash.ensures i within_targets (search rules, named) laws in (
+    (c.without_lowest-left.ensures.bits _ c.lowest_bit-pos.ensures) once key value c.pair.ensures number
+    c.hash_of-hash.ensures i within_targets (search rules, named) laws in (
       rw (c.read-pair.ensures.places, c.unlist.ensures.order, placed) next,
       c.unlist.ensures.tail,
       λ other. c.unlist.ensures.order ∙ ap (λ order. order_without order c.lowest_bit-pos.result) (c.loop-left.invariant.2 other),

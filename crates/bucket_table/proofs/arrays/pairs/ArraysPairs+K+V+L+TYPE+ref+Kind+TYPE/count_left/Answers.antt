@@ -1,5 +1,8 @@
-use Rattle.bucket_table.proofs.Words.{◌+◌, ◌≡◌, ap, arith, length, suc}
+use Rattle.bucket_table.proofs.Words.{◌+◌, ◌≡◌, ap, arith, length, refl, suc}
 use Rattle.bucket_table.proofs.arrays.pairs.ArraysPairs+K+V+L+TYPE+ref+Kind+TYPE.count_left.Goals as goal
+
+pub pairs-init : goal.pairs-init
+pairs-init g c = (0, omega (arith, ap length c.again-rest.ensures), refl)
 
 pub pairs-preserved : goal.pairs-preserved
 pairs-preserved g c =
