@@ -95,7 +95,11 @@ typedef struct bucket_handle {
 #define BUCKET_HANDLE {NULL, false}
 #endif
 
-/* 16 bytes, best from getrandom(): keys are hashed by SipHash-1-3 with these two. If both are 0: by a faster hash without a key. */
+/* 16 bytes, best from getrandom(): keys are hashed by SipHash-1-3 with these two. If both are 0: by a faster hash without a key.
+ *
+ * Pairs are read in the order of their hashes. Before they are inserted so into a collection of the
+ * same seed, bucket_reserve for all: else that takes O(n * n). Or give it another seed, as a cache
+ * needs, which evicts most of them else. */
 typedef struct bucket_seed {
     uint64_t key0;
     uint64_t key1;

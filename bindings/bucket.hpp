@@ -140,6 +140,10 @@ template <class Call> bool unless_refused(Call call) {
     }
 }
 
+// Whether a range of such iterators can be read twice.
+template <class It, class Tag = typename std::iterator_traits<It>::iterator_category>
+inline constexpr bool is_read_twice = std::is_base_of_v<std::forward_iterator_tag, Tag>;
+
 template <class It> using needs_iterator = typename std::iterator_traits<It>::iterator_category;
 template <class It> using item_of = typename std::iterator_traits<It>::value_type;
 template <class It> using key_in = std::remove_const_t<typename item_of<It>::first_type>;
@@ -281,6 +285,9 @@ class holder {
         }
         return checked(code);
     }
+
+    // So many keys find room without being expected.
+    static constexpr size_type few = 32;
 
     bucket_handle handle_{};
     size_type size_ = 0;
@@ -617,6 +624,7 @@ template <class Shape, class Calls> class nodes : public holder {
         if (this == &other) {
             return;
         }
+        expect(other.size());
         for (node_type *at = other.list(); at; at = at->link) {
             if (link(at).second) {
                 other.unlink(view_of(*at));
@@ -627,6 +635,21 @@ template <class Shape, class Calls> class nodes : public holder {
     void make_room(size_type for_all) {
         if (for_all > size_) {
             on_open([&] { return bucket_reserve(&handle_, for_all - size_); });
+        }
+    }
+
+    // Makes room for many keys that come. In the order of another container's slots, by its seed,
+    // they'd all meet in the first buckets of a table that grows as it is filled.
+    void expect(size_type for_all) {
+        if (for_all > few) {
+            make_room(for_all);
+        }
+    }
+    // The same of a range. It may have a key many times, so room that can't be had is done without.
+    template <class It> void expect(It first, It last) {
+        if constexpr (is_read_twice<It>) {
+            auto count = static_cast<size_type>(std::distance(first, last));
+            static_cast<void>(unless_refused([&] { expect(count); }));
         }
     }
 };
@@ -775,11 +798,27 @@ template <class K> class words : public holder {
         }
     }
 
+    // Makes room for many keys that come. In the order of another container's slots, by its seed,
+    // they'd all meet in the first buckets of a table that grows as it is filled.
+    void expect(size_type for_all) {
+        if (for_all > few) {
+            make_room(for_all);
+        }
+    }
+    // The same of a range. It may have a key many times, so room that can't be had is done without.
+    template <class It> void expect(It first, It last) {
+        if constexpr (is_read_twice<It>) {
+            auto count = static_cast<size_type>(std::distance(first, last));
+            static_cast<void>(unless_refused([&] { expect(count); }));
+        }
+    }
+
     // The list of what moves is there before anything does.
     void merge_from(words &other) {
         if (this == &other) {
             return;
         }
+        expect(other.size());
         std::vector<K> moved;
         moved.reserve(other.size());
         std::copy(other.begin(), other.end(), std::back_inserter(moved));
@@ -790,6 +829,9 @@ template <class K> class words : public holder {
         }
     }
 };
+
+template <class K>
+inline constexpr bool is_read_twice<word_iterator<K>, std::input_iterator_tag> = true;
 
 template <class K>
 using keys = std::conditional_t<std::is_same_v<K, std::string>, nodes<key_shape<std::string>, map_calls>, words<K>>;
@@ -956,6 +998,7 @@ template <class K, class V> class map : public detail::nodes<detail::pair_shape<
     }
     /// Inserts a range of pairs; of those of one key the first stays. If it throws, those before are in. O(n).
     template <class It, class = detail::needs_iterator<It>> void insert(It first, It last) {
+        this->expect(first, last);
         for (; first != last; ++first) {
             auto &&pair = *first;
             try_emplace(std::forward<decltype(pair)>(pair).first, std::forward<decltype(pair)>(pair).second);
@@ -1170,6 +1213,7 @@ template <class K> class set : public detail::keys<K> {
     }
     /// Inserts a range of keys. If it throws, those before are in. O(n).
     template <class It, class = detail::needs_iterator<It>> void insert(It first, It last) {
+        this->expect(first, last);
         for (; first != last; ++first) {
             insert(*first);
         }
@@ -1222,7 +1266,10 @@ template <class K> class set : public detail::keys<K> {
     /// Inserts all keys of another set. If it throws, those before are in. O(n).
     set &operator|=(const set &other) {
         if (this != &other) {
-            insert(other.begin(), other.end());
+            this->expect(other.size());
+            for (auto &&key : other) {
+                insert(key);
+            }
         }
         return *this;
     }

@@ -6,6 +6,7 @@
 #include <cstdlib>
 #include <memory>
 #include <new>
+#include <optional>
 #include <vector>
 
 using tests::key;
@@ -15,8 +16,15 @@ namespace {
 // How many allocations are granted before one is refused; -1: all are.
 long granted = -1;
 long held = 0;
+long asked = 0;
+// How many are granted before one alone is refused; -1: none is.
+long before_one = -1;
 
 bool may() noexcept {
+    asked++;
+    if (before_one >= 0 && before_one-- == 0) {
+        return false;
+    }
     if (granted == 0) {
         return false;
     }
@@ -355,6 +363,89 @@ template <class K> void a_cache() {
     }
 }
 
+// How many allocations a call asks for.
+template <class Call> long asked_by(Call call) {
+    long before = asked;
+    call();
+    return asked - before;
+}
+
+// Pairs come in the order of the slots. By one seed they'd meet in the first buckets of a table
+// that grows, whose chains are allocations.
+template <class K> void a_map_of_a_map(std::optional<bucket::seed> by) {
+    using map = bucket::map<K, int>;
+    map all(0, by);
+    long filling = asked_by([&] {
+        for (int i = 0; i < 2500; i++) {
+            all.try_emplace(key<K>(i), i);
+        }
+    });
+    auto one = [=] {
+        map made(0, by);
+        made.try_emplace(key<K>(-1), -1);
+        return made;
+    };
+    map from = all.clone(), to = one(), more = one();
+    CHECK(asked_by([&] { CHECK(all.clone() == all); }) < filling);
+    CHECK(asked_by([&] { CHECK(map(all.begin(), all.end(), by) == all); }) < filling);
+    CHECK(asked_by([&] { to.insert(all.begin(), all.end()); }) < filling && to.size() == 2501);
+    CHECK(asked_by([&] { more.merge(from); }) < filling - 2500);
+    CHECK(more.size() == 2501 && from.empty());
+    map again;
+    auto loop = [&] {
+        for (auto &[k, value] : all) {
+            again.try_emplace(k, value);
+        }
+    };
+    CHECK(asked_by(loop) < filling + 200);
+}
+
+template <class K> void a_set_of_a_set(std::optional<bucket::seed> by) {
+    using set = bucket::set<K>;
+    set all(0, by);
+    long filling = asked_by([&] {
+        for (int i = 0; i < 2500; i++) {
+            all.insert(key<K>(i));
+        }
+    });
+    set from = all.clone(), to(0, by), more(0, by), either(0, by);
+    CHECK(to.insert(key<K>(-1)) && more.insert(key<K>(-1)) && either.insert(key<K>(-1)));
+    CHECK(asked_by([&] { CHECK(all.clone() == all); }) < filling);
+    CHECK(asked_by([&] { CHECK(set(all.begin(), all.end(), by) == all); }) < filling);
+    CHECK(asked_by([&] { to.insert(all.begin(), all.end()); }) < filling && to.size() == 2501);
+    CHECK(asked_by([&] { either |= all; }) < filling && either.size() == 2501);
+    CHECK(asked_by([&] { more.merge(from); }) < filling && more.size() == 2501 && from.empty());
+}
+
+void copies_of_many() {
+    using maybe = std::optional<bucket::seed>;
+    for (maybe by : {maybe(), maybe(bucket::fixed_seed), maybe({5, 6})}) {
+        a_map_of_a_map<int>(by);
+        a_map_of_a_map<std::string>(by);
+        a_set_of_a_set<int>(by);
+        a_set_of_a_set<std::string>(by);
+    }
+}
+
+// Room that can't be had for a range, which may have a key many times, is done without.
+void a_range_finds_its_room() {
+    const std::vector<std::pair<int, int>> same(100, {7, 7});
+    long without = 0;
+    for (long at = 0; at < 4; at++) {
+        bucket::map<int, int> map(bucket::fixed_seed);
+        before_one = at;
+        try {
+            map.insert(same.begin(), same.end());
+            without += before_one == -1 && map.capacity() < 100 ? 1 : 0;
+            CHECK(map.size() == 1);
+        } catch (const std::bad_alloc &) {
+            CHECK(map.empty());
+        }
+        before_one = -1;
+    }
+    CHECK(without > 0);
+}
+
 void caches() {
     a_cache<int>();
     a_cache<std::string>();
@@ -370,6 +461,8 @@ const tests::story stories[] = {
     {"a copy or an assignment that fails changes nothing", copies},
     {"a call of a set that fails changes nothing", sets},
     {"a put that fails changes nothing", caches},
+    {"a copy asks for no more than the filling did", copies_of_many},
+    {"a range with one key many times needs no more than its pair", a_range_finds_its_room},
 };
 
 } // namespace

@@ -14,8 +14,9 @@ OverflowError if it is an int.
 A Map has all calls of a dict, and a Set all of a set, but for the order: it is that of the slots, and
 another one after a pair is put or removed. So nothing is reversed. A Cache has at most `maxsize` pairs.
 
-Keys hash by a random seed, which keys that an enemy chooses need, or by PYTHONHASHSEED; see `seeded`. Of a
-str, bytes and an int from 2**63 on it is Python's own hash that is hashed so.
+Keys hash by a random seed, which keys that an enemy chooses need, another one in each collection; or
+by PYTHONHASHSEED: see `seeded`. Of a str, bytes and an int from 2**63 on it is Python's own hash that
+is hashed so.
 
 Threads may share a collection as they share a dict: a call keeps the interpreter's lock.
 """

@@ -58,7 +58,16 @@ static int keep(Table *set, PyObject *key, Table *made) {
 }
 
 int set_add_all(Table *set, PyObject *keys) {
-    return keys == (PyObject *)set ? 0 : each_key(keys, add, set, NULL);
+    if (keys == (PyObject *)set) {
+        return 0;
+    }
+    Coming coming = coming_of(set->state, keys, false);
+    if (table_make_room(set, &coming) < 0) {
+        return -1;
+    }
+    int code = each_key(keys, add, set, NULL);
+    table_give_back(set, &coming);
+    return code;
 }
 
 static int remove_all(Table *set, PyObject *keys) {
@@ -93,9 +102,21 @@ static bool is_larger(const Table *set, PyObject *keys) {
     return len > (Py_ssize_t)table_len(set);
 }
 
+/* A new set with room for some of the keys of another collection. */
+static Table *new_set_for(const Table *set, PyObject *keys, Coming *coming) {
+    Table *made = new_set(set);
+    if (made == NULL) {
+        return NULL;
+    }
+    *coming = coming_of(set->state, keys, false);
+    coming->is_sure = false;
+    return finished(made, table_make_room(made, coming));
+}
+
 /* The set's own keys that are in another collection, or those that aren't. */
 static Table *own_keys(Table *set, PyObject *other, bool that_are_in) {
-    Table *made = new_set(set);
+    Coming coming;
+    Table *made = new_set_for(set, (PyObject *)set, &coming);
     PyObject *iterator = made == NULL ? NULL : collection_iter((PyObject *)set), *key;
     int code = iterator == NULL ? -1 : 0;
     while (code == 0 && (key = PyIter_Next(iterator)) != NULL) {
@@ -104,6 +125,9 @@ static Table *own_keys(Table *set, PyObject *other, bool that_are_in) {
         Py_DECREF(key);
     }
     Py_XDECREF(iterator);
+    if (made != NULL) {
+        table_give_back(made, &coming);
+    }
     return made == NULL ? NULL : finished(made, code == 0 && PyErr_Occurred() ? -1 : code);
 }
 
@@ -111,8 +135,14 @@ static Table *common_keys(Table *set, PyObject *keys) {
     if (is_larger(set, keys)) {
         return own_keys(set, keys, true);
     }
-    Table *made = new_set(set);
-    return made == NULL ? NULL : finished(made, each_key(keys, keep, set, made));
+    Coming coming;
+    Table *made = new_set_for(set, keys, &coming);
+    if (made == NULL) {
+        return NULL;
+    }
+    int code = each_key(keys, keep, set, made);
+    table_give_back(made, &coming);
+    return finished(made, code);
 }
 
 static Table *without_keys(Table *set, PyObject *keys) {
@@ -127,7 +157,16 @@ static Table *without_keys(Table *set, PyObject *keys) {
 /* The keys that are in one alone. */
 static Table *keys_of_one(Table *set, PyObject *keys) {
     Table *made = set_of(set, keys);
-    return made == NULL ? NULL : finished(made, each_key((PyObject *)set, toggle, made, NULL));
+    if (made == NULL) {
+        return NULL;
+    }
+    Coming coming = coming_of(set->state, (PyObject *)set, false);
+    int code = table_make_room(made, &coming);
+    if (code == 0) {
+        code = each_key((PyObject *)set, toggle, made, NULL);
+        table_give_back(made, &coming);
+    }
+    return finished(made, code);
 }
 
 /* The set takes what a new one holds. */

@@ -52,7 +52,7 @@ enum { FIRST_SLOTS = 1024 };
 static uint32_t cache_open(Cache *cache, int kind) {
     bucket_handle *handle = &cache->table.handles[kind];
     size_t most = 2 * cache->maxsize, least = most < FIRST_SLOTS ? most : FIRST_SLOTS;
-    return bucket_cache_new(handle, least, most, cache->table.state->seed);
+    return bucket_cache_new(handle, least, most, next_seed(cache->table.state));
 }
 
 /* The library's put. `gone` gets the chain that was evicted, if one was. */

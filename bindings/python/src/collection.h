@@ -36,11 +36,12 @@ typedef struct State {
     Py_ssize_t holders; /* how many collections there are, and the module */
     PyTypeObject *map, *set, *cache;
     PyTypeObject *keys, *values, *items, *iterator;
-    PyObject *make_map;   /* copyreg.__newobj__ */
+    PyObject *make_map;   /* the module's _map_of */
     PyObject *make_set;   /* the module's _set_of */
     PyObject *make_cache; /* the module's _cache_of */
     PyObject *cache_info; /* the named tuple of cache_info() */
     bucket_seed seed;
+    bool is_drawn;    /* the seed came by chance, and each table gets another one */
     Py_ssize_t nodes; /* how many there are */
     int depth;        /* how many calls of nodes_drop are running */
     Node *waiting;    /* what the outermost one has yet to let go */
@@ -120,6 +121,8 @@ int table_take(Table *table, const Key *key, Node **node);
 /* As table_find and table_take, of an object that may be no key. A cache is touched by `touches`. */
 int table_look(Table *table, PyObject *object, bool touches, Node **node);
 int table_remove(Table *table, PyObject *object, Node **node);
+/* Opens the table of words, or that of hashes, of a map or a set: a code of the library's. */
+uint32_t table_open(Table *table, int kind);
 /* Puts a value at a key, also of a cache. 0 or -1. */
 int table_put(Table *table, PyObject *key, PyObject *value);
 /* Takes some node out: 1; of a cache the one touched longest ago. 0: there is none; -1: an exception is set. */
@@ -128,6 +131,25 @@ int table_take_some(Table *table, Node **node);
 Node *table_take_all(Table *table);
 /* Exchanges what two collections of one type hold. */
 void table_exchange(Table *left, Table *right);
+
+/* ---- room.c ---- */
+
+/* How many keys of each kind come from an object, as far as that is known before. */
+typedef struct Coming {
+    size_t lens[KINDS];
+    bool is_sure; /* they are keys, and each comes once */
+} Coming;
+
+/* Of a collection or its view, a dict, set, list or tuple; of another object, and of few keys, 0.
+ * The keys are the object's items, or of pairs the first parts. No other code runs, and no
+ * exception is set. */
+Coming coming_of(const State *state, PyObject *object, bool are_pairs);
+/* Makes room in a map or a set for as many pairs as come, those that are there counted in. 0; -1:
+ * MemoryError, and nothing has changed. Where they aren't sure, room is made for the first pairs
+ * alone, and may be wanting. */
+int table_make_room(Table *table, Coming *coming);
+/* Gives up what most of was made in vain, once all have come. */
+void table_give_back(Table *table, const Coming *coming);
 
 /* ---- reading.c ---- */
 
@@ -157,6 +179,8 @@ Node *reading_step(Reading *reading);
 /* ---- kinds.c ---- */
 
 State *state_of_module(PyObject *module);
+/* The seed of a table that is to be opened. */
+bucket_seed next_seed(State *state);
 /* Lets go of a state, which the last holder frees. */
 void state_leave(State *state);
 /* The module's state by a type of it, or by a type below one; NULL of any other type. No exception is set. */
@@ -211,6 +235,8 @@ extern PyType_Spec iterator_spec;
 /* ---- views.c ---- */
 
 PyObject *view_new(Table *table, PyTypeObject *type);
+/* What a view is of. */
+const Table *table_of_view(PyObject *view);
 bool is_set_like(const State *state, PyObject *object);
 extern PyType_Spec keys_spec, values_spec, items_spec;
 
@@ -235,6 +261,7 @@ int cache_put(Cache *cache, PyObject *key, PyObject *value, Node **gone);
 void order_begin(Cache *cache);
 void order_leave(Used *used);
 PyObject *cache_made(PyObject *module, PyObject *args);
+PyObject *map_made(PyObject *module, PyObject *args);
 PyObject *set_made(PyObject *module, PyObject *args);
 
 /* ---- algebra.c ---- */

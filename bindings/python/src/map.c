@@ -50,6 +50,14 @@ static PyObject *map_fromkeys(PyObject *type, PyObject *const *args, Py_ssize_t 
     }
     PyObject *value = count == 2 ? args[1] : Py_None, *key;
     PyObject *made = PyObject_CallNoArgs(type);
+    State *state = made == NULL ? NULL : state_of_type(Py_TYPE(made));
+    Coming coming = {0};
+    if (state != NULL && Py_TYPE(made) == state->map) {
+        coming = coming_of(state, args[0], false);
+        if (table_make_room((Table *)made, &coming) < 0) {
+            Py_CLEAR(made);
+        }
+    }
     PyObject *iterator = made == NULL ? NULL : PyObject_GetIter(args[0]);
     int code = iterator == NULL ? -1 : 0;
     while (code == 0 && (key = PyIter_Next(iterator)) != NULL) {
@@ -59,6 +67,9 @@ static PyObject *map_fromkeys(PyObject *type, PyObject *const *args, Py_ssize_t 
     Py_XDECREF(iterator);
     if (code < 0 || PyErr_Occurred()) {
         Py_CLEAR(made);
+    }
+    if (made != NULL && state != NULL && Py_TYPE(made) == state->map) {
+        table_give_back((Table *)made, &coming);
     }
     return made;
 }
@@ -80,7 +91,8 @@ static PyObject *map_repr(PyObject *self) {
     return shown;
 }
 
-/* A pickle has the pairs and the attributes, and no seed. */
+/* A pickle has the pairs and the attributes, and how many keys of each kind there are, for room.
+ * It has no seed. */
 static PyObject *map_reduce(PyObject *self, PyObject *unused) {
     Table *table = (Table *)self;
     (void)unused;
@@ -90,7 +102,30 @@ static PyObject *map_reduce(PyObject *self, PyObject *unused) {
         Py_XDECREF(attributes);
         return NULL;
     }
-    return Py_BuildValue("O(O)NON", table->state->make_map, Py_TYPE(self), attributes, Py_None, pairs);
+    Py_ssize_t words = (Py_ssize_t)table->lens[WORDS], hashed = (Py_ssize_t)table->lens[HASHED];
+    return Py_BuildValue("O(Onn)NON", table->state->make_map, Py_TYPE(self), words, hashed,
+                         attributes, Py_None, pairs);
+}
+
+/* _map_of(type, words, hashed): an empty map of a type below Map, without a call of its `__init__`,
+ * with room for so many pairs of each kind, if there is memory. */
+PyObject *map_made(PyObject *module, PyObject *args) {
+    PyTypeObject *type;
+    Py_ssize_t words, hashed;
+    State *state = state_of_module(module);
+    if (!PyArg_ParseTuple(args, "O!nn", &PyType_Type, &type, &words, &hashed)) {
+        return NULL;
+    }
+    PyObject *made = PyObject_CallMethod((PyObject *)type, "__new__", "O", type);
+    if (made != NULL && (!is_map(state, made) || words < 0 || hashed < 0)) {
+        PyErr_SetString(PyExc_TypeError, "a type below Map and two sizes are wanted");
+        Py_CLEAR(made);
+    }
+    if (made != NULL) {
+        Coming coming = {.lens = {(size_t)words, (size_t)hashed}};
+        (void)table_make_room((Table *)made, &coming);
+    }
+    return made;
 }
 
 static PyMethodDef map_methods[] = {
@@ -106,8 +141,7 @@ static PyMethodDef map_methods[] = {
      "update([other], **pairs)\n\nPuts the pairs of a mapping or of an iterable of pairs, then the keywords'."},
     {"clear", map_clear, METH_NOARGS, "clear($self, /)\n--\n\nRemoves all pairs. O(n)."},
     {"copy", map_copy, METH_NOARGS,
-     "copy($self, /)\n--\n\nA Map of the same pairs. They come in the order of their hashes, so this takes up to\n"
-     "O(n * n); a Map filled in another order takes O(n)."},
+     "copy($self, /)\n--\n\nA Map of the same pairs. O(n)."},
     {"fromkeys", (PyCFunction)(void (*)(void))map_fromkeys, METH_FASTCALL | METH_CLASS,
      "fromkeys($type, keys, value=None, /)\n--\n\nA map of these keys, all with one value."},
     {"keys", pairs_keys, METH_NOARGS, "keys($self, /)\n--\n\nA live view of the keys."},

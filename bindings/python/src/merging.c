@@ -95,11 +95,8 @@ static int merge_pairs(Table *table, PyObject *pairs) {
     return code == 0 && PyErr_Occurred() ? -1 : code;
 }
 
-int table_merge(Table *table, PyObject *other) {
+static int merge(Table *table, PyObject *other) {
     const State *state = table->state;
-    if (other == (PyObject *)table) {
-        return 0;
-    }
     if (PyDict_CheckExact(other)) {
         return merge_dict(table, other);
     }
@@ -117,6 +114,19 @@ int table_merge(Table *table, PyObject *other) {
     }
     PyErr_Clear();
     return merge_pairs(table, other);
+}
+
+int table_merge(Table *table, PyObject *other) {
+    if (other == (PyObject *)table) {
+        return 0;
+    }
+    Coming coming = coming_of(table->state, other, true);
+    if (table_make_room(table, &coming) < 0) {
+        return -1;
+    }
+    int code = merge(table, other);
+    table_give_back(table, &coming);
+    return code;
 }
 
 PyObject *dict_of(Table *table) {

@@ -23,6 +23,7 @@ static int seed_from(State *state, PyObject *bytes) {
         return -1;
     }
     memcpy(&state->seed, start, sizeof state->seed);
+    state->is_drawn = false;
     return 0;
 }
 
@@ -30,9 +31,19 @@ static int seed_by_chance(State *state) {
     PyObject *os = PyImport_ImportModule("os");
     PyObject *bytes = os == NULL ? NULL : PyObject_CallMethod(os, "urandom", "n", (Py_ssize_t)sizeof state->seed);
     int code = bytes == NULL ? -1 : seed_from(state, bytes);
+    state->is_drawn |= code == 0;
     Py_XDECREF(bytes);
     Py_XDECREF(os);
     return code;
+}
+
+/* Keys come out of a table in the order of their hashes. In another one of the same seed they'd all
+ * meet in its first buckets, since it's small as the first ones come. So seeds differ, but for one
+ * that was given. */
+bucket_seed next_seed(State *state) {
+    bucket_seed seed = state->seed;
+    state->seed.key0 += state->is_drawn;
+    return seed;
 }
 
 static PyObject *seeded(PyObject *module, PyObject *seed) {
@@ -50,10 +61,15 @@ static PyObject *count_nodes(PyObject *module, PyObject *unused) {
 static PyMethodDef functions[] = {
     {"seeded", seeded, METH_O,
      "seeded($module, seed, /)\n--\n\n"
-     "Collections whose first key comes from now on hash by these 16 bytes; by None: by random ones.\n\n"
+     "Collections whose first key comes from now on hash by these 16 bytes; by None: each by\n"
+     "random ones of its own.\n\n"
+     "Keys come in the order of their hashes. So a loop that puts those of one collection into\n"
+     "another of the same bytes takes up to O(n * n), and a Cache lets most of them go. Calls\n"
+     "of a Map or a Set that take a whole collection, as copy and update do, take O(n).\n\n"
      "Each process begins with random ones, or with PYTHONHASHSEED. Of a str, bytes and an int from 2**63 on it is Python's\n"
      "hash that is hashed so, and of strs and bytes that is another one in each process, or by PYTHONHASHSEED."},
     {"_nodes", count_nodes, METH_NOARGS, "How many pairs there are in memory, for tests."},
+    {"_map_of", map_made, METH_VARARGS, "For pickles of a Map."},
     {"_set_of", set_made, METH_VARARGS, "For pickles of a Set."},
     {"_cache_of", cache_made, METH_VARARGS, "For pickles of a Cache."},
     {NULL, NULL, 0, NULL},
@@ -125,7 +141,7 @@ static int module_exec(PyObject *module) {
     if (make_types(module, state) < 0 || seed_by_chance(state) < 0 || add_version(module) < 0) {
         return -1;
     }
-    state->make_map = attribute_of("copyreg", "__newobj__");
+    state->make_map = PyObject_GetAttrString(module, "_map_of");
     state->make_set = PyObject_GetAttrString(module, "_set_of");
     state->make_cache = PyObject_GetAttrString(module, "_cache_of");
     state->cache_info = make_cache_info();

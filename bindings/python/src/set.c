@@ -141,8 +141,7 @@ static PyMethodDef set_methods[] = {
     {"pop", set_pop, METH_NOARGS, "pop($self, /)\n--\n\nRemoves some key, and returns it; KeyError if there is none."},
     {"clear", set_clear, METH_NOARGS, "clear($self, /)\n--\n\nRemoves all keys. O(n)."},
     {"copy", set_copy, METH_NOARGS,
-     "copy($self, /)\n--\n\nA Set of the same keys. They come in the order of their hashes, so this takes up to\n"
-     "O(n * n); a Set filled in another order takes O(n)."},
+     "copy($self, /)\n--\n\nA Set of the same keys. O(n)."},
     {"update", set_update, METH_VARARGS, "update(*others)\n\nPuts the keys of iterables."},
     {"union", set_union, METH_VARARGS, "union(*others)\n\nA Set of the keys that are in any."},
     {"intersection", set_intersection, METH_VARARGS, "intersection(*others)\n\nA Set of the keys that are in all."},

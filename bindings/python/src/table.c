@@ -96,6 +96,10 @@ int table_find(const Table *table, const Key *key, Node **node) {
     return node_found(code, first, key, node);
 }
 
+uint32_t table_open(Table *table, int kind) {
+    return bucket_map_new(&table->handles[kind], 0, next_seed(table->state));
+}
+
 /* Puts a node whose key is absent, behind the last one of its chain if there is one. 0; -1: MemoryError, and nothing has changed.
  * Of a map or a set. */
 static int insert(Table *table, const Key *key, Node *node, Node *last) {
@@ -106,7 +110,7 @@ static int insert(Table *table, const Key *key, Node *node, Node *last) {
     } else {
         uint32_t code = bucket_map_insert(handle, key->word, first);
         if (code == BUCKET_CLOSED) {
-            code = bucket_map_new(handle, 0, table->state->seed);
+            code = table_open(table, key->kind);
             code = code == BUCKET_OK ? bucket_map_insert(handle, key->word, first) : code;
         }
         if (code != BUCKET_OK) {

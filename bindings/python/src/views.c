@@ -19,6 +19,10 @@ PyObject *view_new(Table *table, PyTypeObject *type) {
     return (PyObject *)view;
 }
 
+const Table *table_of_view(PyObject *view) {
+    return ((View *)view)->table;
+}
+
 static int view_traverse(PyObject *self, visitproc visit, void *arg) {
     Py_VISIT(Py_TYPE(self));
     Py_VISIT(((View *)self)->table);

@@ -56,7 +56,9 @@ def without(tests, names):
 def classes():
     for kind, more in (bucket.Map, []), (MapBelow, ["copy"]):
         for tests in mapping_tests.BasicTestMappingProtocol, mapping_tests.TestMappingProtocol, mapping_tests.TestHashMappingProtocol:
-            yield type(f"{kind.__name__}{tests.__name__}", (without(tests, OF_A_MAP + more),), {"type2test": kind})
+            members = {"type2test": kind, "test_popitem": seeded(tests)}
+            base = without(tests, OF_A_MAP + more)
+            yield type(f"{kind.__name__}{tests.__name__}", (base,), members)
     for kind, more in (bucket.Set, ["pickling"]), (SetBelow, []):
         members = {"thetype": kind, "basetype": bucket.Set}
         yield type(f"{kind.__name__}Joint", (without(test_set.TestJointOps, OF_A_SET + more),), members | {"test_gc": None})
@@ -67,6 +69,17 @@ def classes():
     for name in "TestSubsetEqualEmpty", "TestSubsetEqualNonEmpty", "TestSubsetEmptyNonEmpty", "TestSubsetPartial", "TestSubsetNonOverlap":
         tests = getattr(test_set, name)
         yield type(name, (tests,), {"left": bucket.Set(tests.left), "right": bucket.Set(tests.right)})
+
+
+def seeded(tests):
+    """Two maps that are filled alike give their pairs in one order only by one seed."""
+
+    def test_popitem(self):
+        bucket.seeded(bytes(range(16)))
+        self.addCleanup(bucket.seeded, None)
+        tests.test_popitem(self)
+
+    return test_popitem
 
 
 def mixed(tests, left, right):

@@ -87,6 +87,11 @@ def calls(kind):
 
 
 class Refused(unittest.TestCase):
+    def setUp(self):
+        # By one seed each run makes the same requests.
+        bucket.seeded(bytes(range(16)))
+        self.addCleanup(bucket.seeded, None)
+
     def check(self, kind, made, model, call, is_write, is_refused):
         """What is there after a call: what was, or if it is a write that was not refused, something else."""
         self.assertEqual(len(made), len(list(made)))

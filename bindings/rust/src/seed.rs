@@ -8,6 +8,11 @@ use std::hash::BuildHasher;
 ///
 /// It is printed as `Seed(..)`, so that no log tells the secret.
 ///
+/// A map or a set gives its pairs in the order of their hashes. So a loop that inserts them into
+/// another one of the same seed takes up to O(n * n), unless that one reserves first, and a
+/// [`Cache`](crate::Cache) of that seed evicts most of them. `clone`, `extend` and `collect`
+/// reserve, and random seeds differ.
+///
 /// ```
 /// use bucket::{Map, Seed};
 ///

@@ -8,7 +8,7 @@ mod refusing;
 use bucket::map::Entry;
 use bucket::{Cache, Key, Map, NoMemory, Reason, Seed, Set};
 use common::{Counted, Tally};
-use refusing::{granting, held};
+use refusing::{asked, granting, held};
 use std::collections::BTreeMap;
 use std::fmt::{Debug, Write};
 use std::process::Command;
@@ -325,4 +325,46 @@ fn a_trait_that_cannot_fail_ends_as_stds_do() {
     let output = again.args(["--exact", NAME, "--nocapture"]).env("BUCKET_TEST_ABORTS", "1").output().unwrap();
     assert!(!output.status.success());
     assert!(String::from_utf8_lossy(&output.stderr).contains("memory allocation of"), "{output:?}");
+}
+
+/// Pairs come in the order of the slots. By one seed they'd meet in the first buckets of a table
+/// that grows, whose chains are requests.
+fn copies_ask_for_no_more_than_fillings<K: Numbered>(seed: Option<Seed>) {
+    let empty = || seed.map_or(Map::new(), Map::with_seed);
+    let mut map = empty();
+    let filling = asked(|| {
+        for number in 0..3000 {
+            map.insert(K::of(number), number).unwrap();
+        }
+    });
+    // A text key is a request of its own, as it was there.
+    let pairs = || map.iter().map(|(key, value)| (key.clone(), *value));
+    let (mut to, mut one, mut third) = (empty(), empty(), empty());
+    one.insert(K::of(4000), 1).unwrap();
+    let keys: Set<K> = map.keys().cloned().collect();
+    let same = keys.clone();
+    assert!(asked(|| drop(map.clone())) < filling);
+    assert!(asked(|| to.extend(pairs())) < filling);
+    // As std's, it reserves for half of them where there are others.
+    assert!(asked(|| one.extend(pairs())) < filling + 250);
+    assert!(asked(|| drop(pairs().collect::<Map<_, _>>())) < filling);
+    assert!(asked(|| drop(&keys | &same)) < filling);
+    assert!(asked(|| drop(&keys & &same)) < filling + 200);
+    assert!(to == map && one.len() == 3001);
+    if seed.is_none() {
+        let looping = asked(|| {
+            for (key, value) in pairs() {
+                third.insert(key, value).unwrap();
+            }
+        });
+        assert!(looping < filling + 200);
+    }
+}
+
+#[test]
+fn a_copy_asks_for_no_more_than_the_filling_did() {
+    for seed in [None, Some(Seed::FIXED), Some(Seed::from_bytes([7; 16]))] {
+        copies_ask_for_no_more_than_fillings::<u64>(seed);
+        copies_ask_for_no_more_than_fillings::<String>(seed);
+    }
 }

@@ -10,6 +10,8 @@ thread_local! {
     static GRANTED: Cell<usize> = const { Cell::new(usize::MAX) };
     /// Whether those after it are refused too.
     static ALL_AFTER: Cell<bool> = const { Cell::new(false) };
+    /// How many there were.
+    static ASKED: Cell<usize> = const { Cell::new(0) };
     /// How many were refused.
     static REFUSED: Cell<usize> = const { Cell::new(0) };
     /// How many blocks this thread has taken, less those that it gave back.
@@ -25,6 +27,7 @@ unsafe extern "C" {
 }
 
 fn is_granted() -> bool {
+    ASKED.set(ASKED.get() + 1);
     let granted = GRANTED.get();
     if granted == 0 {
         REFUSED.set(REFUSED.get() + 1);
@@ -93,6 +96,13 @@ pub fn granting<T>(granted: usize, all_after: bool, call: impl FnOnce() -> T) ->
     let answer = call();
     GRANTED.set(usize::MAX);
     (answer, REFUSED.get())
+}
+
+/// How many requests a call makes.
+pub fn asked(call: impl FnOnce()) -> usize {
+    let before = ASKED.get();
+    call();
+    ASKED.get() - before
 }
 
 /// How many blocks this thread holds.
