@@ -73,6 +73,10 @@ fn run_calls(pairs: u64) {
     print_time("walk", start, pairs);
     assert_eq!(sum, (pairs..2 * pairs).sum());
     let start = Instant::now();
+    let sum = iterated(&map);
+    print_time("iter", start, pairs);
+    assert_eq!(sum, (pairs..2 * pairs).sum());
+    let start = Instant::now();
     assert_eq!(remove_all(&mut map, pairs, 2 * pairs), pairs);
     print_time("remove", start, pairs);
     assert_eq!(insert_all(&mut map, 0, pairs), pairs);
@@ -86,6 +90,9 @@ fn run_large(pairs: u64) {
     let start = Instant::now();
     assert_eq!(insert_all(&mut map, 0, pairs), pairs);
     print_time("large", start, pairs);
+    let start = Instant::now();
+    assert_eq!(remove_all(&mut map, 0, pairs), pairs);
+    print_time("emptied", start, pairs);
 }
 
 fn run_single(pairs: u64) {
@@ -145,6 +152,15 @@ fn remove_all(map: &mut Map, from: u64, to: u64) -> u64 {
 #[inline(never)]
 fn sum(map: &mut Map) -> u64 {
     map.values().fold(0, |sum: u64, value| sum.wrapping_add(*value))
+}
+
+#[inline(never)]
+fn iterated(map: &Map) -> u64 {
+    let mut sum: u64 = 0;
+    for (_, value) in map.iter() {
+        sum = sum.wrapping_add(*value);
+    }
+    sum
 }
 
 #[inline(never)]

@@ -89,7 +89,7 @@ awk -v maps="$maps" '
                 shown(figures[group, 1] / unit) ".." shown(figures[group, count[group]] / unit) ")")
         }
         for (i = 2; i <= kinds; i++)
-            text = text sprintf("%-11s", sprintf("x%.2f", \
+            text = text sprintf("%-16s", sprintf("x%.2f", \
                 median(pairs " " name " " kind[1]) / median(pairs " " name " " kind[i])))
         sub(/ +$/, "", text)
         print text
@@ -97,7 +97,7 @@ awk -v maps="$maps" '
     function head(title,    i, text) {
         text = sprintf("%-34s", title)
         for (i = 1; i <= kinds; i++) text = text sprintf("%-28s", kind[i])
-        for (i = 2; i <= kinds; i++) text = text sprintf("%-11s", "to " kind[i])
+        for (i = 2; i <= kinds; i++) text = text sprintf("%-16s", "to " kind[i])
         print ""
         sub(/ +$/, "", text)
         print text
@@ -119,12 +119,14 @@ awk -v maps="$maps" '
             if (s < 4) {
                 line(sizes[s], "large", "  insert, large enough, ns", 1)
                 grown(sizes[s])
+                line(sizes[s], "emptied", "  remove, large enough, ns", 1)
             }
             line(sizes[s], "hit", "  hit, ns", 1)
             line(sizes[s], "miss", "  miss, ns", 1)
             line(sizes[s], "churn", "  remove one, insert one, ns", 1)
             line(sizes[s], "remove", "  remove, ns", 1)
             line(sizes[s], "walk", "  walk, ns a pair", 1)
+            line(sizes[s], "iter", "  iterator, ns a pair", 1)
             line(sizes[s], "sweep", "  sweep or retain, ns a pair", 1)
             line(sizes[s], "bytes", "  bytes a pair", 1)
             line(sizes[s], "longest", "  longest insertion, us", 1000)
@@ -152,7 +154,7 @@ if [ -n "$with_instructions" ] && command -v valgrind >/dev/null; then
             >/dev/null 2>&1
         callgrind_annotate --inclusive=yes --threshold=100 "$folder/calls" | tr -d , |
             awk -v map="$map" '
-                match($0, /(insert|find|miss|churn|remove)_all|::sum|::drop_odd/) {
+                match($0, /(insert|find|miss|churn|remove)_all|::sum|::iterated|::drop_odd/) {
                     name = substr($0, RSTART, RLENGTH)
                     if (!(name in count)) count[name] = $1
                 }
@@ -162,8 +164,9 @@ if [ -n "$with_instructions" ] && command -v valgrind >/dev/null; then
                         count["miss_all"] / 64000
                     printf "churn %.0f, remove %.0f, ",
                         count["churn_all"] / 64000, count["remove_all"] / 64000
-                    printf "walk %.1f, sweep %.1f\n",
-                        count["::sum"] / 64000, count["::drop_odd"] / 64000
+                    printf "walk %.1f, iterator %.1f, sweep %.1f\n",
+                        count["::sum"] / 64000, count["::iterated"] / 64000,
+                        count["::drop_odd"] / 64000
                 }'
     done
 fi
