@@ -121,8 +121,8 @@ static PyObject *cache_put_call(PyObject *self, PyObject *const *args, Py_ssize_
     return pair;
 }
 
-/* _cache_of(type, maxsize, words=0, hashed=0): an empty cache of a type below Cache, without a call of its `__init__`, with room for
- * so many pairs of each kind, if there is memory. Older pickles have no such numbers. */
+/* _cache_of(type, maxsize, words=0, hashed=0): an empty cache of a type below Cache, without a call of its `__init__`, with room
+ * for so many pairs of each kind, if there is memory. Older pickles have no such numbers. */
 PyObject *cache_made(PyObject *module, PyObject *args) {
     PyTypeObject *type;
     Py_ssize_t maxsize, words = 0, hashed = 0;

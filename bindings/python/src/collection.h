@@ -121,8 +121,8 @@ int table_look(Table *table, PyObject *object, bool touches, Node **node);
 int table_remove(Table *table, PyObject *object, Node **node);
 /* Opens the table of words, or that of hashes: a code of the library's. */
 uint32_t table_open(Table *table, int kind);
-/* Puts a value at a key, and `node` is its pair. 1: it was there, and `earlier` gets the value that it had, which the caller lets go;
- * 0: it was absent; -1: an exception is set, and nothing has changed. No pair is touched. */
+/* Puts a value at a key, and `node` is its pair. 1: it was there, and `earlier` gets the value that it had, which the caller
+ * lets go; 0: it was absent; -1: an exception is set, and nothing has changed. No pair is touched. */
 int table_put_at(Table *table, const Key *at, PyObject *key, PyObject *value, Node **node, PyObject **earlier);
 /* Puts a value at a key, also of a cache. 0 or -1. */
 int table_put(Table *table, PyObject *key, PyObject *value);
@@ -256,8 +256,8 @@ int set_add_all(Table *set, PyObject *keys);
 
 /* As table_find, and a pair that is there is touched. */
 int cache_touch(Cache *cache, const Key *key, Node **node);
-/* Puts a pair, which is then the last one touched. `gone` gets the node that went for it, which the caller drops, or NULL. 0; -1: an
- * exception is set, and nothing has changed. */
+/* Puts a pair, which is then the last one touched. `gone` gets the node that went for it, which the caller drops, or NULL.
+ * 0; -1: an exception is set, and nothing has changed. */
 int cache_put(Cache *cache, PyObject *key, PyObject *value, Node **gone);
 void order_begin(Cache *cache);
 void order_leave(Used *used);

@@ -98,7 +98,8 @@ uint32_t table_open(Table *table, int kind) {
     return bucket_map_new(&table->handles[kind], 0, seed);
 }
 
-/* Puts a node whose key is absent, behind the last one of its chain if there is one. 0; -1: MemoryError, and nothing has changed. */
+/* Puts a node whose key is absent, behind the last one of its chain if there is one. 0; -1: MemoryError, and nothing has
+ * changed. */
 static int insert(Table *table, const Key *key, Node *node, Node *last) {
     bucket_handle *handle = &table->handles[key->kind];
     uint64_t first = (uint64_t)(uintptr_t)node;
