@@ -12,7 +12,8 @@ the int that it equals. A class below int, str or bytes counts as its base, unle
 OverflowError if it is an int.
 
 A Map has all calls of a dict, and a Set all of a set, but for the order: it is that of the slots, and
-another one after a pair is put or removed. So nothing is reversed. A Cache has at most `maxsize` pairs.
+another one after a pair is put or removed. So nothing is reversed. A Cache has at most `maxsize` pairs: past
+that the one goes that was used least recently of all.
 
 Keys hash by a random seed, which keys that an enemy chooses need, another one in each collection; or
 by PYTHONHASHSEED: see `seeded`. Of a str, bytes and an int from 2**63 on it is Python's own hash that

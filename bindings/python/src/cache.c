@@ -1,8 +1,6 @@
 /* The type Cache: a mapping of at most `maxsize` pairs, from which the pair goes that was touched longest ago.
  *
- * The library's cache has twice as many slots as there may be pairs. So hardly ever is one of its buckets of 32 slots full, and it
- * is the order here, a ring of all nodes by their last touch, that says which pair goes. Where a bucket is full, a chain goes: all
- * pairs of one hash, of which a look-up touches all for the library. */
+ * Its tables are those of a map. Beside them all nodes stand in a ring by their last touch, which says which pair goes. */
 #include "collection.h"
 
 /* ---- The order of use ---- */
@@ -23,20 +21,8 @@ static void order_append(Cache *cache, Used *used) {
     cache->order.before = used;
 }
 
-/* All nodes of a chain leave the order. Returns how many they are. */
-static size_t order_leave_all(Node *first) {
-    size_t count = 0;
-    for (Node *node = first; node != NULL; node = node->next) {
-        order_leave((Used *)node);
-        count++;
-    }
-    return count;
-}
-
 int cache_touch(Cache *cache, const Key *key, Node **node) {
-    uint64_t first = 0;
-    uint32_t code = bucket_cache_get(&cache->table.handles[key->kind], key->word, &first);
-    int is_there = node_found(code, first, key, node);
+    int is_there = table_find(&cache->table, key, node);
     if (is_there == 1) {
         order_leave((Used *)*node);
         order_append(cache, (Used *)*node);
@@ -44,66 +30,9 @@ int cache_touch(Cache *cache, const Key *key, Node **node) {
     return is_there;
 }
 
-/* ---- Puts ---- */
-
-/* Opened with so many slots at once, so that a small one never grows. */
-enum { FIRST_SLOTS = 1024 };
-
-static uint32_t cache_open(Cache *cache, int kind) {
-    bucket_handle *handle = &cache->table.handles[kind];
-    size_t most = 2 * cache->maxsize, least = most < FIRST_SLOTS ? most : FIRST_SLOTS;
-    return bucket_cache_new(handle, least, most, next_seed(cache->table.state));
-}
-
-/* The library's put. `gone` gets the chain that was evicted, if one was. */
-static uint32_t put_first(Cache *cache, const Key *key, Node *node, Node **gone) {
-    uint64_t word = 0, first = 0;
-    uint32_t code = bucket_cache_put(&cache->table.handles[key->kind], key->word, (uint64_t)(uintptr_t)node, &word, &first);
-    *gone = code == BUCKET_EVICTED ? (Node *)(uintptr_t)first : NULL;
-    return code;
-}
-
-/* Puts a node whose key is absent, behind the chain's last one if there is a chain. `gone` gets the chain that was evicted, if one
- * was. 0; -1: MemoryError, and nothing has changed. */
-static int insert(Cache *cache, const Key *key, Node *node, Node *last, Node **gone) {
-    Table *table = &cache->table;
-    if (last != NULL) {
-        last->next = node;
-    } else {
-        uint32_t code = put_first(cache, key, node, gone);
-        if (code == BUCKET_CLOSED) {
-            code = cache_open(cache, key->kind);
-            code = code == BUCKET_OK ? put_first(cache, key, node, gone) : code;
-        }
-        if (code != BUCKET_OK && code != BUCKET_EVICTED) {
-            return code_refused(code);
-        }
-    }
-    order_append(cache, (Used *)node);
-    table->lens[key->kind]++;
-    table->lens[key->kind] -= order_leave_all(*gone);
-    table->version++;
-    return 0;
-}
-
-/* The same of a pair. If there is one too many then, the one goes that was touched longest ago. */
-static int put_absent(Cache *cache, const Key *at, PyObject *key, PyObject *value, Node *last, Node **gone) {
-    Table *table = &cache->table;
-    Node *node = node_new(table, key, value);
-    if (node == NULL) {
-        return -1;
-    }
-    if (insert(cache, at, node, last, gone) < 0) {
-        nodes_drop(table->state, node);
-        return -1;
-    }
-    if (*gone == NULL && table_len(table) > cache->maxsize) {
-        return table_take_some(table, gone) < 0 ? -1 : 0;
-    }
-    return 0;
-}
-
+/* The new pair comes before the other one goes: where memory is refused for it, none has gone. */
 int cache_put(Cache *cache, PyObject *key, PyObject *value, Node **gone) {
+    Table *table = &cache->table;
     Key at;
     Node *node;
     KeyCode code = key_of(&at, key);
@@ -111,16 +40,21 @@ int cache_put(Cache *cache, PyObject *key, PyObject *value, Node **gone) {
     if (code != KEY_OK) {
         return code == KEY_NONE ? key_refused(key) : -1;
     }
-    PyObject *earlier = NULL;
-    int is_there = cache_touch(cache, &at, &node), done = is_there < 0 ? -1 : 0;
-    if (is_there == 1) {
-        earlier = node->value;
-        node->value = Py_NewRef(value);
-    } else if (is_there == 0 && cache->maxsize > 0) {
-        done = put_absent(cache, &at, key, value, node, gone);
+    if (cache->maxsize == 0) {
+        return 0;
     }
+    PyObject *earlier = NULL;
+    int is_there = table_put_at(table, &at, key, value, &node, &earlier);
+    if (is_there < 0) {
+        return -1;
+    }
+    if (is_there == 1) {
+        order_leave((Used *)node);
+    }
+    order_append(cache, (Used *)node);
+    int has_gone = table_len(table) > cache->maxsize ? table_take_some(table, gone) : 0;
     Py_XDECREF(earlier);
-    return done;
+    return has_gone < 0 ? -1 : 0;
 }
 
 /* ---- The type ---- */
@@ -187,21 +121,24 @@ static PyObject *cache_put_call(PyObject *self, PyObject *const *args, Py_ssize_
     return pair;
 }
 
-/* _cache_of(type, maxsize): an empty cache of a type below Cache, without a call of its `__init__`. */
+/* _cache_of(type, maxsize, words=0, hashed=0): an empty cache of a type below Cache, without a call of its `__init__`, with room
+ * for so many pairs of each kind, if there is memory. Older pickles have no such numbers. */
 PyObject *cache_made(PyObject *module, PyObject *args) {
     PyTypeObject *type;
-    Py_ssize_t maxsize;
+    Py_ssize_t maxsize, words = 0, hashed = 0;
     State *state = state_of_module(module);
-    if (!PyArg_ParseTuple(args, "O!n", &PyType_Type, &type, &maxsize)) {
+    if (!PyArg_ParseTuple(args, "O!n|nn", &PyType_Type, &type, &maxsize, &words, &hashed)) {
         return NULL;
     }
     PyObject *made = PyObject_CallMethod((PyObject *)type, "__new__", "O", type);
-    if (made != NULL && (!is_cache(state, made) || maxsize < 0)) {
-        PyErr_SetString(PyExc_TypeError, "a type below Cache and a size are wanted");
+    if (made != NULL && (!is_cache(state, made) || maxsize < 0 || words < 0 || hashed < 0)) {
+        PyErr_SetString(PyExc_TypeError, "a type below Cache and sizes are wanted");
         Py_CLEAR(made);
     }
     if (made != NULL) {
+        Coming coming = {.lens = {(size_t)words, (size_t)hashed}};
         ((Cache *)made)->maxsize = (size_t)maxsize;
+        (void)table_make_room((Table *)made, &coming);
     }
     return made;
 }
@@ -221,14 +158,16 @@ static PyObject *cache_copy(PyObject *self, PyObject *unused) {
 }
 
 static PyObject *cache_reduce(PyObject *self, PyObject *unused) {
+    Table *table = (Table *)self;
     (void)unused;
     PyObject *attributes = collection_attributes(self);
-    PyObject *pairs = attributes == NULL ? NULL : iterator_new((Table *)self, GIVES_ITEMS);
+    PyObject *pairs = attributes == NULL ? NULL : iterator_new(table, GIVES_ITEMS);
     if (pairs == NULL) {
         Py_XDECREF(attributes);
         return NULL;
     }
-    return Py_BuildValue("O(On)NON", ((Table *)self)->state->make_cache, Py_TYPE(self), (Py_ssize_t)((Cache *)self)->maxsize,
+    Py_ssize_t words = (Py_ssize_t)table->lens[WORDS], hashed = (Py_ssize_t)table->lens[HASHED];
+    return Py_BuildValue("O(Onnn)NON", table->state->make_cache, Py_TYPE(self), (Py_ssize_t)((Cache *)self)->maxsize, words, hashed,
                          attributes, Py_None, pairs);
 }
 
@@ -297,8 +236,7 @@ static PyMethodDef cache_methods[] = {
     {"peek", (PyCFunction)(void (*)(void))cache_peek, METH_FASTCALL,
      "peek($self, key, default=None, /)\n--\n\nThe value at a key, or the default. Touches and counts nothing. O(1)."},
     {"put", (PyCFunction)(void (*)(void))cache_put_call, METH_FASTCALL,
-     "put($self, key, value, /)\n--\n\nPuts a pair, as []= does, and returns the pair that went for it, or None. If several went,\n"
-     "which had one hash, it returns the one that was put first. O(1)."},
+     "put($self, key, value, /)\n--\n\nPuts a pair, as []= does, and returns the pair that went for it, or None. O(1)."},
     {"setdefault", (PyCFunction)(void (*)(void))pairs_setdefault, METH_FASTCALL,
      "setdefault($self, key, default=None, /)\n--\n\nThe value at a key, as of get; or the default, which is put there. O(1)."},
     {"pop", (PyCFunction)(void (*)(void))pairs_pop, METH_FASTCALL,
@@ -329,9 +267,7 @@ static PyMemberDef cache_members[] = {
 static PyType_Slot cache_slots[] = {
     {Py_tp_doc, "Cache(maxsize=128)\n\nA mapping of at most `maxsize` pairs: a further one lets the pair go that was touched longest\n"
                 "ago. [], get, setdefault and what puts a pair touch it; peek, in, views and iterations don't. An iteration gives the\n"
-                "pair touched longest ago first, from a copy of the order. Above 32 pairs another pair may go earlier, where\n"
-                "one of the library's buckets of 32 slots is full: of twice as many slots as pairs that is rare. Then all go whose\n"
-                "keys have one hash, as \"a\" and b\"a\" do."},
+                "pair touched longest ago first, from a copy of the order."},
     {Py_tp_new, cache_new},
     {Py_tp_init, cache_init},
     {Py_tp_dealloc, collection_dealloc},

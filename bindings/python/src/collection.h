@@ -114,15 +114,16 @@ int code_refused(uint32_t code);
 /* 1, and the node at a key; 0: it is absent, and `node` is the last one of its chain, or NULL if there is none; -1: an exception is
  * set. No pair is touched. */
 int table_find(const Table *table, const Key *key, Node **node);
-/* The same of a look-up of the library's, by its code and the first node of the chain. */
-int node_found(uint32_t code, uint64_t first, const Key *key, Node **node);
 /* Takes the node at a key out: 1. 0: it is absent; -1: an exception is set. */
 int table_take(Table *table, const Key *key, Node **node);
 /* As table_find and table_take, of an object that may be no key. A cache is touched by `touches`. */
 int table_look(Table *table, PyObject *object, bool touches, Node **node);
 int table_remove(Table *table, PyObject *object, Node **node);
-/* Opens the table of words, or that of hashes, of a map or a set: a code of the library's. */
+/* Opens the table of words, or that of hashes: a code of the library's. */
 uint32_t table_open(Table *table, int kind);
+/* Puts a value at a key, and `node` is its pair. 1: it was there, and `earlier` gets the value that it had, which the caller
+ * lets go; 0: it was absent; -1: an exception is set, and nothing has changed. No pair is touched. */
+int table_put_at(Table *table, const Key *at, PyObject *key, PyObject *value, Node **node, PyObject **earlier);
 /* Puts a value at a key, also of a cache. 0 or -1. */
 int table_put(Table *table, PyObject *key, PyObject *value);
 /* Takes some node out: 1; of a cache the one touched longest ago. 0: there is none; -1: an exception is set. */
@@ -144,9 +145,9 @@ typedef struct Coming {
  * The keys are the object's items, or of pairs the first parts. No other code runs, and no
  * exception is set. */
 Coming coming_of(const State *state, PyObject *object, bool are_pairs);
-/* Makes room in a map or a set for as many pairs as come, those that are there counted in. 0; -1:
- * MemoryError, and nothing has changed. Where they aren't sure, room is made for the first pairs
- * alone, and may be wanting. */
+/* Makes room for as many pairs as come, those that are there counted in, and in a cache for as many
+ * as it may have. 0; -1: MemoryError, and nothing has changed. Where they aren't sure, room is made
+ * for the first pairs alone, and may be wanting. */
 int table_make_room(Table *table, Coming *coming);
 /* Gives up what most of was made in vain, once all have come. */
 void table_give_back(Table *table, const Coming *coming);
@@ -255,8 +256,8 @@ int set_add_all(Table *set, PyObject *keys);
 
 /* As table_find, and a pair that is there is touched. */
 int cache_touch(Cache *cache, const Key *key, Node **node);
-/* Puts a pair, which is then the last one touched. `gone` gets the node that went for it, or a whole chain, in the order of the
- * puts: the caller drops it. 0; -1: an exception is set, and nothing has changed. */
+/* Puts a pair, which is then the last one touched. `gone` gets the node that went for it, which the caller drops, or NULL.
+ * 0; -1: an exception is set, and nothing has changed. */
 int cache_put(Cache *cache, PyObject *key, PyObject *value, Node **gone);
 void order_begin(Cache *cache);
 void order_leave(Used *used);

@@ -63,9 +63,9 @@ static PyMethodDef functions[] = {
      "seeded($module, seed, /)\n--\n\n"
      "Collections whose first key comes from now on hash by these 16 bytes; by None: each by\n"
      "random ones of its own.\n\n"
-     "Keys come in the order of their hashes. So a loop that puts those of one collection into\n"
-     "another of the same bytes takes up to O(n * n), and a Cache lets most of them go. Calls\n"
-     "of a Map or a Set that take a whole collection, as copy and update do, take O(n).\n\n"
+     "Keys come in the order of their hashes. So a loop that puts those of one Map or Set into\n"
+     "another of the same bytes takes up to O(n * n). Calls that take a whole collection, as copy\n"
+     "and update do, take O(n). A Cache has other bytes, made of these.\n\n"
      "Each process begins with random ones, or with PYTHONHASHSEED. Of a str, bytes and an int from 2**63 on it is Python's\n"
      "hash that is hashed so, and of strs and bytes that is another one in each process, or by PYTHONHASHSEED."},
     {"_nodes", count_nodes, METH_NOARGS, "How many pairs there are in memory, for tests."},

@@ -102,12 +102,19 @@ static uint32_t reserve(Table *table, int kind, size_t additional) {
     return code;
 }
 
+/* How many of so many pairs a collection may have at once. */
+static size_t most_of(const Table *table, size_t coming) {
+    size_t most = table->is_cache ? ((const Cache *)table)->maxsize : coming;
+    return coming < most ? coming : most;
+}
+
 /* The array is another one then, in which a walk would lose its place. So the version is too. */
 int table_make_room(Table *table, Coming *coming) {
     for (int kind = WORDS; kind < KINDS; kind++) {
-        size_t len = table->lens[kind], all = coming->lens[kind];
-        if (table->is_cache || all <= FEW || all <= len || (!coming->is_sure && len > 0)) {
-            coming->lens[kind] = 0;
+        size_t len = table->lens[kind], all = most_of(table, coming->lens[kind]);
+        bool is_vain = all <= FEW || all <= len || (!coming->is_sure && len > 0);
+        coming->lens[kind] = is_vain ? 0 : all;
+        if (is_vain) {
             continue;
         }
         uint32_t code = reserve(table, kind, all - len);

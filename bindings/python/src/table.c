@@ -65,8 +65,8 @@ int code_refused(uint32_t code) {
     return -1;
 }
 
-/* A table that isn't open has no pair. */
-int node_found(uint32_t code, uint64_t first, const Key *key, Node **node) {
+/* What a look-up of the library's has found, by its code and the first node of the chain. A table that isn't open has no pair. */
+static int node_found(uint32_t code, uint64_t first, const Key *key, Node **node) {
     *node = NULL;
     if (code != BUCKET_OK) {
         return code == BUCKET_ABSENT || code == BUCKET_CLOSED ? 0 : code_refused(code);
@@ -84,24 +84,22 @@ int node_found(uint32_t code, uint64_t first, const Key *key, Node **node) {
     return 1;
 }
 
-/* The library's look-up, which touches no pair. */
-static uint32_t look(const Table *table, const Key *key, uint64_t *first) {
-    const bucket_handle *handle = &table->handles[key->kind];
-    return table->is_cache ? bucket_cache_peek(handle, key->word, first) : bucket_map_get(handle, key->word, first);
-}
-
 int table_find(const Table *table, const Key *key, Node **node) {
     uint64_t first = 0;
-    uint32_t code = look(table, key, &first);
+    uint32_t code = bucket_map_get(&table->handles[key->kind], key->word, &first);
     return node_found(code, first, key, node);
 }
 
+/* A cache has another seed than a map by the same bytes. If a cache takes a large map's pairs, in the order of that one's hashes,
+ * those that it has at once would else meet in a few buckets. */
 uint32_t table_open(Table *table, int kind) {
-    return bucket_map_new(&table->handles[kind], 0, next_seed(table->state));
+    bucket_seed seed = next_seed(table->state);
+    seed.key1 = table->is_cache ? ~seed.key1 : seed.key1;
+    return bucket_map_new(&table->handles[kind], 0, seed);
 }
 
-/* Puts a node whose key is absent, behind the last one of its chain if there is one. 0; -1: MemoryError, and nothing has changed.
- * Of a map or a set. */
+/* Puts a node whose key is absent, behind the last one of its chain if there is one. 0; -1: MemoryError, and nothing has
+ * changed. */
 static int insert(Table *table, const Key *key, Node *node, Node *last) {
     bucket_handle *handle = &table->handles[key->kind];
     uint64_t first = (uint64_t)(uintptr_t)node;
@@ -124,26 +122,22 @@ static int insert(Table *table, const Key *key, Node *node, Node *last) {
 
 /* Takes the only node of a word out. */
 static int take_only(Table *table, const Key *key, Node **node) {
-    bucket_handle *handle = &table->handles[key->kind];
     uint64_t first = 0;
-    uint32_t code = table->is_cache ? bucket_cache_remove(handle, key->word, &first) : bucket_map_remove(handle, key->word, &first);
+    uint32_t code = bucket_map_remove(&table->handles[key->kind], key->word, &first);
     return node_found(code, first, key, node);
 }
 
-/* Takes the first of several nodes out of a chain: the table gets the second one in its place, which takes no memory. In a cache of
- * the library's that is a touch. 1 or -1. */
+/* Takes the first of several nodes out of a chain: the table gets the second one in its place, which takes no memory. 1 or -1. */
 static int take_first(Table *table, const Key *key, const Node *first) {
-    bucket_handle *handle = &table->handles[key->kind];
-    uint64_t second = (uint64_t)(uintptr_t)first->next, gone = 0, earlier = 0;
-    uint32_t code = table->is_cache ? bucket_cache_upsert(handle, key->word, second, &gone, &earlier)
-                                    : bucket_map_upsert(handle, key->word, second, &earlier);
+    uint64_t second = (uint64_t)(uintptr_t)first->next, earlier = 0;
+    uint32_t code = bucket_map_upsert(&table->handles[key->kind], key->word, second, &earlier);
     return code == BUCKET_PRESENT ? 1 : code_refused(code);
 }
 
 /* Takes the node at a key of HASHED out, wherever it stands in its chain. 1, 0, -1. */
 static int take_hashed(Table *table, const Key *key, Node **node) {
     uint64_t first = 0;
-    uint32_t code = look(table, key, &first);
+    uint32_t code = bucket_map_get(&table->handles[key->kind], key->word, &first);
     int is_there = node_found(code, first, key, node);
     if (is_there != 1) {
         return is_there;
@@ -196,33 +190,32 @@ int table_remove(Table *table, PyObject *object, Node **node) {
     return code == KEY_OK ? table_take(table, &key, node) : code == KEY_NONE ? 0 : -1;
 }
 
-/* Puts a value at a key of a map or a set. `earlier` gets the value that was there, which the caller lets go. */
-static int put(Table *table, const Key *at, PyObject *key, PyObject *value, PyObject **earlier) {
-    Node *found;
-    int is_there = table_find(table, at, &found);
+int table_put_at(Table *table, const Key *at, PyObject *key, PyObject *value, Node **node, PyObject **earlier) {
+    int is_there = table_find(table, at, node);
     if (is_there == 1) {
-        *earlier = found->value;
-        found->value = Py_XNewRef(value);
+        *earlier = (*node)->value;
+        (*node)->value = Py_XNewRef(value);
     }
     if (is_there != 0) {
-        return is_there == 1 ? 0 : -1;
+        return is_there;
     }
-    Node *node = node_new(table, key, value);
-    if (node == NULL) {
+    Node *last = *node;
+    *node = node_new(table, key, value);
+    if (*node == NULL) {
         return -1;
     }
-    if (insert(table, at, node, found) < 0) {
-        nodes_drop(table->state, node);
+    if (insert(table, at, *node, last) < 0) {
+        nodes_drop(table->state, *node);
         return -1;
     }
     return 0;
 }
 
 int table_put(Table *table, PyObject *key, PyObject *value) {
+    Node *node;
     if (table->is_cache) {
-        Node *gone = NULL;
-        int code = cache_put((Cache *)table, key, value, &gone);
-        nodes_drop(table->state, gone);
+        int code = cache_put((Cache *)table, key, value, &node);
+        nodes_drop(table->state, code == 0 ? node : NULL);
         return code;
     }
     Key at;
@@ -231,9 +224,9 @@ int table_put(Table *table, PyObject *key, PyObject *value) {
         return code == KEY_NONE ? key_refused(key) : -1;
     }
     PyObject *earlier = NULL;
-    int done = put(table, &at, key, value, &earlier);
+    int is_there = table_put_at(table, &at, key, value, &node, &earlier);
     Py_XDECREF(earlier);
-    return done;
+    return is_there < 0 ? -1 : 0;
 }
 
 /* ---- All, or some ---- */

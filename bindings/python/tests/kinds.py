@@ -39,6 +39,27 @@ CACHES = [Kind(lambda: bucket.Cache(1 << 14), key) for key in KEYS]
 KINDS = [*MAPS, *CACHES, *SETS]
 
 
+class Model(collections.OrderedDict):
+    """What a Cache has, in the order of use."""
+
+    peek = dict.get
+
+    def __init__(self, maxsize):
+        super().__init__()
+        self.maxsize = maxsize
+
+    def get(self, key, default=None):
+        if key in self:
+            self.move_to_end(key)
+        return self.peek(key, default)
+
+    def put(self, key, value):
+        """Puts a pair, and returns the one that goes, or None."""
+        self[key] = value
+        self.move_to_end(key)
+        return self.popitem(last=False) if len(self) > self.maxsize else None
+
+
 class Other:
     """Some value of a class of its own."""
 
@@ -51,13 +72,11 @@ def put(made, key, value):
 
 
 def filled(kind, count):
-    """A collection of so many keys, and a dict or a set of the same; a large cache may have let some go."""
+    """A collection of so many keys, and a dict or a set of the same."""
     made, model = kind.type(), {}
     for number in range(count):
         put(made, kind.key(number), number)
         model[kind.key(number)] = number
-    if kind in CACHES:
-        model = {key: value for key, value in model.items() if key in made}
     return made, set(model) if kind in SETS else model
 
 

@@ -1,13 +1,13 @@
 """A cache: which pair goes, what touches and counts. An OrderedDict in the order of use says what is right."""
 
-import collections
 import copy
+import os
 import pickle
 import random
 import unittest
 
 import bucket
-from kinds import CACHES, KEYS, contents, filled, raised
+from kinds import CACHES, KEYS, Model, contents, filled, raised
 
 
 def key(number):
@@ -15,39 +15,32 @@ def key(number):
 
 
 class Caches(unittest.TestCase):
-    def test_a_small_cache_lets_the_pair_go_that_was_touched_longest_ago(self):
+    def test_the_pair_goes_that_was_touched_longest_ago(self):
         source = random.Random(5)
-        for maxsize in 1, 2, 3, 10, 32:
-            made, model = bucket.Cache(maxsize), collections.OrderedDict()
+        for maxsize in 1, 2, 3, 10, 32, 300:
+            made, model = bucket.Cache(maxsize), Model(maxsize)
             for _ in range(4000):
                 at, chosen = key(source.randrange(3 * maxsize)), source.randrange(5)
                 if chosen < 2:
-                    gone = model.popitem(last=False) if at not in model and len(model) == maxsize else None
-                    self.assertEqual(made.put(at, chosen), gone)
-                    model[at] = chosen
-                    model.move_to_end(at)
+                    self.assertEqual(made.put(at, chosen), model.put(at, chosen))
                 elif chosen == 2:
                     self.assertEqual(made.get(at), model.get(at))
-                    if at in model:
-                        model.move_to_end(at)
                 elif chosen == 3:
-                    self.assertEqual(made.peek(at), model.get(at))
+                    self.assertEqual(made.peek(at), model.peek(at))
                 else:
                     self.assertEqual(made.pop(at, None), model.pop(at, None))
                 self.assertEqual(made.currsize, len(model))
             self.assertEqual(list(made.items()), list(model.items()))
 
-    def test_there_are_never_more_pairs_than_maxsize(self):
+    def test_there_are_the_last_pairs_and_no_others(self):
         for maxsize in 0, 1, 2, 31, 33, 64, 100, 128, 1000, 1024:
             made = bucket.Cache(maxsize)
             for number in range(5 * maxsize + 5):
                 made[key(number)] = number
-                self.assertLessEqual(len(made), maxsize)
-            self.assertGreaterEqual(len(made), maxsize * 9 // 10)
-            self.assertEqual((made.maxsize, made.currsize), (maxsize, len(made)))
-            # Nearly all that are there are those that were put last.
-            last = sum(key(number) in made for number in range(4 * maxsize + 5, 5 * maxsize + 5))
-            self.assertGreaterEqual(last, maxsize * 9 // 10)
+                self.assertEqual(len(made), min(number + 1, maxsize))
+            self.assertEqual((made.maxsize, made.currsize), (maxsize, maxsize))
+            last = range(4 * maxsize + 5, 5 * maxsize + 5)
+            self.assertEqual(list(made.items()), [(key(number), number) for number in last])
 
     def test_what_touches_and_what_does_not(self):
         touches = [
@@ -128,6 +121,18 @@ class Caches(unittest.TestCase):
                 self.assertEqual((other.hits, other.misses), (0, 0))
             self.assertEqual(contents(made), model)
 
+    def test_copies_of_full_caches_of_each_size(self):
+        for size in range(0, 2001, 50 if "BUCKET_SANITIZED" in os.environ else 1):
+            make = KEYS[size % 5]
+            made = bucket.Cache(size)
+            for number in range(size + 3):
+                made[make(number)] = number
+            made.get(make(size // 2 + 3))
+            pairs = list(made.items())
+            self.assertEqual(len(pairs), size)
+            for other in made.copy(), pickle.loads(pickle.dumps(made)):
+                self.assertEqual((list(other.items()), other.maxsize), (pairs, size))
+
     def test_a_look_up_in_an_iteration_leaves_the_iteration_whole(self):
         for kind in CACHES:
             made, model = filled(kind, 4000)
@@ -154,14 +159,14 @@ class Caches(unittest.TestCase):
         made["b"] = 2
         self.assertTrue(made == {"a": 1, "b": 2} == made == bucket.Map(a=1, b=2) == made != {"a": 1})
 
-    def test_the_library_has_twice_as_many_slots_and_at_least_64(self):
-        for maxsize, slots in (1, 64), (32, 64), (33, 128), (64, 128), (500, 1024):
+    def test_slots_come_as_pairs_do(self):
+        for maxsize in 1, 32, 33, 64, 500, 5000:
             made = bucket.Cache(maxsize)
             self.assertEqual(made.capacity, 0)
-            made[1] = 1
-            self.assertTrue(64 <= made.capacity <= slots)
-            made["a"] = 1
-            self.assertLessEqual(made.currsize, maxsize)
+            for number in range(3 * maxsize):
+                made[number] = 1
+            self.assertTrue(maxsize <= made.capacity <= max(64, 8 * maxsize), (maxsize, made.capacity))
+            self.assertGreater(made.__sizeof__(), 16 * made.capacity)
 
 
 if __name__ == "__main__":

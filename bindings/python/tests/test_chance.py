@@ -1,5 +1,6 @@
 """200,000 calls by chance on each collection, beside a dict, a set, or an OrderedDict."""
 
+import itertools
 import os
 import random
 import sys
@@ -7,7 +8,7 @@ import unittest
 
 import bucket
 from bucket import _bucket
-from kinds import KEYS, Other, contents
+from kinds import KEYS, Model, Other, contents
 
 CALLS = int(os.environ.get("BUCKET_CALLS", "200000"))
 
@@ -67,26 +68,43 @@ class ByChance(unittest.TestCase):
                     self.assertEqual((at in made, len(made)), (at in plain, len(plain)))
             self.assertEqual(contents(made), plain)
 
+    def play_cache(self, key, maxsize, source):
+        made, model, gone_in_all = bucket.Cache(maxsize), Model(maxsize), 0
+        for _ in range(CALLS // 10 + 10 * maxsize):
+            at, value, chosen = key(source.randrange(3 * maxsize)), source.getrandbits(70), source.randrange(9)
+            if chosen < 2:
+                gone = made.put(at, value)
+                self.assertEqual(gone, model.put(at, value))
+                gone_in_all += gone is not None
+            elif chosen == 2:
+                made[at] = value
+                model.put(at, value)
+            elif chosen == 3:
+                self.assertEqual(made.get(at), model.get(at))
+            elif chosen == 4 and source.randrange(2):
+                self.assertEqual(made.pop(at, None), model.pop(at, None))
+            elif chosen == 5:
+                there = model.get(at)
+                self.assertEqual(made.setdefault(at, value), value if there is None else there)
+                model.put(at, value if there is None else there)
+            elif chosen == 6 and source.randrange(100) == 0:
+                pairs = {key(source.randrange(3 * maxsize)): value for _ in range(source.randrange(2 * maxsize))}
+                made.update(pairs)
+                for one in pairs:
+                    model.put(one, value)
+            elif chosen == 7 and source.randrange(10) == 0 and model:
+                self.assertEqual(made.popitem(), model.popitem(last=False))
+            elif chosen == 8 and source.randrange(1000) == 0:
+                self.assertEqual(list(made.items()), list(model.items()))
+                made = made.copy()
+            else:
+                self.assertEqual((made.peek(at), at in made, len(made)), (model.peek(at), at in model, len(model)))
+        self.assertEqual(list(made.items()), list(model.items()))
+        self.assertTrue(gone_in_all > CALLS / 1000 and len(model) > maxsize / 2)
+
     def test_caches(self):
-        for number, key in enumerate(KEYS):
-            source = random.Random(number)
-            made, plain, gone_in_all = bucket.Cache(700), {}, 0
-            for _ in range(CALLS):
-                at, value, chosen = key(source.randrange(2000)), source.getrandbits(70), source.randrange(6)
-                if chosen < 2:
-                    gone = made.put(at, value)
-                    plain[at] = value
-                    if gone is not None:
-                        gone_in_all += 1
-                        self.assertIs(plain.pop(gone[0]), gone[1])
-                elif chosen == 2:
-                    self.assertEqual(made.pop(at, None), plain.pop(at, None))
-                elif chosen == 3:
-                    self.assertEqual(made.get(at), plain.get(at))
-                else:
-                    self.assertEqual((made.peek(at), at in made, len(made)), (plain.get(at), at in plain, len(plain)))
-            self.assertEqual(contents(made), plain)
-            self.assertTrue(gone_in_all > CALLS / 100 and len(plain) <= 700)
+        for key, maxsize in itertools.product(KEYS, [1, 2, 33, 100, 1000]):
+            self.play_cache(key, maxsize, random.Random(maxsize))
 
     def test_all_objects_are_let_go(self):
         source, before, counts = random.Random(3), _bucket._nodes(), []

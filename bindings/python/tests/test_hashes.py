@@ -11,10 +11,10 @@ import unittest
 import weakref
 
 import bucket
-from kinds import Other, contents, nodes_of, put, raised
+from kinds import Model, Other, contents, nodes_of, put, raised
 from test_keys import Number, Raw, Text
 from test_lives import COPIES
-from test_seeds import sip_hash, word_message
+from test_seeds import of_one_bucket
 from test_set import INTO, OPERATORS
 
 
@@ -225,79 +225,83 @@ class ByChance(unittest.TestCase):
     def test_caches(self):
         source = random.Random(12)
         for maxsize in 1, 2, 3, 10, 25:
-            made, model = bucket.Cache(maxsize), collections.OrderedDict()
+            made, model = bucket.Cache(maxsize), Model(maxsize)
             for _ in range(8000):
                 at, value, chosen = fresh(source.choice(ALL)), source.getrandbits(70), source.randrange(6)
                 if chosen < 3:
-                    gone = model.popitem(last=False) if at not in model and len(model) == maxsize else None
-                    self.assertEqual(made.put(at, value), gone)
-                    model[at] = value
-                    model.move_to_end(at)
+                    self.assertEqual(made.put(at, value), model.put(at, value))
                 elif chosen == 3:
                     self.assertEqual(made.get(at), model.get(at))
-                    if at in model:
-                        model.move_to_end(at)
                 elif chosen == 4:
                     self.assertEqual(made.pop(at, None), model.pop(at, None))
                 elif model and source.randrange(5) == 0:
                     self.assertEqual(made.popitem(), model.popitem(last=False))
-                self.assertEqual((made.peek(at), len(made)), (model.get(at), len(model)))
+                self.assertEqual((made.peek(at), len(made)), (model.peek(at), len(model)))
                 self.assertEqual(list(made), list(model))
 
 
 @unittest.skipIf("BUCKET_OTHER_HASH" in os.environ, "a full bucket, since the library has another hash")
 class AFullBucket(unittest.TestCase):
+    """Keys of a cache that stand in one bucket of the library, strs and the bytes of the same hashes: the pair touched longest
+    ago goes, and alone."""
+
     SEED = bytes(range(16))
 
     def setUp(self):
         bucket.seeded(self.SEED)
         self.addCleanup(bucket.seeded, None)
-        # Strs that stand in one bucket of the library, and so do the bytes of the same hashes.
-        texts = (f"key {number}" for number in itertools.count())
-        self.texts = list(itertools.islice(filter(self.is_in_the_first, texts), 34))
-
-    def is_in_the_first(self, text):
-        return sip_hash(self.SEED, word_message(hash(text))) >> 58 == 0
+        self.texts = of_one_bucket(self.SEED, 52)
 
     def filled(self, first, second):
-        """A full cache of 32 strs and the bytes of each."""
-        made = bucket.Cache(64)
-        for text in self.texts[:32]:
-            made[first(text)], made[second(text)] = 1, 2
-        self.assertEqual(len(made), 64)
+        """A full cache of 50 strs and the bytes of each."""
+        made = bucket.Cache(100)
+        for text in self.texts[:50]:
+            self.assertIsNone(made.put(first(text), 1))
+            self.assertIsNone(made.put(second(text), 2))
+        self.assertEqual(len(made), 100)
         return made
 
-    def test_all_pairs_of_one_hash_go(self):
-        for kinds in (str, str.encode), (str.encode, str):
-            made = self.filled(*kinds)
-            order, walk = list(made), iter(made)
-            self.assertEqual(made.put(self.texts[32], 3), (kinds[0](self.texts[0]), 1))
-            self.assertEqual((len(made), list(made)), (63, order[2:] + [self.texts[32]]))
-            self.assertTrue(self.texts[0] not in made and self.texts[0].encode() not in made)
+    def test_one_of_one_hash_goes_before_the_other(self):
+        for first, second in (str, str.encode), (str.encode, str):
+            made = self.filled(first, second)
+            pairs, walk = list(made.items()), iter(made)
+            self.assertEqual(made.put(self.texts[50], 3), (first(self.texts[0]), 1))
+            self.assertEqual(list(made.items()), pairs[1:] + [(self.texts[50], 3)])
+            self.assertTrue(first(self.texts[0]) not in made and second(self.texts[0]) in made)
             self.assertIs(raised(next, walk), RuntimeError)
-            # The other of the new hash finds room, though the bucket is full.
-            self.assertIsNone(made.put(self.texts[32].encode(), 4))
-            self.assertEqual((len(made), list(made.items())[-2:]), (64, [(self.texts[32], 3), (self.texts[32].encode(), 4)]))
+            self.assertEqual(made.put(self.texts[50].encode(), 4), (second(self.texts[0]), 2))
+            self.assertEqual(list(made.items()), pairs[2:] + [(self.texts[50], 3), (self.texts[50].encode(), 4)])
 
-    def test_a_touch_of_either_is_one_of_both(self):
-        for touched in str, str.encode:
+    def test_a_new_pair_may_have_the_hash_of_the_one_that_goes(self):
+        for one, other in (str, str.encode), (str.encode, str):
+            made = bucket.Cache(50)
+            for text in self.texts[:50]:
+                made[one(text)] = 1
+            for at, text in enumerate(self.texts[:50]):
+                self.assertEqual(made.put(other(text), 2), (one(text), 1))
+                self.assertEqual(list(made), [*map(one, self.texts[at + 1 : 50]), *map(other, self.texts[: at + 1])])
+
+    def test_a_touch_of_one_is_none_of_the_other(self):
+        for touched, other in (str, str.encode), (str.encode, str):
             made = self.filled(str, str.encode)
             made.get(touched(self.texts[0]))
-            made.pop(self.texts[1].encode())
-            self.assertEqual(made.put(self.texts[32], 3), (self.texts[1], 1))
-            self.assertEqual(made.put(self.texts[33], 3), (self.texts[2], 1))
-            self.assertTrue(self.texts[0] in made and self.texts[0].encode() in made and len(made) == 62)
+            made.pop(other(self.texts[1]))
+            self.assertIsNone(made.put(self.texts[50], 3))
+            self.assertEqual(made.put(self.texts[51], 3)[0], other(self.texts[0]))
+            self.assertEqual(made.put(self.texts[51].encode(), 3)[0], touched(self.texts[1]))
+            self.assertTrue(touched(self.texts[0]) in made and len(made) == 100)
 
-    def test_all_of_them_are_let_go(self):
+    def test_what_goes_is_let_go_and_no_other(self):
         made, values = self.filled(str, str.encode), [Other(), Other()]
         made[self.texts[0]], made[self.texts[0].encode()] = values
-        for text in self.texts[1:32]:
-            made.get(text)
+        for text in self.texts[1:50]:
+            made.get(text), made.get(text.encode())
         seen = [weakref.ref(value) for value in values]
         del values
-        made[self.texts[32]] = 3
-        gc.collect()
-        self.assertEqual([gone() for gone in seen], [None, None])
+        for at, left in enumerate([[False, True], [False, False]], 50):
+            made[self.texts[at]] = 3
+            gc.collect()
+            self.assertEqual([there() is not None for there in seen], left)
 
 
 class Alike(unittest.TestCase):

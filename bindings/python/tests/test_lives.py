@@ -17,6 +17,35 @@ COPIES = [copy.copy, copy.deepcopy, lambda made: made.copy()] + [
 ]
 
 
+# Pickles that have no numbers of keys, by the protocols 0, 2 and 4, and what is in them.
+OLDER_PICKLES = [
+    (bucket.Map, {1: "a"}, b"ccopy_reg\n__newobj__\np0\n(cbucket\nMap\np1\ntp2\nRp3\nI1\nVa\np4\ns."),
+    (bucket.Map, {1: "a"}, b"\x80\x02cbucket\nMap\nq\x00)\x81q\x01K\x01X\x01\x00\x00\x00aq\x02s."),
+    (
+        bucket.Map,
+        {1: "a"},
+        b"\x80\x04\x95\x1c\x00\x00\x00\x00\x00\x00\x00\x8c\x06bucket\x94\x8c\x03Map\x94\x93\x94)\x81\x94K\x01\x8c\x01a\x94s.",
+    ),
+    (
+        bucket.Cache,
+        {"b": 2, 1: 3},
+        b"cbucket._bucket\n_cache_of\np0\n(cbucket\nCache\np1\nI7\ntp2\nRp3\nVb\np4\nI2\nsI1\nI3\ns.",
+    ),
+    (
+        bucket.Cache,
+        {"b": 2, 1: 3},
+        b"\x80\x02cbucket._bucket\n_cache_of\nq\x00cbucket\nCache\nq\x01K\x07\x86q\x02Rq\x03"
+        b"(X\x01\x00\x00\x00bq\x04K\x02K\x01K\x03u.",
+    ),
+    (
+        bucket.Cache,
+        {"b": 2, 1: 3},
+        b"\x80\x04\x95E\x00\x00\x00\x00\x00\x00\x00\x8c\x0ebucket._bucket\x94\x8c\t_cache_of\x94\x93\x94\x8c\x06bucket\x94"
+        b"\x8c\x05Cache\x94\x93\x94K\x07\x86\x94R\x94(\x8c\x01b\x94K\x02K\x01K\x03u.",
+    ),
+]
+
+
 class NamedMap(bucket.Map):
     """A class with a constructor and attributes of its own."""
 
@@ -93,6 +122,13 @@ class Copies(unittest.TestCase):
         self.assertIs(raised(copy.deepcopy, made), ZeroDivisionError)
         self.assertIs(raised(pickle.dumps, made), ZeroDivisionError)
         self.assertEqual(list(made), ["a"])
+
+    def test_older_pickles_are_read(self):
+        for kind, pairs, pickled in OLDER_PICKLES:
+            made = pickle.loads(pickled)
+            self.assertEqual((type(made), list(made.items())), (kind, list(pairs.items())))
+            if kind is bucket.Cache:
+                self.assertEqual((made.maxsize, made.cache_info()), (7, (0, 0, 7, 2)))
 
     def test_a_pickle_has_no_seed(self):
         seed = bytes(range(100, 116))

@@ -5,13 +5,15 @@ Python's own requests are refused by _testcapi; those of the library in a build 
 import copy
 import ctypes
 import gc
+import os
 import pickle
 import random
 import unittest
 
 import bucket
 from bucket import _bucket
-from kinds import CACHES, KEYS, KINDS, MAPS, SETS, Other, contents, filled, put
+from kinds import CACHES, KEYS, KINDS, MAPS, SETS, Kind, Model, Other, contents, filled, put
+from test_seeds import of_one_bucket
 
 try:
     import _testcapi
@@ -86,10 +88,30 @@ def calls(kind):
     return [(call, False) for call in reads] + [(call, True) for call in writes]
 
 
+# Calls on a full cache: a copy, or a put of an absent key. A key that is there is put and read without a request.
+CALLS_OF_A_CACHE = [
+    lambda made, key: made.put(key, 100),
+    lambda made, key: made.__setitem__(key, 100),
+    lambda made, key: made.setdefault(key, 100),
+    lambda made, key: made.update({key: 100}),
+    lambda made, key: made.copy(),
+    lambda made, key: copy.copy(made),
+    lambda made, key: pickle.loads(pickle.dumps(made)),
+    lambda made, key: bucket.Cache(made.maxsize).update(made),
+]
+
+
+def full(count):
+    """Caches that so many pairs fill."""
+    return [Kind(lambda: bucket.Cache(max(count, 1)), key) for key in KEYS]
+
+
 class Refused(unittest.TestCase):
+    SEED = bytes(range(16))
+
     def setUp(self):
         # By one seed each run makes the same requests.
-        bucket.seeded(bytes(range(16)))
+        bucket.seeded(self.SEED)
         self.addCleanup(bucket.seeded, None)
 
     def check(self, kind, made, model, call, is_write, is_refused):
@@ -97,6 +119,8 @@ class Refused(unittest.TestCase):
         self.assertEqual(len(made), len(list(made)))
         if is_refused or not is_write:
             self.assertEqual(contents(made), model, kind.key.__name__)
+        if is_refused and is_write and isinstance(made, bucket.Cache):
+            self.assertEqual(list(made.items()), list(model.items()))
         # The collection goes on.
         put(made, kind.key(200), 1)
         self.assertIn(kind.key(200), made)
@@ -104,7 +128,7 @@ class Refused(unittest.TestCase):
     @unittest.skipIf(_testcapi is None, "requests of Python for memory, since there is no _testcapi")
     def test_each_request_of_python_is_refused_once(self):
         refusals = 0
-        for kind in KINDS:
+        for kind in KINDS + full(12):
             for call, is_write in calls(kind):
                 for number in range(1, 100):
                     made, model = filled(kind, 12)
@@ -124,7 +148,7 @@ class Refused(unittest.TestCase):
 
     @unittest.skipIf(_testcapi is None, "requests of Python for memory, since there is no _testcapi")
     def test_all_requests_of_python_are_refused_for_a_while(self):
-        for kind in KINDS:
+        for kind in KINDS + full(12):
             for call, is_write in calls(kind):
                 for number in range(1, 12):
                     made, model = filled(kind, 12)
@@ -141,8 +165,8 @@ class Refused(unittest.TestCase):
     @unittest.skipUnless(REFUSES, "the library's requests for memory, since the module isn't built with refuse.c")
     def test_each_request_of_the_library_is_refused_once(self):
         refusals = 0
-        for kind in KINDS:
-            for count in 0, 12, 60, 300:
+        for count in 0, 12, 60, 300:
+            for kind in KINDS + full(count):
                 for call, is_write in calls(kind):
                     # Those that fill another one need many requests: small ones will do.
                     if count == 0 and call not in WRITES[:4] or count > 12 and not is_write:
@@ -164,19 +188,82 @@ class Refused(unittest.TestCase):
                             break
         self.assertGreater(refusals, 500)
 
+    def play_full(self, keys, call, refuse, end):
+        """A call on a full cache, with each of its requests refused in turn. Returns how many were, or did without."""
+        for number in range(1, 1000):
+            made, is_refused = bucket.Cache(len(keys) - 1), False
+            for key in keys[:-1]:
+                made[key] = 1
+            before, after = list(made.items()), [*list(made.items())[1:], (keys[-1], 100)]
+            refuse(number)
+            try:
+                call(made, keys[-1])
+            except REFUSALS:
+                is_refused = True
+            finally:
+                is_last = end() < number
+            now = list(made.items())
+            if is_refused or call not in CALLS_OF_A_CACHE[:4]:
+                self.assertEqual((now, len(made)), (before, len(before)))
+            else:
+                self.assertEqual(now, after)
+            # The cache goes on, and lets the next one go.
+            self.assertEqual(made.put("next", 1), now[0])
+            self.assertEqual(list(made.items()), [*now[1:], ("next", 1)])
+            if is_last:
+                return number - 1
+        self.fail("requests without end")
+
+    @unittest.skipIf(_testcapi is None, "requests of Python for memory, since there is no _testcapi")
+    def test_a_full_cache_stays_as_it_was_where_python_is_refused(self):
+        def end():
+            _testcapi.remove_mem_hooks()
+            return 0 if asked[0] > 60 else 1000
+
+        def refuse(number):
+            asked[0] = number
+            _testcapi.set_nomemory(number, number + 1)
+
+        asked = [0]
+        for key in KEYS:
+            for call in CALLS_OF_A_CACHE:
+                self.play_full([key(number) for number in range(13)], call, refuse, end)
+
+    @unittest.skipUnless(REFUSES, "the library's requests for memory, since the module isn't built with refuse.c")
+    def test_a_full_cache_stays_as_it_was_where_the_library_is_refused(self):
+        def end():
+            asked = LIBRARY.bucket_asked()
+            LIBRARY.bucket_refuse(0)
+            return asked
+
+        refusals = 0
+        for key in KEYS:
+            for count in 2, 53, 54, 400:
+                for call in CALLS_OF_A_CACHE:
+                    refusals += self.play_full([key(number) for number in range(count)], call, LIBRARY.bucket_refuse, end)
+        self.assertGreater(refusals, 100)
+        if "BUCKET_OTHER_HASH" in os.environ:
+            return
+        # A bucket of the library takes more memory for each four pairs past 32.
+        refusals, texts = 0, of_one_bucket(self.SEED, 50)
+        for count in range(30, 50):
+            for call in CALLS_OF_A_CACHE:
+                refusals += self.play_full(texts[:count], call, LIBRARY.bucket_refuse, end)
+        self.assertGreater(refusals, 50)
+
     @unittest.skipUnless(REFUSES, "the library's requests for memory, since the module isn't built with refuse.c")
     def test_calls_by_chance_while_one_request_in_five_is_refused(self):
         source, refusals, before = random.Random(8), 0, _bucket._nodes()
         for key in KEYS:
             for made in bucket.Map(), bucket.Cache(300), bucket.Set():
-                model = {}
+                model = Model(300 if isinstance(made, bucket.Cache) else 1 << 60)
                 for _ in range(20_000):
                     at, value = key(source.randrange(1500)), Other()
                     LIBRARY.bucket_refuse(1 if source.randrange(5) == 0 else 0)
                     try:
                         if source.randrange(3):
                             put(made, at, value)
-                            model[at] = value
+                            model.put(at, value)
                         else:
                             made.discard(at) if isinstance(made, bucket.Set) else made.pop(at, None)
                             model.pop(at, None)
@@ -184,10 +271,10 @@ class Refused(unittest.TestCase):
                         refusals += 1
                     finally:
                         LIBRARY.bucket_refuse(0)
-                    if isinstance(made, bucket.Cache):
-                        model = model if len(model) == len(made) else dict(made.items())
                     self.assertEqual(len(made), len(model))
-                self.assertEqual(contents(made), set(model) if isinstance(made, bucket.Set) else model)
+                self.assertEqual(contents(made), set(model) if isinstance(made, bucket.Set) else dict(model))
+                if isinstance(made, bucket.Cache):
+                    self.assertEqual(list(made), list(model))
         del made, value, model
         gc.collect()
         self.assertEqual(_bucket._nodes(), before)

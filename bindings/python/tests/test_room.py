@@ -32,6 +32,12 @@ OF_A_MAP = [
     lambda made: copy.copy(made),
     lambda made: pickle.loads(pickle.dumps(made)),
 ]
+OF_A_CACHE = [
+    lambda made: made.copy(),
+    lambda made: updated(bucket.Cache(made.maxsize), made),
+    lambda made: copy.copy(made),
+    lambda made: pickle.loads(pickle.dumps(made)),
+]
 OF_A_SET = [
     lambda made: made.copy(),
     lambda made: bucket.Set(made),
@@ -112,17 +118,33 @@ class Room(unittest.TestCase):
         ]:
             self.assertTrue(0 < len(made) <= 3 and slots(made) < 5000, (len(made), slots(made)))
 
-    def test_a_cache_takes_most_pairs_of_a_map(self):
-        made = bucket.Cache(6000)
-        made.update(bucket.Map(pairs_of(word, 3000)))
-        self.assertGreater(len(made), 2500)
+    def test_a_cache_makes_room_for_no_more_than_it_may_have(self):
+        for made in bucket.Cache(10**9), bucket.Cache(100):
+            made.update([(5, 1)] * 50_000)
+            self.assertTrue(len(made) == 1 and slots(made) < 5000, slots(made))
+        for pairs in pairs_of(word, 3900), bucket.Map(pairs_of(word, 3900)):
+            self.assertLessEqual(updated(bucket.Cache(1000), pairs).capacity, 4096)
+
+    def test_a_cache_takes_the_last_pairs_of_each(self):
+        for seed in SEEDS:
+            bucket.seeded(seed)
+            for key in KEYS:
+                pairs = pairs_of(key, 1500)
+                made = bucket.Map(pairs)
+                for other in made, made.items(), pairs, list(pairs.items()):
+                    for maxsize in 10, 100, 1499, 1500, 3000:
+                        cache = updated(bucket.Cache(maxsize), {-7: 1})
+                        cache.update(other)
+                        last = [(-7, 1), *(other if isinstance(other, list) else dict(other).items())][-maxsize:]
+                        self.assertEqual(list(cache.items()), last)
 
     def test_a_walk_goes_on_while_a_list_overwrites(self):
-        made, seen = bucket.Map(pairs_of(word, 20)), []
-        for key in made:
-            made.update([(key, 2)] * 1000)
-            seen.append(key)
-        self.assertEqual((sorted(seen), set(made.values())), (sorted(made), {2}))
+        for made in bucket.Map(pairs_of(word, 20)), updated(bucket.Cache(20), pairs_of(word, 20)):
+            seen = []
+            for key in made:
+                made.update([(key, 2)] * 1000)
+                seen.append(key)
+            self.assertEqual((sorted(seen), set(made.values())), (sorted(made), {2}))
 
     def test_a_pair_that_is_refused_leaves_those_before_it(self):
         made = bucket.Map(pairs_of(text, 40))
@@ -135,6 +157,11 @@ class Room(unittest.TestCase):
         wrong = [(bucket.Map, -1, 0), (bucket.Map, 0, -1), (bucket.Map,)]
         for arguments in [*wrong, (bucket.Set, 0, 0), (int, 0, 0), (5, 0, 0)]:
             self.assertIs(raised(_bucket._map_of, *arguments), TypeError)
+        made = _bucket._cache_of(bucket.Cache, (1 << 63) - 1, (1 << 63) - 1, 1 << 60)
+        self.assertEqual((made, made.maxsize), ({}, (1 << 63) - 1))
+        wrong = [(bucket.Cache, -1, 0, 0), (bucket.Cache, 5, -1, 0), (bucket.Cache, 5, 0, -1), (bucket.Cache,)]
+        for arguments in [*wrong, (bucket.Map, 5, 0, 0), (int, 5, 0, 0), (5, 5, 0, 0)]:
+            self.assertIs(raised(_bucket._cache_of, *arguments), TypeError)
 
 
 @unittest.skipUnless(REFUSES, WHY)
@@ -155,6 +182,19 @@ class Requests(unittest.TestCase):
                 made = bucket.Set(pairs)
                 for number, call in enumerate(OF_A_SET):
                     self.assertLess(asked(lambda: call(made)), before, (seed, key.__name__, number))
+                made = updated(bucket.Cache(3000), pairs)
+                for number, call in enumerate(OF_A_CACHE):
+                    self.assertLess(asked(lambda: call(made)), before, (seed, key.__name__, number))
+
+    def test_a_cache_asks_for_as_much_in_each_order(self):
+        for seed in SEEDS:
+            bucket.seeded(seed)
+            for key in KEYS:
+                pairs = pairs_of(key, 3000)
+                made = bucket.Map(pairs)
+                before = asked(lambda: updated(bucket.Cache(1000), pairs))
+                for other in made, made.items(), list(made.items()), iter(made.items()):
+                    self.assertLess(asked(lambda: updated(bucket.Cache(1000), other)), 3 * before + 20)
 
     def test_a_loop_over_another_asks_for_about_as_much(self):
         bucket.seeded(None)
@@ -196,16 +236,19 @@ class Requests(unittest.TestCase):
             source, after = bucket.Map(pairs), before | pairs
             # The room for all is made before the first one comes.
             for sure in source, pairs:
-                left, _ = self.refused(
-                    lambda: bucket.Map(before), lambda made: made.update(sure), before, after
-                )
-                self.assertEqual(left[0], before)
-            left, _ = self.refused(bucket.Map, lambda made: source.copy(), {}, pairs)
-            self.assertEqual(left[0], {})
+                for target in bucket.Map, lambda pairs: updated(bucket.Cache(2000), pairs):
+                    left, _ = self.refused(
+                        lambda: target(before), lambda made: made.update(sure), before, after
+                    )
+                    self.assertEqual(left[0], before)
+            for made in source, updated(bucket.Cache(2000), pairs):
+                left, _ = self.refused(type(made), lambda _: made.copy(), {}, pairs)
+                self.assertEqual(left[0], {})
             # A list may have a key many times, so a call does without that room.
             for unsure in list(source.items()), tuple(source.items()):
-                _, without = self.refused(bucket.Map, lambda made: made.update(unsure), {}, pairs)
-                self.assertGreater(without, 0)
+                for target in bucket.Map, lambda: bucket.Cache(2000):
+                    _, without = self.refused(target, lambda made: made.update(unsure), {}, pairs)
+                    self.assertGreater(without, 0)
             self.assertEqual(contents(source), pairs)
 
 

@@ -2,6 +2,7 @@
 in ascending order of these. A seed that isn't zero has to give the order of SipHash-1-3 with the seed as its keys, here written
 anew, and another seed another order."""
 
+import itertools
 import os
 import subprocess
 import sys
@@ -53,6 +54,13 @@ def word_message(key):
 def text_message(key):
     """A str has Python's hash as its word."""
     return word_message(hash(key))
+
+
+def of_one_bucket(seed, count):
+    """So many strs that stand in the first of 64 buckets of a cache. A cache has the other half of a seed inverted."""
+    seed = seed[:8] + bytes(255 - byte for byte in seed[8:])
+    texts = (f"key {number}" for number in itertools.count())
+    return list(itertools.islice((text for text in texts if sip_hash(seed, text_message(text)) >> 58 == 0), count))
 
 
 def filled(keys, seed):

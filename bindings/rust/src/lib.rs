@@ -14,9 +14,9 @@
 //! ```
 //!
 //! [`Map<K, V>`](Map) and [`Set<K>`](Set) have the calls of std's `HashMap` and `HashSet`, and [`Cache<K, V>`](Cache)
-//! is bounded: it evicts what was touched longest ago. A key is an integer of up to 64 bits, a string or bytes
-//! ([`Key`]); a value is of any type. Each pair stands in a block of its own, so references stay true while the
-//! table grows, and nothing but the block is moved.
+//! is bounded: a full bucket of it evicts what was touched longest ago there. A key is an integer of up to 64 bits, a
+//! string or bytes ([`Key`]); a value is of any type. Each pair stands in a block of its own, so references stay true
+//! while the table grows, and nothing but the block is moved.
 //!
 //! # Memory
 //!
