@@ -12,6 +12,7 @@ pub mod StayingMarks
 pub mod RemovedMarks
 pub mod KeptMarks
 pub mod IndexRoom
+pub mod Moving
 pub mod Orders
 pub mod IndexSteps
 pub mod Loans

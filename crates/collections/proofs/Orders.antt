@@ -11,7 +11,7 @@ use Rattle.bucket_slots.specs.BucketView.{BucketView, Place}
 use Rattle.bucket_slots.specs.Homes.{IsHome}
 use Rattle.bucket_slots.specs.Removing.{slots_without}
 use Rattle.bucket_table.specs.Map.ByKey.{PreparesThen, ShrinksAt}
-use Rattle.bucket_table.specs.Map.Finding.{Finds, MakesReady}
+use Rattle.bucket_table.specs.Map.Finding.{Finds}
 use Rattle.bucket_table.specs.Map.Putting.{Goes, PutsAt, slots_left, slots_put}
 use Rattle.bucket_table.specs.Map.Refusing.{IsRefused}
 use Rattle.bucket_table.specs.Resize.Growing.{Grows}
@@ -20,14 +20,10 @@ use Rattle.bucket_table.specs.Views.ArraysView.{ArraysView, TableView, pairs_of}
 use Rattle.bucket_table.specs.Views.Sides.{arrays_with, bucket_on, buckets_on}
 use Rattle.bucket_table.specs.declared.hash_table.NotInserted.{NotInserted}
 use Rattle.bucket_table.specs.declared.hash_table.NotInserted.TheVariants.{Memory, Present}
-use Rattle.bucket_table.proofs.Map.MapKept.{state_found}
-use Rattle.collections.specs.Changes.{Stays}
-use Rattle.collections.specs.Maps.{map_of}
 use Rattle.collections.specs.Orders.{Leaves, LeavesArray, LeavesPlace, PutsOrKeeps, ReplacesBucket}
 use Rattle.collections.proofs.Found.{IsFound, found, ready_keeps, same_buckets}
-use Rattle.collections.proofs.Lookups.{distinct_permuted}
+use Rattle.collections.proofs.Moving.{arrays_stay, moves_beside, prepared_moves}
 use Rattle.collections.proofs.Shrinking.{none_left, removed_ends}
-use Rattle.collections.proofs.Steps.{stays}
 
 module _ {K V : Type 0} where
   -- another bucket on the side that was current
@@ -41,7 +37,7 @@ module _ {K V : Type 0} where
   found_leaves old side index new is =
       record {
         between = is.ready;
-        carried = is.makes.beside;
+        carried = moves_beside old is.ready is.makes.beside;
         alone = λ none stands. (is.makes.first none).0 stands;
         left = grown side is.grown;
       }
@@ -52,17 +48,10 @@ module _ {K V : Type 0} where
 
 module _ {K V H : Type 0} (hash : ℕ) (old new : TableView K V H) where
   module _ (eq : K → K → Bool) (laws : IsEquivalence eq) (distinct : IsDistinct eq (keys_of (pairs_of old.arrays))) where
-    ready_stays : (index : ℕ) (ready : ArraysView K V) → MakesReady old.arrays index ready
-        → Stays eq (map_of old) (map_of (record old { arrays = ready }))
-    ready_stays index ready makes =
-        let keeps = state_found 67 old.hasher old.arrays ready (ready_keeps old.arrays index ready makes) in
-        stays eq laws 67 old (record old { arrays = ready }) distinct
-        (distinct_permuted eq laws (pairs_of old.arrays) (pairs_of ready) keeps.pairs distinct) keeps
-
     none_leaves : (between : TableView K V H) → IsRefused 67 hash old between → LeavesArray old.arrays between.arrays
     none_leaves between refused = record {
       between = between.arrays;
-      carried = λ some. refused.prepared.kept;
+      carried = λ some. prepared_moves hash old between refused.prepared;
       alone = λ none stands. ap (λ (t : TableView K V H). t.arrays) (refused.prepared.alone none);
       left = inl refl;
     }
@@ -78,8 +67,8 @@ module _ {K V H : Type 0} (hash : ℕ) (old new : TableView K V H) where
         let after : BucketView K V → BucketView K V = λ bucket. slots_put true (slots_left bucket went) pair (hash % 256) in
         record {
           between = is.ready;
-          map = ready_stays at.1 is.ready is.makes;
-          carried = is.makes.beside;
+          map = arrays_stay eq laws old distinct is.ready (ready_keeps old.arrays at.1 is.ready is.makes);
+          carried = moves_beside old.arrays is.ready is.makes.beside;
           first = is.makes.first;
           index = at.1;
           home = subst (λ bs. IsHome (length bs) hash at.1) same finds.home;
@@ -119,7 +108,6 @@ module _ {K V H : Type 0} (hash : ℕ) (old new : TableView K V H) where
         → LeavesPlace wants removed old.arrays new.arrays
     leaves_place removed p = record {
       between = p.between.arrays;
-      carried = p.prepared.kept;
-      alone = λ none. ap (λ (t : TableView K V H). t.arrays) (p.prepared.alone none);
+      carried = prepared_moves hash old p.between p.prepared;
       left = left removed p.between p.done;
     }

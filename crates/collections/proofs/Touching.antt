@@ -27,7 +27,9 @@ use Rattle.collections.specs.Orders.{IsTouched}
 use Rattle.collections.proofs.InPlace.{found_is}
 use Rattle.collections.proofs.Loans.{distinct_changed}
 use Rattle.collections.proofs.Lookups.{IsForm, distinct_permuted, form_absent, form_there}
+use Rattle.collections.proofs.Moving.{prepared_moves}
 use Rattle.collections.proofs.Steps.{replaces, stays}
+use Rattle.collections.proofs.Writing.{placed}
 
 module _ {K V H : Type 0} (eq : K → K → Bool) (laws : IsEquivalence eq) (t b : TableView K V H)
     (distinct : IsDistinct eq (keys_of (pairs_of t.arrays))) (wants : K → Bool) (alike : IsForm eq wants)
@@ -43,7 +45,7 @@ module _ {K V H : Type 0} (eq : K → K → Bool) (laws : IsEquivalence eq) (t b
   module _ (hash : ℕ) where
     -- no pair is there to touch
     pub untouched : IsPrepared 67 hash t b → IsTouched eq wants false t b
-    untouched prepared = record { map = kept; between = b; carried = prepared.kept; alone = prepared.alone; touched = refl }
+    untouched prepared = record { map = kept; between = b.arrays; carried = prepared_moves hash t b prepared; touched = refl }
 
     module _ (side : Side) (index : ℕ) (at : Place)
         (moved : PreparesThen 67 hash t (λ between. ChangesPlace wants (slots_touched true) side index at between b))
@@ -51,10 +53,9 @@ module _ {K V H : Type 0} (eq : K → K → Bool) (laws : IsEquivalence eq) (t b
       pub touched : IsTouched eq wants true t b
       touched = record {
         map = kept;
-        between = moved.between;
-        carried = moved.prepared.kept;
-        alone = moved.prepared.alone;
-        touched = (side, index, at, moved.done.0, moved.done.1);
+        between = moved.between.arrays;
+        carried = prepared_moves hash t moved.between moved.prepared;
+        touched = (side, index, at, moved.done.0, ap (λ (z : TableView K V H). z.arrays) moved.done.1);
       }
 
       module _ (p : K × V) (here : live_pair (slot_in (bucket_on b.arrays side index) at) ≡ Some p) where
@@ -75,14 +76,8 @@ module _ {K V H : Type 0} (eq : K → K → Bool) (laws : IsEquivalence eq) (t b
 
       -- and where it stands
       pub written_there : (v : V) → IsWritten true wants eq true t (with_value b side index at v)
-      written_there v = record {
-        between = moved.between;
-        map = stays eq laws 67 t moved.between distinct (distinct_permuted eq laws (pairs_of t.arrays) (pairs_of moved.between.arrays)
-            moved.prepared.map.pairs distinct) moved.prepared.map;
-        carried = moved.prepared.kept;
-        alone = moved.prepared.alone;
-        written = (v, (side, index, at, moved.done.0, twice));
-      }
+      written_there v = placed eq laws t (with_value b side index at v) distinct wants alike hash true moved.between moved.prepared v
+          (side, index, at, moved.done.0, twice)
         where
           touched_bucket : BucketView K V
           touched_bucket = slots_touched true (bucket_on moved.between.arrays side index) at
@@ -117,8 +112,7 @@ module _ {K V H : Type 0} (eq : K → K → Bool) (laws : IsEquivalence eq) (t s
       ap (λ v. bucket_with_value left at v) (sym same) ∙ bucket_with_value-same left at stands.pair stands.slot in
       record {
         map = stays eq laws 67 t s distinct (distinct_permuted eq laws (pairs_of t.arrays) (pairs_of s.arrays) kept.pairs distinct) kept;
-        between = between;
-        carried = prepared.kept;
-        alone = prepared.alone;
-        touched = (side, index, at, stands, is ∙ ap (λ c. with_bucket between side index c) again);
+        between = between.arrays;
+        carried = prepared_moves hash t between prepared;
+        touched = (side, index, at, stands, ap (λ (z : TableView K V H). z.arrays) (is ∙ ap (λ c. with_bucket between side index c) again));
       }

@@ -1,42 +1,52 @@
 -- A value of a cache is written where it stands.
-use Rattle.std.proofs.Common.{ℕ, Bool, true, false, Option, Some, None, refl, ◌≡◌}
+use Rattle.std.proofs.Common.{ℕ, Bool, true, false, Option, Some, None, ap, refl, ◌≡◌}
 use Rattle.std.specs.Borrow.{MutBor}
 use Rattle.std.specs.Cmp.{IsEquivalence}
 use Rattle.std.specs.List.{IsDistinct}
 use Rattle.std.specs.Map.{keys_of}
 use Rattle.std.specs.Option.{IfNone, IfSome}
-use Rattle.bucket_table.specs.Map.ByKey.{PreparesThen, WritesAt}
+use Rattle.bucket_slots.specs.BucketView.{bucket_with_value}
+use Rattle.bucket_slots.specs.Evicting.{slots_touched}
+use Rattle.bucket_table.specs.Map.ByKey.{ChangesAt, PreparesThen, WritesAt}
 use Rattle.bucket_table.specs.Map.Lending.{WritesUnder}
 use Rattle.bucket_table.specs.Map.LookingUp.{IsAbsent}
 use Rattle.bucket_table.specs.Map.Preparing.{IsPrepared}
 use Rattle.bucket_table.specs.Views.ArraysView.{TableView, pairs_of}
-use Rattle.collections.specs.CacheWrites.{IsWritten, WritesPlace}
+use Rattle.collections.specs.CacheWrites.{IsWritten}
 use Rattle.collections.specs.Changes.{Replaces, Stays}
 use Rattle.collections.specs.Maps.{get_by, map_of}
 use Rattle.collections.proofs.Loans.{lent_none, lent_replaces}
-use Rattle.collections.proofs.Lookups.{IsForm, distinct_permuted}
-use Rattle.collections.proofs.Steps.{stays}
+use Rattle.collections.proofs.Lookups.{IsForm}
+use Rattle.collections.proofs.Moving.{arrays_stay, prepared_moves}
 
 module _ {K V H : Type 0} (eq : K → K → Bool) (laws : IsEquivalence eq) (t s : TableView K V H)
     (distinct : IsDistinct eq (keys_of (pairs_of t.arrays))) (wants : K → Bool) (alike : IsForm eq wants) (hash : ℕ) where
-  wrote_place : (r : Bool) (b : TableView K V H) → WritesAt wants r b s → WritesPlace false wants r b s
-  wrote_place true b wrote = wrote
-  wrote_place false b same = same
+  module _ (touches : Bool) (between : TableView K V H) (prepared : IsPrepared 67 hash t between) where
+    between_stays : Stays eq (map_of t) (map_of (record t { arrays = between.arrays }))
+    between_stays = arrays_stay eq laws t distinct between.arrays prepared.kept.keeps
 
-  placed : (touches r : Bool) → PreparesThen 67 hash t (λ between. WritesPlace touches wants r between s) → IsWritten touches wants eq r t s
-  placed touches r moved = record {
-    between = moved.between;
-    map = stays eq laws 67 t moved.between distinct (distinct_permuted eq laws (pairs_of t.arrays) (pairs_of moved.between.arrays)
-        moved.prepared.map.pairs distinct) moved.prepared.map;
-    carried = moved.prepared.kept;
-    alone = moved.prepared.alone;
-    written = moved.done;
-  }
+    -- where a pair was found
+    pub placed : (v : V) → ChangesAt wants (λ bucket at. bucket_with_value (slots_touched touches bucket at) at v) true between s
+        → IsWritten touches wants eq true t s
+    placed v (side, index, at, stands, is) = record {
+      between = between.arrays;
+      map = between_stays;
+      carried = prepared_moves hash t between prepared;
+      written = (v, side, index, at, stands, ap (λ (z : TableView K V H). z.arrays) is);
+    }
+
+    -- where none was
+    unplaced : s ≡ between → IsWritten touches wants eq false t s
+    unplaced is = record {
+      between = between.arrays;
+      map = between_stays;
+      carried = prepared_moves hash t between prepared;
+      written = ap (λ (z : TableView K V H). z.arrays) is;
+    }
 
   pub written : (r : Bool) → PreparesThen 67 hash t (λ between. WritesAt wants r between s) → IsWritten false wants eq r t s
-  written r moved =
-      let done = wrote_place r moved.between moved.done in
-      placed false r (record { between = moved.between; prepared = moved.prepared; done = done })
+  written true moved = placed false moved.between moved.prepared moved.done.0 moved.done.1
+  written false moved = unplaced false moved.between moved.prepared moved.done
 
   module _ (touches : Bool) where
     -- what is written through a loan
@@ -46,7 +56,7 @@ module _ {K V H : Type 0} (eq : K → K → Bool) (laws : IsEquivalence eq) (t s
     lent_written None v wrote = tt
     lent_written (Some lent) v wrote = (
       (let both = lent_replaces eq laws 67 t distinct wants alike touches hash (Some lent) s v wrote in (both.0, both.1)),
-      placed touches true (record { between = wrote.arrays.between; prepared = wrote.arrays.prepared; done = (v, wrote.arrays.done) }),
+      placed touches wrote.arrays.between wrote.arrays.prepared v wrote.arrays.done,
     )
 
     -- where nothing is lent
@@ -55,8 +65,5 @@ module _ {K V H : Type 0} (eq : K → K → Bool) (laws : IsEquivalence eq) (t s
         → IfNone loan ((get_by wants (map_of t) ≡ None) × Stays eq (map_of t) (map_of s) × IsWritten touches wants eq false t s)
     lent_unwritten (Some lent) prepared absent = tt
     lent_unwritten None prepared absent =
-        let none = lent_none eq laws 67 t distinct wants alike hash None s prepared absent in (
-          none.0,
-          none.1,
-          record { between = s; map = none.1; carried = prepared.kept; alone = prepared.alone; written = refl },
-        )
+        let none = lent_none eq laws 67 t distinct wants alike hash None s prepared absent in
+        (none.0, none.1, unplaced touches s prepared refl)
