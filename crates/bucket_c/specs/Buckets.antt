@@ -1,9 +1,9 @@
 -- What an exported call copies of the pairs of one bucket.
-use Rattle.std.specs.Prelude.{ℕ, ◌≡◌, List, Option, Some, None, map}
+use Rattle.std.specs.Prelude.{ℕ, ◌≡◌, List, Option, Some, None, length, map}
 use Rattle.std.specs.Map.{keys_of}
 use Rattle.collections.specs.Maps.{map_of, pairs_in_bucket}
-use Rattle.bucket_calls.specs.Buckets.{CopiesBucket, beside_zero, no_words, value_alone}
-use Rattle.bucket_calls.specs.Copying.{CopiesPairs, CopiesTexts, Piece, key_piece, store_piece, text_piece}
+use Rattle.bucket_calls.specs.Buckets.{CopiesBucket, beside_zero, value_alone}
+use Rattle.bucket_calls.specs.Copying.{CopiesPairs, CopiesTexts, Piece, key_piece, piece_of, text_piece}
 use Rattle.bucket_calls.specs.declared.copying.Pair.{Pair}
 use Rattle.bucket_calls.specs.declared.copying.TextPair.{TextPair}
 use Rattle.bucket_c.specs.Tables.{Reads}
@@ -13,12 +13,12 @@ use Rattle.bucket_c.specs.declared.tables.Table.TheVariants.{Map, TextMap, Set, 
 -- how many pairs each bucket of a table has, and the pairs of one bucket as words
 abbrev pub words_in : ℕ → Table → List ℕ × List (ℕ × ℕ)
 words_in bucket (Map m) = (m.bucket_lens, pairs_in_bucket m bucket)
-words_in bucket (TextMap m) = (m.bucket_lens, map value_alone (pairs_in_bucket m bucket))
-words_in bucket (Set s) = (s.bucket_lens, map beside_zero (keys_of (pairs_in_bucket s bucket)))
-words_in bucket (TextSet s) = (s.bucket_lens, map no_words (keys_of (pairs_in_bucket s bucket)))
-words_in bucket (Store m) = (m.bucket_lens, map no_words (pairs_in_bucket m bucket))
+words_in bucket (TextMap m) = (m.bucket_lens, map (value_alone (λ word. word)) (pairs_in_bucket m bucket))
+words_in bucket (Set s) = (s.bucket_lens, map (beside_zero (λ word. word)) (keys_of (pairs_in_bucket s bucket)))
+words_in bucket (TextSet s) = (s.bucket_lens, map (beside_zero (λ text. 0)) (keys_of (pairs_in_bucket s bucket)))
+words_in bucket (Store m) = (m.bucket_lens, map (value_alone (λ text. 0)) (pairs_in_bucket m bucket))
 words_in bucket (Cache c) = ((map_of c).bucket_lens, pairs_in_bucket (map_of c) bucket)
-words_in bucket (TextCache c) = ((map_of c).bucket_lens, map value_alone (pairs_in_bucket (map_of c) bucket))
+words_in bucket (TextCache c) = ((map_of c).bucket_lens, map (value_alone (λ word. word)) (pairs_in_bucket (map_of c) bucket))
 
 -- the same of the pairs under byte strings, as what they leave in two buffers
 abbrev pub texts_in : ℕ → Table → Option (List ℕ × List Piece)
@@ -26,7 +26,7 @@ texts_in bucket (Map m) = None
 texts_in bucket (TextMap m) = Some (m.bucket_lens, map text_piece (pairs_in_bucket m bucket))
 texts_in bucket (Set s) = None
 texts_in bucket (TextSet s) = Some (s.bucket_lens, map key_piece (keys_of (pairs_in_bucket s bucket)))
-texts_in bucket (Store m) = Some (m.bucket_lens, map store_piece (pairs_in_bucket m bucket))
+texts_in bucket (Store m) = Some (m.bucket_lens, map (piece_of (λ text. length text.items)) (pairs_in_bucket m bucket))
 texts_in bucket (Cache c) = None
 texts_in bucket (TextCache c) = Some ((map_of c).bucket_lens, map text_piece (pairs_in_bucket (map_of c) bucket))
 

@@ -29,11 +29,11 @@ pub extern "C" fn bucket_pairs(
     }
     match &*handle.held.table() {
         Table::Map(map) => {
-            *count = copying::copy_map(map, start, out);
+            *count = copying::copy(map, start, out);
             OK
         }
         Table::Cache(cache) => {
-            *count = copying::copy_cache(cache, start, out);
+            *count = copying::copy(cache, start, out);
             OK
         }
         _ => OTHER_KIND,
@@ -62,15 +62,15 @@ pub extern "C" fn bucket_texts(
     }
     match &*handle.held.table() {
         Table::TextMap(map) => {
-            *count = copying::copy_text_map(map, start, rows, bytes);
+            *count = copying::copy_texts(map, start, rows, bytes);
             OK
         }
         Table::TextSet(set) => {
-            *count = copying::copy_text_set(set, start, rows, bytes);
+            *count = copying::copy_keys(set, start, rows, bytes);
             OK
         }
         Table::TextCache(cache) => {
-            *count = copying::copy_text_cache(cache, start, rows, bytes);
+            *count = copying::copy_texts(cache, start, rows, bytes);
             OK
         }
         _ => OTHER_KIND,
@@ -98,13 +98,13 @@ pub extern "C" fn bucket_pairs_in(
         return CLOSED;
     }
     match &*handle.held.table() {
-        Table::Map(map) => buckets::copy_map(map, bucket, start, out, count),
-        Table::TextMap(map) => buckets::copy_text_map(map, bucket, start, out, count),
-        Table::Set(set) => buckets::copy_set(set, bucket, start, out, count),
-        Table::TextSet(set) => buckets::copy_text_set(set, bucket, start, out, count),
-        Table::Store(map) => buckets::copy_store(map, bucket, start, out, count),
-        Table::Cache(cache) => buckets::copy_cache(cache, bucket, start, out, count),
-        Table::TextCache(cache) => buckets::copy_text_cache(cache, bucket, start, out, count),
+        Table::Map(map) => buckets::copy(map, bucket, start, out, count),
+        Table::TextMap(map) => buckets::copy_texts(map, bucket, start, out, count),
+        Table::Set(set) => buckets::copy_keys(set, bucket, start, out, count),
+        Table::TextSet(set) => buckets::copy_keys(set, bucket, start, out, count),
+        Table::Store(map) => buckets::copy_texts(map, bucket, start, out, count),
+        Table::Cache(cache) => buckets::copy(cache, bucket, start, out, count),
+        Table::TextCache(cache) => buckets::copy_texts(cache, bucket, start, out, count),
     }
 }
 
@@ -131,10 +131,10 @@ pub extern "C" fn bucket_texts_in(
         return CLOSED;
     }
     match &*handle.held.table() {
-        Table::TextMap(map) => texts_in::copy_map(map, bucket, start, rows, bytes, count),
-        Table::TextSet(set) => texts_in::copy_set(set, bucket, start, rows, bytes, count),
-        Table::Store(map) => texts_in::copy_store(map, bucket, start, rows, bytes, count),
-        Table::TextCache(cache) => texts_in::copy_cache(cache, bucket, start, rows, bytes, count),
+        Table::TextMap(map) => texts_in::copy(map, bucket, start, rows, bytes, count),
+        Table::TextSet(set) => texts_in::copy_keys(set, bucket, start, rows, bytes, count),
+        Table::Store(map) => texts_in::copy(map, bucket, start, rows, bytes, count),
+        Table::TextCache(cache) => texts_in::copy(cache, bucket, start, rows, bytes, count),
         _ => OTHER_KIND,
     }
 }

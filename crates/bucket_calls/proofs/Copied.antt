@@ -50,8 +50,8 @@ copied zero at (suc n) out (pair ∷ pairs) last room went =
 
 -- from a place of the list on, as many as there is room for
 pub pairs_copied : (start : ℕ) (out : List Pair) (pairs : List (ℕ × ℕ)) (last : State) → Copies (start, 0, out) pairs last
-    → CopiesPairs start pairs out last.1 last.2
-pairs_copied start out pairs last went =
+    → {count : ℕ} → count ≡ last.1 → {new : List Pair} → new ≡ last.2 → CopiesPairs start pairs out count new
+pairs_copied start out pairs last went count_is new_is =
     let asked : List (ℕ × ℕ) = take (length out) (drop start pairs) in
     let front : List Pair = map pair_of asked in
     let all = copied start 0 (length out) out pairs last (omega arith) went in
@@ -60,6 +60,6 @@ pairs_copied start out pairs last went =
     record {
       asked = asked;
       are = refl;
-      count_is = omega (arith, all.0);
-      written = all.1 ∙ sets-eq front out 0 fits ∙ ap (λ k. front ++ drop k out) from_zero;
+      count_is = omega (arith, count_is, all.0);
+      written = new_is ∙ all.1 ∙ sets-eq front out 0 fits ∙ ap (λ k. front ++ drop k out) from_zero;
     }

@@ -163,9 +163,9 @@ length-fitting (suc room) spare (piece ∷ pieces) =
 
 -- from a place of the list on, as many as fit
 pub texts_copied : (start : ℕ) (rows : List TextPair) (bytes : List ℕ) (pieces : List Piece) (last : State)
-    → Copies (place start (length rows) 0 0, rows, bytes) pieces last
-    → CopiesTexts start pieces rows bytes last.0.count last.1 last.2
-texts_copied start rows bytes pieces last went =
+    → Copies (place start (length rows) 0 0, rows, bytes) pieces last → {ended : Place} → ended ≡ last.0
+    → {new : List TextPair} → new ≡ last.1 → {after : List ℕ} → after ≡ last.2 → CopiesTexts start pieces rows bytes ended.count new after
+texts_copied start rows bytes pieces last went ended_is new_is after_is =
     let asked : List Piece = fitting (length rows) (length bytes) (drop start pieces) in
     let front : List TextPair = rows_of asked in
     let keys : List ℕ = bytes_of asked in
@@ -177,7 +177,7 @@ texts_copied start rows bytes pieces last went =
     record {
       asked = asked;
       are = refl;
-      count_is = omega (arith, all.0);
-      written = all.1 ∙ sets-eq front rows 0 fits ∙ ap (λ k. front ++ drop k rows) rows_from_zero;
-      keys = all.2 ∙ paste_all bytes 0 keys (length keys) refl ∙ ap (λ k. keys ++ drop k bytes) bytes_from_zero;
+      count_is = omega (arith, ap (λ (p : Place). p.count) ended_is, all.0);
+      written = new_is ∙ all.1 ∙ sets-eq front rows 0 fits ∙ ap (λ k. front ++ drop k rows) rows_from_zero;
+      keys = after_is ∙ all.2 ∙ paste_all bytes 0 keys (length keys) refl ∙ ap (λ k. keys ++ drop k bytes) bytes_from_zero;
     }

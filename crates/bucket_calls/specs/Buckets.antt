@@ -2,15 +2,12 @@
 use Rattle.std.specs.Prelude.{ℕ, ◌≡◌, ◌<◌, ◌≤◌, List, length}
 use Rattle.bucket_calls.specs.Codes.{absent, ok}
 
--- pairs as words: a key or a value that is a byte string is told as 0, and a set's keys are beside 0
-abbrev pub value_alone : {K : Type 0} → K × ℕ → ℕ × ℕ
-value_alone pair = (0, pair.1)
+-- pairs as words, by what is told of a value or of a key: a key that is a byte string is told as 0, and a set's keys are beside 0
+abbrev pub value_alone : {K V : Type 0} → (V → ℕ) → K × V → ℕ × ℕ
+value_alone word pair = (0, word pair.1)
 
-abbrev pub beside_zero : ℕ → ℕ × ℕ
-beside_zero key = (key, 0)
-
-abbrev pub no_words : {A : Type 0} → A → ℕ × ℕ
-no_words pair = (0, 0)
+abbrev pub beside_zero : {K : Type 0} → (K → ℕ) → K → ℕ × ℕ
+beside_zero word key = (word key, 0)
 
 -- what was copied, and the code, by whether there is such a bucket; past the last one there are no pairs
 pub record CopiesBucket (bucket : ℕ) (lens : List ℕ) (Copied : Type 0) (code : ℕ) : Type 0 where

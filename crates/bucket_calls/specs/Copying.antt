@@ -18,9 +18,9 @@ text_piece pair = (pair.0.items, record { len = length pair.0.items; value = pai
 abbrev pub key_piece : Text → Piece
 key_piece key = text_piece (key, 0)
 
--- of a store's pair, the length of its value
-abbrev pub store_piece : Text × Text → Piece
-store_piece pair = text_piece (pair.0, length pair.1.items)
+-- by what is told of a value
+abbrev pub piece_of : {V : Type 0} → (V → ℕ) → Text × V → Piece
+piece_of word pair = text_piece (pair.0, word pair.1)
 
 -- a pair as C sees it
 abbrev pub pair_of : ℕ × ℕ → Pair

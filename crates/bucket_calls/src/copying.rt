@@ -1,13 +1,11 @@
 //! Pairs that are copied into buffers of C.
 ghost use Rattle.std.specs.Prelude.{◌≡◌, map};
 ghost use Rattle.std.specs.Map.{keys_of};
-ghost use Rattle.bucket_table.specs.Views.ArraysView.{pairs_of};
 ghost use Rattle.bucket_calls.specs.Copying.{CopiesPairs, CopiesTexts, key_piece, text_piece};
 ghost use Rattle.bucket_calls.specs.Steps.{next_copied, next_text};
 
 use crate::seed::SeededHash;
-use collections::hash_cache::HashCache;
-use collections::hash_map::HashMap;
+use crate::words::Bucketed;
 use collections::hash_set::HashSet;
 
 /// A pair of words.
@@ -42,9 +40,9 @@ pub fn copy_next(skip: &mut usize, count: &mut usize, out: &mut [Pair], key: u64
     }
 }
 
-/// Copies a map's pairs from one on, as many as there is room for, and returns how many.
-pub fn copy_map(map: &HashMap<u64, u64, SeededHash>, start: usize, out: &mut [Pair]) -> usize
-    ensures { CopiesPairs start map.now.entries out.old result out.new }
+/// Copies pairs of words from one on, as many as there is room for, and returns how many.
+pub fn copy<C: Bucketed<u64, u64>>(table: &C, start: usize, out: &mut [Pair]) -> usize
+    ensures { CopiesPairs start (C.map table.now).entries out.old result out.new }
 {
     let mut skip = start;
     let mut count = 0;
@@ -52,21 +50,7 @@ pub fn copy_map(map: &HashMap<u64, u64, SeededHash>, start: usize, out: &mut [Pa
         ensures { (skip.exit, count.exit, out.exit.now)
             ≡ next_copied (skip.entry, count.entry, out.entry.now) (key.now, value.now) }
     { copy_next(&mut skip, &mut count, out, *key, *value) };
-    map.for_each_ref(&mut visit);
-    count
-}
-
-/// Copies a cache's pairs from one on, as many as there is room for, and returns how many.
-pub fn copy_cache(cache: &HashCache<u64, u64, SeededHash>, start: usize, out: &mut [Pair]) -> usize
-    ensures { CopiesPairs start (pairs_of cache.now.arrays) out.old result out.new }
-{
-    let mut skip = start;
-    let mut count = 0;
-    let mut visit = |key: &u64, value: &u64|
-        ensures { (skip.exit, count.exit, out.exit.now)
-            ≡ next_copied (skip.entry, count.entry, out.entry.now) (key.now, value.now) }
-    { copy_next(&mut skip, &mut count, out, *key, *value) };
-    cache.for_each(&mut visit);
+    table.each(&mut visit);
     count
 }
 
@@ -113,15 +97,15 @@ pub fn copy_next_text(
     place.end = end;
 }
 
-/// Copies a map's pairs from one on, as many as fit, and returns how many.
-pub fn copy_text_map(
-    table: &HashMap<Vec<u8>, u64, SeededHash>,
+/// Copies pairs under byte strings from one on, as many as fit, and returns how many.
+pub fn copy_texts<C: Bucketed<Vec<u8>, u64>>(
+    table: &C,
     start: usize,
     rows: &mut [TextPair],
     bytes: &mut [u8],
 ) -> usize
-    ensures { CopiesTexts start (map text_piece table.now.entries) rows.old bytes.old result
-        rows.new bytes.new }
+    ensures { CopiesTexts start (map text_piece (C.map table.now).entries) rows.old bytes.old
+        result rows.new bytes.new }
 {
     let mut place = Place {
         skip: start,
@@ -134,12 +118,12 @@ pub fn copy_text_map(
             ≡ next_text (place.entry, rows.entry.now, bytes.entry.now)
             (text_piece (key.now, value.now)) }
     { copy_next_text(&mut place, rows, bytes, key, *value) };
-    table.for_each_ref(&mut visit);
+    table.each(&mut visit);
     place.count
 }
 
 /// Copies a set's keys from one on, as many as fit, and returns how many.
-pub fn copy_text_set(
+pub fn copy_keys(
     set: &HashSet<Vec<u8>, SeededHash>,
     start: usize,
     rows: &mut [TextPair],
@@ -159,30 +143,5 @@ pub fn copy_text_set(
             ≡ next_text (place.entry, rows.entry.now, bytes.entry.now) (key_piece key.now) }
     { copy_next_text(&mut place, rows, bytes, key, 0) };
     set.for_each_ref(&mut visit);
-    place.count
-}
-
-/// Copies a cache's pairs from one on, as many as fit, and returns how many.
-pub fn copy_text_cache(
-    cache: &HashCache<Vec<u8>, u64, SeededHash>,
-    start: usize,
-    rows: &mut [TextPair],
-    bytes: &mut [u8],
-) -> usize
-    ensures { CopiesTexts start (map text_piece (pairs_of cache.now.arrays)) rows.old bytes.old
-        result rows.new bytes.new }
-{
-    let mut place = Place {
-        skip: start,
-        room: rows.len(),
-        count: 0,
-        end: 0,
-    };
-    let mut visit = |key: &Vec<u8>, value: &u64|
-        ensures { (place.exit, rows.exit.now, bytes.exit.now)
-            ≡ next_text (place.entry, rows.entry.now, bytes.entry.now)
-            (text_piece (key.now, value.now)) }
-    { copy_next_text(&mut place, rows, bytes, key, *value) };
-    cache.for_each(&mut visit);
     place.count
 }

@@ -4,7 +4,7 @@
 //! `specs/Codes.antt` says which answer of the library has which code, and `specs/Views.antt` how
 //! clauses see the collections. Keys are hashed by a seed, `seed.rt`. A key is made of the form that a
 //! call is given, `copied_key.rt`, only where the collection hasn't it. `copying.rt`, `buckets.rt` and
-//! `texts_in.rt` copy pairs into buffers of C.
+//! `texts_in.rt` copy pairs into buffers of C, as the words that `words.rt` tells.
 //!
 //! SPDX-License-Identifier: Apache-2.0
 #![tactic(auto)]
@@ -21,3 +21,4 @@ pub mod seed;
 pub mod stores;
 pub mod texts;
 pub mod texts_in;
+pub mod words;

@@ -5,7 +5,7 @@ use collections::hash_cache::HashCache;
 use collections::hash_index::HashIndex;
 use collections::hash_map::{HashMap, NotInserted};
 use collections::hash_set::HashSet;
-use std::alloc::Global;
+use std::alloc::{AllocError, Global};
 
 /// A collection. The value under each key of a set is 0.
 #[derive(Drop)]
@@ -135,5 +135,21 @@ impl Collection {
             }
             Cache(_) => true,
         }
+    }
+
+    /// Copies a map or a set, by clones of its pairs or as they are; `None` of another collection.
+    ///
+    /// # Errors
+    ///
+    /// Allocation failure.
+    pub(crate) fn try_copied(&self, cloned: bool) -> Result<Option<Self>, AllocError> {
+        let copy = match self {
+            Map(map) if cloned => Map(map.try_clone(map.allocator())?),
+            Map(map) => Map(map.try_copy(map.allocator())?),
+            Set(set) if cloned => Set(set.try_clone(set.allocator())?),
+            Set(set) => Set(set.try_copy(set.allocator())?),
+            _ => return Ok(None),
+        };
+        Ok(Some(copy))
     }
 }

@@ -1,5 +1,6 @@
 //! A collection and what it must have, and calls on both. Times with many insertions and times with
 //! many removals alternate, so that the collection gets longer arrays and shorter ones again.
+mod copying;
 mod extending;
 mod resizing;
 
@@ -12,7 +13,8 @@ use std::mem;
 // How many calls mostly insert pairs, and how many then mostly remove them.
 const TIDE: u64 = 4000;
 
-// After how many calls the collection is compared as a whole, and one call is made on all of it.
+// After how many calls the collection is compared as a whole and copied, and one call is made on all
+// of it.
 const WHOLE: u64 = 250;
 
 // An odd number with its bits spread, so that keys take homes all over the array.
@@ -21,8 +23,8 @@ const SPREADING: u64 = 11400714819323198485;
 // Times the other number this is 1, modulo 2^64.
 const GATHERING: u64 = 17428512612931826493;
 
-/// A collection, what it must have, and how often a pair was inserted, failed to be inserted, and
-/// was evicted.
+/// A collection, what it must have, how often a pair was inserted, failed to be inserted, and was
+/// evicted, and how often it was copied, and failed to be copied.
 #[derive(Drop)]
 pub(crate) struct Course {
     collection: Collection,
@@ -31,6 +33,8 @@ pub(crate) struct Course {
     pub(crate) put: u64,
     pub(crate) refused: u64,
     pub(crate) gone: u64,
+    pub(crate) copied: u64,
+    pub(crate) uncopied: u64,
 }
 
 impl Course {
@@ -43,6 +47,8 @@ impl Course {
             put: 0,
             refused: 0,
             gone: 0,
+            copied: 0,
+            uncopied: 0,
         }
     }
 
@@ -53,11 +59,18 @@ impl Course {
             if !self.call(number / TIDE % 2 == 0) {
                 return false;
             }
-            if number % WHOLE == 0 && !(self.is_same() && self.call_on_all() && self.is_same()) {
+            if number % WHOLE == 0 && !self.call_whole(number / WHOLE % 2 == 0) {
                 return false;
             }
         }
         self.is_same()
+    }
+
+    /// Copies the collection and makes a call on all of it, and returns whether the results are right
+    /// and the collection has the right pairs before, between and after.
+    fn call_whole(&mut self, cloned: bool) -> bool {
+        let is_copied = self.is_same() && self.copy(cloned) && self.is_same();
+        is_copied && self.call_on_all() && self.is_same()
     }
 
     /// Makes a call by a key, and returns whether its result is right. In times of insertions few
@@ -177,12 +190,17 @@ impl Course {
 
     /// Whether the collection has the pairs that it must have, and no more.
     fn is_same(&self) -> bool {
+        self.agrees_with(&self.collection)
+    }
+
+    /// Whether a collection has the pairs that this one must have, and no more.
+    fn agrees_with(&self, collection: &Collection) -> bool {
         for number in 0..KEYS {
-            if self.collection.value(key_of(number)) != self.beside.value(number) {
+            if collection.value(key_of(number)) != self.beside.value(number) {
                 return false;
             }
         }
-        self.collection.lens() == (self.beside.len(), self.beside.len())
+        collection.lens() == (self.beside.len(), self.beside.len())
     }
 }
 

@@ -1,14 +1,13 @@
-use Rattle.std.proofs.Common.{ℕ, ◌≡◌, ◌∙◌, ap, map, sym}
+use Rattle.std.proofs.Common.{ℕ, ◌≡◌, map, sym}
 use Rattle.std.specs.Map.{keys_of}
 use Rattle.collections.specs.Maps.{pairs_in_bucket}
 use Rattle.bucket_calls.specs.Copying.{key_piece}
 use Rattle.bucket_calls.specs.Steps.{next_text}
-use Rattle.bucket_calls.specs.declared.copying.Place.{Place}
 use Rattle.bucket_calls.proofs.CopiedTexts.{texts_copied}
 use Rattle.bucket_calls.proofs.Folds.{folds-map}
 use Rattle.bucket_calls.proofs.InBucket.{bucket_copied}
 use Rattle.bucket_calls.proofs.KeysCalled.{keys_called}
-use Rattle.bucket_calls.proofs.texts_in.copy_set.Goals as goal
+use Rattle.bucket_calls.proofs.texts_in.copy_keys.Goals as goal
 
 pub returns : goal.returns
 returns c =
@@ -16,17 +15,9 @@ returns c =
     (λ before key after. after ≡ next_text before (key_piece key)) _ _ _ c.for_each_in-there.ensures.calls
     (λ s own t kept e. ((λ i. (e.met.0.0 i, e.met.0.1 i, e.met.0.2 i)), e.met.1)) in
     let keys = keys_of (pairs_in_bucket c.args.set.now c.args.bucket) in
-    let all = texts_copied c.args.start c.args.rows.now c.args.bytes.now (map key_piece keys) _
-    (folds-map next_text key_piece _ keys _ went.1) in
-    let place = c.place-2-1.given.1 (λ i. (sym went.0 i).0) in
-    let rows = c.rows-1.given.1.1 (λ i. (sym went.0 i).1) in
-    let bytes = c.bytes-1.given.1.1 (λ i. (sym went.0 i).2) in
     rw c.code_of.ensures (bucket_copied _ _ _ _ c.for_each_in-there.ensures.there (
-    record {
-      asked = all.asked;
-      are = all.are;
-      count_is = ap (λ (p : Place). p.count) place ∙ all.count_is;
-      written = rows ∙ all.written;
-      keys = bytes ∙ all.keys;
-    }
+    texts_copied c.args.start c.args.rows.now c.args.bytes.now (map key_piece keys) _
+    (folds-map next_text key_piece _ keys _ went.1)
+    (c.place-2-1.given.1 (λ i. (sym went.0 i).0)) (c.rows-1.given.1.1 (λ i. (sym went.0 i).1))
+    (c.bytes-1.given.1.1 (λ i. (sym went.0 i).2))
     ))

@@ -1,4 +1,4 @@
-use Rattle.std.proofs.Common.{ℕ, ◌≡◌, ◌∙◌, map, sym}
+use Rattle.std.proofs.Common.{ℕ, ◌≡◌, map, sym}
 use Rattle.std.specs.Map.{keys_of}
 use Rattle.collections.specs.Maps.{pairs_in_bucket}
 use Rattle.bucket_calls.specs.Buckets.{beside_zero}
@@ -7,16 +7,16 @@ use Rattle.bucket_calls.proofs.Copied.{pairs_copied}
 use Rattle.bucket_calls.proofs.Folds.{folds-map}
 use Rattle.bucket_calls.proofs.InBucket.{bucket_copied}
 use Rattle.bucket_calls.proofs.KeysCalled.{keys_called}
-use Rattle.bucket_calls.proofs.buckets.copy_set.Goals as goal
+use Rattle.bucket_calls.proofs.buckets.copy_keys.Goals as goal
 
 pub returns : goal.returns
-returns c =
+returns g c =
     let went = keys_called {A = ℕ × ℕ × ℕ} _ (λ s. (s.0.now, s.1.now, s.2.now)) (λ s. (s.0.ghost_name, s.1.ghost_name, s.2.ghost_name))
-    (λ before key after. after ≡ next_copied before (beside_zero key)) _ _ _ c.for_each_in-there.ensures.calls
+    (λ before key after. after ≡ next_copied before (beside_zero g.K.Word.word key)) _ _ _ c.for_each_in-there.ensures.calls
     (λ s own t kept e. ((λ i. (e.met.0.0 i, e.met.0.1 i, e.met.0.2 i)), e.met.1)) in
     let keys = keys_of (pairs_in_bucket c.args.set.now c.args.bucket) in
-    let all = pairs_copied c.args.start c.args.out.now (map beside_zero keys) _ (folds-map next_copied beside_zero _ keys _ went.1) in
-    let count = c.copied-2-1.given.1 (λ i. (sym went.0 i).1) in
-    let out = c.out-1.given.1.1 (λ i. (sym went.0 i).2) in
-    rw c.code_of.ensures (bucket_copied _ _ _ _ c.for_each_in-there.ensures.there
-    (record { asked = all.asked; are = all.are; count_is = count ∙ all.count_is; written = out ∙ all.written }))
+    let told = beside_zero g.K.Word.word in
+    rw c.code_of.ensures (bucket_copied _ _ _ _ c.for_each_in-there.ensures.there (
+    pairs_copied c.args.start c.args.out.now (map told keys) _ (folds-map next_copied told _ keys _ went.1)
+    (c.copied-2-1.given.1 (λ i. (sym went.0 i).1)) (c.out-1.given.1.1 (λ i. (sym went.0 i).2))
+    ))

@@ -1,0 +1,13 @@
+use Rattle.std.proofs.Common.{ℕ, ◌≡◌, sym}
+use Rattle.collections.proofs.Visits.{pairs_visited_from}
+use Rattle.bucket_calls.specs.Steps.{next_copied}
+use Rattle.bucket_calls.proofs.Copied.{pairs_copied}
+use Rattle.bucket_calls.proofs.copying.copy.Goals as goal
+
+pub returns : goal.returns
+returns g c =
+    let went = pairs_visited_from {A = ℕ × ℕ × ℕ} (λ s. (s.0.now, s.1.now, s.2.now)) (λ s. (s.0.ghost_name, s.1.ghost_name, s.2.ghost_name)) _
+    (λ before pair after. after ≡ next_copied before pair) _ _ _ c.each.ensures
+    (λ s own value t kept e. ((λ i. (e.met.0.0 i, e.met.0.1 i, e.met.0.2 i)), e.met.1)) in
+    pairs_copied c.args.start c.args.out.now (g.C.Bucketed.map c.args.table.now).entries _ went.1
+    (c.count-2-1.given.1 (λ i. (sym went.0 i).1)) (c.out-1.given.1.1 (λ i. (sym went.0 i).2))
