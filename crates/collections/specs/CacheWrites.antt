@@ -1,11 +1,10 @@
--- What writing values and removing pairs does to a cache's buckets, and to their LRU order.
+-- What writing values does to a cache's buckets, and to their LRU order.
 use Rattle.std.specs.Prelude.{◌≡◌, Bool, true, false, length}
 use Rattle.bucket_slots.specs.BucketView.{bucket_with_value}
 use Rattle.bucket_slots.specs.Evicting.{slots_touched}
 use Rattle.bucket_table.specs.Map.ByKey.{ChangesAt}
-use Rattle.bucket_table.specs.Views.ArraysView.{ArraysView, TableView}
+use Rattle.bucket_table.specs.Views.ArraysView.{TableView}
 use Rattle.bucket_table.specs.Views.Keeping.{KeepsArrays}
-use Rattle.bucket_table.specs.Walking.Retains.{AreLeftOf}
 use Rattle.collections.specs.Changes.{Stays}
 use Rattle.collections.specs.Maps.{map_of}
 
@@ -25,10 +24,3 @@ pub record IsWritten {K V H : Type 0} (touches : Bool) (wants : K → Bool) (eq 
   pub carried : KeepsArrays old.arrays between.arrays
   pub alone : length old.arrays.linked ≡ 0 → between ≡ old
   pub written : WritesPlace touches wants is_there between new
-
--- each bucket of both arrays is as it was, but for values that were written and pairs that were removed: the LRU order of the others stays,
--- and so does the progress of the incremental rehash
-pub record LeavesBuckets {K V : Type 0} (old new : ArraysView K V) : Type 0 where
-  pub current : AreLeftOf 67 0 old.current new.current
-  pub linked : AreLeftOf 67 0 old.linked new.linked
-  pub tickets : new.tickets ≡ old.tickets
