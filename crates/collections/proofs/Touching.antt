@@ -1,5 +1,6 @@
 -- The pair under a wanted key of a cache was touched where it stands, or none is wanted.
-use Rattle.std.proofs.Common.{ℕ, ◌≡◌, Bool, true, false, Some, None, refl, sym, ap, ◌∙◌}
+use Rattle.std.proofs.Common.{ℕ, ◌≡◌, Bool, true, false, Some, None, is_some, refl, sym, ap, ◌∙◌}
+use Rattle.std.specs.Prelude.{MatchBool}
 use Rattle.std.specs.Cmp.{IsEquivalence}
 use Rattle.std.specs.List.{IsDistinct}
 use Rattle.std.specs.Map.{keys_of}
@@ -9,20 +10,20 @@ use Rattle.bucket_slots.proofs.CallerLemmas.{bucket_with_value-same}
 use Rattle.bucket_slots.specs.BucketView.{BucketView, Place, bucket_with_value, slot_in}
 use Rattle.bucket_slots.specs.Evicting.{slots_touched}
 use Rattle.bucket_slots.specs.Slots.{live_pair}
-use Rattle.bucket_table.specs.Map.ByKey.{ChangesPlace, PreparesThen, StandsAt}
+use Rattle.bucket_table.specs.Map.ByKey.{ChangesAt, ChangesPlace, PreparesThen, StandsAt, Touches}
 use Rattle.bucket_table.specs.Map.Lending.{WritesUnder, with_value}
 use Rattle.bucket_table.specs.Map.LookingUp.{IsAbsent, IsThere}
 use Rattle.bucket_table.specs.Map.MapState.{ChangesValue, KeepsPairs, state_of}
 use Rattle.bucket_table.specs.Map.Preparing.{IsPrepared}
 use Rattle.bucket_table.specs.Views.ArraysView.{TableView, pairs_of}
-use Rattle.bucket_table.specs.Views.Sides.{bucket_on, with_bucket}
+use Rattle.bucket_table.specs.Views.Sides.{arrays_with, bucket_on, with_bucket}
 use Rattle.bucket_table.specs.declared.arrays.side.Side.{Side}
 use Rattle.bucket_table.proofs.Map.LockedSteps.{put_there}
 use Rattle.bucket_table.proofs.Map.MapSteps.{set_again}
 use Rattle.bucket_table.proofs.Scripts.CallSteps.{then_changed, there_before}
 use Rattle.collections.specs.CacheWrites.{IsWritten}
 use Rattle.collections.specs.Changes.{Replaces, Stays}
-use Rattle.collections.specs.Maps.{get_by, map_of}
+use Rattle.collections.specs.Maps.{contains_by, get_by, map_of}
 use Rattle.collections.specs.Orders.{IsTouched}
 use Rattle.collections.proofs.InPlace.{found_is}
 use Rattle.collections.proofs.Loans.{distinct_changed}
@@ -116,3 +117,28 @@ module _ {K V H : Type 0} (eq : K → K → Bool) (laws : IsEquivalence eq) (t s
         carried = prepared_moves hash t between prepared;
         touched = (side, index, at, stands, ap (λ (z : TableView K V H). z.arrays) (is ∙ ap (λ c. with_bucket between side index c) again));
       }
+
+  touched_at : (r : Bool) (b : TableView K V H) → ChangesAt wants (slots_touched true) r b s
+      → MatchBool r ((side : Side) × (index : ℕ) × (at : Place) × StandsAt wants b.arrays side index at
+      × (s.arrays ≡ arrays_with b.arrays side index (slots_touched true (bucket_on b.arrays side index) at))) (s.arrays ≡ b.arrays)
+  touched_at true b (side, index, at, stands, is) = (side, index, at, stands, ap (λ (z : TableView K V H). z.arrays) is)
+  touched_at false b same = ap (λ (z : TableView K V H). z.arrays) same
+
+  so : (r : Bool) → KeepsPairs (state_of 67 t) (state_of 67 s)
+      → PreparesThen 67 hash t (λ between. ChangesAt wants (slots_touched true) r between s) → IsTouched eq wants r t s
+  so r keeps moved = record {
+    map = kept eq laws t s distinct wants alike keeps;
+    between = moved.between.arrays;
+    carried = prepared_moves hash t moved.between moved.prepared;
+    touched = touched_at r moved.between moved.done;
+  }
+
+  -- the table's touch answers whether the map has the key
+  pub promoted : (r : Bool) → Touches wants (state_of 67 t) r (state_of 67 s)
+      → PreparesThen 67 hash t (λ between. ChangesAt wants (slots_touched true) r between s)
+      → (r ≡ contains_by wants (map_of t)) × IsTouched eq wants r t s
+  promoted true done moved = (
+    ap is_some (sym (form_there eq laws wants alike (pairs_of t.arrays) done.0.0 distinct done.0.1.0 done.0.1.1)),
+    so true done.1 moved,
+  )
+  promoted false done moved = (ap is_some (sym (form_absent wants (pairs_of t.arrays) done.0)), so false done.1 moved)

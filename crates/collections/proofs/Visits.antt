@@ -9,8 +9,9 @@ use Rattle.std.specs.List.Retain.{ReturnsInTurn}
 use Rattle.std.specs.Map.{keys_of}
 use Rattle.bucket_slots.specs.Walking.{CallsEach}
 use Rattle.bucket_table.specs.Walking.Retains.{RetainsEach}
-use Rattle.collections.specs.Changes.{Calls}
+use Rattle.collections.specs.Changes.{Calls, Retains}
 use Rattle.collections.specs.Keys.{CallsEachKey}
+use Rattle.collections.specs.Maps.{MapView}
 
 -- the key of a pair is left where the answer is true
 keys_left : {K V : Type 0} (answer : Bool) (key : K) (value : V) (kept : List (K × V)) (answers : List Bool) (keys : List K)
@@ -74,21 +75,37 @@ module _ {S F K V : Type 0} (inside : S → F) (IsKept : S → Type 0) where
       )
 
   -- and it was lent each value
-  pub pairs_lent : (step : S → Bor K → MutBor V → Bool → MutBor V → S → Type 0) (R : F → Bor K → MutBor V → MutBor V → F → Type 0)
+  pub pairs_lent : (step : S → Bor K → MutBor V → Bool → MutBor V → S → Type 0)
+      (R : F → Bor K → MutBor V → Bool → MutBor V → F → Type 0)
       → (says : (s : S) (own : Bor K) (before : MutBor V) (answer : Bool) (after : MutBor V) (t : S)
       → IsKept s → step s own before answer after t
-      → IsKept t × (answer ≡ true) × Calls (λ k b a. R (inside s) k b a (inside t)) own.now before.now after.now)
+      → IsKept t × Calls (λ k b a. R (inside s) k b answer a (inside t)) own.now before.now after.now)
       → (first : S) (pairs left : List (K × V)) (last : S) → IsKept first → RetainsEach step first pairs left last
-      → IsKept last × RetainsEach (λ s own before answer after t. (answer ≡ true) × R s own before after t) (inside first) pairs left (inside last)
+      → IsKept last × RetainsEach R (inside first) pairs left (inside last)
   pairs_lent step R says first [] left last kept is = (subst IsKept (sym is.1) kept, (is.0, λ i. inside (is.1 i)))
   pairs_lent step R says first (pair ∷ pairs) left last kept asked =
       let between = asked.4 in
       let one = says first asked.0 asked.1 asked.3 asked.2 between kept asked.7 in
-      let call = one.2 in
+      let call = one.1 in
       let rest = pairs_lent step R says between pairs asked.5 last one.0 asked.9 in
       let there : (call.0.now, call.1.now) ≡ pair = (λ i. (call.3 i, call.4 i)) ∙ asked.6 in
-      let stays : left ≡ (call.0.now, call.2.now) ∷ asked.5 = rw one.1 at asked.8 ∙ (λ i. (sym call.3 i, sym call.5 i) ∷ asked.5) in
-      (rest.0, (call.0, call.1, call.2, true, inside between, asked.5, there, (refl, call.6), stays, rest.1))
+      let stays : left ≡ (if asked.3 then (call.0.now, call.2.now) ∷ asked.5 else asked.5) =
+      asked.8 ∙ (λ i. if asked.3 then (sym call.3 i, sym call.5 i) ∷ asked.5 else asked.5) in
+      (rest.0, (call.0, call.1, call.2, asked.3, inside between, asked.5, there, call.6, stays, rest.1))
+
+  -- so the function that the closure borrows decided what is left of a map
+  pub retains_lent : {H : Type 0} (eq : K → K → Bool) (step : S → Bor K → MutBor V → Bool → MutBor V → S → Type 0)
+      (R : F → Bor K → MutBor V → Bool → MutBor V → F → Type 0)
+      → (says : (s : S) (own : Bor K) (before : MutBor V) (answer : Bool) (after : MutBor V) (t : S)
+      → IsKept s → step s own before answer after t
+      → IsKept t × Calls (λ k b a. R (inside s) k b answer a (inside t)) own.now before.now after.now)
+      → (first : S) (old new : MapView K V H) (last : S) → IsKept first → Retains eq step first old new last
+      → IsKept last × Retains eq R (inside first) old new (inside last)
+  retains_lent eq step R says first old new last kept retained =
+      let all = pairs_lent step R says first old.entries new.entries last kept retained.asked in (
+        all.0,
+        record { asked = all.1; kept = retained.kept; slots = retained.slots; old_slots = retained.old_slots },
+      )
 
 -- pairs visited, where each call keeps what is fixed from the start on
 pub pairs_visited_from : {S F K V A : Type 0} (inside : S → F) (fixed : S → A) (step : S → Bor K → Bor V → S → Type 0)
@@ -115,12 +132,3 @@ askable_after asks first [] keys last is may = subst (always_mut asks) is may
 askable_after asks first (answer ∷ answers) [] last asked may = absurd asked
 askable_after asks first (answer ∷ answers) (key ∷ keys) last asked may =
     askable_after asks asked.0 answers keys last asked.2 (mut_next asks first _ _ _ _ asked.1.called refl may)
-
--- a function that may always be called may be after it was lent the values
-pub lendable_after : {F K V : Type 0} (calls : Mut F (Bor K × (MutBor V × Unit {0})) (Unit {0} × (MutBor V × Unit {0}))) (first : F)
-    (pairs left : List (K × V)) (last : F)
-    → RetainsEach (λ s own before answer after t. (answer ≡ true) × Called calls s (own, (before, tt)) (tt, (after, tt)) t) first pairs left last
-    → always_mut calls first → always_mut calls last
-lendable_after calls first [] left last is may = subst (always_mut calls) (sym is.1) may
-lendable_after calls first (pair ∷ pairs) left last asked may =
-    lendable_after calls asked.4 pairs asked.5 last asked.9 (mut_next calls first _ _ _ _ asked.7.1 refl may)

@@ -1,4 +1,4 @@
--- What writing values and removing pairs does to a cache's buckets, and to their LRU order.
+-- What writing values does to a cache's buckets, and to their LRU order.
 use Rattle.std.specs.Prelude.{ℕ, ◌≡◌, Bool, MatchBool}
 use Rattle.bucket_slots.specs.BucketView.{Place, slot_in, with_slot}
 use Rattle.bucket_slots.specs.Evicting.{slots_touched}
@@ -6,7 +6,6 @@ use Rattle.bucket_slots.specs.Slots.{slot_with_value}
 use Rattle.bucket_table.specs.Map.ByKey.{StandsAt}
 use Rattle.bucket_table.specs.Views.ArraysView.{ArraysView, TableView}
 use Rattle.bucket_table.specs.Views.Sides.{arrays_with, bucket_on}
-use Rattle.bucket_table.specs.Walking.Retains.{AreLeftOf}
 use Rattle.bucket_table.specs.declared.arrays.side.Side.{Side}
 use Rattle.collections.specs.Changes.{Stays}
 use Rattle.collections.specs.Maps.{map_of}
@@ -22,10 +21,3 @@ pub record IsWritten {K V H : Type 0} (touches : Bool) (wants : K → Bool) (eq 
   pub written : MatchBool is_there ((value : V) × (side : Side) × (index : ℕ) × (at : Place) × StandsAt wants between side index at
       × (new.arrays ≡ arrays_with between side index (with_slot (slots_touched touches (bucket_on between side index) at) at
       (slot_with_value (slot_in (bucket_on between side index) at) value)))) (new.arrays ≡ between)
-
--- each bucket of both arrays is as it was, but for values that were written and pairs that were removed: the LRU order of the others stays,
--- and so does the progress of the incremental rehash
-pub record LeavesBuckets {K V : Type 0} (old new : ArraysView K V) : Type 0 where
-  pub current : AreLeftOf 67 0 old.current new.current
-  pub linked : AreLeftOf 67 0 old.linked new.linked
-  pub tickets : new.tickets ≡ old.tickets

@@ -11,6 +11,7 @@ pub mod Room
 pub mod Loans
 pub mod CacheLoans
 pub mod CacheWrites
+pub mod Retaining
 pub mod CacheLends
 pub mod CacheUpserts
 pub mod Orders

@@ -258,6 +258,21 @@ impl<K: Eq + Drop, V: Drop, H: KeyHash<K>> HashCache<K, V, H> {
         }
     }
 
+    /// Touches the pair under a key, or under the keys that a form stands for, as `get` does, and
+    /// returns whether the cache has the key.
+    ///
+    /// Never fails. O(1) expected. lru: `LruCache::promote`.
+    #[inline(always)]
+    pub fn promote<Q: KeyForm<K, H>>(&mut self, key: Q) -> bool
+        ensures found { result ≡ contains_by (Q.stands_for key) (map_of self.old) }
+        ensures touched { IsTouched K.eq (Q.stands_for key) result self.old self.new }
+    {
+        self.room.learn();
+        self.table.sound();
+        let hash = key.hash_by(self.table.hasher());
+        self.table.touch_by(hash, &mut FormProbe::<Q, H>::new(key))
+    }
+
     /// Inserts a pair whose key the cache hasn't, as the most recently used one of its bucket. If
     /// no own slot of that bucket is free, a pair is evicted first, and returned: the least
     /// recently used one, or the one in slot 0 if no pair was touched. The new pair takes an own

@@ -30,6 +30,7 @@ ghost use Rattle.collections.specs.Slots.{GrowsSlots, LosesSlots};
 mod emptied;
 mod iterating;
 mod printing;
+mod retaining;
 
 use crate::default_hash::DefaultHash;
 use crate::hash_map::NotInserted;

@@ -68,6 +68,22 @@ pub(super) const STORIES: &[Story] = steps! {
             Holds(1, None), Holds(0, Some(150)), Holds(30, Some(130)), AddsAll(41, 57), Len(32),
             Adds(57, 1, Some((2, 102))), Adds(58, 1, Some((4, 104))), Replaces(6, 1, 106),
             Adds(59, 1, Some((8, 108))), Len(32) } },
+    Story { name: "a promoted pair is the one touched last", hasher: ScriptHash::Zero,
+        made: Within(0, 256), steps: steps! {
+            Promotes(1, false), Fills(0, 4), Promotes(1, true), ByUse(&[1, 3, 2, 0]),
+            Promotes(9, false), ByUse(&[1, 3, 2, 0]), Removes(1, Some((1, 1))), Promotes(1, false),
+            Fills(4, 33), Promotes(0, true), Holds(0, Some(0)), Puts(33, 1, Some((2, 2))),
+            Len(32) } },
+    Story { name: "a pair is promoted amid a growth", hasher: ScriptHash::Spread,
+        made: Within(0, 100), steps: steps! {
+            Fills(0, 31), Fills(128, 159), Slots(64), Fills(31, 32), Slots(128), Promotes(0, true),
+            Promotes(32, false), Puts(32, 320, Some((1, 1))), Holds(0, Some(0)), Len(63) } },
+    // The keys are evicted in the order in which they were put.
+    Story { name: "each value is written, and none is touched", hasher: ScriptHash::Zero,
+        made: Within(0, 256), steps: steps! {
+            Raises, Len(0), AddsAll(0, 32), Raises, Len(32), Holds(0, Some(100)),
+            Holds(31, Some(131)), Adds(32, 1, Some((0, 100))), Raises, Holds(32, Some(101)),
+            Adds(33, 1, Some((1, 201))), Len(32) } },
     Story { name: "values amid a growth are those of the pairs where they are",
         hasher: ScriptHash::Spread, made: Within(0, 100), steps: steps! {
             AddsAll(0, 31), AddsAll(128, 159), Slots(64), Writes(0, 50, Some(0)),

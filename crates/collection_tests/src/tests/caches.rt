@@ -42,10 +42,14 @@ pub(super) enum Step {
     Pokes(u64, u64, Option<u64>),
     /// The value that `get` finds. The pair is touched.
     Gets(u64, Option<u64>),
+    /// `promote` touches the pair of a key, if it is present.
+    Promotes(u64, bool),
     /// `get` finds each key with its own value, and touches it.
     Touches(u64, u64),
     /// 100 is added to the value of each pair, and the pair is removed if its key is odd.
     Retains,
+    /// 100 is added to the value of each pair.
+    Raises,
     /// The pair that is removed.
     Removes(u64, Option<(u64, u64)>),
     /// All pairs are removed.
@@ -206,7 +210,9 @@ fn change(rt: &impl Abort, cache: &mut Cache, at: At, step: &Step) {
             check_same(rt, write(cache.peek_mut(&key), value), earlier, at);
         }
         Gets(key, value) => check_same(rt, cache.get(&key).copied(), value, at),
+        Promotes(key, there) => check_same(rt, cache.promote(&key), there, at),
         Touches(from, to) => check_same(rt, touch(cache, from, to), true, at),
+        Raises => cache.for_each_mut(&mut raise),
         _ => look(rt, cache, at, step),
     }
 }
@@ -311,6 +317,11 @@ fn update(cache: &mut Cache, key: u64, value: u64) -> Option<(u64, u64)> {
 fn keep_even(key: &u64, value: &mut u64) -> bool {
     *value = value.wrapping_add(100);
     *key % 2 == 0
+}
+
+// Adds 100 to a value.
+fn raise(_key: &u64, value: &mut u64) {
+    *value = value.wrapping_add(100);
 }
 
 // How many pairs each iterator over a cache yields; `iter_by_use` yields them in another order.

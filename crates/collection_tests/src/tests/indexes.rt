@@ -26,6 +26,8 @@ enum Step {
     Reads(u64, Option<(u64, u64)>),
     /// Keys are removed.
     Drains(u64, u64),
+    /// The pairs with odd keys are removed.
+    Retains,
     /// The minimum is to be raised by the first number, and is by the second.
     Reserves(usize, usize),
     /// The minimum is set to 0.
@@ -78,6 +80,15 @@ const STORIES: &[Story] = steps! {
             Fills(0, 100), Slots(64), Len(100), Removes(50, true), Holds(50, None),
             Reads(99, Some((99, 99))), Returns(98, 1), Inserts(50, 5), Holds(50, Some(5)), Len(99),
             Drains(51, 99), Len(51), Removes(50, true), Len(50), Holds(49, Some(49)) } },
+    Story { name: "pairs that aren't kept are gone, and their keys come again",
+        hasher: ScriptHash::Zero, capacity: 0, steps: steps! {
+            Retains, Len(0), Fills(0, 40), Retains, Len(20), Holds(1, None), Holds(0, Some(0)),
+            Holds(38, Some(38)), Removes(39, false), Inserts(1, 11), Holds(1, Some(11)), Retains,
+            Holds(1, None), Len(20), Inserts(1, 12), Len(21), Slots(64) } },
+    Story { name: "pairs of both arrays are asked for amid a growth", hasher: ScriptHash::Spread,
+        capacity: 0, steps: steps! {
+            Fills(0, 31), Fills(128, 159), Inserts(31, 31), Slots(128), Len(63), Retains, Len(32),
+            Holds(5, None), Holds(158, Some(158)), Removes(5, false), Inserts(5, 50), Len(33) } },
     Story { name: "pairs are the same before, amid and after a growth",
         hasher: ScriptHash::Spread, capacity: 0, steps: steps! {
             Fills(0, 31), Fills(128, 159), Slots(64), Len(62), Inserts(31, 31), Slots(128), Len(63),
@@ -142,6 +153,7 @@ fn take(rt: &impl Abort, index: &mut Index, now: &FixedGeneration, at: At, step:
         Removes(key, there) => check_same(rt, index.remove(&key, now), there, at),
         Reads(key, pair) => check_same(rt, index.remove_with(&key, now, pair_of), pair, at),
         Drains(from, to) => check_same(rt, drain(index, from, to, now), true, at),
+        Retains => index.retain(&mut is_even, now),
         _ => resize(rt, index, at, step),
     }
 }
@@ -177,6 +189,10 @@ fn drain(index: &mut Index, from: u64, to: u64, now: &FixedGeneration) -> bool {
         were_there = index.remove(&key, now) && were_there;
     }
     were_there
+}
+
+fn is_even(own: &u64, _value: &u64) -> bool {
+    *own % 2 == 0
 }
 
 fn pair_of(own: &u64, value: &u64) -> (u64, u64) {

@@ -25,6 +25,8 @@ enum Step {
     Removes(u64, bool),
     /// A pair is removed by `remove_with`, and a clone of its value dropped, if its key is present.
     Reads(u64, bool),
+    /// The pairs with odd keys are removed.
+    Retains,
     /// The minimum is raised.
     Reserves(usize),
     /// All pairs are removed.
@@ -54,6 +56,9 @@ const STORIES: &[Story] = steps! {
     ("a value that is handed over waits as others do", ScriptHash::Zero, steps! {
         Fills(0, 32), Reads(4, true), Reads(4, false), Sees(31, 32), Removes(4, false),
         Now(255, false), Inserts(4), Sees(32, 32) }),
+    ("values of pairs that aren't kept wait as others do", ScriptHash::Zero, steps! {
+        Fills(0, 32), Retains, Sees(16, 32), Retains, Sees(16, 32), Removes(1, false), Inserts(32),
+        Sees(17, 33), Now(1, false), Inserts(33), Sees(18, 18), Retains, Sees(17, 18) }),
     ("a clearing drops marked values too", ScriptHash::Zero, steps! {
         Fills(0, 40), Removes(1, true), Removes(39, true), Inserts(1), Sees(39, 41), Clears,
         Sees(0, 0), Inserts(1), Sees(1, 1), Clears, Clears, Sees(0, 0) }),
@@ -136,6 +141,10 @@ fn fill(index: &mut Index, counted: &Rc<u64>, now: &FixedGeneration, from: u64, 
     are_in
 }
 
+fn is_even(own: &u64, _value: &Rc<u64>) -> bool {
+    *own % 2 == 0
+}
+
 fn is_cloned(_own: &u64, value: &Rc<u64>) -> bool {
     value.clone().is_ok()
 }
@@ -154,6 +163,7 @@ fn change(
         Reserves(additional) => {
             let _ = index.raise_minimum(*additional);
         }
+        Retains => index.retain(&mut is_even, now),
         Clears => index.clear(),
         Sees(pairs, values) => {
             let found = (index.len(), Rc::strong_count(counted).saturating_sub(1));

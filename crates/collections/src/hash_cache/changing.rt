@@ -4,12 +4,15 @@ ghost use Rattle.std.specs.Borrow.{Bor, MutBor, sem};
 ghost use Rattle.std.specs.Option.{option_copied_mut};
 ghost use Rattle.bucket_table.specs.Map.LookingUp.{IsThere};
 ghost use Rattle.bucket_table.specs.Views.ArraysView.{pairs_of};
-ghost use Rattle.collections.specs.CacheWrites.{IsWritten, LeavesBuckets};
-ghost use Rattle.collections.specs.Changes.{Retains, Rewrites};
+ghost use Rattle.collections.specs.CacheWrites.{IsWritten};
+ghost use Rattle.collections.specs.Changes.{Calls, Retains, Rewrites};
 ghost use Rattle.collections.specs.Maps.{get_by, map_of};
+ghost use Rattle.collections.specs.Retaining.{LeavesBuckets};
 
+use crate::calling::called_with;
 use crate::hash_cache::HashCache;
 use crate::key_form::{FormProbe, KeyForm};
+use bucket_slots::bucket::CACHE;
 use bucket_table::key_hash::KeyHash;
 
 impl<K: Eq + Drop, V: Drop, H: KeyHash<K>> HashCache<K, V, H> {
@@ -96,10 +99,31 @@ impl<K: Eq + Drop, V: Drop, H: KeyHash<K>> HashCache<K, V, H> {
         ensures retained { Retains K.eq
             (λ state own before answer after last. F.step state own before answer after last)
             f.old (map_of self.old) (map_of self.new) f.new }
-        ensures buckets { LeavesBuckets self.old.arrays self.new.arrays }
+        ensures buckets { LeavesBuckets CACHE 0 self.old.arrays self.new.arrays }
     {
         self.room.learn();
         let _ = self.table.retain(f, &());
         self.table.sound();
+    }
+
+    /// Calls a function with each pair once, its value mutable. Each pair stays in its place, with
+    /// the value that the function left. None is touched.
+    ///
+    /// Never fails, and takes no memory. O(slots), and the function's calls. Own: std's loop over
+    /// `iter_mut`.
+    pub fn for_each_mut<F: FnMut(&K, &mut V)>(&mut self, f: &mut F)
+        requires callable { F.IsAlwaysCallable f.old }
+        ensures again { F.IsAlwaysCallable f.new }
+        ensures written { Retains K.eq (λ state own before answer after last. (answer ≡ true)
+            × F.step state own before tt after last) f.old (map_of self.old) (map_of self.new)
+            f.new }
+        ensures buckets { LeavesBuckets CACHE 0 self.old.arrays self.new.arrays }
+    {
+        let mut keep = |key: &K, value: &mut V|
+            requires { F.IsAlwaysCallable f.now }
+            ensures { (result ≡ true) × Calls (λ own before after.
+                F.step f.entry.now own before tt after f.exit.now) key.now value.old value.new }
+        { called_with(f, key, value) };
+        self.retain(&mut keep);
     }
 }

@@ -5,6 +5,7 @@ ghost use Rattle.std.specs.Option.{option_copied_mut};
 ghost use Rattle.collections.specs.Changes.{Calls, Retains};
 ghost use Rattle.collections.specs.Maps.{get_by};
 
+use crate::calling::called_with;
 use crate::hash_map::HashMap;
 use crate::key_form::KeyForm;
 use bucket_table::key_hash::KeyHash;
@@ -58,14 +59,4 @@ impl<K: Eq + Drop, V: Drop, H: KeyHash<K>> HashMap<K, V, H> {
         { called_with(f, key, value) };
         self.retain_ref(&mut keep);
     }
-}
-
-/// Calls a function with a pair, and returns `true`.
-fn called_with<K, V, F: FnMut(&K, &mut V)>(f: &mut F, key: &K, value: &mut V) -> bool
-    requires { F.IsAlwaysCallable f.old }
-    ensures { (result ≡ true) × Calls (λ own before after. F.step f.old own before tt after f.new)
-        key.now value.old value.new }
-{
-    f(key, value);
-    true
 }
