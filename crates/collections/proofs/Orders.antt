@@ -21,6 +21,7 @@ use Rattle.bucket_table.specs.Views.Sides.{arrays_with, bucket_on, buckets_on}
 use Rattle.bucket_table.specs.declared.hash_table.NotInserted.{NotInserted}
 use Rattle.bucket_table.specs.declared.hash_table.NotInserted.TheVariants.{Memory, Present}
 use Rattle.bucket_table.proofs.Map.MapKept.{state_found}
+use Rattle.bucket_table.proofs.Views.Keeping.{kept_none}
 use Rattle.collections.specs.Changes.{Stays}
 use Rattle.collections.specs.Maps.{map_of}
 use Rattle.collections.specs.Orders.{Leaves, LeavesArray, LeavesPlace, PutsOrKeeps, ReplacesBucket}
@@ -123,3 +124,7 @@ module _ {K V H : Type 0} (hash : ℕ) (old new : TableView K V H) where
       alone = λ none. ap (λ (t : TableView K V H). t.arrays) (p.prepared.alone none);
       left = left removed p.between p.done;
     }
+
+-- where nothing is removed
+pub leaves_none : {K V : Type 0} (wants : K → Bool) (arrays : ArraysView K V) → LeavesPlace wants false arrays arrays
+leaves_none wants arrays = record { between = arrays; carried = kept_none arrays; alone = λ none. refl; left = refl }

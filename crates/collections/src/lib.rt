@@ -8,6 +8,7 @@
 //! collections: a call borrows where scc locks. SPDX-License-Identifier: Apache-2.0
 #![tactic(auto)]
 
+mod comparing;
 mod default_hash;
 mod draining;
 mod extracting;

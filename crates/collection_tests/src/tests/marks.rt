@@ -25,6 +25,8 @@ enum Step {
     Removes(u64, bool),
     /// A pair is removed by `remove_with`, and a clone of its value dropped, if its key is present.
     Reads(u64, bool),
+    /// A pair is removed by `remove_if` if its function returns this; its key is present.
+    Asks(u64, bool),
     /// The minimum is raised.
     Reserves(usize),
     /// All pairs are removed.
@@ -54,6 +56,9 @@ const STORIES: &[Story] = steps! {
     ("a value that is handed over waits as others do", ScriptHash::Zero, steps! {
         Fills(0, 32), Reads(4, true), Reads(4, false), Sees(31, 32), Removes(4, false),
         Now(255, false), Inserts(4), Sees(32, 32) }),
+    ("a pair that stays leaves no mark", ScriptHash::Zero, steps! {
+        Fills(0, 32), Asks(4, false), Sees(32, 32), Asks(4, true), Sees(31, 32), Now(1, false),
+        Inserts(32), Sees(32, 32) }),
     ("a clearing drops marked values too", ScriptHash::Zero, steps! {
         Fills(0, 40), Removes(1, true), Removes(39, true), Inserts(1), Sees(39, 41), Clears,
         Sees(0, 0), Inserts(1), Sees(1, 1), Clears, Clears, Sees(0, 0) }),
@@ -151,6 +156,10 @@ fn change(
 ) {
     match step {
         Removes(key, there) => check_same(rt, index.remove(key, now), *there, at),
+        Asks(key, gone) => {
+            let condition = |_own: &u64, _value: &Rc<u64>| *gone;
+            check_same(rt, index.remove_if(key, condition, now), *gone, at);
+        }
         Reserves(additional) => {
             let _ = index.raise_minimum(*additional);
         }
