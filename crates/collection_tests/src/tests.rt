@@ -62,6 +62,14 @@ fn write(place: Option<&mut u64>, number: u64) -> Option<u64> {
     }
 }
 
+// The pair of a key that has a value.
+fn pair_with(key: u64, value: Option<u64>) -> Option<(u64, u64)> {
+    match value {
+        Some(held) => Some((key, held)),
+        None => None,
+    }
+}
+
 // Steps, several on a line.
 macro_rules! steps {
     ($($step:expr),+ $(,)?) => { &[$($step),+] };

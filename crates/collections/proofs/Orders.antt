@@ -20,9 +20,10 @@ use Rattle.bucket_table.specs.Views.ArraysView.{ArraysView, TableView, pairs_of}
 use Rattle.bucket_table.specs.Views.Sides.{arrays_with, bucket_on, buckets_on}
 use Rattle.bucket_table.specs.declared.hash_table.NotInserted.{NotInserted}
 use Rattle.bucket_table.specs.declared.hash_table.NotInserted.TheVariants.{Memory, Present}
+use Rattle.bucket_table.proofs.Views.Keeping.{kept_none}
 use Rattle.collections.specs.Orders.{Leaves, LeavesArray, LeavesPlace, PutsOrKeeps, ReplacesBucket}
 use Rattle.collections.proofs.Found.{IsFound, found, ready_keeps, same_buckets}
-use Rattle.collections.proofs.Moving.{arrays_stay, moves_beside, prepared_moves}
+use Rattle.collections.proofs.Moving.{arrays_stay, moves_beside, moves_on, prepared_moves}
 use Rattle.collections.proofs.Shrinking.{none_left, removed_ends}
 
 module _ {K V : Type 0} where
@@ -111,3 +112,7 @@ module _ {K V H : Type 0} (hash : ℕ) (old new : TableView K V H) where
       carried = prepared_moves hash old p.between p.prepared;
       left = left removed p.between p.done;
     }
+
+-- where nothing is removed
+pub leaves_none : {K V : Type 0} (wants : K → Bool) (arrays : ArraysView K V) → LeavesPlace wants false arrays arrays
+leaves_none wants arrays = record { between = arrays; carried = moves_on arrays arrays (kept_none arrays) (λ none. refl); left = refl }

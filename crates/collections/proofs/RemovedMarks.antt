@@ -14,7 +14,7 @@ use Rattle.bucket_slots.specs.Slots.{Slot, free, is_live, live_pair, marked, mar
 use Rattle.bucket_slots.proofs.CallerLemmas.{flat_map-exchanged, live_is, regrouped, rotated}
 use Rattle.bucket_slots.proofs.ChangedSlots.{live_inside}
 use Rattle.bucket_slots.proofs.Entries.{rows-exchanged}
-use Rattle.bucket_slots.proofs.MarkCallerLemmas.{no_new-trans}
+use Rattle.bucket_slots.proofs.MarkCallerLemmas.{no_new-same, no_new-trans}
 use Rattle.bucket_slots.proofs.NoNewMarks.{mark_of}
 use Rattle.bucket_table.specs.Map.ByKey.{ShrinksAt}
 use Rattle.bucket_table.specs.Map.LookingUp.{IsThere}
@@ -77,6 +77,14 @@ module _ {K V : Type 0} where
     nil_from_length old.linked pushed.alone,
     append-nil (marks_among old.current),
   ) refl
+
+  -- nothing is marked
+  pub none_marked : (arrays : ArraysView K V) → AreEarlierMarks arrays (marks_of arrays)
+  none_marked arrays = record {
+    earlier = no_new-same (marks_of arrays) (marks_of arrays) refl;
+    current = (on_side arrays Current).stood;
+    all = λ none. refl;
+  }
 
 module _ {K V H : Type 0} (wants : K → Bool) (epoch hash : ℕ) (old between new : TableView K V H)
     (prepared : IsPrepared 79 hash old between) where

@@ -1,6 +1,6 @@
 -- Two maps are equal exactly if they are equal as functions. It stands here because the impls of `PartialEq` cite it.
 use Rattle.std.proofs.Common.{◌≡◌, ◌&&◌, ◌∙◌, ◌⊎◌, inl, inr, Bool, true, false, cond, Option, Some, None, List, [], ◌∷◌, refl, sym, ap}
-use Rattle.std.specs.Cmp.{IsEquivalence, first_so, second_so}
+use Rattle.std.specs.Cmp.{IsEquivalence, IsPartialEquivalence, equiv, first_so, partial_equiv_from_equiv, second_so}
 use Rattle.std.specs.HashMap.Eq.{lookup_congr}
 use Rattle.std.specs.List.{list_all}
 use Rattle.std.specs.Map.{keys_of, lookup}
@@ -98,3 +98,12 @@ module _ {K V : Type 0} (eq : K → K → Bool) (laws : IsEquivalence eq) (same 
       → map_eq eq same l m ≡ true → map_eq eq same m n ≡ true → map_eq eq same l n ≡ true
   map_eq_joined through l m n one two = eq_from_agree l n (λ q. option_eq_joined same through (get eq l q) (get eq m q) (get eq n q)
       (agree_from_eq l m one q) (agree_from_eq m n two q))
+
+module _ {K V : Type 0} (eq : K → K → Bool) (laws : IsEquivalence eq) (same : V → V → Bool) where
+  -- equality is a partial equivalence if that of values is one
+  pub map_eq_per : {H : Type 0} → IsPartialEquivalence same → IsPartialEquivalence (map_eq {H = H} eq same)
+  map_eq_per values = record { symm = map_eq_turned eq same; trans = map_eq_joined eq laws same values.symm values.trans }
+
+  -- and an equivalence if that is one
+  pub map_eq_equiv : {H : Type 0} → IsEquivalence same → IsEquivalence (map_eq {H = H} eq same)
+  map_eq_equiv values = equiv (map_eq_per (partial_equiv_from_equiv values)) (map_eq_itself eq same values.refl)

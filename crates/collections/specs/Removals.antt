@@ -16,3 +16,8 @@ module _ {K V H : Type 0} (eq : K → K → Bool) (wants : K → Bool) (asks : B
   RemovesIf old (Some pair) new =
       (own : Bor K) × (value : Bor V) × ((own.now, value.now) ≡ pair) × asks own value true × Takes eq old wants pair new
   RemovesIf old None new = AsksThere old false × (new ≡ old)
+
+  -- the same, if the result is whether a pair was removed
+  abbrev pub TakesOutIf : MapView K V H → Bool → MapView K V H → Type 0
+  TakesOutIf old true new = (pair : K × V) × RemovesIf old (Some pair) new
+  TakesOutIf old false new = RemovesIf old None new

@@ -4,10 +4,10 @@
 //! `map_of` it, and answers as std's `HashMap` does.
 //!
 //! Ports scc's `src/hash_cache.rs` to an owned cache: a call borrows where scc locks.
-ghost use Rattle.std.specs.Prelude.{◌≤◌, ◌<◌, ◌≡◌, ◌↔◌, ◌^◌, ◌*◌, ◌-◌, ◌++◌, [], Err, IsTrue};
-ghost use Rattle.std.specs.Prelude.{is_some, length, max, min};
+ghost use Rattle.std.specs.Prelude.{◌≤◌, ◌<◌, ◌≡◌, ◌↔◌, ◌^◌, ◌*◌, ◌-◌, ◌++◌, [], Err, IfSome};
+ghost use Rattle.std.specs.Prelude.{IsTrue, is_some, length, max, min};
 ghost use Rattle.std.specs.Borrow.{sem};
-ghost use Rattle.std.specs.Option.{option_copied};
+ghost use Rattle.std.specs.Option.{option_copied, option_map};
 ghost use Rattle.bucket_slots.specs.Sizing.{IsLeastPowerOfTwo};
 ghost use Rattle.bucket_slots.specs.Walking.{CallsEach};
 ghost use Rattle.bucket_table.specs.Map.Counting.{IsHeldBy};
@@ -18,18 +18,21 @@ ghost use Rattle.collections.specs.Changes.{Puts, Removes};
 ghost use Rattle.collections.specs.Crowding.{LacksBucket};
 ghost use Rattle.collections.specs.Maps.{contains_by, get_by, IsEmpty, map_len, map_of};
 ghost use Rattle.collections.specs.Maps.{pairs_in_bucket};
+ghost use Rattle.collections.specs.StoredKeys.{key_by};
 
 mod changing;
+mod comparing;
 mod draining;
 mod emptied;
 mod iterating;
 mod printing;
 mod putting;
+mod removing;
 mod resizing;
 
 use crate::default_hash::DefaultHash;
 use crate::homes::learn_refused;
-use crate::key_form::{FormProbe, KeyForm, value_by};
+use crate::key_form::{FormProbe, KeyForm, pair_by, value_by};
 use crate::room::{Fits, TableRoom};
 use crate::sizing::{LEAST_CAPACITY, size_for};
 use bucket_slots::bucket::CACHE;
@@ -218,6 +221,22 @@ impl<K: Eq, V, H: KeyHash<K>> HashCache<K, V, H> {
     {
         self.room.learn();
         value_by(&self.table, key)
+    }
+
+    /// Returns the pair under a key, or under the keys that a form stands for, and doesn't touch it:
+    /// the cache's own key, and its value; `None` if the cache hasn't the key.
+    ///
+    /// Moves nothing, and takes no memory. O(1) expected. Own: std's `HashMap::get_key_value`.
+    #[inline(always)]
+    pub fn peek_key_value<Q: KeyForm<K, H>>(&self, key: Q) -> Option<(&K, &V)>
+        ensures key { option_map (λ pair. pair.0.now) result
+            ≡ key_by (Q.stands_for key) (map_of self.now) }
+        ensures same_key { IfSome result (λ pair. IsTrue (Q.stands_for key pair.0.now)) }
+        ensures value { option_map (λ pair. pair.1.now) result
+            ≡ get_by (Q.stands_for key) (map_of self.now) }
+    {
+        self.room.learn();
+        pair_by(&self.table, key)
     }
 
     /// Tests whether the cache has a key, or one that a form stands for. None is touched.

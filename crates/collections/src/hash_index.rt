@@ -10,9 +10,9 @@
 //!
 //! Ports scc's `src/hash_index.rs` to an owned index: the caller passes a generation where scc asks
 //! its collector.
-ghost use Rattle.std.specs.Prelude.{◌≡◌, ◌<◌, ◌↔◌, ◌-◌, ◌*◌, ◌^◌, [], Err, IsTrue, is_some, length};
-ghost use Rattle.std.specs.Prelude.{min};
-ghost use Rattle.std.specs.Option.{option_copied};
+ghost use Rattle.std.specs.Prelude.{◌≡◌, ◌<◌, ◌↔◌, ◌-◌, ◌*◌, ◌^◌, [], Err, IfSome, IsTrue};
+ghost use Rattle.std.specs.Prelude.{is_some, length, min};
+ghost use Rattle.std.specs.Option.{option_copied, option_map};
 ghost use Rattle.std.specs.Borrow.{Bor};
 ghost use Rattle.bucket_slots.specs.Marking.{HasNoNewMark, MarksBy};
 ghost use Rattle.bucket_slots.specs.Walking.{CallsEach};
@@ -26,16 +26,19 @@ ghost use Rattle.collections.specs.Maps.{contains_by, get_by, IsEmpty, map_len, 
 ghost use Rattle.collections.specs.Maps.{pairs_in_bucket};
 ghost use Rattle.collections.specs.Marks.{KeepsMarks, LosesNoKeptMark, MarksRemoved};
 ghost use Rattle.collections.specs.Slots.{GrowsSlots, LosesSlots};
+ghost use Rattle.collections.specs.StoredKeys.{key_by};
 
+mod comparing;
 mod emptied;
 mod iterating;
 mod printing;
+mod removing;
 mod retaining;
 
 use crate::default_hash::DefaultHash;
 use crate::hash_map::NotInserted;
 use crate::homes::learn_refused;
-use crate::key_form::{FormProbe, KeyForm, value_by};
+use crate::key_form::{FormProbe, KeyForm, pair_by, value_by};
 use crate::room::{Fits, TableRoom};
 use crate::sizing::widest;
 use bucket_slots::bucket::{Generation, INDEX};
@@ -183,6 +186,22 @@ impl<K: Eq, V, H: KeyHash<K>> HashIndex<K, V, H> {
     {
         self.room.learn();
         value_by(&self.table, key)
+    }
+
+    /// Returns the pair under a key, or under the keys that a form stands for: the index's own key,
+    /// and its value; `None` if the index hasn't the key.
+    ///
+    /// Moves nothing, and takes no memory. O(1) expected. Own: std's `HashMap::get_key_value`.
+    #[inline(always)]
+    pub fn peek_key_value<Q: KeyForm<K, H>>(&self, key: Q) -> Option<(&K, &V)>
+        ensures key { option_map (λ pair. pair.0.now) result
+            ≡ key_by (Q.stands_for key) (map_of self.now) }
+        ensures same_key { IfSome result (λ pair. IsTrue (Q.stands_for key pair.0.now)) }
+        ensures value { option_map (λ pair. pair.1.now) result
+            ≡ get_by (Q.stands_for key) (map_of self.now) }
+    {
+        self.room.learn();
+        pair_by(&self.table, key)
     }
 
     /// Tests whether the index has a key, or one that a form stands for.

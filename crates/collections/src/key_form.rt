@@ -1,9 +1,14 @@
 //! The forms in which a key is looked up, as a `&str` in the place of a `String`.
-ghost use Rattle.std.specs.Prelude.{◌≡◌, Bool, true, string_bytes};
-ghost use Rattle.std.specs.Option.{option_copied};
+ghost use Rattle.std.specs.Prelude.{◌≡◌, Bool, IfSome, IsTrue, true, string_bytes};
+ghost use Rattle.std.specs.Borrow.{Bor};
+ghost use Rattle.std.specs.Option.{option_copied, option_map};
 ghost use Rattle.std.specs.Str.{bytes_eq};
+ghost use Rattle.bucket_table.specs.Map.LookingUp.{IsThere};
+ghost use Rattle.bucket_table.specs.Views.ArraysView.{pairs_of};
 ghost use Rattle.collections.specs.Hashes.{HaveHash};
-ghost use Rattle.collections.specs.Maps.{get_by, map_of};
+ghost use Rattle.collections.specs.Maps.{IsUnique, get_by, map_of};
+ghost use Rattle.collections.specs.Removals.{AsksThere};
+ghost use Rattle.collections.specs.StoredKeys.{key_by};
 
 mod slices;
 mod texts;
@@ -151,5 +156,55 @@ pub(crate) fn value_hashed<K: Eq, V, H: KeyHash<K>, L: LruList, Q: KeyForm<K, H>
     match table.peek_entry_by(hash, &mut FormProbe::<Q, H>::new(form)) {
         Some((_, value)) => Some(value),
         None => None,
+    }
+}
+
+/// Returns the pair under the keys that a form stands for: the table's own key, and its value;
+/// `None` if the table has none of them.
+///
+/// Moves nothing, and takes no memory. O(1) expected.
+#[inline(always)]
+pub(crate) fn pair_by<K: Eq, V, H: KeyHash<K>, L: LruList, Q: KeyForm<K, H>, const TYPE: u8>(
+    table: &HashTable<K, V, H, L, TYPE>,
+    form: Q,
+) -> Option<(&K, &V)>
+    ensures key { option_map (λ pair. pair.0.now) result
+        ≡ key_by (Q.stands_for form) (map_of table.now) }
+    ensures same_key { IfSome result (λ pair. IsTrue (Q.stands_for form pair.0.now)) }
+    ensures value { option_map (λ pair. pair.1.now) result
+        ≡ get_by (Q.stands_for form) (map_of table.now) }
+    ensures there { IfSome result (λ pair.
+        IsThere (Q.stands_for form) (pairs_of table.now.arrays) (pair.0.now, pair.1.now)) }
+{
+    table.sound();
+    let hash = form.hash_by(table.hasher());
+    match table.peek_entry_by(hash, &mut FormProbe::<Q, H>::new(form)) {
+        Some((own, value)) => Some((own, value)),
+        None => None,
+    }
+}
+
+/// Returns what a function returns for the pair under the keys that a form stands for. If the table
+/// has none, the function isn't called, and the result is `false`.
+pub(crate) fn asks<
+    K: Eq,
+    V,
+    H: KeyHash<K>,
+    L: LruList,
+    Q: KeyForm<K, H>,
+    F: FnOnce(&K, &V) -> bool,
+    const TYPE: u8,
+>(table: &HashTable<K, V, H, L, TYPE>, form: Q, condition: F) -> bool
+    requires callable { (own : Bor K) (value : Bor V)
+        → IsThere (Q.stands_for form) (pairs_of table.now.arrays) (own.now, value.now)
+        → F.pre condition own value }
+    ensures asked { AsksThere K.eq (Q.stands_for form)
+        (λ own value answer. F.post condition own value answer) (map_of table.now) result }
+    ensures unique { IsUnique K.eq (map_of table.now) }
+{
+    table.sound();
+    match pair_by(table, form) {
+        Some((own, value)) => condition(own, value),
+        None => false,
     }
 }

@@ -9,6 +9,7 @@
 #![tactic(auto)]
 
 mod calling;
+mod comparing;
 mod default_hash;
 mod draining;
 mod extracting;

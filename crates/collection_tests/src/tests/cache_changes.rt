@@ -41,6 +41,12 @@ pub(super) const STORIES: &[Story] = steps! {
             Writes(2, 52, Some(2)), Holds(0, Some(50)), Holds(1, Some(51)), Holds(2, Some(52)),
             Adds(32, 1, Some((0, 50))), Adds(33, 1, Some((1, 51))), Adds(34, 1, Some((3, 3))),
             Holds(2, Some(52)), Len(32) } },
+    Story { name: "a pair that is asked about isn't touched", hasher: ScriptHash::Zero,
+        made: Within(0, 256), steps: steps! {
+            RemovesAbove(0, 0, None), AddsAll(0, 32), RemovesAbove(0, 0, None),
+            RemovesAbove(40, 0, None), Holds(0, Some(0)), Len(32), Adds(32, 1, Some((0, 0))),
+            RemovesAbove(1, 0, Some((1, 1))), RemovesAbove(1, 0, None), Holds(1, None), Len(31),
+            Adds(33, 1, None), Adds(34, 1, Some((2, 2))), Len(32) } },
     Story { name: "where the key is absent nothing is written, and none is touched",
         hasher: ScriptHash::Zero, made: Within(0, 256), steps: steps! {
             Updates(9, 1, None), Writes(9, 1, None), Pokes(9, 1, None), Len(0), AddsAll(0, 32),

@@ -1,7 +1,7 @@
 //! Stories of a cache of numbers: which pair is evicted for another, which of the calls touch a
 //! pair, and what is seen of the cache then.
 use super::iterating::{MOST_BUCKETS, Pairs, gone_over, same_pairs, walk_numbers, walk_pairs};
-use super::{At, cache_changes, check_same, lru_caches, steps, write};
+use super::{At, cache_changes, check_same, lru_caches, pair_with, steps, write};
 use Made::*;
 use Step::*;
 use bucket_table::script::ScriptHash;
@@ -52,6 +52,8 @@ pub(super) enum Step {
     Raises,
     /// The pair that is removed.
     Removes(u64, Option<(u64, u64)>),
+    /// The pair that `remove_if` removes, if its value is above the second number.
+    RemovesAbove(u64, u64, Option<(u64, u64)>),
     /// All pairs are removed.
     Clears,
     /// The cache is resized to so many slots.
@@ -222,11 +224,19 @@ fn look(rt: &impl Abort, cache: &mut Cache, at: At, step: &Step) {
     match *step {
         Retains => cache.retain(&mut keep_even),
         Removes(key, pair) => check_same(rt, cache.remove(&key), pair, at),
+        RemovesAbove(key, floor, pair) => {
+            check_same(rt, remove_above(cache, key, floor), pair, at);
+        }
         Clears => cache.clear(),
         Resizes(slots) => check_same(rt, cache.resize(slots).is_ok(), true, at),
         Holds(key, value) => {
-            let found = (cache.peek(&key).copied(), cache.contains(&key));
-            check_same(rt, found, (value, value.is_some()), at);
+            let found = (
+                cache.peek(&key).copied(),
+                cache.contains(&key),
+                pair(cache, key),
+            );
+            let wanted = (value, value.is_some(), pair_with(key, value));
+            check_same(rt, found, wanted, at);
         }
         Len(len) => {
             let found = (cache.len(), cache.is_empty(), met(cache));
@@ -311,6 +321,19 @@ fn touch(cache: &mut Cache, from: u64, to: u64) -> bool {
 // Changes the value of a present key, and returns the earlier pair.
 fn update(cache: &mut Cache, key: u64, value: u64) -> Option<(u64, u64)> {
     cache.update(&key, |own, held| (*own, mem::replace(held, value)))
+}
+
+// Removes a pair whose value is above a number.
+fn remove_above(cache: &mut Cache, key: u64, floor: u64) -> Option<(u64, u64)> {
+    cache.remove_if(&key, |_own: &u64, value: &u64| *value > floor)
+}
+
+// The pair of a key. It isn't touched.
+fn pair(cache: &Cache, key: u64) -> Option<(u64, u64)> {
+    match cache.peek_key_value(&key) {
+        Some((own, value)) => Some((*own, *value)),
+        None => None,
+    }
 }
 
 // Adds 100 to a value. Whether the key is even.

@@ -1,8 +1,13 @@
-//! Which maps and sets are equal: neither the order of insertion nor the hasher counts.
+//! Which maps, sets, indexes and caches are equal: neither the order of insertion nor the hasher
+//! counts, nor do tombstones and the LRU order.
+use super::caches::Cache;
+use super::indexes::Index;
 use super::maps::Map;
 use super::sets::Set;
 use super::{check_same, steps};
-use bucket_table::script::ScriptHash;
+use bucket_table::script::{FixedGeneration, ScriptHash};
+use collections::hash_cache::HashCache;
+use collections::hash_index::HashIndex;
 use collections::hash_map::HashMap;
 use collections::hash_set::HashSet;
 use std::alloc::Global;
@@ -34,6 +39,34 @@ fn equal_are_maps_of_the_same_pairs(rt: HostRuntime) -> Result<(), Fail> {
     for (number, row) in ROWS.iter().enumerate() {
         check_maps(&rt, rt.alloc(), row, number);
         check_sets(&rt, rt.alloc(), row, number);
+    }
+    Ok(())
+}
+
+// A key of no row.
+const GONE: u64 = 9;
+
+// One has a tombstone.
+#[test]
+fn equal_are_indexes_of_the_same_pairs(rt: HostRuntime) -> Result<(), Fail> {
+    for (number, row) in ROWS.iter().enumerate() {
+        let mut one = index_of(rt.alloc(), ScriptHash::Id, row.0);
+        let other = index_of(rt.alloc(), ScriptHash::Zero, row.1);
+        let went = one.insert(GONE, 0, &NOW).is_ok() && one.remove(&GONE, &NOW);
+        check_same(&rt, went, true, number);
+        check_equal(&rt, &one, &other, row.2, ("indexes", number));
+    }
+    Ok(())
+}
+
+// One is touched.
+#[test]
+fn equal_are_caches_of_the_same_pairs(rt: HostRuntime) -> Result<(), Fail> {
+    for (number, row) in ROWS.iter().enumerate() {
+        let mut one = cache_of(rt.alloc(), ScriptHash::Zero, row.0);
+        let other = cache_of(rt.alloc(), ScriptHash::Spread, row.1);
+        let _ = one.get(&1);
+        check_equal(&rt, &one, &other, row.2, ("caches", number));
     }
     Ok(())
 }
@@ -80,4 +113,28 @@ fn keys_of(alloc: Global, hasher: ScriptHash, pairs: Pairs) -> Set {
         let _ = set.insert(*key);
     }
     set
+}
+
+// The epoch of tombstones, all of which are kept.
+const NOW: FixedGeneration = FixedGeneration {
+    epoch: 1,
+    keep: true,
+};
+
+// An index of pairs with distinct keys.
+fn index_of(alloc: Global, hasher: ScriptHash, pairs: Pairs) -> Index {
+    let mut index = HashIndex::with_hasher(alloc, hasher);
+    for (key, value) in pairs {
+        let _ = index.insert(*key, *value, &NOW);
+    }
+    index
+}
+
+// A cache of them.
+fn cache_of(alloc: Global, hasher: ScriptHash, pairs: Pairs) -> Cache {
+    let mut cache = HashCache::with_hasher(alloc, hasher);
+    for (key, value) in pairs {
+        let _ = cache.put(*key, *value);
+    }
+    cache
 }

@@ -1,6 +1,6 @@
 //! Stories of an index of numbers: what each call returns, and which pairs are seen then.
 use super::iterating::{MOST_BUCKETS, Pairs, gone_over, same_pairs, walk_numbers, walk_pairs};
-use super::{At, check_same, steps};
+use super::{At, check_same, pair_with, steps};
 use Step::*;
 use bucket_table::script::{FixedGeneration, ScriptHash};
 use collections::hash_index::HashIndex;
@@ -9,7 +9,7 @@ use std::alloc::Global;
 use std::process::Abort;
 use std::test::Fail;
 
-type Index = HashIndex<u64, u64, ScriptHash>;
+pub(super) type Index = HashIndex<u64, u64, ScriptHash>;
 
 /// A call on an index with its result, or what is seen of the index. Of two keys the second is the
 /// first that is not meant.
@@ -24,6 +24,8 @@ enum Step {
     Removes(u64, bool),
     /// The pair that `remove_with` passes to its function.
     Reads(u64, Option<(u64, u64)>),
+    /// A pair is removed by `remove_if`, if its value is above the second number.
+    RemovesAbove(u64, u64, bool),
     /// Keys are removed.
     Drains(u64, u64),
     /// The pairs with odd keys are removed.
@@ -70,6 +72,12 @@ const STORIES: &[Story] = steps! {
             Reads(1, None), Inserts(1, 10), Inserts(2, 20), Reads(1, Some((1, 10))),
             Reads(1, None), Removes(1, false), Holds(1, None), Len(1), Removes(2, true),
             Reads(2, None), Len(0) } },
+    Story { name: "a pair is removed if its value is what is asked for", hasher: ScriptHash::Id,
+        capacity: 0, steps: steps! {
+            RemovesAbove(1, 0, false), Inserts(1, 10), Inserts(2, 20), RemovesAbove(1, 10, false),
+            RemovesAbove(3, 0, false), Holds(1, Some(10)), Len(2), RemovesAbove(1, 9, true),
+            RemovesAbove(1, 0, false), Holds(1, None), Len(1), Removes(2, true),
+            RemovesAbove(2, 0, false), Inserts(2, 21), RemovesAbove(2, 20, true), Len(0) } },
     Story { name: "a removed key comes again with another value", hasher: ScriptHash::Id,
         capacity: 0, steps: steps! {
             Inserts(1, 10), Inserts(2, 20), Removes(1, true), Inserts(1, 11), Holds(1, Some(11)),
@@ -152,6 +160,9 @@ fn take(rt: &impl Abort, index: &mut Index, now: &FixedGeneration, at: At, step:
         }
         Removes(key, there) => check_same(rt, index.remove(&key, now), there, at),
         Reads(key, pair) => check_same(rt, index.remove_with(&key, now, pair_of), pair, at),
+        RemovesAbove(key, floor, gone) => {
+            check_same(rt, remove_above(index, key, floor, now), gone, at);
+        }
         Drains(from, to) => check_same(rt, drain(index, from, to, now), true, at),
         Retains => index.retain(&mut is_even, now),
         _ => resize(rt, index, at, step),
@@ -182,6 +193,11 @@ fn fill(index: &mut Index, from: u64, to: u64, now: &FixedGeneration) -> bool {
     are_in
 }
 
+// Removes a pair whose value is above a number. Whether there was one.
+fn remove_above(index: &mut Index, key: u64, floor: u64, now: &FixedGeneration) -> bool {
+    index.remove_if(&key, |_own: &u64, value: &u64| *value > floor, now)
+}
+
 // Removes keys. Whether each was present.
 fn drain(index: &mut Index, from: u64, to: u64, now: &FixedGeneration) -> bool {
     let mut were_there = true;
@@ -208,8 +224,13 @@ fn resize(rt: &impl Abort, index: &mut Index, at: At, step: &Step) {
         Shrinks => index.shrink_to_fit(),
         Clears => index.clear(),
         Holds(key, value) => {
-            let found = (index.peek(&key).copied(), index.contains(&key));
-            check_same(rt, found, (value, value.is_some()), at);
+            let found = (
+                index.peek(&key).copied(),
+                index.contains(&key),
+                pair(index, key),
+            );
+            let wanted = (value, value.is_some(), pair_with(key, value));
+            check_same(rt, found, wanted, at);
         }
         Len(len) => {
             let found = (index.len(), index.is_empty(), met(index));
@@ -217,6 +238,14 @@ fn resize(rt: &impl Abort, index: &mut Index, at: At, step: &Step) {
         }
         Slots(slots) => check_same(rt, index.capacity(), slots, at),
         _ => check_same(rt, true, false, (at, "no step")),
+    }
+}
+
+// The pair of a key.
+fn pair(index: &Index, key: u64) -> Option<(u64, u64)> {
+    match index.peek_key_value(&key) {
+        Some((own, value)) => Some((*own, *value)),
+        None => None,
     }
 }
 

@@ -1,7 +1,7 @@
 //! The steps of stories of a map of numbers: what each call returns, how many slots there are then,
 //! and which pairs `for_each` and the iterators visit.
 use super::iterating::{MOST_BUCKETS, Pairs, gone_over, same_pairs, walk_numbers, walk_pairs};
-use super::{At, check_same, write};
+use super::{At, check_same, pair_with, write};
 use Step::*;
 use bucket_table::script::ScriptHash;
 use collections::hash_map::{HashMap, NotInserted};
@@ -239,11 +239,8 @@ fn look(rt: &impl Abort, map: &Map, at: At, step: &Step) {
     match *step {
         Holds(key, value) => {
             let found = (map.get(&key).copied(), map.contains(&key), pair(map, key));
-            let wanted = match value {
-                Some(held) => Some((key, held)),
-                None => None,
-            };
-            check_same(rt, found, (value, value.is_some(), wanted), at);
+            let wanted = (value, value.is_some(), pair_with(key, value));
+            check_same(rt, found, wanted, at);
         }
         Len(len) => {
             let found = (map.len(), map.is_empty(), met(map));

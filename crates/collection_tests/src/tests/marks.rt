@@ -27,6 +27,8 @@ enum Step {
     Reads(u64, bool),
     /// The pairs with odd keys are removed.
     Retains,
+    /// A pair is removed by `remove_if` if its function returns this; its key is present.
+    Asks(u64, bool),
     /// The minimum is raised.
     Reserves(usize),
     /// All pairs are removed.
@@ -59,6 +61,9 @@ const STORIES: &[Story] = steps! {
     ("values of pairs that aren't kept wait as others do", ScriptHash::Zero, steps! {
         Fills(0, 32), Retains, Sees(16, 32), Retains, Sees(16, 32), Removes(1, false), Inserts(32),
         Sees(17, 33), Now(1, false), Inserts(33), Sees(18, 18), Retains, Sees(17, 18) }),
+    ("a pair that stays leaves no mark", ScriptHash::Zero, steps! {
+        Fills(0, 32), Asks(4, false), Sees(32, 32), Asks(4, true), Sees(31, 32), Now(1, false),
+        Inserts(32), Sees(32, 32) }),
     ("a clearing drops marked values too", ScriptHash::Zero, steps! {
         Fills(0, 40), Removes(1, true), Removes(39, true), Inserts(1), Sees(39, 41), Clears,
         Sees(0, 0), Inserts(1), Sees(1, 1), Clears, Clears, Sees(0, 0) }),
@@ -160,6 +165,10 @@ fn change(
 ) {
     match step {
         Removes(key, there) => check_same(rt, index.remove(key, now), *there, at),
+        Asks(key, gone) => {
+            let condition = |_own: &u64, _value: &Rc<u64>| *gone;
+            check_same(rt, index.remove_if(key, condition, now), *gone, at);
+        }
         Reserves(additional) => {
             let _ = index.raise_minimum(*additional);
         }

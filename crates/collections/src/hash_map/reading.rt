@@ -6,7 +6,7 @@ ghost use Rattle.collections.specs.Maps.{IsUnique, get_by};
 ghost use Rattle.collections.specs.StoredKeys.{key_by};
 
 use crate::hash_map::HashMap;
-use crate::key_form::{FormProbe, KeyForm};
+use crate::key_form::{KeyForm, pair_by};
 use bucket_table::key_hash::KeyHash;
 
 impl<K: Eq, V, H: KeyHash<K>> HashMap<K, V, H> {
@@ -22,15 +22,7 @@ impl<K: Eq, V, H: KeyHash<K>> HashMap<K, V, H> {
             ≡ get_by (Q.stands_for key) self.now }
     {
         self.room.learn();
-        self.table.sound();
-        let hash = key.hash_by(self.table.hasher());
-        match self
-            .table
-            .peek_entry_by(hash, &mut FormProbe::<Q, H>::new(key))
-        {
-            Some((own, value)) => Some((own, value)),
-            None => None,
-        }
+        pair_by(&self.table, key)
     }
 
     /// States that no two keys are equal. Does nothing at run time.

@@ -2,11 +2,11 @@
 ghost use Rattle.std.specs.Prelude.{is_some};
 ghost use Rattle.std.specs.Borrow.{Bor};
 ghost use Rattle.bucket_table.specs.Map.LookingUp.{IsThere};
-ghost use Rattle.collections.specs.Removals.{AsksThere, RemovesIf};
+ghost use Rattle.collections.specs.Removals.{RemovesIf};
 ghost use Rattle.collections.specs.Slots.{LosesSlots};
 
 use crate::hash_map::HashMap;
-use crate::key_form::{FormProbe, KeyForm};
+use crate::key_form::{KeyForm, asks};
 use bucket_table::key_hash::KeyHash;
 
 impl<K: Eq + Drop, V: Drop, H: KeyHash<K>> HashMap<K, V, H> {
@@ -29,32 +29,11 @@ impl<K: Eq + Drop, V: Drop, H: KeyHash<K>> HashMap<K, V, H> {
             (λ own value answer. F.post condition own value answer) self.old result self.new }
         ensures slots { LosesSlots (is_some result) self.old self.new }
     {
-        self.sound();
-        if self.asks(key, condition) {
+        self.room.learn();
+        if asks(&self.table, key, condition) {
             self.remove(key)
         } else {
             None
-        }
-    }
-
-    /// Returns what a function returns for the pair under the keys that a form stands for. If the
-    /// map has none, the function isn't called, and the result is `false`.
-    fn asks<Q: KeyForm<K, H>, F: FnOnce(&K, &V) -> bool>(&self, key: Q, condition: F) -> bool
-        requires callable { (own : Bor K) (value : Bor V)
-            → IsThere (Q.stands_for key) self.now.entries (own.now, value.now)
-            → F.pre condition own value }
-        ensures { AsksThere K.eq (Q.stands_for key)
-            (λ own value answer. F.post condition own value answer) self.now result }
-    {
-        self.room.learn();
-        self.table.sound();
-        let hash = key.hash_by(self.table.hasher());
-        match self
-            .table
-            .peek_entry_by(hash, &mut FormProbe::<Q, H>::new(key))
-        {
-            Some((own, value)) => condition(own, value),
-            None => false,
         }
     }
 }

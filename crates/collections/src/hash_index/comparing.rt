@@ -1,0 +1,30 @@
+//! Equality of indexes.
+use crate::comparing::are_equal;
+use crate::hash_index::HashIndex;
+use bucket_table::key_hash::KeyHash;
+
+/// As maps: `==` is whether each has the keys of the other, beside equal values. Tombstones don't
+/// count.
+impl<K: Eq, V: PartialEq, H: KeyHash<K>> PartialEq for HashIndex<K, V, H> {
+    ghost use Rattle.std.specs.Cmp.{on_per};
+    ghost use Rattle.collections.specs.Equality.{map_eq};
+    ghost use Rattle.collections.specs.EqualityLaws.{map_eq_per};
+    ghost use Rattle.collections.specs.Maps.{map_of};
+
+    ghost eq = { λ own other. map_eq K.eq V.eq (map_of own) (map_of other) };
+
+    ghost laws = { on_per map_of (map_eq_per K.eq K.Eq.laws V.eq V.laws) };
+
+    fn eq(&self, other: &HashIndex<K, V, H>) -> bool {
+        self.room.learn();
+        are_equal(&self.table, &other.table)
+    }
+}
+
+impl<K: Eq, V: Eq, H: KeyHash<K>> Eq for HashIndex<K, V, H> {
+    ghost use Rattle.std.specs.Cmp.{on_equiv};
+    ghost use Rattle.collections.specs.EqualityLaws.{map_eq_equiv};
+    ghost use Rattle.collections.specs.Maps.{map_of};
+
+    ghost laws = { on_equiv map_of (map_eq_equiv K.eq K.Eq.laws V.eq V.Eq.laws) };
+}

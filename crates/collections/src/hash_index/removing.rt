@@ -1,0 +1,50 @@
+//! The removal of a pair if a function returns `true` for it.
+ghost use Rattle.std.specs.Prelude.{◌≡◌};
+ghost use Rattle.std.specs.Borrow.{Bor};
+ghost use Rattle.std.specs.Bool.{OnFalse};
+ghost use Rattle.bucket_slots.specs.Marking.{MarksBy};
+ghost use Rattle.bucket_table.specs.Map.LookingUp.{IsThere};
+ghost use Rattle.bucket_table.specs.Views.ArraysView.{marks_of, pairs_of};
+ghost use Rattle.collections.specs.Maps.{map_of};
+ghost use Rattle.collections.specs.Marks.{MarksRemoved};
+ghost use Rattle.collections.specs.Removals.{TakesOutIf};
+ghost use Rattle.collections.specs.Slots.{LosesSlots};
+
+use crate::hash_index::HashIndex;
+use crate::key_form::{KeyForm, asks};
+use bucket_slots::bucket::Generation;
+use bucket_table::key_hash::KeyHash;
+
+impl<K: Eq + Drop, V: Drop, H: KeyHash<K>> HashIndex<K, V, H> {
+    /// Calls a function with the pair under a key, or under the keys that a form stands for. If it
+    /// returns `true`, the pair is removed as by `remove`. Returns whether it was. If it returns
+    /// `false`, or if the index hasn't the key and the function isn't called, nothing changes.
+    ///
+    /// Never fails. O(1) expected, plus any resize. scc: `HashIndex::remove_if_sync`.
+    pub fn remove_if<Q: KeyForm<K, H>, F: FnOnce(&K, &V) -> bool, G: Generation>(
+        &mut self,
+        key: Q,
+        condition: F,
+        generation: &G,
+    ) -> bool
+        requires callable { (own : Bor K) (value : Bor V)
+            → IsThere (Q.stands_for key) (pairs_of self.old.arrays) (own.now, value.now)
+            → F.pre condition own value }
+        ensures map { TakesOutIf K.eq (Q.stands_for key)
+            (λ own value answer. F.post condition own value answer) (map_of self.old) result
+            (map_of self.new) }
+        ensures unchanged { OnFalse result (self.new ≡ self.old) }
+        ensures marks { MarksBy (G.epoch_of generation.now) (marks_of self.old.arrays)
+            (marks_of self.new.arrays) }
+        ensures marked { MarksRemoved (Q.stands_for key) (G.epoch_of generation.now) result
+            self.old.arrays self.new.arrays }
+        ensures slots { LosesSlots result (map_of self.old) (map_of self.new) }
+    {
+        self.room.learn();
+        if asks(&self.table, key, condition) {
+            self.remove(key, generation)
+        } else {
+            false
+        }
+    }
+}
