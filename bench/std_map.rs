@@ -1,4 +1,4 @@
-//! What calls on the `HashMap` of Rust's standard library cost, under the hash of crates/table_bench:
+//! What calls on the `HashMap` of Rust's standard library cost, under the hash of crates/bench_table:
 //! the same courses over the same keys, printed in the same lines.
 //!
 //! The arguments are `calls`, `large` or `single`, and a number of pairs.

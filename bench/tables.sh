@@ -27,7 +27,7 @@ rounds=${1:-5}
 # Gives $folder, which goes at the end. The program of the table and of the kit's map is proved and
 # built where it has to be.
 source "$root/trials/lib/running.sh"
-prepare table_bench
+prepare bench_table
 maps="table collections kit"
 if command -v rustc >/dev/null; then
     rustc -O --edition 2021 -o "$folder/std_map" "$root/bench/std_map.rs"

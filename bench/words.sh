@@ -1,5 +1,5 @@
 #!/usr/bin/env bash
-# Prints how long crates/word_count takes to count the lines of a file, and how long
+# Prints how long crates/example_word_count takes to count the lines of a file, and how long
 # `sort | uniq -c | sort -rn` takes, in turn in each round: a median, with the least and the
 # greatest, in milliseconds. The file has 1,000,000 lines of 100,000 words, some far more often than
 # others. It asserts only that both print the same counts and lines.
@@ -14,11 +14,11 @@ folder=$(mktemp -d)
 trap 'rm -r "$folder"' EXIT
 
 # The program is proved and built where it has to be.
-if ! (cd "$root/crates/word_count" && rt run) >"$folder/log" 2>&1; then
+if ! (cd "$root/crates/example_word_count" && rt run) >"$folder/log" 2>&1; then
     cat "$folder/log" >&2
     exit 1
 fi
-program=$root/crates/word_count/out/word_count
+program=$root/crates/example_word_count/out/example_word_count
 
 # The square of a number drawn evenly from 0 to 1 is often small: words of low numbers come often.
 awk 'BEGIN {

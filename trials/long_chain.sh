@@ -1,12 +1,12 @@
 #!/usr/bin/env bash
-# Runs crates/long_chain on a stack of 64 KiB, as LLVM builds it and as Rattle's own compiler does:
+# Runs crates/trial_long_chain on a stack of 64 KiB, as LLVM builds it and as Rattle's own compiler does:
 # 100,000 blocks of a bucket's chain go at once, and 8,032 pairs of one hash come and go.
 #
 # Needs rt on the PATH. Ends with status 0 where both runs wrote what the crate's file stdout has,
 # else with 1.
 set -u
 source "$(dirname "${BASH_SOURCE[0]}")/lib/running.sh"
-prepare long_chain
+prepare trial_long_chain
 prepare_by_rattle
 
 # The size of the stack in KiB, and the most seconds that a run takes.

@@ -1,7 +1,7 @@
 #!/usr/bin/env bash
 # Plays the programs of CALLING and of the tutorial in a copy of the repository where nothing is
 # built: they have to print what their comments say. What the tutorial shows beside its programs has
-# to stand in `crates/callers`, where it is proved.
+# to stand in `crates/example_callers`, where it is proved.
 #
 # Needs no proof.
 #
@@ -12,7 +12,7 @@ source "$root/trials/lib/documents.sh"
 need_rt
 
 tutorial=docs/TUTORIAL.md
-callers=$root/crates/callers
+callers=$root/crates/example_callers
 check_excerpts "$tutorial" rattle "$callers"/src/*.rt
 check_excerpts "$tutorial" antt "$callers"/specs/*.antt "$callers"/proofs/*/*/*.antt
 

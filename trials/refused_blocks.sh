@@ -1,5 +1,5 @@
 #!/usr/bin/env bash
-# Runs crates/refused_blocks with blocks of a new bucket refused, each a request of its own. A bucket
+# Runs crates/trial_refused_blocks with blocks of a new bucket refused, each a request of its own. A bucket
 # has 32 own slots and a block has four: where the second of two blocks is refused, the first stays,
 # and 36 slots are free; with memory again one block more makes them 40.
 #
@@ -7,7 +7,7 @@
 # with 1.
 set -u
 source "$(dirname "${BASH_SOURCE[0]}")/lib/refusing.sh"
-prepare_refusing refused_blocks
+prepare_refusing trial_refused_blocks
 [ -n "$shim" ] || fail "nothing can be preloaded"
 
 # The request for the first block is the first whose refusal is an answer.

@@ -1,12 +1,12 @@
 #!/usr/bin/env bash
-# Runs crates/refused_collections with requests for memory refused by chance, others in each run. The
+# Runs crates/trial_refused_collections with requests for memory refused by chance, others in each run. The
 # program judges each answer of its collections itself: see the head of its main.rt.
 #
 # Needs rt and a C compiler cc on the PATH. Ends with status 0 where every run was right and pairs
 # were refused in it of each collection under each hash, and copies of each map and set, else with 1.
 set -u
 source "$(dirname "${BASH_SOURCE[0]}")/lib/refusing.sh"
-prepare_refusing refused_collections
+prepare_refusing trial_refused_collections
 
 # The program asks for nothing but the memory of its collections, and a block of a set is small.
 least_refused=1

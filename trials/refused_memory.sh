@@ -1,5 +1,5 @@
 #!/usr/bin/env bash
-# Runs crates/refused_memory with one request for memory refused after another, a request a run, and
+# Runs crates/trial_refused_memory with one request for memory refused after another, a request a run, and
 # at last with none. The program judges each run itself: see the head of its main.rt.
 #
 # Digests aren't needed: a refusal of theirs, and of no other memory, must leave a run done. An array
@@ -8,7 +8,7 @@
 # Needs rt on the PATH. Ends with status 0 where every run was right, else with 1.
 set -u
 source "$(dirname "${BASH_SOURCE[0]}")/lib/refusing.sh"
-prepare_refusing refused_memory
+prepare_refusing trial_refused_memory
 
 # The numbers of these requests, each with a space on both sides; where nothing can be preloaded, none
 # can be told.

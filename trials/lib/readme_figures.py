@@ -99,8 +99,8 @@ def compare_exact(what, told, counts):
 
 
 def calls_by_chance(root):
-    """How many calls crates/refused_collections makes in a run, and in the runs that refuse memory."""
-    output = (root / "crates/refused_collections/stdout").read_text()
+    """How many calls crates/trial_refused_collections makes in a run, and in the runs that refuse memory."""
+    output = (root / "crates/trial_refused_collections/stdout").read_text()
     calls = sum(map(int, re.findall(r"(\d+) calls", output)))
     runs = int(found(r"(?m)^runs=(\d+)$", (root / "trials/refused_collections.sh").read_text()))
     return [calls * (runs + 1), calls * runs]

@@ -1,5 +1,0 @@
-use Rattle.std.proofs.Common.{rules, refl}
-use Rattle.layer_tests.proofs.courses.play.Goals as goal
-
-pub new-table-requires : goal.new-table-requires
-new-table-requires g c = (search rules, ((63, refl), search rules))

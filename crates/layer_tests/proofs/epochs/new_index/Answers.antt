@@ -1,5 +1,0 @@
-use Rattle.std.proofs.Common.{rules, refl}
-use Rattle.layer_tests.proofs.epochs.new_index.Goals as goal
-
-pub new-requires : goal.new-requires
-new-requires c = (search rules, ((6, refl), search rules))

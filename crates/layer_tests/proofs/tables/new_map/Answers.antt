@@ -1,5 +1,0 @@
-use Rattle.std.proofs.Common.{arith, rules, refl}
-use Rattle.layer_tests.proofs.tables.new_map.Goals as goal
-
-pub new-requires : goal.new-requires
-new-requires c = (search rules, ((63, refl), (search rules, omega (arith, c.requires))))

@@ -1,6 +1,0 @@
-use Rattle.std.proofs.Common.{◌≡◌, take, fold}
-use Rattle.table_bench.specs.Mixed.{shifted_in}
-use Rattle.table_bench.proofs.hashes.MixerHasher.write.Given as goal
-
-abbrev pub invariant-loop-byte : goal.invariant-loop-byte
-invariant-loop-byte l = l.self.0 ≡ fold shifted_in l.initial.self.0 (take l.byte-index l.bytes)

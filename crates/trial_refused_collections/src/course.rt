@@ -1,0 +1,209 @@
+//! A collection and what it must have, and calls on both. Times with many insertions and times with
+//! many removals alternate, so that the collection gets longer arrays and shorter ones again.
+mod copying;
+mod extending;
+mod resizing;
+
+use crate::collection::Collection;
+use collections::hash_map::NotInserted;
+use std::mem;
+use test_helpers::{Chance, FewKeys, KEYS};
+
+// How many calls mostly insert pairs, and how many then mostly remove them.
+const TIDE: u64 = 4000;
+
+// After how many calls the collection is compared as a whole and copied, and one call is made on all
+// of it.
+const WHOLE: u64 = 250;
+
+// An odd number with its bits spread, so that keys take homes all over the array.
+const SPREADING: u64 = 11400714819323198485;
+
+// Times the other number this is 1, modulo 2^64.
+const GATHERING: u64 = 17428512612931826493;
+
+/// A collection, what it must have, how often a pair was inserted, failed to be inserted, and was
+/// evicted, and how often it was copied, and failed to be copied.
+#[derive(Drop)]
+pub(crate) struct Course {
+    collection: Collection,
+    beside: FewKeys,
+    chance: Chance,
+    pub(crate) put: u64,
+    pub(crate) refused: u64,
+    pub(crate) gone: u64,
+    pub(crate) copied: u64,
+    pub(crate) uncopied: u64,
+}
+
+impl Course {
+    /// The collection has no pair.
+    pub(crate) fn new(collection: Collection) -> Self {
+        Course {
+            collection,
+            beside: FewKeys::new(),
+            chance: Chance::new(),
+            put: 0,
+            refused: 0,
+            gone: 0,
+            copied: 0,
+            uncopied: 0,
+        }
+    }
+
+    /// Makes a number of calls, up to the first with a wrong result. Returns whether there was none
+    /// and the collection has the right pairs.
+    pub(crate) fn play(&mut self, calls: u64) -> bool {
+        for number in 0..calls {
+            if !self.call(number / TIDE % 2 == 0) {
+                return false;
+            }
+            if number % WHOLE == 0 && !self.call_whole(number / WHOLE % 2 == 0) {
+                return false;
+            }
+        }
+        self.is_same()
+    }
+
+    /// Copies the collection and makes a call on all of it, and returns whether the results are right
+    /// and the collection has the right pairs before, between and after.
+    fn call_whole(&mut self, cloned: bool) -> bool {
+        let is_copied = self.is_same() && self.copy(cloned) && self.is_same();
+        is_copied && self.call_on_all() && self.is_same()
+    }
+
+    /// Makes a call by a key, and returns whether its result is right. In times of insertions few
+    /// pairs are removed, in times of removals none is inserted.
+    fn call(&mut self, comes: bool) -> bool {
+        let number = self.chance.next() % KEYS;
+        let has_values = !matches!(self.collection, Collection::Set(_));
+        let value = self.chance.next().wrapping_mul(u64::from(has_values));
+        match (self.chance.next() % 16, comes) {
+            (0..=3, true) => self.insert(number, value),
+            (4..=6, true) => self.upsert(number, value),
+            (0..=6, false) | (7..=8, _) => self.remove(number),
+            (9..=11, _) => self.update(number, value),
+            _ => self.collection.value(key_of(number)) == self.beside.value(number),
+        }
+    }
+
+    /// Inserts a pair.
+    fn insert(&mut self, number: u64, value: u64) -> bool {
+        let key = key_of(number);
+        let is_there = self.beside.value(number).is_some();
+        match self.collection.insert(key, value) {
+            Ok(gone) => {
+                let is_right = !is_there && self.goes(gone);
+                self.puts(number, value);
+                is_right
+            }
+            Err(NotInserted::Present(own, back)) => is_there && (own, back) == (key, value),
+            Err(NotInserted::Memory(own, back)) => {
+                self.refused = self.refused.saturating_add(1);
+                !is_there && (own, back) == (key, value)
+            }
+        }
+    }
+
+    /// Notes the evicted pair, and returns whether it was present.
+    fn goes(&mut self, gone: Option<(u64, u64)>) -> bool {
+        let Some((key, value)) = gone else {
+            return true;
+        };
+        let number = key.wrapping_mul(GATHERING);
+        let was_there = self.beside.value(number) == Some(value);
+        self.beside.set(number, None);
+        self.gone = self.gone.saturating_add(1);
+        was_there
+    }
+
+    /// Upserts a pair of a map; inserts a pair of another collection.
+    fn upsert(&mut self, number: u64, value: u64) -> bool {
+        let key = key_of(number);
+        let wanted = self.beside.value(number);
+        let Collection::Map(map) = &mut self.collection else {
+            return self.insert(number, value);
+        };
+        match map.upsert(key, value) {
+            Ok(None) => {
+                self.puts(number, value);
+                wanted.is_none()
+            }
+            Ok(earlier) => {
+                self.beside.set(number, Some(value));
+                earlier == wanted
+            }
+            Err(back) => {
+                self.refused = self.refused.saturating_add(1);
+                wanted.is_none() && back.value == (key, value)
+            }
+        }
+    }
+
+    /// Notes a pair that was inserted.
+    fn puts(&mut self, number: u64, value: u64) {
+        self.beside.set(number, Some(value));
+        self.put = self.put.saturating_add(1);
+    }
+
+    /// Removes a pair.
+    fn remove(&mut self, number: u64) -> bool {
+        let key = key_of(number);
+        let wanted = self.beside.value(number).map(|value| (key, value));
+        self.beside.set(number, None);
+        self.collection.remove(key) == wanted
+    }
+
+    /// Replaces the value of a map's key, touches a cache's pair, or looks the key up.
+    fn update(&mut self, number: u64, value: u64) -> bool {
+        let key = key_of(number);
+        let wanted = self.beside.value(number);
+        match &mut self.collection {
+            Collection::Map(map) => {
+                self.beside.set(number, wanted.map(|_| value));
+                let found = map.update(&key, |own: &u64, earlier: &mut u64| {
+                    (*own, mem::replace(earlier, value))
+                });
+                found == wanted.map(|earlier| (key, earlier))
+            }
+            Collection::Cache(cache) => cache.get(&key).copied() == wanted,
+            other => other.value(key) == wanted,
+        }
+    }
+
+    /// Clears the collection, raises the minimum, makes room, extends it, resizes a cache, or frees
+    /// slots.
+    fn call_on_all(&mut self) -> bool {
+        match self.chance.next() % 8 {
+            0 => {
+                self.beside = FewKeys::new();
+                self.collection.clear()
+            }
+            1..=2 => self.collection.raise_minimum(256),
+            3 => self.collection.try_reserve(256),
+            4..=5 => self.extend(),
+            6 => self.resize(),
+            _ => self.collection.shrink_to_fit(),
+        }
+    }
+
+    /// Whether the collection has the pairs that it must have, and no more.
+    fn is_same(&self) -> bool {
+        self.agrees_with(&self.collection)
+    }
+
+    /// Whether a collection has the pairs that this one must have, and no more.
+    fn agrees_with(&self, collection: &Collection) -> bool {
+        for number in 0..KEYS {
+            if collection.value(key_of(number)) != self.beside.value(number) {
+                return false;
+            }
+        }
+        collection.lens() == (self.beside.len(), self.beside.len())
+    }
+}
+
+/// The key of a number.
+fn key_of(number: u64) -> u64 {
+    number.wrapping_mul(SPREADING)
+}

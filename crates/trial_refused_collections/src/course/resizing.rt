@@ -1,0 +1,35 @@
+//! A cache that is resized.
+use super::{Course, key_of};
+use crate::collection::Collection;
+use test_helpers::KEYS;
+
+impl Course {
+    /// Resizes a cache of 64 slots to 128, and any other cache to 64, and returns whether the
+    /// result is right; another collection frees slots.
+    pub(super) fn resize(&mut self) -> bool {
+        let Collection::Cache(cache) = &mut self.collection else {
+            return self.collection.shrink_to_fit();
+        };
+        let slots = if cache.capacity() == 64 { 128 } else { 64 };
+        if cache.resize(slots).is_err() {
+            self.refused = self.refused.saturating_add(1);
+            return true;
+        }
+        self.lets_go()
+    }
+
+    /// Notes the pairs that are gone, and returns whether the others have their values.
+    fn lets_go(&mut self) -> bool {
+        for number in 0..KEYS {
+            let found = self.collection.value(key_of(number));
+            if found != self.beside.value(number) {
+                if found.is_some() {
+                    return false;
+                }
+                self.beside.set(number, None);
+                self.gone = self.gone.saturating_add(1);
+            }
+        }
+        true
+    }
+}
