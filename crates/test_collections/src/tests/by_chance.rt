@@ -9,6 +9,7 @@ use std::alloc::Global;
 use std::collections::BTreeMap;
 use std::process::Abort;
 use std::test::Fail;
+use test_helpers::Chance;
 
 // How many calls there are under each hash.
 const CALLS: [(ScriptHash, u64); 3] = [
@@ -33,7 +34,7 @@ const SPREADING: u64 = 11400714819323198485;
 struct Course {
     map: Map,
     std: BTreeMap<u64, u64>,
-    state: u64,
+    chance: Chance,
 }
 
 impl Course {
@@ -41,28 +42,19 @@ impl Course {
         Course {
             map: HashMap::with_hasher(alloc, hasher),
             std: BTreeMap::new(alloc),
-            state: 1,
+            chance: Chance::new(),
         }
     }
 
-    // One step of a linear congruential generator, whose upper bits are the better ones.
-    fn step(&mut self) -> u64 {
-        self.state = self
-            .state
-            .wrapping_mul(6364136223846793005)
-            .wrapping_add(1442695040888963407);
-        self.state >> 32
-    }
-
     fn key(&mut self) -> u64 {
-        (self.step() % KEYS).wrapping_mul(SPREADING)
+        (self.chance.next() % KEYS).wrapping_mul(SPREADING)
     }
 
     // A call by a key. In times of insertions few pairs are removed, in times of removals none is
     // inserted.
     fn call(&mut self, rt: &impl Abort, comes: bool) {
-        let (key, value) = (self.key(), self.step());
-        match (self.step() % 16, comes) {
+        let (key, value) = (self.key(), self.chance.next());
+        match (self.chance.next() % 16, comes) {
             (0..=3, true) => self.insert(rt, key, value),
             (4..=6, true) => self.upsert(rt, key, value),
             (0..=6, false) | (7..=8, _) => self.remove(rt, key),
@@ -120,7 +112,7 @@ impl Course {
 
     // A call on the whole map.
     fn call_on_all(&mut self, rt: &impl Abort) {
-        match self.step() % 8 {
+        match self.chance.next() % 8 {
             0 => {
                 self.map.clear();
                 self.std.clear();
