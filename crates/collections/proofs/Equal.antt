@@ -1,22 +1,14 @@
 -- Asking of each pair of a map is asking of each key.
-use Rattle.std.proofs.Common.{ℕ, suc, ◌≡◌, ◌<◌, ◌&&◌, ◌∙◌, Bool, true, false, Some, List, [], ◌∷◌, length, slice_index_or, refl, sym, ap}
+use Rattle.std.proofs.Common.{ℕ, suc, ◌≡◌, ◌<◌, ◌&&◌, ◌∙◌, Bool, Some, List, [], ◌∷◌, length, slice_index_or, refl, sym, ap}
 use Rattle.std.proofs.Common.{arith}
 use Rattle.std.specs.Cmp.{IsEquivalence}
-use Rattle.std.specs.List.{FoldsTo, list_all}
+use Rattle.std.specs.List.{list_all}
 use Rattle.std.specs.Option.{option_eq}
 use Rattle.std.proofs.lemmas.List.{get_or_default}
 use Rattle.std.proofs.lemmas.List.Folds.{list_all-map}
 use Rattle.collections.specs.Equality.{agree_at, is_within}
 use Rattle.collections.specs.Maps.{IsUnique, MapView, get}
 use Rattle.collections.proofs.Lookups.{lookup_there}
-
--- a flag that each step keeps where a test passes says at the end whether it passed everywhere
-pub flag_after : {X : Type 0} (test : X → Bool) (first : Bool) (xs : List X) (last : Bool)
-    → FoldsTo (λ flag x next. next ≡ (flag && test x)) first xs last → last ≡ (first && list_all test xs)
-flag_after test true [] last is = sym is
-flag_after test false [] last is = sym is
-flag_after test true (x ∷ xs) last went = flag_after test went.0 xs last went.2 ∙ ap (λ flag. flag && list_all test xs) went.1
-flag_after test false (x ∷ xs) last went = flag_after test went.0 xs last went.2 ∙ ap (λ flag. flag && list_all test xs) went.1
 
 -- two tests that say the same at each place
 same_all : {X : Type 0} (f g : X → Bool) (xs : List X)
