@@ -1,5 +1,5 @@
 -- A map that was empty, and into which clones of the pairs of another are put one after the other.
-use Rattle.std.proofs.Common.{◌≡◌, ◌∙◌, Bool, true, false, Option, Some, None, List, [], ◌∷◌, ◌++◌, ap, sym, subst, refl}
+use Rattle.std.proofs.Common.{ℕ, ◌≡◌, ◌∙◌, Bool, true, false, Option, Some, None, List, [], ◌∷◌, ◌++◌, ap, sym, subst, refl}
 use Rattle.std.specs.Prelude.{◌^◌, min}
 use Rattle.std.specs.Cmp.{IsEquivalence}
 use Rattle.std.specs.List.{AllByRecursion, AllZip, FoldsTo, IsDistinct}
@@ -9,11 +9,13 @@ use Rattle.std.proofs.lemmas.List.{append-nil, append_assoc}
 use Rattle.std.proofs.lemmas.List.Elements.{AllZip-push, length_all_zip}
 use Rattle.std.proofs.lemmas.Map.Entries.{lookup_clone}
 use Rattle.std.proofs.lemmas.Map.Keys.{IsDistinct-cons, IsDistinct-head, IsDistinct-tail}
+use Rattle.bucket_table.specs.Resize.Resizing.{with_minimum}
+use Rattle.bucket_table.specs.Views.ArraysView.{TableView}
 use Rattle.collections.specs.Changes.{Adds, Replaces}
 use Rattle.collections.specs.Clones.{IsClone, IsClonedPair}
 use Rattle.collections.specs.Collecting.{PutsAll}
 use Rattle.collections.specs.Loans.{Puts}
-use Rattle.collections.specs.Maps.{IsEmpty, IsUnique, MapView, get}
+use Rattle.collections.specs.Maps.{IsEmpty, IsUnique, MapView, get, map_of}
 use Rattle.collections.proofs.Collecting.{none_put, one_more_put}
 use Rattle.collections.proofs.Copying.{PutsOn, stays_filled}
 use Rattle.collections.proofs.Staying.{stays_after}
@@ -127,3 +129,20 @@ module _ {K V H : Type 0} (eq : K → K → Bool) (IsKey : K → K → Type 0) (
         minimum = stays.kept.minimum ∙ minimum;
         maximum = stays.kept.maximum ∙ maximum;
       }
+
+  -- in a table whose minimum is another
+  pub lowered : (IsHasher : H → H → Type 0) (own : MapView K V H) (t s : TableView K V H) (first left : ℕ)
+      → IsClone eq IsKey IsValue IsHasher (record own { minimum = first }) (map_of t)
+      → s ≡ record t { arrays = with_minimum t.arrays (min left t.arrays.maximum) } → left ≡ own.minimum
+      → IsClone eq IsKey IsValue IsHasher own (map_of s)
+  lowered IsHasher own t s first left copy is same = rw is (record {
+    pairs = copy.pairs;
+    clones = copy.clones;
+    entries = copy.entries;
+    len = copy.len;
+    gets = copy.gets;
+    unique = copy.unique;
+    hasher = copy.hasher;
+    minimum = λ i. min (same i) (copy.maximum i);
+    maximum = copy.maximum;
+  })

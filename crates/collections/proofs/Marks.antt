@@ -1,5 +1,6 @@
 -- That no mark is new where a table inserts.
-use Rattle.std.proofs.Common.{ℕ, ◌≡◌, Bool, true, false, Result, Ok, Err, List, ap, sym, subst}
+use Rattle.std.proofs.Common.{ℕ, ◌≡◌, Bool, true, false, Result, Ok, Err, List, [], ◌∷◌, ap, arith, length, refl, sym}
+use Rattle.std.proofs.Common.{subst}
 use Rattle.std.specs.List.{Contains}
 use Rattle.std.proofs.lemmas.List.Elements.{All-contains, All-contains_itself, All-filter}
 use Rattle.bucket_slots.specs.BucketView.{BucketView, marks_in}
@@ -74,3 +75,10 @@ module _ {K V H A : Type 0} (kind : ℕ) (keeps : ℕ → Bool) (pair : K × V) 
   no_new-inserted hash old r new f =
       no_new-trans (marks_of old.arrays) (marks_of f.between.arrays) (marks_of new.arrays)
       (found kind hash old f.between f.answer f.found) (inserted_at f.between r f.answer new f.done)
+
+-- of no tombstones, none of which is new, there are none
+pub still_unmarked : {K V : Type 0} (old new : List ((K × V) × ℕ)) → HasNoNewMark old new → old ≡ [] → new ≡ []
+still_unmarked old [] none empty = refl
+still_unmarked old (mark ∷ marks) none empty =
+    let there = none.stood mark (0, omega arith, refl) in
+    absurd (omega (arith, there.1, ap length empty))

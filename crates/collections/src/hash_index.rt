@@ -28,6 +28,7 @@ ghost use Rattle.collections.specs.Marks.{KeepsMarks, LosesNoKeptMark, MarksRemo
 ghost use Rattle.collections.specs.Slots.{GrowsSlots, LosesSlots};
 ghost use Rattle.collections.specs.StoredKeys.{key_by};
 
+mod cloning;
 mod comparing;
 mod emptied;
 mod iterating;

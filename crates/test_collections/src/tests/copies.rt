@@ -1,9 +1,10 @@
-//! Copies of sets, and of words that a map and a set have, which name no hasher: each copy has its
-//! own.
+//! Copies of sets and indexes, and of words that a map and a set have, which name no hasher: each
+//! copy has its own.
 use super::check_same;
 use super::forms::owned;
 use super::sets::{Set, fill_set};
 use bucket_table::script::ScriptHash;
+use collections::hash_index::HashIndex;
 use collections::hash_map::HashMap;
 use collections::hash_set::HashSet;
 use std::alloc::Global;
@@ -34,6 +35,36 @@ fn change_both(rt: &impl Abort, set: &mut Set, copy: &mut Set) {
     check_same(rt, found, (false, true), "set");
     let found = (copy.contains(&7), copy.contains(&8));
     check_same(rt, found, (true, false), "copy");
+}
+
+type Index = HashIndex<u64, u64, ScriptHash>;
+
+#[test]
+fn a_change_of_an_index_leaves_its_copy(rt: HostRuntime) -> Result<(), Fail> {
+    let mut index: Index = HashIndex::with_minimum(rt.alloc(), ScriptHash::Id, 100);
+    fill_index(&rt, &mut index);
+    match index.try_clone(rt.alloc()) {
+        Ok(mut copy) => change_index(&rt, &mut index, &mut copy),
+        Err(_) => check_same(&rt, true, false, "no memory"),
+    }
+    Ok(())
+}
+
+// Inserts 40 keys.
+fn fill_index(rt: &impl Abort, index: &mut Index) {
+    for key in 0..40 {
+        check_same(rt, index.insert(key, key, &()).is_ok(), true, "inserted");
+    }
+}
+
+// An index and its copy are changed apart.
+fn change_index(rt: &impl Abort, index: &mut Index, copy: &mut Index) {
+    check_same(rt, (copy.len(), copy.capacity()), (40, 128), "copied");
+    let went = (index.remove(&7, &()), copy.remove(&8, &()));
+    check_same(rt, went, (true, true), "removed");
+    let found = (index.contains(&7), index.contains(&8));
+    check_same(rt, found, (false, true), "index");
+    check_same(rt, (copy.peek(&7), copy.peek(&8)), (Some(&7), None), "copy");
 }
 
 type Ages = HashMap<String, u64>;

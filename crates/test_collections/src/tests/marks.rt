@@ -33,6 +33,8 @@ enum Step {
     Reserves(usize),
     /// All pairs are removed.
     Clears,
+    /// A copy has so many pairs, and so many values there are then.
+    Copies(usize, usize),
     /// How many pairs and how many values there are.
     Sees(usize, usize),
 }
@@ -64,6 +66,9 @@ const STORIES: &[Story] = steps! {
     ("a pair that stays leaves no mark", ScriptHash::Zero, steps! {
         Fills(0, 32), Asks(4, false), Sees(32, 32), Asks(4, true), Sees(31, 32), Now(1, false),
         Inserts(32), Sees(32, 32) }),
+    ("a copy has no marked value", ScriptHash::Zero, steps! {
+        Copies(0, 0), Fills(0, 40), Removes(0, true), Removes(39, true), Sees(38, 40),
+        Copies(38, 78), Sees(38, 40), Retains, Copies(19, 59), Removes(2, true), Sees(18, 40) }),
     ("a clearing drops marked values too", ScriptHash::Zero, steps! {
         Fills(0, 40), Removes(1, true), Removes(39, true), Inserts(1), Sees(39, 41), Clears,
         Sees(0, 0), Inserts(1), Sees(1, 1), Clears, Clears, Sees(0, 0) }),
@@ -174,10 +179,22 @@ fn change(
         }
         Retains => index.retain(&mut is_even, now),
         Clears => index.clear(),
+        Copies(pairs, values) => copy(rt, index, counted, (*pairs, *values), at),
         Sees(pairs, values) => {
             let found = (index.len(), Rc::strong_count(counted).saturating_sub(1));
             check_same(rt, found, (*pairs, *values), at);
         }
         _ => check_same(rt, true, false, (at, "no step")),
+    }
+}
+
+// Clones an index and drops the clone. Compares the clone's pairs, and how many values there are.
+fn copy(rt: &impl Abort, index: &Index, counted: &Rc<u64>, wanted: (usize, usize), at: At) {
+    match index.clone() {
+        Ok(own) => {
+            let found = (own.len(), Rc::strong_count(counted).saturating_sub(1));
+            check_same(rt, found, wanted, at);
+        }
+        Err(_) => check_same(rt, true, false, (at, "no memory")),
     }
 }

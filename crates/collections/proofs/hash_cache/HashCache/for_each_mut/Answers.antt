@@ -19,9 +19,9 @@ went : (g : _) (c : goal.After-f-1 g) → (c.f-1.given.0 ≡ c.retain.new.f.0.no
 went g c =
     let all = retains_lent (λ s. s.0.now) (λ s. (s.0.ghost_name ≡ c.keep-1.given) × always_mut g.F.FnMut s.0.now) g.K.PartialEq.eq _
     (λ s own before answer after t. (answer ≡ true) × Called g.F.FnMut s (own, (before, tt)) (tt, (after, tt)) t)
-    (λ s own before answer after t kept e. let call = e.met.1.1 in (
-      (e.met.0 ∙ kept.0, mut_next g.F.FnMut _ _ _ _ _ call.6 refl kept.1),
-      (call.0, call.1, call.2, call.3, call.4, call.5, (e.met.1.0, call.6)),
+    (λ s own before answer after t kept e. (
+      (e.met.0 ∙ kept.0, mut_next g.F.FnMut _ _ _ _ _ e.met.1.1.6 refl kept.1),
+      (e.met.1.1.0, e.met.1.1.1, e.met.1.1.2, e.met.1.1.3, e.met.1.1.4, e.met.1.1.5, (e.met.1.0, e.met.1.1.6)),
     )) _ _ _ _ (refl, c.requires.callable) c.retain.ensures.retained in
     (c.f-1.given.1 (sym all.0.0), all.0.1, all.1)
 
