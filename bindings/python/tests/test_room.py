@@ -169,23 +169,22 @@ class Requests(unittest.TestCase):
     def setUp(self):
         self.addCleanup(bucket.seeded, None)
 
-    def test_a_copy_asks_for_hardly_more_memory_than_what_it_copies(self):
+    def test_a_copy_asks_for_less_memory_than_what_it_copies(self):
         for seed in SEEDS:
             bucket.seeded(seed)
             for key in KEYS:
                 pairs = pairs_of(key, 3000)
                 made, filling = bucket.Map(), bucket.Map()
-                # Without room the pairs would meet in a few buckets, and ask for some 750 blocks.
-                most = asked(lambda: [filling.__setitem__(at, 1) for at in pairs]) + 50
+                before = asked(lambda: [filling.__setitem__(at, 1) for at in pairs])
                 made.update(pairs)
                 for number, call in enumerate(OF_A_MAP):
-                    self.assertLess(asked(lambda: call(made)), most, (seed, key.__name__, number))
+                    self.assertLess(asked(lambda: call(made)), before, (seed, key.__name__, number))
                 made = bucket.Set(pairs)
                 for number, call in enumerate(OF_A_SET):
-                    self.assertLess(asked(lambda: call(made)), most, (seed, key.__name__, number))
+                    self.assertLess(asked(lambda: call(made)), before, (seed, key.__name__, number))
                 made = updated(bucket.Cache(3000), pairs)
                 for number, call in enumerate(OF_A_CACHE):
-                    self.assertLess(asked(lambda: call(made)), most, (seed, key.__name__, number))
+                    self.assertLess(asked(lambda: call(made)), before, (seed, key.__name__, number))
 
     def test_a_cache_asks_for_few_blocks_in_each_order(self):
         for seed in SEEDS:
