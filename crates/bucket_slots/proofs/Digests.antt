@@ -1,8 +1,12 @@
 -- What digests say of buckets, and how it holds after a change.
 use Rattle.bucket_slots.proofs.Words.{BucketView, IsMaskOf, List, SetsBit, Slot, Some, [], ap, arith, bit_and, bit_at, bit_at_and, byte_of}
-use Rattle.bucket_slots.proofs.Words.{cases_eq, cond, empty_bucket, false, free, get_or, get_or-map, get_or-set_other, get_or-set_same, has_byte, is_free, is_marked, IsBucketOf, INDEX, IsLowest, IsTrue, Place, position, sum_by-append, trailing_zeros, get_or-le-sum_by, bit_at_not, w32, slots_without, slots_with, slots_after_insertion, ne_eqb, is_wanted, place_wanted, first_from, None}
-use Rattle.bucket_slots.proofs.Words.{Bool, cases_lt, inl, inr, is_live, length, length-set, live, live_pairs, marked, min, ones, pairs_in, refl, set, slot_at, subst, sym, true}
-use Rattle.bucket_slots.proofs.Words.{common_steps, flattened, part_at, replicate, ◌≤◌, ◌/◌, ◌%◌, suc, with_unmade, zero, ℕ, ◌-◌, ◌<◌, ◌==◌, ◌^◌, ◌∙◌, ◌≡◌, ◌≢◌}
+use Rattle.bucket_slots.proofs.Words.{cases_eq, cond, empty_bucket, false, free, get_or, get_or-map, get_or-set_other}
+use Rattle.bucket_slots.proofs.Words.{get_or-set_same, has_byte, is_free, is_marked, IsBucketOf, INDEX, IsLowest, IsTrue, Place}
+use Rattle.bucket_slots.proofs.Words.{position, sum_by-append, trailing_zeros, get_or-le-sum_by, bit_at_not, w32, slots_without}
+use Rattle.bucket_slots.proofs.Words.{slots_with, slots_after_insertion, ne_eqb, is_wanted, place_wanted, first_from, None}
+use Rattle.bucket_slots.proofs.Words.{Bool, cases_lt, inl, inr, is_live, length, length-set, live, live_pairs, marked, min}
+use Rattle.bucket_slots.proofs.Words.{ones, pairs_in, refl, set, slot_at, subst, sym, true, common_steps, flattened, part_at}
+use Rattle.bucket_slots.proofs.Words.{replicate, ◌≤◌, ◌/◌, ◌%◌, suc, with_unmade, zero, ℕ, ◌-◌, ◌<◌, ◌==◌, ◌^◌, ◌∙◌, ◌≡◌, ◌≢◌}
 use Rattle.std.specs.Int.Count.{ones-ones}
 use Rattle.bucket_slots.specs.ArrayView.{bucket_at}
 use Rattle.bucket_slots.specs.BucketView.{block_at, bucket_with_value, row_at, slot_in, with_slot_at}
@@ -18,7 +22,8 @@ use Rattle.bucket_slots.proofs.ArrayParts.{IsPlace, part_unmade, place_is}
 use Rattle.bucket_slots.proofs.Spreading.{put_in_own}
 use Rattle.bucket_slots.proofs.FirstPlaces.{first_chain}
 use Rattle.bucket_slots.proofs.RowMasks.{candidate_live, unwanted}
-use Rattle.bucket_slots.proofs.Masks.{lowest_passes, IsLeft-first, ones-mask, position-none_left, IsMaskOf-from, IsMaskOf-set, bit-mask, within}
+use Rattle.bucket_slots.proofs.Masks.{lowest_passes, IsLeft-first, ones-mask, position-none_left}
+use Rattle.bucket_slots.proofs.Masks.{IsMaskOf-from, IsMaskOf-set, bit-mask, within}
 
 module _ {K V : Type 0} where
   -- nothing is said of any bucket

@@ -38,12 +38,12 @@ pub mod AheadAfterRemoval
 pub mod FreeEnds
 pub mod NoNewMarks
 pub mod BucketMarks
-pub mod CallerLemmas
-pub mod SearchCallerLemmas
+pub mod PairsAfter
+pub mod SearchedPairs
 pub mod SpentBuckets
-pub mod MarkCallerLemmas
-pub mod RoomCallerLemmas
-pub mod RecencyCallerLemmas
+pub mod MarksAfter
+pub mod RoomAfter
+pub mod PlacedSlots
 pub mod PowersOfTwo
 pub mod Intervals
 pub mod Doublings
@@ -52,7 +52,8 @@ pub mod Capacities
 pub mod ArrayParts
 pub mod Spreading
 pub mod OwnSpreading
-pub mod ArrayCallerLemmas
+pub mod ArrayNumbers
 pub mod WrittenValues
 pub mod Replacing
 pub mod Crosses
+pub mod CallerLemmas

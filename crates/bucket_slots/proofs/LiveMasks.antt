@@ -7,11 +7,11 @@ use Rattle.bucket_slots.proofs.Words.{is_free, is_live, length, live_pair, live_
 use Rattle.bucket_slots.proofs.Words.{true, ℕ}
 use Rattle.bucket_slots.proofs.Words.{◌+◌, ◌-◌, ◌<◌, ◌∙◌, ◌∷◌, ◌≡◌, ◌≤◌}
 use Rattle.bucket_slots.specs.OwnWalks.{NamesFrom}
-use Rattle.bucket_slots.proofs.CallerLemmas.{live_from_pair}
 use Rattle.bucket_slots.proofs.CallingEach.{IsAmid, done, one_more}
 use Rattle.bucket_slots.proofs.FirstPlaces.{live_occupied}
 use Rattle.bucket_slots.proofs.Masks.{bit-mask, bit_is, bit_is_not, within}
 use Rattle.bucket_slots.proofs.NextSlots.{live_pairs-live, live_pairs-skip}
+use Rattle.bucket_slots.proofs.PairsAfter.{live_from_pair}
 
 module _ {K V : Type 0} where
   pub names_all : (slots : List (Slot K V)) (left : ℕ) → IsMaskOf is_live slots left → NamesFrom slots left 0

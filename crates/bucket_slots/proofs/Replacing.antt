@@ -1,10 +1,11 @@
 -- A pair stands in the place of another one: that slot was free between, and no other entry changed.
-use Rattle.bucket_slots.proofs.Words.{BucketView, IsPermutation, List, Place, Slot, Some, ap, block_at, entries_in, free, length, length-set}
-use Rattle.bucket_slots.proofs.Words.{live, live_pair, refl, slot_at, slot_in, suc, with_slot_at, zero, ℕ, ◌<◌, ◌∙◌, ◌∷◌, ◌≡◌, is_live, true}
-use Rattle.bucket_slots.proofs.CallerLemmas.{entries_in-slots_vacated, live_from_pair}
+use Rattle.bucket_slots.proofs.Words.{BucketView, IsPermutation, List, Place, Slot, Some, ap, block_at}
+use Rattle.bucket_slots.proofs.Words.{entries_in, free, length, length-set, live, live_pair, refl, slot_at}
+use Rattle.bucket_slots.proofs.Words.{slot_in, suc, with_slot_at, zero, ℕ, ◌<◌, ◌∙◌, ◌∷◌, ◌≡◌, is_live, true}
 use Rattle.bucket_slots.proofs.ChangedSlots.{block_at-with_slot, live_inside, slot_in-with_slot}
 use Rattle.bucket_slots.proofs.Entries.{entries_in-with_slot}
-use Rattle.bucket_slots.proofs.RoomCallerLemmas.{killed-slots_vacated}
+use Rattle.bucket_slots.proofs.PairsAfter.{entries_in-slots_vacated, live_from_pair}
+use Rattle.bucket_slots.proofs.RoomAfter.{killed-slots_vacated}
 use Rattle.bucket_slots.specs.Moving.{slots_vacated, slots_vacated_at}
 use Rattle.bucket_slots.specs.Replacing.{slots_replaced}
 

@@ -5,11 +5,11 @@ use Rattle.bucket_slots.proofs.Words.{live_pairs, map, pairs_ahead, pairs_in, re
 use Rattle.bucket_slots.proofs.Words.{slots_marked, slots_vacated, slots_vacated_at, slots_without, suc, sym, take, with_slot, with_slot_at}
 use Rattle.bucket_slots.proofs.Words.{zero, ℕ, ◌++◌, ◌+◌, ◌<◌, ◌∙◌, ◌∷◌, ◌≡◌}
 use Rattle.std.proofs.lemmas.List.{append_cancel_right}
-use Rattle.bucket_slots.proofs.CallerLemmas.{entries_unlinked, length-vacated, live_from_pair, live_is, there, with_slot-same}
 use Rattle.bucket_slots.proofs.ChangedSlots.{live_inside}
 use Rattle.bucket_slots.proofs.Entries.{map-entries_in}
 use Rattle.bucket_slots.proofs.FirstPlaces.{block_short}
 use Rattle.bucket_slots.proofs.NextPlaces.{pairs_ahead-inside}
+use Rattle.bucket_slots.proofs.PairsAfter.{entries_unlinked, length-vacated, live_from_pair, live_is, there, with_slot-same}
 
 module _ {K V : Type 0} where
   -- the slots before one of a row, and of the rows before it

@@ -113,7 +113,8 @@ module _ {K V : Type 0} (kind : ℕ) (answers : Bor K → ℕ → Type 0) (names
 
 module _ {K V : Type 0} where
   -- a part of which some made buckets are others now, and what stands before them and behind them
-  pub record IsPartOver (made : List (BucketView K V)) (len : ℕ) (released : Bool) (i : ℕ) (run ws made_after : List (BucketView K V)) : Type 0 where
+  pub record IsPartOver (made : List (BucketView K V)) (len : ℕ) (released : Bool) (i : ℕ)
+      (run ws made_after : List (BucketView K V)) : Type 0 where
     pub front : List (BucketView K V)
     pub back : List (BucketView K V)
     pub front_len : length front ≡ i

@@ -2,8 +2,8 @@
 use Rattle.bucket_slots.proofs.Words.{BucketView, IsBucketOf, IsChain, List, Place, Some, ap, block_at, bucket_with_value, cons_option}
 use Rattle.bucket_slots.proofs.Words.{live_pair, pairs_ahead, pairs_in, refl, slot_in, slot_with_value, ℕ, ◌++◌, ◌∙◌, ◌∷◌, ◌≡◌}
 use Rattle.bucket_slots.proofs.AheadAfterRemoval.{pairs_ahead-with_slot}
-use Rattle.bucket_slots.proofs.CallerLemmas.{live_from_pair, live_is}
 use Rattle.bucket_slots.proofs.ChangedSlots.{live_inside, slot_in-with_slot}
+use Rattle.bucket_slots.proofs.PairsAfter.{live_from_pair, live_is}
 use Rattle.bucket_slots.proofs.SlotFronts.{pairs_in-with_slot}
 
 module _ {K V : Type 0} where

@@ -11,7 +11,8 @@ use Rattle.bucket_slots.specs.Walking.{MovesToNext}
 
 module _ {K V : Type 0} (kind : ℕ) (answers : Bor K → ℕ → Type 0) (names : ℕ → ℕ → Type 0) (start : ℕ) where
   -- the first live pair moves to one of some buckets: the answer for its key names that bucket, where `start` is the first one's index
-  pub record SpreadsOne (old : BucketView K V) (buckets : List (BucketView K V)) (new : BucketView K V) (after : List (BucketView K V)) : Type 0 where
+  pub record SpreadsOne (old : BucketView K V) (buckets : List (BucketView K V)) (new : BucketView K V)
+      (after : List (BucketView K V)) : Type 0 where
     pub at : Place
     pub next : MovesToNext old null_place at
     pub key : Bor K

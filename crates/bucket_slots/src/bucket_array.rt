@@ -13,8 +13,10 @@ ghost use Rattle.std.specs.Prelude.{◌≡◌, ◌*◌, ◌^◌, ◌<◌, ◌≤
 ghost use Rattle.std.specs.Borrow.{sem};
 ghost use Rattle.bucket_slots.specs.ArrayView.{IsNewArray, bucket_at};
 ghost use Rattle.bucket_slots.specs.Homes.{IsHome};
-ghost use Rattle.bucket_slots.specs.Sampling.{IsLargeSample, IsSmallSample, StartsSampling, full_sample};
-ghost use Rattle.bucket_slots.specs.Sizing.{IsLength, IsOptimalCapacity, IsPowerIn, IsTooEmpty, IsTooFull};
+ghost use Rattle.bucket_slots.specs.Sampling.{IsLargeSample, IsSmallSample};
+ghost use Rattle.bucket_slots.specs.Sampling.{StartsSampling, full_sample};
+ghost use Rattle.bucket_slots.specs.Sizing.{IsLength, IsOptimalCapacity};
+ghost use Rattle.bucket_slots.specs.Sizing.{IsPowerIn, IsTooEmpty, IsTooFull};
 ghost use Rattle.bucket_slots.specs.Slots.{places_of};
 
 mod digested;

@@ -1,9 +1,9 @@
 -- The words that most proofs use, from one place.
-pub use Rattle.bucket_slots.proofs.ArrayCallerLemmas.{scales}
-pub use Rattle.bucket_slots.proofs.CallerLemmas.{length-entries_in, live_from_pair, live_not_free, map-entries_in, pairs_in-slots_vacated}
-pub use Rattle.bucket_slots.proofs.CallerLemmas.{read_apart}
+pub use Rattle.bucket_slots.proofs.ArrayNumbers.{scales}
+pub use Rattle.bucket_slots.proofs.PairsAfter.{length-entries_in, live_from_pair, live_not_free, map-entries_in, pairs_in-slots_vacated}
+pub use Rattle.bucket_slots.proofs.PairsAfter.{read_apart}
 pub use Rattle.bucket_slots.proofs.Entries.{rotated}
-pub use Rattle.bucket_slots.proofs.MarkCallerLemmas.{by-no_new, by-trans, no_new-refl, no_new-trans}
+pub use Rattle.bucket_slots.proofs.MarksAfter.{by-no_new, by-trans, no_new-refl, no_new-trans}
 pub use Rattle.bucket_slots.specs.ArrayView.{IsNewArray, bucket_at}
 pub use Rattle.bucket_slots.specs.BucketLaws.{IsBucketOf}
 pub use Rattle.bucket_slots.specs.BucketView.{BucketView, Place, all_slots, bucket_with_value, empty_bucket, entries_in, flattened}

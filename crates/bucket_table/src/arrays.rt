@@ -85,9 +85,21 @@ impl<K, V, L: LruList, const TYPE: u8> Model for Arrays<K, V, L, TYPE> {
 
     ghost Value = { ArraysView K V };
 
-    ghost view = { λ arrays. record { minimum = arrays.minimum; maximum = arrays.maximum; current = list_of arrays.current; linked = list_of arrays.linked; tickets = arrays.tickets } };
+    ghost view = { λ arrays. record {
+      minimum = arrays.minimum;
+      maximum = arrays.maximum;
+      current = list_of arrays.current;
+      linked = list_of arrays.linked;
+      tickets = arrays.tickets;
+    } };
 
-    ghost invariant = { λ arrays. AreArrays (record { minimum = arrays.minimum; maximum = arrays.maximum; current = list_of arrays.current; linked = list_of arrays.linked; tickets = arrays.tickets }) };
+    ghost invariant = { λ arrays. AreArrays (record {
+      minimum = arrays.minimum;
+      maximum = arrays.maximum;
+      current = list_of arrays.current;
+      linked = list_of arrays.linked;
+      tickets = arrays.tickets;
+    }) };
 }
 
 impl<K, V, L: LruList, const TYPE: u8> Arrays<K, V, L, TYPE> {
@@ -95,7 +107,13 @@ impl<K, V, L: LruList, const TYPE: u8> Arrays<K, V, L, TYPE> {
     pub fn new(alloc: Global, minimum: usize, maximum: usize) -> Self
         requires power { IsPowerIn 64 (2 ^ 63) maximum }
         requires bounded { minimum ≤ maximum }
-        ensures { result ≡ record { minimum = minimum; maximum = maximum; current = []; linked = []; tickets = first_tickets 0 } }
+        ensures { result ≡ record {
+          minimum = minimum;
+          maximum = maximum;
+          current = [];
+          linked = [];
+          tickets = first_tickets 0;
+        } }
     {
         Arrays {
             alloc,
@@ -144,8 +162,9 @@ impl<K, V, L: LruList, const TYPE: u8> Arrays<K, V, L, TYPE> {
 
     /// Returns the rehash word; `None` where there is no old array.
     pub(crate) fn word(&self) -> Option<usize>
-        ensures { MatchOption result (length self.now.linked ≡ 0) (λ word. (0 < length self.now.linked)
-            × (word ≡ word_of self.now.tickets) × (length self.now.tickets.open_units ≤ 2047)) }
+        ensures { MatchOption result (length self.now.linked ≡ 0) (λ word.
+            (0 < length self.now.linked) × (word ≡ word_of self.now.tickets)
+            × (length self.now.tickets.open_units ≤ 2047)) }
     {
         if !self.has_old() {
             return None;

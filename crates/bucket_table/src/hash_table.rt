@@ -119,8 +119,13 @@ impl<K: Eq, V, H: KeyHash<K>, L: LruList, const TYPE: u8> HashTable<K, V, H, L, 
         requires large { 64 ≤ maximum }
         requires bounded { minimum ≤ maximum }
         ensures hasher { result.hasher ≡ hasher }
-        ensures arrays { result.arrays
-            ≡ record { minimum = minimum; maximum = maximum; current = []; linked = []; tickets = first_tickets 0 } }
+        ensures arrays { result.arrays ≡ record {
+          minimum = minimum;
+          maximum = maximum;
+          current = [];
+          linked = [];
+          tickets = first_tickets 0;
+        } }
     {
         HashTable {
             hasher,

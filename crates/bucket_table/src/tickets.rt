@@ -1,6 +1,6 @@
 //! The tickets of one old array: which of its units are handed out.
-ghost use Rattle.std.specs.Prelude.{◌≡◌, ◌+◌, ◌*◌, ◌/◌, ◌%◌, ◌^◌, ◌<◌, ◌≤◌, ℕ, length, IfOk, IsTrue, ◌↔◌, MatchOption};
-ghost use Rattle.std.specs.Prelude.{slice_index};
+ghost use Rattle.std.specs.Prelude.{◌≡◌, ◌+◌, ◌*◌, ◌/◌, ◌%◌, ◌^◌, ◌<◌, ◌≤◌, ℕ, length};
+ghost use Rattle.std.specs.Prelude.{IfOk, IsTrue, ◌↔◌, MatchOption, slice_index};
 ghost use Rattle.std.specs.List.{Contains};
 ghost use Rattle.bucket_table.specs.Rehash.State.{IsTicketState, first_tickets, word_of};
 ghost use Rattle.bucket_table.specs.Rehash.Steps.{Starts, Ends, IsOver};
@@ -144,7 +144,9 @@ impl Tickets {
 
 /// Returns a position of the ticket's unit in the list of open units.
 fn place_of(open_units: &[usize], ticket: usize) -> Option<usize>
-    ensures { MatchOption result ((unit : ℕ) → ticket ≡ 2048 * unit → Contains open_units.now unit → ⊥) (λ place. (place < length open_units.now) × (ticket ≡ 2048 * slice_index open_units.now place)) }
+    ensures { MatchOption result
+        ((unit : ℕ) → ticket ≡ 2048 * unit → Contains open_units.now unit → ⊥) (λ place.
+        (place < length open_units.now) × (ticket ≡ 2048 * slice_index open_units.now place)) }
 {
     if ticket % TICKET_STEP != 0 {
         return None;

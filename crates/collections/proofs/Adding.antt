@@ -20,7 +20,7 @@ use Rattle.bucket_table.specs.Map.Finding.{Finds, FindsBucket}
 use Rattle.bucket_table.specs.Map.Lending.{with_value}
 use Rattle.bucket_table.specs.Map.LookingUp.{IsAbsent}
 use Rattle.bucket_table.specs.Map.MapState.{AddsPair, ChangesValue, KeepsPairs, MapState, state_of}
-use Rattle.bucket_table.proofs.Walking.Filters.{IsPermutation-filter}
+use Rattle.bucket_table.proofs.CallerLemmas.{IsPermutation-filter}
 use Rattle.collections.specs.Changes.{Adds, Stays}
 use Rattle.collections.specs.Maps.{get, map_of}
 use Rattle.collections.proofs.Lookups.{absent_from_lookup, distinct_permuted, distinct_with}

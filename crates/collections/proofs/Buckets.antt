@@ -13,7 +13,7 @@ use Rattle.bucket_table.specs.Views.Sides.{arrays_with, bucket_on}
 use Rattle.bucket_table.specs.Walking.Row.{row_of}
 use Rattle.bucket_table.specs.declared.arrays.side.Side.{Side}
 use Rattle.bucket_table.specs.declared.arrays.side.Side.TheVariants.{Current, Old}
-use Rattle.bucket_table.proofs.Walking.Row.{pairs_in_row}
+use Rattle.bucket_table.proofs.CallerLemmas.{pairs_in_row}
 use Rattle.collections.specs.Maps.{map_of, pairs_in_bucket}
 
 module _ {K V : Type 0} where

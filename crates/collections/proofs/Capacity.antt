@@ -10,8 +10,7 @@ use Rattle.std.proofs.lemmas.Bool.{cases_lt, false≢true}
 use Rattle.std.proofs.lemmas.List.{nil_from_length}
 use Rattle.std.proofs.lemmas.List.Sorted.{IsPermutation-refl}
 use Rattle.bucket_slots.specs.Sizing.{IsLeastPowerOfTwo, IsLength, IsLengthFor, IsPowerIn, IsTooFull}
-use Rattle.bucket_slots.proofs.PowersOfTwo.{power_divides}
-use Rattle.bucket_slots.proofs.ArrayCallerLemmas.{exponent_le}
+use Rattle.bucket_slots.proofs.CallerLemmas.{exponent_le, power_divides}
 use Rattle.bucket_table.specs.Resize.Remaking.{IsSettledAt}
 use Rattle.bucket_table.specs.Rehash.State.{first_tickets}
 use Rattle.bucket_table.specs.Resize.Resizing.{with_minimum}

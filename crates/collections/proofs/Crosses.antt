@@ -6,7 +6,7 @@ use Rattle.std.specs.declared.cmp.PartialEq as equals
 use Rattle.std.proofs.Crossing.{crosses}
 use Rattle.bucket_slots.proofs.lru.doubly_linked_list.DoublyLinkedList.TheSendSync as listed
 use Rattle.bucket_table.specs.declared.key_hash.KeyHash as key_hash
-use Rattle.bucket_table.proofs.Crosses.{HashTable-send, HashTable-sync}
+use Rattle.bucket_table.proofs.CallerLemmas.{HashTable-send, HashTable-sync}
 use Rattle.collections.specs.contracts.hash_cache.HashCache as cache
 use Rattle.collections.specs.contracts.hash_index.HashIndex as index
 use Rattle.collections.specs.contracts.hash_map.HashMap as map

@@ -15,10 +15,7 @@ use Rattle.bucket_slots.specs.BucketLaws.{IsBucketOf}
 use Rattle.bucket_slots.specs.BucketView.{BucketView, all_slots, empty_bucket, entries_in, first_place, flattened, pairs_in}
 use Rattle.bucket_slots.specs.Homes.{IsHome, Meets}
 use Rattle.bucket_slots.specs.Slots.{Slot, free, free_len, is_free, is_live, is_marked, live, live_pairs, marked, marked_len}
-use Rattle.bucket_slots.proofs.ArrayCallerLemmas.{homes_meet, one_source, scales}
-use Rattle.bucket_slots.proofs.CallerLemmas.{length-entries_in}
-use Rattle.bucket_slots.proofs.Counting.{length-live_pairs, tally}
-use Rattle.bucket_slots.proofs.RoomCallerLemmas.{free_len_in-none}
+use Rattle.bucket_slots.proofs.CallerLemmas.{free_len_in-none, homes_meet, length-entries_in, length-live_pairs, one_source, scales, tally}
 use Rattle.bucket_table.specs.Map.ByKey.{HasNoSlot, Inserts, InsertsAt, Upserts, UpsertsAt}
 use Rattle.bucket_table.specs.Map.Finding.{Finds, FindsBucket, FindsThen, MakesReady, ReadiesThenGrows}
 use Rattle.bucket_table.specs.Map.MapState.{KeepsPairs, state_of}
@@ -32,10 +29,7 @@ use Rattle.bucket_table.specs.declared.arrays.side.Side.{Side}
 use Rattle.bucket_table.specs.declared.arrays.side.Side.TheVariants.{Current, Old}
 use Rattle.bucket_table.specs.declared.hash_table.NotInserted.{NotInserted}
 use Rattle.bucket_table.specs.declared.hash_table.NotInserted.TheVariants.{Memory}
-use Rattle.bucket_table.proofs.Map.MapKept.{hasher_kept}
-use Rattle.bucket_table.proofs.Moves.HomesByDivision.{home_of-interval}
-use Rattle.bucket_table.proofs.Moves.MovingPairs.{homed-permutation, homed_here}
-use Rattle.bucket_table.proofs.Views.SideChanges.{homes_on, pairs_exchanged}
+use Rattle.bucket_table.proofs.CallerLemmas.{hasher_kept, home_of-interval, homed-permutation, homed_here, homes_on, pairs_exchanged}
 use Rattle.collections.proofs.Found.{found, same_buckets}
 use Rattle.collections.specs.Crowding.{HasAtHome, HasInOld, KeepsHome, LacksBucket, LacksRoom}
 use Rattle.collections.specs.Maps.{map_of}

@@ -8,8 +8,7 @@ use Rattle.bucket_table.specs.Resize.Growing.{Grows}
 use Rattle.bucket_table.specs.Views.ArraysView.{ArraysView}
 use Rattle.bucket_table.specs.Views.Keeping.{Keeps}
 use Rattle.bucket_table.specs.Views.Sides.{buckets_on}
-use Rattle.bucket_table.proofs.Resize.Following.{made_keeps}
-use Rattle.bucket_table.proofs.Views.Keeping.{keeps_same}
+use Rattle.bucket_table.proofs.CallerLemmas.{keeps_same, made_keeps}
 
 module _ {K V : Type 0} where
   -- the arrays that were made ready, which are the old ones now where they grew

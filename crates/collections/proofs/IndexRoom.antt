@@ -10,15 +10,14 @@ use Rattle.bucket_slots.specs.BucketView.{BucketView, first_place, flattened, ma
 use Rattle.bucket_slots.specs.Clearing.{is_full_with_marks, slot_without_expired, slots_without_expired}
 use Rattle.bucket_slots.specs.Homes.{IsHome}
 use Rattle.bucket_slots.specs.Slots.{Slot, free, free_len, is_free, live, live_pairs, marked, marked_entries, marked_entry}
-use Rattle.bucket_slots.proofs.Counting.{length-live_pairs-append, tally}
-use Rattle.bucket_slots.proofs.RoomCallerLemmas.{free_len_in-none}
+use Rattle.bucket_slots.proofs.CallerLemmas.{free_len_in-none, length-live_pairs-append, tally}
 use Rattle.bucket_table.specs.Map.ByKey.{HasNoSlot, Inserts, InsertsAt}
 use Rattle.bucket_table.specs.Map.Finding.{Finds, FindsThen}
 use Rattle.bucket_table.specs.Map.MapState.{KeepsPairs, state_of}
 use Rattle.bucket_table.specs.Views.ArraysView.{ArePlaced, TableView}
 use Rattle.bucket_table.specs.Views.Sides.{bucket_on, buckets_on}
 use Rattle.bucket_table.specs.declared.arrays.side.Side.{Side}
-use Rattle.bucket_table.proofs.Map.MapKept.{hasher_kept}
+use Rattle.bucket_table.proofs.CallerLemmas.{hasher_kept}
 use Rattle.bucket_table.specs.declared.hash_table.NotInserted.{NotInserted}
 use Rattle.bucket_table.specs.declared.hash_table.NotInserted.TheVariants.{Memory}
 use Rattle.collections.specs.Crowding.{KeepsHome, LacksSlots}

@@ -8,10 +8,8 @@ use Rattle.bucket_slots.specs.Clearing.{looks_at_marks, rows_without_free_end, s
 use Rattle.bucket_slots.specs.Clearing.{slots_without_expired, slots_without_free_end}
 use Rattle.bucket_slots.specs.Placing.{free_block, place_for_next, slots_with, with_place_made}
 use Rattle.bucket_slots.specs.Slots.{Slot, all_free, free, live, marked, marked_entries, marked_entry, slot_at}
-use Rattle.bucket_slots.proofs.BucketPlacing.{place_made, same_made}
-use Rattle.bucket_slots.proofs.Entries.{filter_map-chain, filter_map-flattened, filter_map-is, flat_map-take}
-use Rattle.bucket_slots.proofs.FreeEnds.{suffix_passes}
-use Rattle.bucket_slots.proofs.NoNewMarks.{mark_of}
+use Rattle.bucket_slots.proofs.CallerLemmas.{filter_map-chain, filter_map-flattened, filter_map-is, flat_map-take, mark_of, place_made}
+use Rattle.bucket_slots.proofs.CallerLemmas.{same_made, suffix_passes}
 
 -- another element that gives the same
 pub flat_map-set : {A B : Type 0} (f : A → List B) (items : List A) (i : ℕ) (a d : A) → f a ≡ f (get_or items i d)

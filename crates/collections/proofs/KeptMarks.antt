@@ -8,7 +8,7 @@ use Rattle.std.proofs.lemmas.List.Elements.{filter-append}
 use Rattle.bucket_slots.specs.ArrayView.{bucket_at}
 use Rattle.bucket_slots.specs.BucketView.{BucketView, empty_bucket, marks_in}
 use Rattle.bucket_slots.specs.Marking.{HasNoNewMark}
-use Rattle.bucket_slots.proofs.MarkCallerLemmas.{no_new-trans}
+use Rattle.bucket_slots.proofs.CallerLemmas.{no_new-trans}
 use Rattle.bucket_table.specs.Map.ByKey.{InsertsAt}
 use Rattle.bucket_table.specs.Map.Finding.{Finds}
 use Rattle.bucket_table.specs.Rehash.Relocation.{marks_among}

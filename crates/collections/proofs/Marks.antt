@@ -6,7 +6,7 @@ use Rattle.std.proofs.lemmas.List.Elements.{All-contains, All-contains_itself, A
 use Rattle.bucket_slots.specs.BucketView.{BucketView, marks_in}
 use Rattle.bucket_slots.specs.Clearing.{looks_at_marks, slots_after_insertion}
 use Rattle.bucket_slots.specs.Marking.{HasNoNewMark}
-use Rattle.bucket_slots.proofs.MarkCallerLemmas.{no_new-append, no_new-refl, no_new-same, no_new-trans}
+use Rattle.bucket_slots.proofs.CallerLemmas.{no_new-append, no_new-refl, no_new-same, no_new-trans}
 use Rattle.bucket_table.specs.Views.ArraysView.{ArraysView, TableView, marks_of}
 use Rattle.bucket_table.specs.Views.Sides.{arrays_with, bucket_on}
 use Rattle.bucket_table.specs.Rehash.Relocation.{marks_among}
@@ -14,7 +14,7 @@ use Rattle.bucket_table.specs.Map.ByKey.{InsertsAt}
 use Rattle.bucket_table.specs.Map.Finding.{Finds, FindsThen}
 use Rattle.bucket_table.specs.declared.hash_table.NotInserted.{NotInserted}
 use Rattle.bucket_table.specs.declared.hash_table.NotInserted.TheVariants.{Memory, Present}
-use Rattle.bucket_table.proofs.Views.MarksKept.{marks_among-set}
+use Rattle.bucket_table.proofs.CallerLemmas.{marks_among-set}
 use Rattle.bucket_table.specs.declared.arrays.side.Side.{Side}
 use Rattle.bucket_table.specs.declared.arrays.side.Side.TheVariants.{Current, Old}
 use Rattle.collections.proofs.InsertedMarks.{kept, left_of, marks_in-slots_after_insertion}

@@ -7,7 +7,7 @@ use Rattle.bucket_table.specs.Map.Preparing.{IsPrepared}
 use Rattle.bucket_table.specs.Rehash.Carrying.{listed_among}
 use Rattle.bucket_table.specs.Views.ArraysView.{ArraysView, TableView, pairs_of}
 use Rattle.bucket_table.specs.Views.Keeping.{Keeps, KeepsArrays}
-use Rattle.bucket_table.proofs.Map.MapKept.{keeps_pairs, state_found}
+use Rattle.bucket_table.proofs.CallerLemmas.{keeps_pairs, state_found}
 use Rattle.collections.specs.Changes.{Stays}
 use Rattle.collections.specs.Maps.{map_of}
 use Rattle.collections.specs.Orders.{MovesOn}

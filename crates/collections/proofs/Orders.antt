@@ -20,7 +20,7 @@ use Rattle.bucket_table.specs.Views.ArraysView.{ArraysView, TableView, pairs_of}
 use Rattle.bucket_table.specs.Views.Sides.{arrays_with, bucket_on, buckets_on}
 use Rattle.bucket_table.specs.declared.hash_table.NotInserted.{NotInserted}
 use Rattle.bucket_table.specs.declared.hash_table.NotInserted.TheVariants.{Memory, Present}
-use Rattle.bucket_table.proofs.Views.Keeping.{kept_none}
+use Rattle.bucket_table.proofs.CallerLemmas.{kept_none}
 use Rattle.collections.specs.Orders.{Leaves, LeavesArray, LeavesPlace, PutsOrKeeps, ReplacesBucket}
 use Rattle.collections.proofs.Found.{IsFound, found, ready_keeps, same_buckets}
 use Rattle.collections.proofs.Moving.{arrays_stay, moves_beside, moves_on, prepared_moves}

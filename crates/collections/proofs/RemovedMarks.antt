@@ -11,11 +11,8 @@ use Rattle.bucket_slots.specs.ArrayView.{IsNewArray}
 use Rattle.bucket_slots.specs.BucketView.{BucketView, Place, block_at, empty_bucket, marks_in, slot_in, with_slot_at}
 use Rattle.bucket_slots.specs.Marking.{slot_marked, slots_marked}
 use Rattle.bucket_slots.specs.Slots.{Slot, free, is_live, live_pair, marked, marked_entry, slot_at}
-use Rattle.bucket_slots.proofs.CallerLemmas.{flat_map-exchanged, live_is, regrouped, rotated}
-use Rattle.bucket_slots.proofs.ChangedSlots.{live_inside}
-use Rattle.bucket_slots.proofs.Entries.{rows-exchanged}
-use Rattle.bucket_slots.proofs.MarkCallerLemmas.{no_new-same, no_new-trans}
-use Rattle.bucket_slots.proofs.NoNewMarks.{mark_of}
+use Rattle.bucket_slots.proofs.CallerLemmas.{flat_map-exchanged, live_inside, live_is, mark_of, no_new-same, no_new-trans, regrouped}
+use Rattle.bucket_slots.proofs.CallerLemmas.{rotated, rows-exchanged}
 use Rattle.bucket_table.specs.Map.ByKey.{ShrinksAt}
 use Rattle.bucket_table.specs.Map.LookingUp.{IsThere}
 use Rattle.bucket_table.specs.Map.Preparing.{IsPrepared}

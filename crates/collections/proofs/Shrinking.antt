@@ -7,7 +7,7 @@ use Rattle.bucket_table.specs.Resize.Resizing.{IsGivenUp, IsPushed, TriesResize}
 use Rattle.bucket_table.specs.Views.ArraysView.{ArraysView}
 use Rattle.bucket_table.specs.Views.Sides.{arrays_with}
 use Rattle.bucket_table.specs.declared.arrays.side.Side.{Side}
-use Rattle.bucket_table.proofs.Resize.GivingUp.{gives_up_at_zero}
+use Rattle.bucket_table.proofs.CallerLemmas.{gives_up_at_zero}
 
 module _ {K V : Type 0} where
   -- the arrays stay, or are given up where the minimum is 0, or are pushed

@@ -12,8 +12,7 @@ use Rattle.bucket_slots.specs.Homes.{IsHome}
 use Rattle.bucket_slots.specs.Sizing.{IsLengthFor}
 use Rattle.bucket_slots.specs.Clearing.{slots_after_insertion}
 use Rattle.bucket_slots.specs.Slots.{live_pair}
-use Rattle.bucket_slots.proofs.CallerLemmas.{length-entries_in, rewritten}
-use Rattle.bucket_slots.proofs.MarkCallerLemmas.{entries_in-slots_after_insertion}
+use Rattle.bucket_slots.proofs.CallerLemmas.{entries_in-slots_after_insertion, length-entries_in, rewritten}
 use Rattle.bucket_table.specs.Map.ByKey.{ChangesAt, Inserts, InsertsAt, PreparesThen, ShrinksAt, Upserts, UpsertsAt, WritesAt}
 use Rattle.bucket_table.specs.Map.Finding.{Finds, FindsBucket, MakesReady, ReadiesThenGrows}
 use Rattle.bucket_table.specs.Map.MapState.{ChangesValue, KeepsPairs, state_of}
@@ -30,8 +29,7 @@ use Rattle.bucket_table.specs.declared.arrays.side.Side.{Side}
 use Rattle.bucket_table.specs.declared.arrays.side.Side.TheVariants.{Current, Old}
 use Rattle.bucket_table.specs.declared.hash_table.NotInserted.{NotInserted}
 use Rattle.bucket_table.specs.declared.hash_table.NotInserted.TheVariants.{Memory, Present}
-use Rattle.bucket_table.proofs.Map.MapKept.{hasher_kept}
-use Rattle.bucket_table.proofs.Moves.MovingPairs.{homed-permutation, homed_here}
+use Rattle.bucket_table.proofs.CallerLemmas.{hasher_kept, homed-permutation, homed_here}
 use Rattle.collections.specs.Changes.{Stays}
 use Rattle.collections.specs.Crowding.{HasAtHome}
 use Rattle.collections.specs.Maps.{MapView, map_of}

@@ -8,7 +8,7 @@ use Rattle.bucket_slots.specs.ArrayView.{bucket_at}
 use Rattle.bucket_slots.specs.BucketView.{BucketView, Place, empty_bucket, marks_in, row_at, slot_in}
 use Rattle.bucket_slots.specs.Marking.{HasNoNewMark}
 use Rattle.bucket_slots.specs.Slots.{Slot, free, is_free, live, marked, marked_entry, slot_at}
-use Rattle.bucket_slots.proofs.MarkCallerLemmas.{no_new-at, no_new-front, no_new-none, no_new-rest, no_new-same}
+use Rattle.bucket_slots.proofs.CallerLemmas.{no_new-at, no_new-front, no_new-none, no_new-rest, no_new-same}
 use Rattle.bucket_table.specs.Map.Finding.{MakesReady}
 use Rattle.bucket_table.specs.Rehash.Relocation.{KeepsPlaces, marks_among}
 use Rattle.bucket_table.specs.Resize.Growing.{Grows}
@@ -16,7 +16,7 @@ use Rattle.bucket_table.specs.Views.ArraysView.{ArraysView, marks_of}
 use Rattle.bucket_table.specs.Views.Sides.{buckets_on}
 use Rattle.bucket_table.specs.declared.arrays.side.Side.{Side}
 use Rattle.bucket_table.specs.declared.arrays.side.Side.TheVariants.{Current, Old}
-use Rattle.bucket_table.proofs.Moves.Staying.{from_row, in_row}
+use Rattle.bucket_table.proofs.CallerLemmas.{from_row, in_row}
 use Rattle.collections.proofs.InsertedMarks.{kept}
 use Rattle.collections.proofs.Marks.{no_new-left}
 

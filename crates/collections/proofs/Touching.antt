@@ -18,9 +18,7 @@ use Rattle.bucket_table.specs.Map.Preparing.{IsPrepared}
 use Rattle.bucket_table.specs.Views.ArraysView.{TableView, pairs_of}
 use Rattle.bucket_table.specs.Views.Sides.{arrays_with, bucket_on, with_bucket}
 use Rattle.bucket_table.specs.declared.arrays.side.Side.{Side}
-use Rattle.bucket_table.proofs.Map.LockedSteps.{put_there}
-use Rattle.bucket_table.proofs.Map.MapSteps.{set_again}
-use Rattle.bucket_table.proofs.Scripts.CallSteps.{then_changed, there_before}
+use Rattle.bucket_table.proofs.CallerLemmas.{put_there, set_again, then_changed, there_before}
 use Rattle.collections.specs.CacheWrites.{IsWritten}
 use Rattle.collections.specs.Changes.{Replaces, Stays}
 use Rattle.collections.specs.Maps.{contains_by, get_by, map_of}

@@ -11,7 +11,7 @@ use Rattle.bucket_table.specs.Map.Putting as putting
 use Rattle.bucket_table.specs.Views.ArraysView.{ArePlaced, TableView, pairs_of}
 use Rattle.bucket_table.specs.declared.hash_table.NotInserted.{NotInserted}
 use Rattle.bucket_table.specs.declared.hash_table.NotInserted.TheVariants.{Memory, Present}
-use Rattle.bucket_table.proofs.Map.Putting.{then_put}
+use Rattle.bucket_table.proofs.CallerLemmas.{then_put}
 use Rattle.collections.specs.CacheUpserts.{PutsVacant}
 use Rattle.collections.specs.Changes.{Puts}
 use Rattle.collections.specs.Crowding.{KeepsHome, LacksBucket}

@@ -7,7 +7,7 @@ use Rattle.bucket_slots.specs.Sizing.{IsTooFull}
 use Rattle.bucket_table.specs.Rehash.Relocation.{home_of}
 use Rattle.bucket_table.specs.declared.hash_table.NotInserted.{NotInserted}
 use Rattle.bucket_table.specs.declared.hash_table.NotInserted.TheVariants.{Memory}
-use Rattle.bucket_table.proofs.Moves.MovingPairs.{homed-permutation}
+use Rattle.bucket_table.proofs.CallerLemmas.{homed-permutation}
 use Rattle.collections.specs.Capacity.{HasRoomFor}
 use Rattle.collections.specs.Changes.{Adds, HandsBack, Stays}
 use Rattle.collections.specs.Crowding.{HasAtHome, LacksRoom}

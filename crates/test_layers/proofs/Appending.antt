@@ -6,7 +6,7 @@ use Rattle.bucket_slots.specs.Clearing.{slots_after_insertion, slots_for_inserti
 use Rattle.bucket_slots.specs.Evicting.{IsUnlisted}
 use Rattle.bucket_slots.specs.Placing.{place_for_next, slots_with}
 use Rattle.bucket_slots.specs.Recency.{is_listed}
-use Rattle.bucket_slots.proofs.RecencyCallerLemmas.{free_unlisted, listed-slots_with, was_free}
+use Rattle.bucket_slots.proofs.PlacedSlots.{free_unlisted, listed-slots_with, was_free}
 
 module _ {K V : Type 0} where
   placed_unlisted : (kind : ℕ) (s : BucketView K V) (pair : K × V) (byte : ℕ) → IsBucketOf kind s

@@ -6,8 +6,8 @@ use Rattle.std.specs.List.Sorted.{IsPermutation}
 use Rattle.bucket_slots.specs.BucketView.{BucketView, Place, entries_in, slot_in}
 use Rattle.bucket_slots.specs.Removing.{slots_without}
 use Rattle.bucket_slots.specs.Slots.{live_pair}
-use Rattle.bucket_slots.proofs.CallerLemmas.{entries_in-slots_without}
-use Rattle.bucket_slots.proofs.RoomCallerLemmas.{killed-slots_without}
+use Rattle.bucket_slots.proofs.PairsAfter.{entries_in-slots_without}
+use Rattle.bucket_slots.proofs.RoomAfter.{killed-slots_without}
 use Rattle.bucket_table.specs.Walking.Walks.{IsKeptBy, keys_in}
 
 module _ {K V : Type 0} where

@@ -3,10 +3,12 @@
 //! Model: the rows, the first one first. No invariant.
 //!
 //! Ports the links of `LinkedBucket` in scc's `src/hash_table/bucket.rs`.
-ghost use Rattle.std.specs.Prelude.{◌≡◌, ◌≤◌, ◌<◌, ◌^◌, ◌∷◌, ◌++◌, [], IfSome, IfNone, OnOk, OnErr, drop, length, reverse, slice_index_or, take};
+ghost use Rattle.std.specs.Prelude.{◌≡◌, ◌≤◌, ◌<◌, ◌^◌, ◌∷◌, ◌++◌, [], IfSome, IfNone, OnOk};
+ghost use Rattle.std.specs.Prelude.{OnErr, drop, length, reverse, slice_index_or, take};
 ghost use Rattle.std.specs.Borrow.{sem};
 ghost use Rattle.bucket_slots.specs.Layout.BoxedRows.{rows_of};
-ghost use Rattle.bucket_slots.specs.Layout.LinkLoans.{LendsNext, LendsNextOf, LendsRest, LendsRow, LendsRowIn, LendsRowOf};
+ghost use Rattle.bucket_slots.specs.Layout.LinkLoans.{LendsNext, LendsNextOf, LendsRest};
+ghost use Rattle.bucket_slots.specs.Layout.LinkLoans.{LendsRow, LendsRowIn, LendsRowOf};
 
 use std::alloc::{AllocError, Global};
 use std::marker::Model;

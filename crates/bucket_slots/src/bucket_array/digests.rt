@@ -4,10 +4,12 @@
 //! bitmap has all bits set or its index is past the end.
 //!
 //! Own.
-ghost use Rattle.std.specs.Prelude.{◌≡◌, ◌≢◌, ◌==◌, ℕ, ◌-◌, ◌^◌, ◌<◌, IsTrue, ◌↔◌, bit_and, slice_set};
+ghost use Rattle.std.specs.Prelude.{◌≡◌, ◌≢◌, ◌==◌, ℕ, ◌-◌, ◌^◌, ◌<◌};
+ghost use Rattle.std.specs.Prelude.{IsTrue, ◌↔◌, bit_and, slice_set};
 ghost use Rattle.std.specs.Int.Count.{ones};
 ghost use Rattle.bucket_slots.specs.Layout.Bitmaps.{SetsBit};
-ghost use Rattle.bucket_slots.specs.Layout.Digests.{ChangesOne, IsLost, KnowsNone, Settles, digest_at};
+ghost use Rattle.bucket_slots.specs.Layout.Digests.{ChangesOne, IsLost, KnowsNone};
+ghost use Rattle.bucket_slots.specs.Layout.Digests.{Settles, digest_at};
 ghost use Rattle.bucket_slots.specs.Masks.{IsMaskOf};
 
 use crate::bucket::BUCKET_LEN;

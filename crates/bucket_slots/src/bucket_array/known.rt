@@ -1,7 +1,9 @@
 //! Reads and writes of a bucket whose digest isn't lost.
 //!
 //! Own.
-ghost use Rattle.std.specs.Prelude.{◌≡◌, ◌≢◌, ◌==◌, ◌/◌, ◌%◌, ◌+◌, ◌-◌, ◌^◌, ◌<◌, ◌≤◌, bit_and, Some, ℕ, [], IfSome, IsTrue, length, option_map, slice_set, vec_len};
+ghost use Rattle.std.specs.Prelude.{◌≡◌, ◌≢◌, ◌==◌, ◌/◌, ◌%◌, ◌+◌, ◌-◌, ◌^◌, ◌<◌};
+ghost use Rattle.std.specs.Prelude.{◌≤◌, bit_and, Some, ℕ, [], IfSome, IsTrue};
+ghost use Rattle.std.specs.Prelude.{length, option_map, slice_set, vec_len};
 ghost use Rattle.std.specs.List.{position};
 ghost use Rattle.bucket_slots.specs.ArrayRoom.{BucketFits};
 ghost use Rattle.bucket_slots.specs.ArrayView.{bucket_at};

@@ -5,7 +5,8 @@
 //! released: its buckets are dropped, and from then on those that aren't made are killed ones.
 //!
 //! Own.
-ghost use Rattle.std.specs.Prelude.{◌≡◌, ℕ, ◌+◌, ◌<◌, ◌≤◌, ◌^◌, ◌∷◌, [], List, true, false, IfOk, IfSome, length, replicate, vec_capacity, vec_len};
+ghost use Rattle.std.specs.Prelude.{◌≡◌, ℕ, ◌+◌, ◌<◌, ◌≤◌, ◌^◌, ◌∷◌, [], List, true, false};
+ghost use Rattle.std.specs.Prelude.{IfOk, IfSome, length, replicate, vec_capacity, vec_len};
 ghost use Rattle.std.specs.Borrow.{sem};
 ghost use Rattle.bucket_slots.specs.ArrayRoom.{BucketFits};
 ghost use Rattle.bucket_slots.specs.ArrayView.{bucket_at};

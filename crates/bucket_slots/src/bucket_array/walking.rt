@@ -1,5 +1,5 @@
-//! Walks over the buckets of an array that read digests first, and touch no bucket whose digest shows
-//! that it is empty.
+//! Walks over the buckets of an array that read digests first, and touch no bucket whose digest
+//! shows that it is empty.
 //!
 //! Own.
 ghost use Rattle.std.specs.Prelude.{◌≡◌, ◌<◌, IfSome, length};
@@ -14,8 +14,8 @@ use crate::bucket::EntryPtr;
 use crate::lru::LruList;
 
 impl<K, V, L: LruList, const TYPE: u8> BucketArray<K, V, L, TYPE> {
-    /// Returns the live own slots of a bucket as a bitmap, if its digest isn't lost. It has no chain
-    /// then.
+    /// Returns the live own slots of a bucket as a bitmap, if its digest isn't lost. It has no
+    /// chain then.
     #[inline(always)]
     fn known_own(&self, index: usize) -> Option<u32>
         ensures { IfSome result (λ live. AreAllOwn (bucket_at self.now index) live) }
@@ -43,8 +43,8 @@ impl<K, V, L: LruList, const TYPE: u8> BucketArray<K, V, L, TYPE> {
 
     /// Calls a function with each live pair of a bucket, in slot order.
     ///
-    /// O(live slots), but O(32, and the square of the number of blocks of the chain) if the digest is
-    /// lost, and the function's calls. Own.
+    /// O(live slots), but O(32, and the square of the number of blocks of the chain) if the digest
+    /// is lost, and the function's calls. Own.
     #[inline(always)]
     pub fn for_each_in<F: FnMut(&K, &V)>(&self, index: usize, f: &mut F)
         requires callable { F.IsAlwaysCallable f.old }

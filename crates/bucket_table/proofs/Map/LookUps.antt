@@ -11,7 +11,7 @@ use Rattle.std.proofs.lemmas.List.Elements.{All-append}
 use Rattle.std.specs.Borrow.{Bor}
 use Rattle.std.specs.Option.{option_or}
 use Rattle.bucket_slots.proofs.Entries.{live_pairs-all_free}
-use Rattle.bucket_slots.proofs.SearchCallerLemmas.{found_pair, none_wanted_is, wanted_is}
+use Rattle.bucket_slots.proofs.SearchedPairs.{found_pair, none_wanted_is, wanted_is}
 use Rattle.bucket_slots.specs.BucketView.{pair_at}
 use Rattle.bucket_slots.specs.Places.{pair_lent}
 use Rattle.bucket_slots.specs.Searching.{pair_wanted, place_wanted}

@@ -11,10 +11,10 @@ use Rattle.bucket_table.proofs.Words.{ℕ, ◌%◌, ◌++◌, ◌<◌, ◌∙◌
 use Rattle.std.proofs.Common.{OnSome}
 use Rattle.std.proofs.lemmas.List.{set-set}
 use Rattle.std.proofs.lemmas.Map.Keys.{IsDistinct-cons, IsDistinct-tail}
-use Rattle.bucket_slots.proofs.CallerLemmas.{entries_in-slots_evicted, entries_in-slots_without, rewritten}
-use Rattle.bucket_slots.proofs.MarkCallerLemmas.{entries_in-slots_after_insertion, entries_in-slots_marked}
-use Rattle.bucket_slots.proofs.RoomCallerLemmas.{killed-bucket_with_value, killed-slots_after_insertion, killed-slots_marked}
-use Rattle.bucket_slots.proofs.RoomCallerLemmas.{killed-slots_without}
+use Rattle.bucket_slots.proofs.MarksAfter.{entries_in-slots_after_insertion, entries_in-slots_marked}
+use Rattle.bucket_slots.proofs.PairsAfter.{entries_in-slots_evicted, entries_in-slots_without, rewritten}
+use Rattle.bucket_slots.proofs.RoomAfter.{killed-bucket_with_value, killed-slots_after_insertion, killed-slots_marked}
+use Rattle.bucket_slots.proofs.RoomAfter.{killed-slots_without}
 use Rattle.bucket_slots.specs.Evicting.{slot_to_evict, slots_evicted}
 use Rattle.bucket_table.specs.Views.LockedLaws.{locked_change}
 use Rattle.bucket_table.specs.Map.MapState.{AddsPair, ChangesValue, TakesPair, state_of}

@@ -7,7 +7,7 @@ use Rattle.std.proofs.lemmas.Bool.{ne_eqb, or_from, or_parts}
 use Rattle.std.proofs.lemmas.List.{take_more}
 use Rattle.std.proofs.lemmas.List.Concat.{flat_map-append}
 use Rattle.std.proofs.lemmas.List.Folds.{list_any-append}
-use Rattle.bucket_slots.proofs.RecencyCallerLemmas.{next_is_new}
+use Rattle.bucket_slots.proofs.PlacedSlots.{next_is_new}
 use Rattle.bucket_slots.specs.Evicting.{slots_appended}
 use Rattle.bucket_slots.specs.Recency.{IsRecencyOrder}
 use Rattle.bucket_table.specs.Layout.Landings.{AreListable, IsListable, ListsArrivals, arrivals, slot_there}

@@ -11,7 +11,7 @@ use Rattle.std.proofs.lemmas.Bool.{eqb-true}
 use Rattle.std.proofs.lemmas.List.{get_or_default}
 use Rattle.std.proofs.lemmas.List.Elements.{filter_map-append}
 use Rattle.std.specs.List.{filter}
-use Rattle.bucket_slots.proofs.RecencyCallerLemmas.{listed_below}
+use Rattle.bucket_slots.proofs.PlacedSlots.{listed_below}
 use Rattle.bucket_slots.specs.Evicting.{slots_unlisted}
 use Rattle.bucket_slots.specs.Recency.{order_and_zeros}
 use Rattle.bucket_table.specs.Layout.Landings.{CarriesRecency, HasLanded, HaveLanded, ListsArrivals, arrivals, carried_to, is_own_of}

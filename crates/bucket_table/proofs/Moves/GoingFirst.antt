@@ -12,8 +12,8 @@ use Rattle.std.specs.List.{position}
 use Rattle.std.specs.Option.{option_or}
 use Rattle.std.specs.Prelude.{option_map, unwrap_or}
 use Rattle.bucket_slots.proofs.BucketPlacing.{place_made, same_made}
+use Rattle.bucket_slots.proofs.PlacedSlots.{chain_put, own-slots_vacated, own_put, was_free}
 use Rattle.bucket_slots.proofs.Positions.{position-None}
-use Rattle.bucket_slots.proofs.RecencyCallerLemmas.{chain_put, own-slots_vacated, own_put, was_free}
 use Rattle.bucket_slots.specs.BucketView.{block_at, first_from, first_place, row_at}
 use Rattle.bucket_slots.specs.Moving.{slots_vacated_at}
 use Rattle.bucket_slots.specs.Placing.{place_for_next, slots_with, with_place_made}

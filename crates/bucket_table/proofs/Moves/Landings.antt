@@ -6,8 +6,8 @@ use Rattle.bucket_table.proofs.Words.{pairs_in-slots_vacated, refl, replicate, s
 use Rattle.bucket_table.proofs.Words.{zero, ℕ, ◌%◌, ◌<◌, ◌∙◌, ◌≡◌, ◌⊎◌}
 use Rattle.std.proofs.lemmas.Bool.{ne_eqb}
 use Rattle.std.proofs.lemmas.List.{get_or-set_other, set_past}
-use Rattle.bucket_slots.proofs.RecencyCallerLemmas.{chain_kept, chain_put, free_unlisted, listed-slots_with, listed_pairs-slots_with}
-use Rattle.bucket_slots.proofs.RecencyCallerLemmas.{own-slots_vacated, own_kept, own_put, own_vacated, was_free}
+use Rattle.bucket_slots.proofs.PlacedSlots.{chain_kept, chain_put, free_unlisted, listed-slots_with, listed_pairs-slots_with}
+use Rattle.bucket_slots.proofs.PlacedSlots.{own-slots_vacated, own_kept, own_put, own_vacated, was_free}
 use Rattle.bucket_slots.specs.BucketView.{first_place}
 use Rattle.bucket_slots.specs.Placing.{place_for_next, slots_with}
 use Rattle.bucket_table.specs.Layout.Landings.{AreListable, HaveLanded, IsListable, StandsInChain, landings_with}

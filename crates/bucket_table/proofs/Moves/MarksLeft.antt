@@ -7,8 +7,8 @@ use Rattle.std.proofs.lemmas.Bool.Decides.{nat_tests}
 use Rattle.std.proofs.lemmas.List.Elements.{filter_map-append}
 use Rattle.std.specs.Prelude.{filter_map, flat_map, if◌then◌else◌}
 use Rattle.std.specs.List.{cons_option}
-use Rattle.bucket_slots.proofs.CallerLemmas.{live_is}
 use Rattle.bucket_slots.proofs.Entries.{filter_map-chain, filter_map-flattened}
+use Rattle.bucket_slots.proofs.PairsAfter.{live_is}
 use Rattle.bucket_slots.specs.BucketView.{block_at, row_at, rows_with}
 use Rattle.bucket_slots.specs.Moving.{slots_killed, slots_vacated_at}
 use Rattle.bucket_slots.specs.Slots.{free, is_marked, marked, live, marked_entries, marked_entry, marked_len, slot_at}

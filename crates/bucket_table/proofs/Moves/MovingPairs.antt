@@ -9,9 +9,9 @@ use Rattle.bucket_table.proofs.Words.{pairs_ahead, pairs_in, pairs_in-slots_vaca
 use Rattle.bucket_table.proofs.Words.{sum_by-cons, sym, true, ℕ, ◌%◌, ◌++◌, ◌+◌, ◌<◌, ◌==◌, ◌∙◌, ◌∷◌, ◌≡◌, ◌≤◌}
 use Rattle.std.proofs.lemmas.Bool.Decides.{nat_tests}
 use Rattle.std.proofs.lemmas.List.Sorted.{sum_by-IsPermutation}
-use Rattle.bucket_slots.proofs.CallerLemmas.{entries_in-slots_vacated, entries_in-slots_with}
-use Rattle.bucket_slots.proofs.MarkCallerLemmas.{marks_in-slots_with, no_new-append, no_new-same}
-use Rattle.bucket_slots.proofs.RoomCallerLemmas.{free_len_in-none, free_len_in-slots_with, killed-slots_vacated, killed-slots_with}
+use Rattle.bucket_slots.proofs.MarksAfter.{marks_in-slots_with, no_new-append, no_new-same}
+use Rattle.bucket_slots.proofs.PairsAfter.{entries_in-slots_vacated, entries_in-slots_with}
+use Rattle.bucket_slots.proofs.RoomAfter.{free_len_in-none, free_len_in-slots_with, killed-slots_vacated, killed-slots_with}
 use Rattle.bucket_slots.specs.BucketView.{first_place}
 use Rattle.bucket_slots.specs.Placing.{slots_with}
 use Rattle.bucket_slots.specs.Reserving.{free_len_in}

@@ -8,9 +8,9 @@ use Rattle.bucket_table.proofs.Words.{interval_width, length, map-entries_in, ma
 use Rattle.bucket_table.proofs.Words.{set, subst, sym, true, true≢false, ℕ, ◌++◌, ◌/◌, ◌<◌, ◌↔◌, ◌∙◌, ◌≡◌, ◌≤◌}
 use Rattle.std.proofs.Common.{append_assoc}
 use Rattle.std.proofs.lemmas.List.{set-get_or}
-use Rattle.bucket_slots.proofs.ArrayCallerLemmas.{one_source}
-use Rattle.bucket_slots.proofs.MarkCallerLemmas.{marks_in-slots_killed}
-use Rattle.bucket_slots.proofs.RoomCallerLemmas.{pairs_in-slots_killed}
+use Rattle.bucket_slots.proofs.ArrayNumbers.{one_source}
+use Rattle.bucket_slots.proofs.MarksAfter.{marks_in-slots_killed}
+use Rattle.bucket_slots.proofs.RoomAfter.{pairs_in-slots_killed}
 use Rattle.bucket_slots.specs.Moving.{slots_killed}
 use Rattle.bucket_table.specs.Layout.Moving.{CanMoveInto, HasOwnByte}
 use Rattle.bucket_table.specs.Rehash.Relocation.{HasRoomFor, IsRelocated, KeepsOthers}

@@ -7,9 +7,9 @@ use Rattle.std.proofs.Common.{append_assoc}
 use Rattle.std.proofs.lemmas.List.{get_or-replicate, get_or-take, length-replicate, length-take}
 use Rattle.std.proofs.lemmas.List.Folds.{list_all-append}
 use Rattle.std.proofs.lemmas.List.Sums.{count_by-le-length, sum_by-append}
-use Rattle.bucket_slots.proofs.CallerLemmas.{entries_in-with_free_blocks, flattened-append, tally}
-use Rattle.bucket_slots.proofs.MarkCallerLemmas.{marks_in-with_free_blocks}
-use Rattle.bucket_slots.proofs.RoomCallerLemmas.{free_len_in-with_free_blocks}
+use Rattle.bucket_slots.proofs.MarksAfter.{marks_in-with_free_blocks}
+use Rattle.bucket_slots.proofs.PairsAfter.{entries_in-with_free_blocks, flattened-append, tally}
+use Rattle.bucket_slots.proofs.RoomAfter.{free_len_in-with_free_blocks}
 use Rattle.bucket_slots.specs.Placing.{free_block}
 use Rattle.bucket_slots.specs.Reserving.{free_len_in, with_free_blocks}
 use Rattle.bucket_slots.specs.Slots.{all_free, free_len}

@@ -1,8 +1,8 @@
 -- A walk that vacates each slot it comes to.
 use Rattle.bucket_table.proofs.Words.{BucketView, IsBucketOf, Place, Some, ap, arith, entries_in, length, length_permutation}
 use Rattle.bucket_table.proofs.Words.{live_from_pair, live_pair, pairs_ahead, slot_in, slots_vacated, ℕ, ◌<◌, ◌∷◌, ◌≡◌}
-use Rattle.bucket_slots.proofs.CallerLemmas.{entries_in-slots_vacated}
-use Rattle.bucket_slots.proofs.RoomCallerLemmas.{pairs_ahead-slots_vacated}
+use Rattle.bucket_slots.proofs.PairsAfter.{entries_in-slots_vacated}
+use Rattle.bucket_slots.proofs.RoomAfter.{pairs_ahead-slots_vacated}
 
 module _ {K V : Type 0} where
   -- as many pairs are left as are ahead of the pointer

@@ -3,7 +3,7 @@ use Rattle.bucket_table.proofs.Words.{All, All-head, All-permutation, BucketView
 use Rattle.bucket_table.proofs.Words.{entries_in, home_of, live_pair, pair_of, pairs_in, pairs_in-slots_vacated, slot_in, slots_vacated}
 use Rattle.bucket_table.proofs.Words.{sym, ℕ, ◌%◌, ◌+◌, ◌∙◌, ◌≡◌, ◌≤◌}
 use Rattle.std.specs.Option.{option_map}
-use Rattle.bucket_slots.proofs.CallerLemmas.{entries_in-slots_vacated_at, live_is}
+use Rattle.bucket_slots.proofs.PairsAfter.{entries_in-slots_vacated_at, live_is}
 use Rattle.bucket_slots.specs.Slots.{byte_of}
 use Rattle.bucket_table.specs.Rehash.Relocation.{IsWay}
 use Rattle.bucket_table.proofs.Moves.HomesByDivision.{home_is}

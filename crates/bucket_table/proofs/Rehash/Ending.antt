@@ -3,7 +3,7 @@ use Rattle.bucket_table.proofs.Words.{All, ArePlaced, ArraysView, Bool, BucketVi
 use Rattle.bucket_table.proofs.Words.{List, LosesNoUnit, None, Ok, Option, Result, Some, Starts, TicketState, [], ap, arith, entries_of}
 use Rattle.bucket_table.proofs.Words.{false, first_tickets, killed_flags, length, length_permutation, marks_among, marks_of, no_new-refl}
 use Rattle.bucket_table.proofs.Words.{bucket_at, listed_pairs, pairs_in, refl, subst, suc, sym, true, zero, ℕ, ◌*◌, ◌/◌, ◌↔◌, ◌∷◌, ◌≡◌}
-use Rattle.bucket_slots.proofs.MarkCallerLemmas.{no_new-append, no_new-none}
+use Rattle.bucket_slots.proofs.MarksAfter.{no_new-append, no_new-none}
 use Rattle.bucket_table.specs.Rehash.Covered.{AreAllKilled, IsUnitKilled}
 use Rattle.bucket_table.specs.Rehash.Carrying.{CarriesOrder, chained_pairs}
 use Rattle.bucket_table.specs.declared.tickets.TicketError.{TicketError}

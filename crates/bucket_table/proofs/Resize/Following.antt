@@ -4,7 +4,7 @@ use Rattle.bucket_table.proofs.Words.{IsPermutation-refl, IsVacant, Keeps, List,
 use Rattle.bucket_table.proofs.Words.{empty_bucket, entries_among, false, false≢true, first_tickets, get_or, inl, length, marks_among}
 use Rattle.bucket_table.proofs.Words.{nil_from_length, pairs_in, refl, replicate, suc, sym, true, zero, ℕ, ◌<◌, ◌∙◌, ◌∷◌, ◌≡◌}
 use Rattle.std.proofs.lemmas.List.{get_or-replicate}
-use Rattle.bucket_slots.proofs.MarkCallerLemmas.{no_new-front, no_new-rest}
+use Rattle.bucket_slots.proofs.MarksAfter.{no_new-front, no_new-rest}
 use Rattle.bucket_table.specs.Resize.Resizing.{IsGivenUp, IsMade, IsPushed}
 use Rattle.bucket_table.proofs.Views.Killed.{length-killed_flags}
 

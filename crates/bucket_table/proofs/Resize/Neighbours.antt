@@ -3,7 +3,7 @@ use Rattle.bucket_table.proofs.Words.{BucketView, List, arith, counted, length, 
 use Rattle.bucket_table.proofs.Words.{◌^◌, ◌≡◌, ◌≤◌}
 use Rattle.std.proofs.Common.{◌↔◌}
 use Rattle.std.proofs.Math.Nat.{mod-lt}
-use Rattle.bucket_slots.proofs.ArrayCallerLemmas.{small_is_one, small_within}
+use Rattle.bucket_slots.proofs.ArrayNumbers.{small_is_one, small_within}
 use Rattle.bucket_slots.specs.Sampling.{IsSmallSample}
 use Rattle.bucket_slots.specs.Sizing.{IsTooEmpty, IsTooFull}
 use Rattle.bucket_table.specs.Resize.Sampling.{IsCrowded, IsDeserted}

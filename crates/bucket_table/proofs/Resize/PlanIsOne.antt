@@ -1,7 +1,7 @@
 -- There is one plan for an array.
 use Rattle.bucket_table.proofs.Words.{All, All-cons, All-head, All-tail, IsOptimalCapacity, List, [], ap, arith, cases_eq, cases_lt, inl}
 use Rattle.bucket_table.proofs.Words.{inr, length, refl, slots_of, subst, sym, ℕ, ⊎_elim, ◌*◌, ◌/◌, ◌<◌, ◌∙◌, ◌∷◌, ◌≡◌, ◌≤◌, ◌⊎◌}
-use Rattle.bucket_slots.proofs.ArrayCallerLemmas.{large_is_one, optimal_is_one}
+use Rattle.bucket_slots.proofs.ArrayNumbers.{large_is_one, optimal_is_one}
 use Rattle.bucket_table.specs.Resize.ResizePlan.{IsPlan, IsPlanTo, first_estimate, last_estimate, middle_estimate}
 use Rattle.bucket_table.specs.declared.arrays.plan.Plan.{Plan}
 

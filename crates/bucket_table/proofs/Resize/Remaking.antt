@@ -4,7 +4,7 @@ use Rattle.bucket_table.proofs.Words.{Result, TicketState, [], ap, arith, first_
 use Rattle.std.proofs.Common.{max}
 use Rattle.std.specs.Prelude.{IsErr, OnErr}
 use Rattle.bucket_slots.specs.Sizing.{IsLengthFor}
-use Rattle.bucket_slots.proofs.ArrayCallerLemmas.{least_is_one}
+use Rattle.bucket_slots.proofs.ArrayNumbers.{least_is_one}
 use Rattle.bucket_table.specs.Map.MapState.{state_of}
 use Rattle.bucket_table.specs.Rehash.Carrying.{CarriesOrder}
 use Rattle.bucket_table.specs.Rehash.State.{IsTicketState}

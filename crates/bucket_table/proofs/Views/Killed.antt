@@ -2,7 +2,7 @@
 use Rattle.bucket_table.proofs.Words.{All, BucketView, List, [], ap, arith, bucket_at, empty_bucket, entries_among, entries_in, false}
 use Rattle.bucket_table.proofs.Words.{get_or, get_or-map, killed_flags, length, length-map, live_counts, map, nil_from_length, pairs_in}
 use Rattle.bucket_table.proofs.Words.{refl, suc, true, ℕ, ◌<◌, ◌∙◌, ◌∷◌, ◌≡◌}
-use Rattle.bucket_slots.proofs.CallerLemmas.{map-entries_in}
+use Rattle.bucket_slots.proofs.PairsAfter.{map-entries_in}
 use Rattle.bucket_table.specs.Rehash.Covered.{AreAllKilled}
 
 module _ {K V : Type 0} where

@@ -3,7 +3,7 @@ use Rattle.bucket_table.proofs.Words.{All, AreArrays, ArraysView, BucketView, Is
 use Rattle.bucket_table.proofs.Words.{cases_lt, first_tickets, inl, inr, length, refl, ℕ, ◌*◌, ◌<◌, ◌∙◌, ◌∷◌, ◌≡◌, ◌≤◌}
 use Rattle.bucket_table.specs.Rehash.Finishing.{IsUnopened}
 use Rattle.bucket_table.specs.Rehash.State.{IsTicketState}
-use Rattle.bucket_slots.proofs.ArrayCallerLemmas.{len_fits}
+use Rattle.bucket_slots.proofs.ArrayNumbers.{len_fits}
 
 module _ {K V : Type 0} (capacity minimum maximum : ℕ) (current linked fresh next : List (BucketView K V))
     (tickets after : TicketState) where

@@ -9,8 +9,8 @@ use Rattle.bucket_table.proofs.Words.{rotated, set, slot_in, slots_without, subs
 use Rattle.std.proofs.Common.{get_or-set_same}
 use Rattle.std.proofs.lemmas.List.{set-get_or}
 use Rattle.std.proofs.lemmas.List.Elements.{All-append, All-set}
-use Rattle.bucket_slots.proofs.CallerLemmas.{pairs_in-slots_without}
 use Rattle.bucket_slots.proofs.Entries.{live_pairs-all_free, regrouped}
+use Rattle.bucket_slots.proofs.PairsAfter.{pairs_in-slots_without}
 use Rattle.bucket_table.proofs.Moves.Exchanges.{exchanged}
 use Rattle.bucket_table.proofs.Views.Killed.{get_or-killed_flags}
 use Rattle.bucket_table.proofs.Views.LockedLaw.{law_after_change}

@@ -5,10 +5,10 @@ use Rattle.bucket_table.proofs.Words.{append_assoc, bucket_at, bucket_with_value
 use Rattle.bucket_table.proofs.Words.{false, get_or-set_other, get_or-set_same, if◌then◌else◌, inl, inr, is_live, length, length-set}
 use Rattle.bucket_table.proofs.Words.{live_from_pair, live_pair, marks_in, no_new-refl, refl, set, slot_in, slots_marked, slots_without}
 use Rattle.bucket_table.proofs.Words.{subst, sym, true, ℕ, ◌++◌, ◌<◌, ◌==◌, ◌∙◌, ◌∷◌, ◌≡◌}
-use Rattle.bucket_slots.proofs.CallerLemmas.{entries_in-slots_without, rewritten}
-use Rattle.bucket_slots.proofs.MarkCallerLemmas.{by-one, entries_in-slots_marked, marks_in-bucket_with_value, marks_in-slots_marked}
-use Rattle.bucket_slots.proofs.MarkCallerLemmas.{marks_in-slots_without}
-use Rattle.bucket_slots.proofs.RoomCallerLemmas.{killed-bucket_with_value, killed-slots_marked, killed-slots_without}
+use Rattle.bucket_slots.proofs.MarksAfter.{by-one, entries_in-slots_marked, marks_in-bucket_with_value, marks_in-slots_marked}
+use Rattle.bucket_slots.proofs.MarksAfter.{marks_in-slots_without}
+use Rattle.bucket_slots.proofs.PairsAfter.{entries_in-slots_without, rewritten}
+use Rattle.bucket_slots.proofs.RoomAfter.{killed-bucket_with_value, killed-slots_marked, killed-slots_without}
 use Rattle.bucket_slots.specs.declared.bucket.TheConstants.{INDEX}
 use Rattle.bucket_table.specs.Walking.Retains.{AreLeftOf, ChangesPairs, IsLeftOf, LosesKeys, slots_taken}
 use Rattle.bucket_table.specs.Walking.Walks.{keys_in}

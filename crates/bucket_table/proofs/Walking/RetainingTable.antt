@@ -9,7 +9,7 @@ use Rattle.std.specs.Borrow.{Bor, MutBor}
 use Rattle.std.proofs.Common.{drop, drop-drop, drop-set-lt, get_or-drop}
 use Rattle.std.proofs.lemmas.List.{get_or-append-add, get_or_append_left, get_or_past, take_all, take_more, take_more_set}
 use Rattle.std.proofs.lemmas.List.Concat.{flat_map-append}
-use Rattle.bucket_slots.proofs.MarkCallerLemmas.{by-append}
+use Rattle.bucket_slots.proofs.MarksAfter.{by-append}
 use Rattle.bucket_table.specs.Rehash.Relocation.{marks_among}
 use Rattle.bucket_table.specs.Map.LookingUp.{pairs_in_all}
 use Rattle.bucket_table.specs.Walking.Extracting.{KeepsShape}

@@ -61,11 +61,13 @@ pub record AreListable {K V : Type 0} (landings : List (Option Landing)) (bucket
 
 -- the pairs of a bucket's own slots have landed as a table says, and those of which it says nothing in a chain, as far as the table goes,
 -- all before those of the bucket's chain; no other pair has moved, and no list has changed
-pub record HaveLanded {K V : Type 0} (hash : K → ℕ) (source : BucketView K V) (current new_current : List (BucketView K V)) (landings : List (Option Landing)) : Type 0 where
+pub record HaveLanded {K V : Type 0} (hash : K → ℕ) (source : BucketView K V) (current new_current : List (BucketView K V))
+    (landings : List (Option Landing)) : Type 0 where
   pub table : AreListable landings new_current
   pub same_pair : (slot : ℕ) (at : Landing) → landing_of landings slot ≡ Some at
       → live_pair (slot_at (bucket_at new_current at.home).own at.slot) ≡ live_pair (slot_at source.own slot)
-  pub homed : (slot : ℕ) (at : Landing) → landing_of landings slot ≡ Some at → homed_len hash (length current) at.home (pairs_in source) ≡ 0 → ⊥
+  pub homed : (slot : ℕ) (at : Landing) → landing_of landings slot ≡ Some at
+      → homed_len hash (length current) at.home (pairs_in source) ≡ 0 → ⊥
   pub in_chain : (slot : ℕ) (pair : K × V) → slot < length landings → live_pair (slot_at source.own slot) ≡ Some pair
       → landing_of landings slot ≡ None → (j : ℕ) × StandsInChain (bucket_at new_current j) pair
   pub first : (pair other : K × V) → Contains (live_pairs source.own) pair → StandsInChain source other → WentFirst new_current pair other
@@ -81,7 +83,8 @@ abbrev pub arrivals : List (Option Landing) → ℕ → List ℕ → List ℕ
 arrivals landings j order = flat_map (λ slot. slot_there j (landing_of landings slot)) order
 
 -- each bucket lists the slots in which an order's pairs landed behind its own ones, and nothing else has changed
-pub record ListsArrivals {K V : Type 0} (landings : List (Option Landing)) (order : List ℕ) (current new_current : List (BucketView K V)) : Type 0 where
+pub record ListsArrivals {K V : Type 0} (landings : List (Option Landing)) (order : List ℕ)
+    (current new_current : List (BucketView K V)) : Type 0 where
   pub len : length new_current ≡ length current
   pub each : (j : ℕ) → bucket_at new_current j
       ≡ record (bucket_at current j) { listed = (bucket_at current j).listed ++ arrivals landings j order }

@@ -134,7 +134,8 @@ InsertsAt kind keeps pair byte old (Ok done) (Ok found) new =
     new ≡ with_bucket old found.0 found.1 (slots_after_insertion kind keeps (bucket_on old.arrays found.0 found.1) pair byte)
 InsertsAt kind keeps pair byte old (Ok done) (Err refused) new = ⊥
 InsertsAt kind keeps pair byte old (Err (Present k v)) answer new = new ≡ old
-InsertsAt kind keeps pair byte old (Err (Memory k v)) (Ok found) new = HasNoSlot kind keeps (bucket_on old.arrays found.0 found.1) × (new ≡ old)
+InsertsAt kind keeps pair byte old (Err (Memory k v)) (Ok found) new =
+    HasNoSlot kind keeps (bucket_on old.arrays found.0 found.1) × (new ≡ old)
 InsertsAt kind keeps pair byte old (Err (Memory k v)) (Err refused) new = new ≡ old
 
 -- the same, and where the key was found its pair's value is another one, also where no bucket was found for a writer
@@ -145,5 +146,6 @@ UpsertsAt eq kind keeps key value byte old (Ok None) (Ok found) new =
 UpsertsAt eq kind keeps key value byte old (Ok None) (Err refused) new = ⊥
 UpsertsAt eq kind keeps key value byte old (Ok (Some earlier)) answer new =
     ChangesAt (λ own. eq own key) (λ bucket at. bucket_with_value bucket at value) true old new
-UpsertsAt eq kind keeps key value byte old (Err back) (Ok found) new = HasNoSlot kind keeps (bucket_on old.arrays found.0 found.1) × (new ≡ old)
+UpsertsAt eq kind keeps key value byte old (Err back) (Ok found) new =
+    HasNoSlot kind keeps (bucket_on old.arrays found.0 found.1) × (new ≡ old)
 UpsertsAt eq kind keeps key value byte old (Err back) (Err refused) new = new ≡ old

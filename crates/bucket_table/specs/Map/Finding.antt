@@ -37,7 +37,8 @@ pub record FindsNone {K V : Type 0} (hash : ℕ) (old new : ArraysView K V) : Ty
   pub home : 0 < length new.current → HomeWantsMemory hash old new
 
 -- a hash's home in the array of its side is found for a writer, and may be locked; the map, the tombstones and the open tickets stay
-pub record FindsBucket {K V H : Type 0} (kind hash : ℕ) (old : TableView K V H) (side : Side) (index : ℕ) (new : TableView K V H) : Type 0 where
+pub record FindsBucket {K V H : Type 0} (kind hash : ℕ) (old : TableView K V H) (side : Side) (index : ℕ)
+    (new : TableView K V H) : Type 0 where
   pub map : KeepsPairs (state_of kind old) (state_of kind new)
   pub kept : Keeps old.arrays new.arrays
   pub home : IsHome (length (buckets_on new.arrays side)) hash index
@@ -50,7 +51,8 @@ Finds kind hash old (Ok found) new = FindsBucket kind hash old found.0 found.1 n
 Finds kind hash old (Err refused) new = IsRefused kind hash old new
 
 -- a writer's bucket is looked for, and then this is done
-pub record FindsThen {K V H : Type 0} (kind hash : ℕ) (old : TableView K V H) (Then : Result (Side × ℕ) (Unit {0}) → TableView K V H → Type 0) : Type 0 where
+pub record FindsThen {K V H : Type 0} (kind hash : ℕ) (old : TableView K V H)
+    (Then : Result (Side × ℕ) (Unit {0}) → TableView K V H → Type 0) : Type 0 where
   pub answer : Result (Side × ℕ) (Unit {0})
   pub between : TableView K V H
   pub found : Finds kind hash old answer between

@@ -1,5 +1,6 @@
 -- What a put does to a cache: a pair is inserted if its key is absent, and if its home has no free own slot another one is evicted.
-use Rattle.std.specs.Prelude.{ℕ, ◌≡◌, ◌⊎◌, Bool, Option, Some, None, Result, Ok, Err, List, ◌∷◌, if◌then◌else◌, is_some, length, slice_set, unwrap_or}
+use Rattle.std.specs.Prelude.{ℕ, ◌≡◌, ◌⊎◌, Bool, Option, Some, None, Result, Ok, Err, List}
+use Rattle.std.specs.Prelude.{◌∷◌, if◌then◌else◌, is_some, length, slice_set, unwrap_or}
 use Rattle.std.specs.List.{Contains, position}
 use Rattle.std.specs.List.Sorted.{IsPermutation}
 use Rattle.bucket_slots.specs.BucketView.{BucketView, Place}
@@ -67,7 +68,8 @@ module _ {K V : Type 0} where
 -- home isn't ready: then all stays
 abbrev pub EvictsAt : {K V H E : Type 0} → ℕ → TableView K V H → Result (Option (K × V)) E → TableView K V H → Type 0
 EvictsAt hash old (Ok gone) new = ((length old.arrays.current ≡ 0) × (gone ≡ None) × (new ≡ old))
-    ⊎ (IsReady old.arrays hash × (index : ℕ) × IsHome (length old.arrays.current) hash index × Goes (bucket_on old.arrays Current index) gone
+    ⊎ (IsReady old.arrays hash × (index : ℕ) × IsHome (length old.arrays.current) hash index
+    × Goes (bucket_on old.arrays Current index) gone
     × (new ≡ with_bucket old Current index (slots_left (bucket_on old.arrays Current index) gone)))
 EvictsAt hash old (Err refused) new = (IsReady old.arrays hash → ⊥) × (new ≡ old)
 

@@ -13,14 +13,16 @@ use Rattle.bucket_table.specs.Views.Sides.{arrays_with, bucket_on, buckets_on}
 use Rattle.bucket_table.specs.declared.arrays.side.Side.{Side}
 
 -- the pair of a live slot, whose key is wanted, is taken out, and where no live pair is left in the bucket the arrays may shrink
-pub record TakesFrom {K V : Type 0} (wants : K → Bool) (side : Side) (old : ArraysView K V) (pair : K × V) (new : ArraysView K V) : Type 0 where
+pub record TakesFrom {K V : Type 0} (wants : K → Bool) (side : Side) (old : ArraysView K V) (pair : K × V)
+    (new : ArraysView K V) : Type 0 where
   pub index : ℕ
   pub at : Place
   pub stands : StandsAt wants old side index at
   pub taken : live_pair (slot_in (bucket_on old side index) at) ≡ Some pair
   pub asked : RemovesAndShrinks old side index (slots_without (bucket_on old side index) at) new
   pub kept : Keeps (arrays_with old side index (slots_without (bucket_on old side index) at)) new
-  pub placed : (hash : K → ℕ) → ArePlaced hash (arrays_with old side index (slots_without (bucket_on old side index) at)) → ArePlaced hash new
+  pub placed : (hash : K → ℕ) → ArePlaced hash (arrays_with old side index (slots_without (bucket_on old side index) at))
+      → ArePlaced hash new
 
 -- a wanted pair is taken out of the home on one side; there is no answer exactly where that home has none, and all stays
 abbrev pub TakesOn : {K V : Type 0} → (K → Bool) → ℕ → Side → ArraysView K V → Option (K × V) → ArraysView K V → Type 0

@@ -46,7 +46,8 @@ HasRoomFor hash buckets pairs =
 
 -- pairs move from a bucket into an array: none is lost and none is new, only homes of the bucket's pairs change, the bucket's tombstones
 -- stay, and no tombstone is new
-pub record MovesInto {K V : Type 0} (hash : K → ℕ) (bucket : BucketView K V) (buckets : List (BucketView K V)) (left : BucketView K V) (after : List (BucketView K V)) : Type 0 where
+pub record MovesInto {K V : Type 0} (hash : K → ℕ) (bucket : BucketView K V) (buckets : List (BucketView K V))
+    (left : BucketView K V) (after : List (BucketView K V)) : Type 0 where
   pub entries : IsPermutation (entries_in bucket ++ entries_among buckets) (entries_in left ++ entries_among after)
   pub len : length after ≡ length buckets
   pub fewer : (i : ℕ) → homed_len hash (length buckets) i (pairs_in left) ≤ homed_len hash (length buckets) i (pairs_in bucket)
@@ -68,8 +69,8 @@ pub record AreTwoArrays {K V : Type 0} (hash : K → ℕ) (current linked : List
   pub alive : (j : ℕ) → j < length current → (bucket_at current j).killed ≡ false
   pub killed_empty : (i : ℕ) → i < length linked → (bucket_at linked i).killed ≡ true → pairs_in (bucket_at linked i) ≡ []
   pub empty_targets : length linked ≤ length current
-      → (i j : ℕ) → i < length linked → j < length current → (bucket_at linked i).killed ≡ false → Meets (length linked) i (length current) j
-      → IsVacant (bucket_at current j)
+      → (i j : ℕ) → i < length linked → j < length current → (bucket_at linked i).killed ≡ false
+      → Meets (length linked) i (length current) j → IsVacant (bucket_at current j)
 
 -- old bucket `index` was moved: it is killed, without a pair, and has its tombstones; its pairs are among the current ones, no tombstone
 -- is new, and nothing else has changed; one that was killed already stays

@@ -34,4 +34,5 @@ abbrev pub Ends : TicketState → ℕ → Bool → Type 0 → Result Bool Ticket
 Ends before ticket success Done (Err NotOpen) after = (IsOpen before ticket → ⊥) × (after ≡ before)
 Ends before ticket success Done (Err NotDone) after = IsOpen before ticket × (success ≡ true) × (Done → ⊥) × (after ≡ before)
 Ends before ticket success Done (Ok gone) after =
-    (unit : ℕ) × (ticket ≡ 2048 * unit) × (success ≡ true → Done) × Closes before unit success after × (IsTrue gone ↔ ((success ≡ true) × IsOver after))
+    (unit : ℕ) × (ticket ≡ 2048 * unit) × (success ≡ true → Done) × Closes before unit success after
+    × (IsTrue gone ↔ ((success ≡ true) × IsOver after))

@@ -26,7 +26,8 @@ pub record CarriesOrderTo {K V : Type 0} (capacity : ℕ) (old new : ArraysView 
 -- all pairs move to one array for a capacity, in which they are unless allocation fails; no ticket is open any more, and where one array of
 -- that length was alone nothing changes; the current array has its length or that one, and where it had that one, memory is needed for an
 -- old bucket alone
-pub record RehashesTo {K V E : Type 0} (capacity : ℕ) (old : ArraysView K V) (answer : Result (Unit {0}) E) (new : ArraysView K V) : Type 0 where
+pub record RehashesTo {K V E : Type 0} (capacity : ℕ) (old : ArraysView K V) (answer : Result (Unit {0}) E)
+    (new : ArraysView K V) : Type 0 where
   pub kept : Keeps (unopened old) new
   pub none_open : new.tickets.open_units ≡ []
   pub order : CarriesOrderTo capacity old new

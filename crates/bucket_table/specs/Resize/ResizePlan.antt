@@ -27,7 +27,8 @@ middle_estimate counts = estimate counts ((length counts - full_sample (length c
 pub record IsPlanTo (slots capacity : ℕ) (IsAskedAtFirst : ℕ → Type 0) (plan : Plan) : Type 0 where
   pub unchanged : capacity ≡ slots → plan ≡ Keep
   pub greater : slots < capacity → plan ≡ Resize capacity
-  pub less : capacity < slots → (asked : ℕ) × IsAskedAtFirst asked × (capacity < asked → plan ≡ Keep) × (asked ≤ capacity → plan ≡ Resize capacity)
+  pub less : capacity < slots → (asked : ℕ) × IsAskedAtFirst asked × (capacity < asked → plan ≡ Keep)
+      × (asked ≤ capacity → plan ≡ Resize capacity)
 
 -- the plan for an array whose buckets have so many live slots, by the last estimate: a table that
 -- may be without an array drops it where all its buckets are empty; a table that is neither too

@@ -16,7 +16,8 @@ pub record Tallies {K V : Type 0} (buckets pairs : ℕ) (lent : BucketView K V) 
 
 -- the bucket's live pairs are taken out, or made tombstones with an epoch, each at its place, and counted; the flag is set where there was
 -- one, and the walk goes on
-pub record Empties {K V : Type 0} (kind epoch count : ℕ) (lent : BucketView K V) (flag more : Bool) (left : BucketView K V) (last : Bool) (count_then : ℕ) : Type 0 where
+pub record Empties {K V : Type 0} (kind epoch count : ℕ) (lent : BucketView K V) (flag more : Bool)
+    (left : BucketView K V) (last : Bool) (count_then : ℕ) : Type 0 where
   pub goes_on : more ≡ true
   pub none_left : pairs_in left ≡ []
   pub alive : left.killed ≡ lent.killed

@@ -35,7 +35,8 @@ module _ {K V : Type 0} where
   TicketStep before Start (Ticket ticket) after = Starts before.tickets (Some ticket) after.tickets × (after.killed ≡ before.killed)
   TicketStep before Start NoTicket after = Starts before.tickets None after.tickets × (after.killed ≡ before.killed)
   TicketStep before Start reply after = ⊥
-  TicketStep before (Work index) Done after = (index < length before.killed) × (after ≡ record before { killed = slice_set before.killed index true })
+  TicketStep before (Work index) Done after =
+      (index < length before.killed) × (after ≡ record before { killed = slice_set before.killed index true })
   TicketStep before (Work index) NoWork after = (length before.killed ≤ index) × (after ≡ before)
   TicketStep before (Work index) Refused after =
       (index < length before.killed) × (slice_index_or before.killed index false ≡ false) × (after ≡ before)

@@ -18,8 +18,9 @@ abbrev pub GetsArray : {K V H E : Type 0} → TableView K V H → Result (Bor (L
 GetsArray old (Ok array) new = (new.arrays.current ≡ array.now) × MakesArray old.arrays new.arrays × (new.hasher ≡ old.hasher)
 GetsArray old (Err refused) new = (length old.arrays.current ≡ 0) × (new ≡ old)
 
-module _ (K V H L TYPE : RattleType) (equal : equals.Ghosts K.Denot) (hashing : key_hash.Ghosts H.Denot K.Denot) (listing : list.Ghosts L.Denot) (fresh : default.Ghosts L.Denot) (table : MutBor (TableView K.Denot V.Denot H.Denot)) where
+module _ (K V H L TYPE : RattleType) (equal : equals.Ghosts K.Denot) (hashing : key_hash.Ghosts H.Denot K.Denot)
+    (listing : list.Ghosts L.Denot) (fresh : default.Ghosts L.Denot) (table : MutBor (TableView K.Denot V.Denot H.Denot)) where
   -- the table ends as a value of which this holds
   abbrev pub EndsAs : (TableView K.Denot V.Denot H.Denot → Type 0) → Fml
-  EndsAs fact =
-      follows_so (table_row K V H L TYPE equal hashing listing fresh) (table_row K V H L TYPE equal hashing listing fresh) table.ghost_name none (λ _ _. Unit {0}) fact
+  EndsAs fact = follows_so (table_row K V H L TYPE equal hashing listing fresh) (table_row K V H L TYPE equal hashing listing fresh)
+      table.ghost_name none (λ _ _. Unit {0}) fact

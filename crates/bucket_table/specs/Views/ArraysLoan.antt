@@ -12,7 +12,8 @@ use Rattle.bucket_table.specs.Walking.Row.{row_with}
 use Rattle.bucket_table.specs.contracts.arrays.Arrays.{the_row}
 use Rattle.bucket_table.specs.declared.arrays.side.Side.{Side}
 
-module _ (K V L TYPE : RattleType) (listing : list.Ghosts L.Denot) (fresh : default.Ghosts L.Denot) (arrays : MutBor (ArraysView K.Denot V.Denot)) where
+module _ (K V L TYPE : RattleType) (listing : list.Ghosts L.Denot) (fresh : default.Ghosts L.Denot)
+    (arrays : MutBor (ArraysView K.Denot V.Denot)) where
   -- that bucket of one side has the last value written through the loan, and nothing else changes
   abbrev pub LendsBucketOn : Side → ℕ → MutBor (BucketView K.Denot V.Denot) → Fml
   LendsBucketOn side index loan =

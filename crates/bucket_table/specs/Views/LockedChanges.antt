@@ -15,24 +15,28 @@ use Rattle.bucket_table.specs.Views.Sides.{bucket_on, with_bucket}
 use Rattle.bucket_table.specs.declared.key_hash.KeyHash as key_hash
 use Rattle.bucket_table.specs.declared.hash_table.locked_bucket.LockedBucket.{LockedBucket}
 
-module _ {K V H L : Type 0} {TYPE : ℕ} {equal : equals.Ghosts K} {hashing : key_hash.Ghosts H K} {listing : list.Ghosts L} {fresh : default.Ghosts L} where
+module _ {K V H L : Type 0} {TYPE : ℕ} {equal : equals.Ghosts K} {hashing : key_hash.Ghosts H K} {listing : list.Ghosts L}
+    {fresh : default.Ghosts L} where
   -- the bucket itself
   abbrev pub bucket_in : LockedBucket K V H L TYPE equal hashing listing fresh → BucketView K V
   bucket_in locked = bucket_on locked.table.now.arrays locked.side locked.index
 
   -- the bucket is changed so, and it is the same bucket of the same table, which changes nowhere else
-  pub record Changes (old new : LockedBucket K V H L TYPE equal hashing listing fresh) (change : BucketView K V → BucketView K V) : Type 0 where
+  pub record Changes (old new : LockedBucket K V H L TYPE equal hashing listing fresh)
+      (change : BucketView K V → BucketView K V) : Type 0 where
     pub same_table : new.table.ghost_name ≡ old.table.ghost_name
     pub same_side : new.side ≡ old.side
     pub same_index : new.index ≡ old.index
     pub table : new.table.now ≡ with_bucket old.table.now old.side old.index (change (bucket_in old))
 
   -- the bucket is changed so, and where that leaves it no live pair the table may shrink by the plan; it is the table that is returned
-  pub record ChangesThenShrinks (old : LockedBucket K V H L TYPE equal hashing listing fresh) (back : MutBor (TableView K V H)) (change : BucketView K V → BucketView K V) : Type 0 where
+  pub record ChangesThenShrinks (old : LockedBucket K V H L TYPE equal hashing listing fresh) (back : MutBor (TableView K V H))
+      (change : BucketView K V → BucketView K V) : Type 0 where
     pub same_table : back.ghost_name ≡ old.table.ghost_name
     pub arrays : RemovesAndShrinks old.table.now.arrays old.side old.index (change (bucket_in old)) back.now.arrays
 
 -- where an inserted pair stands, in the first slot that is free then or made; if it fails, the pair, and no slot was free
 abbrev pub AnswersPlacing : {K V : Type 0} → ℕ → (ℕ → Bool) → K × V → ℕ → BucketView K V → Result Place (K × V) → BucketView K V → Type 0
-AnswersPlacing kind keeps pair byte old (Ok at) new = (at ≡ place_for_next (slots_for_insertion kind keeps old)) × (slot_in new at ≡ live pair byte)
+AnswersPlacing kind keeps pair byte old (Ok at) new =
+    (at ≡ place_for_next (slots_for_insertion kind keeps old)) × (slot_in new at ≡ live pair byte)
 AnswersPlacing kind keeps pair byte old (Err back) new = (back ≡ pair) × HasNoSlot kind keeps old

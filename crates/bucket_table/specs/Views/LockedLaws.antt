@@ -11,8 +11,8 @@ use Rattle.bucket_table.specs.declared.arrays.side.Side.{Side}
 use Rattle.bucket_table.specs.declared.arrays.side.Side.TheVariants.{Current, Old}
 
 module _ {K V : Type 0} where
-  pub locked_change : (a : ArraysView K V) (side : Side) (i : ℕ) (b : BucketView K V) → IsLocked a side i → b.killed ≡ (bucket_at (buckets_on a side) i).killed
-      → IsLocked (arrays_with a side i b) side i
+  pub locked_change : (a : ArraysView K V) (side : Side) (i : ℕ) (b : BucketView K V) → IsLocked a side i
+      → b.killed ≡ (bucket_at (buckets_on a side) i).killed → IsLocked (arrays_with a side i b) side i
   locked_change a Old i b locked same = record {
     within = rw (length-set a.linked i b) locked.within;
     killed = λ e. absurd cc;
@@ -33,4 +33,5 @@ module _ {K V : Type 0} where
   -- another value in it leaves a bucket one that may be locked
   pub locked_with_value_is : (a : ArraysView K V) (side : Side) (i : ℕ) (at : Place) (value : V) → IsLocked a side i
       → IsLocked (arrays_with a side i (bucket_with_value (bucket_at (buckets_on a side) i) at value)) side i
-  locked_with_value_is a side i at value locked = locked_change a side i _ locked (killed-with_slot_at (bucket_at (buckets_on a side) i) at.block at.pos _)
+  locked_with_value_is a side i at value locked =
+      locked_change a side i _ locked (killed-with_slot_at (bucket_at (buckets_on a side) i) at.block at.pos _)

@@ -83,7 +83,8 @@ units_passed result passed = passed
 -- a cursor passes current buckets, from the one whose interval has a hash on, or none where the hash is past all: before each a unit is
 -- worked, and its sources are killed then. The pairs and the length of the current array stay; without an old array all does, and it
 -- fails only where allocation fails for a source of the next bucket
-pub record Passes {K V A : Type 0} (index_of : A → ℕ) (bound : ℕ) (old : ArraysView K V) (result : Result A Missing) (new : ArraysView K V) : Type 0 where
+pub record Passes {K V A : Type 0} (index_of : A → ℕ) (bound : ℕ) (old : ArraysView K V) (result : Result A Missing)
+    (new : ArraysView K V) : Type 0 where
   pub from : ℕ
   pub passed : ℕ
   pub begins : 0 < length old.current → IsInInterval (length old.current) from bound
@@ -96,13 +97,15 @@ pub record Passes {K V A : Type 0} (index_of : A → ℕ) (bound : ℕ) (old : A
 
 -- a bucket is left: where it has no live pair, and a shrinking is asked for near it, the arrays follow the plan or stay if allocation
 -- fails; else they stay. Then the buckets past it are passed
-pub record ShrinksThenPasses {K V A : Type 0} (index_of : A → ℕ) (side : Side) (index : ℕ) (old : ArraysView K V) (result : Result A Missing) (new : ArraysView K V) : Type 0 where
+pub record ShrinksThenPasses {K V A : Type 0} (index_of : A → ℕ) (side : Side) (index : ℕ) (old : ArraysView K V)
+    (result : Result A Missing) (new : ArraysView K V) : Type 0 where
   pub between : ArraysView K V
   pub asked : ResizesIf ((pairs_in (bucket_on old side index) ≡ []) × AsksShrinking old index) old between
   pub passes : Passes index_of (bound_of (length (buckets_on old side)) (index + 1)) between result new
 
 -- a cursor sets out in a table: the map and the open tickets stay, no tombstone is new, and it continues from the least hash
-pub record SetsOut {K V H : Type 0} (kind : ℕ) (hash : H → K → ℕ) (old : TableView K V H) (result : Result ℕ Missing) (at : Place) (new : TableView K V H) : Type 0 where
+pub record SetsOut {K V H : Type 0} (kind : ℕ) (hash : H → K → ℕ) (old : TableView K V H) (result : Result ℕ Missing)
+    (at : Place) (new : TableView K V H) : Type 0 where
   pub map : KeepsPairs (state_of kind old) (state_of kind new)
   pub bag : KeepsOpenTickets old.arrays.tickets new.arrays.tickets
   pub marks : HasNoNewMark (marks_of old.arrays) (marks_of new.arrays)
@@ -111,7 +114,8 @@ pub record SetsOut {K V H : Type 0} (kind : ℕ) (hash : H → K → ℕ) (old :
 
 -- a cursor advances in a table: the map and the open tickets stay, and no tombstone is new. Where a live pair is ahead in its bucket,
 -- of the old or of the current array, it stays there, at the next one; else it leaves
-pub record Advances {K V H : Type 0} (kind : ℕ) (hash : H → K → ℕ) (old : TableView K V H) (side : Side) (index : ℕ) (from : Place) (result : Result (Side × ℕ) Missing) (to : Place) (new : TableView K V H) : Type 0 where
+pub record Advances {K V H : Type 0} (kind : ℕ) (hash : H → K → ℕ) (old : TableView K V H) (side : Side) (index : ℕ)
+    (from : Place) (result : Result (Side × ℕ) Missing) (to : Place) (new : TableView K V H) : Type 0 where
   pub map : KeepsPairs (state_of kind old) (state_of kind new)
   pub bag : KeepsOpenTickets old.arrays.tickets new.arrays.tickets
   pub marks : HasNoNewMark (marks_of old.arrays) (marks_of new.arrays)
@@ -119,4 +123,5 @@ pub record Advances {K V H : Type 0} (kind : ℕ) (hash : H → K → ℕ) (old 
       → (result ≡ Ok (side, index)) × (new.arrays ≡ old.arrays) × MovesToNext (bucket_on old.arrays side index) from to
   pub leaves : pairs_ahead (bucket_on old.arrays side index) from ≡ []
       → LeavesTo (hash old.hasher) (bound_of (length (buckets_on old.arrays side)) (index + 1)) result new.arrays to
-  pub departs : pairs_ahead (bucket_on old.arrays side index) from ≡ [] → ShrinksThenPasses (λ to. to.1) side index old.arrays result new.arrays
+  pub departs : pairs_ahead (bucket_on old.arrays side index) from ≡ []
+      → ShrinksThenPasses (λ to. to.1) side index old.arrays result new.arrays

@@ -12,7 +12,8 @@ use Rattle.bucket_table.specs.declared.arrays.side.Side.TheVariants.{Current}
 
 -- a current bucket is left with what is kept, each pair at its place, its tombstones with their epochs, and others with this one; nothing
 -- else changes
-pub record RetainsAt {K V : Type 0} (IsTest : (K × V → Bool) → Type 0) (kind epoch : ℕ) (old : ArraysView K V) (index : ℕ) (count : ℕ) (new : ArraysView K V) : Type 0 where
+pub record RetainsAt {K V : Type 0} (IsTest : (K × V → Bool) → Type 0) (kind epoch : ℕ) (old : ArraysView K V) (index : ℕ)
+    (count : ℕ) (new : ArraysView K V) : Type 0 where
   pub left : BucketView K V
   pub retains : Retains IsTest (bucket_on old Current index) left count
   pub slots : IsLeftOf kind epoch (bucket_on old Current index) left
@@ -25,7 +26,8 @@ pub record SweepState (K V : Type 0) : Type 0 where
   pub arrays : ArraysView K V
 
 -- the bucket that was found is left with what is kept, and then the cursor departs from it
-pub record SweepsAt {K V : Type 0} (IsTest : (K × V → Bool) → Type 0) (kind epoch : ℕ) (old : SweepState K V) (index : ℕ) (place : Result ℕ Missing) (new : SweepState K V) : Type 0 where
+pub record SweepsAt {K V : Type 0} (IsTest : (K × V → Bool) → Type 0) (kind epoch : ℕ) (old : SweepState K V) (index : ℕ)
+    (place : Result ℕ Missing) (new : SweepState K V) : Type 0 where
   pub here : old.place ≡ Ok index
   pub next : new.place ≡ place
   pub visited : ArraysView K V
@@ -34,7 +36,8 @@ pub record SweepsAt {K V : Type 0} (IsTest : (K × V → Bool) → Type 0) (kind
   pub departs : ShrinksThenPasses (λ to. to) Current index visited place new.arrays
 
 -- a cursor sets out, and moves from one bucket that is swept to the next
-pub record Sweeps {K V : Type 0} (IsTest : (K × V → Bool) → Type 0) (kind epoch : ℕ) (old : ArraysView K V) (last : SweepState K V) : Type 0 where
+pub record Sweeps {K V : Type 0} (IsTest : (K × V → Bool) → Type 0) (kind epoch : ℕ) (old : ArraysView K V)
+    (last : SweepState K V) : Type 0 where
   pub first : SweepState K V
   pub sets_out : Passes (λ index. index) 0 old first.place first.arrays
   pub indices : List ℕ

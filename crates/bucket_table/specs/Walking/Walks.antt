@@ -27,7 +27,8 @@ pub record IsKeptBy {K V : Type 0} (lent left : BucketView K V) : Type 0 where
 -- every call keeps a bucket's keys so
 abbrev pub KeepsBuckets : {K V S : Type 0} → (S → BucketView K V → Bool → Bool → BucketView K V → Bool → S → Type 0) → Type 0
 KeepsBuckets {K} {V} {S} visits =
-    (f g : S) (lent left : BucketView K V) (flag more last : Bool) → lent.killed ≡ false → visits f lent flag more left last g → IsKeptBy lent left
+    (f g : S) (lent left : BucketView K V) (flag more last : Bool) → lent.killed ≡ false → visits f lent flag more left last g
+    → IsKeptBy lent left
 
 -- the pair's hash has its home in one of the buckets from `start` up to below `end`
 abbrev pub has_home_in : {K V : Type 0} → (K → ℕ) → ℕ → ℕ → ℕ → K × V → Bool
@@ -44,7 +45,8 @@ AreLent hash len pairs index (visit ∷ visits) =
     IsPermutation (filter (has_home_in hash len index (index + 1)) pairs) (pairs_in visit.lent) × AreLent hash len pairs (index + 1) visits
 
 -- the map is the pairs that the buckets lent were left with, and those at entry with their home in none of these buckets
-pub record IsWalk {K V : Type 0} (hash : K → ℕ) (old : ArraysView K V) (start : ℕ) (visits : List (Visited (BucketView K V))) (new : ArraysView K V) : Type 0 where
+pub record IsWalk {K V : Type 0} (hash : K → ℕ) (old : ArraysView K V) (start : ℕ) (visits : List (Visited (BucketView K V)))
+    (new : ArraysView K V) : Type 0 where
   pub lent : AreLent hash (length old.current) (pairs_of old) start visits
   pub pairs : IsPermutation
       (pairs_left visits ++ filter (λ pair. not (has_home_in hash (length old.current) start (start + length visits) pair)) (pairs_of old))
@@ -69,13 +71,15 @@ MovesOn old new = KeepsArrays old new × (length old.linked ≡ 0 → new ≡ ol
 -- each bucket is lent as it stands once old buckets have moved on, and nothing else changes but what the visits left
 abbrev pub VisitsEach : {K V : Type 0} → ArraysView K V → ℕ → List (Visited (BucketView K V)) → ArraysView K V → Type 0
 VisitsEach old index [] new = MovesOn old new
-VisitsEach {K} {V} old index (visit ∷ visits) new = (ready : ArraysView K V) × MovesOn old ready × (visit.lent ≡ bucket_on ready Current index)
+VisitsEach {K} {V} old index (visit ∷ visits) new = (ready : ArraysView K V) × MovesOn old ready
+    × (visit.lent ≡ bucket_on ready Current index)
     × VisitsEach (arrays_with ready Current index visit.left) (index + 1) visits new
 
 -- a walk by a visitor: it reaches the array's end, is stopped, or fails where allocation fails for a source of the next bucket.
 -- Before its end the current array keeps its length, also beside an old array that is dropped
-pub record WalksBy {S A E K V : Type 0} (step : S → BucketView K V → Bool → Bool → BucketView K V → Bool → S → Type 0) (hash : K → ℕ) (expected start : ℕ)
-    (first : S) (old : ArraysView K V) (result : Result A E) (now : S) (new : ArraysView K V) : Type 0 where
+pub record WalksBy {S A E K V : Type 0} (step : S → BucketView K V → Bool → Bool → BucketView K V → Bool → S → Type 0)
+    (hash : K → ℕ) (expected start : ℕ) (first : S) (old : ArraysView K V) (result : Result A E) (now : S)
+    (new : ArraysView K V) : Type 0 where
   pub from : ℕ
   pub visits : List (Visited (BucketView K V))
   pub flag : Bool

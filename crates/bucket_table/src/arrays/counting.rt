@@ -20,7 +20,8 @@ impl<K: Eq + Drop, V: Drop, L: LruList + Drop, const TYPE: u8> Arrays<K, V, L, T
         ensures count { result ≡ counted_to (entries_of self.old) }
         ensures units { WorksUnits 1 (λ index. ⊥) self.old self.new }
         ensures arrays { CountsAndResizes self.old self.new }
-        ensures alone { length self.old.linked ≡ 0 → (entries_of self.old ≡ [] → ⊥) → self.new ≡ self.old }
+        ensures alone { length self.old.linked ≡ 0 → (entries_of self.old ≡ [] → ⊥)
+            → self.new ≡ self.old }
     {
         let _ = self.work_unit(hasher);
         let count = self.count();
@@ -37,7 +38,8 @@ impl<K: Eq + Drop, V: Drop, L: LruList + Drop, const TYPE: u8> Arrays<K, V, L, T
         ensures kept { Keeps self.old self.new }
         ensures linked { self.new.linked ≡ self.old.linked }
         ensures tickets { self.new.tickets ≡ self.old.tickets }
-        ensures resized { ResizesIf ((entries_of self.old ≡ []) × (self.old.minimum ≡ 0)) self.old self.new }
+        ensures resized { ResizesIf ((entries_of self.old ≡ []) × (self.old.minimum ≡ 0))
+            self.old self.new }
         ensures placed { (hash : K → ℕ) → ArePlaced hash self.old → ArePlaced hash self.new }
     {
         if self.minimum != 0 {

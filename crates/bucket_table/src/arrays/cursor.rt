@@ -5,8 +5,8 @@ ghost use Rattle.bucket_slots.specs.Homes.{IsInInterval, interval_width};
 ghost use Rattle.bucket_slots.specs.Sizing.{IsLength};
 ghost use Rattle.bucket_slots.specs.Walking.{MovesToNext, pairs_ahead};
 ghost use Rattle.bucket_table.specs.Views.ArraysView.{ArePlaced};
-ghost use Rattle.bucket_table.specs.Walking.Cursors.{ShrinksThenPasses, IsFoundFrom, Leaves, LeavesTo, ReachesPast};
-ghost use Rattle.bucket_table.specs.Walking.Cursors.{Passes, bound_of};
+ghost use Rattle.bucket_table.specs.Walking.Cursors.{ShrinksThenPasses, IsFoundFrom, Leaves};
+ghost use Rattle.bucket_table.specs.Walking.Cursors.{LeavesTo, ReachesPast, Passes, bound_of};
 ghost use Rattle.bucket_table.specs.Views.Keeping.{Keeps, KeepsArrays};
 ghost use Rattle.bucket_table.specs.Walking.Retains.{AnswersBy};
 ghost use Rattle.bucket_table.specs.Views.Sides.{arrays_with, bucket_on, buckets_on};
@@ -79,10 +79,11 @@ impl<K: Eq + Drop, V: Drop, L: LruList + Drop, const TYPE: u8> Arrays<K, V, L, T
         requires placed { ArePlaced (H.hash_of hasher.now) self.old }
         ensures placed { ArePlaced (H.hash_of hasher.now) self.new }
         ensures kept { KeepsArrays self.old self.new }
-        ensures found { IsFoundFrom (H.hash_of hasher.now) (bound_of len (index + 1)) result self.new
-            at.new }
+        ensures found { IsFoundFrom (H.hash_of hasher.now) (bound_of len (index + 1)) result
+            self.new at.new }
         ensures reaches { ReachesPast (bound_of len (index + 1)) result self.new }
-        ensures passes { Passes (λ index. index) (bound_of len (index + 1)) self.old result self.new }
+        ensures passes { Passes (λ index. index) (bound_of len (index + 1)) self.old result
+            self.new }
     {
         *at = EntryPtr::null();
         self.sound();

@@ -46,8 +46,8 @@ impl<K: Drop, V: Drop, L: LruList, const TYPE: u8> TableExtract<K, V, L, TYPE> {
     pub fn extract_next<F: FnMut(&K, &mut V) -> bool>(&mut self, pick: &mut F) -> Option<(K, V)>
         requires callable { F.IsAlwaysCallable pick.old }
         ensures again { F.IsAlwaysCallable pick.new }
-        ensures extracted { Extracts TYPE
-            (AsksPair (λ state own before answer after last. F.step state own before answer after last))
+        ensures extracted { Extracts TYPE (AsksPair
+            (λ state own before answer after last. F.step state own before answer after last))
             pick.old self.old result self.new pick.new }
     {
         if !self.arrays.has_row() {

@@ -1,5 +1,6 @@
 //! The bucket for a writer of a hash, and the growth that the writer may start.
-ghost use Rattle.std.specs.Prelude.{◌≡◌, ◌<◌, ◌↔◌, ℕ, IfNone, IfOk, IfSome, IsTrue, OnErr, OnOk, length};
+ghost use Rattle.std.specs.Prelude.{◌≡◌, ◌<◌, ◌↔◌, ℕ, IfNone, IfOk};
+ghost use Rattle.std.specs.Prelude.{IfSome, IsTrue, OnErr, OnOk, length};
 ghost use Rattle.bucket_slots.specs.Homes.{IsHome};
 ghost use Rattle.bucket_table.specs.Views.ArraysView.{ArePlaced};
 ghost use Rattle.bucket_table.specs.Resize.Asking.{ResizesIf};
@@ -34,8 +35,10 @@ impl<K: Eq + Drop, V: Drop, L: LruList + Drop, const TYPE: u8> Arrays<K, V, L, T
         ensures placed { ArePlaced (H.hash_of hasher.now) self.new }
         ensures kept { Keeps self.old self.new }
         ensures locked { IfOk result (λ found. IsLocked self.new found.0 found.1) }
-        ensures home { IfOk result (λ found. IsHome (length (buckets_on self.new found.0)) hash found.1) }
-        ensures finds { IfOk result (λ found. ReadiesThenGrows TYPE hash self.old found.0 found.1 self.new) }
+        ensures home { IfOk result
+            (λ found. IsHome (length (buckets_on self.new found.0)) hash found.1) }
+        ensures finds { IfOk result
+            (λ found. ReadiesThenGrows TYPE hash self.old found.0 found.1 self.new) }
         ensures refused { OnErr result (FindsNone hash self.old self.new) }
     {
         let Ok(()) = self.fetch_or_make(hasher, hash) else {
@@ -57,7 +60,8 @@ impl<K: Eq + Drop, V: Drop, L: LruList + Drop, const TYPE: u8> Arrays<K, V, L, T
         ensures units { WorksUnits 1 (IsHome (length self.new.current) hash) self.old self.new }
         ensures beside { 0 < length self.old.linked → KeepsArrays self.old self.new }
         ensures made { length self.old.linked ≡ 0 → OnOk result (MakesArray self.old self.new) }
-        ensures refused { length self.old.linked ≡ 0 → OnErr result ((length self.old.current ≡ 0) × (self.new ≡ self.old)) }
+        ensures refused { length self.old.linked ≡ 0
+            → OnErr result ((length self.old.current ≡ 0) × (self.new ≡ self.old)) }
         ensures wanted { OnErr result
             (0 < length self.new.current → HomeWantsMemory hash self.old self.new) }
     {
@@ -79,7 +83,8 @@ impl<K: Eq + Drop, V: Drop, L: LruList + Drop, const TYPE: u8> Arrays<K, V, L, T
         ensures asked { ResizesIf (WriterAsksGrowth TYPE hash self.old index) self.old self.new }
         ensures grown { Grows result self.old self.new }
         ensures kept { Keeps self.old self.new }
-        ensures placed { (hash_of : K → ℕ) → ArePlaced hash_of self.old → ArePlaced hash_of self.new }
+        ensures placed { (hash_of : K → ℕ) → ArePlaced hash_of self.old
+            → ArePlaced hash_of self.new }
     {
         if !self.writer_asks_growth(hash, index) {
             return Side::Current;

@@ -8,7 +8,8 @@ ghost use Rattle.bucket_slots.specs.Slots.{is_live, live_pair};
 ghost use Rattle.bucket_slots.specs.Evicting.{slots_touched};
 ghost use Rattle.bucket_slots.specs.Digested.{TakesWanted, UpsertsIn};
 ghost use Rattle.bucket_table.specs.Map.ByKey.{InsertsIn};
-ghost use Rattle.bucket_table.specs.Views.ArrayLoan.{LendsBucketOf, LendsEntryOf, LendsTouchedOf, array_with};
+ghost use Rattle.bucket_table.specs.Views.ArrayLoan.{LendsBucketOf, LendsEntryOf};
+ghost use Rattle.bucket_table.specs.Views.ArrayLoan.{LendsTouchedOf, array_with};
 ghost use Rattle.bucket_table.specs.Views.ArraysView.{list_of};
 ghost use Rattle.bucket_table.specs.Views.Sides.{bucket_on, buckets_on};
 
@@ -19,7 +20,8 @@ use bucket_slots::bucket_array::{BucketArray, NotPut};
 use bucket_slots::lru::LruList;
 
 impl<K, V, L: LruList, const TYPE: u8> Arrays<K, V, L, TYPE> {
-    ghost use Rattle.bucket_table.specs.Views.ArraysLoan.{LendsBucketOn, LendsEntryOn, LendsTouchedOn};
+    ghost use Rattle.bucket_table.specs.Views.ArraysLoan.{LendsBucketOn, LendsEntryOn};
+    ghost use Rattle.bucket_table.specs.Views.ArraysLoan.{LendsTouchedOn};
 
     /// Returns a bucket of one side.
     #[inline(always)]

@@ -1,7 +1,8 @@
 //! Pairs that move from an old bucket to their homes in the current array.
 //!
 //! Ports `relocate_bucket` of scc's `src/hash_table.rs`.
-ghost use Rattle.std.specs.Prelude.{◌≡◌, ◌+◌, ◌<◌, ◌≤◌, [], ℕ, Some, None, true, false, length, IsOk, IsTrue, OnErr, OnOk, slice_index};
+ghost use Rattle.std.specs.Prelude.{◌≡◌, ◌+◌, ◌<◌, ◌≤◌, [], ℕ, Some, None, true, false};
+ghost use Rattle.std.specs.Prelude.{length, IsOk, IsTrue, OnErr, OnOk, slice_index};
 ghost use Rattle.std.specs.List.{All};
 ghost use Rattle.bucket_slots.specs.ArrayView.{bucket_at};
 ghost use Rattle.bucket_slots.specs.BucketView.{pairs_in, slot_in};
@@ -9,10 +10,12 @@ ghost use Rattle.bucket_slots.specs.Homes.{IsInRange};
 ghost use Rattle.bucket_slots.specs.Recency.{IsRecencyOrder};
 ghost use Rattle.bucket_slots.specs.Reserving.{free_len_in};
 ghost use Rattle.bucket_slots.specs.Slots.{is_free, is_live, live_pair};
-ghost use Rattle.bucket_table.specs.Layout.Landings.{AreListable, CarriesRecency, HaveLanded, ListsArrivals, landing_of, landings_with};
+ghost use Rattle.bucket_table.specs.Layout.Landings.{AreListable, CarriesRecency, HaveLanded};
+ghost use Rattle.bucket_table.specs.Layout.Landings.{ListsArrivals, landing_of, landings_with};
 ghost use Rattle.bucket_table.specs.Layout.Moving.{CanMoveInto, MovesHome};
-ghost use Rattle.bucket_table.specs.Rehash.Relocation.{AreHome, AreTwoArrays, HasRoomFor, IsRelocated, IsWay, KeepsEntries, KeepsOthers};
-ghost use Rattle.bucket_table.specs.Rehash.Relocation.{MovesInto, home_of, homed_len};
+ghost use Rattle.bucket_table.specs.Rehash.Relocation.{AreHome, AreTwoArrays, HasRoomFor};
+ghost use Rattle.bucket_table.specs.Rehash.Relocation.{IsRelocated, IsWay, KeepsEntries};
+ghost use Rattle.bucket_table.specs.Rehash.Relocation.{KeepsOthers, MovesInto, home_of, homed_len};
 
 use crate::capacity::from_index_to_range;
 use crate::key_hash::KeyHash;
@@ -94,7 +97,8 @@ fn reserve_targets<K: Eq + Drop, V: Drop, H: KeyHash<K>, L: LruList, const TYPE:
     requires in_range { All
         (λ pair. IsInRange start end (home_of (length current.old) (H.hash_of hasher.now pair.0)))
         (pairs_in source.now) }
-    ensures room { OnOk result (HasRoomFor (H.hash_of hasher.now) current.new (pairs_in source.now)) }
+    ensures room { OnOk result
+        (HasRoomFor (H.hash_of hasher.now) current.new (pairs_in source.now)) }
     ensures kept { KeepsEntries current.old current.new }
     ensures others { KeepsOthers start end current.old current.new }
 {
@@ -125,7 +129,8 @@ fn count_targets<K: Eq, V, H: KeyHash<K>, L: LruList, const TYPE: u8>(
 )
     requires zeros { (k : ℕ) → k < length counts.old → slice_index counts.old k ≡ 0 }
     requires in_range { All
-        (λ pair. IsInRange start (start + length counts.old) (home_of (length current.now) (H.hash_of hasher.now pair.0)))
+        (λ pair. IsInRange start (start + length counts.old)
+        (home_of (length current.now) (H.hash_of hasher.now pair.0)))
         (pairs_in source.now) }
     ensures { (k : ℕ) → k < length counts.old → slice_index counts.new k
         ≡ homed_len (H.hash_of hasher.now) (length current.now) (start + k) (pairs_in source.now) }

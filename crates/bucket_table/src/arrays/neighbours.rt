@@ -34,8 +34,8 @@ impl<K: Drop, V: Drop, L: LruList + Drop, const TYPE: u8> Arrays<K, V, L, TYPE> 
     #[inline(always)]
     pub(crate) fn shrink_emptied(&mut self, side: Side, index: usize)
         requires within { index < length (buckets_on self.old side) }
-        ensures asked { ResizesIf ((pairs_in (bucket_at (buckets_on self.old side) index) ≡ []) × AsksShrinking self.old index)
-            self.old self.new }
+        ensures asked { ResizesIf ((pairs_in (bucket_at (buckets_on self.old side) index) ≡ [])
+            × AsksShrinking self.old index) self.old self.new }
         ensures kept { Keeps self.old self.new }
         ensures placed { (hash : K → ℕ) → ArePlaced hash self.old → ArePlaced hash self.new }
     {
@@ -49,8 +49,8 @@ impl<K: Drop, V: Drop, L: LruList + Drop, const TYPE: u8> Arrays<K, V, L, TYPE> 
     pub(crate) fn shrink_left(&mut self, side: Side, index: usize, left: usize)
         requires within { index < length (buckets_on self.old side) }
         requires left { left ≡ length (pairs_in (bucket_at (buckets_on self.old side) index)) }
-        ensures asked { ResizesIf ((pairs_in (bucket_at (buckets_on self.old side) index) ≡ []) × AsksShrinking self.old index)
-            self.old self.new }
+        ensures asked { ResizesIf ((pairs_in (bucket_at (buckets_on self.old side) index) ≡ [])
+            × AsksShrinking self.old index) self.old self.new }
         ensures kept { Keeps self.old self.new }
         ensures placed { (hash : K → ℕ) → ArePlaced hash self.old → ArePlaced hash self.new }
     {

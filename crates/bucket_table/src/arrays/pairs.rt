@@ -42,7 +42,8 @@ impl<'a, K, V, L: LruList, const TYPE: u8, R> Model for ArraysPairs<'a, K, V, L,
 
     ghost view = { λ pairs. pairs_from (row_of pairs.arrays.now) pairs.index pairs.at };
 
-    ghost invariant = { λ pairs. LendsLeft (row_of pairs.arrays.now) pairs.index pairs.at pairs.here.now pairs.left };
+    ghost invariant = { λ pairs. LendsLeft (row_of pairs.arrays.now) pairs.index pairs.at
+        pairs.here.now pairs.left };
 }
 
 impl<'a, K, V, L: LruList, const TYPE: u8> Iterator

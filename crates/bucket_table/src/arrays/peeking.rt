@@ -2,7 +2,8 @@
 ghost use Rattle.std.specs.Prelude.{◌≡◌, ◌%◌, ◌+◌, ◌≤◌};
 ghost use Rattle.bucket_slots.specs.Places.{pair_lent};
 ghost use Rattle.bucket_slots.specs.Searching.{matching_len, pair_wanted};
-ghost use Rattle.bucket_table.specs.Map.LookingUp.{home_bucket, lent_buckets, looked_up_len, pair_looked_up};
+ghost use Rattle.bucket_table.specs.Map.LookingUp.{home_bucket, lent_buckets};
+ghost use Rattle.bucket_table.specs.Map.LookingUp.{looked_up_len, pair_looked_up};
 
 use super::Arrays;
 use bucket_slots::bucket::KeyProbe;

@@ -2,8 +2,8 @@
 ghost use Rattle.std.specs.Prelude.{◌≡◌, ◌*◌, ◌^◌, ◌≤◌, ◌↔◌, ℕ, List, IsTrue, length};
 ghost use Rattle.std.specs.List.{All};
 ghost use Rattle.bucket_slots.specs.Sizing.{IsOptimalCapacity, IsPowerIn};
-ghost use Rattle.bucket_table.specs.Resize.ResizePlan.{IsCapacityWithin, IsPlan, IsPlanTo, first_estimate, middle_estimate};
-ghost use Rattle.bucket_table.specs.Resize.ResizePlan.{slots_of};
+ghost use Rattle.bucket_table.specs.Resize.ResizePlan.{IsCapacityWithin, IsPlan, IsPlanTo};
+ghost use Rattle.bucket_table.specs.Resize.ResizePlan.{first_estimate, middle_estimate, slots_of};
 ghost use Rattle.bucket_slots.specs.Sampling.{IsLargeSample};
 ghost use Rattle.bucket_table.specs.Resize.Sampling.{live_counts};
 
@@ -62,9 +62,11 @@ fn plan_by_middle<K, V, L: LruList, const TYPE: u8>(
     requires within { 32 * length array.now ≤ maximum }
     requires large { IsLargeSample (length array.now) large }
     ensures plan { (capacity : ℕ)
-        × IsOptimalCapacity (slots_of (live_counts array.now)) (middle_estimate (live_counts array.now)) minimum maximum capacity
+        × IsOptimalCapacity (slots_of (live_counts array.now))
+        (middle_estimate (live_counts array.now)) minimum maximum capacity
         × IsPlanTo (slots_of (live_counts array.now)) capacity
-        (IsOptimalCapacity (slots_of (live_counts array.now)) (first_estimate (live_counts array.now) large) minimum maximum)
+        (IsOptimalCapacity (slots_of (live_counts array.now))
+        (first_estimate (live_counts array.now) large) minimum maximum)
         result }
     ensures capacity { IsCapacityWithin maximum result }
 {

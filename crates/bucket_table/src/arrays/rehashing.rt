@@ -1,6 +1,7 @@
 //! The tickets of a rehash, and its arrays.
 ghost use Rattle.std.specs.Prelude.{◌≡◌, ◌^◌, ◌<◌, ◌↔◌, IsTrue};
-ghost use Rattle.bucket_table.specs.Views.ArraysView.{LosesNoUnit, entries_of, killed_flags, list_of};
+ghost use Rattle.bucket_table.specs.Views.ArraysView.{LosesNoUnit, entries_of};
+ghost use Rattle.bucket_table.specs.Views.ArraysView.{killed_flags, list_of};
 ghost use Rattle.bucket_table.specs.Rehash.Covered.{IsUnitKilled};
 ghost use Rattle.bucket_table.specs.Rehash.Rehashing.{EndsRehash};
 ghost use Rattle.bucket_table.specs.Rehash.Steps.{Starts};

@@ -5,7 +5,8 @@ ghost use Rattle.bucket_slots.specs.Homes.{IsInRange};
 ghost use Rattle.bucket_table.specs.Views.ArraysView.{ArePlaced};
 ghost use Rattle.bucket_table.specs.Layout.Landings.{CarriesRecency};
 ghost use Rattle.bucket_table.specs.Rehash.Rehashing.{IsUnmoved, RelocatesAt};
-ghost use Rattle.bucket_table.specs.Rehash.Units.{KillsOnly, NeedsNoMemory, SpendsSome, WantsMemory, WorksRange};
+ghost use Rattle.bucket_table.specs.Rehash.Units.{KillsOnly, NeedsNoMemory};
+ghost use Rattle.bucket_table.specs.Rehash.Units.{SpendsSome, WantsMemory, WorksRange};
 
 use super::Arrays;
 use super::moving::relocate;

@@ -1,13 +1,14 @@
 //! A resize: by its plan the current array becomes the old one, or is dropped.
-ghost use Rattle.std.specs.Prelude.{◌≡◌, ◌<◌, ◌≤◌, ◌+◌, ◌-◌, ◌*◌, ◌^◌, ℕ, [], length, IfOk, OnOk, OnErr};
+ghost use Rattle.std.specs.Prelude.{◌≡◌, ◌<◌, ◌≤◌, ◌+◌, ◌-◌, ◌*◌, ◌^◌};
+ghost use Rattle.std.specs.Prelude.{ℕ, [], length, IfOk, OnOk, OnErr};
 ghost use Rattle.bucket_slots.specs.ArrayView.{IsNewArray};
 ghost use Rattle.bucket_slots.specs.Sizing.{IsPowerIn};
 ghost use Rattle.bucket_table.specs.Rehash.State.{first_tickets};
 ghost use Rattle.bucket_table.specs.Views.ArraysView.{ArePlaced};
 ghost use Rattle.bucket_table.specs.Views.Keeping.{Keeps};
 ghost use Rattle.bucket_table.specs.Resize.ResizePlan.{IsCapacityWithin};
-ghost use Rattle.bucket_table.specs.Resize.Resizing.{IsPlanOf, IsPushed, MakesArray, Releases, Reserves, Resizes, TriesResize};
-ghost use Rattle.bucket_table.specs.Resize.Resizing.{with_minimum};
+ghost use Rattle.bucket_table.specs.Resize.Resizing.{IsPlanOf, IsPushed, MakesArray, Releases};
+ghost use Rattle.bucket_table.specs.Resize.Resizing.{Reserves, Resizes, TriesResize, with_minimum};
 
 use super::plan::{Plan, plan_of};
 use super::{Arrays, Side};
@@ -81,8 +82,13 @@ impl<K: Drop, V: Drop, L: LruList + Drop, const TYPE: u8> Arrays<K, V, L, TYPE> 
         requires power { IsPowerIn 64 (2 ^ 63) capacity }
         ensures array { IfOk result (λ fresh. IsNewArray capacity fresh.current) }
         ensures full { IfOk result (λ fresh. 32 * length fresh.current ≡ capacity) }
-        ensures others { IfOk result (λ fresh. fresh
-            ≡ record { minimum = capacity; maximum = capacity; current = fresh.current; linked = []; tickets = first_tickets 0 }) }
+        ensures others { IfOk result (λ fresh. fresh ≡ record {
+          minimum = capacity;
+          maximum = capacity;
+          current = fresh.current;
+          linked = [];
+          tickets = first_tickets 0;
+        }) }
     {
         if capacity > 1 << 62 {
             return Err(AllocError);

@@ -1,13 +1,15 @@
 //! The buckets of both arrays in a row, those of the current one first, and a place that moves
 //! from live slot to live slot.
-ghost use Rattle.std.specs.Prelude.{◌≡◌, ◌≢◌, ◌<◌, ◌≤◌, ◌^◌, [], false, IfNone, IfSome, IsTrue, MatchOption, length};
+ghost use Rattle.std.specs.Prelude.{◌≡◌, ◌≢◌, ◌<◌, ◌≤◌, ◌^◌, [], false, IfNone};
+ghost use Rattle.std.specs.Prelude.{IfSome, IsTrue, MatchOption, length};
 ghost use Rattle.std.specs.Borrow.{sem};
 ghost use Rattle.bucket_slots.specs.ArrayRoom.{BucketFits};
 ghost use Rattle.bucket_slots.specs.ArrayView.{bucket_at};
 ghost use Rattle.bucket_slots.specs.BucketView.{slot_in};
 ghost use Rattle.bucket_slots.specs.OwnWalks.{AreOwnAfter};
 ghost use Rattle.bucket_slots.specs.Slots.{is_live};
-ghost use Rattle.bucket_table.specs.Walking.Row.{HasOwnLeft, LendsLeft, MovesOn, StandsAt, pairs_from, row_of};
+ghost use Rattle.bucket_table.specs.Walking.Row.{HasOwnLeft, LendsLeft, MovesOn};
+ghost use Rattle.bucket_table.specs.Walking.Row.{StandsAt, pairs_from, row_of};
 
 use super::{Arrays, Side};
 use bucket_slots::bucket::{Bucket, EntryPtr};
@@ -115,8 +117,8 @@ impl<K, V, L: LruList, const TYPE: u8> Arrays<K, V, L, TYPE> {
         }
     }
 
-    /// Returns a bucket and its live own slots after a place, as a bitmap: the bucket that is lent with
-    /// its bitmap, or where that is 0, those that `next_own` comes to.
+    /// Returns a bucket and its live own slots after a place, as a bitmap: the bucket that is lent
+    /// with its bitmap, or where that is 0, those that `next_own` comes to.
     #[inline(always)]
     pub(super) fn own_left<'a>(
         &'a self,
@@ -138,8 +140,8 @@ impl<K, V, L: LruList, const TYPE: u8> Arrays<K, V, L, TYPE> {
     }
 
     /// Moves a place to the bucket with the next live slot of the row, but to no live slot. Returns
-    /// that bucket and its live own slots after the place, as a bitmap. It gives up at a bucket whose
-    /// digest is lost and that has no live own slot after the place.
+    /// that bucket and its live own slots after the place, as a bitmap. It gives up at a bucket
+    /// whose digest is lost and that has no live own slot after the place.
     #[inline(always)]
     pub(super) fn next_own(
         &self,

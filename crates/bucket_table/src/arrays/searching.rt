@@ -21,8 +21,8 @@ pub struct Spot<K, V, const TYPE: u8> {
 }
 
 impl<K, V, L: LruList, const TYPE: u8> Arrays<K, V, L, TYPE> {
-    /// Returns the first live slot with a wanted key in the home of a hash on one side; `None` where
-    /// that home has none.
+    /// Returns the first live slot with a wanted key in the home of a hash on one side; `None`
+    /// where that home has none.
     #[inline(always)]
     pub(crate) fn search_on<P: KeyProbe<K>>(
         &self,

@@ -5,7 +5,8 @@ ghost use Rattle.bucket_table.specs.Views.ArraysView.{ArePlaced};
 ghost use Rattle.bucket_table.specs.Views.Sides.{buckets_on};
 ghost use Rattle.bucket_table.specs.Views.Keeping.{KeepsArrays};
 ghost use Rattle.bucket_table.specs.Rehash.Finishing.{Finishes};
-ghost use Rattle.bucket_table.specs.Rehash.Units.{KillsOnly, SpendsSome, WantsMemory, WorksUnit, WorksUnits};
+ghost use Rattle.bucket_table.specs.Rehash.Units.{KillsOnly, SpendsSome, WantsMemory};
+ghost use Rattle.bucket_table.specs.Rehash.Units.{WorksUnit, WorksUnits};
 
 use super::{Arrays, Side};
 use crate::capacity::from_index_to_range;

@@ -2,7 +2,8 @@
 //! either side, moved or not. It searches by a probe that wants the keys equal to its own.
 //!
 //! Own.
-ghost use Rattle.std.specs.Prelude.{◌≡◌, ◌≢◌, ◌%◌, ◌<◌, IfSome, IfNone, IsTrue, OnErr, OnOk, Some, is_ok, is_some, length};
+ghost use Rattle.std.specs.Prelude.{◌≡◌, ◌≢◌, ◌%◌, ◌<◌, IfSome, IfNone, IsTrue};
+ghost use Rattle.std.specs.Prelude.{OnErr, OnOk, Some, is_ok, is_some, length};
 ghost use Rattle.std.specs.Borrow.{Bor};
 ghost use Rattle.bucket_slots.specs.BucketView.{bucket_with_value, slot_in};
 ghost use Rattle.bucket_slots.specs.Clearing.{slots_after_insertion};
@@ -12,9 +13,10 @@ ghost use Rattle.bucket_slots.specs.Marking.{MarksBy, slots_marked};
 ghost use Rattle.bucket_slots.specs.Removing.{slots_without};
 ghost use Rattle.bucket_slots.specs.Slots.{is_live, live_pair};
 ghost use Rattle.bucket_table.specs.Views.ArraysView.{marks_of, pairs_of};
-ghost use Rattle.bucket_table.specs.Map.ByKey.{AnswersInsertion, ChangesAt, HandsBack, InsertsAt, PreparesThen};
+ghost use Rattle.bucket_table.specs.Map.ByKey.{AnswersInsertion, ChangesAt, HandsBack};
+ghost use Rattle.bucket_table.specs.Map.ByKey.{InsertsAt, PreparesThen, Inserts, Marks};
+ghost use Rattle.bucket_table.specs.Map.ByKey.{ShrinksAt, StandsAt, Swaps, Takes, Touches};
 ghost use Rattle.bucket_table.specs.Map.Finding.{FindsThen};
-ghost use Rattle.bucket_table.specs.Map.ByKey.{Inserts, Marks, ShrinksAt, StandsAt, Swaps, Takes, Touches};
 ghost use Rattle.bucket_table.specs.Map.LookingUp.{IsAbsent, IsThere};
 ghost use Rattle.bucket_table.specs.Map.MapState.{ChangesValue, state_of};
 ghost use Rattle.bucket_table.specs.Views.Sides.{bucket_on, buckets_on, with_bucket};
@@ -217,8 +219,8 @@ impl<K: Eq + Drop, V: Drop, H: KeyHash<K>, L: LruList + Drop, const TYPE: u8> Ha
         requires within { spot.now.index < length (buckets_on self.old.arrays spot.now.side) }
         requires live_slot { IsTrue (is_live
             (slot_in (bucket_on self.old.arrays spot.now.side spot.now.index) spot.now.at)) }
-        ensures map { (found : K)
-            × (live_pair (slot_in (bucket_on self.old.arrays spot.now.side spot.now.index) spot.now.at)
+        ensures map { (found : K) × (live_pair
+            (slot_in (bucket_on self.old.arrays spot.now.side spot.now.index) spot.now.at)
             ≡ Some (found, result))
             × ChangesValue (state_of TYPE self.old) (found, result) value (state_of TYPE self.new) }
         ensures table { self.new ≡ with_bucket self.old spot.now.side spot.now.index

@@ -1,6 +1,6 @@
 //! Cursors over a table, and what they sweep.
-ghost use Rattle.std.specs.Prelude.{◌≡◌, ◌≢◌, ◌<◌, ◌+◌, [], ℕ, Bool, Ok, Err, length, IfOk, IsErrAnd, IsOk, OnErr};
-ghost use Rattle.std.specs.Prelude.{if◌then◌else◌, is_ok};
+ghost use Rattle.std.specs.Prelude.{◌≡◌, ◌≢◌, ◌<◌, ◌+◌, [], ℕ, Bool, Ok, Err, length};
+ghost use Rattle.std.specs.Prelude.{IfOk, IsErrAnd, IsOk, OnErr, if◌then◌else◌, is_ok};
 ghost use Rattle.std.specs.Borrow.{RestsIfErr, sem};
 ghost use Rattle.std.specs.Result.{result_map_both};
 ghost use Rattle.bucket_slots.specs.BucketView.{null_place, pairs_in};
@@ -8,7 +8,8 @@ ghost use Rattle.bucket_slots.specs.Marking.{HasNoNewMark, MarksBy};
 ghost use Rattle.bucket_slots.specs.Walking.{pairs_ahead};
 ghost use Rattle.bucket_table.specs.Views.ArraysView.{marks_of, pairs_of};
 ghost use Rattle.bucket_table.specs.Resize.Asking.{AsksShrinking};
-ghost use Rattle.bucket_table.specs.Walking.Cursors.{Advances, ShrinksThenPasses, HasNoneFrom, Leaves, SetsOut, bound_of};
+ghost use Rattle.bucket_table.specs.Walking.Cursors.{Advances, ShrinksThenPasses};
+ghost use Rattle.bucket_table.specs.Walking.Cursors.{HasNoneFrom, Leaves, SetsOut, bound_of};
 ghost use Rattle.bucket_table.specs.Views.Locking.{IsLocked};
 ghost use Rattle.bucket_table.specs.Map.MapState.{KeepsPairs, state_of};
 ghost use Rattle.bucket_table.specs.Walking.Retains.{AnswersBy, IsSwept, IsSweptBelow};
@@ -52,10 +53,14 @@ impl<K: Eq + Drop, V: Drop, H: KeyHash<K>, L: LruList + Drop, const TYPE: u8> Ha
             → IsSwept test (pairs_of self.old.arrays) (pairs_of self.new.arrays) count) }
         ensures arrays { Sweeps (AnswersBy (λ key value answer. F.post keep.now key value answer))
             TYPE (G.epoch_of generation.now) self.old.arrays
-            (record { place = Err (if is_ok result then Missing.Nothing else Missing.Memory); arrays = self.new.arrays }) }
+            (record {
+              place = Err (if is_ok result then Missing.Nothing else Missing.Memory);
+              arrays = self.new.arrays;
+            }) }
         ensures marks { MarksBy (G.epoch_of generation.now) (marks_of self.old.arrays)
             (marks_of self.new.arrays) }
-        ensures unchanged { length self.old.arrays.linked ≡ 0 → result ≡ Ok 0 → self.new ≡ self.old }
+        ensures unchanged { length self.old.arrays.linked ≡ 0 → result ≡ Ok 0
+            → self.new ≡ self.old }
         ensures refused { OnErr result ((bound : ℕ) × ((test : K × V → Bool)
             → AnswersBy (λ key value answer. F.post keep.now key value answer) test
             → IsSweptBelow (H.hash_of self.old.hasher) bound test (pairs_of self.old.arrays)
@@ -96,7 +101,8 @@ impl<K: Eq + Drop, V: Drop, H: KeyHash<K>, L: LruList + Drop, const TYPE: u8> Ha
         ensures leaves { Leaves (H.hash_of self.old.hasher)
             (bound_of (length self.old.arrays.current) (index + 1)) result
             self.new.arrays at.new }
-        ensures departs { ShrinksThenPasses (λ to. to) Current index self.old.arrays result self.new.arrays }
+        ensures departs { ShrinksThenPasses (λ to. to) Current index self.old.arrays result
+            self.new.arrays }
         ensures marks { HasNoNewMark (marks_of self.old.arrays) (marks_of self.new.arrays) }
     {
         self.arrays
@@ -137,15 +143,18 @@ impl<K: Eq + Drop, V: Drop, H: KeyHash<K>, L: LruList + Drop, const TYPE: u8> Ha
             (table_row K.row V.row H.row L.row TYPE.row K.PartialEq H.KeyHash
             (record { KEEPS = L.KEEPS; listed = L.listed; IsTail = L.IsTail }) L.Default)
             self.entry (λ locked. locked.table.ghost_name) result
-            (SetsOut TYPE H.hash_of self.old (result_map_both (λ locked. locked.index) (λ missing. missing) result) at.new)) }
+            (SetsOut TYPE H.hash_of self.old
+            (result_map_both (λ locked. locked.index) (λ missing. missing) result) at.new)) }
         ensures same_table { IfOk result (λ locked. locked.table.ghost_name
             ≡ self.entry.ghost_name) }
         ensures sets_out { IfOk result (λ locked. SetsOut TYPE H.hash_of self.old
-            (result_map_both (λ locked. locked.index) (λ missing. missing) result) at.new locked.table.now) }
+            (result_map_both (λ locked. locked.index) (λ missing. missing) result) at.new
+            locked.table.now) }
         ensures side { IfOk result (λ locked. locked.side ≡ Current) }
         ensures none { result ≡ Err Missing.Nothing → pairs_of self.old.arrays ≡ [] }
         ensures null { OnErr result (at.new ≡ null_place) }
-        ensures succeeds { length self.old.arrays.linked ≡ 0 → IsErrAnd result (λ missing. missing ≡ Missing.Memory) → ⊥ }
+        ensures succeeds { length self.old.arrays.linked ≡ 0
+            → IsErrAnd result (λ missing. missing ≡ Missing.Memory) → ⊥ }
     {
         match self.first(at) {
             Ok(index) => Ok(self.lock(Side::Current, index)),
@@ -180,12 +189,14 @@ impl<'a, K: Eq + Drop, V: Drop, H: KeyHash<K>, L: LruList + Drop, const TYPE: u8
             (record { KEEPS = L.KEEPS; listed = L.listed; IsTail = L.IsTail }) L.Default)
             self.entry.table (λ locked. locked.table.ghost_name) result
             (Advances TYPE H.hash_of self.entry.table.now self.entry.side self.entry.index at.old
-            (result_map_both (λ locked. (locked.side, locked.index)) (λ missing. missing) result) at.new)) }
+            (result_map_both (λ locked. (locked.side, locked.index)) (λ missing. missing) result)
+            at.new)) }
         ensures same_table { IfOk result (λ locked. locked.table.ghost_name
             ≡ self.entry.table.ghost_name) }
         ensures advances { IfOk result (λ locked. Advances TYPE H.hash_of self.entry.table.now
             self.entry.side self.entry.index at.old
-            (result_map_both (λ locked. (locked.side, locked.index)) (λ missing. missing) result) at.new locked.table.now) }
+            (result_map_both (λ locked. (locked.side, locked.index)) (λ missing. missing) result)
+            at.new locked.table.now) }
         ensures held { pairs_ahead (bucket_on self.entry.table.now.arrays self.entry.side
             self.entry.index) at.old ≢ [] → IsOk result }
         ensures none { result ≡ Err Missing.Nothing

@@ -44,7 +44,8 @@ impl<K: Eq, V, H: KeyHash<K>, L: LruList, const TYPE: u8> HashTable<K, V, H, L, 
         at: &EntryPtr<K, V, TYPE>,
     ) -> (&K, &mut V)
         requires within { index < length (buckets_on self.old.arrays side) }
-        requires live_slot { IsTrue (is_live (slot_in (bucket_on self.old.arrays side index) at.now)) }
+        requires live_slot { IsTrue (is_live
+            (slot_in (bucket_on self.old.arrays side index) at.now)) }
         ensures* writes_back { sem 𝓛
             (LendsSlot K.row V.row H.row L.row TYPE K.PartialEq H.KeyHash
             (record { KEEPS = L.KEEPS; listed = L.listed; IsTail = L.IsTail }) L.Default

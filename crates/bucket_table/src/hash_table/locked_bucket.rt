@@ -14,13 +14,15 @@ ghost use Rattle.bucket_slots.specs.Removing.{slots_without};
 ghost use Rattle.bucket_slots.specs.Slots.{is_live, live_pair};
 ghost use Rattle.bucket_slots.specs.Walking.{pairs_ahead};
 ghost use Rattle.bucket_table.specs.Map.LookingUp.{IsAbsent, IsThere};
-ghost use Rattle.bucket_table.specs.Map.MapState.{AddsPair, ChangesValue, KeepsPairs, TakesPair, state_of};
+ghost use Rattle.bucket_table.specs.Map.MapState.{AddsPair, ChangesValue};
+ghost use Rattle.bucket_table.specs.Map.MapState.{KeepsPairs, TakesPair, state_of};
 ghost use Rattle.bucket_table.specs.Map.Putting.{Goes, slots_left};
 ghost use Rattle.bucket_table.specs.Views.ArraysView.{pairs_of};
 ghost use Rattle.bucket_table.specs.Views.Locking.{IsLocked};
 ghost use Rattle.bucket_table.specs.Views.Sides.{buckets_on};
 ghost use Rattle.std.specs.Borrow.{sem};
-ghost use Rattle.std.specs.Prelude.{◌%◌, ◌≡◌, ◌≢◌, IfSome, IsTrue, OnOk, Some, if◌then◌else◌, is_ok, length};
+ghost use Rattle.std.specs.Prelude.{◌%◌, ◌≡◌, ◌≢◌, IfSome, IsTrue, OnOk};
+ghost use Rattle.std.specs.Prelude.{Some, if◌then◌else◌, is_ok, length};
 
 use crate::arrays::Side;
 use crate::hash_table::HashTable;
@@ -141,7 +143,8 @@ impl<'a, K: Eq, V, H: KeyHash<K>, L: LruList, const TYPE: u8> LockedBucket<'a, K
         requires cache { TYPE ≡ CACHE }
         requires live_slot { IsTrue (is_live
             (slot_in (bucket_in self.old) at.now)) }
-        ensures changed { Changes self.old self.new (λ bucket. slots_touched L.KEEPS bucket at.now) }
+        ensures changed { Changes self.old self.new
+            (λ bucket. slots_touched L.KEEPS bucket at.now) }
         ensures map { KeepsPairs (state_of TYPE self.old.table.now)
             (state_of TYPE self.new.table.now) }
     {

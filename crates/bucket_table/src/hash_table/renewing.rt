@@ -5,7 +5,8 @@ ghost use Rattle.std.specs.Prelude.{◌≡◌, ◌≢◌, ◌≤◌, ℕ, [], �
 ghost use Rattle.std.specs.Int.{IsPowerOfTwo};
 ghost use Rattle.bucket_slots.specs.Slots.{live_pair, slot_at};
 ghost use Rattle.bucket_table.specs.Resize.Renewing.{Awaits, Pours, Renews};
-ghost use Rattle.bucket_table.specs.Resize.Renewing.{arrays_by_age, chain_pairs, own_by_age, pairs_by_age};
+ghost use Rattle.bucket_table.specs.Resize.Renewing.{arrays_by_age, chain_pairs};
+ghost use Rattle.bucket_table.specs.Resize.Renewing.{own_by_age, pairs_by_age};
 ghost use Rattle.bucket_table.specs.Walking.ByUse.{own_left};
 
 use crate::arrays::Arrays;

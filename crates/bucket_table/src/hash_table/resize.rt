@@ -7,7 +7,8 @@
 //!
 //! Ports `get_or_create_array`, `reserve_capacity` and `try_resize` of scc's `src/hash_table.rs`.
 ghost use Rattle.std.specs.Borrow.{sem};
-ghost use Rattle.bucket_table.specs.Map.MapState.{KeepsPairs, LowersMinimum, RaisesMinimum, state_of};
+ghost use Rattle.bucket_table.specs.Map.MapState.{KeepsPairs, LowersMinimum};
+ghost use Rattle.bucket_table.specs.Map.MapState.{RaisesMinimum, state_of};
 ghost use Rattle.bucket_table.specs.Resize.Resizing.{Releases, Reserves, TriesResize};
 
 use crate::hash_table::HashTable;
@@ -75,7 +76,8 @@ impl<K: Eq + Drop, V: Drop, H: KeyHash<K>, L: LruList + Drop, const TYPE: u8> Ha
     /// `HashTable::reserve_capacity`.
     pub fn reserve_capacity(&mut self, additional: usize) -> usize
         ensures arrays { Reserves additional self.old.arrays result self.new.arrays }
-        ensures map { RaisesMinimum additional (state_of TYPE self.old) result (state_of TYPE self.new) }
+        ensures map { RaisesMinimum additional (state_of TYPE self.old) result
+            (state_of TYPE self.new) }
     {
         self.arrays.reserve_capacity(additional)
     }
@@ -89,7 +91,8 @@ impl<K: Eq + Drop, V: Drop, H: KeyHash<K>, L: LruList + Drop, const TYPE: u8> Ha
     /// O(buckets of the current array and of the one that is made). Own.
     pub fn release_capacity(&mut self, released: usize) -> usize
         ensures arrays { Releases released self.old.arrays result self.new.arrays }
-        ensures map { LowersMinimum released (state_of TYPE self.old) result (state_of TYPE self.new) }
+        ensures map { LowersMinimum released (state_of TYPE self.old) result
+            (state_of TYPE self.new) }
     {
         self.arrays.release_capacity(released)
     }

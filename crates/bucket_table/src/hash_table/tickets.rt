@@ -6,7 +6,8 @@
 //!
 //! Ports `start_incremental_rehash`, `relocate_bucket` and `end_incremental_rehash` of scc's
 //! `src/hash_table.rs`.
-ghost use Rattle.std.specs.Prelude.{◌↔◌, ◌≡◌, ◌+◌, ◌<◌, false, Err, None, IsTrue, OnOk, OnErr, IsOk, length};
+ghost use Rattle.std.specs.Prelude.{◌↔◌, ◌≡◌, ◌+◌, ◌<◌, false, Err, None};
+ghost use Rattle.std.specs.Prelude.{IsTrue, OnOk, OnErr, IsOk, length};
 ghost use Rattle.bucket_slots.specs.ArrayView.{bucket_at};
 ghost use Rattle.bucket_slots.specs.BucketView.{listed_pairs};
 ghost use Rattle.bucket_table.specs.Rehash.Carrying.{CarriesPairs};

@@ -6,7 +6,8 @@
 //!
 //! Ports `writer_sync`, `try_reserve_bucket`, `optional_writer_sync` and `try_optional_writer` of
 //! scc's `src/hash_table.rs`.
-ghost use Rattle.std.specs.Prelude.{ℕ, ◌≡◌, ◌<◌, [], Err, IfErr, IfOk, IfSome, IfNone, IsOk, OnOk, length};
+ghost use Rattle.std.specs.Prelude.{ℕ, ◌≡◌, ◌<◌, [], Err, IfErr, IfOk};
+ghost use Rattle.std.specs.Prelude.{IfSome, IfNone, IsOk, OnOk, length};
 ghost use Rattle.std.specs.Borrow.{RestsIfErr, RestsIfNone, sem};
 ghost use Rattle.bucket_slots.specs.Homes.{IsHome};
 ghost use Rattle.bucket_table.specs.Views.ArraysView.{TableView, pairs_of};

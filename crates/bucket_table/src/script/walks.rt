@@ -90,7 +90,8 @@ pub(super) fn walk<K: Eq + Copy, V: Copy, H: KeyHash<K>, L: LruList + Drop, cons
 
 /// States that an emptier does what a walk requires of its visitor; does nothing at run time.
 fn empties_keep<K, V, G: Generation, const TYPE: u8>()
-    ensures { KeepsBuckets (λ (emptier : Emptier G) (lent : BucketView K V) flag more left last after.
+    ensures { KeepsBuckets
+        (λ (emptier : Emptier G) (lent : BucketView K V) flag more left last after.
         Empties TYPE (G.epoch_of emptier.generation.now) emptier.count lent flag more left last
         after.count) }
 {}

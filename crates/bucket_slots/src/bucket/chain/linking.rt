@@ -1,7 +1,8 @@
 //! The blocks of a chain, linked and unlinked.
 #![tactic(auto, using(crate::proofs::ChainRows::chain_rows))]
 
-ghost use Rattle.std.specs.Prelude.{◌≡◌, ℕ, ◌+◌, ◌-◌, ◌<◌, ◌≤◌, ◌∷◌, ◌++◌, [], Some, length, IsTrue, map, OnOk, OnErr, replicate};
+ghost use Rattle.std.specs.Prelude.{◌≡◌, ℕ, ◌+◌, ◌-◌, ◌<◌, ◌≤◌, ◌∷◌, ◌++◌, [], Some};
+ghost use Rattle.std.specs.Prelude.{length, IsTrue, map, OnOk, OnErr, replicate};
 ghost use Rattle.std.specs.List.{suffix_len};
 ghost use Rattle.bucket_slots.specs.BucketView.{row_at, rows_with};
 ghost use Rattle.bucket_slots.specs.Clearing.{rows_without_free_end, slot_without_expired};

@@ -1,5 +1,5 @@
 use Rattle.bucket_table.proofs.Words.{arith, rules, scales}
-use Rattle.bucket_slots.proofs.ArrayCallerLemmas.{homes_meet, meets_longer, range_shorter, row_below}
+use Rattle.bucket_slots.proofs.ArrayNumbers.{homes_meet, meets_longer, range_shorter, row_below}
 use Rattle.bucket_table.proofs.capacity.from_index_to_range.Goals as goal
 
 pub returns-then-from-to-clause-range : goal.returns-then-from-to-clause-range

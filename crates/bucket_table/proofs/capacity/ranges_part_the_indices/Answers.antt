@@ -1,5 +1,5 @@
 use Rattle.bucket_table.proofs.Words.{rules, scales}
-use Rattle.bucket_slots.proofs.ArrayCallerLemmas.{one_source}
+use Rattle.bucket_slots.proofs.ArrayNumbers.{one_source}
 use Rattle.bucket_table.proofs.capacity.ranges_part_the_indices.Goals as goal
 
 pub returns : goal.returns

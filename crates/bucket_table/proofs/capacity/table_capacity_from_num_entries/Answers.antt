@@ -1,5 +1,5 @@
 use Rattle.bucket_table.proofs.Words.{IsLeastPowerOfTwo, min, rules, subst, ℕ, ◌*◌, ◌/◌, ◌^◌, ◌≡◌}
-use Rattle.bucket_slots.proofs.ArrayCallerLemmas.{least_from_half}
+use Rattle.bucket_slots.proofs.ArrayNumbers.{least_from_half}
 use Rattle.bucket_table.proofs.capacity.table_capacity_from_num_entries.Goals as goal
 
 pub returns : goal.returns

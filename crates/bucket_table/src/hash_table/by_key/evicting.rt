@@ -178,8 +178,8 @@ impl<K: Eq + Drop, V: Drop, H: KeyHash<K>, L: LruList + Drop, const TYPE: u8> Ha
         requires home { IsHome (length (buckets_on self.old.arrays side)) hash index }
         ensures map { Puts K.eq key value (state_of TYPE self.old) result (state_of TYPE self.new) }
         ensures bucket { (left : BucketView K V)
-            × PutsIn K.eq L.KEEPS key value (hash % 256) (bucket_on self.old.arrays side index) result
-            left
+            × PutsIn K.eq L.KEEPS key value (hash % 256) (bucket_on self.old.arrays side index)
+            result left
             × (self.new ≡ with_bucket self.old side index left) }
     {
         self.arrays.room_of(side);

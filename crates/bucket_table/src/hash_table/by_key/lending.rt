@@ -33,8 +33,8 @@ impl<K: Eq + Drop, V: Drop, H: KeyHash<K>, L: LruList + Drop, const TYPE: u8> Ha
             (record { KEEPS = L.KEEPS; listed = L.listed; IsTail = L.IsTail }) L.Default
             self.entry false (λ own. K.eq own key.now)
             (H.hash_of self.entry.now.hasher key.now) result) }
-        ensures found { IfSome result (λ loan.
-            (own : K) × IsThere (λ own. K.eq own key.now) (pairs_of self.old.arrays) (own, loan.now)) }
+        ensures found { IfSome result (λ loan. (own : K)
+            × IsThere (λ own. K.eq own key.now) (pairs_of self.old.arrays) (own, loan.now)) }
         ensures absent { IfNone result
             (IsAbsent (λ own. K.eq own key.now) (pairs_of self.old.arrays)) }
     {

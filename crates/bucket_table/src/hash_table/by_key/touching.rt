@@ -3,7 +3,8 @@
 //! Own.
 ghost use Rattle.std.specs.Prelude.{◌≡◌, IfErr, IfNone, IfOk, IfSome, OnErr, true};
 ghost use Rattle.bucket_slots.specs.Evicting.{slots_touched};
-ghost use Rattle.bucket_table.specs.Map.ByKey.{ChangesAt, ChangesPlace, PreparesThen, StandsAt, Touches};
+ghost use Rattle.bucket_table.specs.Map.ByKey.{ChangesAt, ChangesPlace};
+ghost use Rattle.bucket_table.specs.Map.ByKey.{PreparesThen, StandsAt, Touches};
 ghost use Rattle.bucket_table.specs.Map.LookingUp.{IsAbsent};
 ghost use Rattle.bucket_table.specs.Map.MapState.{KeepsPairs, state_of};
 ghost use Rattle.bucket_table.specs.Map.Preparing.{IsPrepared};

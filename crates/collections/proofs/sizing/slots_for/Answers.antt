@@ -1,5 +1,5 @@
 use Rattle.std.proofs.Common.{max, rules, subst, ℕ, ◌*◌, ◌+◌, ◌/◌, ◌^◌, ◌≡◌}
-use Rattle.bucket_slots.proofs.ArrayCallerLemmas.{least_from_half}
+use Rattle.bucket_slots.proofs.CallerLemmas.{least_from_half}
 use Rattle.bucket_slots.specs.Sizing.{IsLeastPowerOfTwo}
 use Rattle.collections.proofs.Capacity.{not_full, slots_found}
 use Rattle.collections.proofs.sizing.slots_for.Goals as goal

@@ -1,5 +1,5 @@
-use Rattle.bucket_slots.proofs.CallerLemmas.{live_from_pair}
-use Rattle.bucket_slots.proofs.SearchCallerLemmas.{found_pair}
+use Rattle.bucket_slots.proofs.PairsAfter.{live_from_pair}
+use Rattle.bucket_slots.proofs.SearchedPairs.{found_pair}
 use Rattle.test_layers.proofs.by_key.find.Goals as goal
 
 pub returns-then-is_valid : goal.returns-then-is_valid

@@ -2,7 +2,7 @@ use Rattle.std.proofs.Common.{set, ap, ◌∙◌}
 use Rattle.std.proofs.lemmas.List.{get_or_default}
 use Rattle.std.proofs.lemmas.Result.{on_ok_weaker}
 use Rattle.bucket_slots.specs.BucketView.{empty_bucket}
-use Rattle.bucket_slots.proofs.RoomCallerLemmas.{refused_full, refused_unchanged}
+use Rattle.bucket_slots.proofs.RoomAfter.{refused_full, refused_unchanged}
 use Rattle.test_layers.proofs.OneOfMany.{unchanged_by_failure}
 use Rattle.test_layers.proofs.probe.insert_at.Goals as goal
 

@@ -1,5 +1,5 @@
 use Rattle.std.proofs.Common.{rules, sym, ◌∙◌}
-use Rattle.bucket_slots.proofs.CallerLemmas.{live_from_pair}
+use Rattle.bucket_slots.proofs.PairsAfter.{live_from_pair}
 use Rattle.bucket_table.proofs.Map.LookUps.{null_is}
 use Rattle.bucket_table.proofs.Map.TakeSteps.{absent_before, same_taken, then_taken}
 use Rattle.test_layers.proofs.taking.take.Goals as goal

@@ -1,6 +1,6 @@
 use Rattle.std.proofs.Common.{rules}
-use Rattle.bucket_slots.proofs.CallerLemmas.{live_from_pair}
-use Rattle.bucket_slots.proofs.SearchCallerLemmas.{found_pair}
+use Rattle.bucket_slots.proofs.PairsAfter.{live_from_pair}
+use Rattle.bucket_slots.proofs.SearchedPairs.{found_pair}
 use Rattle.trial_refused_memory.proofs.buckets.transfer.Goals as goal
 
 pub extract_from-requires : goal.extract_from-requires

@@ -1,7 +1,7 @@
 use Rattle.bucket_slots.proofs.Words.{ap, arith, first_from, flattened, has_byte, is_wanted, refl, sum_by-append, sym, ◌∙◌}
 use Rattle.bucket_slots.proofs.Counting.{tally}
 use Rattle.bucket_slots.proofs.FirstPlaces.{first_chain}
-use Rattle.bucket_slots.proofs.CallerLemmas.{live_from_pair}
+use Rattle.bucket_slots.proofs.PairsAfter.{live_from_pair}
 use Rattle.bucket_slots.proofs.bucket.Bucket.find_among.Goals as goal
 
 pub returns-in-Some-clause-place : goal.returns-in-Some-clause-place

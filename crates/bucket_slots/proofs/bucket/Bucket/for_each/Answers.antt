@@ -1,5 +1,5 @@
 use Rattle.bucket_slots.proofs.Words.{ap, arith, length, of_calls, pairs_ahead, pairs_in, rules, slot_in, sym, ◌∙◌}
-use Rattle.bucket_slots.proofs.CallerLemmas.{live_from_pair}
+use Rattle.bucket_slots.proofs.PairsAfter.{live_from_pair}
 use Rattle.bucket_slots.proofs.CallingEach.{done, goes_on, own_alone, own_called}
 use Rattle.bucket_slots.proofs.bucket.Bucket.for_each.Goals as goal
 

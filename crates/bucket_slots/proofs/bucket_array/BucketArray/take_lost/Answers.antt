@@ -1,7 +1,7 @@
 use Rattle.bucket_slots.proofs.Words.{ap, length, pairs_in, rules, set, set-get_or, ◌%◌, ◌∙◌}
-use Rattle.bucket_slots.proofs.CallerLemmas.{live_from_pair}
+use Rattle.bucket_slots.proofs.PairsAfter.{live_from_pair}
 use Rattle.bucket_slots.proofs.Digests.{null_at}
-use Rattle.bucket_slots.proofs.SearchCallerLemmas.{found_pair}
+use Rattle.bucket_slots.proofs.SearchedPairs.{found_pair}
 use Rattle.bucket_slots.proofs.bucket_array.BucketArray.take_lost.Goals as goal
 
 pub returns-then-not-is_valid-clause-taken : goal.returns-then-not-is_valid-clause-taken

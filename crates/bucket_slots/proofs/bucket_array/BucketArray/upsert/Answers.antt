@@ -1,8 +1,8 @@
 use Rattle.bucket_slots.proofs.Words.{Err, ap, bucket_with_value, place_wanted, refl, rules, subst, sym, ◌%◌, ◌∙◌}
 use Rattle.bucket_slots.specs.ArrayView.{bucket_at}
 use Rattle.bucket_slots.specs.Digested.{AnswersPut}
-use Rattle.bucket_slots.proofs.CallerLemmas.{live_from_pair}
-use Rattle.bucket_slots.proofs.SearchCallerLemmas.{found_pair}
+use Rattle.bucket_slots.proofs.PairsAfter.{live_from_pair}
+use Rattle.bucket_slots.proofs.SearchedPairs.{found_pair}
 use Rattle.bucket_slots.proofs.bucket_array.BucketArray.upsert.Goals as goal
 
 pub entry_mut-old-requires : goal.entry_mut-old-requires

@@ -1,5 +1,5 @@
-use Rattle.bucket_slots.proofs.Words.{IsMaskOf, [], ap, arith, empty_bucket, get_or, get_or_read, has_byte, length, part_at, rules, subst, sym}
-use Rattle.bucket_slots.proofs.Words.{◌<◌, ℕ, ◌∙◌}
+use Rattle.bucket_slots.proofs.Words.{IsMaskOf, [], ap, arith, empty_bucket, get_or, get_or_read}
+use Rattle.bucket_slots.proofs.Words.{has_byte, length, part_at, rules, subst, sym, ◌<◌, ℕ, ◌∙◌}
 use Rattle.bucket_slots.specs.ArrayView.{bucket_at}
 use Rattle.bucket_slots.proofs.Digests.{none_by_mask, some_in_mask}
 use Rattle.bucket_slots.proofs.bucket_array.known.find_in.Goals as goal

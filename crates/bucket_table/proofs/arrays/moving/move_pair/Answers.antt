@@ -1,6 +1,6 @@
 use Rattle.bucket_table.proofs.Words.{ap, rules}
 use Rattle.std.proofs.Common.{slice_set}
-use Rattle.bucket_slots.proofs.RoomCallerLemmas.{refused_full}
+use Rattle.bucket_slots.proofs.RoomAfter.{refused_full}
 use Rattle.bucket_table.proofs.Map.LockedSteps.{pair_there}
 use Rattle.bucket_table.proofs.Moves.MovingPairs.{home_has_room}
 use Rattle.bucket_table.proofs.arrays.moving.move_pair.Goals as goal

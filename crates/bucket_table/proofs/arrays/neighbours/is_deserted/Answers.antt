@@ -1,5 +1,5 @@
 use Rattle.bucket_table.proofs.Words.{arith}
-use Rattle.bucket_slots.proofs.ArrayCallerLemmas.{small_within}
+use Rattle.bucket_slots.proofs.ArrayNumbers.{small_within}
 use Rattle.bucket_table.proofs.Resize.Neighbours.{deserted, near_within}
 use Rattle.bucket_table.proofs.arrays.neighbours.is_deserted.Goals as goal
 

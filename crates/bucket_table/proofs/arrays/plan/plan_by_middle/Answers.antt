@@ -1,6 +1,6 @@
 use Rattle.bucket_table.proofs.Words.{ap, arith, live_counts, slots_of, sym, ℕ, ◌*◌, ◌<◌, ◌∙◌}
 use Rattle.bucket_table.proofs.Resize.PlanBounds.{given_up, grown, middle_is, optimal_at, same_capacity, shrunk, slots_are, slots_in}
-use Rattle.bucket_slots.proofs.ArrayCallerLemmas.{large_within, optimal_fits}
+use Rattle.bucket_slots.proofs.ArrayNumbers.{large_within, optimal_fits}
 use Rattle.bucket_table.proofs.arrays.plan.plan_by_middle.Goals as goal
 
 pub optimal_capacity-capacity-requires-clause-capacity : goal.optimal_capacity-capacity-requires-clause-capacity

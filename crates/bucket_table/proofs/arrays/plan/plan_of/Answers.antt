@@ -1,7 +1,7 @@
 use Rattle.bucket_table.proofs.Words.{arith, false≢true, refl, sym, ◌∙◌, ◌≡◌}
 use Rattle.bucket_table.proofs.Resize.PlanBounds.{plan_at_zero, plan_settled}
 use Rattle.bucket_table.proofs.arrays.plan.plan_of.Goals.{else-last-eq0-via-else-last-eq0, else-last-eq0-via-then-last-eq0+else-minimum-eq0}
-use Rattle.bucket_slots.proofs.ArrayCallerLemmas.{large_within}
+use Rattle.bucket_slots.proofs.ArrayNumbers.{large_within}
 use Rattle.bucket_table.proofs.arrays.plan.plan_of.Goals as goal
 
 pub overflow_sub-len : goal.overflow_sub-len

@@ -1,5 +1,5 @@
 use Rattle.bucket_table.proofs.Words.{bucket_on, by-no_new, by-trans, marks_in, marks_of, refl}
-use Rattle.bucket_slots.proofs.MarkCallerLemmas.{by-one, marks_in-slots_marked}
+use Rattle.bucket_slots.proofs.MarksAfter.{by-one, marks_in-slots_marked}
 use Rattle.bucket_table.proofs.Map.KeySteps.{marks_through}
 use Rattle.bucket_table.proofs.Map.SlotSteps.{marks}
 use Rattle.bucket_table.specs.Map.MapState.{state_of}

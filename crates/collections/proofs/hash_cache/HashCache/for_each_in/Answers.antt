@@ -1,5 +1,5 @@
 use Rattle.std.proofs.Common.{sym}
-use Rattle.bucket_table.proofs.Walking.EachPair.{calls_same}
+use Rattle.bucket_table.proofs.CallerLemmas.{calls_same}
 use Rattle.collections.proofs.Buckets.{bucket_pairs, buckets_len}
 use Rattle.collections.proofs.hash_cache.HashCache.for_each_in.Goals as goal
 

@@ -1,5 +1,5 @@
 use Rattle.std.proofs.Common.{ap, inl, inr, is_some, refl, sym}
-use Rattle.bucket_table.proofs.Map.AfterSearch.{own_kept}
+use Rattle.bucket_table.proofs.CallerLemmas.{own_kept}
 use Rattle.collections.proofs.Touching.{missed, shown, touched}
 use Rattle.collections.proofs.hash_cache.HashCache.get_or_insert_with.Goals as goal
 

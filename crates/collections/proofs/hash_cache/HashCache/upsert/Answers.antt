@@ -1,4 +1,4 @@
-use Rattle.bucket_table.proofs.Map.AfterSearch.{own_kept}
+use Rattle.bucket_table.proofs.CallerLemmas.{own_kept}
 use Rattle.collections.proofs.Touching.{replaced, written_there}
 use Rattle.collections.proofs.hash_cache.HashCache.upsert.Goals as goal
 

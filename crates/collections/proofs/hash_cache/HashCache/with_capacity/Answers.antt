@@ -1,5 +1,5 @@
 use Rattle.std.proofs.Common.{max, min, rules, subst, ℕ, ◌^◌, ◌≡◌}
-use Rattle.bucket_slots.proofs.ArrayCallerLemmas.{least_from_half}
+use Rattle.bucket_slots.proofs.CallerLemmas.{least_from_half}
 use Rattle.bucket_slots.specs.Sizing.{IsLeastPowerOfTwo}
 use Rattle.collections.proofs.hash_cache.HashCache.with_capacity.Goals as goal
 

@@ -1,6 +1,6 @@
 use Rattle.std.proofs.Common.{arith, ap, refl, true, ◌%◌, ◌∙◌}
 use Rattle.bucket_slots.specs.Clearing.{slots_after_insertion}
-use Rattle.bucket_table.proofs.Map.LockedChanged.{table_same}
+use Rattle.bucket_table.proofs.CallerLemmas.{table_same}
 use Rattle.bucket_table.specs.Map.Lending.{with_value}
 use Rattle.collections.proofs.Adding.{added_lent, added_lent_grows, changed_there, full_grows, full_there, kept_stays, pair_named}
 use Rattle.collections.proofs.Crowding.{found_full, none_found_room}

@@ -1,5 +1,5 @@
 use Rattle.bucket_table.proofs.Words.{rules, true, ◌%◌}
-use Rattle.bucket_slots.proofs.RoomCallerLemmas.{refused_full}
+use Rattle.bucket_slots.proofs.RoomAfter.{refused_full}
 use Rattle.bucket_table.proofs.Map.PutSlots.{goes, never_full, put_is}
 use Rattle.bucket_table.proofs.hash_table.by_key.evicting.put_absent_in.Goals as goal
 

@@ -1,5 +1,5 @@
 use Rattle.bucket_table.proofs.Words.{arith, length-set, refl, slots_after_insertion, ◌%◌}
-use Rattle.bucket_slots.proofs.RoomCallerLemmas.{refused_unchanged}
+use Rattle.bucket_slots.proofs.RoomAfter.{refused_unchanged}
 use Rattle.bucket_table.proofs.Map.LockedChanged.{answers_placing, put_or_same}
 use Rattle.bucket_table.proofs.Map.LockedSteps.{put_there}
 use Rattle.bucket_table.proofs.Map.MapSteps.{inserted_or}

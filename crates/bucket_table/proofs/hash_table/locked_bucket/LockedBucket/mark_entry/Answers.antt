@@ -1,5 +1,5 @@
 use Rattle.bucket_table.proofs.Words.{bucket_on, refl}
-use Rattle.bucket_slots.proofs.RoomCallerLemmas.{killed-slots_marked}
+use Rattle.bucket_slots.proofs.RoomAfter.{killed-slots_marked}
 use Rattle.bucket_table.specs.Views.LockedLaws.{locked_change}
 use Rattle.bucket_table.proofs.Map.LockedSteps.{pair_there}
 use Rattle.bucket_table.proofs.Map.SlotSteps.{marks_only}

@@ -1,5 +1,5 @@
 use Rattle.bucket_table.proofs.Words.{refl}
-use Rattle.bucket_slots.proofs.RoomCallerLemmas.{killed-slots_without}
+use Rattle.bucket_slots.proofs.RoomAfter.{killed-slots_without}
 use Rattle.bucket_table.specs.Views.LockedLaws.{locked_change}
 use Rattle.bucket_table.proofs.Map.SlotSteps.{takes_only}
 use Rattle.bucket_table.proofs.hash_table.locked_bucket.LockedBucket.remove_entry.Goals as goal

@@ -1,4 +1,4 @@
--- What callers cite of a placement and of a vacated slot: the own slots, the pairs of the chain and the recency list after it.
+-- A placement and a vacated slot: the own slots, the pairs of the chain and the recency list after it.
 use Rattle.bucket_slots.proofs.Words.{All, All-contains, All-head, All-tail, BucketView, Contains, Contains-append_left}
 use Rattle.bucket_slots.proofs.Words.{Contains-append_right, Contains-from_any, Contains-permutation, IsBucketOf, IsPermutation}
 use Rattle.bucket_slots.proofs.Words.{IsRecencyOrder, IsTrue, List, Slot, [], ap, arith, block_at, eqb-true, false, false_from_ne_true}
@@ -7,9 +7,9 @@ use Rattle.bucket_slots.proofs.Words.{length, list_any_at, listed_pairs, live, l
 use Rattle.bucket_slots.proofs.Words.{refl, rows_with, slot_at, slots_vacated_at, slots_with, suc, sym, take, true, true≢false}
 use Rattle.bucket_slots.proofs.Words.{with_place_made, with_slot_at, zero, ℕ, ◌<◌, ◌==◌, ◌∙◌, ◌∷◌, ◌≡◌}
 use Rattle.bucket_slots.proofs.BucketPlacing.{place_made, same_made}
-use Rattle.bucket_slots.proofs.CallerLemmas.{live_not_free}
 use Rattle.bucket_slots.proofs.ChangedSlots.{live_inside}
 use Rattle.bucket_slots.proofs.Entries.{rows-exchanged}
+use Rattle.bucket_slots.proofs.PairsAfter.{live_not_free}
 use Rattle.bucket_slots.proofs.Recency.Orders.{eqb-same, listed_apart, listed_in_range, newest_once, older_order}
 
 map_alike : {A : Type 0} (f g : ℕ → A) (items : List ℕ) → All (λ item. f item ≡ g item) items → map f items ≡ map g items

@@ -1,4 +1,4 @@
--- What callers of a bucket cite of its free slots, of what is ahead of a pointer, and of killed buckets.
+-- The free slots of a bucket after a call, what is ahead of a pointer, and that no call but kill makes it killed.
 use Rattle.bucket_slots.proofs.Words.{Bool, BucketView, Err, INDEX, IsRefused, None, Ok, OnErr, Option, Place, Result, Slot, Some, []}
 use Rattle.bucket_slots.proofs.Words.{all_slots, ap, arith, bucket_with_value, false, first_place, flattened, free_block, free_len_in}
 use Rattle.bucket_slots.proofs.Words.{if◌then◌else◌, is_free, is_some, length, live, live_pairs, looks_at_marks, nil_from_length, pairs_in}
