@@ -84,6 +84,11 @@ module _ {K V : Type 0} where
         ap (λ x. live_pair (slot_marked epoch x)) (live_is (slot_in s at) p here).1 in
         pairs_in-with_slot (slot_marked epoch (slot_in s at)) front is ∙ ap (λ found. front ++ cons_option found (pairs_ahead s at)) none
 
+    -- so does a slot that is vacated
+    pub pairs_vacated : (front : List (K × V)) → pairs_in s ≡ front ++ p ∷ pairs_ahead s at
+        → pairs_in (slots_vacated s at) ≡ front ++ pairs_ahead s at
+    pairs_vacated front is = vacated s at.block at.pos ∙ pairs_in-with_slot free front is
+
     -- and so does a removal
     pub pairs_in-slots_without : (front : List (K × V)) → pairs_in s ≡ front ++ p ∷ pairs_ahead s at
         → pairs_in (slots_without s at) ≡ front ++ pairs_ahead s at
@@ -91,4 +96,4 @@ module _ {K V : Type 0} where
         let inside = there s at.block at.pos (live_inside (block_at s at.block) at.pos (live_from_pair (slot_in s at) p here)) in
         let linked = entries_unlinked (slots_vacated s at) at.block (omega (arith, length-vacated s at.block at.pos)) in
         sym (map-entries_in (slots_without s at)) ∙ ap (map (λ (e : (K × V) × ℕ). e.0)) linked ∙ map-entries_in (slots_vacated s at)
-        ∙ vacated s at.block at.pos ∙ pairs_in-with_slot free front is
+        ∙ pairs_vacated front is

@@ -12,7 +12,7 @@ pub mod Arriving
 pub mod Carried
 pub mod CarriedPairs
 pub mod CarriedOrder
-pub mod GoingFirst
+pub mod MovingInOrder
 pub mod CountingTargets
 pub mod HomesByDivision
 pub mod Ways

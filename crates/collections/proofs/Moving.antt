@@ -28,7 +28,7 @@ module _ {K V : Type 0} where
     came_is = refl;
     arrived = kept.order.arrived;
     carried = kept.order.carried;
-    first = kept.order.first;
+    in_order = kept.order.in_order;
   }
 
   -- beside an old array

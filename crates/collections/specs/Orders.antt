@@ -14,7 +14,7 @@ use Rattle.bucket_slots.specs.Removing.{slots_without}
 use Rattle.bucket_slots.specs.Slots.{is_free, live_pairs}
 use Rattle.bucket_table.specs.Map.ByKey.{StandsAt}
 use Rattle.bucket_table.specs.Map.Putting.{Goes, slots_left, slots_put}
-use Rattle.bucket_table.specs.Rehash.Carrying.{WentFirst, chained_pairs}
+use Rattle.bucket_table.specs.Rehash.Carrying.{WentInOrder}
 use Rattle.bucket_table.specs.Resize.Resizing.{IsMade}
 use Rattle.bucket_table.specs.Views.ArraysView.{ArraysView, TableView, pairs_of}
 use Rattle.bucket_table.specs.Views.Sides.{arrays_with, bucket_on}
@@ -24,7 +24,7 @@ use Rattle.collections.specs.Maps.{map_of}
 
 -- pairs of the old array, if there is one, have moved on, bucket after bucket, with their LRU order: no pair is lost, none of the current
 -- array leaves its slot, and each bucket lists what it listed, and then the listed pairs that came to its own slots, in their order; the
--- listed pairs of a bucket went before those of its chain
+-- pairs of a bucket went in the order of its slots, so that own slots go to the first of them
 pub record MovesOn {K V : Type 0} (old new : ArraysView K V) : Type 0 where
   pub alone : length old.linked ≡ 0 → new ≡ old
   pub pairs : IsPermutation (pairs_of old) (pairs_of new)
@@ -32,7 +32,7 @@ pub record MovesOn {K V : Type 0} (old new : ArraysView K V) : Type 0 where
   pub moved : List ℕ
   pub left : (i : ℕ) → (Contains moved i × (listed_pairs (bucket_at new.linked i) ≡ []))
       ⊎ ((listed_pairs (bucket_at new.linked i) ≡ listed_pairs (bucket_at old.linked i))
-      × (chained_pairs (bucket_at new.linked i) ≡ chained_pairs (bucket_at old.linked i)))
+      × (pairs_in (bucket_at new.linked i) ≡ pairs_in (bucket_at old.linked i)))
   pub stay : (j : ℕ) (at : Place) → is_free (slot_in (bucket_at old.current j) at) ≡ false
       → slot_in (bucket_at new.current j) at ≡ slot_in (bucket_at old.current j) at
   pub came : List (K × V)
@@ -41,8 +41,7 @@ pub record MovesOn {K V : Type 0} (old new : ArraysView K V) : Type 0 where
   pub carried : (eq : K → K → Bool) → IsEquivalence eq → IsDistinct eq (map (λ pair. pair.0) (pairs_of old)) → (j : ℕ)
       → listed_pairs (bucket_at new.current j) ≡ listed_pairs (bucket_at old.current j)
       ++ filter (λ pair. list_any (λ own. eq pair.0 own.0) (live_pairs (bucket_at new.current j).own)) came
-  pub first : (i : ℕ) → Contains moved i → All (λ pair. All (λ other. WentFirst new.current pair other)
-      (chained_pairs (bucket_at old.linked i))) (listed_pairs (bucket_at old.linked i))
+  pub in_order : (i : ℕ) → Contains moved i → WentInOrder new.current (pairs_in (bucket_at old.linked i))
 
 -- the map stays; pairs of the old array, if there is one, may move on; then the pair whose key is wanted, if it is present, is touched in
 -- its place, and nothing else changes

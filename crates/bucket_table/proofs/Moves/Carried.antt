@@ -1,14 +1,13 @@
 -- Recency that was carried: what the targets list once the pairs of a bucket have landed and their slots were listed.
-use Rattle.bucket_table.proofs.Words.{All, AreHome, Bool, BucketView, CACHE, HasNoNewMark, IsBucketOf, KeepsEntries, List}
+use Rattle.bucket_table.proofs.Words.{AreHome, Bool, BucketView, CACHE, HasNoNewMark, IsBucketOf, KeepsEntries, List}
 use Rattle.bucket_table.proofs.Words.{MovesInto, None, Option, Slot, Some, [], ap, append-nil, arith, bucket_at, cases_Bool, cases_eq}
-use Rattle.bucket_table.proofs.Words.{entries_among, entries_in, false, false≢true, free, get_or, homed_len, if◌then◌else◌, inl, inr, is_listed}
+use Rattle.bucket_table.proofs.Words.{entries_among, entries_in, false, false≢true, free, homed_len, if◌then◌else◌, inl, inr, is_listed}
 use Rattle.bucket_table.proofs.Words.{landing_of, length, listed_pairs, live, live_pair, live_pairs, map, map-append, marked, marks_among}
 use Rattle.bucket_table.proofs.Words.{marks_in, nil_from_length, pairs_in, refl, replicate, slot_at, slot_in, subst, sym, take, true, ℕ}
 use Rattle.bucket_table.proofs.Words.{◌++◌, ◌-◌, ◌<◌, ◌==◌, ◌∙◌, ◌∷◌, ◌≡◌}
 use Rattle.std.proofs.Common.{IsPermutation}
 use Rattle.std.proofs.Math.Seq.{take-append_seam}
 use Rattle.std.proofs.lemmas.Bool.{eqb-true}
-use Rattle.std.proofs.lemmas.List.{get_or_default}
 use Rattle.std.proofs.lemmas.List.Elements.{filter_map-append}
 use Rattle.std.specs.List.{filter}
 use Rattle.bucket_slots.proofs.PlacedSlots.{listed_below}
@@ -17,12 +16,12 @@ use Rattle.bucket_slots.specs.Recency.{order_and_zeros}
 use Rattle.bucket_table.specs.Layout.Landings.{CarriesRecency, HasLanded, HaveLanded, ListsArrivals, arrivals, carried_to, is_own_of}
 use Rattle.bucket_table.specs.Layout.Landings.{slot_there}
 use Rattle.bucket_table.specs.Layout.Moving.{CanMoveInto}
-use Rattle.bucket_table.specs.Rehash.Carrying.{WentFirst, chained_pairs}
+use Rattle.bucket_table.specs.Rehash.Carrying.{WentFirst, WentInOrder}
 use Rattle.bucket_table.specs.Rehash.Relocation.{KeepsPlaces}
 use Rattle.bucket_table.specs.declared.arrays.moving.Landing.{Landing}
 use Rattle.bucket_table.proofs.Moves.Arriving.{with_more}
 use Rattle.bucket_table.proofs.Moves.Landings.{none_left}
-use Rattle.bucket_table.proofs.Moves.Staying.{contains_at, each_listed, place_listed, stay_both, stay_same}
+use Rattle.bucket_table.proofs.Moves.Staying.{contains_at, place_listed, stay_both, stay_same}
 use Rattle.bucket_table.proofs.Views.MarksKept.{marks_alike}
 use Rattle.bucket_table.proofs.Moves.Relocating.{entries_alike}
 
@@ -96,12 +95,11 @@ module _ {K V : Type 0} where
   carries_none : (s : BucketView K V) (c d : List (BucketView K V))
       → ((j : ℕ) → listed_pairs (bucket_at d j) ≡ listed_pairs (bucket_at c j))
       → ((slot : ℕ) (pair : K × V) → is_listed s.listed slot ≡ true → live_pair (slot_at s.own slot) ≡ Some pair → ⊥) → KeepsPlaces c d
-      → CarriesRecency s c d
-  carries_none s c d same_lists none stay = record {
+      → WentInOrder d (pairs_in s) → CarriesRecency s c d
+  carries_none s c d same_lists none stay in_order = record {
     landing = λ slot. None;
     landed = λ slot pair listed here. absurd (none slot pair listed here);
-    first = each_listed (λ pair. All (λ other. WentFirst d pair other) (chained_pairs s)) (slot_at s.own) s.listed
-        (λ slot pair listed here. absurd (none slot pair listed here));
+    in_order = in_order;
     stay = stay;
     order = λ j.
         let nothing : carried_to s (λ slot. None) j ≡ [] =
@@ -112,11 +110,13 @@ module _ {K V : Type 0} where
 
   -- a bucket with no pair
   pub carries_nothing : (s : BucketView K V) (c : List (BucketView K V)) → pairs_in s ≡ [] → CarriesRecency s c c
-  carries_nothing s c none = carries_none s c c (λ j. refl) (λ slot pair listed here. none_left s slot pair none here) (stay_same c)
+  carries_nothing s c none =
+      carries_none s c c (λ j. refl) (λ slot pair listed here. none_left s slot pair none here) (stay_same c) (rw none tt)
 
   -- a bucket that lists nothing
   pub carries_unlisted : (s : BucketView K V) (c d : List (BucketView K V)) → length s.listed ≡ 0
-      → ((j : ℕ) → listed_pairs (bucket_at d j) ≡ listed_pairs (bucket_at c j)) → KeepsPlaces c d → CarriesRecency s c d
+      → ((j : ℕ) → listed_pairs (bucket_at d j) ≡ listed_pairs (bucket_at c j)) → KeepsPlaces c d → WentInOrder d (pairs_in s)
+      → CarriesRecency s c d
   carries_unlisted s c d none same_lists stay =
       let is_empty : s.listed ≡ [] = nil_from_length s.listed none in
       carries_none s c d same_lists
@@ -128,7 +128,7 @@ module _ {K V : Type 0} where
   carries_since s c0 c d kept carried = record {
     landing = carried.landing;
     landed = carried.landed;
-    first = carried.first;
+    in_order = carried.in_order;
     stay = stay_both c0 c d kept.stay carried.stay;
     order = λ j.
         let before : listed_pairs (bucket_at c j) ≡ listed_pairs (bucket_at c0 j) = rw (kept.own j, kept.listed j) refl in
@@ -164,7 +164,8 @@ module _ {K V : Type 0} where
   -- the pairs of s landed in d, and their slots were listed in e
   module _ (kind : ℕ) (hash : K → ℕ) (s : BucketView K V) (c d e : List (BucketView K V)) (landings : List (Option Landing))
       (laws : IsBucketOf kind s) (long : length landings ≡ 32)
-      (landed : HaveLanded hash (slots_unlisted s) c d landings) (listed : ListsArrivals landings s.listed d e) where
+      (landed : HaveLanded hash (slots_unlisted s) c d landings) (in_order : WentInOrder d (pairs_in s))
+      (listed : ListsArrivals landings s.listed d e) where
     more_listed : (j : ℕ) → listed_pairs (with_more (bucket_at d j) (arrivals landings j s.listed))
         ≡ listed_pairs (bucket_at d j) ++ carried_to s (λ slot. home_of_landing (landing_of landings slot)) j
     more_listed j =
@@ -189,18 +190,15 @@ module _ {K V : Type 0} where
     went_listed p q (inr (inl (j, chain))) = inr (inl (j, rw (listed.each j) chain))
     went_listed p q (inr (inr (i, j, apart, one, two))) = inr (inr (i, j, apart, rw (listed.each i) one, rw (listed.each j) two))
 
-    went_first : (slot : ℕ) (p : K × V) → live_pair (slot_at s.own slot) ≡ Some p → All (λ q. WentFirst e p q) (chained_pairs s)
-    went_first slot p here k default below =
-        let q = get_or (chained_pairs s) k default in
-        went_listed p q (landed.first p q (contains_at live_pair refl s.own slot p here)
-        (k, below, get_or_default (chained_pairs s) k q default below))
+    order_listed : (ps : List (K × V)) → WentInOrder d ps → WentInOrder e ps
+    order_listed [] order = order
+    order_listed (p ∷ ps) order = ((λ k q below. went_listed p _ (order.0 k q below)), order_listed ps order.1)
 
     pub carries_recency : CarriesRecency s c e
     carries_recency = record {
       landing = λ slot. home_of_landing (landing_of landings slot);
       landed = λ slot pair is here. has_landed slot pair (landing_of landings slot) (listed_below kind s slot laws is) refl here;
-      first = each_listed (λ pair. All (λ other. WentFirst e pair other) (chained_pairs s)) (slot_at s.own) s.listed
-          (λ slot pair is here. went_first slot pair here);
+      in_order = order_listed (pairs_in s) in_order;
       stay = stay_both c d e landed.stay (λ j at occupied.
           ap (λ (b : BucketView K V). slot_in b at) (listed.each j) ∙ place_listed (bucket_at d j)
           ((bucket_at d j).listed ++ arrivals landings j s.listed) at.block at.pos);
@@ -247,17 +245,18 @@ module _ {K V : Type 0} where
   pub carried_over : (kind : ℕ) (hash : K → ℕ) (s t left : BucketView K V) (c d e : List (BucketView K V))
       (landings : List (Option Landing))
       (bytes : List ℕ) (len : ℕ) → IsBucketOf kind s → length landings ≡ 32 → t ≡ slots_unlisted s → bytes ≡ order_and_zeros s.listed
-      → len ≡ length s.listed → HaveLanded hash t c d landings → MovesInto hash t c left d → AreHome hash d
+      → len ≡ length s.listed → HaveLanded hash t c d landings → WentInOrder d (pairs_in t) → MovesInto hash t c left d → AreHome hash d
       → ListsArrivals landings (take len bytes) d e → IsCarried hash s left c e
-  carried_over kind hash s t left c d e landings bytes len laws long t_is bytes_is len_is landed moved homes listed =
+  carried_over kind hash s t left c d e landings bytes len laws long t_is bytes_is len_is landed in_order moved homes listed =
       let landed_here = subst (λ (b : BucketView K V). HaveLanded hash b c d landings) t_is landed in
+      let order_here = subst (λ (b : BucketView K V). WentInOrder d (pairs_in b)) t_is in_order in
       let moved_here = subst (λ (b : BucketView K V). MovesInto hash b c left d) t_is moved in
       let listed_here = subst (λ (order : List ℕ). ListsArrivals landings order d e) (order_back s.listed bytes len bytes_is len_is)
       listed in
       record {
-        moved = moves_still kind hash s c d e landings laws long landed_here listed_here left moved_here;
-        homes = homes_still kind hash s c d e landings laws long landed_here listed_here homes;
-        recency = carries_recency kind hash s c d e landings laws long landed_here listed_here;
+        moved = moves_still kind hash s c d e landings laws long landed_here order_here listed_here left moved_here;
+        homes = homes_still kind hash s c d e landings laws long landed_here order_here listed_here homes;
+        recency = carries_recency kind hash s c d e landings laws long landed_here order_here listed_here;
       }
 
 -- an order that isn't empty comes from a cache, whose list is kept

@@ -2,18 +2,17 @@
 use Rattle.bucket_table.proofs.Words.{All, All-head, All-nil, All-tail, ArraysView, Bool, BucketView, Contains, Contains-append_left}
 use Rattle.bucket_table.proofs.Words.{Contains-append_right, IsDistinct, IsDistinct-IsPermutation, IsEquivalence, IsPermutation}
 use Rattle.bucket_table.proofs.Words.{IsPermutation-map, List, None, Option, Some, [], ap, append-nil, append_assoc, arith}
-use Rattle.bucket_table.proofs.Words.{bucket_at, cases_eq, entries_among, entries_of, filter, filter-append, flattened, get_or, inl, inr, length}
-use Rattle.bucket_table.proofs.Words.{length-append, live_pairs, nil_from_length, suc, zero}
-use Rattle.bucket_table.proofs.Words.{listed_pairs, live_pair, map, map-append, pairs_in, pairs_of, refl, slot_at, subst}
+use Rattle.bucket_table.proofs.Words.{bucket_at, cases_eq, entries_among, entries_of, filter, filter-append, get_or, inl, inr, suc, zero}
+use Rattle.bucket_table.proofs.Words.{listed_pairs, map, map-append, pairs_in, pairs_of, refl, slot_at, subst}
 use Rattle.bucket_table.proofs.Words.{sym, ℕ, ◌++◌, ◌∙◌, ◌∷◌, ◌≡◌, ◌⊎◌}
 use Rattle.std.proofs.lemmas.List.Concat.{flat_map-append}
-use Rattle.std.proofs.lemmas.List.Elements.{All-append, Contains-append_cases, filter_map-append}
+use Rattle.std.proofs.lemmas.List.Elements.{All-append, Contains-append_cases}
 use Rattle.std.specs.Prelude.{flat_map}
 use Rattle.bucket_table.specs.Layout.Landings.{CarriesRecency, HasLanded}
-use Rattle.bucket_table.specs.Rehash.Carrying.{CarriesOrder, CarriesPairs, ListedWentFirst, WentFirst, chained_pairs, has_own_key, listed_among}
+use Rattle.bucket_table.specs.Rehash.Carrying.{CarriesOrder, CarriesPairs, WentInOrder, has_own_key, listed_among}
 use Rattle.bucket_table.specs.Rehash.Relocation.{KeepsPlaces}
 use Rattle.bucket_table.proofs.Moves.CarriedPairs.{carries_pairs, in_chain, in_own, landing_tells, pairs_among}
-use Rattle.bucket_table.proofs.Moves.GoingFirst.{chain_still, own_still, went_still}
+use Rattle.bucket_table.proofs.Moves.MovingInOrder.{chain_still, order_still, own_still}
 use Rattle.bucket_table.proofs.Moves.Landings.{none_left}
 use Rattle.bucket_table.proofs.Moves.Staying.{each_listed, own_or_chain, stay_both, stay_same}
 
@@ -73,16 +72,10 @@ module _ {K V : Type 0} where
       let never = each_listed (λ p. ⊥) (slot_at b.own) b.listed (λ slot p listed here. none_left b slot p none here) in
       nothing (listed_pairs b) never
 
-  -- nor has it one in its chain
-  pub unchained_empty : (b : BucketView K V) → pairs_in b ≡ [] → chained_pairs b ≡ []
-  unchained_empty b none =
-      let parts = ap length (filter_map-append live_pair b.own (flattened b.chain)) in
-      nil_from_length (chained_pairs b) (omega (arith, ap length none, parts, length-append (live_pairs b.own) (chained_pairs b)))
-
   -- no bucket has moved on
   pub carries_unmoved : (old new : ArraysView K V)
       → ((i : ℕ) → (listed_pairs (bucket_at new.linked i) ≡ listed_pairs (bucket_at old.linked i))
-      × (chained_pairs (bucket_at new.linked i) ≡ chained_pairs (bucket_at old.linked i)))
+      × (pairs_in (bucket_at new.linked i) ≡ pairs_in (bucket_at old.linked i)))
       → KeepsPlaces old.current new.current
       → ((j : ℕ) → listed_pairs (bucket_at new.current j) ≡ listed_pairs (bucket_at old.current j)) → CarriesOrder old new
   carries_unmoved old new left stay same = record {
@@ -91,7 +84,7 @@ module _ {K V : Type 0} where
     stay = stay;
     arrived = All-nil (λ (pair : K × V). (j : ℕ) × Contains (pairs_in (bucket_at new.current j)) pair);
     carried = λ eq laws once j. same j ∙ sym (append-nil (listed_pairs (bucket_at old.current j)));
-    first = λ i has. absurd (omega (arith, has.1));
+    in_order = λ i has. absurd (omega (arith, has.1));
   }
 
   pub order_same : (a : ArraysView K V) → CarriesOrder a a
@@ -144,7 +137,7 @@ module _ {K V : Type 0} where
             subst (λ (k : ℕ). Contains (index ∷ []) k) (sym same) (0, omega arith, refl),
             rw same (unlisted_empty (bucket_at new.linked index) none),
           )
-          | inr apart ↦ inr (ap listed_pairs (others i apart), ap chained_pairs (others i apart))
+          | inr apart ↦ inr (ap listed_pairs (others i apart), ap pairs_in (others i apart))
         ];
         stay = recency.stay;
         arrived = subst (λ (ps : List (K × V)). All there ps) one (each_listed there (slot_at source.own) source.listed
@@ -153,7 +146,8 @@ module _ {K V : Type 0} where
             subst (λ (ps : List (K × V)). CarriesPairs eq ps old.current new.current) one
             (carries_pairs eq laws source old.current new.current (pairs_among new.linked)
             (once_in_parts eq new (once_after eq laws old new pairs once)) recency);
-        first = λ i has. subst (λ (k : ℕ). ListedWentFirst (bucket_at old.linked k) new.current) (only index i has) recency.first;
+        in_order = λ i has.
+            subst (λ (k : ℕ). WentInOrder new.current (pairs_in (bucket_at old.linked k))) (only index i has) recency.in_order;
       }
 
   -- one step after another
@@ -187,7 +181,7 @@ module _ {K V : Type 0} where
 
     left_both : (i : ℕ) → (Contains (first.moved ++ later.0) i × (listed_pairs (bucket_at new.linked i) ≡ []))
         ⊎ ((listed_pairs (bucket_at new.linked i) ≡ listed_pairs (bucket_at old.linked i))
-        × (chained_pairs (bucket_at new.linked i) ≡ chained_pairs (bucket_at old.linked i)))
+        × (pairs_in (bucket_at new.linked i) ≡ pairs_in (bucket_at old.linked i)))
     left_both i = elim (first.left i) [
       | inl gone ↦
           let among = Contains-append_left first.moved later.0 i gone.0 in
@@ -205,20 +199,16 @@ module _ {K V : Type 0} where
     ]
 
     -- those of the first step stay where they stood, and those of the second were as they had been
-    first_still : (i : ℕ) → Contains first.moved i → ListedWentFirst (bucket_at old.linked i) new.current
-    first_still i has k d below n e within =
-        went_still mid.current new.current second.stay _ _ (first.first i has k d below n e within)
+    order_first : (i : ℕ) → Contains first.moved i → WentInOrder new.current (pairs_in (bucket_at old.linked i))
+    order_first i has =
+        order_still mid.current new.current second.stay (pairs_in (bucket_at old.linked i)) (first.in_order i has)
 
-    first_both : (i : ℕ) → Contains (first.moved ++ later.0) i → ListedWentFirst (bucket_at old.linked i) new.current
-    first_both i has = elim (Contains-append_cases first.moved later.0 i has) [
-      | inl moved ↦ first_still i moved
+    in_order_both : (i : ℕ) → Contains (first.moved ++ later.0) i → WentInOrder new.current (pairs_in (bucket_at old.linked i))
+    in_order_both i has = elim (Contains-append_cases first.moved later.0 i has) [
+      | inl moved ↦ order_first i moved
       | inr more ↦ elim (first.left i) [
-        | inl gone ↦ first_still i gone.0
-        | inr same ↦
-            subst (λ (ps : List (K × V)). All (λ p. All (λ q. WentFirst new.current p q) (chained_pairs (bucket_at old.linked i)))
-            ps) same.0
-            (subst (λ (qs : List (K × V)). All (λ p. All (λ q. WentFirst new.current p q) qs) (is i)) same.1
-            (second.first i (later.3 i more)))
+        | inl gone ↦ order_first i gone.0
+        | inr same ↦ subst (λ (ps : List (K × V)). WentInOrder new.current ps) same.1 (second.in_order i (later.3 i more))
       ]
     ]
 
@@ -267,5 +257,5 @@ module _ {K V : Type 0} where
       stay = stay_both old.current mid.current new.current first.stay second.stay;
       arrived = subst (λ (ps : List (K × V)). All There ps) (sym all) (All-append There came came_later still_there second.arrived);
       carried = carried_both;
-      first = first_both;
+      in_order = in_order_both;
     }

@@ -1,7 +1,7 @@
 -- Where the pairs of a bucket's own slots land while they move one after another to their homes.
-use Rattle.bucket_table.proofs.Words.{BucketView, Contains, IsBucketOf, List, None, Option, Place, Some, [], ap, arith, bucket_at, cases_eq, cases_lt}
+use Rattle.bucket_table.proofs.Words.{BucketView, IsBucketOf, List, None, Option, Place, Some, [], ap, arith, bucket_at, cases_eq, cases_lt}
 use Rattle.bucket_table.proofs.Words.{eq-eqb, false≢true, get_or-set_same, homed_len, inl, inr, is_free, is_live, landing_of, length, length-set}
-use Rattle.bucket_table.proofs.Words.{length_permutation, listed_pairs, live_from_pair, live_not_free, live_pair, live_pairs, pairs_in}
+use Rattle.bucket_table.proofs.Words.{length_permutation, listed_pairs, live_from_pair, live_not_free, live_pair, pairs_in}
 use Rattle.bucket_table.proofs.Words.{pairs_in-slots_vacated, refl, replicate, set, slot_at, slot_in, slots_vacated, subst, suc, sym, true}
 use Rattle.bucket_table.proofs.Words.{zero, ℕ, ◌%◌, ◌<◌, ◌∙◌, ◌≡◌, ◌⊎◌}
 use Rattle.std.proofs.lemmas.Bool.{ne_eqb}
@@ -12,7 +12,6 @@ use Rattle.bucket_slots.specs.BucketView.{first_place}
 use Rattle.bucket_slots.specs.Placing.{place_for_next, slots_with}
 use Rattle.bucket_table.specs.Layout.Landings.{AreListable, HaveLanded, IsListable, StandsInChain, landings_with}
 use Rattle.bucket_table.specs.Layout.Moving.{MovesHome}
-use Rattle.bucket_table.specs.Rehash.Carrying.{WentFirst}
 use Rattle.bucket_table.specs.Rehash.Relocation.{KeepsPlaces}
 use Rattle.bucket_table.specs.declared.arrays.moving.Landing.{Landing}
 use Rattle.bucket_table.proofs.Moves.Exchanges.{ChangesAt, changes_at}
@@ -309,11 +308,8 @@ module _ {K V : Type 0} where
       omega (arith, long, ap length none)
 
   pub landed_all : (hash : K → ℕ) (s0 : BucketView K V) (c0 : List (BucketView K V)) (s : BucketView K V) (c : List (BucketView K V))
-      (landings : List (Option Landing)) → AreLanding hash s0 c0 s c landings → pairs_in s ≡ []
-      → ((pair other : K × V) → Contains (live_pairs s0.own) pair → StandsInChain s0 other → WentFirst c pair other)
-      → HaveLanded hash s0 c0 c landings
-  landed_all hash s0 c0 s c landings landing none first = record {
-    first = first;
+      (landings : List (Option Landing)) → AreLanding hash s0 c0 s c landings → pairs_in s ≡ [] → HaveLanded hash s0 c0 c landings
+  landed_all hash s0 c0 s c landings landing none = record {
     table = landing.table;
     same_pair = landing.same_pair;
     homed = landing.homed;

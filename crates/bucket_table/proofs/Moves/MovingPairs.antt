@@ -3,8 +3,8 @@ use Rattle.bucket_table.proofs.Words.{All, All-cons, All-head, All-permutation, 
 use Rattle.bucket_table.proofs.Words.{IsHome, IsInRange, IsPermutation, IsPermutation-append_left, IsPermutation-append_right}
 use Rattle.bucket_table.proofs.Words.{IsPermutation-map, IsPermutation-refl, IsPermutation-trans, List, MovesInto, MovesToNext, None}
 use Rattle.bucket_table.proofs.Words.{Option, Place, Slot, Some, [], ap, arith, bucket_at, cases_eq, cond, entries_among, entries_in, false}
-use Rattle.bucket_table.proofs.Words.{home_of, homed_len, inl, inr, is_free, landing_of, length, length-entries_in, live_pair}
-use Rattle.bucket_table.proofs.Words.{map-entries_in, marks_among, marks_in, nil_from_length, no_new-refl, no_new-trans, null_place}
+use Rattle.bucket_table.proofs.Words.{home_of, homed_len, inl, inr, is_free, landing_of, length, live_pair}
+use Rattle.bucket_table.proofs.Words.{map-entries_in, marks_among, marks_in, no_new-refl, no_new-trans, null_place}
 use Rattle.bucket_table.proofs.Words.{pairs_ahead, pairs_in, pairs_in-slots_vacated, refl, rotated, set, slot_in, slots_vacated, subst}
 use Rattle.bucket_table.proofs.Words.{sum_by-cons, sym, true, ℕ, ◌%◌, ◌++◌, ◌+◌, ◌<◌, ◌==◌, ◌∙◌, ◌∷◌, ◌≡◌, ◌≤◌}
 use Rattle.std.proofs.lemmas.Bool.Decides.{nat_tests}
@@ -15,6 +15,7 @@ use Rattle.bucket_slots.proofs.RoomAfter.{free_len_in-none, free_len_in-slots_wi
 use Rattle.bucket_slots.specs.BucketView.{first_place}
 use Rattle.bucket_slots.specs.Placing.{slots_with}
 use Rattle.bucket_slots.specs.Reserving.{free_len_in}
+use Rattle.bucket_table.specs.Layout.Landings.{MoveInOrder}
 use Rattle.bucket_table.specs.Layout.Moving.{CanMoveInto, MovesHome, HasOwnByte}
 use Rattle.bucket_table.specs.Rehash.Relocation.{IsWay}
 use Rattle.bucket_table.specs.declared.arrays.moving.Landing.{Landing}
@@ -23,7 +24,8 @@ use Rattle.bucket_table.proofs.Moves.HomesByDivision.{home_of-interval}
 use Rattle.bucket_table.proofs.Moves.Landings.{AreLanding, landing_first, landing_step}
 use Rattle.bucket_table.proofs.Moves.MarksLeft.{marks_in-vacated}
 use Rattle.bucket_table.proofs.Views.MarksKept.{marks_among-set}
-use Rattle.bucket_table.proofs.Moves.Vacating.{IsWalkedTo, walked}
+use Rattle.bucket_table.proofs.Moves.MovingInOrder.{goes_on}
+use Rattle.bucket_table.proofs.Moves.Vacating.{walked}
 
 module _ {K V : Type 0} (hash : K → ℕ) where
   pub homed-cons : (len index : ℕ) (p : K × V) (ps : List (K × V))
@@ -89,7 +91,8 @@ module _ {K V : Type 0} (hash : K → ℕ) where
     pub moves : MovesInto hash s0 c0 s c
     pub ready : CanMoveInto hash start end s c
     pub landing : AreLanding hash s0 c0 s c landings
-    pub walked : IsWalkedTo s at
+    pub order : (first : BucketView K V) → MoveInOrder first s0 c0 → MoveInOrder first s c
+    pub walked : pairs_in s ≡ pairs_ahead s at
 
   -- where the next pair's home is, a slot is free
   at_home_of : (start end : ℕ) (s t : BucketView K V) (c : List (BucketView K V)) (p : K × V) (byte j : ℕ) → CanMoveInto hash start end s c
@@ -213,7 +216,8 @@ module _ {K V : Type 0} (hash : K → ℕ) where
     moves = MovesInto-refl s c;
     ready = ready;
     landing = landing_first hash s c landings unsaid;
-    walked = record { left = length-entries_in s };
+    order = λ first amid. amid;
+    walked = refl;
   }
 
   -- where the pair goes, a pair of the bucket that is moved has its home
@@ -268,9 +272,11 @@ module _ {K V : Type 0} (hash : K → ℕ) where
           moves = MovesInto-trans s0 s (slots_vacated s new) c0 c (set c j b) moving.moves moved;
           ready = still;
           landing = landing;
-          walked = step.0;
+          order = λ first amid. goes_on kind j (h % 256) first s (slots_vacated s new) c p step.0 one.home_laws one.way.home.within
+              (home_has_room new p moving.ready one.here one.way) (moving.order first amid);
+          walked = step.1;
         },
-        step.1,
+        omega (arith, ap length step.0, ap length step.1, ap length moving.walked),
       )
 
   -- and with the null pointer: no pair is left before the one that moved
@@ -278,15 +284,12 @@ module _ {K V : Type 0} (hash : K → ℕ) where
       {old new : Place} → IsMoving start end s0 c0 s c landings old → MovesToNext s old new → MovesHome kind hash new s c landings t d said
       → IsMoving start end s0 c0 t d said null_place × (length (pairs_ahead t null_place) < length (pairs_ahead s old))
   moving_again {t} moving next one =
-      let step = moving_step moving next one in
-      let all : length (entries_in t) ≡ length (pairs_ahead t null_place) = length-entries_in t in (
-        record { moves = step.0.moves; ready = step.0.ready; landing = step.0.landing; walked = record { left = all } },
-        omega (arith, step.1, step.0.walked.left, all),
+      let step = moving_step moving next one in (
+        record { moves = step.0.moves; ready = step.0.ready; landing = step.0.landing; order = step.0.order; walked = refl },
+        omega (arith, step.1, ap length step.0.walked),
       )
 
   -- after the last
   pub moving_done : {start end : ℕ} {s0 s : BucketView K V} {c0 c : List (BucketView K V)} {landings : List (Option Landing)} {at : Place}
       → IsMoving start end s0 c0 s c landings at → pairs_ahead s at ≡ [] → pairs_in s ≡ []
-  moving_done {s} moving nothing =
-      let none = ap length nothing in
-      nil_from_length (pairs_in s) (omega (arith, none, length-entries_in s, moving.walked.left))
+  moving_done moving nothing = moving.walked ∙ nothing

@@ -5,10 +5,10 @@ use Rattle.bucket_table.proofs.Words.{false, first_tickets, killed_flags, length
 use Rattle.bucket_table.proofs.Words.{bucket_at, listed_pairs, pairs_in, refl, subst, suc, sym, true, zero, ℕ, ◌*◌, ◌/◌, ◌↔◌, ◌∷◌, ◌≡◌}
 use Rattle.bucket_slots.proofs.MarksAfter.{no_new-append, no_new-none}
 use Rattle.bucket_table.specs.Rehash.Covered.{AreAllKilled, IsUnitKilled}
-use Rattle.bucket_table.specs.Rehash.Carrying.{CarriesOrder, chained_pairs}
+use Rattle.bucket_table.specs.Rehash.Carrying.{CarriesOrder}
 use Rattle.bucket_table.specs.declared.tickets.TicketError.{TicketError}
 use Rattle.bucket_table.specs.declared.tickets.TicketError.TheVariants.{NotDone, NotOpen}
-use Rattle.bucket_table.proofs.Moves.CarriedOrder.{carries_unmoved, unchained_empty, unlisted_empty}
+use Rattle.bucket_table.proofs.Moves.CarriedOrder.{carries_unmoved, unlisted_empty}
 use Rattle.bucket_table.proofs.Moves.Staying.{stay_same}
 use Rattle.bucket_table.proofs.Rehash.Covering.{all_killed, covered_end, covered_start, going_on_end, going_on_start}
 use Rattle.bucket_table.proofs.Views.Killed.{no_pairs}
@@ -68,11 +68,11 @@ module _ {K V : Type 0} where
 
   unlisted_all : (buckets : List (BucketView K V)) → AreAllKilled (killed_flags buckets)
       → All (λ (bucket : BucketView K V). bucket.killed ≡ true → pairs_in bucket ≡ []) buckets
-      → (i : ℕ) → (listed_pairs (bucket_at buckets i) ≡ []) × (chained_pairs (bucket_at buckets i) ≡ [])
+      → (i : ℕ) → (listed_pairs (bucket_at buckets i) ≡ []) × (pairs_in (bucket_at buckets i) ≡ [])
   unlisted_all [] killed emptied i = (refl, refl)
   unlisted_all (bucket ∷ buckets) killed emptied zero =
       let none = emptied 0 bucket (omega arith) (killed 0 (omega arith)) in
-      (unlisted_empty bucket none, unchained_empty bucket none)
+      (unlisted_empty bucket none, none)
   unlisted_all (bucket ∷ buckets) killed emptied (suc i) =
       unlisted_all buckets (λ k below. killed (suc k) (omega arith)) (λ k d below. emptied (suc k) d (omega arith)) i
 

@@ -74,7 +74,7 @@ module _ {K V : Type 0} where
 
   carries_unopened : (old new : ArraysView K V) → CarriesOrder (unopened old) new → CarriesOrder old new
   carries_unopened old new c =
-      record { moved = c.moved; left = c.left; stay = c.stay; arrived = c.arrived; carried = c.carried; first = c.first }
+      record { moved = c.moved; left = c.left; stay = c.stay; arrived = c.arrived; carried = c.carried; in_order = c.in_order }
 
   -- an old bucket wanted memory in the rehash that was on
   pub begun_wants : {A E : Type 0} (old begun second : ArraysView K V) → begun ≡ unopened old → (answer : Result A E) (error : E)

@@ -1,13 +1,13 @@
 -- Where the pairs of a bucket's own slots land in an array, as the calls inside a relocation say it. No public clause cites this module.
 use Rattle.std.specs.Prelude.{ℕ, ◌≡◌, ◌==◌, ◌<◌, ◌&&◌, ◌++◌, Bool, true, false, if◌then◌else◌, Option, Some, None, List, [], ◌∷◌, length}
-use Rattle.std.specs.Prelude.{flat_map, map, slice_index_or, slice_set}
-use Rattle.std.specs.List.{Contains, filter}
+use Rattle.std.specs.Prelude.{◌⊎◌, flat_map, map, slice_index_or, slice_set}
+use Rattle.std.specs.List.{All, Contains, filter}
 use Rattle.bucket_slots.specs.ArrayView.{bucket_at}
 use Rattle.bucket_slots.specs.BucketView.{BucketView, Place, listed_pairs, pairs_in}
 use Rattle.bucket_slots.specs.Recency.{is_listed}
-use Rattle.bucket_slots.specs.Slots.{is_live, live_pair, live_pairs, slot_at}
+use Rattle.bucket_slots.specs.Slots.{is_free, is_live, live_pair, live_pairs, slot_at}
 use Rattle.bucket_table.specs.declared.arrays.moving.Landing.{Landing}
-use Rattle.bucket_table.specs.Rehash.Carrying.{ListedWentFirst, WentFirst, chained_pairs}
+use Rattle.bucket_table.specs.Rehash.Carrying.{WentInOrder, chained_pairs}
 use Rattle.bucket_table.specs.Rehash.Relocation.{KeepsPlaces, homed_len}
 
 -- the pair stands in a bucket's chain
@@ -29,13 +29,14 @@ abbrev pub carried_to : {K V : Type 0} → BucketView K V → (ℕ → Option �
 carried_to source landing j =
     live_pairs (map (slot_at source.own) (filter (λ slot. is_own_of j (landing slot)) source.listed))
 
--- recency is carried from a bucket into an array: each of its listed pairs has landed somewhere, before those of its chain, no other pair
--- moves, and every bucket lists its own pairs, followed by those of the source that landed in own slots there, in the source's order
+-- recency is carried from a bucket into an array: each of its listed pairs has landed somewhere, its pairs went in the order of its slots,
+-- no other pair moves, and every bucket lists its own pairs, followed by those of the source that landed in own slots there, in the
+-- source's order
 pub record CarriesRecency {K V : Type 0} (source : BucketView K V) (current new_current : List (BucketView K V)) : Type 0 where
   pub landing : ℕ → Option ℕ
   pub landed : (slot : ℕ) (pair : K × V) → is_listed source.listed slot ≡ true → live_pair (slot_at source.own slot) ≡ Some pair
       → HasLanded new_current pair (landing slot)
-  pub first : ListedWentFirst source new_current
+  pub in_order : WentInOrder new_current (pairs_in source)
   pub stay : KeepsPlaces current new_current
   pub order : (j : ℕ) → listed_pairs (bucket_at new_current j) ≡ listed_pairs (bucket_at current j) ++ carried_to source landing j
 
@@ -59,8 +60,8 @@ pub record AreListable {K V : Type 0} (landings : List (Option Landing)) (bucket
   pub each : (slot : ℕ) (at : Landing) → landing_of landings slot ≡ Some at → IsListable buckets at
   pub once : (one two : ℕ) (at : Landing) → landing_of landings one ≡ Some at → landing_of landings two ≡ Some at → one ≡ two
 
--- the pairs of a bucket's own slots have landed as a table says, and those of which it says nothing in a chain, as far as the table goes,
--- all before those of the bucket's chain; no other pair has moved, and no list has changed
+-- the pairs of a bucket's own slots have landed as a table says, and those of which it says nothing in a chain, as far as the table goes;
+-- no other pair has moved, and no list has changed
 pub record HaveLanded {K V : Type 0} (hash : K → ℕ) (source : BucketView K V) (current new_current : List (BucketView K V))
     (landings : List (Option Landing)) : Type 0 where
   pub table : AreListable landings new_current
@@ -70,9 +71,22 @@ pub record HaveLanded {K V : Type 0} (hash : K → ℕ) (source : BucketView K V
       → homed_len hash (length current) at.home (pairs_in source) ≡ 0 → ⊥
   pub in_chain : (slot : ℕ) (pair : K × V) → slot < length landings → live_pair (slot_at source.own slot) ≡ Some pair
       → landing_of landings slot ≡ None → (j : ℕ) × StandsInChain (bucket_at new_current j) pair
-  pub first : (pair other : K × V) → Contains (live_pairs source.own) pair → StandsInChain source other → WentFirst new_current pair other
   pub stay : KeepsPlaces current new_current
   pub same_lists : (j : ℕ) → listed_pairs (bucket_at new_current j) ≡ listed_pairs (bucket_at current j)
+
+-- a pair has landed in an own slot, or in the chain of a bucket that has no free one
+abbrev pub HasLandedFull : {K V : Type 0} → List (BucketView K V) → K × V → Type 0
+HasLandedFull buckets pair =
+    ((j : ℕ) × Contains (live_pairs (bucket_at buckets j).own) pair)
+    ⊎ ((j : ℕ) × StandsInChain (bucket_at buckets j) pair
+    × ((slot : ℕ) → slot < 32 → is_free (slot_at (bucket_at buckets j).own slot) ≡ false))
+
+-- the first pairs of a bucket have moved, in their order, and the others are left
+pub record MoveInOrder {K V : Type 0} (source left : BucketView K V) (buckets : List (BucketView K V)) : Type 0 where
+  pub gone : List (K × V)
+  pub rest : pairs_in source ≡ gone ++ pairs_in left
+  pub landed : All (HasLandedFull buckets) gone
+  pub order : WentInOrder buckets gone
 
 -- the own slots of bucket j in which pairs of an order's slots landed, in the order
 abbrev pub slot_there : ℕ → Option Landing → List ℕ

@@ -1,5 +1,5 @@
 -- LRU order that moves along: what the current buckets list once the pairs of old ones have moved on.
-use Rattle.std.specs.Prelude.{ℕ, ◌≡◌, ◌≢◌, ◌++◌, ◌⊎◌, Bool, List, [], flat_map, map}
+use Rattle.std.specs.Prelude.{ℕ, ◌≡◌, ◌≢◌, ◌++◌, ◌⊎◌, Bool, List, [], ◌∷◌, flat_map, map}
 use Rattle.std.specs.Cmp.{IsEquivalence}
 use Rattle.std.specs.List.{All, Contains, IsDistinct, filter, list_any}
 use Rattle.bucket_slots.specs.ArrayView.{bucket_at}
@@ -32,21 +32,21 @@ WentFirst buckets pair other =
     ⊎ (((j : ℕ) × Contains (chained_pairs (bucket_at buckets j)) other)
     ⊎ ((i j : ℕ) × (i ≢ j) × Contains (pairs_in (bucket_at buckets i)) pair × Contains (pairs_in (bucket_at buckets j)) other))
 
--- the listed pairs of a bucket that moved did so before those of its chain
-abbrev pub ListedWentFirst : {K V : Type 0} → BucketView K V → List (BucketView K V) → Type 0
-ListedWentFirst bucket buckets =
-    All (λ pair. All (λ other. WentFirst buckets pair other) (chained_pairs bucket)) (listed_pairs bucket)
+-- each pair of a list moved before those behind it
+abbrev pub WentInOrder : {K V : Type 0} → List (BucketView K V) → List (K × V) → Type 0
+WentInOrder buckets [] = Unit {0}
+WentInOrder buckets (pair ∷ rest) = All (λ other. WentFirst buckets pair other) rest × WentInOrder buckets rest
 
--- old buckets have moved on, one after another, and carried their LRU order: each of the others lists what it listed, no pair of the
--- current array leaves its place, and each listed pair of those that moved stands there now, listed where it has an own slot, which it
--- has before a pair of its bucket's chain
+-- old buckets have moved on, one after another, and carried their LRU order: each of the others has the pairs that it had, and lists what
+-- it listed; no pair of the current array leaves its place; and each listed pair of those that moved stands there now, listed where it has
+-- an own slot. The pairs of a bucket go in the order of its slots, so that own slots of a home go to the first of them
 pub record CarriesOrder {K V : Type 0} (old new : ArraysView K V) : Type 0 where
   pub moved : List ℕ
   pub left : (i : ℕ) → (Contains moved i × (listed_pairs (bucket_at new.linked i) ≡ []))
       ⊎ ((listed_pairs (bucket_at new.linked i) ≡ listed_pairs (bucket_at old.linked i))
-      × (chained_pairs (bucket_at new.linked i) ≡ chained_pairs (bucket_at old.linked i)))
+      × (pairs_in (bucket_at new.linked i) ≡ pairs_in (bucket_at old.linked i)))
   pub stay : KeepsPlaces old.current new.current
   pub arrived : All (λ pair. (j : ℕ) × Contains (pairs_in (bucket_at new.current j)) pair) (listed_among old.linked moved)
   pub carried : (eq : K → K → Bool) → IsEquivalence eq → IsDistinct eq (map (λ pair. pair.0) (pairs_of old))
       → CarriesPairs eq (listed_among old.linked moved) old.current new.current
-  pub first : (i : ℕ) → Contains moved i → ListedWentFirst (bucket_at old.linked i) new.current
+  pub in_order : (i : ℕ) → Contains moved i → WentInOrder new.current (pairs_in (bucket_at old.linked i))

@@ -5,14 +5,15 @@ ghost use Rattle.std.specs.Prelude.{◌≡◌, ◌+◌, ◌<◌, ◌≤◌, [], 
 ghost use Rattle.std.specs.Prelude.{length, IsOk, IsTrue, OnErr, OnOk, slice_index};
 ghost use Rattle.std.specs.List.{All};
 ghost use Rattle.bucket_slots.specs.ArrayView.{bucket_at};
-ghost use Rattle.bucket_slots.specs.BucketView.{pairs_in, slot_in};
+ghost use Rattle.bucket_slots.specs.BucketView.{BucketView, pairs_in, slot_in};
 ghost use Rattle.bucket_slots.specs.Homes.{IsInRange};
 ghost use Rattle.bucket_slots.specs.Recency.{IsRecencyOrder};
 ghost use Rattle.bucket_slots.specs.Reserving.{free_len_in};
 ghost use Rattle.bucket_slots.specs.Slots.{is_free, is_live, live_pair};
 ghost use Rattle.bucket_table.specs.Layout.Landings.{AreListable, CarriesRecency, HaveLanded};
-ghost use Rattle.bucket_table.specs.Layout.Landings.{ListsArrivals, landing_of, landings_with};
+ghost use Rattle.bucket_table.specs.Layout.Landings.{ListsArrivals, MoveInOrder, landing_of, landings_with};
 ghost use Rattle.bucket_table.specs.Layout.Moving.{CanMoveInto, MovesHome};
+ghost use Rattle.bucket_table.specs.Rehash.Carrying.{WentInOrder};
 ghost use Rattle.bucket_table.specs.Rehash.Relocation.{AreHome, AreTwoArrays, HasRoomFor};
 ghost use Rattle.bucket_table.specs.Rehash.Relocation.{IsRelocated, IsWay, KeepsEntries};
 ghost use Rattle.bucket_table.specs.Rehash.Relocation.{KeepsOthers, MovesInto, home_of, homed_len};
@@ -214,6 +215,8 @@ fn move_pairs<K: Eq + Drop, V: Drop, H: KeyHash<K>, L: LruList, const TYPE: u8>(
     ensures emptied { pairs_in source.new ≡ [] }
     ensures landed { HaveLanded (H.hash_of hasher.now) source.old current.old
         current.new landings.new }
+    ensures in_order { (first : BucketView K V) → MoveInOrder first source.old current.old
+        → WentInOrder current.new (pairs_in first) }
 {
     let mut at = EntryPtr::null();
     'own: while at.find_next_here(source) {

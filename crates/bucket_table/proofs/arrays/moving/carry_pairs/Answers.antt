@@ -1,7 +1,9 @@
-use Rattle.bucket_table.proofs.Words.{MovesInto, refl, rules, subst, sym, ◌∙◌}
+use Rattle.bucket_table.proofs.Words.{MovesInto, pairs_in, refl, rules, subst, sym, ◌∙◌}
+use Rattle.bucket_table.specs.Rehash.Carrying.{WentInOrder}
 use Rattle.bucket_table.proofs.Moves.Carried.{can_move_unlisted, carried_over, carries_unlisted, is_cache, is_kept, moves_unlisted}
 use Rattle.bucket_table.proofs.Moves.Carried.{order_back}
 use Rattle.bucket_table.proofs.Moves.Landings.{none_said}
+use Rattle.bucket_table.proofs.Moves.MovingInOrder.{in_order_first}
 use Rattle.bucket_table.proofs.Moves.MovingPairs.{MovesInto-trans}
 use Rattle.bucket_table.proofs.Moves.SpreadHomes.{spread_moving}
 use Rattle.bucket_table.proofs.Moves.Staying.{stay_both}
@@ -36,6 +38,9 @@ returns-then-len-eq0-clause-recency g c =
     (sym c.take_lru-len.ensures.number ∙ c.if-len-eq0.true)
     (λ j. c.move_pairs.ensures.landed.same_lists j ∙ moving.landing.same_lists j)
     (stay_both c.args.current.now c.spread_own.new.self c.move_pairs.new.current moving.landing.stay c.move_pairs.ensures.landed.stay)
+    (subst (λ s. WentInOrder c.move_pairs.new.current (pairs_in s)) c.take_lru-len.ensures.bucket
+    (c.move_pairs.ensures.in_order c.take_lru-len.new.self
+    (moving.order c.take_lru-len.new.self (in_order_first c.take_lru-len.new.self c.args.current.now))))
 
 pub move_pairs-requires-2 : goal.move_pairs-requires-2
 move_pairs-requires-2 g c =
@@ -64,5 +69,6 @@ returns g c =
     let m = c.move_pairs-2 in
     let carried = carried_over g.row.TYPE hash c.args.source.now c.take_lru-len.new.self m.new.source c.args.current.now m.new.current
     c.append_arrivals.new.current m.new.landings c.take_lru-len.result.0 c.take_lru-len.result.1 c.sound.ensures m.auto.landings
-    taken.bucket taken.slots taken.number m.ensures.landed m.ensures.moved m.ensures.homes c.append_arrivals.ensures in
+    taken.bucket taken.slots taken.number m.ensures.landed (m.ensures.in_order c.take_lru-len.new.self
+    (in_order_first c.take_lru-len.new.self c.args.current.now)) m.ensures.moved m.ensures.homes c.append_arrivals.ensures in
     record { moved = carried.moved; homes = carried.homes; emptied = m.ensures.emptied; recency = carried.recency }

@@ -1,17 +1,14 @@
 use Rattle.bucket_table.proofs.Words.{length, pairs_ahead}
-use Rattle.bucket_table.proofs.Moves.GoingFirst.{GoFirst}
 use Rattle.bucket_table.proofs.Moves.MovingPairs.{IsMoving}
 use Rattle.bucket_table.proofs.arrays.moving.move_pairs.Given as goal
 
 abbrev pub invariant-own : goal.invariant-own
 invariant-own g l =
     IsMoving (g.H.KeyHash.hash_of l.hasher) l.start l.end l.fn.source l.fn.current l.source l.current l.landings l.at
-    × GoFirst l.fn.source l.source l.current
 
 abbrev pub invariant-pairs : goal.invariant-pairs
 invariant-pairs g l =
     IsMoving (g.H.KeyHash.hash_of l.hasher) l.start l.end l.fn.source l.fn.current l.source l.current l.landings l.at
-    × GoFirst l.fn.source l.source l.current
 
 abbrev pub decreases-own : goal.decreases-own
 decreases-own g l = length (pairs_ahead l.source l.at)
