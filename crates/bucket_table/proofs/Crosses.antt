@@ -18,7 +18,8 @@ module _ (K V L TYPE : RattleType) (listing : list.Ghosts L.Denot) (fresh : defa
   Arrays-sync : IsSync K → IsSync V → IsSync L → IsSync (arrays.the_field K V L TYPE listing fresh).row
   Arrays-sync yk yv yl = search (BucketArray-sync, tickets.the_sync, crosses, sendable) depth 30
 
-module _ (K V H L TYPE : RattleType) (equal : equals.Ghosts K.Denot) (hashing : key_hash.Ghosts H.Denot K.Denot) (listing : list.Ghosts L.Denot) (fresh : default.Ghosts L.Denot) where
+module _ (K V H L TYPE : RattleType) (equal : equals.Ghosts K.Denot) (hashing : key_hash.Ghosts H.Denot K.Denot)
+    (listing : list.Ghosts L.Denot) (fresh : default.Ghosts L.Denot) where
   pub HashTable-send : IsSend K → IsSend V → IsSend H → IsSend L → IsSend (table.the_field K V H L TYPE equal hashing listing fresh).row
   HashTable-send sk sv sh sl = search (Arrays-send, crosses, sendable) depth 30
 

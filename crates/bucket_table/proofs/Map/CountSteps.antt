@@ -1,28 +1,25 @@
 -- Counts of pairs, bucket by bucket, and what a table without pairs drops.
-use Rattle.bucket_table.proofs.Words.{All, ArraysView, Bool, BucketView, Err, IsPermutation, Keeps, List, Ok, Result, TableView, [], ap}
-use Rattle.bucket_table.proofs.Words.{arith, bucket_at, counted, counted_to, entries_among, entries_in, entries_of, flattened, get_or}
-use Rattle.bucket_table.proofs.Words.{is_live, length, live_pairs}
-use Rattle.bucket_table.proofs.Words.{length-entries_in, length-map, length_permutation, live_counts, map, min, pairs_in, pairs_of, refl}
-use Rattle.bucket_table.proofs.Words.{suc, sum_by-cons, sym, take, zero, ℕ, ◌*◌, ◌+◌, ◌-◌, ◌/◌, ◌<◌, ◌^◌, ◌∙◌, ◌∷◌, ◌≡◌}
-use Rattle.std.proofs.Common.{length-append, sum, zero-mul, false, inl, inr, true}
+use Rattle.bucket_table.proofs.Words.{All, ArraysView, Bool, BucketView, Err, IsPermutation, Keeps, List, Ok, Resize, Result, TableView}
+use Rattle.bucket_table.proofs.Words.{TriesResize, ℕ, [], ap, arith, bucket_at, counted, counted_to, entries_among, entries_in, entries_of}
+use Rattle.bucket_table.proofs.Words.{false, flattened, get_or, inl, inr, is_live, length, length-entries_in, length-live_pairs-append}
+use Rattle.bucket_table.proofs.Words.{length-map, length_permutation, live_counts, live_pairs, map, min, pairs_in, pairs_of, refl, suc}
+use Rattle.bucket_table.proofs.Words.{sum_by-cons, sym, take, true, zero, ◌*◌, ◌+◌, ◌-◌, ◌/◌, ◌<◌, ◌^◌, ◌∙◌, ◌∷◌, ◌≡◌}
+use Rattle.std.proofs.Common.{length-append, sum, zero-mul}
 use Rattle.std.proofs.lemmas.List.Sums.{count_by-le-length}
-use Rattle.bucket_slots.proofs.Counting.{length-live_pairs, length-live_pairs-append}
+use Rattle.bucket_slots.proofs.Counting.{length-live_pairs}
 use Rattle.bucket_table.specs.Map.Counting.{IsHeldBy, chained_among}
 use Rattle.bucket_table.specs.Resize.Sampling.{estimate}
-use Rattle.bucket_table.specs.Resize.Resizing.{IsPlanOf, TriesResize}
-use Rattle.bucket_table.specs.declared.arrays.plan.Plan.TheVariants.{Resize}
-use Rattle.bucket_table.proofs.Resize.GivingUp.{plan_alone, plan_stands, plan_code}
+use Rattle.bucket_table.specs.Resize.Resizing.{IsPlanOf}
+use Rattle.bucket_table.proofs.Resize.GivingUp.{plan_alone, plan_code, plan_stands}
 
 -- counts of 0 sum up to 0
 zeros_taken : (n : ℕ) (xs : List ℕ) → All (λ count. count ≡ 0) xs → sum (take n xs) ≡ 0
 zeros_taken zero xs all = refl
 zeros_taken (suc n) [] all = refl
 zeros_taken (suc n) (x ∷ xs) all =
-    let here : x ≡ 0 = all 0 0 (omega arith) in
-    let rest = zeros_taken n xs (λ i d below. all (suc i) d (omega arith)) in
     let one = sum_by-cons (λ (count : ℕ). count) x (take n xs) in
     let e : sum (take (suc n) (x ∷ xs)) ≡ sum (x ∷ take n xs) = refl in
-    e ∙ one ∙ omega (arith, here, rest)
+    e ∙ one ∙ omega (arith, all 0 0 (omega arith), zeros_taken n xs (λ i d below. all (suc i) d (omega arith)))
 
 zeros_counted : (counts : List ℕ) (start size : ℕ) → All (λ count. count ≡ 0) counts → counted counts start size ≡ 0
 zeros_counted counts zero size all = zeros_taken size counts all
@@ -31,9 +28,8 @@ zeros_counted (x ∷ counts) (suc start) size all = zeros_counted counts start s
 
 zeros_estimated : (counts : List ℕ) (start size : ℕ) → All (λ count. count ≡ 0) counts → estimate counts start size ≡ 0
 zeros_estimated counts start size all =
-    let none = zeros_counted counts start size all in
     let e : estimate counts start size ≡ min (0 * (length counts / size)) (2 ^ 64 - 1) = ap
-    (λ (n : ℕ). min (n * (length counts / size)) (2 ^ 64 - 1)) none in
+    (λ (n : ℕ). min (n * (length counts / size)) (2 ^ 64 - 1)) (zeros_counted counts start size all) in
     e ∙ ap (λ (n : ℕ). min n (2 ^ 64 - 1)) (zero-mul (length counts / size)) ∙ refl
 
 module _ {K V : Type 0} where
@@ -43,27 +39,24 @@ module _ {K V : Type 0} where
   entries_among_more [] i within = absurd (omega arith)
   entries_among_more (b ∷ bs) zero within =
       let e : take (0 + 1) (b ∷ bs) ≡ b ∷ [] = refl in
-      let here = length-entries_in b in
-      rw (length-append (entries_in b) []) (omega (arith, here))
+      rw (length-append (entries_in b) []) (omega (arith, length-entries_in b))
   entries_among_more (b ∷ bs) (suc i) within =
-      let again = entries_among_more bs i (omega arith) in
       let e : suc i + 1 ≡ suc (i + 1) = omega arith in
       rw (e, length-append (entries_in b) (entries_among (take (i + 1) bs)), length-append (entries_in b) (entries_among (take i bs)))
-      (omega (arith, again))
+      (omega (arith, entries_among_more bs i (omega arith)))
 
   -- buckets with 32 own slots have no more pairs than those and what their chains have
   pub held_by : (bs : List (BucketView K V)) → ((i : ℕ) → i < length bs → length (bucket_at bs i).own ≡ 32)
       → IsHeldBy (entries_among bs) bs
   held_by [] long = omega arith
   held_by (b ∷ bs) long =
-      let rest = held_by bs (λ i within. long (suc i) (omega (arith, within))) in
       let own = long 0 (omega arith) in
       let here = length-entries_in b in
       let parts = length-live_pairs-append b.own (flattened b.chain) in
       let live = length-live_pairs b.own in
       let few = count_by-le-length is_live b.own in
       rw (length-append (entries_in b) (entries_among bs), length-append (live_pairs (flattened b.chain)) (chained_among bs))
-      (omega (arith, rest, own, here, parts, live, few))
+      (omega (arith, held_by bs (λ i within. long (suc i) (omega (arith, within))), own, here, parts, live, few))
 
   zero_counts : (bs : List (BucketView K V)) → length (entries_among bs) ≡ 0 → All (λ count. count ≡ 0) (live_counts bs)
   zero_counts bs none i d below = each bs none i d below
@@ -83,8 +76,7 @@ module _ {K V : Type 0} where
   never_pushed : (old : ArraysView K V) (capacity : ℕ) → IsPlanOf old (Resize capacity) → entries_of old ≡ [] → old.minimum ≡ 0 → ⊥
   never_pushed old capacity is empty least =
       let both = length-append (entries_among old.current) (entries_among old.linked) in
-      let none = ap (λ (es : List ((K × V) × ℕ)). length es) empty in
-      let all = zero_counts old.current (omega (arith, both, none)) in
+      let all = zero_counts old.current (omega (arith, both, ap (λ (es : List ((K × V) × ℕ)). length es) empty)) in
       let plan = is.alone (plan_stands old (Resize capacity) is (omega arith)) (plan_alone old (Resize capacity) is (omega arith)) in
       let f = ap plan_code (plan.emptied (zeros_estimated (live_counts old.current) _ plan.large all) least all) in
       absurd (omega arith)

@@ -1,14 +1,12 @@
 -- A pair put into a locked bucket where its key is nowhere, and what that makes of the table in which the bucket was found.
-use Rattle.bucket_table.proofs.Words.{ArraysView, Bool, BucketView, Err, IsEquivalence, IsHome, IsLocked, IsOneMap, IsPermutation-refl}
-use Rattle.bucket_table.proofs.Words.{KeepsPairs, MapState, Ok, OnErr, OnOk, Result, Side, TableView, bucket_at, buckets_on, length}
-use Rattle.bucket_table.proofs.Words.{pairs_of, refl, slots_after_insertion, true, ℕ, ◌%◌, ◌≡◌}
+use Rattle.bucket_table.proofs.Words.{ArraysView, Bool, BucketView, Err, FindsBucket, FindsThen, IsEquivalence, IsHome, IsLocked, IsOneMap}
+use Rattle.bucket_table.proofs.Words.{IsPermutation-refl, KeepsPairs, MapState, NotInserted, Ok, OnErr, OnOk, Present, Result, Side}
+use Rattle.bucket_table.proofs.Words.{TableView, ℕ, bucket_at, bucket_on, buckets_on, length, pairs_of, refl, slots_after_insertion, true}
+use Rattle.bucket_table.proofs.Words.{with_bucket, ◌%◌, ◌≡◌}
 use Rattle.bucket_table.specs.Map.ByKey.{AnswersInsertion, HandsBack, Inserts, InsertsAt}
-use Rattle.bucket_table.specs.Map.Finding.{FindsBucket, FindsThen}
 use Rattle.bucket_table.specs.Map.MapState.{state_of}
 use Rattle.bucket_table.specs.Map.Refusing.{IsRefused}
-use Rattle.bucket_table.specs.Views.Sides.{bucket_on, with_bucket}
-use Rattle.bucket_table.specs.declared.hash_table.NotInserted.{NotInserted}
-use Rattle.bucket_table.specs.declared.hash_table.NotInserted.TheVariants.{Memory, Present}
+use Rattle.bucket_table.specs.declared.hash_table.NotInserted.TheVariants.{Memory}
 use Rattle.bucket_table.proofs.Map.LookUps.{searched_absent, searched_found}
 use Rattle.bucket_table.proofs.Map.MapSteps.{Leaves, inserted, unchanged}
 use Rattle.bucket_table.proofs.Map.TakeSteps.{absent_before}
@@ -42,7 +40,8 @@ module _ {K V H : Type 0} where
   -- a pair that comes back where the map was the same before
   pub handed_back : (eq : K → K → Bool) (key : K) (value : V) (old between : MapState K V H) (why : NotInserted K V)
       → KeepsPairs old between → HandsBack eq key value between.pairs why → HandsBack eq key value old.pairs why
-  handed_back eq key value old between (Present k v) keeps x = (x.0, x.1, (x.2.0, there_before (λ own. eq own key) old between x.2.0 keeps x.2.1))
+  handed_back eq key value old between (Present k v) keeps (same, handed, (pair, there)) =
+      (same, handed, (pair, there_before (λ own. eq own key) old between pair keeps there))
   handed_back eq key value old between (Memory k v) keeps x = (x.0, x.1, absent_before (λ own. eq own key) old between keeps x.2)
 
   -- and nothing else changes where no bucket is found for it

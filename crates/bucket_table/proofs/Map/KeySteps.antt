@@ -1,12 +1,10 @@
 -- What a call by key finds in a table, and which marks it brings.
-use Rattle.bucket_table.proofs.Words.{ArePlaced, ArraysView, Bool, BucketView, HasNoNewMark, IfNone, IsAbsent, IsHome, List, MarksBy, None}
-use Rattle.bucket_table.proofs.Words.{Option, Place, Side, Some, ap, arrays_with, bucket_at, bucket_on, buckets_on, by-no_new, by-trans}
-use Rattle.bucket_table.proofs.Words.{length, marks_in, marks_of, pairs_of, subst, true, ℕ, ◌%◌, ◌<◌, ◌∙◌, ◌≡◌}
-use Rattle.bucket_table.proofs.Words.{Contains-permutation, IsPermutation, length-set, slots_touched}
+use Rattle.bucket_table.proofs.Words.{ArePlaced, ArraysView, Bool, BucketView, Contains-permutation, HasNoNewMark, IfNone, IsAbsent, IsHome}
+use Rattle.bucket_table.proofs.Words.{IsPermutation, List, MarksBy, None, Option, Place, Side, Some, StandsAt, ℕ, ap, arrays_with}
+use Rattle.bucket_table.proofs.Words.{bucket_at, bucket_on, buckets_on, by-no_new, by-trans, home_bucket, length, length-set, marks_in}
+use Rattle.bucket_table.proofs.Words.{marks_of, pair_wanted, pairs_of, slots_touched, subst, true, ◌%◌, ◌<◌, ◌∙◌, ◌≡◌}
 use Rattle.bucket_slots.specs.BucketView.{pair_at}
-use Rattle.bucket_slots.specs.Searching.{pair_wanted, place_wanted}
-use Rattle.bucket_table.specs.Map.ByKey.{StandsAt}
-use Rattle.bucket_table.specs.Map.LookingUp.{home_bucket}
+use Rattle.bucket_slots.specs.Searching.{place_wanted}
 use Rattle.bucket_table.proofs.Map.LookUps.{home_bucket-is, searched_found, unwanted_from_homes}
 use Rattle.bucket_table.proofs.Map.LockedSteps.{put_there}
 use Rattle.bucket_table.proofs.Views.MarksKept.{by-bucket}
@@ -30,11 +28,10 @@ module _ {K V : Type 0} where
       → StandsAt wants (arrays_with arrays side index (slots_touched keeps (bucket_on arrays side index) at)) side index at
   stands_touched wants arrays side index at keeps stands moved =
       let b = slots_touched keeps (bucket_on arrays side index) at in
-      let same = put_there arrays side index b stands.within in
       record {
         pair = stands.pair;
         within = rw (buckets_on-arrays_with arrays side index b, length-set) stands.within;
-        slot = rw same stands.slot;
+        slot = rw (put_there arrays side index b stands.within) stands.slot;
         there = (
           Contains-permutation (pairs_of arrays) (pairs_of (arrays_with arrays side index b)) stands.pair moved stands.there.0,
           stands.there.1,
@@ -47,9 +44,8 @@ module _ {K V : Type 0} where
       → array ≡ buckets_on arrays side → b ≡ bucket_at array index → IsHome (length array) n index
       → place_wanted wants (n % 256) b ≡ None → pair_wanted wants (n % 256) (home_bucket n (buckets_on arrays side)) ≡ None
   none_at_home wants arrays side array b n index is lent home none =
-      let at_home = home_bucket-is array n index home in
       subst (λ (bs : List (BucketView K V)). pair_wanted wants (n % 256) (home_bucket n bs) ≡ None) is
-      (rw (← at_home, ← lent) (ap (λ at. pair_at b at) none))
+      (rw (← (home_bucket-is array n index home), ← lent) (ap (λ at. pair_at b at) none))
 
 module _ {K V : Type 0} (wants : K → Bool) (hash : K → ℕ) where
   -- neither home has a wanted key, so the map hasn't

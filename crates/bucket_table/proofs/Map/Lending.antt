@@ -1,12 +1,10 @@
 -- A value beside a wanted key was lent, after its slot was found.
-use Rattle.bucket_table.proofs.Words.{Bool, List, Place, Side, Slot, Some, TableView, bucket_with_value, live_pair, pairs_of, same_Some}
-use Rattle.bucket_table.proofs.Words.{slot_in, slots_touched, subst, sym, ℕ, ◌∙◌, ◌≡◌}
-use Rattle.bucket_table.specs.Map.ByKey.{StandsAt}
+use Rattle.bucket_table.proofs.Words.{Bool, ChangesValue, IsThere, List, Place, Side, Slot, Some, StandsAt, TableView, ℕ, bucket_on}
+use Rattle.bucket_table.proofs.Words.{bucket_with_value, live_pair, pairs_of, same_Some, slot_in, slots_touched, subst, sym, with_bucket}
+use Rattle.bucket_table.proofs.Words.{◌∙◌, ◌≡◌}
 use Rattle.bucket_table.specs.Map.Lending.{WritesUnder}
-use Rattle.bucket_table.specs.Map.LookingUp.{IsThere}
-use Rattle.bucket_table.specs.Map.MapState.{ChangesValue, state_of}
+use Rattle.bucket_table.specs.Map.MapState.{state_of}
 use Rattle.bucket_table.specs.Map.Preparing.{IsPrepared}
-use Rattle.bucket_table.specs.Views.Sides.{bucket_on, with_bucket}
 use Rattle.bucket_table.proofs.Scripts.CallSteps.{then_changed, there_before}
 
 -- the pair in the slot is the one that the search found

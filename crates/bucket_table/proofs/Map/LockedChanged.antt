@@ -1,18 +1,16 @@
 -- What a call of a locked bucket answers and leaves, by what its bucket's own call does.
-use Rattle.bucket_table.proofs.Words.{Bool, BucketView, Err, IfOk, Ok, OnErr, OnOk}
-use Rattle.bucket_table.proofs.Words.{Place, Result, Side, TableView, if◌then◌else◌, live, refl}
-use Rattle.bucket_table.proofs.Words.{slot_in, subst, ℕ, ◌∙◌, ◌≡◌}
-use Rattle.std.proofs.Common.{IfErr, is_ok}
+use Rattle.bucket_table.proofs.Words.{Bool, BucketView, Err, IfErr, IfOk, Ok, OnErr, OnOk, Place, Result, Side, TableView, ℕ, bucket_on}
+use Rattle.bucket_table.proofs.Words.{if◌then◌else◌, live, place_for_next, refl, slot_in, subst, with_bucket, ◌∙◌, ◌≡◌}
+use Rattle.std.proofs.Common.{is_ok}
+use Rattle.bucket_slots.specs.Clearing.{slots_for_insertion}
+use Rattle.bucket_slots.specs.Placing.{IsRefused}
+use Rattle.bucket_table.specs.Views.LockedChanges.{AnswersPlacing, Changes, bucket_in}
+use Rattle.bucket_table.specs.declared.hash_table.locked_bucket.LockedBucket.{LockedBucket}
+use Rattle.bucket_table.proofs.Views.SideChanges.{arrays_with-same}
 use Rattle.std.specs.declared.cmp.PartialEq as equals
 use Rattle.std.specs.declared.default.Default as default
 use Rattle.bucket_slots.specs.declared.lru.LruList as list
-use Rattle.bucket_slots.specs.Clearing.{slots_for_insertion}
-use Rattle.bucket_slots.specs.Placing.{IsRefused, place_for_next}
-use Rattle.bucket_table.specs.Views.LockedChanges.{AnswersPlacing, Changes, bucket_in}
-use Rattle.bucket_table.specs.Views.Sides.{bucket_on, with_bucket}
 use Rattle.bucket_table.specs.declared.key_hash.KeyHash as key_hash
-use Rattle.bucket_table.specs.declared.hash_table.locked_bucket.LockedBucket.{LockedBucket}
-use Rattle.bucket_table.proofs.Views.SideChanges.{arrays_with-same}
 
 module _ {K V : Type 0} where
   -- what an insertion answers: t is its bucket, and u that of the table

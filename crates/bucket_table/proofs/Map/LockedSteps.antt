@@ -1,12 +1,12 @@
 -- What is left of a table's arrays once one bucket is another one.
 use Rattle.bucket_table.proofs.Words.{ArraysView, AsksShrinking, BucketView, Err, IsPermutation-cons, IsPermutation-trans, Keeps}
-use Rattle.bucket_table.proofs.Words.{KeepsPairs, MapState, Ok, OnErr, OnOk, Place, Result, Side, Slot, Some, TableView, []}
-use Rattle.bucket_table.proofs.Words.{ap, arrays_with, bucket_at, buckets_on, empty_bucket, free, get_or-set_same, is_live, length, live}
-use Rattle.bucket_table.proofs.Words.{live_pair, pairs_in, refl, slot_in, subst, true, ℕ, ◌<◌, ◌∙◌, ◌∷◌, ◌≡◌}
+use Rattle.bucket_table.proofs.Words.{KeepsPairs, MapState, Ok, OnErr, OnOk, Place, ResizesIf, Result, Side, Slot, Some, TableView}
+use Rattle.bucket_table.proofs.Words.{TakesPair, ℕ, [], ap, arrays_with, bucket_at, bucket_on, buckets_on, empty_bucket, free}
+use Rattle.bucket_table.proofs.Words.{get_or-set_same, is_live, length, live, live_pair, pairs_in, refl, slot_in, subst, true, with_bucket}
+use Rattle.bucket_table.proofs.Words.{◌<◌, ◌∙◌, ◌∷◌, ◌≡◌}
 use Rattle.bucket_slots.specs.Slots.{marked as marked_slot}
-use Rattle.bucket_table.specs.Resize.Asking.{RemovesAndShrinks, ResizesIf}
-use Rattle.bucket_table.specs.Map.MapState.{TakesPair, state_of}
-use Rattle.bucket_table.specs.Views.Sides.{bucket_on, with_bucket}
+use Rattle.bucket_table.specs.Resize.Asking.{RemovesAndShrinks}
+use Rattle.bucket_table.specs.Map.MapState.{state_of}
 use Rattle.bucket_table.proofs.Map.MapKept.{state_found}
 use Rattle.bucket_table.proofs.Views.SideChanges.{arrays_with-same, buckets_on-arrays_with}
 

@@ -1,22 +1,19 @@
 -- What look-ups in two arrays say of their map.
-use Rattle.bucket_table.proofs.Words.{All, All-map, All-nil, AreHome, ArePlaced, AreTwoArrays, ArraysView, Bool, BucketView, Contains}
-use Rattle.bucket_table.proofs.Words.{Contains-append_left, Contains-append_right, Current, IfNone, IfSome, IsEntryHome, IsHome}
-use Rattle.bucket_table.proofs.Words.{IsInInterval, IsLocked, IsOneMap, IsTrue, IsVacant, List, Meets, None, Old, Option, Place, Side, Some}
-use Rattle.bucket_table.proofs.Words.{[], all_slots, ap, arith, bucket_at, bucket_on, buckets_on, cases_eq, entries_among, entries_in}
-use Rattle.bucket_table.proofs.Words.{false, false≢true, get_or, home_of, inl, inr, length, live_pair, map, map-append, map-entries_in}
-use Rattle.bucket_table.proofs.Words.{pairs_in, pairs_of, refl, slot_in, subst, suc, sym, true, zero, ℕ, ◌%◌, ◌&&◌, ◌++◌, ◌<◌, ◌==◌, ◌∙◌}
+use Rattle.bucket_table.proofs.Words.{All, All-append, All-map, All-nil, AreHome, ArePlaced, AreTwoArrays, ArraysView, Bool, Bor}
+use Rattle.bucket_table.proofs.Words.{BucketView, Contains, Contains-append_left, Contains-append_right, Current, IfNone, IfSome, IsAbsent}
+use Rattle.bucket_table.proofs.Words.{IsEntryHome, IsHome, IsInInterval, IsLocked, IsOneMap, IsThere, IsTrue, IsVacant, List, Meets, None}
+use Rattle.bucket_table.proofs.Words.{Old, Option, Place, Side, Some, ℕ, [], all_slots, ap, arith, bucket_at, bucket_on, buckets_on}
+use Rattle.bucket_table.proofs.Words.{cases_eq, entries_among, entries_in, false, false≢true, get_or, home_bucket, home_of, inl, inr}
+use Rattle.bucket_table.proofs.Words.{length, live_pair, map, map-append, map-entries_in, nat_tests, option_or, pair_wanted, pairs_in}
+use Rattle.bucket_table.proofs.Words.{pairs_in_all, pairs_of, refl, slot_in, subst, suc, sym, true, zero, ◌%◌, ◌&&◌, ◌++◌, ◌<◌, ◌==◌, ◌∙◌}
 use Rattle.bucket_table.proofs.Words.{◌∷◌, ◌≡◌}
-use Rattle.std.proofs.lemmas.Bool.Decides.{nat_tests}
-use Rattle.std.proofs.lemmas.List.Elements.{All-append}
-use Rattle.std.specs.Borrow.{Bor}
-use Rattle.std.specs.Option.{option_or}
 use Rattle.bucket_slots.proofs.Entries.{live_pairs-all_free}
 use Rattle.bucket_slots.proofs.SearchedPairs.{found_pair, none_wanted_is, wanted_is}
 use Rattle.bucket_slots.specs.BucketView.{pair_at}
 use Rattle.bucket_slots.specs.Places.{pair_lent}
-use Rattle.bucket_slots.specs.Searching.{pair_wanted, place_wanted}
+use Rattle.bucket_slots.specs.Searching.{place_wanted}
 use Rattle.bucket_slots.specs.declared.bucket.TheConstants.{BUCKET_LEN}
-use Rattle.bucket_table.specs.Map.LookingUp.{IsAbsent, IsThere, home_bucket, lent_buckets, pair_looked_up, pairs_in_all}
+use Rattle.bucket_table.specs.Map.LookingUp.{lent_buckets, pair_looked_up}
 use Rattle.bucket_table.proofs.Moves.HomesByDivision.{home_of-interval}
 
 -- a pointer that isn't valid is a null pointer
@@ -109,8 +106,7 @@ module _ {K V : Type 0} (wants : K → Bool) (n : ℕ) (hash : K → ℕ) (own :
   unwanted_entry e len i false is at none = is
   unwanted_entry e len i true is at none =
       let of_hash : hash e.0.0 ≡ n = own e.0.0 is in
-      let byte : e.1 ≡ n % 256 = at.own_byte ∙ ap (λ x. x % 256) of_hash in
-      let here : (e.1 == n % 256) ≡ true = rw byte (grind (arith, nat_tests)) in
+      let here : (e.1 == n % 256) ≡ true = rw (at.own_byte ∙ ap (λ x. x % 256) of_hash) (grind (arith, nat_tests)) in
       let both : ((e.1 == n % 256) && wants e.0.0) ≡ true = rw (here, is) refl in
       let no = none (home_of-interval len i n (subst (λ x. IsInInterval len i x) of_hash
       at.home.own)) in

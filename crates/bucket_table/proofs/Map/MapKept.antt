@@ -1,7 +1,7 @@
 -- The map of arrays, where a call keeps the pairs.
 use Rattle.bucket_table.proofs.Words.{ArePlaced, ArraysView, Bool, Err, IsDistinct-IsPermutation, IsEquivalence, IsOneMap, IsPermutation}
 use Rattle.bucket_table.proofs.Words.{IsPermutation-map, IsUnmoved, Keeps, KeepsArrays, KeepsPairs, List, MapState, Ok, OnErr, OnOk}
-use Rattle.bucket_table.proofs.Words.{RelocatesAt, Result, TableView, [], ap, arith, entries_of, first_tickets, map, pairs_of, refl, ℕ, ◌≡◌}
+use Rattle.bucket_table.proofs.Words.{RelocatesAt, Result, TableView, ℕ, [], ap, arith, entries_of, first_tickets, map, pairs_of, refl, ◌≡◌}
 use Rattle.std.specs.List.{IsDistinct}
 use Rattle.bucket_table.specs.Map.MapState.{state_of}
 use Rattle.bucket_table.proofs.Views.Laws.{loses_none}

@@ -1,47 +1,43 @@
 -- The law of one map, and the map itself, where one bucket of one side changes.
-use Rattle.bucket_table.proofs.Words.{All, All-cons, All-map, All-nil, All-permutation, ArraysView, Bool, BucketView, Current, Err, IfNone}
-use Rattle.bucket_table.proofs.Words.{IfSome, IsAbsent, IsDistinct, IsDistinct-IsPermutation, IsEntryHome, IsEquivalence, IsHome, IsLocked}
-use Rattle.bucket_table.proofs.Words.{IsOneMap, IsPermutation, IsPermutation-append_left, IsPermutation-cons, IsPermutation-map}
-use Rattle.bucket_table.proofs.Words.{IsPermutation-refl, IsPermutation-trans, KeepsPairs, List, MapState, None, Ok, Old, OnErr, OnOk}
-use Rattle.bucket_table.proofs.Words.{Option, Place, Result, Side, Some, [], ap, append-nil, arith, arrays_with, bucket_at}
-use Rattle.bucket_table.proofs.Words.{bucket_with_value, buckets_on, empty_bucket, entries_in, false, get_or, get_or-set_same, length}
-use Rattle.bucket_table.proofs.Words.{length-set, live_pair, map, map-entries_in, pairs_in, pairs_of, recursion_from_All, refl, rotated}
-use Rattle.bucket_table.proofs.Words.{set, slot_at, slot_in, slots_after_insertion, slots_marked, slots_touched, slots_without, subst, sym}
-use Rattle.bucket_table.proofs.Words.{ℕ, ◌%◌, ◌++◌, ◌<◌, ◌∙◌, ◌∷◌, ◌≡◌}
+use Rattle.bucket_table.proofs.Words.{AddsPair, All, All-cons, All-map, All-nil, All-permutation, ArraysView, Bool, BucketView}
+use Rattle.bucket_table.proofs.Words.{ChangesValue, Current, Err, IfNone, IfSome, IsAbsent, IsDistinct, IsDistinct-IsPermutation}
+use Rattle.bucket_table.proofs.Words.{IsDistinct-tail, IsEntryHome, IsEquivalence, IsHome, IsLocked, IsOneMap, IsPermutation}
+use Rattle.bucket_table.proofs.Words.{IsPermutation-append_left, IsPermutation-cons, IsPermutation-map, IsPermutation-refl}
+use Rattle.bucket_table.proofs.Words.{IsPermutation-trans, KeepsPairs, List, MapState, None, Ok, Old, OnErr, OnOk, Option, Place, Result}
+use Rattle.bucket_table.proofs.Words.{Side, Some, TakesPair, ℕ, [], ap, append-nil, arith, arrays_with, bucket_at, bucket_with_value}
+use Rattle.bucket_table.proofs.Words.{buckets_on, empty_bucket, entries_in, false, get_or, get_or-set_same, killed-slots_marked}
+use Rattle.bucket_table.proofs.Words.{killed-slots_without, length, length-set, live_pair, locked_change, map, map-entries_in, pairs_in}
+use Rattle.bucket_table.proofs.Words.{pairs_of, recursion_from_All, refl, rotated, set, slot_at, slot_in, slots_after_insertion}
+use Rattle.bucket_table.proofs.Words.{slots_evicted, slots_marked, slots_touched, slots_without, subst, ◌%◌, ◌++◌, ◌<◌, ◌∙◌, ◌∷◌, ◌≡◌}
 use Rattle.std.proofs.Common.{OnSome}
 use Rattle.std.proofs.lemmas.List.{set-set}
-use Rattle.std.proofs.lemmas.Map.Keys.{IsDistinct-cons, IsDistinct-tail}
-use Rattle.bucket_slots.proofs.MarksAfter.{entries_in-slots_after_insertion, entries_in-slots_marked}
+use Rattle.std.proofs.lemmas.Map.Keys.{IsDistinct-cons}
 use Rattle.bucket_slots.proofs.PairsAfter.{entries_in-slots_evicted, entries_in-slots_without, rewritten}
-use Rattle.bucket_slots.proofs.RoomAfter.{killed-bucket_with_value, killed-slots_after_insertion, killed-slots_marked}
-use Rattle.bucket_slots.proofs.RoomAfter.{killed-slots_without}
-use Rattle.bucket_slots.specs.Evicting.{slot_to_evict, slots_evicted}
-use Rattle.bucket_table.specs.Views.LockedLaws.{locked_change}
-use Rattle.bucket_table.specs.Map.MapState.{AddsPair, ChangesValue, TakesPair, state_of}
+use Rattle.bucket_slots.proofs.MarksAfter.{entries_in-slots_after_insertion, entries_in-slots_marked}
+use Rattle.bucket_slots.proofs.RoomAfter.{killed-bucket_with_value, killed-slots_after_insertion}
+use Rattle.bucket_slots.specs.Evicting.{slot_to_evict}
+use Rattle.bucket_table.specs.Map.MapState.{state_of}
 use Rattle.bucket_table.proofs.Views.SideChanges.{Exchanges, IsChangeable, arrays_with-same, buckets_on-arrays_with, homes_moved, homes_on}
 use Rattle.bucket_table.proofs.Views.SideChanges.{pairs_exchanged, placed_after}
 
 module _ {K V : Type 0} (eq : K → K → Bool) (laws : IsEquivalence eq) where
+  -- distinct keys, in another order
+  pub distinct_kept : (m n : List (K × V)) → IsDistinct eq (map (λ (q : K × V). q.0) m)
+      → IsPermutation m n → IsDistinct eq (map (λ (q : K × V). q.0) n)
+  distinct_kept m n one moved = IsDistinct-IsPermutation eq laws.symm _ _ (IsPermutation-map (λ (q : K × V). q.0) m n moved) one
+
   -- distinct keys, and one more
   pub distinct_added : (m n : List (K × V)) (p : K × V) → IsDistinct eq (map (λ (q : K × V). q.0) m) → IsAbsent (λ own. eq own p.0) m
       → IsPermutation (p ∷ m) n → IsDistinct eq (map (λ (q : K × V). q.0) n)
   distinct_added m n p one none moved =
       let other : All (λ (q : K × V). eq p.0 q.0 ≡ false) m = λ k d below. laws.symm p.0 (get_or m k d).0 ∙ none k d below in
-      IsDistinct-IsPermutation eq laws.symm _ _ (IsPermutation-map (λ (q : K × V). q.0) (p ∷ m) n
-      moved) (IsDistinct-cons eq p.0 (map (λ (q : K × V). q.0) m) (recursion_from_All (λ k. eq p.0 k ≡ false) (map (λ (q : K × V). q.0) m)
-      (All-map (λ k. eq p.0 k ≡ false) (λ (q : K × V). q.0) m other)) one)
+      distinct_kept (p ∷ m) n (IsDistinct-cons eq p.0 _ (recursion_from_All (λ k. eq p.0 k ≡ false) (map (λ (q : K × V). q.0) m)
+      (All-map (λ k. eq p.0 k ≡ false) (λ (q : K × V). q.0) m other)) one) moved
 
   -- distinct keys, and one less
   pub distinct_taken : (m n : List (K × V)) (p : K × V) → IsDistinct eq (map (λ (q : K × V). q.0) m) → IsPermutation m (p ∷ n)
       → IsDistinct eq (map (λ (q : K × V). q.0) n)
-  distinct_taken m n p one moved = IsDistinct-tail eq p.0 (map (λ (q : K × V). q.0) n)
-      (IsDistinct-IsPermutation eq laws.symm _ _ (IsPermutation-map (λ (q : K × V). q.0) m (p ∷ n)
-      moved) one)
-
-  -- distinct keys, in another order
-  pub distinct_kept : (m n : List (K × V)) → IsDistinct eq (map (λ (q : K × V). q.0) m)
-      → IsPermutation m n → IsDistinct eq (map (λ (q : K × V). q.0) n)
-  distinct_kept m n one moved = IsDistinct-IsPermutation eq laws.symm _ _ (IsPermutation-map (λ (q : K × V). q.0) m n moved) one
+  distinct_taken m n p one moved = IsDistinct-tail eq p.0 (map (λ (q : K × V). q.0) n) (distinct_kept m (p ∷ n) one moved)
 
 -- the changes of one bucket that a locked bucket makes
 module _ {K V : Type 0} (a : ArraysView K V) (side : Side) (i : ℕ) (within : i < length (buckets_on a side)) where
@@ -106,8 +102,7 @@ module _ {K V : Type 0} where
       (get_or-set_same (buckets_on a side) i empty_bucket empty_bucket within) in
       let long : i < length (buckets_on empty side) = rw (is, length-set) within in
       let none : entries_in (bucket_at (buckets_on empty side) i) ≡ [] = ap (λ (c : BucketView K V). entries_in c) there in
-      let out : IsPermutation (entries_in old) (entries_in old ++ []) = subst (IsPermutation (entries_in old))
-      (sym (append-nil (entries_in old))) (IsPermutation-refl (entries_in old)) in
+      let out : IsPermutation (entries_in old) (entries_in old ++ []) = rw append-nil (IsPermutation-refl (entries_in old)) in
       let come : IsPermutation (entries_in b ++ entries_in (bucket_at (buckets_on empty side) i)) (entries_in b) = rw (none, append-nil)
       (IsPermutation-refl (entries_in b)) in
       record {
@@ -170,8 +165,7 @@ module _ {K V H : Type 0} {eq : K → K → Bool} (laws : IsEquivalence eq) (has
       x.within x.moved in
       let here : IsAtHome (p, h % 256) = record {
         home = subst (λ n. IsHome (length (buckets_on a side)) n i) own home;
-        own_byte = ap
-            (λ n. n % 256) own;
+        own_byte = ap (λ n. n % 256) own;
       } in
       leaves _ ((p, h % 256) ∷ []) [] b x (All-cons IsAtHome (p, h % 256) [] here (All-nil IsAtHome))
       (distinct_added eq laws (pairs_of a) _ p one.distinct none pairs)
@@ -237,8 +231,7 @@ module _ {K V H : Type 0} {eq : K → K → Bool} (laws : IsEquivalence eq) (has
       let x : Exchanges a side i (f ∷ []) (e ∷ []) new = record {
         within = held.within;
         moved = moved;
-        alive = killed-bucket_with_value old
-            at value;
+        alive = killed-bucket_with_value old at value;
       } in
       let all = All-permutation P (entries_in old) (e ∷ r.rest) r.before_is (homes_on (hash hasher) a side i one.placed held.within) in
       let first : P e = all 0 e (omega arith) in

@@ -1,18 +1,15 @@
 -- What a put does to the slots of a cache's bucket: it is never refused there, and it leaves the chain.
-use Rattle.bucket_table.proofs.Words.{Bool, BucketView, CACHE, IfNone, IfSome, None, Option, Place, Some, ap, flattened, free, is_free}
-use Rattle.bucket_table.proofs.Words.{length-set, live_from_pair, live_pair, refl, slot_at, slots_after_insertion, slots_touched, subst}
-use Rattle.bucket_table.proofs.Words.{false, true}
-use Rattle.bucket_table.proofs.Words.{Contains-append_left, get_or-set_same, ℕ, ◌↔◌, ◌∙◌, ◌∷◌, ◌≡◌}
+use Rattle.bucket_table.proofs.Words.{Bool, BucketView, CACHE, Contains, Contains-append_left, Goes, IfNone, IfSome, None, Option, Place}
+use Rattle.bucket_table.proofs.Words.{Some, ℕ, ap, false, first_place, flattened, free, get_or-set_same, is_free, length-set}
+use Rattle.bucket_table.proofs.Words.{live_from_pair, live_pair, place_for_next, refl, slot_at, slots_after_insertion, slots_evicted}
+use Rattle.bucket_table.proofs.Words.{slots_left, slots_put, slots_touched, slots_with, subst, true, ◌↔◌, ◌∙◌, ◌∷◌, ◌≡◌}
 use Rattle.std.proofs.Common.{IsNone, OnSome}
-use Rattle.std.specs.List.{Contains, position}
-use Rattle.bucket_slots.specs.BucketView.{first_place}
+use Rattle.std.specs.List.{position}
 use Rattle.bucket_slots.specs.Clearing.{slots_for_insertion}
-use Rattle.bucket_slots.specs.Evicting.{slot_to_evict, slots_evicted}
-use Rattle.bucket_slots.specs.Placing.{place_for_next, slots_with}
+use Rattle.bucket_slots.specs.Evicting.{slot_to_evict}
 use Rattle.bucket_slots.proofs.BucketRecency.{none_free}
 use Rattle.bucket_slots.proofs.ChangedSlots.{live_inside}
 use Rattle.bucket_slots.proofs.FirstPlaces.{first_from-None}
-use Rattle.bucket_table.specs.Map.Putting.{Goes, slots_left, slots_put}
 
 module _ {K V : Type 0} where
   -- what an eviction says of a bucket

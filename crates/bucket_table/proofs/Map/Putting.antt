@@ -1,18 +1,15 @@
 -- A pair put into a locked bucket of a cache, after what goes for it, and what that makes of the table in which the bucket was found.
-use Rattle.bucket_table.proofs.Words.{All-permutation, All-tail, ArraysView, Bool, BucketView, CACHE, Err, IsAbsent, IsEquivalence, IsHome}
-use Rattle.bucket_table.proofs.Words.{IsLocked, IsOneMap, IsPermutation-refl, IsPermutation-trans, KeepsPairs, MapState, None, Ok, Option}
-use Rattle.bucket_table.proofs.Words.{Result, Side, Some, TableView, ap, arrays_with, bucket_at, buckets_on, false, length, length-set}
-use Rattle.bucket_table.proofs.Words.{pairs_of, refl, slots_after_insertion, slots_touched, subst, true, ℕ, ◌%◌, ◌<◌, ◌∙◌, ◌∷◌, ◌≡◌}
-use Rattle.bucket_slots.specs.Evicting.{slots_evicted}
-use Rattle.bucket_slots.specs.Placing.{place_for_next, slots_with}
+use Rattle.bucket_table.proofs.Words.{AddsPair, All-permutation, All-tail, ArraysView, Bool, BucketView, CACHE, Err, FindsBucket, FindsThen}
+use Rattle.bucket_table.proofs.Words.{Goes, IsAbsent, IsEquivalence, IsHome, IsLocked, IsOneMap, IsPermutation-refl, IsPermutation-trans}
+use Rattle.bucket_table.proofs.Words.{KeepsPairs, MapState, None, NotInserted, Ok, Option, Present, Puts, PutsAt, Result, Side, Some}
+use Rattle.bucket_table.proofs.Words.{TableView, ℕ, ap, arrays_with, bucket_at, bucket_on, buckets_on, false, length, length-set, pairs_of}
+use Rattle.bucket_table.proofs.Words.{place_for_next, refl, slots_after_insertion, slots_evicted, slots_left, slots_put, slots_touched}
+use Rattle.bucket_table.proofs.Words.{slots_with, subst, true, with_bucket, ◌%◌, ◌<◌, ◌∙◌, ◌∷◌, ◌≡◌}
 use Rattle.bucket_table.specs.Map.ByKey.{Evicts}
-use Rattle.bucket_table.specs.Map.Finding.{FindsBucket, FindsThen}
-use Rattle.bucket_table.specs.Map.MapState.{AddsPair, state_of}
+use Rattle.bucket_table.specs.Map.MapState.{state_of}
 use Rattle.bucket_table.specs.Map.Refusing.{IsRefused}
-use Rattle.bucket_table.specs.Map.Putting.{Goes, Puts, PutsAt, PutsIn, slots_left, slots_put}
-use Rattle.bucket_table.specs.Views.Sides.{bucket_on, with_bucket}
-use Rattle.bucket_table.specs.declared.hash_table.NotInserted.{NotInserted}
-use Rattle.bucket_table.specs.declared.hash_table.NotInserted.TheVariants.{Memory, Present}
+use Rattle.bucket_table.specs.Map.Putting.{PutsIn}
+use Rattle.bucket_table.specs.declared.hash_table.NotInserted.TheVariants.{Memory}
 use Rattle.bucket_table.proofs.Map.Inserting.{handed_back}
 use Rattle.bucket_table.proofs.Map.LockedSteps.{put_there, with_own}
 use Rattle.bucket_table.proofs.Map.LookUps.{searched_absent, searched_found}
@@ -85,8 +82,7 @@ module _ {K V H : Type 0} {eq : K → K → Bool} (laws : IsEquivalence eq) (has
       (change (bucket_at (buckets_on (arrays_with a side i b) side) i))
       → LeavesWith Then (change b)
   then_leaves First Then b change x y =
-      let there = put_there a side i b locked.within in
-      let z = rw there at y in
+      let z = rw (put_there a side i b locked.within) at y in
       let again = set_again a side i b (change b) in
       record {
         one_map = subst (λ (c : ArraysView K V). IsOneMap eq (hash hasher) c) again z.one_map;
@@ -108,12 +104,11 @@ module _ {K V H : Type 0} {eq : K → K → Bool} (laws : IsEquivalence eq) (has
       let b = slots_left was gone in
       let left = arrays_with a side i b in
       let x = leaves_left gone went in
-      let none = absent_left eq key (state a) (state left) gone x.map absent in
       let at_home : IsHome (length (buckets_on left side)) h i = rw (buckets_on-arrays_with a side i b, length-set) home in
       let y = then_leaves _ (AddsPair (state left) (key, value)) b
       (λ s. slots_after_insertion kind (λ _. true) s (key, value) (h % 256)) x
       (inserted laws hash kind side i x.one_map (changeable_locked left side i (x.locked locked)) (λ _. true) (key, value) h own at_home
-      none) in
+      (absent_left eq key (state a) (state left) gone x.map absent)) in
       let d = slots_after_insertion kind (λ _. true) b (key, value) (h % 256) in
       let added = arrays_with a side i d in
       let at = place_for_next b in

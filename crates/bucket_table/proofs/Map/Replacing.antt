@@ -1,11 +1,11 @@
 -- A pair stands in the place of another one with an equal key.
-use Rattle.bucket_table.proofs.Words.{All-cons, All-nil, All-permutation, AllByRecursion, ArraysView, Bool, BucketView, IsDistinct}
-use Rattle.bucket_table.proofs.Words.{IsEntryHome, IsEquivalence, IsHome, IsOneMap, IsPermutation, IsPermutation-append_left}
-use Rattle.bucket_table.proofs.Words.{IsPermutation-cons, IsPermutation-map, IsPermutation-trans, KeepsPairs, List, MapState, Old, Current}
-use Rattle.bucket_table.proofs.Words.{Place, Side, Some, [], ap, arith, arrays_with, bucket_on, buckets_on, empty_bucket, entries_in, false, length}
-use Rattle.bucket_table.proofs.Words.{live_pair, map, map-entries_in, pairs_in, pairs_of, refl, rotated, slot_in, subst, sym, true, ℕ}
-use Rattle.bucket_table.proofs.Words.{◌%◌, ◌++◌, ◌<◌, ◌∙◌, ◌∷◌, ◌≡◌}
-use Rattle.std.proofs.lemmas.Map.Keys.{IsDistinct-cons, IsDistinct-head, IsDistinct-tail}
+use Rattle.bucket_table.proofs.Words.{All-cons, All-nil, All-permutation, AllByRecursion, ArraysView, Bool, BucketView, Current, IsDistinct}
+use Rattle.bucket_table.proofs.Words.{IsDistinct-tail, IsEntryHome, IsEquivalence, IsHome, IsOneMap, IsPermutation}
+use Rattle.bucket_table.proofs.Words.{IsPermutation-append_left, IsPermutation-cons, IsPermutation-map, IsPermutation-trans, KeepsPairs}
+use Rattle.bucket_table.proofs.Words.{List, MapState, Old, Place, Side, Some, ℕ, [], ap, arith, arrays_with, bucket_on, buckets_on}
+use Rattle.bucket_table.proofs.Words.{empty_bucket, entries_in, false, length, live_pair, map, map-entries_in, pairs_in, pairs_of, refl}
+use Rattle.bucket_table.proofs.Words.{rotated, slot_in, subst, sym, true, ◌%◌, ◌++◌, ◌<◌, ◌∙◌, ◌∷◌, ◌≡◌}
+use Rattle.std.proofs.lemmas.Map.Keys.{IsDistinct-cons, IsDistinct-head}
 use Rattle.bucket_slots.proofs.Replacing.{replaced}
 use Rattle.bucket_slots.specs.Replacing.{slots_replaced}
 use Rattle.bucket_table.specs.Map.MapState.{state_of}

@@ -1,8 +1,8 @@
 -- What a table is once the pair in a live slot was touched, marked or taken out.
-use Rattle.bucket_table.proofs.Words.{ArePlaced, ArraysView, Bool, BucketView, IsEquivalence, IsOneMap, Keeps, KeepsPairs, MapState, Place}
-use Rattle.bucket_table.proofs.Words.{Side, Some, arrays_with, bucket_on, bucket_with_value, buckets_on, length, live_pair, slot_in}
-use Rattle.bucket_table.proofs.Words.{slots_marked, slots_touched, slots_without, ℕ, ◌<◌, ◌≡◌}
-use Rattle.bucket_table.specs.Map.MapState.{ChangesValue, TakesPair, state_of}
+use Rattle.bucket_table.proofs.Words.{ArePlaced, ArraysView, Bool, BucketView, ChangesValue, IsEquivalence, IsOneMap, Keeps, KeepsPairs}
+use Rattle.bucket_table.proofs.Words.{MapState, Place, Side, Some, TakesPair, ℕ, arrays_with, bucket_on, bucket_with_value, buckets_on}
+use Rattle.bucket_table.proofs.Words.{length, live_pair, slot_in, slots_marked, slots_touched, slots_without, ◌<◌, ◌≡◌}
+use Rattle.bucket_table.specs.Map.MapState.{state_of}
 use Rattle.bucket_table.proofs.Map.LockedSteps.{taken_through}
 use Rattle.bucket_table.proofs.Map.MapKept.{one_map_kept}
 use Rattle.bucket_table.proofs.Map.MapSteps.{Leaves, marked, removed, touched, wrote, wrote_touching}

@@ -1,9 +1,7 @@
 -- A pair is taken out of a table, after its bucket was found.
 use Rattle.bucket_table.proofs.Words.{All-permutation, Bool, Contains-permutation, IsAbsent, IsPermutation-sym, IsPermutation-trans}
-use Rattle.bucket_table.proofs.Words.{KeepsPairs, List, MapState}
-use Rattle.bucket_table.proofs.Words.{Slot, Some, ap, false, live_pair, same_Some, subst, sym, true, ◌∙◌, ◌∷◌, ◌≡◌}
-use Rattle.bucket_table.specs.Map.LookingUp.{IsThere}
-use Rattle.bucket_table.specs.Map.MapState.{TakesPair}
+use Rattle.bucket_table.proofs.Words.{IsThere, KeepsPairs, List, MapState, Slot, Some, TakesPair, ap, false, live_pair, same_Some, subst}
+use Rattle.bucket_table.proofs.Words.{sym, true, ◌∙◌, ◌∷◌, ◌≡◌}
 
 module _ {K V H : Type 0} where
   -- another order, and then one pair less

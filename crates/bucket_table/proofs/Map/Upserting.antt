@@ -1,12 +1,10 @@
 -- A pair put into a locked bucket, or its value written there, and what that makes of the table in which the bucket was found.
-use Rattle.bucket_table.proofs.Words.{ArraysView, Bool, BucketView, Err, IsEquivalence, IsHome, IsLocked, IsOneMap, IsPermutation-refl}
-use Rattle.bucket_table.proofs.Words.{KeepsPairs, MapState, None, Ok, Option, Result, Side, Some, TableView, ap, bucket_at, buckets_on}
-use Rattle.bucket_table.proofs.Words.{length, pairs_of, refl, true, ℕ, ◌%◌, ◌∙◌, ◌≡◌}
+use Rattle.bucket_table.proofs.Words.{ArraysView, Bool, BucketView, Err, FindsBucket, FindsThen, IsEquivalence, IsHome, IsLocked, IsOneMap}
+use Rattle.bucket_table.proofs.Words.{IsPermutation-refl, KeepsPairs, MapState, None, Ok, Option, Result, Side, Some, TableView, ℕ, ap}
+use Rattle.bucket_table.proofs.Words.{bucket_at, bucket_on, buckets_on, length, pairs_of, refl, true, with_bucket, ◌%◌, ◌∙◌, ◌≡◌}
 use Rattle.bucket_slots.specs.Digested.{UpsertsIn}
 use Rattle.bucket_table.specs.Map.ByKey.{Upserts, UpsertsAt}
-use Rattle.bucket_table.specs.Map.Finding.{FindsBucket, FindsThen}
 use Rattle.bucket_table.specs.Map.MapState.{state_of}
-use Rattle.bucket_table.specs.Views.Sides.{bucket_on, with_bucket}
 use Rattle.bucket_table.proofs.Map.Inserting.{inserted_where_absent}
 use Rattle.bucket_table.proofs.Map.KeySteps.{stands_found}
 use Rattle.bucket_table.proofs.Map.LockedSteps.{with_own}
@@ -56,8 +54,8 @@ module _ {K V H : Type 0} where
       let put = is ∙ ap (λ (b : BucketView K V). with_bucket between side i b) x.1 in
       rw (← own) (record { answer = Ok (side, i); between = between; found = found; done = put })
   found_upserted eq kind h n keeps key value old between new side i (Ok (Some earlier)) left own found x is =
-      let stands = stands_found (λ own. eq own key) between.arrays side _ (bucket_on between.arrays side i) (h % 256) i x.0 refl refl found.home.within
-      x.2 in
+      let stands = stands_found (λ own. eq own key) between.arrays side _ (bucket_on between.arrays side i) (h % 256) i x.0
+      refl refl found.home.within x.2 in
       let wrote = is ∙ ap (λ (b : BucketView K V). with_bucket between side i b) x.4 in
       rw (← own) (record { answer = Ok (side, i); between = between; found = found; done = (side, i, x.0, stands, wrote) })
   found_upserted eq kind h n keeps key value old between new side i (Err back) left own found x is =

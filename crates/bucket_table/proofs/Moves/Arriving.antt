@@ -1,17 +1,15 @@
 -- Slots that are listed one after another behind those that their buckets list.
-use Rattle.bucket_table.proofs.Words.{Bool, BucketView, List, None, Option, Some, [], ap, append-nil, arith, bucket_at, cases_eq, eq-eqb}
-use Rattle.bucket_table.proofs.Words.{false, false≢true, get_or, inl, inr, is_listed, landing_of, length, refl, set, sym, take, true, ℕ}
-use Rattle.bucket_table.proofs.Words.{◌++◌, ◌+◌, ◌<◌, ◌==◌, ◌∙◌, ◌∷◌, ◌≡◌}
+use Rattle.bucket_table.proofs.Words.{Bool, BucketView, Landing, List, ListsArrivals, None, Option, Some, ℕ, [], ap, append-nil, arith}
+use Rattle.bucket_table.proofs.Words.{bucket_at, cases_eq, eq-eqb, false, false≢true, flat_map-append, get_or, inl, inr, is_listed}
+use Rattle.bucket_table.proofs.Words.{landing_of, length, ne_eqb, refl, set, sym, take, take_more, true, ◌++◌, ◌+◌, ◌<◌, ◌==◌, ◌∙◌, ◌∷◌}
+use Rattle.bucket_table.proofs.Words.{◌≡◌}
 use Rattle.std.proofs.Common.{append_assoc}
-use Rattle.std.proofs.lemmas.Bool.{ne_eqb, or_from, or_parts}
-use Rattle.std.proofs.lemmas.List.{take_more}
-use Rattle.std.proofs.lemmas.List.Concat.{flat_map-append}
+use Rattle.std.proofs.lemmas.Bool.{or_from, or_parts}
 use Rattle.std.proofs.lemmas.List.Folds.{list_any-append}
 use Rattle.bucket_slots.proofs.PlacedSlots.{next_is_new}
 use Rattle.bucket_slots.specs.Evicting.{slots_appended}
 use Rattle.bucket_slots.specs.Recency.{IsRecencyOrder}
-use Rattle.bucket_table.specs.Layout.Landings.{AreListable, IsListable, ListsArrivals, arrivals, slot_there}
-use Rattle.bucket_table.specs.declared.arrays.moving.Landing.{Landing}
+use Rattle.bucket_table.specs.Layout.Landings.{AreListable, IsListable, arrivals, slot_there}
 use Rattle.bucket_table.proofs.Moves.Exchanges.{changes_at}
 
 arrivals-append : (landings : List (Option Landing)) (j : ℕ) (order : List ℕ) (slot : ℕ)
@@ -42,10 +40,9 @@ not_arrived : (landings : List (Option Landing)) (order : List ℕ) (slot : ℕ)
 not_arrived landings [] slot at absent alone = refl
 not_arrived landings (first ∷ order) slot at absent alone =
     let parts = or_parts (slot == first) (is_listed order slot) absent in
-    let rest = not_arrived landings order slot at parts.1 alone in
     let apart = λ (said : landing_of landings first ≡ Some at). false≢true (sym parts.0 ∙ eq-eqb slot first (sym (alone first said))) in
     unlisted-append (slot_there at.home (landing_of landings first)) (arrivals landings at.home order) at.slot
-    (not_there at (landing_of landings first) apart) rest
+    (not_there at (landing_of landings first) apart) (not_arrived landings order slot at parts.1 alone)
 
 module _ {K V : Type 0} where
   -- a bucket that lists slots behind its own ones
@@ -119,11 +116,10 @@ module _ {K V : Type 0} where
           → d ≡ slots_appended keeps b (record { block = 0; pos = at.slot }) → ListsArrivals landings (take (k + 1) order) c0
           (set c at.home d)
       arriving_some keeps b d keeps_is b_is d_is =
-          let now = listable_now in
           let d_as : d ≡ with_more (bucket_at c at.home) (at.slot ∷ []) =
           d_is ∙ ap (λ (t : Bool). slots_appended t b (record { block = 0; pos = at.slot })) keeps_is
           ∙ ap (λ (x : BucketView K V). with_more x (at.slot ∷ [])) b_is in
-          let put = changes_at at.home d c now.within in
+          let put = changes_at at.home d c listable_now.within in
           record {
             len = put.len ∙ arrived.len;
             each = λ j. elim (cases_eq j at.home) [

@@ -1,24 +1,18 @@
 -- Recency that was carried: what the targets list once the pairs of a bucket have landed and their slots were listed.
-use Rattle.bucket_table.proofs.Words.{AreHome, Bool, BucketView, CACHE, HasNoNewMark, IsBucketOf, KeepsEntries, List}
-use Rattle.bucket_table.proofs.Words.{MovesInto, None, Option, Slot, Some, [], ap, append-nil, arith, bucket_at, cases_Bool, cases_eq}
-use Rattle.bucket_table.proofs.Words.{entries_among, entries_in, false, false≢true, free, homed_len, if◌then◌else◌, inl, inr, is_listed}
-use Rattle.bucket_table.proofs.Words.{landing_of, length, listed_pairs, live, live_pair, live_pairs, map, map-append, marked, marks_among}
-use Rattle.bucket_table.proofs.Words.{marks_in, nil_from_length, pairs_in, refl, replicate, slot_at, slot_in, subst, sym, take, true, ℕ}
-use Rattle.bucket_table.proofs.Words.{◌++◌, ◌-◌, ◌<◌, ◌==◌, ◌∙◌, ◌∷◌, ◌≡◌}
-use Rattle.std.proofs.Common.{IsPermutation}
+use Rattle.bucket_table.proofs.Words.{AreHome, Bool, BucketView, CACHE, CanMoveInto, CarriesRecency, HasLanded, IsBucketOf}
+use Rattle.bucket_table.proofs.Words.{KeepsEntries, KeepsPlaces, Landing, List, ListsArrivals, MovesInto, None, Option, Slot, Some}
+use Rattle.bucket_table.proofs.Words.{WentFirst, ℕ, [], ap, append-nil, arith, bucket_at, cases_Bool, cases_eq, entries_in}
+use Rattle.bucket_table.proofs.Words.{eqb-true, false, false≢true, filter_map-append, free, homed_len}
+use Rattle.bucket_table.proofs.Words.{if◌then◌else◌, inl, inr, is_listed, landing_of, length, listed_pairs, live, live_pair, live_pairs}
+use Rattle.bucket_table.proofs.Words.{map, map-append, marked, marks_in, nil_from_length, pairs_in, refl, replicate, slot_at, slot_in}
+use Rattle.bucket_table.proofs.Words.{subst, sym, take, true, ◌++◌, ◌-◌, ◌<◌, ◌==◌, ◌∙◌, ◌∷◌, ◌≡◌}
 use Rattle.std.proofs.Math.Seq.{take-append_seam}
-use Rattle.std.proofs.lemmas.Bool.{eqb-true}
-use Rattle.std.proofs.lemmas.List.Elements.{filter_map-append}
 use Rattle.std.specs.List.{filter}
 use Rattle.bucket_slots.proofs.PlacedSlots.{listed_below}
 use Rattle.bucket_slots.specs.Evicting.{slots_unlisted}
 use Rattle.bucket_slots.specs.Recency.{order_and_zeros}
-use Rattle.bucket_table.specs.Layout.Landings.{CarriesRecency, HasLanded, HaveLanded, ListsArrivals, arrivals, carried_to, is_own_of}
-use Rattle.bucket_table.specs.Layout.Landings.{slot_there}
-use Rattle.bucket_table.specs.Layout.Moving.{CanMoveInto}
-use Rattle.bucket_table.specs.Rehash.Carrying.{WentFirst, WentInOrder}
-use Rattle.bucket_table.specs.Rehash.Relocation.{KeepsPlaces}
-use Rattle.bucket_table.specs.declared.arrays.moving.Landing.{Landing}
+use Rattle.bucket_table.specs.Layout.Landings.{HaveLanded, arrivals, carried_to, is_own_of, slot_there}
+use Rattle.bucket_table.specs.Rehash.Carrying.{WentInOrder}
 use Rattle.bucket_table.proofs.Moves.Arriving.{with_more}
 use Rattle.bucket_table.proofs.Moves.Landings.{none_left}
 use Rattle.bucket_table.proofs.Moves.Staying.{contains_at, place_listed, stay_both, stay_same}
@@ -162,7 +156,7 @@ module _ {K V : Type 0} where
   })
 
   -- the pairs of s landed in d, and their slots were listed in e
-  module _ (kind : ℕ) (hash : K → ℕ) (s : BucketView K V) (c d e : List (BucketView K V)) (landings : List (Option Landing))
+  module _ {kind : ℕ} {hash : K → ℕ} {s : BucketView K V} {c d e : List (BucketView K V)} {landings : List (Option Landing)}
       (laws : IsBucketOf kind s) (long : length landings ≡ 32)
       (landed : HaveLanded hash (slots_unlisted s) c d landings) (in_order : WentInOrder d (pairs_in s))
       (listed : ListsArrivals landings s.listed d e) where
@@ -220,15 +214,13 @@ module _ {K V : Type 0} where
     -- the pairs are where they landed
     pub moves_still : (left : BucketView K V) → MovesInto hash (slots_unlisted s) c left d → MovesInto hash s c left e
     moves_still left moved = record {
-      entries = subst (λ (those : List ((K × V) × ℕ)). IsPermutation (entries_in s ++ entries_among c) (entries_in left ++ those))
-          (sym (entries_alike d e listed.len entries_same)) moved.entries;
+      entries = rw (entries_alike d e listed.len entries_same) moved.entries;
       len = listed.len ∙ moved.len;
       fewer = moved.fewer;
       others = λ i none. bucket_same i none ∙ moved.others i none;
       alive = λ i. ap (λ (b : BucketView K V). b.killed) (listed.each i) ∙ moved.alive i;
       as_alive = moved.as_alive;
-      marks = subst (λ (those : List ((K × V) × ℕ)). HasNoNewMark (marks_in s ++ marks_among c) (marks_in left ++ those))
-          (sym (marks_alike d e listed.len (λ j. ap marks_in (listed.each j)))) moved.marks;
+      marks = rw (marks_alike d e listed.len (λ j. ap marks_in (listed.each j))) moved.marks;
       same_marks = moved.same_marks;
     }
 
@@ -248,15 +240,13 @@ module _ {K V : Type 0} where
       → len ≡ length s.listed → HaveLanded hash t c d landings → WentInOrder d (pairs_in t) → MovesInto hash t c left d → AreHome hash d
       → ListsArrivals landings (take len bytes) d e → IsCarried hash s left c e
   carried_over kind hash s t left c d e landings bytes len laws long t_is bytes_is len_is landed in_order moved homes listed =
-      let landed_here = subst (λ (b : BucketView K V). HaveLanded hash b c d landings) t_is landed in
-      let order_here = subst (λ (b : BucketView K V). WentInOrder d (pairs_in b)) t_is in_order in
-      let moved_here = subst (λ (b : BucketView K V). MovesInto hash b c left d) t_is moved in
-      let listed_here = subst (λ (order : List ℕ). ListsArrivals landings order d e) (order_back s.listed bytes len bytes_is len_is)
-      listed in
+      let landed_here = rw t_is at landed in
+      let order_here : WentInOrder d (pairs_in s) = rw t_is at in_order in
+      let listed_here = rw (order_back s.listed bytes len bytes_is len_is) at listed in
       record {
-        moved = moves_still kind hash s c d e landings laws long landed_here order_here listed_here left moved_here;
-        homes = homes_still kind hash s c d e landings laws long landed_here order_here listed_here homes;
-        recency = carries_recency kind hash s c d e landings laws long landed_here order_here listed_here;
+        moved = moves_still laws long landed_here order_here listed_here left (rw t_is at moved);
+        homes = homes_still laws long landed_here order_here listed_here homes;
+        recency = carries_recency laws long landed_here order_here listed_here;
       }
 
 -- an order that isn't empty comes from a cache, whose list is kept

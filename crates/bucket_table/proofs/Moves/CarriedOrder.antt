@@ -1,16 +1,13 @@
 -- The recency order that goes along where old buckets move on, one step after another.
-use Rattle.bucket_table.proofs.Words.{All, All-head, All-nil, All-tail, ArraysView, Bool, BucketView, Contains, Contains-append_left}
-use Rattle.bucket_table.proofs.Words.{Contains-append_right, IsDistinct, IsDistinct-IsPermutation, IsEquivalence, IsPermutation}
-use Rattle.bucket_table.proofs.Words.{IsPermutation-map, List, None, Option, Some, [], ap, append-nil, append_assoc, arith}
-use Rattle.bucket_table.proofs.Words.{bucket_at, cases_eq, entries_among, entries_of, filter, filter-append, get_or, inl, inr, suc, zero}
-use Rattle.bucket_table.proofs.Words.{listed_pairs, map, map-append, pairs_in, pairs_of, refl, slot_at, subst}
-use Rattle.bucket_table.proofs.Words.{sym, ℕ, ◌++◌, ◌∙◌, ◌∷◌, ◌≡◌, ◌⊎◌}
-use Rattle.std.proofs.lemmas.List.Concat.{flat_map-append}
-use Rattle.std.proofs.lemmas.List.Elements.{All-append, Contains-append_cases}
+use Rattle.bucket_table.proofs.Words.{All, All-append, All-head, All-nil, All-tail, ArraysView, Bool, BucketView, CarriesOrder}
+use Rattle.bucket_table.proofs.Words.{CarriesRecency, Contains, Contains-append_cases, Contains-append_left, Contains-append_right}
+use Rattle.bucket_table.proofs.Words.{HasLanded, IsDistinct, IsDistinct-IsPermutation, IsEquivalence, IsPermutation, IsPermutation-map}
+use Rattle.bucket_table.proofs.Words.{KeepsPlaces, List, None, Option, Some, TicketState, ℕ, [], ap, append-nil, append_assoc, arith}
+use Rattle.bucket_table.proofs.Words.{bucket_at, cases_eq, entries_among, entries_of, filter, filter-append, flat_map-append}
+use Rattle.bucket_table.proofs.Words.{get_or, inl, inr, listed_pairs, map, map-append}
+use Rattle.bucket_table.proofs.Words.{pairs_in, pairs_of, refl, slot_at, subst, suc, sym, zero, ◌++◌, ◌∙◌, ◌∷◌, ◌≡◌, ◌⊎◌}
 use Rattle.std.specs.Prelude.{flat_map}
-use Rattle.bucket_table.specs.Layout.Landings.{CarriesRecency, HasLanded}
-use Rattle.bucket_table.specs.Rehash.Carrying.{CarriesOrder, CarriesPairs, WentInOrder, has_own_key, listed_among}
-use Rattle.bucket_table.specs.Rehash.Relocation.{KeepsPlaces}
+use Rattle.bucket_table.specs.Rehash.Carrying.{CarriesPairs, WentInOrder, has_own_key, listed_among}
 use Rattle.bucket_table.proofs.Moves.CarriedPairs.{carries_pairs, in_chain, in_own, landing_tells, pairs_among}
 use Rattle.bucket_table.proofs.Moves.MovingInOrder.{chain_still, order_still, own_still}
 use Rattle.bucket_table.proofs.Moves.Landings.{none_left}
@@ -90,6 +87,12 @@ module _ {K V : Type 0} where
   pub order_same : (a : ArraysView K V) → CarriesOrder a a
   order_same a = carries_unmoved a a (λ i. (refl, refl)) (stay_same a.current) (λ j. refl)
 
+  -- the tickets are nothing to the order
+  pub order_at_other_tickets : (tickets : TicketState) (old new : ArraysView K V) → CarriesOrder (record old { tickets = tickets }) new
+      → CarriesOrder old new
+  order_at_other_tickets tickets old new c =
+      record { moved = c.moved; left = c.left; stay = c.stay; arrived = c.arrived; carried = c.carried; in_order = c.in_order }
+
   -- a pair that has landed stands in some bucket
   stands : (d : List (BucketView K V)) (p : K × V) (landing : Option ℕ) → HasLanded d p landing
       → (j : ℕ) × Contains (pairs_in (bucket_at d j)) p
@@ -133,10 +136,7 @@ module _ {K V : Type 0} where
       record {
         moved = index ∷ [];
         left = λ i. elim (cases_eq i index) [
-          | inl same ↦ inl (
-            subst (λ (k : ℕ). Contains (index ∷ []) k) (sym same) (0, omega arith, refl),
-            rw same (unlisted_empty (bucket_at new.linked index) none),
-          )
+          | inl same ↦ inl (rw same (0, omega arith, refl), rw same (unlisted_empty (bucket_at new.linked index) none))
           | inr apart ↦ inr (ap listed_pairs (others i apart), ap pairs_in (others i apart))
         ];
         stay = recency.stay;
@@ -208,7 +208,7 @@ module _ {K V : Type 0} where
       | inl moved ↦ order_first i moved
       | inr more ↦ elim (first.left i) [
         | inl gone ↦ order_first i gone.0
-        | inr same ↦ subst (λ (ps : List (K × V)). WentInOrder new.current ps) same.1 (second.in_order i (later.3 i more))
+        | inr same ↦ rw same.1 at (second.in_order i (later.3 i more))
       ]
     ]
 

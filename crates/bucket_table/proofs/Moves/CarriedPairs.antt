@@ -1,20 +1,21 @@
 -- Recency that was carried, by keys: which of a bucket's listed pairs stand in own slots of a target, where no two keys are equal.
-use Rattle.bucket_table.proofs.Words.{ArraysView, Bool, BucketView, Contains-append_left, Contains-append_right, Err, IsDistinct}
-use Rattle.bucket_table.proofs.Words.{IsDistinct-IsPermutation, IsEquivalence, IsOneMap, IsPermutation-append_left, IsPermutation-map}
-use Rattle.bucket_table.proofs.Words.{IsPermutation-refl, List, None, Ok, OnOk, Option, Result, Slot, Some, [], ap, append-nil, arith}
-use Rattle.bucket_table.proofs.Words.{bucket_at, cases_Bool, cases_eq, cases_lt, empty_bucket, entries_among, entries_in, eq-eqb, false}
-use Rattle.bucket_table.proofs.Words.{flattened, free, get_or, get_or-map, if◌then◌else◌, inl, inr, is_listed, length, length-append}
-use Rattle.bucket_table.proofs.Words.{length-map, listed_pairs, live, live_pair, live_pairs, map, map-append, map-entries_in, marked}
-use Rattle.bucket_table.proofs.Words.{pairs_in, refl, set, slot_at, subst, suc, sym, true, zero, ℕ, ◌++◌, ◌+◌, ◌<◌, ◌==◌, ◌∙◌, ◌∷◌, ◌≡◌}
+use Rattle.bucket_table.proofs.Words.{ArraysView, Bool, BucketView, CarriesRecency, Contains-append_left, Contains-append_right, Err}
+use Rattle.bucket_table.proofs.Words.{HasLanded, IsDistinct, IsDistinct-IsPermutation, IsEquivalence, IsOneMap, IsPermutation-append_left}
+use Rattle.bucket_table.proofs.Words.{IsPermutation-map, IsPermutation-refl, List, None, Ok, OnOk, Option, Result, Slot, Some}
+use Rattle.bucket_table.proofs.Words.{StandsInChain, ℕ, [], ap, append-nil, arith, bucket_at, cases_Bool, cases_eq, cases_lt, empty_bucket}
+use Rattle.bucket_table.proofs.Words.{entries_among, entries_in, eq-eqb, eqb-true, false, filter_map-append, flattened, free, get_or}
+use Rattle.bucket_table.proofs.Words.{get_or-map, get_or_default, get_or_past, if◌then◌else◌, inl, inr, is_listed, length, length-append}
+use Rattle.bucket_table.proofs.Words.{length-map, list_any_at, listed_pairs, live, live_pair, live_pairs, map, map-append, map-entries_in}
+use Rattle.bucket_table.proofs.Words.{marked, or_left, or_right, pairs_in, refl, set, slot_at, subst, suc, sym, true, zero, ◌++◌, ◌+◌, ◌<◌}
+use Rattle.bucket_table.proofs.Words.{◌==◌, ◌∙◌, ◌∷◌, ◌≡◌}
 use Rattle.std.proofs.Common.{Contains, IsPermutation, append_assoc}
-use Rattle.std.proofs.lemmas.Bool.{eqb-false, eqb-true, or_left, or_right}
-use Rattle.std.proofs.lemmas.List.{get_or-append-add, get_or-set_other, get_or_default, get_or_past}
-use Rattle.std.proofs.lemmas.List.Elements.{filter_map-append}
-use Rattle.std.proofs.lemmas.List.Folds.{list_any_at, list_any_none}
+use Rattle.std.proofs.lemmas.Bool.{eqb-false}
+use Rattle.std.proofs.lemmas.List.{get_or-append-add, get_or-set_other}
+use Rattle.std.proofs.lemmas.List.Folds.{list_any_none}
 use Rattle.std.proofs.lemmas.Map.Keys.{apart_from_distinct}
 use Rattle.std.specs.List.{filter}
 use Rattle.bucket_table.specs.Rehash.Carrying.{CarriesPairs, has_own_key}
-use Rattle.bucket_table.specs.Layout.Landings.{CarriesRecency, HasLanded, StandsInChain, is_own_of}
+use Rattle.bucket_table.specs.Layout.Landings.{is_own_of}
 use Rattle.bucket_table.proofs.Moves.Exchanges.{exchanged}
 use Rattle.bucket_table.proofs.Moves.Staying.{get_or-front}
 
@@ -32,9 +33,8 @@ module _ {K V : Type 0} where
   parts_apart eq xs ys p q once here there =
       let all = xs ++ ys in
       let long : length all ≡ length xs + length ys = length-append xs ys in
-      let keys_long : length (keys all) ≡ length all = length-map all (λ (r : K × V). r.0) in
       let apart = apart_from_distinct eq (keys all) here.0 (length xs + there.0) q.0 once (omega (arith, here.1))
-      (omega (arith, there.1, long, keys_long)) in
+      (omega (arith, there.1, long, length-map all (λ (r : K × V). r.0))) in
       let first : get_or (keys all) here.0 q.0 ≡ q.0 =
       get_or-map (λ (r : K × V). r.0) all here.0 q q.0 (omega (arith, here.1, long)) ∙ ap (λ (r : K × V). r.0)
       (get_or-front xs ys here.0 q here.1 ∙ here.2) in
@@ -54,11 +54,9 @@ module _ {K V : Type 0} where
   -- a pair of a bucket is one of all pairs
   among : (c : List (BucketView K V)) (i : ℕ) (p : K × V) → Contains (pairs_in (bucket_at c i)) p → Contains (pairs_among c) p
   among [] i p has = absurd (omega (arith, has.1))
-  among (b ∷ c) zero p has = subst (λ (l : List (K × V)). Contains l p) (sym (pairs_among-cons b c))
-      (Contains-append_left (pairs_in b) (pairs_among c) p has)
+  among (b ∷ c) zero p has = rw (pairs_among-cons b c) (Contains-append_left (pairs_in b) (pairs_among c) p has)
   among (b ∷ c) (suc i) p has =
-      subst (λ (l : List (K × V)). Contains l p) (sym (pairs_among-cons b c)) (Contains-append_right (pairs_in b) (pairs_among c) p
-      (among c i p has))
+      rw (pairs_among-cons b c) (Contains-append_right (pairs_in b) (pairs_among c) p (among c i p has))
 
   pub in_own : (b : BucketView K V) (p : K × V) → Contains (live_pairs b.own) p → Contains (pairs_in b) p
   in_own b p has = subst (λ (l : List (K × V)). Contains l p) (sym (filter_map-append live_pair b.own (flattened b.chain)))

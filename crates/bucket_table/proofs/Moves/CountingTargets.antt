@@ -1,7 +1,7 @@
 -- The pairs of a bucket counted by their homes, one after another.
-use Rattle.bucket_table.proofs.Words.{All, All-head, All-tail, BucketView, IsHome, IsInRange, List, MovesToNext, Place, Some, [], ap, arith}
-use Rattle.bucket_table.proofs.Words.{cases_eq, get_or, get_or-set_same, home_of, homed_len, inl, inr, length, null_place, pair_of}
-use Rattle.bucket_table.proofs.Words.{pairs_ahead, pairs_in, set, slot_in, ℕ, ◌+◌, ◌-◌, ◌<◌, ◌∙◌, ◌∷◌, ◌≡◌, ◌≤◌}
+use Rattle.bucket_table.proofs.Words.{All, All-head, All-tail, BucketView, IsHome, IsInRange, List, MovesToNext, Place, Some, ℕ, [], ap}
+use Rattle.bucket_table.proofs.Words.{arith, cases_eq, get_or, get_or-set_same, home_of, homed_len, inl, inr, length, null_place, pair_of}
+use Rattle.bucket_table.proofs.Words.{pairs_ahead, pairs_in, set, slot_in, ◌+◌, ◌-◌, ◌<◌, ◌∙◌, ◌∷◌, ◌≡◌, ◌≤◌}
 use Rattle.std.proofs.lemmas.List.{get_or-set_other, length-set}
 use Rattle.std.specs.Option.{option_map}
 use Rattle.bucket_table.proofs.Moves.HomesByDivision.{home_of-interval}

@@ -1,7 +1,7 @@
 -- One bucket in the place of another, and what that does to all the live pairs.
-use Rattle.bucket_table.proofs.Words.{BucketView, IsPermutation, IsPermutation-append_right, IsPermutation-trans, List, [], arith}
-use Rattle.bucket_table.proofs.Words.{bucket_at, entries_among, entries_in, get_or-set_same, length, rotated, set, suc, zero, ℕ, ◌++◌, ◌<◌}
-use Rattle.bucket_table.proofs.Words.{◌∷◌, ◌≡◌}
+use Rattle.bucket_table.proofs.Words.{BucketView, IsPermutation, IsPermutation-append_right, IsPermutation-trans, List, ℕ, [], arith}
+use Rattle.bucket_table.proofs.Words.{bucket_at, cases_eq, entries_among, entries_in, get_or-set_same, inl, inr, length, rotated, set, suc}
+use Rattle.bucket_table.proofs.Words.{zero, ◌++◌, ◌<◌, ◌∷◌, ◌≡◌}
 use Rattle.std.proofs.lemmas.List.{get_or-set_other, length-set}
 use Rattle.bucket_slots.proofs.Entries.{regrouped}
 
@@ -28,3 +28,11 @@ module _ {K V : Type 0} where
     here = get_or-set_same c j b _ within;
     other = λ i apart. get_or-set_other c j i b _ apart;
   }
+
+  -- what holds of the bucket that changed, and of the others as they were, holds of each
+  pub each_after : {j : ℕ} {b : BucketView K V} {c d : List (BucketView K V)} → ChangesAt j b c d → (P : ℕ → BucketView K V → Type 0)
+      → P j b → ((i : ℕ) → (i ≡ j → ⊥) → P i (bucket_at c i)) → (i : ℕ) → P i (bucket_at d i)
+  each_after {j} put P here others i = elim (cases_eq i j) [
+    | inl same ↦ rw (same, put.here) here
+    | inr apart ↦ rw (put.other i apart) (others i apart)
+  ]

@@ -1,5 +1,5 @@
 -- A hash's home as a quotient.
-use Rattle.bucket_table.proofs.Words.{IsHome, IsInInterval, IsLength, ap, arith, div-lt_iff_lt-mul, home_of, interval_width, ℕ, ◌*◌, ◌+◌}
+use Rattle.bucket_table.proofs.Words.{IsHome, IsInInterval, IsLength, ℕ, ap, arith, div-lt_iff_lt-mul, home_of, interval_width, ◌*◌, ◌+◌}
 use Rattle.bucket_table.proofs.Words.{◌/◌, ◌<◌, ◌^◌, ◌∙◌, ◌≡◌, ◌≤◌}
 use Rattle.std.proofs.Math.Nat.{add-mul, div-mul-le_self, le-div_iff_mul-le, lt-div-mul-add, one-mul}
 

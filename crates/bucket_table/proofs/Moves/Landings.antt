@@ -1,20 +1,15 @@
 -- Where the pairs of a bucket's own slots land while they move one after another to their homes.
-use Rattle.bucket_table.proofs.Words.{BucketView, IsBucketOf, List, None, Option, Place, Some, [], ap, arith, bucket_at, cases_eq, cases_lt}
-use Rattle.bucket_table.proofs.Words.{eq-eqb, false≢true, get_or-set_same, homed_len, inl, inr, is_free, is_live, landing_of, length, length-set}
-use Rattle.bucket_table.proofs.Words.{length_permutation, listed_pairs, live_from_pair, live_not_free, live_pair, pairs_in}
-use Rattle.bucket_table.proofs.Words.{pairs_in-slots_vacated, refl, replicate, set, slot_at, slot_in, slots_vacated, subst, suc, sym, true}
-use Rattle.bucket_table.proofs.Words.{zero, ℕ, ◌%◌, ◌<◌, ◌∙◌, ◌≡◌, ◌⊎◌}
-use Rattle.std.proofs.lemmas.Bool.{ne_eqb}
+use Rattle.bucket_table.proofs.Words.{BucketView, Contains, IsBucketOf, KeepsPlaces, Landing, List, MovesHome, None, Option, Place, Some}
+use Rattle.bucket_table.proofs.Words.{StandsInChain, WentFirst, ℕ, [], ap, arith, bucket_at, cases_eq, cases_lt, eq-eqb, false, false≢true}
+use Rattle.bucket_table.proofs.Words.{first_place, get_or-set_same, homed_len, inl, inr, is_free, is_live, landing_of, length, length-set}
+use Rattle.bucket_table.proofs.Words.{length_permutation, listed_pairs, live_from_pair, live_not_free, live_pair, live_pairs, ne_eqb}
+use Rattle.bucket_table.proofs.Words.{pairs_in, pairs_in-slots_vacated, place_for_next, refl, replicate, set, slot_at, slot_in}
+use Rattle.bucket_table.proofs.Words.{slots_vacated, slots_with, subst, suc, sym, true, zero, ◌%◌, ◌<◌, ◌∙◌, ◌≡◌, ◌⊎◌}
 use Rattle.std.proofs.lemmas.List.{get_or-set_other, set_past}
 use Rattle.bucket_slots.proofs.PlacedSlots.{chain_kept, chain_put, free_unlisted, listed-slots_with, listed_pairs-slots_with}
 use Rattle.bucket_slots.proofs.PlacedSlots.{own-slots_vacated, own_kept, own_put, own_vacated, was_free}
-use Rattle.bucket_slots.specs.BucketView.{first_place}
-use Rattle.bucket_slots.specs.Placing.{place_for_next, slots_with}
-use Rattle.bucket_table.specs.Layout.Landings.{AreListable, HaveLanded, IsListable, StandsInChain, landings_with}
-use Rattle.bucket_table.specs.Layout.Moving.{MovesHome}
-use Rattle.bucket_table.specs.Rehash.Relocation.{KeepsPlaces}
-use Rattle.bucket_table.specs.declared.arrays.moving.Landing.{Landing}
-use Rattle.bucket_table.proofs.Moves.Exchanges.{ChangesAt, changes_at}
+use Rattle.bucket_table.specs.Layout.Landings.{AreListable, HaveLanded, IsListable, landings_with}
+use Rattle.bucket_table.proofs.Moves.Exchanges.{ChangesAt, changes_at, each_after}
 use Rattle.bucket_table.proofs.Moves.Staying.{place_kept, stay_both, stay_same}
 
 -- what is said of a pair that moved: the own slot in which it landed, or nothing
@@ -84,42 +79,30 @@ module _ {K V : Type 0} where
   own_slot_of s at p own here = rw own at here
 
   -- p is placed in bucket j of c, whose laws hold; d is the array then
-  module _ (kind j : ℕ) (c d : List (BucketView K V)) (p : K × V) (b : ℕ) (laws : IsBucketOf kind (bucket_at c j))
+  module _ {kind j : ℕ} {c d : List (BucketView K V)} (p : K × V) (b : ℕ) (laws : IsBucketOf kind (bucket_at c j))
       (put : ChangesAt j (slots_with (bucket_at c j) p b) c d) where
     live_kept : (i slot : ℕ) → is_live (slot_at (bucket_at c i).own slot) ≡ true
         → slot_at (bucket_at d i).own slot ≡ slot_at (bucket_at c i).own slot
-    live_kept i slot alive = elim (cases_eq i j) [
-      | inl same ↦ rw (same, put.here) (own_kept (bucket_at c j) p b slot (live_not_free (slot_at (bucket_at c j).own slot)
-          (rw same at alive)))
-      | inr apart ↦ ap (λ (x : BucketView K V). slot_at x.own slot) (put.other i apart)
-    ]
+    live_kept i slot = each_after put
+        (λ k x. is_live (slot_at (bucket_at c k).own slot) ≡ true → slot_at x.own slot ≡ slot_at (bucket_at c k).own slot)
+        (λ alive. own_kept (bucket_at c j) p b slot (live_not_free (slot_at (bucket_at c j).own slot) alive)) (λ k apart alive. refl) i
 
     list_kept : (i : ℕ) → (bucket_at d i).listed ≡ (bucket_at c i).listed
-    list_kept i = elim (cases_eq i j) [
-      | inl same ↦ rw (same, put.here) (listed-slots_with (bucket_at c j) p b)
-      | inr apart ↦ ap (λ (x : BucketView K V). x.listed) (put.other i apart)
-    ]
+    list_kept =
+        each_after put (λ i x. x.listed ≡ (bucket_at c i).listed) (listed-slots_with (bucket_at c j) p b) (λ i apart. refl)
 
     pairs_kept : (i : ℕ) → listed_pairs (bucket_at d i) ≡ listed_pairs (bucket_at c i)
-    pairs_kept i = elim (cases_eq i j) [
-      | inl same ↦ rw (same, put.here) (listed_pairs-slots_with (bucket_at c j) p b kind laws)
-      | inr apart ↦ ap listed_pairs (put.other i apart)
-    ]
+    pairs_kept = each_after put (λ i x. listed_pairs x ≡ listed_pairs (bucket_at c i))
+        (listed_pairs-slots_with (bucket_at c j) p b kind laws) (λ i apart. refl)
 
     pub all_stay : (first_place is_free (bucket_at c j) ≡ None → ⊥) → KeepsPlaces c d
-    all_stay room i at occupied = elim (cases_eq i j) [
-      | inl same ↦ rw (same, put.here) (place_kept (bucket_at c j) p b at room (rw same at occupied))
-      | inr apart ↦ ap (λ (x : BucketView K V). slot_in x at) (put.other i apart)
-    ]
+    all_stay room i at = each_after put
+        (λ k x. is_free (slot_in (bucket_at c k) at) ≡ false → slot_in x at ≡ slot_in (bucket_at c k) at)
+        (place_kept (bucket_at c j) p b at room) (λ k apart occupied. refl) i
 
     in_chain_kept : (q : K × V) → (i : ℕ) × StandsInChain (bucket_at c i) q → (i : ℕ) × StandsInChain (bucket_at d i) q
-    in_chain_kept q has = (
-      has.0,
-      elim (cases_eq has.0 j) [
-        | inl same ↦ rw (same, put.here) (chain_kept (bucket_at c j) p b q (rw same at has.1))
-        | inr apart ↦ rw (put.other has.0 apart) has.1
-      ],
-    )
+    in_chain_kept q (i, has) = (i, each_after put (λ k x. StandsInChain (bucket_at c k) q → StandsInChain x q)
+        (chain_kept (bucket_at c j) p b q) (λ k apart was. was) i has)
 
     listable_kept : (at : Landing) → IsListable c at → IsListable d at
     listable_kept at is = record {
@@ -144,7 +127,7 @@ module _ {K V : Type 0} where
     new_here own is = false≢true (ap is_live (sym (was_free (bucket_at c j) p b own)) ∙ is.live)
 
     -- p comes from slot `from` of s
-    module _ (hash : K → ℕ) (s0 s : BucketView K V) (c0 : List (BucketView K V)) (from : Place) (landings : List (Option Landing))
+    module _ {hash : K → ℕ} {s0 s : BucketView K V} {c0 : List (BucketView K V)} {landings : List (Option Landing)} (from : Place)
         (landing : AreLanding hash s0 c0 s c landings) (here : live_pair (slot_in s from) ≡ Some p)
         (room : first_place is_free (bucket_at c j) ≡ None → ⊥) where
       -- a slot whose pair stays or has gone before
@@ -288,17 +271,14 @@ module _ {K V : Type 0} where
       {landings said : List (Option Landing)} {at : Place} → AreLanding hash s0 c0 s c landings
       → (one : MovesHome kind hash at s c landings t d said) → (homed_len hash (length c0) one.home (pairs_in s0) ≡ 0 → ⊥)
       → (first_place is_free (bucket_at c one.home) ≡ None → ⊥) → AreLanding hash s0 c0 t d said
-  landing_step hash {kind} {s0} {s} {c0} {c} {landings} {at} landing one homed room =
+  landing_step hash {c} {landings} {at} landing one homed room =
       let j = one.home in
-      let b = one.number % 256 in
-      let done = set c j (slots_with (bucket_at c j) one.pair b) in
-      let put = changes_at j (slots_with (bucket_at c j) one.pair b) c one.way.home.within in
+      let put = changes_at j (slots_with (bucket_at c j) one.pair (one.number % 256)) c one.way.home.within in
       rw (one.vacated, one.placed) (elim (is_said landings at j (place_for_next (bucket_at c j))) [
-        | inl both ↦ rw (one.landed ∙ both.3)
-            (landed_own kind j c done one.pair b one.home_laws put hash s0 s c0 at landings landing one.here room
-            both.0 both.1 both.2 one.way.home.within homed)
-        | inr neither ↦ rw (one.landed ∙ neither.1)
-            (landed_elsewhere kind j c done one.pair b one.home_laws put hash s0 s c0 at landings landing one.here room neither.0)
+        | inl (own, lands, asked, is) ↦ rw (one.landed ∙ is)
+            (landed_own one.pair _ one.home_laws put at landing one.here room own lands asked one.way.home.within homed)
+        | inr (elsewhere, is) ↦ rw (one.landed ∙ is)
+            (landed_elsewhere one.pair _ one.home_laws put at landing one.here room elsewhere)
       ])
 
   -- the pairs of a bucket that is empty have all moved

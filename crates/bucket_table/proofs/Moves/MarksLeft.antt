@@ -1,18 +1,14 @@
 -- The marks of a bucket whose pairs move on: they stay where they are, also as the bucket is killed.
-use Rattle.bucket_table.proofs.Words.{Bool, BucketView, IsBucketOf, List, Option, Place, Slot, Some, [], all_slots, ap, append-nil, arith}
-use Rattle.bucket_table.proofs.Words.{cond, false, flattened, get_or, length, length-append, live_pair}
-use Rattle.bucket_table.proofs.Words.{marks_in, nil_from_length, refl, set, slot_in, slots_vacated, suc, sum_by-cons, sym, true, zero}
-use Rattle.bucket_table.proofs.Words.{ℕ, ◌++◌, ◌==◌, ◌∙◌, ◌∷◌, ◌≡◌}
-use Rattle.std.proofs.lemmas.Bool.Decides.{nat_tests}
-use Rattle.std.proofs.lemmas.List.Elements.{filter_map-append}
+use Rattle.bucket_table.proofs.Words.{Bool, BucketView, INDEX, IsBucketOf, List, Option, Place, Slot, Some, ℕ, [], all_slots, ap}
+use Rattle.bucket_table.proofs.Words.{append-nil, arith, block_at, cond, cons_option, false, filter_map-append, flattened, free, get_or}
+use Rattle.bucket_table.proofs.Words.{length, length-append, live, live_pair, marked, marks_in, nat_tests, nil_from_length, refl, row_at}
+use Rattle.bucket_table.proofs.Words.{rows_with, set, slot_at, slot_in, slots_vacated, suc, sum_by-cons, sym, true, zero, ◌++◌, ◌==◌, ◌∙◌}
+use Rattle.bucket_table.proofs.Words.{◌∷◌, ◌≡◌}
 use Rattle.std.specs.Prelude.{filter_map, flat_map, if◌then◌else◌}
-use Rattle.std.specs.List.{cons_option}
-use Rattle.bucket_slots.proofs.Entries.{filter_map-chain, filter_map-flattened}
 use Rattle.bucket_slots.proofs.PairsAfter.{live_is}
-use Rattle.bucket_slots.specs.BucketView.{block_at, row_at, rows_with}
+use Rattle.bucket_slots.proofs.Entries.{filter_map-chain, filter_map-flattened}
 use Rattle.bucket_slots.specs.Moving.{slots_killed, slots_vacated_at}
-use Rattle.bucket_slots.specs.Slots.{free, is_marked, marked, live, marked_entries, marked_entry, marked_len, slot_at}
-use Rattle.bucket_slots.specs.declared.bucket.TheConstants.{INDEX}
+use Rattle.bucket_slots.specs.Slots.{is_marked, marked_entries, marked_entry, marked_len}
 
 -- another element that gives the same, in a list and in a list of rows
 module _ {A B : Type 0} where
@@ -58,19 +54,15 @@ module _ {K V : Type 0} where
   none_marked [] none = refl
   none_marked (free ∷ slots) none = none_marked slots none
   none_marked (live p byte ∷ slots) none = none_marked slots none
-  none_marked (marked p byte ∷ slots) none = absurd (omega (
-    arith,
-    none,
-    sum_by-cons (λ (x : Slot K V). cond (is_marked x) 1 0) (marked p byte) slots,
-  ))
+  none_marked (marked p byte ∷ slots) none =
+      absurd (omega (arith, none, sum_by-cons (λ (x : Slot K V). cond (is_marked x) 1 0) (marked p byte) slots))
 
   killed_alike : (keeps : Bool) (s : BucketView K V) → (keeps ≡ false → marks_in s ≡ [])
       → marks_in (record s { chain = if keeps then s.chain else []; killed = true }) ≡ marks_in s
   killed_alike true s none = refl
   killed_alike false s none =
       let own = marked_entries s.own in
-      let parts = sym (filter_map-append marked_entry s.own (flattened s.chain)) ∙ none refl in
-      let long = ap length parts in
+      let long = ap length (sym (filter_map-append marked_entry s.own (flattened s.chain)) ∙ none refl) in
       let own_none : own ≡ [] = nil_from_length own (omega (arith, long, length-append own (marked_entries (flattened s.chain)))) in
       filter_map-append marked_entry s.own [] ∙ append-nil own ∙ own_none ∙ sym (none refl)
 

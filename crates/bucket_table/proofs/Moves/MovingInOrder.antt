@@ -116,7 +116,7 @@ module _ {K V : Type 0} where
     put_is = (changes_at j target c within).here
 
     stay : KeepsPlaces c d
-    stay = all_stay kind j c d p b laws (changes_at j target c within) room
+    stay = all_stay p b laws (changes_at j target c within) room
 
     put_own : (place_for_next (bucket_at c j)).block ≡ 0 → Contains (live_pairs (bucket_at d j).own) p
     put_own own = rw put_is (contains_at live_pair refl target.own (place_for_next (bucket_at c j)).pos p

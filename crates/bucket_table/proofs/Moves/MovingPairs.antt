@@ -1,25 +1,21 @@
 -- Pairs that move one after another from a bucket to their homes in an array.
-use Rattle.bucket_table.proofs.Words.{All, All-cons, All-head, All-permutation, All-tail, Bool, BucketView, HasNoNewMark, IsEntryHome}
-use Rattle.bucket_table.proofs.Words.{IsHome, IsInRange, IsPermutation, IsPermutation-append_left, IsPermutation-append_right}
-use Rattle.bucket_table.proofs.Words.{IsPermutation-map, IsPermutation-refl, IsPermutation-trans, List, MovesInto, MovesToNext, None}
-use Rattle.bucket_table.proofs.Words.{Option, Place, Slot, Some, [], ap, arith, bucket_at, cases_eq, cond, entries_among, entries_in, false}
-use Rattle.bucket_table.proofs.Words.{home_of, homed_len, inl, inr, is_free, landing_of, length, live_pair}
-use Rattle.bucket_table.proofs.Words.{map-entries_in, marks_among, marks_in, no_new-refl, no_new-trans, null_place}
-use Rattle.bucket_table.proofs.Words.{pairs_ahead, pairs_in, pairs_in-slots_vacated, refl, rotated, set, slot_in, slots_vacated, subst}
-use Rattle.bucket_table.proofs.Words.{sum_by-cons, sym, true, ℕ, ◌%◌, ◌++◌, ◌+◌, ◌<◌, ◌==◌, ◌∙◌, ◌∷◌, ◌≡◌, ◌≤◌}
-use Rattle.std.proofs.lemmas.Bool.Decides.{nat_tests}
+use Rattle.bucket_table.proofs.Words.{All, All-cons, All-head, All-permutation, All-tail, Bool, BucketView, CanMoveInto, HasNoNewMark}
+use Rattle.bucket_table.proofs.Words.{HasOwnByte, IsEntryHome, IsHome, IsInRange, IsPermutation, IsPermutation-append_left}
+use Rattle.bucket_table.proofs.Words.{IsPermutation-append_right, IsPermutation-map, IsPermutation-refl, IsPermutation-trans, Landing, List}
+use Rattle.bucket_table.proofs.Words.{MovesHome, MovesInto, MovesToNext, None, Option, Place, Slot, Some, ℕ, [], ap, arith, bucket_at, cond}
+use Rattle.bucket_table.proofs.Words.{entries_among, entries_in, false, first_place, home_of, homed_len, is_free, landing_of, length}
+use Rattle.bucket_table.proofs.Words.{length-entries_in, live_pair, map-entries_in, marks_among, marks_in, nat_tests, nil_from_length}
+use Rattle.bucket_table.proofs.Words.{no_new-append, no_new-refl, no_new-trans, null_place, pairs_ahead, pairs_in, pairs_in-slots_vacated}
+use Rattle.bucket_table.proofs.Words.{refl, rotated, set, slot_in, slots_vacated, slots_with, subst, sum_by-cons, sym, true, ◌%◌, ◌++◌, ◌+◌}
+use Rattle.bucket_table.proofs.Words.{◌<◌, ◌==◌, ◌∙◌, ◌∷◌, ◌≡◌, ◌≤◌}
 use Rattle.std.proofs.lemmas.List.Sorted.{sum_by-IsPermutation}
-use Rattle.bucket_slots.proofs.MarksAfter.{marks_in-slots_with, no_new-append, no_new-same}
-use Rattle.bucket_slots.proofs.PairsAfter.{entries_in-slots_vacated, entries_in-slots_with}
-use Rattle.bucket_slots.proofs.RoomAfter.{free_len_in-none, free_len_in-slots_with, killed-slots_vacated, killed-slots_with}
-use Rattle.bucket_slots.specs.BucketView.{first_place}
-use Rattle.bucket_slots.specs.Placing.{slots_with}
-use Rattle.bucket_slots.specs.Reserving.{free_len_in}
 use Rattle.bucket_table.specs.Layout.Landings.{MoveInOrder}
-use Rattle.bucket_table.specs.Layout.Moving.{CanMoveInto, MovesHome, HasOwnByte}
+use Rattle.bucket_slots.proofs.PairsAfter.{entries_in-slots_vacated, entries_in-slots_with}
+use Rattle.bucket_slots.proofs.MarksAfter.{marks_in-slots_with, no_new-same}
+use Rattle.bucket_slots.proofs.RoomAfter.{free_len_in-none, free_len_in-slots_with, killed-slots_vacated, killed-slots_with}
+use Rattle.bucket_slots.specs.Reserving.{free_len_in}
 use Rattle.bucket_table.specs.Rehash.Relocation.{IsWay}
-use Rattle.bucket_table.specs.declared.arrays.moving.Landing.{Landing}
-use Rattle.bucket_table.proofs.Moves.Exchanges.{ChangesAt, changes_at, exchanged}
+use Rattle.bucket_table.proofs.Moves.Exchanges.{ChangesAt, changes_at, each_after, exchanged}
 use Rattle.bucket_table.proofs.Moves.HomesByDivision.{home_of-interval}
 use Rattle.bucket_table.proofs.Moves.Landings.{AreLanding, landing_first, landing_step}
 use Rattle.bucket_table.proofs.Moves.MarksLeft.{marks_in-vacated}
@@ -69,16 +65,11 @@ module _ {K V : Type 0} (hash : K → ℕ) where
   pub MovesInto-trans : (s t u : BucketView K V) (c d e : List (BucketView K V)) → MovesInto hash s c t d → MovesInto hash t d u e
       → MovesInto hash s c u e
   MovesInto-trans s t u c d e one two =
-      let fewer : (i : ℕ) → homed_len hash (length c) i (pairs_in u) ≤ homed_len hash (length c) i (pairs_in t) =
-      subst (λ (n : ℕ). (i : ℕ) → homed_len hash n i (pairs_in u) ≤ homed_len hash n i (pairs_in t))
-      one.len two.fewer in
-      let others : (i : ℕ) → homed_len hash (length c) i (pairs_in t) ≡ 0 → bucket_at e i ≡ bucket_at d i =
-      subst (λ (n : ℕ). (i : ℕ) → homed_len hash n i (pairs_in t) ≡ 0 → bucket_at e i ≡ bucket_at d i) one.len two.others in
       record {
         entries = IsPermutation-trans _ _ _ one.entries two.entries;
         len = two.len ∙ one.len;
-        fewer = λ i. omega (arith, fewer i, one.fewer i);
-        others = λ i none. let less = one.fewer i in others i (omega arith) ∙ one.others i none;
+        fewer = λ i. omega (arith, rw one.len at (two.fewer i), one.fewer i);
+        others = λ i none. (rw one.len at (two.others i)) (omega (arith, none, one.fewer i)) ∙ one.others i none;
         alive = λ i. two.alive i ∙ one.alive i;
         as_alive = two.as_alive ∙ one.as_alive;
         marks = no_new-trans _ _ _ one.marks two.marks;
@@ -94,35 +85,29 @@ module _ {K V : Type 0} (hash : K → ℕ) where
     pub order : (first : BucketView K V) → MoveInOrder first s0 c0 → MoveInOrder first s c
     pub walked : pairs_in s ≡ pairs_ahead s at
 
+  pairs_left : (s t : BucketView K V) (p : K × V) (byte : ℕ) → IsPermutation (entries_in s) ((p, byte) ∷ entries_in t)
+      → IsPermutation (pairs_in s) (p ∷ pairs_in t)
+  pairs_left s t p byte out = rw (← map-entries_in s, ← map-entries_in t) (IsPermutation-map (λ (e : (K × V) × ℕ). e.0) _ _ out)
+
   -- where the next pair's home is, a slot is free
   at_home_of : (start end : ℕ) (s t : BucketView K V) (c : List (BucketView K V)) (p : K × V) (byte j : ℕ) → CanMoveInto hash start end s c
       → IsPermutation (entries_in s) ((p, byte) ∷ entries_in t) → IsHome (length c) (hash p.0) j → 0 < free_len_in (bucket_at c j)
   at_home_of start end s t c p byte j ready out home =
-      let pairs : IsPermutation (pairs_in s) (p ∷ pairs_in t) = rw
-      (← map-entries_in s, ← map-entries_in t) (IsPermutation-map (λ (e : (K × V) × ℕ). e.0)
-      (entries_in s) ((p, byte) ∷ entries_in t) out) in
-      let here : home_of (length c) (hash p.0) ≡ j = home_of-interval (length c) j (hash p.0)
-      home.own in
-      omega (
-        arith,
-        ready.room j home.within,
-        homed-permutation (length c) j (pairs_in s) (p ∷ pairs_in t) pairs,
-        homed_here (length c) j p
-            (pairs_in t) here,
-      )
+      let left = homed-permutation (length c) j (pairs_in s) (p ∷ pairs_in t) (pairs_left s t p byte out) in
+      let here = homed_here (length c) j p (pairs_in t) (home_of-interval (length c) j (hash p.0) home.own) in
+      omega (arith, ready.room j home.within, left, here)
 
   -- p, whose home is bucket j, moves there from s, of which t is left; d is the array then
-  module _ (start end : ℕ) (s t : BucketView K V) (c d : List (BucketView K V)) (p : K × V) (h byte j : ℕ)
-      (ready : CanMoveInto hash start end s c)
-      (out : IsPermutation (entries_in s) ((p, byte) ∷ entries_in t)) (way : IsWay hash (length c) p j h)
+  module _ {start end : ℕ} {s : BucketView K V} {c d : List (BucketView K V)} {j : ℕ} (t : BucketView K V) (p : K × V) (h byte : ℕ)
+      (ready : CanMoveInto hash start end s c) (out : IsPermutation (entries_in s) ((p, byte) ∷ entries_in t))
+      (way : IsWay hash (length c) p j h)
       (put : ChangesAt j (slots_with (bucket_at c j) p (h % 256)) c d) (moved : IsPermutation ((p, h % 256) ∷ entries_among c)
       (entries_among d)) where
     at_home : home_of (length c) (hash p.0) ≡ j
     at_home = home_of-interval (length c) j (hash p.0) way.home.own
 
     pairs_out : IsPermutation (pairs_in s) (p ∷ pairs_in t)
-    pairs_out = rw (← map-entries_in s, ← map-entries_in t)
-        (IsPermutation-map (λ (e : (K × V) × ℕ). e.0) (entries_in s) ((p, byte) ∷ entries_in t) out)
+    pairs_out = pairs_left s t p byte out
 
     fewer : (i : ℕ) → homed_len hash (length c) i (pairs_in t) ≤ homed_len hash (length c) i (pairs_in s)
     fewer i = omega (arith, homed-permutation (length c) i (pairs_in s) (p ∷ pairs_in t) pairs_out, homed_fewer (length c) i p (pairs_in t))
@@ -145,54 +130,31 @@ module _ {K V : Type 0} (hash : K → ℕ) where
     moved_one alive left there = record {
       entries =
           let taken : IsPermutation (entries_in s) ((p, h % 256) ∷ entries_in t) = rw (← byte_is) out in
-          let first : IsPermutation (entries_in s ++ entries_among c) (((p, h % 256) ∷ entries_in t) ++ entries_among c) =
-          IsPermutation-append_left (entries_among c) _ _ taken in
-          IsPermutation-trans _ _ _ first (IsPermutation-trans _ _ _ (rotated ((p, h % 256) ∷ []) (entries_in t) (entries_among c))
+          IsPermutation-trans _ _ _ (IsPermutation-append_left (entries_among c) _ _ taken) (IsPermutation-trans _ _ _ (rotated ((p, h % 256) ∷ []) (entries_in t) (entries_among c))
           (IsPermutation-append_right (entries_in t) _ _ moved));
       len = put.len;
       fewer = fewer;
-      others = λ i none. put.other i (λ same. absurd (omega (
-        arith,
-        fewer_here,
-        subst (λ (n : ℕ). homed_len hash (length c) n (pairs_in s) ≡ 0) same none,
-      )));
-      alive = λ i. elim (cases_eq i j) [
-        | inl same ↦ rw (same, put.here) (killed-slots_with (bucket_at c j) p (h % 256))
-        | inr apart ↦ ap (λ (b : BucketView K V). b.killed) (put.other i apart)
-      ];
+      others = λ i none. put.other i (λ same. absurd (omega (arith, fewer_here, rw same at none)));
+      alive = each_after put (λ i b. b.killed ≡ (bucket_at c i).killed) (killed-slots_with (bucket_at c j) p (h % 256)) (λ i apart. refl);
       as_alive = alive;
       marks = no_new-append (marks_in s) (marks_among c) (marks_in t) (marks_among d) (no_new-same (marks_in s) (marks_in t) left) there;
       same_marks = left;
     }
 
-    homes_here : All (IsEntryHome hash (length c) j) (entries_in (bucket_at d j))
-    homes_here = rw put.here (All-permutation (IsEntryHome hash (length c) j) _ _ (entries_in-slots_with (bucket_at c j) p (h % 256))
-        (All-cons (IsEntryHome hash (length c) j) (p, h % 256) (entries_in (bucket_at c j))
-        (record { home = way.home; own_byte = way.own_byte }) (ready.homes j way.home.within)))
-
     homes_at : (i : ℕ) → i < length c → All (IsEntryHome hash (length c) i) (entries_in (bucket_at d i))
-    homes_at i within = elim (cases_eq i j) [
-      | inl same ↦ rw same homes_here
-      | inr apart ↦ rw (put.other i apart) (ready.homes i within)
-    ]
+    homes_at = each_after put (λ i b. i < length c → All (IsEntryHome hash (length c) i) (entries_in b))
+        (λ within. All-permutation (IsEntryHome hash (length c) j) _ _ (entries_in-slots_with (bucket_at c j) p (h % 256))
+        (All-cons (IsEntryHome hash (length c) j) (p, h % 256) (entries_in (bucket_at c j))
+        (record { home = way.home; own_byte = way.own_byte }) (ready.homes j within))) (λ i apart. ready.homes i)
 
     room_at : (i : ℕ) → i < length c → homed_len hash (length c) i (pairs_in t) ≤ free_len_in (bucket_at d i)
-    room_at i within = elim (cases_eq i j) [
-      | inl same ↦ rw (same, put.here) (omega (
-        arith,
-        free_len_in-slots_with (bucket_at c j) p (h % 256) room_here,
-        fewer_here,
-        ready.room j
-            way.home.within,
-      ))
-      | inr apart ↦ rw (put.other i apart) (omega (arith, fewer i, ready.room i within))
-    ]
+    room_at = each_after put (λ i b. i < length c → homed_len hash (length c) i (pairs_in t) ≤ free_len_in b)
+        (λ within. omega (arith, free_len_in-slots_with (bucket_at c j) p (h % 256) room_here, fewer_here, ready.room j within))
+        (λ i apart within. omega (arith, fewer i, ready.room i within))
 
     alive_at : (i : ℕ) → i < length c → (bucket_at d i).killed ≡ false
-    alive_at i within = elim (cases_eq i j) [
-      | inl same ↦ rw (same, put.here, killed-slots_with (bucket_at c j) p (h % 256)) (ready.alive j way.home.within)
-      | inr apart ↦ rw (put.other i apart) (ready.alive i within)
-    ]
+    alive_at = each_after put (λ i b. i < length c → b.killed ≡ false)
+        (λ within. killed-slots_with (bucket_at c j) p (h % 256) ∙ ready.alive j within) (λ i apart. ready.alive i)
 
     left_in_range : All (λ (q : K × V). IsInRange start end (home_of (length c) (hash q.0))) (pairs_in t)
     left_in_range =
@@ -220,19 +182,6 @@ module _ {K V : Type 0} (hash : K → ℕ) where
     walked = refl;
   }
 
-  -- where the pair goes, a pair of the bucket that is moved has its home
-  homed_there : {start end kind : ℕ} {s0 s t : BucketView K V} {c0 c d : List (BucketView K V)} {landings said : List (Option Landing)}
-      {old at : Place} → IsMoving start end s0 c0 s c landings old
-      → (one : MovesHome kind hash at s c landings t d said) → homed_len hash (length c0) one.home (pairs_in s0) ≡ 0 → ⊥
-  homed_there {s} {c} {at} moving one none =
-      let j = one.home in
-      let rest = pairs_in (slots_vacated s at) in
-      let out = pairs_in-slots_vacated s at one.pair one.here in
-      let here = homed_here (length c) j one.pair rest (home_of-interval (length c) j (hash one.pair.0) one.way.home.own) in
-      let some = sym (homed-permutation (length c) j (pairs_in s) (one.pair ∷ rest) out) ∙ here in
-      let same = ap (λ (n : ℕ). homed_len hash n j (pairs_in s)) moving.moves.len in
-      omega (arith, some, same, none, moving.moves.fewer j)
-
   same_pair : (x : Slot K V) (p q : K × V) → live_pair x ≡ Some p → live_pair x ≡ Some q → q ≡ p
   same_pair x p q one two = cc
 
@@ -245,49 +194,58 @@ module _ {K V : Type 0} (hash : K → ℕ) where
       let some = at_home_of start end s (slots_vacated s at) c p out.0 j ready out.1 way.home in
       omega (arith, some, free_len_in-none (bucket_at c j) none)
 
-  -- a step of the walk and a move
-  pub moving_step : {start end kind : ℕ} {s0 s t : BucketView K V} {c0 c d : List (BucketView K V)} {landings said : List (Option Landing)}
-      {old new : Place} → IsMoving start end s0 c0 s c landings old → MovesToNext s old new → MovesHome kind hash new s c landings t d said
-      → IsMoving start end s0 c0 t d said new × (length (pairs_ahead t new) < length (pairs_ahead s old))
-  moving_step {start} {end} {kind} {s0} {s} {c0} {c} {said} {old} {new} moving next one =
-      let p = one.pair in
-      let j = one.home in
-      let h = one.number in
-      let out = entries_in-slots_vacated s new p one.here in
-      let same : p ≡ next.pair = same_pair (slot_in s new) next.pair p next.here one.here in
-      let ahead : pairs_ahead s old ≡ p ∷ pairs_ahead s new = rw same next.ahead in
-      let step = walked kind s old new p one.bucket_laws moving.walked one.here ahead in
-      let b = slots_with (bucket_at c j) p (h % 256) in
-      let put = changes_at j b c one.way.home.within in
-      let placed = exchanged ((p, h % 256) ∷ []) [] c j b one.way.home.within (entries_in-slots_with (bucket_at c j) p (h % 256)) in
-      let there = marks_among-set c j b (marks_in-slots_with (bucket_at c j) p (h % 256)) in
-      let moved = moved_one start end s (slots_vacated s new) c (set c j b) p h out.0 j moving.ready out.1 one.way put placed
-      (killed-slots_vacated s new) (marks_in-vacated s new p one.here) there in
-      let still = ready_still start end s (slots_vacated s new) c (set c j b) p h out.0 j moving.ready out.1 one.way put placed in
-      let landing : AreLanding hash s0 c0 (slots_vacated s new) (set c j b) said =
-      rw (one.vacated, one.placed) at (landing_step hash moving.landing one (homed_there moving one)
-      (home_has_room new one.pair moving.ready one.here one.way)) in
-      rw (one.vacated, one.placed) (
-        record {
-          moves = MovesInto-trans s0 s (slots_vacated s new) c0 c (set c j b) moving.moves moved;
-          ready = still;
-          landing = landing;
-          order = λ first amid. goes_on kind j (h % 256) first s (slots_vacated s new) c p step.0 one.home_laws one.way.home.within
-              (home_has_room new p moving.ready one.here one.way) (moving.order first amid);
-          walked = step.1;
-        },
-        omega (arith, ap length step.0, ap length step.1, ap length moving.walked),
-      )
+  module _ {start end kind : ℕ} {s0 s t : BucketView K V} {c0 c d : List (BucketView K V)} {landings said : List (Option Landing)}
+      {old new : Place} (moving : IsMoving start end s0 c0 s c landings old) (next : MovesToNext s old new)
+      (one : MovesHome kind hash new s c landings t d said) where
+    -- where the pair goes, a pair of the bucket that is moved has its home
+    homed_there : homed_len hash (length c0) one.home (pairs_in s0) ≡ 0 → ⊥
+    homed_there none =
+        let j = one.home in
+        let rest = pairs_in (slots_vacated s new) in
+        let out = pairs_in-slots_vacated s new one.pair one.here in
+        let here = homed_here (length c) j one.pair rest (home_of-interval (length c) j (hash one.pair.0) one.way.home.own) in
+        let some = sym (homed-permutation (length c) j (pairs_in s) (one.pair ∷ rest) out) ∙ here in
+        omega (arith, some, ap (λ (n : ℕ). homed_len hash n j (pairs_in s)) moving.moves.len, none, moving.moves.fewer j)
 
-  -- and with the null pointer: no pair is left before the one that moved
-  pub moving_again : {start end kind : ℕ} {s0 s t : BucketView K V} {c0 c d : List (BucketView K V)} {landings said : List (Option Landing)}
-      {old new : Place} → IsMoving start end s0 c0 s c landings old → MovesToNext s old new → MovesHome kind hash new s c landings t d said
-      → IsMoving start end s0 c0 t d said null_place × (length (pairs_ahead t null_place) < length (pairs_ahead s old))
-  moving_again {t} moving next one =
-      let step = moving_step moving next one in (
-        record { moves = step.0.moves; ready = step.0.ready; landing = step.0.landing; order = step.0.order; walked = refl },
-        omega (arith, step.1, ap length step.0.walked),
-      )
+    -- a step of the walk and a move
+    pub moving_step : IsMoving start end s0 c0 t d said new × (length (pairs_ahead t new) < length (pairs_ahead s old))
+    moving_step =
+        let p = one.pair in
+        let j = one.home in
+        let h = one.number in
+        let out = entries_in-slots_vacated s new p one.here in
+        let same : p ≡ next.pair = same_pair (slot_in s new) next.pair p next.here one.here in
+        let ahead : pairs_ahead s old ≡ p ∷ pairs_ahead s new = rw same next.ahead in
+        let step = walked kind s old new p one.bucket_laws moving.walked one.here ahead in
+        let b = slots_with (bucket_at c j) p (h % 256) in
+        let put = changes_at j b c one.way.home.within in
+        let placed = exchanged ((p, h % 256) ∷ []) [] c j b one.way.home.within (entries_in-slots_with (bucket_at c j) p (h % 256)) in
+        let there = marks_among-set c j b (marks_in-slots_with (bucket_at c j) p (h % 256)) in
+        let moved = moved_one (slots_vacated s new) p h out.0 moving.ready out.1 one.way put placed
+        (killed-slots_vacated s new) (marks_in-vacated s new p one.here) there in
+        let still = ready_still (slots_vacated s new) p h out.0 moving.ready out.1 one.way put placed in
+        let landing : AreLanding hash s0 c0 (slots_vacated s new) (set c j b) said =
+        rw (one.vacated, one.placed) at (landing_step hash moving.landing one homed_there
+        (home_has_room new one.pair moving.ready one.here one.way)) in
+        rw (one.vacated, one.placed) (
+          record {
+            moves = MovesInto-trans s0 s (slots_vacated s new) c0 c (set c j b) moving.moves moved;
+            ready = still;
+            landing = landing;
+            order = λ first amid. goes_on kind j (h % 256) first s (slots_vacated s new) c p step.0 one.home_laws one.way.home.within
+                (home_has_room new p moving.ready one.here one.way) (moving.order first amid);
+            walked = step.1;
+          },
+          omega (arith, ap length step.0, ap length step.1, ap length moving.walked),
+        )
+
+    -- and with the null pointer: no pair is left before the one that moved
+    pub moving_again : IsMoving start end s0 c0 t d said null_place × (length (pairs_ahead t null_place) < length (pairs_ahead s old))
+    moving_again =
+        let step = moving_step in (
+          record { moves = step.0.moves; ready = step.0.ready; landing = step.0.landing; order = step.0.order; walked = refl },
+          omega (arith, step.1, ap length step.0.walked),
+        )
 
   -- after the last
   pub moving_done : {start end : ℕ} {s0 s : BucketView K V} {c0 c : List (BucketView K V)} {landings : List (Option Landing)} {at : Place}

@@ -1,20 +1,18 @@
 -- An old bucket whose pairs have moved to their homes, and the law of two arrays then.
-use Rattle.bucket_table.proofs.Words.{All, All-map, All-nil, AreHome, AreTwoArrays, BucketView, IsBucketOf, IsEntryHome, IsInRange}
-use Rattle.bucket_table.proofs.Words.{IsLength}
-use Rattle.bucket_table.proofs.Words.{IsPermutation, IsPermutation-append_left, IsPermutation-append_right, IsPermutation-refl}
-use Rattle.bucket_table.proofs.Words.{IsPermutation-trans, IsVacant, KeepsEntries, List, Meets, MovesInto, [], ap, append-nil, arith}
-use Rattle.bucket_table.proofs.Words.{bucket_at, cases_eq, empty_bucket, entries_among, entries_in, false, get_or, home_of, inl, inr}
-use Rattle.bucket_table.proofs.Words.{interval_width, length, map-entries_in, marks_among, no_new-refl, pairs_in, refl, rotated, scales}
-use Rattle.bucket_table.proofs.Words.{set, subst, sym, true, true≢false, ℕ, ◌++◌, ◌/◌, ◌<◌, ◌↔◌, ◌∙◌, ◌≡◌, ◌≤◌}
+use Rattle.bucket_table.proofs.Words.{All, All-map, All-nil, AreHome, AreTwoArrays, BucketView, CanMoveInto, HasOwnByte, IsBucketOf}
+use Rattle.bucket_table.proofs.Words.{IsEntryHome, IsInRange, IsLength, IsPermutation, IsPermutation-append_left}
+use Rattle.bucket_table.proofs.Words.{IsPermutation-append_right, IsPermutation-refl, IsPermutation-trans, IsVacant, KeepsEntries, List}
+use Rattle.bucket_table.proofs.Words.{Meets, MovesInto, ℕ, [], ap, append-nil, arith, bucket_at, cases_eq, empty_bucket, entries_among}
+use Rattle.bucket_table.proofs.Words.{entries_in, false, get_or, home_of, inl, inr, interval_width, length, map-entries_in, marks_among}
+use Rattle.bucket_table.proofs.Words.{no_new-refl, pairs_in, refl, rotated, scales, set, set-get_or, subst, sym, true, true≢false, ◌++◌}
+use Rattle.bucket_table.proofs.Words.{◌/◌, ◌<◌, ◌↔◌, ◌∙◌, ◌≡◌, ◌≤◌}
 use Rattle.std.proofs.Common.{append_assoc}
-use Rattle.std.proofs.lemmas.List.{set-get_or}
 use Rattle.bucket_slots.proofs.ArrayNumbers.{one_source}
 use Rattle.bucket_slots.proofs.MarksAfter.{marks_in-slots_killed}
 use Rattle.bucket_slots.proofs.RoomAfter.{pairs_in-slots_killed}
 use Rattle.bucket_slots.specs.Moving.{slots_killed}
-use Rattle.bucket_table.specs.Layout.Moving.{CanMoveInto, HasOwnByte}
 use Rattle.bucket_table.specs.Rehash.Relocation.{HasRoomFor, IsRelocated, KeepsOthers}
-use Rattle.bucket_table.proofs.Moves.Exchanges.{ChangesAt, changes_at, exchanged}
+use Rattle.bucket_table.proofs.Moves.Exchanges.{ChangesAt, changes_at, each_after, exchanged}
 use Rattle.bucket_table.proofs.Moves.HomesByDivision.{in_interval, some_width}
 use Rattle.bucket_table.proofs.Moves.MarksLeft.{marks_in-killed}
 use Rattle.bucket_table.proofs.Views.Killed.{no_entries}
@@ -26,9 +24,7 @@ pub other_target : (from to i index j : ℕ) → IsLength from → IsLength to �
     → Meets from i to j → Meets from index to j → ⊥
 other_target from to i index j from_long to_long le below i_below index_below apart one two =
     let parts = one_source from to (to / from) j (scales from to from_long.power to_long.power le (omega (arith, to_long.at_most))) below in
-    let first = (parts.2 i i_below).0 one in
-    let second = (parts.2 index index_below).0 two in
-    apart (first ∙ sym second)
+    apart (((parts.2 i i_below).0 one) ∙ sym ((parts.2 index index_below).0 two))
 
 module _ {K V : Type 0} where
   pub entries_alike : (c d : List (BucketView K V)) → length d ≡ length c
@@ -43,13 +39,10 @@ module _ {K V : Type 0} where
     pub homes_in_range : (from to index start end : ℕ) (s : BucketView K V) → 0 < interval_width to
         → ((j : ℕ) → IsInRange start end j ↔ Meets from index to j) → All (IsEntryHome hash from index) (entries_in s)
         → All (λ (p : K × V). IsInRange start end (home_of to (hash p.0))) (pairs_in s)
-    homes_in_range from to index start end s some range homes = rw (← map-entries_in s) (All-map (λ (p : K × V). IsInRange start end
-        (home_of to (hash p.0))) (λ (e : (K × V) × ℕ). e.0) (entries_in s) (λ k d below. let h = homes k d below in (range (home_of to
-        (hash (get_or (entries_in s) k d).0.0))).1 (
-          hash (get_or (entries_in s) k d).0.0,
-          h.home.own,
-          in_interval to (hash (get_or (entries_in s) k d).0.0) some,
-        )))
+    homes_in_range from to index start end s some range homes = rw (← map-entries_in s)
+        (All-map (λ (p : K × V). IsInRange start end (home_of to (hash p.0))) (λ (e : (K × V) × ℕ). e.0) (entries_in s) (λ k d below.
+        let number = hash (get_or (entries_in s) k d).0.0 in
+        (range (home_of to number)).1 (number, (homes k d below).home.own, in_interval to number some)))
 
     pub own_bytes : (from index : ℕ) (s : BucketView K V)
         → All (IsEntryHome hash from index) (entries_in s) → All (HasOwnByte hash) (entries_in s)
@@ -97,30 +90,48 @@ module _ {K V : Type 0} where
       other_current = λ j out. refl;
     }
 
+    -- room was made, or was there: the pairs of s have room in d
+    pub record IsPrepared (start end : ℕ) (s : BucketView K V) (c d : List (BucketView K V)) : Type 0 where
+      pub kept : KeepsEntries c d
+      pub others : KeepsOthers start end c d
+      pub room : HasRoomFor hash d (pairs_in s)
+
+    -- old bucket `index`, and the current buckets from start up to below end, which are its targets
+    pub record AreTargets (c l : List (BucketView K V)) (index start end : ℕ) : Type 0 where
+      pub law : AreTwoArrays hash c l
+      pub within : index < length l
+      pub current_long : IsLength (length c)
+      pub linked_long : IsLength (length l)
+      pub range : (j : ℕ) → IsInRange start end j ↔ Meets (length l) index (length c) j
+      pub ends : end ≤ length c
+
     -- the pairs of bucket `index` have moved on into c2, after room was made in c1, and the bucket is killed
-    module _ (kind index start end : ℕ) (c0 c1 c2 l0 l2 : List (BucketView K V)) (left : BucketView K V) (law : AreTwoArrays hash c0 l0)
-        (within : index < length l0)
-        (current_long : IsLength (length c0)) (linked_long : IsLength (length l0))
-        (range : (j : ℕ) → IsInRange start end j ↔ Meets (length l0) index (length c0) j)
-        (kept : KeepsEntries c0 c1) (others : KeepsOthers start end c0 c1) (moved : MovesInto hash (bucket_at l0 index) c1 left c2)
-        (homes : AreHome hash c2) (emptied : pairs_in left ≡ []) (laws : IsBucketOf kind (bucket_at l0 index))
-        (alive : (bucket_at l0 index).killed ≡ false) (l2_is : l2 ≡ set l0 index (slots_killed kind left)) where
+    module _ {kind index start end : ℕ} {c0 c1 c2 l0 l2 : List (BucketView K V)} {left : BucketView K V}
+        (targets : AreTargets c0 l0 index start end) (prepared : IsPrepared start end (bucket_at l0 index) c0 c1)
+        (moved : MovesInto hash (bucket_at l0 index) c1 left c2) (homes : AreHome hash c2) (emptied : pairs_in left ≡ [])
+        (laws : IsBucketOf kind (bucket_at l0 index)) (alive : (bucket_at l0 index).killed ≡ false)
+        (l2_is : l2 ≡ set l0 index (slots_killed kind left)) where
+      abbrev law : AreTwoArrays hash c0 l0
+      law = targets.law
+
+      abbrev kept : KeepsEntries c0 c1
+      kept = prepared.kept
+
       in_range : All (λ (p : K × V). IsInRange start end (home_of (length c0) (hash p.0))) (pairs_in (bucket_at l0 index))
-      in_range =
-          homes_in_range (length l0) (length c0) index start end (bucket_at l0 index) (some_width (length c0) current_long) range
-          (law.linked_home index within)
+      in_range = homes_in_range (length l0) (length c0) index start end (bucket_at l0 index) (some_width (length c0) targets.current_long)
+          targets.range (law.linked_home index targets.within)
 
       put : ChangesAt index (slots_killed kind left) l0 l2
-      put = rw l2_is (changes_at index (slots_killed kind left) l0 within)
+      put = rw l2_is (changes_at index (slots_killed kind left) l0 targets.within)
 
       gone : pairs_in (bucket_at l2 index) ≡ []
       gone = rw put.here (pairs_in-slots_killed kind left emptied)
 
       same_bucket : (j : ℕ) → (Meets (length l0) index (length c0) j → ⊥) → bucket_at c2 j ≡ bucket_at c0 j
       same_bucket j out =
-          let outside : IsInRange start end j → ⊥ = λ r. out ((range j).0 r) in
+          let outside : IsInRange start end j → ⊥ = λ r. out ((targets.range j).0 r) in
           let none = homed_none hash (length c0) start end j (pairs_in (bucket_at l0 index)) in_range outside in
-          moved.others j (rw kept.len none) ∙ others j outside
+          moved.others j (rw kept.len none) ∙ prepared.others j outside
 
       entries_moved : IsPermutation (entries_among c0 ++ entries_among l0) (entries_among c2 ++ entries_among l2)
       entries_moved =
@@ -129,12 +140,11 @@ module _ {K V : Type 0} where
           let b = entries_among l2 in
           let none : entries_in (slots_killed kind left) ≡ [] = no_entries (slots_killed kind left)
           (pairs_in-slots_killed kind left emptied) in
-          let whole : IsPermutation source (source ++ entries_in (slots_killed kind left)) = rw (none, append-nil)
-          (IsPermutation-refl source) in
-          let taken : IsPermutation (entries_among l0) (source ++ b) = rw l2_is (exchanged [] source l0 index (slots_killed kind left)
-          within whole) in
-          let left_none : entries_in left ≡ [] = no_entries left emptied in
-          let put_in : IsPermutation (source ++ a) (entries_among c2) = rw left_none at
+          let whole : IsPermutation source (source ++ entries_in (slots_killed kind left)) =
+          rw (none, append-nil) (IsPermutation-refl source) in
+          let taken : IsPermutation (entries_among l0) (source ++ b) = rw l2_is
+          (exchanged [] source l0 index (slots_killed kind left) targets.within whole) in
+          let put_in : IsPermutation (source ++ a) (entries_among c2) = rw (no_entries left emptied) at
           (rw (entries_among-kept c0 c1 kept) at moved.entries) in
           let regroup : source ++ (a ++ b) ≡ (source ++ a) ++ b = sym (append_assoc source a b) in
           IsPermutation-trans _ _ _ (IsPermutation-append_right a _ _ taken)
@@ -156,10 +166,9 @@ module _ {K V : Type 0} where
       }
 
       linked_homes : (i : ℕ) → i < length l0 → All (IsEntryHome hash (length l0) i) (entries_in (bucket_at l2 i))
-      linked_homes i below = elim (cases_eq i index) [
-        | inl same ↦ rw (same, no_entries (bucket_at l2 index) gone) (All-nil (IsEntryHome hash (length l0) index))
-        | inr apart ↦ rw (put.other i apart) (law.linked_home i below)
-      ]
+      linked_homes = each_after put (λ i b. i < length l0 → All (IsEntryHome hash (length l0) i) (entries_in b))
+          (λ below. rw (no_entries (slots_killed kind left) (pairs_in-slots_killed kind left emptied))
+          (All-nil (IsEntryHome hash (length l0) index))) (λ i apart. law.linked_home i)
 
       empty_still : length l0 ≤ length c0 → (i j : ℕ) → i < length l0 → j < length c0 → (bucket_at l2 i).killed ≡ false
           → Meets (length l0) i (length c0) j → IsVacant (bucket_at c2 j)
@@ -167,8 +176,8 @@ module _ {K V : Type 0} where
         | inl same ↦ let dead : (bucket_at l2 i).killed ≡ true = rw (same, put.here) refl in absurd cc
         | inr apart ↦
             let was : (bucket_at l0 i).killed ≡ false = ap (λ (b : BucketView K V). b.killed) (sym (put.other i apart)) ∙ alive in
-            let none = λ (m : Meets (length l0) index (length c0) j). other_target (length l0)
-            (length c0) i index j linked_long current_long le j_below i_below within apart meets m in
+            let none = λ (m : Meets (length l0) index (length c0) j). other_target (length l0) (length c0) i index j
+            targets.linked_long targets.current_long le j_below i_below targets.within apart meets m in
             rw (same_bucket j none) (law.empty_targets le i j i_below j_below was meets)
       ]
 
@@ -178,33 +187,14 @@ module _ {K V : Type 0} where
       pub law_after : AreTwoArrays hash c2 l2
       law_after = record {
         current_home = homes;
-        linked_home = subst (λ (n : ℕ). (i : ℕ) → i < n → All (IsEntryHome hash n i)
-            (entries_in (bucket_at l2 i))) (sym put.len) linked_homes;
+        linked_home = λ i. rw put.len (linked_homes i);
         alive = λ j below. moved.alive j ∙ kept.alive j ∙ law.alive j (omega (arith, current_len));
-        killed_empty = λ i below dead. elim (cases_eq i index) [
-          | inl same ↦ rw same gone
-          | inr apart ↦ rw (put.other i apart) (law.killed_empty i (omega (arith, put.len))
-              (ap (λ (b : BucketView K V). b.killed) (sym (put.other i apart)) ∙ dead))
-        ];
+        killed_empty = each_after put (λ i b. i < length l2 → b.killed ≡ true → pairs_in b ≡ [])
+            (λ below dead. pairs_in-slots_killed kind left emptied) (λ i apart below. law.killed_empty i (omega (arith, below, put.len)));
         empty_targets = λ le i j i_below j_below alive meets.
             empty_still (omega (arith, current_len, put.len)) i j (omega (arith, put.len)) (omega (arith, current_len)) alive
             (subst (λ (n : ℕ). Meets n i (length c0) j) put.len (subst (λ (n : ℕ). Meets (length l2) i n j) current_len meets));
       }
-
-    -- room was made, or was there: the pairs of s have room in d
-    pub record IsPrepared (start end : ℕ) (s : BucketView K V) (c d : List (BucketView K V)) : Type 0 where
-      pub kept : KeepsEntries c d
-      pub others : KeepsOthers start end c d
-      pub room : HasRoomFor hash d (pairs_in s)
-
-    -- old bucket `index`, and the current buckets from start up to below end, which are its targets
-    pub record AreTargets (c l : List (BucketView K V)) (index start end : ℕ) : Type 0 where
-      pub law : AreTwoArrays hash c l
-      pub within : index < length l
-      pub current_long : IsLength (length c)
-      pub linked_long : IsLength (length l)
-      pub range : (j : ℕ) → IsInRange start end j ↔ Meets (length l) index (length c) j
-      pub ends : end ≤ length c
 
     -- in the words of the calls, of which from and to are the lengths
     pub targets_of : {c l : List (BucketView K V)} {from to index start end : ℕ} → AreTwoArrays hash c l → index < length l
@@ -262,12 +252,9 @@ module _ {K V : Type 0} where
           → s.killed ≡ false → killed ≡ slots_killed kind left
           → IsRelocated index c l e (set l index killed) × AreTwoArrays hash e (set l index killed)
       all_moved kind {d} {e} {left} {killed} prepared moved homes emptied laws alive killed_is =
-          let moves : MovesInto hash (bucket_at l index) d left e = rw s_is at moved in
-          let lawful : IsBucketOf kind (bucket_at l index) = rw s_is at laws in
-          let stood : (bucket_at l index).killed ≡ false = rw s_is at alive in
-          let l_is : set l index killed ≡ set l index (slots_killed kind left) = ap (λ (b : BucketView K V). set l index b) killed_is in (
-            relocated kind index start end c d e l (set l index killed) left targets.law targets.within
-                targets.current_long targets.linked_long targets.range prepared.kept prepared.others moves homes emptied lawful stood l_is,
-            law_after kind index start end c d e l (set l index killed) left targets.law targets.within
-                targets.current_long targets.linked_long targets.range prepared.kept prepared.others moves homes emptied lawful stood l_is,
-          )
+          let l_is : set l index killed ≡ set l index (slots_killed kind left) = ap (λ (b : BucketView K V). set l index b) killed_is in
+          let room = rw s_is at prepared in
+          let moves = rw s_is at moved in
+          let lawful = rw s_is at laws in
+          let stood = rw s_is at alive in
+          (relocated targets room moves homes emptied lawful stood l_is, law_after targets room moves homes emptied lawful stood l_is)

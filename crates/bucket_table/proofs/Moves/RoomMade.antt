@@ -1,8 +1,9 @@
 -- Room that is made in buckets of an array, and what it is enough for.
 use Rattle.bucket_table.proofs.Words.{All, All-head, All-tail, BucketView, Err, IsInRange, IsVacant, KeepsEntries, List, Ok, OnOk, Result}
-use Rattle.bucket_table.proofs.Words.{Slot, [], all_slots, ap, arith, bucket_at, cases_eq, cases_lt, counted, flattened, free, get_or}
-use Rattle.bucket_table.proofs.Words.{home_of, homed_len, inl, inr, is_free, length, length-append, live, marked, refl, replicate, set}
-use Rattle.bucket_table.proofs.Words.{slot_in, subst, suc, sym, take, true, zero, ℕ, ◌&&◌, ◌*◌, ◌++◌, ◌+◌, ◌-◌, ◌<◌, ◌==◌, ◌∙◌, ◌∷◌, ◌≡◌, ◌≤◌}
+use Rattle.bucket_table.proofs.Words.{Slot, ℕ, [], all_slots, ap, arith, bucket_at, cases_eq, cases_lt, counted, entries_in, false}
+use Rattle.bucket_table.proofs.Words.{flattened, free, get_or, home_of, homed_len, inl, inr, is_free, length, length-append, live, marked}
+use Rattle.bucket_table.proofs.Words.{marks_in, refl, replicate, set, slot_in, subst, suc, sym, take, true, zero, ◌&&◌, ◌*◌, ◌++◌, ◌+◌, ◌-◌}
+use Rattle.bucket_table.proofs.Words.{◌<◌, ◌==◌, ◌∙◌, ◌∷◌, ◌≡◌, ◌≤◌}
 use Rattle.std.proofs.Common.{append_assoc}
 use Rattle.std.proofs.lemmas.List.{get_or-replicate, get_or-take, length-replicate, length-take}
 use Rattle.std.proofs.lemmas.List.Folds.{list_all-append}
@@ -14,7 +15,7 @@ use Rattle.bucket_slots.specs.Placing.{free_block}
 use Rattle.bucket_slots.specs.Reserving.{free_len_in, with_free_blocks}
 use Rattle.bucket_slots.specs.Slots.{all_free, free_len}
 use Rattle.bucket_table.specs.Rehash.Relocation.{HasRoomFor, KeepsOthers}
-use Rattle.bucket_table.proofs.Moves.Exchanges.{ChangesAt, changes_at}
+use Rattle.bucket_table.proofs.Moves.Exchanges.{ChangesAt, changes_at, each_after}
 use Rattle.bucket_table.proofs.Moves.MovingPairs.{homed_elsewhere}
 use Rattle.bucket_table.proofs.Moves.Staying.{place_with_blocks, stay_same}
 
@@ -46,11 +47,7 @@ on_ok (Err e) f h = h
 module _ {K V : Type 0} where
   all_free_len : (xs : List (Slot K V)) → all_free xs ≡ true → free_len xs ≡ length xs
   all_free_len [] e = refl
-  all_free_len (free ∷ xs) e = omega (
-    arith,
-    all_free_len xs e,
-    sum_by-append (λ (x : Slot K V). tally (is_free x)) (free ∷ []) xs,
-  )
+  all_free_len (free ∷ xs) e = omega (arith, all_free_len xs e, sum_by-append (λ (x : Slot K V). tally (is_free x)) (free ∷ []) xs)
   all_free_len (live p b ∷ xs) e = cc
   all_free_len (marked p b ∷ xs) e = cc
 
@@ -89,37 +86,19 @@ module _ {K V : Type 0} where
       → ChangesAt j (with_free_blocks (bucket_at d j) n) d e → KeepsEntries c e
   kept_more c d e j n kept put = record {
     len = put.len ∙ kept.len;
-    entries = λ i. elim (cases_eq i j) [
-      | inl same ↦ rw (same, put.here) (entries_in-with_free_blocks (bucket_at d j) n ∙ kept.entries j)
-      | inr apart ↦ rw (put.other i apart) (kept.entries i)
-    ];
-    marks = λ i. elim (cases_eq i j) [
-      | inl same ↦ rw (same, put.here) (marks_in-with_free_blocks (bucket_at d j) n ∙ kept.marks j)
-      | inr apart ↦ rw (put.other i apart) (kept.marks i)
-    ];
-    alive = λ i. elim (cases_eq i j) [
-      | inl same ↦ rw (same, put.here) (kept.alive j)
-      | inr apart ↦ rw (put.other i apart) (kept.alive i)
-    ];
-    vacant = λ i. elim (cases_eq i j) [
-      | inl same ↦ rw (same, put.here) (λ v. vacant-blocks (bucket_at d j) n (kept.vacant j v))
-      | inr apart ↦ rw (put.other i apart) (kept.vacant i)
-    ];
-    stay = λ i at occupied. elim (cases_eq i j) [
-      | inl same ↦
-          let here = kept.stay j at (rw same at occupied) in
-          rw (same, put.here)
-          (place_with_blocks (bucket_at d j) n at (ap is_free here ∙ (rw same at occupied)) ∙ here)
-      | inr apart ↦ ap (λ (b : BucketView K V). slot_in b at) (put.other i apart) ∙ kept.stay i at occupied
-    ];
-    own = λ i. elim (cases_eq i j) [
-      | inl same ↦ rw (same, put.here) (kept.own j)
-      | inr apart ↦ rw (put.other i apart) (kept.own i)
-    ];
-    listed = λ i. elim (cases_eq i j) [
-      | inl same ↦ rw (same, put.here) (kept.listed j)
-      | inr apart ↦ rw (put.other i apart) (kept.listed i)
-    ];
+    entries = each_after put (λ i b. entries_in b ≡ entries_in (bucket_at c i))
+        (entries_in-with_free_blocks (bucket_at d j) n ∙ kept.entries j) (λ i apart. kept.entries i);
+    marks = each_after put (λ i b. marks_in b ≡ marks_in (bucket_at c i))
+        (marks_in-with_free_blocks (bucket_at d j) n ∙ kept.marks j) (λ i apart. kept.marks i);
+    alive = each_after put (λ i b. b.killed ≡ (bucket_at c i).killed) (kept.alive j) (λ i apart. kept.alive i);
+    vacant = each_after put (λ i b. IsVacant (bucket_at c i) → IsVacant b)
+        (λ v. vacant-blocks (bucket_at d j) n (kept.vacant j v)) (λ i apart. kept.vacant i);
+    stay = λ i at. each_after put
+        (λ k b. is_free (slot_in (bucket_at c k) at) ≡ false → slot_in b at ≡ slot_in (bucket_at c k) at)
+        (λ occupied. let here = kept.stay j at occupied in place_with_blocks (bucket_at d j) n at (ap is_free here ∙ occupied) ∙ here)
+        (λ k apart. kept.stay k at) i;
+    own = each_after put (λ i b. b.own ≡ (bucket_at c i).own) (kept.own j) (λ i apart. kept.own i);
+    listed = each_after put (λ i b. b.listed ≡ (bucket_at c i).listed) (kept.listed j) (λ i apart. kept.listed i);
   }
 
   -- between two reservations: the first k buckets from `start` on have the room that was asked for
@@ -135,35 +114,30 @@ module _ {K V : Type 0} where
     others = λ j out. refl;
   }
 
-  -- blocks more in the next bucket, which may be too few
-  reserving_blocks : (start : ℕ) (counts : List ℕ) (c d e : List (BucketView K V)) (k n : ℕ)
-      → IsReserving start counts c d k → k < length counts → start + length counts ≤ length d → e ≡ set d (start + k)
-      (with_free_blocks (bucket_at d (start + k)) n) → IsReserving start counts c e k
-  reserving_blocks start counts c d e k n reserved within fits e_is =
-      let put = changes_at (start + k) (with_free_blocks (bucket_at d (start + k)) n) d (omega arith) in
-      rw e_is (record {
-        room = λ i h. rw (put.other (start + i) (λ same. absurd (omega arith))) (reserved.room i h);
-        kept = kept_more c d (set d (start + k) (with_free_blocks (bucket_at d (start + k)) n)) (start + k) n reserved.kept put;
-        others = λ j out. put.other j (λ same. out (omega arith, omega arith)) ∙ reserved.others j out;
-      })
+  -- blocks more in the next bucket
+  module _ {start : ℕ} {counts : List ℕ} {c d e : List (BucketView K V)} {k : ℕ} (n : ℕ) (reserved : IsReserving start counts c d k)
+      (within : k < length counts) (fits : start + length counts ≤ length d)
+      (e_is : e ≡ set d (start + k) (with_free_blocks (bucket_at d (start + k)) n)) where
+    put : ChangesAt (start + k) (with_free_blocks (bucket_at d (start + k)) n) d e
+    put = rw e_is (changes_at (start + k) (with_free_blocks (bucket_at d (start + k)) n) d (omega arith))
 
-  reserving_more : (start : ℕ) (counts : List ℕ) (c d e : List (BucketView K V)) (k n : ℕ)
-      → IsReserving start counts c d k → k < length counts → start + length counts ≤ length d → e ≡ set d (start + k)
-      (with_free_blocks (bucket_at d (start + k)) n) → get_or counts k 0 ≤ free_len_in (bucket_at d (start + k)) + 4 * n
-      → IsReserving start counts c e (k + 1)
-  reserving_more start counts c d e k n reserved within fits e_is enough =
-      let put = changes_at (start + k) (with_free_blocks (bucket_at d (start + k)) n) d (omega arith) in
-      let still = reserving_blocks start counts c d e k n reserved within fits e_is in
-      let here : bucket_at e (start + k) ≡ with_free_blocks (bucket_at d (start + k)) n = ap
-      (λ l. bucket_at l (start + k)) e_is ∙ put.here in
-      record {
-        room = λ i h. elim (cases_eq i k) [
-          | inl same ↦ rw (same, here) (omega (arith, free_len_in-with_free_blocks (bucket_at d (start + k)) n, enough))
-          | inr apart ↦ still.room i (omega arith)
-        ];
-        kept = still.kept;
-        others = still.others;
-      }
+    -- which may be too few
+    reserving_blocks : IsReserving start counts c e k
+    reserving_blocks = record {
+      room = λ i h. rw (put.other (start + i) (λ same. absurd (omega arith))) (reserved.room i h);
+      kept = kept_more c d e (start + k) n reserved.kept put;
+      others = λ j out. put.other j (λ same. out (omega arith, omega arith)) ∙ reserved.others j out;
+    }
+
+    reserving_more : get_or counts k 0 ≤ free_len_in (bucket_at d (start + k)) + 4 * n → IsReserving start counts c e (k + 1)
+    reserving_more enough = record {
+      room = λ i h. elim (cases_eq i k) [
+        | inl same ↦ rw (same, put.here) (omega (arith, free_len_in-with_free_blocks (bucket_at d (start + k)) n, enough))
+        | inr apart ↦ reserving_blocks.room i (omega arith)
+      ];
+      kept = reserving_blocks.kept;
+      others = reserving_blocks.others;
+    }
 
   -- the same in the words of the calls: b is the bucket that is lent, and after what it is then
   module _ (start : ℕ) (counts : List ℕ) (c d : List (BucketView K V)) (k : ℕ) (b after : BucketView K V)
@@ -174,13 +148,10 @@ module _ {K V : Type 0} where
     put_is = rw (after_is, b_is) refl
 
     pub refused_reserving : IsReserving start counts c (set d (start + k) after) k
-    refused_reserving =
-        reserving_blocks start counts c d (set d (start + k) after) k n reserved within (omega (arith, reserved.kept.len)) put_is
+    refused_reserving = reserving_blocks n reserved within (omega (arith, reserved.kept.len)) put_is
 
     pub reserving_next : get_or counts k 0 ≤ free_len_in b + 4 * n → IsReserving start counts c (set d (start + k) after) (k + 1)
-    reserving_next enough =
-        reserving_more start counts c d (set d (start + k) after) k n reserved within (omega (arith, reserved.kept.len)) put_is
-        (rw b_is at enough)
+    reserving_next enough = reserving_more n reserved within (omega (arith, reserved.kept.len)) put_is (rw b_is at enough)
 
   -- the same range, its end written in another way
   pub others_in : (c d : List (BucketView K V)) (start end last : ℕ) → last ≡ end → KeepsOthers start last c d → KeepsOthers start end c d
@@ -197,8 +168,7 @@ module _ {K V : Type 0} where
         → (IsInRange start end j → ⊥) → homed_len hash len j ps ≡ 0
     homed_none len start end j [] all out = refl
     homed_none len start end j (p ∷ ps) all out =
-        let here = All-head (λ (q : K × V). IsInRange start end (home_of len (hash q.0))) p ps all
-        in
+        let here = All-head (λ (q : K × V). IsInRange start end (home_of len (hash q.0))) p ps all in
         let rest = homed_none len start end j ps (All-tail (λ (q : K × V). IsInRange start end (home_of len (hash q.0))) p ps all) out in
         homed_elsewhere hash len j p ps (λ same. out (rw same at here)) ∙ rest
 
@@ -211,16 +181,10 @@ module _ {K V : Type 0} where
         → All (λ (p : K × V). IsInRange start end (home_of (length c) (hash p.0))) ps
         → ((j : ℕ) → IsInRange start end j → homed_len hash (length c) j ps ≤ free_len_in (bucket_at c j)) → HasRoomFor hash c ps
     room_in_range c start end ps all room j within = elim (cases_lt j start) [
-      | inl below ↦ omega (
-        arith,
-        homed_none (length c) start end j ps all (λ r. absurd (omega (arith, r.0))),
-      )
+      | inl below ↦ omega (arith, homed_none (length c) start end j ps all (λ r. absurd (omega (arith, r.0))))
       | inr above ↦ elim (cases_lt j end) [
         | inl inside ↦ room j (above, inside)
-        | inr past ↦ omega (
-          arith,
-          homed_none (length c) start end j ps all (λ r. absurd (omega (arith, r.1))),
-        )
+        | inr past ↦ omega (arith, homed_none (length c) start end j ps all (λ r. absurd (omega (arith, r.1))))
       ]
     ]
 
@@ -231,15 +195,12 @@ module _ {K V : Type 0} where
         → ((k : ℕ) → k < length counts → homed_len hash (length c) (start + k) ps ≤ get_or counts k
         0) → ((k : ℕ) → k < length counts → get_or counts k 0 ≤ free_len_in (bucket_at d (start + k))) → HasRoomFor hash d ps
     room_counted c d start end counts ps long total all counted room =
-        let all' : All (λ (p : K × V). IsInRange start end (home_of (length d) (hash p.0))) ps = rw
-        long all in
+        let all' : All (λ (p : K × V). IsInRange start end (home_of (length d) (hash p.0))) ps = rw long all in
         room_in_range d start end ps all' (λ j inside.
         let k : ℕ = j - start in
         let back : start + k ≡ j = omega (arith, inside.0) in
         let within : k < length counts = omega (arith, inside.0, inside.1) in
-        let few = rw (back, ← long) at (counted k within) in
-        let free = rw back at (room k within) in
-        omega (arith, few, free))
+        omega (arith, rw (back, ← long) at (counted k within), rw back at (room k within)))
 
     -- the same of a result
     pub room_made : {A E : Type 0} (r : Result A E) (c d : List (BucketView K V)) (start end : ℕ)

@@ -1,20 +1,16 @@
 -- Occupied slots that stay as they are, and the pairs in them.
-use Rattle.bucket_table.proofs.Words.{All, All-cons, All-nil, Bool, BucketView, Contains, Contains-append_left, Contains-append_right, List}
-use Rattle.bucket_table.proofs.Words.{None, Option, Place, Slot, Some, [], ap, arith, cases_eq, cases_lt, eq-eqb, false, flattened, free}
-use Rattle.bucket_table.proofs.Words.{get_or, get_or-set_other, get_or-set_same, if◌then◌else◌, inl, inr, is_free, is_listed, length, live}
-use Rattle.bucket_table.proofs.Words.{live_pair, live_pairs, map, marked, pairs_in, refl, replicate, set, slot_at, slot_in, subst, suc, sym}
-use Rattle.bucket_table.proofs.Words.{true, true≢false, zero, ℕ, ◌++◌, ◌<◌, ◌==◌, ◌∙◌, ◌∷◌, ◌≡◌, ◌⊎◌}
-use Rattle.std.proofs.lemmas.Bool.{or_left, or_right}
-use Rattle.std.proofs.lemmas.List.{get_or_past}
-use Rattle.std.proofs.lemmas.List.Elements.{Contains-append_cases, filter_map-append}
-use Rattle.std.specs.List.{cons_option}
+use Rattle.bucket_table.proofs.Words.{All, All-cons, All-nil, Bool, BucketView, Contains, Contains-append_cases, Contains-append_left}
+use Rattle.bucket_table.proofs.Words.{Contains-append_right, KeepsPlaces, List, None, Option, Place, Slot, Some, StandsInChain, ℕ, [], ap}
+use Rattle.bucket_table.proofs.Words.{arith, block_at, cases_eq, cases_lt, cons_option, eq-eqb, false, filter_map-append, first_place}
+use Rattle.bucket_table.proofs.Words.{flattened, free, get_or, get_or-set_other, get_or-set_same, get_or_past, if◌then◌else◌, inl, inr}
+use Rattle.bucket_table.proofs.Words.{is_free, is_listed, length, live, live_pair, live_pairs, map, marked, or_left, or_right, pairs_in}
+use Rattle.bucket_table.proofs.Words.{place_for_next, refl, replicate, row_at, rows_with, set, slot_at, slot_in, slots_with, subst, suc}
+use Rattle.bucket_table.proofs.Words.{sym, true, true≢false, zero, ◌++◌, ◌<◌, ◌==◌, ◌∙◌, ◌∷◌, ◌≡◌, ◌⊎◌}
 use Rattle.std.specs.Prelude.{filter_map, is_some}
 use Rattle.bucket_slots.proofs.BucketPlacing.{place_made}
-use Rattle.bucket_slots.specs.BucketView.{block_at, first_place, row_at, rows_with, with_slot, with_slot_at}
-use Rattle.bucket_slots.specs.Placing.{free_block, place_for_next, slots_with, with_place_made}
+use Rattle.bucket_slots.specs.BucketView.{with_slot, with_slot_at}
+use Rattle.bucket_slots.specs.Placing.{free_block, with_place_made}
 use Rattle.bucket_slots.specs.Reserving.{with_free_blocks}
-use Rattle.bucket_table.specs.Layout.Landings.{StandsInChain}
-use Rattle.bucket_table.specs.Rehash.Relocation.{KeepsPlaces}
 
 some_of : {A : Type 0} (o : Option A) → (o ≡ None → ⊥) → is_some o ≡ true
 some_of None never = absurd (never refl)
@@ -137,10 +133,10 @@ module _ {K V : Type 0} where
         → Contains (filter_map part (flattened rows)) p
     from_row none [] i pos p here = cc
     from_row none (row ∷ rows) zero pos p here =
-        subst (λ (ps : List B). Contains ps p) (sym (filter_map-append part row (flattened rows)))
+        rw (filter_map-append part row (flattened rows))
         (Contains-append_left (filter_map part row) (filter_map part (flattened rows)) p (contains_at none row pos p here))
     from_row none (row ∷ rows) (suc i) pos p here =
-        subst (λ (ps : List B). Contains ps p) (sym (filter_map-append part row (flattened rows)))
+        rw (filter_map-append part row (flattened rows))
         (Contains-append_right (filter_map part row) (filter_map part (flattened rows)) p (from_row none rows i pos p here))
 
   -- a pair of a bucket stands in an own slot or in the chain

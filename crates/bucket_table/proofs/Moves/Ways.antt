@@ -1,20 +1,18 @@
 -- Where the pair in a slot goes: by its key's hash, or by its byte where its bucket has one target alone.
-use Rattle.bucket_table.proofs.Words.{All, All-head, All-permutation, BucketView, IsHome, IsInRange, IsLength, Place, Slot, Some, ap, arith}
-use Rattle.bucket_table.proofs.Words.{entries_in, home_of, live_pair, pair_of, pairs_in, pairs_in-slots_vacated, slot_in, slots_vacated}
-use Rattle.bucket_table.proofs.Words.{sym, ℕ, ◌%◌, ◌+◌, ◌∙◌, ◌≡◌, ◌≤◌}
+use Rattle.bucket_table.proofs.Words.{All, All-head, All-permutation, BucketView, HasOwnByte, IsHome, IsInRange, IsLength, Place, Slot}
+use Rattle.bucket_table.proofs.Words.{Some, ℕ, ap, arith, entries_in, home_of, live_pair, pair_of, pairs_in, pairs_in-slots_vacated}
+use Rattle.bucket_table.proofs.Words.{slot_in, slots_vacated, sym, ◌%◌, ◌+◌, ◌∙◌, ◌≡◌, ◌≤◌}
 use Rattle.std.specs.Option.{option_map}
 use Rattle.bucket_slots.proofs.PairsAfter.{entries_in-slots_vacated_at, live_is}
 use Rattle.bucket_slots.specs.Slots.{byte_of}
 use Rattle.bucket_table.specs.Rehash.Relocation.{IsWay}
 use Rattle.bucket_table.proofs.Moves.HomesByDivision.{home_is}
-use Rattle.bucket_table.specs.Layout.Moving.{HasOwnByte}
 
 module _ {K V : Type 0} where
   -- the key that was read is that of the pair in the slot
   pub key_is : (x : Slot K V) (p : K × V) (k : K) → live_pair x ≡ Some p → option_map (λ (q : K × V). q.0) (pair_of x) ≡ Some k → k ≡ p.0
   key_is x p k here read =
-      let at = live_is x p here in
-      let e : Some p.0 ≡ Some k = ap (λ y. option_map (λ (q : K × V). q.0) (pair_of y)) (sym at.1) ∙
+      let e : Some p.0 ≡ Some k = ap (λ y. option_map (λ (q : K × V). q.0) (pair_of y)) (sym (live_is x p here).1) ∙
       read in cc
 
   -- by the hash

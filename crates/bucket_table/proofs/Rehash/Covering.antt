@@ -1,14 +1,12 @@
 -- Starting, working and ending keep every unit covered.
-use Rattle.bucket_table.proofs.Words.{All, All-cons, All-head, All-permutation, All-tail, Bool, Contains, Contains-append_left}
-use Rattle.bucket_table.proofs.Words.{Contains-append_right, Contains-permutation, Ends, HandsOut, List, TicketState, [], arith, cases_eq}
-use Rattle.bucket_table.proofs.Words.{cases_lt, div-lt_iff_lt-mul, false, false≢true, get_or, get_or-set_other, if◌then◌else◌, inl, inr}
-use Rattle.bucket_table.proofs.Words.{length, length-set, min, refl, set, subst, sym, true, ℕ, ⊎_elim, ◌*◌, ◌/◌, ◌<◌, ◌∙◌, ◌∷◌, ◌≡◌, ◌≢◌}
-use Rattle.bucket_table.proofs.Words.{◌≤◌, ◌⊎◌}
+use Rattle.bucket_table.proofs.Words.{All, All-cons, All-head, All-permutation, All-tail, AreAllKilled, Bool, Closes, Contains}
+use Rattle.bucket_table.proofs.Words.{Contains-append_cases, Contains-append_left, Contains-append_right, Contains-permutation, Ends}
+use Rattle.bucket_table.proofs.Words.{HandsOut, IsCovered, IsOver, IsUnitKilled, List, TicketState, ℕ, [], arith, cases_eq, cases_lt}
+use Rattle.bucket_table.proofs.Words.{div-lt_iff_lt-mul, false, false≢true, get_or, get_or-set_other, if◌then◌else◌, inl, inr, length}
+use Rattle.bucket_table.proofs.Words.{length-set, min, refl, set, subst, sym, true, ⊎_elim, ◌*◌, ◌/◌, ◌<◌, ◌∙◌, ◌∷◌, ◌≡◌, ◌≢◌, ◌≤◌, ◌⊎◌}
 use Rattle.std.proofs.Common.{get_or-set_same}
-use Rattle.std.proofs.lemmas.List.Elements.{Contains-append_cases, Contains-get_or, Contains-push_cases}
+use Rattle.std.proofs.lemmas.List.Elements.{Contains-get_or, Contains-push_cases}
 use Rattle.std.specs.Prelude.{Ok}
-use Rattle.bucket_table.specs.Rehash.Covered.{AreAllKilled, IsCovered, IsUnitKilled}
-use Rattle.bucket_table.specs.Rehash.Steps.{Closes, IsOver}
 
 -- some unit is left to hand out or handed out
 abbrev pub IsGoingOn : TicketState → Type 0
@@ -90,10 +88,9 @@ covered_end killed before after unit success h done covered =
           covered.units_in_range));
       done_or_open = λ u below.
           let le = position_end success before.position unit in
-          let is = h.position_is in
           ⊎_elim (λ (killed_already : IsUnitKilled killed u). inl killed_already) (λ (there : Contains before.open_units u). ⊎_elim
           (λ (e : unit ≡ u). inl (subst (λ (v : ℕ). IsUnitKilled killed v) e (covered_unit killed success before.position unit done
-          (subst (λ (p : ℕ). unit < p) is (subst (λ (v : ℕ). v < after.position) (sym e) below)))))
+          (subst (λ (p : ℕ). unit < p) h.position_is (subst (λ (v : ℕ). v < after.position) (sym e) below)))))
           (λ (still : Contains after.open_units u). inr still)
           (head_or_tail unit u after.open_units (Contains-permutation before.open_units joined u h.open_is there)))
           (covered.done_or_open u (omega arith));

@@ -1,13 +1,11 @@
 -- What starting and ending a ticket leave of a table's arrays.
-use Rattle.bucket_table.proofs.Words.{All, ArePlaced, ArraysView, Bool, BucketView, Ends, EndsRehash, Err, HasNoNewMark, IsPermutation, IsTrue}
-use Rattle.bucket_table.proofs.Words.{List, LosesNoUnit, None, Ok, Option, Result, Some, Starts, TicketState, [], ap, arith, entries_of}
-use Rattle.bucket_table.proofs.Words.{false, first_tickets, killed_flags, length, length_permutation, marks_among, marks_of, no_new-refl}
-use Rattle.bucket_table.proofs.Words.{bucket_at, listed_pairs, pairs_in, refl, subst, suc, sym, true, zero, ℕ, ◌*◌, ◌/◌, ◌↔◌, ◌∷◌, ◌≡◌}
-use Rattle.bucket_slots.proofs.MarksAfter.{no_new-append, no_new-none}
-use Rattle.bucket_table.specs.Rehash.Covered.{AreAllKilled, IsUnitKilled}
-use Rattle.bucket_table.specs.Rehash.Carrying.{CarriesOrder}
-use Rattle.bucket_table.specs.declared.tickets.TicketError.{TicketError}
-use Rattle.bucket_table.specs.declared.tickets.TicketError.TheVariants.{NotDone, NotOpen}
+use Rattle.bucket_table.proofs.Words.{All, AreAllKilled, ArePlaced, ArraysView, Bool, BucketView, CarriesOrder, Ends, EndsRehash, Err}
+use Rattle.bucket_table.proofs.Words.{HasNoNewMark, IsPermutation, IsTrue, IsUnitKilled, List, LosesNoUnit, None, NotDone, NotOpen, Ok}
+use Rattle.bucket_table.proofs.Words.{Option, Result, Some, Starts, TicketError, TicketState, ℕ, [], ap, arith, bucket_at}
+use Rattle.bucket_table.proofs.Words.{entries_of, false, first_tickets, killed_flags, length, length_permutation, listed_pairs, marks_among}
+use Rattle.bucket_table.proofs.Words.{marks_of, no_new-append, no_new-refl, pairs_in, refl, subst, suc, sym, true, zero, ◌*◌, ◌/◌, ◌↔◌, ◌∷◌}
+use Rattle.bucket_table.proofs.Words.{◌≡◌}
+use Rattle.bucket_slots.proofs.MarksAfter.{no_new-none}
 use Rattle.bucket_table.proofs.Moves.CarriedOrder.{carries_unmoved, unlisted_empty}
 use Rattle.bucket_table.proofs.Moves.Staying.{stay_same}
 use Rattle.bucket_table.proofs.Rehash.Covering.{all_killed, covered_end, covered_start, going_on_end, going_on_start}
@@ -38,9 +36,7 @@ same_at_err before after ticket success Done NotDone h = h.3
 none_closed : (before : TicketState) (unit : ℕ) (after : List ℕ) → before.open_units ≡ [] → IsPermutation before.open_units (unit ∷ after)
     → ⊥
 none_closed before unit after none moved =
-    let len = length_permutation _ _ moved in
-    let e = ap (λ (us : List ℕ). length us) none in
-    absurd (omega (arith, len, e))
+    absurd (omega (arith, length_permutation _ _ moved, ap (λ (us : List ℕ). length us) none))
 
 module _ {K V : Type 0} where
   -- a unit handed out keeps every unit covered
@@ -60,12 +56,6 @@ module _ {K V : Type 0} where
       (λ e. subst (λ (u : ℕ). IsUnitKilled (killed_flags old.linked) u) (unit_of ticket unit is) (done e)) kept.covered in
       all_killed (killed_flags old.linked) last covered (goes.0 refl).1
 
-  pub ended_entries : (old new : ArraysView K V) (ticket : ℕ) (success : Bool) (answer : Result Bool TicketError)
-      → LosesNoUnit old.linked old.tickets → EndsRehash old ticket success answer new → entries_of new ≡ entries_of old
-  ended_entries old new ticket success (Ok true) kept ends = rw ends.2 (rw (no_pairs old.linked ends.1 kept.emptied) refl)
-  ended_entries old new ticket success (Ok false) kept ends = rw ends.1 refl
-  ended_entries old new ticket success (Err error) kept ends = rw ends.1 refl
-
   unlisted_all : (buckets : List (BucketView K V)) → AreAllKilled (killed_flags buckets)
       → All (λ (bucket : BucketView K V). bucket.killed ≡ true → pairs_in bucket ≡ []) buckets
       → (i : ℕ) → (listed_pairs (bucket_at buckets i) ≡ []) × (pairs_in (bucket_at buckets i) ≡ [])
@@ -76,17 +66,6 @@ module _ {K V : Type 0} where
   unlisted_all (bucket ∷ buckets) killed emptied (suc i) =
       unlisted_all buckets (λ k below. killed (suc k) (omega arith)) (λ k d below. emptied (suc k) d (omega arith)) i
 
-  -- no bucket moves on, and what goes lists nothing
-  pub ended_order : (old new : ArraysView K V) (ticket : ℕ) (success : Bool) (answer : Result Bool TicketError)
-      → LosesNoUnit old.linked old.tickets → EndsRehash old ticket success answer new → CarriesOrder old new
-  ended_order old new ticket success (Ok true) kept ends = rw ends.2
-      (carries_unmoved old (record old { linked = []; tickets = first_tickets 0 })
-      (λ i. let none = unlisted_all old.linked ends.1 kept.emptied i in (sym none.0, sym none.1)) (stay_same old.current) (λ j. refl))
-  ended_order old new ticket success (Ok false) kept ends = rw ends.1
-      (carries_unmoved old (record old { tickets = new.tickets }) (λ i. (refl, refl)) (stay_same old.current) (λ j. refl))
-  ended_order old new ticket success (Err error) kept ends = rw ends.1
-      (carries_unmoved old (record old { tickets = new.tickets }) (λ i. (refl, refl)) (stay_same old.current) (λ j. refl))
-
   -- the old array goes
   pub ended_gone : (now : ArraysView K V) (minimum maximum ticket : ℕ) (current linked : List (BucketView K V))
       (tickets last none : TicketState) (success gone tested : Bool)
@@ -95,14 +74,8 @@ module _ {K V : Type 0} where
       → ◌≡◌ {A = ArraysView K V} (record { minimum = minimum; maximum = maximum; current = current; linked = linked; tickets = tickets })
       now
       → none ≡ first_tickets 0 → LosesNoUnit now.linked now.tickets
-      → EndsRehash now ticket success (Ok true) (record {
-        minimum = minimum;
-        maximum = maximum;
-        current = current;
-        linked = [];
-        tickets =
-            none;
-      })
+      → EndsRehash now ticket success (Ok true)
+      (record { minimum = minimum; maximum = maximum; current = current; linked = []; tickets = none })
   ended_gone now minimum maximum ticket current linked tickets last none success gone tested is_gone means ends is first kept =
       let was : ArraysView K V = record { minimum = minimum; maximum = maximum; current = current; linked = linked; tickets = tickets } in
       let new : ArraysView K V = record { minimum = minimum; maximum = maximum; current = current; linked = []; tickets = none } in
@@ -149,30 +122,49 @@ module _ {K V : Type 0} where
   placed_end hash old new ticket success (Err error) ends law =
       rw (ends.1, same_at_err old.tickets new.tickets ticket success _ error ends.0) (record { homes = law.homes; rehashed = law.rehashed })
 
-  -- what an end leaves of the current array and of the marks
-  pub marks_ended : (old new : ArraysView K V) (ticket : ℕ) (success : Bool) (answer : Result Bool TicketError)
-      → EndsRehash old ticket success answer new → HasNoNewMark (marks_of old) (marks_of new)
-  marks_ended old new ticket success (Ok true) ends =
+-- what an end leaves
+module _ {K V : Type 0} (old new : ArraysView K V) (ticket : ℕ) (success : Bool) where
+  pub ended_entries : (answer : Result Bool TicketError) → LosesNoUnit old.linked old.tickets → EndsRehash old ticket success answer new
+      → entries_of new ≡ entries_of old
+  ended_entries (Ok true) kept ends = rw ends.2 (rw (no_pairs old.linked ends.1 kept.emptied) refl)
+  ended_entries (Ok false) kept ends = rw ends.1 refl
+  ended_entries (Err error) kept ends = rw ends.1 refl
+
+  -- of the order: no bucket moves on, and what goes lists nothing
+  still_order : new ≡ record old { tickets = new.tickets } → CarriesOrder old new
+  still_order same = rw same
+      (carries_unmoved old (record old { tickets = new.tickets }) (λ i. (refl, refl)) (stay_same old.current) (λ j. refl))
+
+  pub ended_order : (answer : Result Bool TicketError) → LosesNoUnit old.linked old.tickets → EndsRehash old ticket success answer new
+      → CarriesOrder old new
+  ended_order (Ok true) kept ends = rw ends.2
+      (carries_unmoved old (record old { linked = []; tickets = first_tickets 0 })
+      (λ i. let none = unlisted_all old.linked ends.1 kept.emptied i in (sym none.0, sym none.1)) (stay_same old.current) (λ j. refl))
+  ended_order (Ok false) kept ends = still_order ends.1
+  ended_order (Err error) kept ends = still_order ends.1
+
+  -- of the marks
+  pub marks_ended : (answer : Result Bool TicketError) → EndsRehash old ticket success answer new
+      → HasNoNewMark (marks_of old) (marks_of new)
+  marks_ended (Ok true) ends =
       let front = marks_among old.current in
       let rest = marks_among old.linked in
       rw ends.2 (no_new-append front rest front [] (no_new-refl front) (no_new-none rest))
-  marks_ended old new ticket success (Ok false) ends = rw ends.1 (no_new-refl (marks_of old))
-  marks_ended old new ticket success (Err error) ends = rw ends.1 (no_new-refl (marks_of old))
+  marks_ended (Ok false) ends = rw ends.1 (no_new-refl (marks_of old))
+  marks_ended (Err error) ends = rw ends.1 (no_new-refl (marks_of old))
 
-  pub others_ended : (old new : ArraysView K V) (ticket : ℕ) (success : Bool) (answer : Result Bool TicketError)
-      → EndsRehash old ticket success answer new → (new.minimum ≡ old.minimum) × (new.maximum ≡ old.maximum) × (new.current ≡ old.current)
-  others_ended old new ticket success (Ok true) ends = rw ends.2 (refl, refl, refl)
-  others_ended old new ticket success (Ok false) ends = rw ends.1 (refl, refl, refl)
-  others_ended old new ticket success (Err error) ends = rw ends.1 (refl, refl, refl)
+  -- and of the current array
+  pub others_ended : (answer : Result Bool TicketError) → EndsRehash old ticket success answer new
+      → (new.minimum ≡ old.minimum) × (new.maximum ≡ old.maximum) × (new.current ≡ old.current)
+  others_ended (Ok true) ends = rw ends.2 (refl, refl, refl)
+  others_ended (Ok false) ends = rw ends.1 (refl, refl, refl)
+  others_ended (Err error) ends = rw ends.1 (refl, refl, refl)
 
   -- no ticket is open without an old array
-  pub not_open : (old new : ArraysView K V) (ticket : ℕ) (success : Bool) (answer : Result Bool TicketError) → old.tickets.open_units ≡ []
-      → EndsRehash old ticket success answer new → answer ≡ Err NotOpen
-  not_open old new ticket success (Err NotOpen) none ends = refl
-  not_open old new ticket success (Err NotDone) none ends =
-      let less = (rw none at ends.0.0.2).1 in
-      absurd (omega (arith, less))
-  not_open old new ticket success (Ok true) none ends = absurd (none_closed old.tickets ends.0.1.0 ends.0.0.open_units none
-      ends.0.1.3.open_is)
-  not_open old new ticket success (Ok false) none ends = absurd (none_closed old.tickets ends.0.0 new.tickets.open_units none
-      ends.0.3.open_is)
+  pub not_open : (answer : Result Bool TicketError) → old.tickets.open_units ≡ [] → EndsRehash old ticket success answer new
+      → answer ≡ Err NotOpen
+  not_open (Err NotOpen) none ends = refl
+  not_open (Err NotDone) none ends =
+      absurd (omega (arith, (rw none at ends.0.0.2).1))
+  not_open (Ok true) none ends = absurd (none_closed old.tickets ends.0.1.0 ends.0.0.open_units none ends.0.1.3.open_is)
+  not_open (Ok false) none ends = absurd (none_closed old.tickets ends.0.0 new.tickets.open_units none ends.0.3.open_is)

@@ -1,11 +1,9 @@
 -- A unit of a rehash that no one else works at.
-use Rattle.bucket_table.proofs.Words.{ArraysView, Bool, EndsRehash, Err, HandsOut, IsInRange, List, LosesNoUnit, None, Ok, Result, Some}
-use Rattle.bucket_table.proofs.Words.{Starts, TicketState, [], ap, arith, cases_lt, false, inl, inr, killed_flags, length}
-use Rattle.bucket_table.proofs.Words.{length_permutation, nil_from_length, refl, sym, true, true≢false, ℕ, ◌*◌, ◌+◌, ◌/◌, ◌∙◌, ◌≡◌}
-use Rattle.bucket_table.specs.Rehash.Covered.{IsCovered}
+use Rattle.bucket_table.proofs.Words.{ArraysView, Bool, EndsRehash, Err, HandsOut, IsCovered, IsInRange, List, LosesNoUnit, None, Ok}
+use Rattle.bucket_table.proofs.Words.{Result, Some, Starts, TicketError, TicketState, WantsMemory, WorksUnit, ℕ, [], ap, arith, cases_lt}
+use Rattle.bucket_table.proofs.Words.{false, inl, inr, killed_flags, length, length_permutation, nil_from_length, refl, sym, true}
+use Rattle.bucket_table.proofs.Words.{true≢false, ◌*◌, ◌+◌, ◌/◌, ◌∙◌, ◌≡◌}
 use Rattle.bucket_table.specs.Rehash.Finishing.{Finishes, units_left}
-use Rattle.bucket_table.specs.Rehash.Units.{WantsMemory, WorksUnit}
-use Rattle.bucket_table.specs.declared.tickets.TicketError.{TicketError}
 use Rattle.bucket_table.proofs.Rehash.Covering.{position_after}
 use Rattle.bucket_table.proofs.Rehash.Wanting.{unit_wants}
 use Rattle.bucket_table.proofs.Rehash.UnitWork.{closed, ends_now, none_changed, not_refused}
@@ -37,21 +35,17 @@ module _ {K V : Type 0} (old worked last : ArraysView K V) (started : TicketStat
   finished (Ok false) none ends =
       let (closes, goes) = closed old.tickets started ticket h success _ false last.tickets
       (ends_now old worked last started ticket success h w (Ok false) last.tickets ends.0) in
-      let joined = length_permutation _ _ h.open_is in
       let was_none = ap (λ (us : List ℕ). length us) none in
       let left_open = length_permutation _ _ closes.open_is in
-      let next = h.position_is in
-      let left = h.is_left in
       let last_len = ap (λ (a : ArraysView K V). length a.linked) ends.1 ∙ w.0.killed.len in (
-        nil_from_length last.tickets.open_units (omega (arith, joined, was_none, left_open)),
+        nil_from_length last.tickets.open_units (omega (arith, length_permutation _ _ h.open_is, was_none, left_open)),
         λ ok.
             let at = closes.position_is ∙ ap (λ (s : Bool). position_after s started.position old.tickets.position) ok in
-            omega (arith, at, next, left, last_len, long),
+            omega (arith, at, h.position_is, h.is_left, last_len, long),
         λ failed.
-            let handed = h.ticket_is in
             let back = closes.position_is ∙ ap (λ (s : Bool). position_after s started.position old.tickets.position) failed in (
-              omega (arith, next, back),
-              unit_wants old worked last started (ticket / 2048) (omega (arith, handed)) none covered w.0
+              omega (arith, h.position_is, back),
+              unit_wants old worked last started (ticket / 2048) (omega (arith, h.ticket_is)) none covered w.0
                   (ap (λ (a : ArraysView K V). a.linked) ends.1) (wants failed),
             ),
       )
@@ -60,14 +54,12 @@ module _ {K V : Type 0} (old worked last : ArraysView K V) (started : TicketStat
       → Finishes old (Some success) last
   finishes answer ends none =
       let done = finished answer none ends in
-      let left = h.is_left in
-      record { none_open = done.0; none = tt; one = (omega (arith, left, long), done.1, done.2) }
+      record { none_open = done.0; none = tt; one = (omega (arith, h.is_left, long), done.1, done.2) }
 
 -- an old array of which no ticket is open has a unit left
 pub finishes_none : {K V : Type 0} (old new : ArraysView K V) → Starts old.tickets None new.tickets
     → new ≡ record old { tickets = new.tickets } → LosesNoUnit old.linked old.tickets → old.tickets.open_units ≡ [] → Finishes old None new
 finishes_none {K} {V} old new starts is loses none =
-    let no_open = ap (λ (us : List ℕ). length us) none in
     let same = none_changed old new starts is in
     record {
       none_open = ap (λ (a : ArraysView K V). a.tickets.open_units) same ∙ none;
@@ -78,7 +70,7 @@ finishes_none {K} {V} old new starts is loses none =
             | inl left ↦ absurd (omega (arith, handed, left))
             | inr left ↦ let less = (rw none at left.1).1 in absurd (omega (arith, less))
           ]
-          | inr full ↦ absurd (omega (arith, full, no_open))
+          | inr full ↦ absurd (omega (arith, full, ap (λ (us : List ℕ). length us) none))
         ]
       ];
       one = tt;

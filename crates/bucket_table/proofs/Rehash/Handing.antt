@@ -1,12 +1,11 @@
 -- What one start and one end of a ticket do to the list of open units.
-use Rattle.bucket_table.proofs.Words.{Bool, Contains, Ends, HandsOut, IsPermutation, IsPermutation-sym, List, TicketState, [], ap, false}
-use Rattle.bucket_table.proofs.Words.{false≢true, get_or, length, subst, sym, true, ℕ, ◌*◌, ◌++◌, ◌+◌, ◌<◌, ◌∙◌, ◌∷◌, ◌≡◌}
+use Rattle.bucket_table.proofs.Words.{Bool, Closes, Contains, Ends, HandsOut, IsOver, IsPermutation, IsPermutation-sym, List, TicketState}
+use Rattle.bucket_table.proofs.Words.{ℕ, [], ap, false, false≢true, get_or, length, subst, sym, true, ◌*◌, ◌++◌, ◌+◌, ◌<◌, ◌∙◌, ◌∷◌, ◌≡◌}
 use Rattle.std.proofs.lemmas.List.{get_or_read}
 use Rattle.std.proofs.lemmas.List.Sorted.{IsPermutation-swap_remove, IsPermutation-to_front}
 use Rattle.std.specs.List.{swap_remove}
 use Rattle.std.specs.Prelude.{IsTrue, Ok, slice_index, ◌↔◌}
 use Rattle.bucket_table.specs.Rehash.State.{IsOpen}
-use Rattle.bucket_table.specs.Rehash.Steps.{Closes, IsOver}
 use Rattle.bucket_table.proofs.Rehash.Covering.{position_after}
 
 pub handed_out : (seen before after : TicketState) (ticket : ℕ) → seen ≡ before

@@ -1,7 +1,7 @@
 -- Which old buckets are killed, and no others.
-use Rattle.bucket_table.proofs.Words.{ArraysView, BucketView, IsInRange, KillsOnly, List, RelocatesAt, arith, cases_eq, empty_bucket}
-use Rattle.bucket_table.proofs.Words.{get_or-set_other, inl, inr, length, length-set, subst, sym, ℕ, ◌*◌, ◌+◌, ◌≡◌, ◌≤◌}
-use Rattle.bucket_table.specs.Rehash.Units.{HasWorkedUnits, IsDue}
+use Rattle.bucket_table.proofs.Words.{ArraysView, BucketView, HasWorkedUnits, IsInRange, KillsOnly, List, RelocatesAt, ℕ, arith, cases_eq}
+use Rattle.bucket_table.proofs.Words.{empty_bucket, get_or-set_other, inl, inr, length, length-set, subst, sym, ◌*◌, ◌+◌, ◌≡◌, ◌≤◌}
+use Rattle.bucket_table.specs.Rehash.Units.{IsDue}
 
 module _ {K V : Type 0} where
   pub only_same : (IsOne : ℕ → Type 0) (old mid new : List (BucketView K V)) → KillsOnly IsOne old mid → new ≡ mid → KillsOnly IsOne old new
@@ -41,9 +41,7 @@ module _ {K V : Type 0} where
   pub due_before : (A B : ℕ → Type 0) (first second : ℕ) (old mid : ArraysView K V) (i : ℕ) → HasWorkedUnits first old mid
       → length mid.current ≡ length old.current → ((j : ℕ) → A j → B j) → IsDue second A mid i → IsDue (first + second) B old i
   due_before A B first second old mid i run len wider due =
-      let least = run.least in
-      let most = run.most in
       elim due [
-        | inl unit ↦ inl (omega (arith, unit.0, least), omega (arith, unit.1, most))
+        | inl unit ↦ inl (omega (arith, unit.0, run.least), omega (arith, unit.1, run.most))
         | inr (index, ready, source) ↦ inr (index, wider index ready, rw (run.len, len) at source)
       ]

@@ -1,12 +1,11 @@
 -- A bucket's move, as the arrays see it.
-use Rattle.bucket_table.proofs.Words.{All, All-cons, All-nil, AreArrays, ArePlaced, AreTwoArrays, ArraysView, Bool, BucketView, Err}
-use Rattle.bucket_table.proofs.Words.{HasNoNewMark, IsPermutation, IsPermutation-refl, IsUnmoved, KeepsArrays, KeepsEntries, List}
-use Rattle.bucket_table.proofs.Words.{LosesNoUnit, Ok, OnErr, OnOk, RelocatesAt, Result, TicketState, [], ap, arith, bucket_at, cases_eq}
-use Rattle.bucket_table.proofs.Words.{empty_bucket, entries_among, get_or-set_other, inl, inr, killed_flags, length, length-set, map-set}
-use Rattle.bucket_table.proofs.Words.{marks_among, no_new-refl, pairs_in, refl, set, suc, sym, true, ℕ, ◌++◌, ◌<◌, ◌∙◌, ◌∷◌, ◌≡◌}
+use Rattle.bucket_table.proofs.Words.{All, All-cons, All-nil, AreArrays, ArePlaced, AreTwoArrays, ArraysView, Bool, BucketView}
+use Rattle.bucket_table.proofs.Words.{CarriesOrder, CarriesRecency, Err, HasNoNewMark, IsPermutation, IsPermutation-refl, IsUnmoved}
+use Rattle.bucket_table.proofs.Words.{KeepsArrays, KeepsEntries, List, LosesNoUnit, Ok, OnErr, OnOk, RelocatesAt, Result, TicketState, ℕ}
+use Rattle.bucket_table.proofs.Words.{[], ap, arith, bucket_at, cases_eq, empty_bucket, entries_among, get_or-set_other, inl, inr}
+use Rattle.bucket_table.proofs.Words.{killed_flags, length, length-set, map-set, marks_among, no_new-refl, pairs_in, refl, set, suc, sym}
+use Rattle.bucket_table.proofs.Words.{true, ◌++◌, ◌<◌, ◌∙◌, ◌∷◌, ◌≡◌}
 use Rattle.std.proofs.Common.{get_or-set_same}
-use Rattle.bucket_table.specs.Layout.Landings.{CarriesRecency}
-use Rattle.bucket_table.specs.Rehash.Carrying.{CarriesOrder}
 use Rattle.bucket_table.specs.Rehash.Relocation.{IsRelocated}
 use Rattle.bucket_table.proofs.Moves.CarriedOrder.{carries_unmoved, order_one}
 use Rattle.bucket_table.proofs.Rehash.Covering.{covered_work}
@@ -27,10 +26,9 @@ module _ {K V : Type 0} where
   same_buckets [] (b ∷ bs) len each = absurd (omega arith)
   same_buckets (a ∷ xs) [] len each = absurd (omega arith)
   same_buckets (a ∷ xs) (b ∷ bs) len each =
-      let front : a ≡ b = each 0 (omega arith) in
       let rest : xs ≡ bs = same_buckets xs bs (omega arith) (λ i below. each (suc i) (omega arith))
       in
-      rw (front, rest) refl
+      rw (each 0 (omega arith), rest) refl
 
   -- an array that differs at one index
   pub set_is : (l m : List (BucketView K V)) (index : ℕ) → index < length l → length m ≡ length l
@@ -50,10 +48,9 @@ module _ {K V : Type 0} where
   loses_none : (hash : K → ℕ) (index : ℕ) (c l d m : List (BucketView K V)) (tickets : TicketState) → index < length l
       → IsRelocated index c l d m → AreTwoArrays hash d m → LosesNoUnit l tickets → LosesNoUnit m tickets
   loses_none hash index c l d m tickets within moved law was =
-      let flags = length-killed_flags l in
       record {
         covered = rw (set_is l m index within moved.linked_len moved.other_linked, flags_set l index (bucket_at m index) moved.killed)
-            (covered_work (killed_flags l) index tickets (omega (arith, within, flags)) was.covered);
+            (covered_work (killed_flags l) index tickets (omega (arith, within, length-killed_flags l)) was.covered);
         going_on = λ some. let long = moved.linked_len in was.going_on (omega (arith, some, long));
         emptied = all_buckets (λ (b : BucketView K V). b.killed ≡ true → pairs_in b ≡ []) m law.killed_empty;
       }

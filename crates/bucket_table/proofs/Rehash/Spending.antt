@@ -1,7 +1,7 @@
 -- Old buckets whose pairs move on.
-use Rattle.bucket_table.proofs.Words.{ArraysView, BucketView, IsUnmoved, List, RelocatesAt, SpendsSome, [], ap, arith, bucket_at, inl}
-use Rattle.bucket_table.proofs.Words.{cases_eq, empty_bucket, get_or-set_other, get_or-set_same, inr, length, marks_in, pairs_in, refl}
-use Rattle.bucket_table.proofs.Words.{subst, sym, true, ℕ, ◌<◌, ◌∙◌, ◌≡◌, ◌≤◌}
+use Rattle.bucket_table.proofs.Words.{ArraysView, BucketView, IsUnmoved, List, RelocatesAt, SpendsSome, ℕ, [], ap, arith, bucket_at}
+use Rattle.bucket_table.proofs.Words.{cases_eq, empty_bucket, get_or-set_other, get_or-set_same, inl, inr, length, marks_in, pairs_in, refl}
+use Rattle.bucket_table.proofs.Words.{subst, sym, true, ◌<◌, ◌∙◌, ◌≡◌, ◌≤◌}
 
 module _ {K V : Type 0} where
   -- a bucket whose pairs have moved on

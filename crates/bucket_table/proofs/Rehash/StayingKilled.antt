@@ -1,5 +1,5 @@
 -- Sources that are killed stay so.
-use Rattle.bucket_table.proofs.Words.{AreSourcesKilled, ArraysView, WorksUnits, arith, length, ℕ, ◌≡◌}
+use Rattle.bucket_table.proofs.Words.{AreSourcesKilled, ArraysView, WorksUnits, ℕ, arith, length, ◌≡◌}
 use Rattle.bucket_table.proofs.Rehash.UnitRuns.{units_still}
 
 module _ {K V : Type 0} where
@@ -8,5 +8,4 @@ module _ {K V : Type 0} where
       → AreSourcesKilled old index → AreSourcesKilled new index
   sources_still steps old new index units len dead = λ i below meets.
       let kept = units_still steps old new units (omega (arith, below)) in
-      let long = kept.len in
-      kept.still i (dead i (omega (arith, below, long)) (rw (long, len) at meets))
+      kept.still i (dead i (omega (arith, below, kept.len)) (rw (kept.len, len) at meets))

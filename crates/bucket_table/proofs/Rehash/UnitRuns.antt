@@ -1,8 +1,8 @@
 -- Steps that each may work a unit, one after another.
-use Rattle.bucket_table.proofs.Words.{ArraysView, IsInRange, KillsOnly, Meets, SpendsSome, TicketState, WorksUnits, ap, arith, bucket_at}
-use Rattle.bucket_table.proofs.Words.{cases_lt, inl, inr, length, refl, true, ℕ, ◌*◌, ◌+◌, ◌-◌, ◌<◌, ◌↔◌, ◌∙◌, ◌≡◌}
+use Rattle.bucket_table.proofs.Words.{ArraysView, HasWorkedUnits, IsInRange, KillsOnly, Meets, RelocatesSome, SpendsSome, TicketState}
+use Rattle.bucket_table.proofs.Words.{WorksUnits, ℕ, ap, arith, bucket_at, cases_lt, inl, inr, length, refl, true, ◌*◌, ◌+◌, ◌-◌, ◌<◌, ◌↔◌}
+use Rattle.bucket_table.proofs.Words.{◌∙◌, ◌≡◌}
 use Rattle.bucket_table.specs.Views.Keeping.{StayKilled}
-use Rattle.bucket_table.specs.Rehash.Units.{HasWorkedUnits, RelocatesSome}
 use Rattle.bucket_table.proofs.Rehash.Killing.{due_before, due_wider, only_same}
 use Rattle.bucket_table.proofs.Rehash.Spending.{spends_both, spends_few, spends_killed, spends_same}
 use Rattle.bucket_table.proofs.Views.Keeping.{kept_none, stay_killed_same}
@@ -37,21 +37,16 @@ module _ {K V : Type 0} where
   runs_both first second old mid last same_len a b =
       let p : ℕ = old.tickets.position in
       let q : ℕ = mid.tickets.position in
-      let len_a = a.len in
       let len_b = b.len in
-      let open_a = a.open_len in
-      let least_a = a.least in
       let least_b = b.least in
-      let most_a = a.most in
-      let most_b = b.most in
       let still : (i : ℕ) → (bucket_at mid.linked i).killed ≡ true → (bucket_at last.linked i).killed ≡ true = λ i. spends_killed mid.linked
       last.linked i b.spent in
       record {
-        len = len_b ∙ len_a;
+        len = len_b ∙ a.len;
         spent = spends_both old.linked mid.linked last.linked a.spent b.spent;
-        open_len = b.open_len ∙ open_a;
-        least = omega (arith, least_a, least_b);
-        most = omega (arith, most_a, most_b);
+        open_len = b.open_len ∙ a.open_len;
+        least = omega (arith, a.least, least_b);
+        most = omega (arith, a.most, b.most);
         worked = λ count few needs. elim (cases_lt first count) [
           | inr early ↦
               let done = a.worked count early needs in
@@ -63,19 +58,18 @@ module _ {K V : Type 0} where
                 killed = λ i low high within. still i (done.killed i low high (omega (arith, within, len_b)));
               }
           | inl late ↦
-              let room = needs.has_room in
               let shorter = needs.easy.no_shorter in
               let done = a.worked first (omega arith) (record {
-                has_room = room;
+                has_room = needs.has_room;
                 easy = record { no_shorter = shorter; few = λ i low high. needs.easy.few i low (omega (arith, high, late)) };
               }) in
               elim done.position [
                 | inl past ↦
-                    let at : q ≡ p + first = omega (arith, past, most_a) in
+                    let at : q ≡ p + first = omega (arith, past, a.most) in
                     let rest = b.worked (count - first) (omega (arith, few, late)) (record {
-                      has_room = omega (arith, room, open_a);
+                      has_room = omega (arith, needs.has_room, a.open_len);
                       easy = record {
-                        no_shorter = omega (arith, shorter, len_a, same_len);
+                        no_shorter = omega (arith, shorter, a.len, same_len);
                         few = λ i low high. spends_few old.linked mid.linked i 32 a.spent (needs.easy.few i (omega (arith, low, at))
                             (omega (arith, high, at, late)));
                       };
@@ -93,7 +87,7 @@ module _ {K V : Type 0} where
                 | inr over ↦
                     record {
                       position = inr (omega (arith, over, least_b, len_b));
-                      killed = λ i low high within. still i (done.killed i low (omega (arith, over, most_a, within, len_b))
+                      killed = λ i low high within. still i (done.killed i low (omega (arith, over, a.most, within, len_b))
                           (omega (arith, within, len_b)));
                     }
               ]
@@ -106,8 +100,7 @@ module _ {K V : Type 0} where
   units_both {A} {B} C first second old mid last some others len a b = record {
     stands = λ stands.
         let run = b.stands stands in
-        let there = run.len in
-        runs_both first second old mid last len (a.stands (omega (arith, stands, there))) run;
+        runs_both first second old mid last len (a.stands (omega (arith, stands, run.len))) run;
     only = λ i alive. elim (a.only i alive) [
       | inl due ↦ inl (due_wider A C first (first + second) old i (omega arith) some due)
       | inr still ↦ elim (b.only i still) [

@@ -1,8 +1,8 @@
 -- Old buckets that are relocated one after another.
-use Rattle.bucket_table.proofs.Words.{ArraysView, Bool, BucketView, IsUnmoved, List, RelocatesAt, arith, bucket_at, cases_eq, empty_bucket}
-use Rattle.bucket_table.proofs.Words.{false, false≢true, get_or-set_other, get_or-set_same, inl, inr, length, length-set, refl, set, true}
-use Rattle.bucket_table.proofs.Words.{ℕ, ◌*◌, ◌+◌, ◌<◌, ◌∙◌, ◌≡◌, ◌≢◌, ◌≤◌}
-use Rattle.bucket_table.specs.Rehash.Units.{AreKilled, RelocatesSome, WorksRange, WorksUnit}
+use Rattle.bucket_table.proofs.Words.{ArraysView, Bool, BucketView, IsUnmoved, List, RelocatesAt, RelocatesSome, WorksUnit, ℕ, arith}
+use Rattle.bucket_table.proofs.Words.{bucket_at, cases_eq, empty_bucket, false, false≢true, get_or-set_other, get_or-set_same, inl, inr}
+use Rattle.bucket_table.proofs.Words.{length, length-set, refl, set, true, ◌*◌, ◌+◌, ◌<◌, ◌∙◌, ◌≡◌, ◌≢◌, ◌≤◌}
+use Rattle.bucket_table.specs.Rehash.Units.{AreKilled, WorksRange}
 use Rattle.bucket_table.proofs.Views.Keeping.{kept_both, kept_none}
 use Rattle.bucket_table.proofs.Views.Killed.{get_or-killed_flags, length-killed_flags}
 

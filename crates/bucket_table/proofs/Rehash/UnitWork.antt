@@ -1,20 +1,17 @@
 -- A unit whose ticket is handed out, worked and ended.
-use Rattle.bucket_table.proofs.Words.{ArraysView, Bool, Contains-permutation, Ends, EndsRehash, Err, HandsOut, IsInRange, IsPermutation}
-use Rattle.bucket_table.proofs.Words.{IsPermutation-refl, IsTrue, KeepsArrays, KeepsOpenTickets, KillsOnly, List, LosesNoUnit, None, Ok}
-use Rattle.bucket_table.proofs.Words.{Option, Result, Some, SpendsSome, Starts, TicketState, WorksUnits, [], ap, arith, bucket_at}
+use Rattle.bucket_table.proofs.Words.{ArraysView, Bool, Closes, Contains-permutation, Ends, EndsRehash, Err, HandsOut, HasWorkedUnits}
+use Rattle.bucket_table.proofs.Words.{IsInRange, IsOver, IsPermutation, IsPermutation-refl, IsTrue, IsUnitKilled, KeepsArrays}
+use Rattle.bucket_table.proofs.Words.{KeepsOpenTickets, KillsOnly, List, LosesNoUnit, None, NotDone, NotOpen, Ok, Option, Result, Some}
+use Rattle.bucket_table.proofs.Words.{SpendsSome, Starts, TicketError, TicketState, WorksUnit, WorksUnits, ℕ, ap, arith, bucket_at}
 use Rattle.bucket_table.proofs.Words.{cases_Bool, cases_eq, cond, entries_of, false, inl, inr, killed_flags, length, length_permutation}
-use Rattle.bucket_table.proofs.Words.{no_new-trans, refl, sum_by-cons, sym, true, true≢false, ℕ, ◌*◌, ◌+◌, ◌/◌, ◌<◌, ◌==◌, ◌↔◌, ◌∙◌, ◌∷◌}
-use Rattle.bucket_table.proofs.Words.{◌≡◌, ◌≤◌}
+use Rattle.bucket_table.proofs.Words.{no_new-trans, refl, sum_by-cons, sym, true, true≢false, ◌*◌, ◌+◌, ◌/◌, ◌<◌, ◌==◌, ◌↔◌, ◌∙◌, ◌∷◌, ◌≡◌}
+use Rattle.bucket_table.proofs.Words.{◌≤◌}
 use Rattle.std.proofs.lemmas.List.Elements.{Contains-get_or}
 use Rattle.std.proofs.lemmas.List.Sorted.{sum_by-IsPermutation}
 use Rattle.std.specs.List.{count_by, sum_by}
-use Rattle.bucket_table.specs.Rehash.Covered.{IsUnitKilled}
-use Rattle.bucket_table.specs.Rehash.Steps.{Closes, IsOver}
-use Rattle.bucket_table.specs.Rehash.Units.{HasWorkedUnits, IsAlive, NeedsNoMemory, UnitsNeedNoMemory, WorksUnit}
-use Rattle.bucket_table.specs.declared.tickets.TicketError.{TicketError}
-use Rattle.bucket_table.specs.declared.tickets.TicketError.TheVariants.{NotDone, NotOpen}
+use Rattle.bucket_table.specs.Rehash.Units.{IsAlive, NeedsNoMemory, UnitsNeedNoMemory}
 use Rattle.bucket_table.proofs.Rehash.Covering.{position_after}
-use Rattle.bucket_table.proofs.Moves.CarriedOrder.{order_both}
+use Rattle.bucket_table.proofs.Moves.CarriedOrder.{order_at_other_tickets, order_both}
 use Rattle.bucket_table.proofs.Rehash.Ending.{EndsBy, ended_entries, ended_order, marks_ended, others_ended}
 use Rattle.bucket_table.proofs.Views.Killed.{get_or-killed_flags, length-killed_flags}
 
@@ -23,11 +20,10 @@ bag_back : (unit other : ℕ) (was started is : List ℕ) → IsPermutation (oth
     → count_by (λ (u : ℕ). u == unit) is ≡ count_by (λ (u : ℕ). u == unit) was
 bag_back unit other was started is joined left =
     let one : ℕ → ℕ = λ u. cond (u == unit) 1 0 in
-    let a = sum_by-IsPermutation one (other ∷ was) started joined in
     let b = sum_by-IsPermutation one started (other ∷ is) left in
     let c = sum_by-cons one other was in
     let d = sum_by-cons one other is in
-    let e : sum_by one is ≡ sum_by one was = omega (arith, a, b, c, d) in
+    let e : sum_by one is ≡ sum_by one was = omega (arith, sum_by-IsPermutation one (other ∷ was) started joined, b, c, d) in
     e
 
 module _ (before started : TicketState) (ticket : ℕ) (h : HandsOut before ticket started) where
@@ -35,8 +31,7 @@ module _ (before started : TicketState) (ticket : ℕ) (h : HandsOut before tick
   pub closed : (success : Bool) (Done : Type 0) (gone : Bool) (after : TicketState) → Ends started ticket success Done (Ok gone) after
       → Closes started before.position success after × (IsTrue gone ↔ ((success ≡ true) × IsOver after))
   closed success Done gone after (unit, ticket_is, done, closes, goes) =
-      let handed = h.ticket_is in
-      let same : unit ≡ before.position = omega (arith, handed, ticket_is) in
+      let same : unit ≡ before.position = omega (arith, h.ticket_is, ticket_is) in
       (rw same at closes, goes)
 
   bag_closed : (success : Bool) (after : TicketState) → Closes started before.position success after → KeepsOpenTickets before after
@@ -67,9 +62,7 @@ module _ {K V : Type 0} (old worked last : ArraysView K V) (started : TicketStat
       (ends_now (Err error) last.tickets ends.0))
   bag_ended (Ok true) ends =
       let (closes, goes) = closed old.tickets started ticket h success Killed true ends.0.0 (ends_now (Ok true) ends.0.0 ends.0.1) in
-      let over : ends.0.0.open_units ≡ [] = (goes.0 refl).1.0 in
-      let bag = bag_closed old.tickets started ticket h success ends.0.0 closes in
-      λ unit. rw ends.2 (rw over at (bag unit))
+      λ unit. rw ends.2 (rw ((goes.0 refl).1.0) at ((bag_closed old.tickets started ticket h success ends.0.0 closes) unit))
   bag_ended (Ok false) ends =
       let (closes, goes) = closed old.tickets started ticket h success Killed false last.tickets
       (ends_now (Ok false) last.tickets ends.0) in
@@ -82,7 +75,6 @@ module _ {K V : Type 0} (old worked last : ArraysView K V) (started : TicketStat
       let (minimum, maximum, current) = others_ended worked last ticket success answer ends in
       let kept = w.0.kept in
       let same = ended_entries worked last ticket success answer loses ends in
-      let ended = ended_order worked last ticket success answer loses ends in
       record {
         keeps = record {
           pairs = rw same kept.keeps.pairs;
@@ -92,14 +84,8 @@ module _ {K V : Type 0} (old worked last : ArraysView K V) (started : TicketStat
           open_tickets = bag_ended answer ends;
         };
         current_len = rw current kept.current_len;
-        order = order_both old worked last kept.keeps.pairs (rw same (IsPermutation-refl (entries_of worked))) (record {
-          moved = kept.order.moved;
-          left = kept.order.left;
-          stay = kept.order.stay;
-          arrived = kept.order.arrived;
-          carried = kept.order.carried;
-          first = kept.order.first;
-        }) ended;
+        order = order_both old worked last kept.keeps.pairs (rw same (IsPermutation-refl (entries_of worked)))
+            (order_at_other_tickets started old worked kept.order) (ended_order worked last ticket success answer loses ends);
       }
 
   -- a unit that is easy is worked, and the next ticket is that of the next unit; one that isn't is handed out again
@@ -117,15 +103,13 @@ module _ {K V : Type 0} (old worked last : ArraysView K V) (started : TicketStat
 
     stayed : success ≡ false → last.tickets.position ≡ position
     stayed e =
-        let next = h.position_is in
         let back = closes.position_is ∙ ap (λ (s : Bool). position_after s started.position position) e in
-        omega (arith, next, back)
+        omega (arith, h.position_is, back)
 
     dead : success ≡ true → (i : ℕ) → 64 * position ≤ i → i < 64 * (position + 1) → i < length last.linked
         → (bucket_at last.linked i).killed ≡ true
     dead e i low high within =
-        let handed = h.ticket_is in
-        let unit : ticket / 2048 ≡ position = omega (arith, handed) in
+        let unit : ticket / 2048 ≡ position = omega (arith, h.ticket_is) in
         let inside : i < length worked.linked = rw linked_is at within in
         let flags = length-killed_flags worked.linked in
         rw linked_is (sym (get_or-killed_flags worked.linked i inside)
@@ -141,17 +125,13 @@ module _ {K V : Type 0} (old worked last : ArraysView K V) (started : TicketStat
     units_done = record {
       len = rw linked_is w.0.killed.len;
       spent = rw linked_is spends;
-      open_len =
-          let joined = length_permutation _ _ h.open_is in
-          let left = length_permutation _ _ closes.open_is in
-          omega (arith, joined, left);
+      open_len = omega (arith, length_permutation _ _ h.open_is, length_permutation _ _ closes.open_is);
       least = between.0;
       most = between.1;
       worked = λ count few easy_ones. elim (cases_eq count 1) [
         | inl one ↦
-            let m = moved (easy (rw one at easy_ones)) in
             record {
-              position = inl (omega (arith, m, one));
+              position = inl (omega (arith, moved (easy (rw one at easy_ones)), one));
               killed = λ i low high within. dead (easy (rw one at easy_ones)) i low (omega (arith, high, one)) within;
             }
         | inr other ↦
@@ -189,8 +169,7 @@ module _ {K V : Type 0} (old worked last : ArraysView K V) (started : TicketStat
       → KillsOnly (IsInRange (64 * (ticket / 2048)) (64 * (ticket / 2048) + 64)) old.linked worked.linked
       → EndsRehash worked ticket success answer last → WorksUnits 1 (λ index. ⊥) old last
   unit_runs answer long spends easy only ends =
-      let handed = h.ticket_is in
-      let unit : ticket / 2048 ≡ old.tickets.position = omega (arith, handed) in
+      let unit : ticket / 2048 ≡ old.tickets.position = omega (arith, h.ticket_is) in
       record {
         stands = unit_stands answer long spends easy ends;
         only = λ i alive. elim (only i alive) [
@@ -205,8 +184,7 @@ module _ {K V : Type 0} where
       → UnitsNeedNoMemory 1 old
       → NeedsNoMemory (64 * (ticket / 2048)) (64 * (ticket / 2048) + 64) (record old { tickets = started })
   easy_handed old started ticket h needs =
-      let handed = h.ticket_is in
-      let unit : ticket / 2048 ≡ old.tickets.position = omega (arith, handed) in
+      let unit : ticket / 2048 ≡ old.tickets.position = omega (arith, h.ticket_is) in
       record {
         no_shorter = needs.easy.no_shorter;
         few = λ i low high. needs.easy.few i (omega (arith, unit, low))

@@ -1,11 +1,9 @@
 -- Old buckets that didn't move, since memory was wanted.
-use Rattle.bucket_table.proofs.Words.{ArraysView, Bool, IsInRange, IsUnmoved, SpendsSome, WorksUnits, [], arith, bucket_at, cases_lt, false}
-use Rattle.bucket_table.proofs.Words.{Meets, inl, inr, killed_flags, length, refl, sym, true, ℕ, ◌*◌, ◌+◌, ◌/◌, ◌<◌, ◌↔◌, ◌∙◌, ◌≡◌, ◌≤◌}
-use Rattle.bucket_table.specs.Rehash.Covered.{IsCovered}
-use Rattle.bucket_table.specs.Rehash.State.{TicketState}
-use Rattle.bucket_table.specs.Rehash.Units.{NeedsNoMemory, RelocatesSome, WantsMemory}
+use Rattle.bucket_table.proofs.Words.{ArraysView, Bool, IsCovered, IsInRange, IsSource, IsUnmoved, Meets, RelocatesSome, SpendsSome}
+use Rattle.bucket_table.proofs.Words.{TicketState, WantsMemory, WorksUnits, ℕ, [], arith, bucket_at, cases_lt, false, inl, inr}
+use Rattle.bucket_table.proofs.Words.{killed_flags, length, refl, sym, true, ◌*◌, ◌+◌, ◌/◌, ◌<◌, ◌↔◌, ◌∙◌, ◌≡◌, ◌≤◌}
+use Rattle.bucket_table.specs.Rehash.Units.{NeedsNoMemory}
 use Rattle.bucket_table.proofs.Rehash.UnitSteps.{RelocatesRange}
-use Rattle.bucket_table.specs.Views.ArraysView.{IsSource}
 use Rattle.bucket_table.proofs.Rehash.Spending.{spends_few}
 use Rattle.bucket_table.proofs.Views.Killed.{get_or-killed_flags, length-killed_flags}
 
@@ -25,8 +23,7 @@ module _ {K V : Type 0} where
       → (0 < length new.linked → length new.linked ≡ length mid.linked) → WantsMemory IsOne mid new → WantsMemory IsOne old new
   wanted_before IsOne steps old mid new current units stays wants =
       let within = wants.within in
-      let len = stays (omega (arith, within)) in
-      let run = units.stands (omega (arith, within, len)) in
+      let run = units.stands (omega (arith, within, stays (omega (arith, within)))) in
       record {
         index = wants.index;
         one = wants.one;
@@ -41,14 +38,13 @@ module _ {K V : Type 0} where
       → SpendsSome old.linked mid.linked → IsUnmoved mid new → start ≤ index → index < end → end ≤ length old.linked
       → (bucket_at mid.linked index).killed ≡ false → (NeedsNoMemory index (index + 1) mid → ⊥) → WantsMemory (IsInRange start end) old new
   range_wants start index end old mid new done spent same low high within alive needed =
-      let len = done.some.killed.len in
       record {
         index = index;
         one = (low, high);
-        within = rw same.linked_is (omega (arith, high, within, len));
+        within = rw same.linked_is (omega (arith, high, within, done.some.killed.len));
         before = λ i one less. rw same.linked_is (done.killed i one.0 less);
         alive = rw same.linked_is alive;
-        needed = λ needs. needed (spared index old mid done.some.kept.current_len len spent needs);
+        needed = λ needs. needed (spared index old mid done.some.kept.current_len done.some.killed.len spent needs);
       }
 
   -- where no bucket of those needed memory at entry, none is wanted

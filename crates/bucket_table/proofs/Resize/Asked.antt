@@ -1,6 +1,6 @@
 -- When a resize is looked into, by what the code reads.
-use Rattle.bucket_table.proofs.Words.{ArraysView, AsksShrinking, Bool, BucketView, IsTrue, List, arith, cases_lt, false, false≢true, length}
-use Rattle.bucket_table.proofs.Words.{live_counts, slots_of, subst, sym, ℕ, ⊎_elim, ◌<◌, ◌↔◌, ◌∙◌, ◌≡◌, ◌≤◌}
+use Rattle.bucket_table.proofs.Words.{ArraysView, AsksShrinking, Bool, BucketView, IsTrue, List, ℕ, arith, cases_lt, false, false≢true}
+use Rattle.bucket_table.proofs.Words.{length, live_counts, slots_of, subst, sym, ⊎_elim, ◌<◌, ◌↔◌, ◌∙◌, ◌≡◌, ◌≤◌}
 use Rattle.bucket_table.specs.Resize.Asking.{AsksGrowth}
 use Rattle.bucket_table.specs.Resize.Sampling.{IsCrowded, IsDeserted}
 

@@ -1,26 +1,20 @@
 -- The pairs of a bucket by age, and of a row of buckets: of the own slots each is taken once.
-use Rattle.bucket_table.proofs.Words.{ArraysView, BucketView, IsPermutation, IsPermutation-refl, IsPermutation-trans, List}
-use Rattle.bucket_table.proofs.Words.{Slot, [], ap, arith, cases_eq, empty_bucket, eq-eqb}
-use Rattle.bucket_table.proofs.Words.{false, false≢true, flattened, get_or, inl, inr, is_listed, length, live_pair, live_pairs, map}
-use Rattle.bucket_table.proofs.Words.{pairs_in, pairs_of, refl, slot_at, suc, sym, take, true, zero, ℕ, ◌++◌, ◌+◌, ◌-◌, ◌<◌, ◌∙◌}
-use Rattle.bucket_table.proofs.Words.{◌∷◌, ◌≡◌, ◌≢◌, ◌≤◌}
-use Rattle.std.proofs.Common.{drop}
-use Rattle.std.proofs.lemmas.Bool.{ne_eqb, or_parts}
-use Rattle.std.proofs.lemmas.List.{at_drop_more, drop-set-lt, map_more, reverse-append, take_all}
-use Rattle.std.proofs.lemmas.List.Elements.{filter_map-append}
-use Rattle.std.proofs.lemmas.List.Folds.{list_any_at}
-use Rattle.std.proofs.lemmas.List.Sorted.{IsPermutation-append, IsPermutation-append_comm, IsPermutation-reverse}
+use Rattle.bucket_table.proofs.Words.{ArraysView, BucketView, IsPermutation, IsPermutation-append_comm, IsPermutation-refl}
+use Rattle.bucket_table.proofs.Words.{IsPermutation-trans, List, Slot, ℕ, [], all_by_age, ap, append_assoc, arith, arrays_by_age, bucket_at}
+use Rattle.bucket_table.proofs.Words.{cases_eq, chain_pairs, drop, empty_bucket, eq-eqb, false, false≢true, filter_map-append, flattened}
+use Rattle.bucket_table.proofs.Words.{get_or, inl, inr, is_listed, length, list_any_at, live_pair, live_pairs, map, ne_eqb, order_without}
+use Rattle.bucket_table.proofs.Words.{own_backwards, own_by_age, own_left, pairs_in, pairs_in_all, pairs_of, refl, row_of, row_with}
+use Rattle.bucket_table.proofs.Words.{slot_at, slots_by_use, suc, sym, take, take_all, true, zero, ◌++◌, ◌+◌, ◌-◌, ◌<◌, ◌∙◌, ◌∷◌, ◌≡◌, ◌≢◌}
+use Rattle.bucket_table.proofs.Words.{◌≤◌}
+use Rattle.std.proofs.lemmas.Bool.{or_parts}
+use Rattle.std.proofs.lemmas.List.{at_drop_more, drop-set-lt, map_more, reverse-append}
+use Rattle.std.proofs.lemmas.List.Sorted.{IsPermutation-append, IsPermutation-reverse}
 use Rattle.std.specs.List.{range_with_len}
 use Rattle.std.specs.Prelude.{reverse}
-use Rattle.bucket_slots.specs.ByUse.{each_once, slots_by_use}
-use Rattle.bucket_slots.specs.Recency.{order_without}
+use Rattle.bucket_slots.specs.ByUse.{each_once}
 use Rattle.bucket_slots.proofs.Recency.Orders.{eqb-same, is_listed-order_without, listed_apart}
-use Rattle.bucket_table.specs.Map.LookingUp.{pairs_in_all}
-use Rattle.bucket_table.specs.Resize.Renewing.{all_by_age, arrays_by_age, chain_pairs, own_backwards, own_by_age, pairs_by_age}
-use Rattle.bucket_table.specs.Walking.Row.{row_of, row_with}
+use Rattle.bucket_table.specs.Resize.Renewing.{pairs_by_age}
 use Rattle.bucket_table.proofs.Walking.Row.{row_of-row_with}
-use Rattle.bucket_table.proofs.Words.{append_assoc, bucket_at}
-use Rattle.bucket_table.specs.Walking.ByUse.{own_left}
 use Rattle.bucket_table.proofs.Map.LookUps.{pairs_are}
 use Rattle.bucket_table.proofs.Walking.EachByUse.{other_listed, own_by_use}
 use Rattle.bucket_table.proofs.Walking.Filters.{IsPermutation-filter_map}
@@ -59,9 +53,8 @@ module _ {K V : Type 0} where
   slots_stay old new slot [] others absent = refl
   slots_stay old new slot (first ∷ slots) others absent =
       let (isnt, later) = or_parts _ (is_listed slots slot) absent in
-      let here = others first (λ same. false≢true (sym isnt ∙ eq-eqb slot first (sym same))) in
       let rest = slots_stay old new slot slots others later in
-      λ i. here i ∷ rest i
+      λ i. (others first (λ same. false≢true (sym isnt ∙ eq-eqb slot first (sym same)))) i ∷ rest i
 
   -- of some slots the last one's pair comes first, and taking it leaves the others
   takes_at : (old new : BucketView K V) (slots : List ℕ) (i d : ℕ) → IsOnce slots → i < length slots

@@ -1,16 +1,14 @@
 -- The pairs of a bucket's chain, behind its own slots: a walk that takes them out leaves these.
-use Rattle.bucket_table.proofs.Words.{Bool, BucketView, List, MovesToNext, None, Option, Place, Slot, Some, ap, arith, false, false≢true}
-use Rattle.bucket_table.proofs.Words.{flattened, free, is_live, length, live_pair, live_pairs, nat_lt, pairs_ahead, refl, slot_in}
-use Rattle.bucket_table.proofs.Words.{slots_without, suc, sym, true, zero, ℕ, ◌++◌, ◌+◌, ◌<◌, ◌∙◌, ◌∷◌, ◌≡◌, ◌≤◌}
-use Rattle.std.proofs.Common.{cond, drop}
-use Rattle.std.proofs.lemmas.List.{drop_all}
-use Rattle.std.specs.Option.{is_some, option_map, option_or}
-use Rattle.bucket_slots.specs.BucketView.{block_at, first_from, place_or_null, row_at, rows_with}
+use Rattle.bucket_table.proofs.Words.{Bool, BucketView, List, MovesToNext, None, Option, Place, Slot, Some, ℕ, ap, arith, block_at}
+use Rattle.bucket_table.proofs.Words.{chain_pairs, cond, drop, drop_all, false, false≢true, flattened, free, is_live, length, live_pair}
+use Rattle.bucket_table.proofs.Words.{live_pairs, nat_lt, option_or, pairs_ahead, refl, row_at, rows_with, slot_in, slots_without, suc, sym}
+use Rattle.bucket_table.proofs.Words.{true, zero, ◌++◌, ◌+◌, ◌<◌, ◌∙◌, ◌∷◌, ◌≡◌, ◌≤◌}
+use Rattle.std.specs.Option.{is_some, option_map}
+use Rattle.bucket_slots.specs.BucketView.{first_from, place_or_null}
 use Rattle.bucket_slots.specs.Removing.{place_after, place_after_at, slots_without_at}
 use Rattle.bucket_slots.specs.Slots.{all_free}
 use Rattle.bucket_slots.specs.Walking.{next_in, next_place, position_after}
 use Rattle.bucket_slots.proofs.FirstPlaces.{first_from-Some}
-use Rattle.bucket_table.specs.Resize.Renewing.{chain_pairs}
 use Rattle.bucket_table.proofs.Walking.Row.{moves_past}
 
 -- a place that was found
@@ -40,8 +38,7 @@ module _ {K V : Type 0} where
       → block ≤ next.block
   found_behind block rows (Some pos) next is =
       let same : record { block = block; pos = pos } ≡ next = cc in
-      let number : block ≡ next.block = ap (λ (p : Place). p.block) same in
-      omega (arith, number)
+      omega (arith, ap (λ (p : Place). p.block) same)
   found_behind block rows None next is = let later = (first_from-Some is_live (block + 1) rows next is).0 in omega (arith, later)
 
   -- and from the last own slot on it is in the chain
@@ -49,13 +46,11 @@ module _ {K V : Type 0} where
       → next_place bucket (record { block = block; pos = pos }) ≡ Some next → 0 < next.block
   found_in_chain bucket zero pos next long past is =
       let none : next_in 32 bucket.own ≡ None = rw (drop_all 32 bucket.own (omega (arith, long))) refl in
-      let first = rw (past refl, none) at is in
-      let later = (first_from-Some is_live 1 bucket.chain next first).0 in
+      let later = (first_from-Some is_live 1 bucket.chain next (rw (past refl, none) at is)).0 in
       omega (arith, later)
   found_in_chain bucket (suc block) pos next long past is =
       let here = next_in (position_after pos) (block_at bucket (suc block)) in
-      let behind = found_behind (suc block) (drop (suc block) bucket.chain) here next is in
-      omega (arith, behind)
+      omega (arith, found_behind (suc block) (drop (suc block) bucket.chain) here next is)
 
   -- the next pair is taken, and the others are ahead
   pub first_taken : (bucket left : BucketView K V) (at next after : Place) (pair : K × V) → MovesToNext bucket at next

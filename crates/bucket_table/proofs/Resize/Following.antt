@@ -1,8 +1,8 @@
 -- What arrays keep that are given up, pushed or made: their pairs, the bag of tickets and the law.
 use Rattle.bucket_table.proofs.Words.{All, All-nil, AreHome, ArePlaced, AreTwoArrays, ArraysView, BucketView, IsEntryHome, IsNewArray}
-use Rattle.bucket_table.proofs.Words.{IsPermutation-refl, IsVacant, Keeps, List, LosesNoUnit, [], ap, append-nil, arith, bucket_at}
-use Rattle.bucket_table.proofs.Words.{empty_bucket, entries_among, false, false≢true, first_tickets, get_or, inl, length, marks_among}
-use Rattle.bucket_table.proofs.Words.{nil_from_length, pairs_in, refl, replicate, suc, sym, true, zero, ℕ, ◌<◌, ◌∙◌, ◌∷◌, ◌≡◌}
+use Rattle.bucket_table.proofs.Words.{IsPermutation-refl, IsVacant, Keeps, List, LosesNoUnit, ℕ, [], ap, append-nil, arith, bucket_at}
+use Rattle.bucket_table.proofs.Words.{empty_bucket, entries_among, false, false≢true, first_tickets, get_or_default, inl, length}
+use Rattle.bucket_table.proofs.Words.{marks_among, nil_from_length, pairs_in, refl, replicate, suc, sym, true, zero, ◌<◌, ◌∙◌, ◌≡◌}
 use Rattle.std.proofs.lemmas.List.{get_or-replicate}
 use Rattle.bucket_slots.proofs.MarksAfter.{no_new-front, no_new-rest}
 use Rattle.bucket_table.specs.Resize.Resizing.{IsGivenUp, IsMade, IsPushed}
@@ -78,27 +78,17 @@ module _ {K V : Type 0} where
   }
 
   -- an old array whose rehash begins
-  begun : (buckets : List (BucketView K V)) → ((i : ℕ) → i < length buckets → (bucket_at buckets i).killed ≡ false)
+  pub rehash_begun : (buckets : List (BucketView K V)) → All (λ (b : BucketView K V). b.killed ≡ true → pairs_in b ≡ []) buckets
       → LosesNoUnit buckets (first_tickets (length buckets))
-  begun buckets alive = record {
+  rehash_begun buckets emptied = record {
     covered = record {
       same_len = length-killed_flags buckets;
       units_in_range = λ i d below. absurd (omega arith);
       done_or_open = λ unit below. absurd (omega arith);
     };
     going_on = λ some. inl (omega arith);
-    emptied = none_killed buckets alive;
+    emptied = emptied;
   }
-    where
-      any_default : (bs : List (BucketView K V)) (i : ℕ) (d e : BucketView K V) → i < length bs → get_or bs i d ≡ get_or bs i e
-      any_default [] i d e below = absurd (omega arith)
-      any_default (b ∷ bs) zero d e below = refl
-      any_default (b ∷ bs) (suc i) d e below = any_default bs i d e (omega arith)
-
-      none_killed : (bs : List (BucketView K V)) → ((i : ℕ) → i < length bs → (bucket_at bs i).killed ≡ false)
-          → All (λ (b : BucketView K V). b.killed ≡ true → pairs_in b ≡ []) bs
-      none_killed bs alive i d below dead =
-          absurd (false≢true (sym (alive i below) ∙ ap (λ (b : BucketView K V). b.killed) (any_default bs i empty_bucket d below) ∙ dead))
 
   -- the law after it
   pub given_up_placed : (hash : K → ℕ) (old new : ArraysView K V) → IsGivenUp old new → ArePlaced hash old → ArePlaced hash new
@@ -118,7 +108,8 @@ module _ {K V : Type 0} where
   pushed_placed hash capacity old new is law = rw is.new_is (record {
     homes = fresh_homes hash capacity is.fresh old.current is.fresh_is law.homes.current_home
         (λ i below dead. absurd (false≢true (sym (law.homes.alive i below) ∙ dead)));
-    rehashed = begun old.current law.homes.alive;
+    rehashed = rehash_begun old.current (λ i d below dead. absurd (false≢true (sym (law.homes.alive i below)
+        ∙ ap (λ (b : BucketView K V). b.killed) (get_or_default old.current i empty_bucket d below) ∙ dead)));
   })
 
   pub made_placed : (hash : K → ℕ) (old new : ArraysView K V) → IsMade old new → ArePlaced hash old → ArePlaced hash new

@@ -1,14 +1,14 @@
 -- When a writer looks into a growth, by what the code reads; and what the growth leaves.
-use Rattle.bucket_table.proofs.Words.{ArePlaced, ArraysView, Bool, BucketView, CACHE, Current, Err, IsHome, IsLocked, IsTrue, Keeps, List}
-use Rattle.bucket_table.proofs.Words.{Ok, Old, Result, Side, [], ap, arith, bucket_at, buckets_on, cases_lt, counted, entries_among}
-use Rattle.bucket_table.proofs.Words.{entries_in, false, false≢true, inl, inr, length, length-append, length-entries_in, nil_from_length}
-use Rattle.bucket_table.proofs.Words.{pairs_in, suc, sym, true, zero, ℕ, ◌*◌, ◌<◌, ◌↔◌, ◌∙◌, ◌∷◌, ◌≡◌, ◌≤◌}
+use Rattle.bucket_table.proofs.Words.{ArePlaced, ArraysView, Bool, BucketView, CACHE, Current, Err, Grows, IsHome, IsLocked, IsReady}
+use Rattle.bucket_table.proofs.Words.{IsTrue, Keeps, List, Ok, Old, Result, Side, TriesResize, WriterAsksGrowth, ℕ, [], ap, arith}
+use Rattle.bucket_table.proofs.Words.{bucket_at, buckets_on, cases_lt, counted, entries_among, entries_in, false, false≢true, inl, inr}
+use Rattle.bucket_table.proofs.Words.{length, length-append, length-entries_in, nil_from_length, pairs_in, suc, sym, true, zero, ◌*◌, ◌<◌}
+use Rattle.bucket_table.proofs.Words.{◌↔◌, ◌∙◌, ◌∷◌, ◌≡◌, ◌≤◌}
 use Rattle.bucket_slots.specs.Sampling.{StartsSampling}
 use Rattle.bucket_table.specs.Resize.Asking.{AsksGrowth}
-use Rattle.bucket_table.specs.Resize.Growing.{Grows, WriterAsksGrowth}
-use Rattle.bucket_table.specs.Map.Preparing.{IsReady}
-use Rattle.bucket_table.specs.Resize.Resizing.{MakesArray, TriesResize}
+use Rattle.bucket_table.specs.Resize.Resizing.{MakesArray}
 use Rattle.bucket_table.proofs.Views.Keeping.{keeps_same}
+use Rattle.bucket_table.proofs.Views.SideChanges.{locked_current}
 use Rattle.bucket_table.proofs.Resize.Following.{made_keeps, made_placed, new_vacant}
 
 module _ {K V : Type 0} (kind hash : ℕ) (arrays : ArraysView K V) (index : ℕ) (array : List (BucketView K V))
@@ -16,8 +16,7 @@ module _ {K V : Type 0} (kind hash : ℕ) (arrays : ArraysView K V) (index : ℕ
   pub not_full : (b : BucketView K V) (len : ℕ) → b ≡ bucket_at array index → len ≡ length (pairs_in b) → len < 31
       → WriterAsksGrowth kind hash arrays index → ⊥
   not_full b len here counted few asks =
-      let many = rw (← stands, ← here) at asks.full in
-      omega (arith, many, few, counted)
+      omega (arith, rw (← stands, ← here) at asks.full, few, counted)
 
   pub not_sampled : (tested : Bool) → (IsTrue tested ↔ StartsSampling (length array) hash) → tested ≡ false
       → WriterAsksGrowth kind hash arrays index → ⊥
@@ -47,10 +46,8 @@ module _ {K V : Type 0} where
       → 0 < length (pairs_in (bucket_at old index)) → ⊥
   no_live_here [] index empty within some = absurd (omega (arith, within))
   no_live_here (b ∷ bs) zero empty within some =
-      let both = length-append (entries_in b) (entries_among bs) in
-      let here = length-entries_in b in
       let none = ap (λ (es : List ((K × V) × ℕ)). length es) empty in
-      absurd (omega (arith, both, here, none, some))
+      absurd (omega (arith, length-append (entries_in b) (entries_among bs), length-entries_in b, none, some))
   no_live_here (b ∷ bs) (suc index) empty within some =
       let both = length-append (entries_in b) (entries_among bs) in
       let none = ap (λ (es : List ((K × V) × ℕ)). length es) empty in
@@ -84,12 +81,7 @@ module _ {K V : Type 0} where
 
   pub locked_ready : (hash index : ℕ) (arrays : ArraysView K V) → IsReady arrays hash → IsHome (length arrays.current) hash index
       → IsLocked arrays Current index
-  locked_ready hash index arrays ready home = record {
-    within = home.within;
-    killed = λ e. ready.killed index home;
-    alive = λ e. absurd cc;
-    vacant = λ e. absurd cc;
-  }
+  locked_ready hash index arrays ready home = locked_current arrays index home.within (ready.killed index home)
 
   -- a first array, where there is none
   pub kept_made : (old new : ArraysView K V) → MakesArray old new → Keeps old new

@@ -1,9 +1,9 @@
 -- There is one plan for an array.
-use Rattle.bucket_table.proofs.Words.{All, All-cons, All-head, All-tail, IsOptimalCapacity, List, [], ap, arith, cases_eq, cases_lt, inl}
-use Rattle.bucket_table.proofs.Words.{inr, length, refl, slots_of, subst, sym, ℕ, ⊎_elim, ◌*◌, ◌/◌, ◌<◌, ◌∙◌, ◌∷◌, ◌≡◌, ◌≤◌, ◌⊎◌}
+use Rattle.bucket_table.proofs.Words.{All, All-cons, All-head, All-tail, IsOptimalCapacity, IsPlan, IsPlanTo, List, Plan, ℕ, [], ap, arith}
+use Rattle.bucket_table.proofs.Words.{cases_eq, cases_lt, inl, inr, last_estimate, length, refl, slots_of, subst, sym, ⊎_elim, ◌*◌, ◌/◌}
+use Rattle.bucket_table.proofs.Words.{◌<◌, ◌∙◌, ◌∷◌, ◌≡◌, ◌≤◌, ◌⊎◌}
 use Rattle.bucket_slots.proofs.ArrayNumbers.{large_is_one, optimal_is_one}
-use Rattle.bucket_table.specs.Resize.ResizePlan.{IsPlan, IsPlanTo, first_estimate, last_estimate, middle_estimate}
-use Rattle.bucket_table.specs.declared.arrays.plan.Plan.{Plan}
+use Rattle.bucket_table.specs.Resize.ResizePlan.{first_estimate, middle_estimate}
 
 pub all_or_not : (counts : List ℕ) → All (λ count. count ≡ 0) counts ⊎ (All (λ count. count ≡ 0) counts → ⊥)
 all_or_not [] = inl (λ i d below. absurd (omega arith))

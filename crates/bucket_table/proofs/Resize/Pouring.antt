@@ -1,11 +1,11 @@
 -- Pairs put into a cache's array one after another: what is put after some was put after all.
-use Rattle.bucket_table.proofs.Words.{Bool, BucketView, IsDistinct, IsDistinct-IsPermutation, IsEquivalence, IsPermutation}
-use Rattle.bucket_table.proofs.Words.{IsPermutation-append_left, IsPermutation-append_right, IsPermutation-map, IsPermutation-refl}
-use Rattle.bucket_table.proofs.Words.{IsPermutation-trans, List, TableView, [], ap, append_assoc, arith, length, length-set, map, pairs_of}
-use Rattle.bucket_table.proofs.Words.{refl, subst, sym, ℕ, ◌++◌, ◌∙◌, ◌∷◌, ◌≡◌}
-use Rattle.std.proofs.lemmas.List.Sorted.{IsPermutation-append_comm}
-use Rattle.std.proofs.lemmas.Map.Keys.{IsDistinct-tail}
-use Rattle.bucket_table.specs.Resize.Renewing.{Awaits, Pours, PutsEach}
+use Rattle.bucket_table.proofs.Words.{Awaits, Bool, BucketView, IsDistinct, IsDistinct-tail, IsEquivalence, IsPermutation}
+use Rattle.bucket_table.proofs.Words.{IsPermutation-append_comm, IsPermutation-append_left, IsPermutation-append_right, IsPermutation-refl}
+use Rattle.bucket_table.proofs.Words.{IsPermutation-trans, List, Pours, TableView, ℕ, [], ap, append_assoc, arith, length, length-set}
+use Rattle.bucket_table.proofs.Words.{pairs_of, refl, subst, sym, ◌++◌, ◌∙◌, ◌∷◌, ◌≡◌}
+use Rattle.bucket_table.specs.Resize.Renewing.{PutsEach}
+use Rattle.bucket_table.proofs.Map.MapSteps.{distinct_kept}
+use Rattle.bucket_table.proofs.Moves.CarriedPairs.{keys}
 
 -- two lists before a third change places
 moved_over : {A : Type 0} (xs ys zs : List A) → IsPermutation (xs ++ (ys ++ zs)) (ys ++ (xs ++ zs))
@@ -53,12 +53,6 @@ module _ {K V H : Type 0} (hash : H → K → ℕ) where
   }
 
 module _ {K V : Type 0} {eq : K → K → Bool} (laws : IsEquivalence eq) where
-  abbrev keys : List (K × V) → List K
-  keys pairs = map (λ (pair : K × V). pair.0) pairs
-
-  distinct_moved : (xs ys : List (K × V)) → IsPermutation xs ys → IsDistinct eq (keys xs) → IsDistinct eq (keys ys)
-  distinct_moved xs ys moved = IsDistinct-IsPermutation eq laws.symm _ _ (IsPermutation-map (λ (pair : K × V). pair.0) xs ys moved)
-
   distinct_later : (xs ys : List (K × V)) → IsDistinct eq (keys (xs ++ ys)) → IsDistinct eq (keys ys)
   distinct_later [] ys distinct = distinct
   distinct_later (pair ∷ xs) ys distinct = distinct_later xs ys (IsDistinct-tail eq pair.0 (keys (xs ++ ys)) distinct)
@@ -71,7 +65,7 @@ module _ {K V H : Type 0} {eq : K → K → Bool} (laws : IsEquivalence eq) wher
     alone = awaits.alone;
     full = awaits.full;
     distinct = distinct_later laws ys (xs ++ pairs_of old.arrays)
-        (distinct_moved laws _ _ (later_first xs ys (pairs_of old.arrays)) awaits.distinct);
+        (distinct_kept eq laws _ _ awaits.distinct (later_first xs ys (pairs_of old.arrays)));
   }
 
   pub awaits_rest : (hash : H → K → ℕ) (old new : TableView K V H) (xs ys : List (K × V)) → Awaits eq old (xs ++ ys) → Pours hash old xs new
@@ -80,15 +74,14 @@ module _ {K V H : Type 0} {eq : K → K → Bool} (laws : IsEquivalence eq) wher
       let long = as_many (hash old.hasher) old.arrays.current new.arrays.current xs pours.each in
       let linked : length new.arrays.linked ≡ length old.arrays.linked =
       ap (λ (t : TableView K V H). length t.arrays.linked) pours.others in
-      let maximum : new.arrays.maximum ≡ old.arrays.maximum = ap (λ (t : TableView K V H). t.arrays.maximum) pours.others in
       let stands = awaits.stands in
       let full = awaits.full in
       record {
         stands = omega (arith, long, stands);
         alone = linked ∙ awaits.alone;
-        full = omega (arith, long, full, maximum);
+        full = omega (arith, long, full, ap (λ (t : TableView K V H). t.arrays.maximum) pours.others);
         distinct = distinct_later laws pours.gone (ys ++ pairs_of new.arrays)
-            (distinct_moved laws _ _ (over_gone xs ys (pairs_of old.arrays) pours.gone (pairs_of new.arrays) pours.parts) awaits.distinct);
+            (distinct_kept eq laws _ _ awaits.distinct (over_gone xs ys _ pours.gone (pairs_of new.arrays) pours.parts));
       }
 
 module _ {K V H : Type 0} (eq : K → K → Bool) (hash : H → K → ℕ) (first : TableView K V H) (all : List (K × V)) where

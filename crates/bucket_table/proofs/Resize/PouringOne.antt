@@ -1,22 +1,15 @@
 -- A pair put into a cache whose one array has the greatest length: none grows, and the pair is in its home.
-use Rattle.bucket_table.proofs.Words.{All-from_recursion, AllByRecursion, Bool, BucketView, CACHE, Current, Err, IsEquivalence}
-use Rattle.bucket_table.proofs.Words.{IsHome, IsPermutation, IsPermutation-cons, IsPermutation-trans, List, None, Ok, Old, Option, Result}
-use Rattle.bucket_table.proofs.Words.{Side, Some, TableView, [], ap, arith, bucket_at, buckets_on, false, false≢true, inl, inr, length, map}
-use Rattle.bucket_table.proofs.Words.{pairs_of, refl, subst, sym, true, ℕ, ◌%◌, ◌*◌, ◌++◌, ◌<◌, ◌∙◌, ◌∷◌, ◌≡◌}
+use Rattle.bucket_table.proofs.Words.{All-from_recursion, AllByRecursion, ArraysView, Awaits, Bool, BucketView, CACHE, Contains, Current}
+use Rattle.bucket_table.proofs.Words.{Err, Finds, FindsThen, Goes, Grows, IsEquivalence, IsHome, IsPermutation, IsPermutation-cons}
+use Rattle.bucket_table.proofs.Words.{IsPermutation-middle, IsPermutation-trans, List, MapState, None, NotInserted, Ok, Old, Option, Pours}
+use Rattle.bucket_table.proofs.Words.{Present, Puts, PutsAt, ResizesIf, Result, Side, Some, TableView, WriterAsksGrowth, ℕ, [], ap, arith}
+use Rattle.bucket_table.proofs.Words.{bucket_at, buckets_on, false, false≢true, inl, inr, length, map, pairs_of, refl, slots_left}
+use Rattle.bucket_table.proofs.Words.{slots_put, subst, sym, true, with_bucket, ◌%◌, ◌*◌, ◌++◌, ◌<◌, ◌∙◌, ◌∷◌, ◌≡◌}
 use Rattle.std.proofs.lemmas.List.Elements.{All-contains}
-use Rattle.std.proofs.lemmas.List.Sorted.{IsPermutation-middle}
 use Rattle.std.proofs.lemmas.Map.Keys.{IsDistinct-head}
-use Rattle.std.specs.List.{Contains}
-use Rattle.bucket_table.specs.Map.Finding.{Finds, FindsThen, ReadiesThenGrows}
-use Rattle.bucket_table.specs.Map.MapState.{MapState, state_of}
-use Rattle.bucket_table.specs.Map.Putting.{Goes, Puts, PutsAt, slots_left, slots_put}
-use Rattle.bucket_table.specs.Resize.Asking.{ResizesIf}
-use Rattle.bucket_table.specs.Resize.Growing.{Grows, WriterAsksGrowth}
-use Rattle.bucket_table.specs.Resize.Renewing.{Awaits, Pours}
-use Rattle.bucket_table.specs.Views.ArraysView.{ArraysView}
-use Rattle.bucket_table.specs.Views.Sides.{with_bucket}
-use Rattle.bucket_table.specs.declared.hash_table.NotInserted.{NotInserted}
-use Rattle.bucket_table.specs.declared.hash_table.NotInserted.TheVariants.{Present, Memory}
+use Rattle.bucket_table.specs.Map.Finding.{ReadiesThenGrows}
+use Rattle.bucket_table.specs.Map.MapState.{state_of}
+use Rattle.bucket_table.specs.declared.hash_table.NotInserted.TheVariants.{Memory}
 
 module _ {K V : Type 0} where
   -- no growth was done beside no old array
@@ -24,8 +17,7 @@ module _ {K V : Type 0} where
       → side ≡ Current
   not_grown Current old new stands alone grows = refl
   not_grown Old old new stands alone (capacity, pushed) =
-      let linked : length new.linked ≡ length old.current = ap (λ (a : ArraysView K V). length a.linked) pushed.new_is in
-      absurd (omega (arith, linked))
+      absurd (omega (arith, ap (λ (a : ArraysView K V). length a.linked) pushed.new_is))
 
   -- at its greatest length none is asked for
   not_asked : (kind hash index : ℕ) (old new : ArraysView K V) → kind ≡ CACHE → 32 * length old.current ≡ old.maximum
@@ -120,9 +112,7 @@ module _ {K V H : Type 0} {eq : K → K → Bool} (laws : IsEquivalence eq) (has
       absurd (false≢true (sym (not_there pair awaits is.0) ∙ is.1))
   poured (Err (Memory k v)) (Ok at) between awaits found done puts = absurd done
   poured (Err (Memory k v)) (Err refused) between awaits found done puts =
-      let none = found.alone awaits.alone in
-      let stands = awaits.stands in
-      absurd (omega (arith, none, stands))
+      absurd (omega (arith, found.alone awaits.alone, awaits.stands))
 
   -- the pair is put into its home
   pub pours_one : (result : Result (Option (K × V)) (NotInserted K V)) → Awaits eq old ((key, value) ∷ [])

@@ -1,20 +1,18 @@
 -- All pairs in one array of another length: what the moves on the way leave.
-use Rattle.bucket_table.proofs.Words.{AreArrays, ArePlaced, ArraysView, Bool, Err, IsEquivalence, IsOneMap, KeepsArrays, KeepsPairs, List, Ok, OnOk}
-use Rattle.bucket_table.proofs.Words.{Result, TicketState, [], ap, arith, first_tickets, inl, inr, length, refl, subst, sym, ℕ, ◌/◌, ◌∙◌, ◌≡◌}
+use Rattle.bucket_table.proofs.Words.{AreArrays, ArePlaced, ArraysView, Bool, Err, IsEquivalence, IsLengthFor, IsOneMap, KeepsArrays}
+use Rattle.bucket_table.proofs.Words.{KeepsPairs, List, Ok, OnOk, Result, TicketState, WantsMemory, ℕ, [], ap, arith, first_tickets, inl}
+use Rattle.bucket_table.proofs.Words.{inr, length, refl, subst, sym, ◌/◌, ◌∙◌, ◌≡◌}
 use Rattle.std.proofs.Common.{max}
 use Rattle.std.specs.Prelude.{IsErr, OnErr}
-use Rattle.bucket_slots.specs.Sizing.{IsLengthFor}
 use Rattle.bucket_slots.proofs.ArrayNumbers.{least_is_one}
 use Rattle.bucket_table.specs.Map.MapState.{state_of}
-use Rattle.bucket_table.specs.Rehash.Carrying.{CarriesOrder}
 use Rattle.bucket_table.specs.Rehash.State.{IsTicketState}
-use Rattle.bucket_table.specs.Rehash.Units.{WantsMemory}
 use Rattle.bucket_table.specs.Resize.Remaking.{IsSettledAt, RehashesTo, unopened}
 use Rattle.bucket_table.specs.Resize.Resizing.{IsPushed}
 use Rattle.bucket_table.proofs.Map.MapKept.{one_map_kept, state_found}
-use Rattle.bucket_table.proofs.Resize.Following.{pushed_keeps}
+use Rattle.bucket_table.proofs.Moves.CarriedOrder.{order_at_other_tickets}
+use Rattle.bucket_table.proofs.Resize.Following.{pushed_keeps, rehash_begun}
 use Rattle.bucket_table.proofs.Views.Keeping.{keeps_both}
-use Rattle.bucket_table.proofs.Views.Killed.{length-killed_flags}
 use Rattle.bucket_table.proofs.Views.Laws.{none_open}
 
 -- of what is refused nothing need be shown
@@ -57,24 +55,12 @@ module _ {K V : Type 0} where
   pub unopened_placed : (hash : K → ℕ) (arrays : ArraysView K V) → ArePlaced hash arrays → ArePlaced hash (unopened arrays)
   unopened_placed hash arrays law = record {
     homes = law.homes;
-    rehashed = record {
-      covered = record {
-        same_len = length-killed_flags arrays.linked;
-        units_in_range = λ i d below. absurd (omega arith);
-        done_or_open = λ unit below. absurd (omega arith);
-      };
-      going_on = λ some. inl (omega arith);
-      emptied = law.rehashed.emptied;
-    };
+    rehashed = rehash_begun arrays.linked law.rehashed.emptied;
   }
 
   -- no unit of the array that is the old one now was handed out
   pub pushed_unopened : (capacity : ℕ) (old new : ArraysView K V) → IsPushed capacity old new → new.tickets.open_units ≡ []
   pushed_unopened capacity old new is = ap (λ (a : ArraysView K V). a.tickets.open_units) is.new_is
-
-  carries_unopened : (old new : ArraysView K V) → CarriesOrder (unopened old) new → CarriesOrder old new
-  carries_unopened old new c =
-      record { moved = c.moved; left = c.left; stay = c.stay; arrived = c.arrived; carried = c.carried; in_order = c.in_order }
 
   -- an old bucket wanted memory in the rehash that was on
   pub begun_wants : {A E : Type 0} (old begun second : ArraysView K V) → begun ≡ unopened old → (answer : Result A E) (error : E)
@@ -88,8 +74,8 @@ module _ {K V : Type 0} where
   begun_keeps old begun second is kept = subst (λ (a : ArraysView K V). KeepsArrays a second) is kept
 
 -- the rehash that is on is finished, no ticket of it being open
-module _ {K V A E : Type 0} (capacity : ℕ) (old begun second : ArraysView K V) (is : begun ≡ unopened old) (tickets : IsTicketState old.tickets)
-    (law : AreArrays old) (answer : Result A E) (done : A)
+module _ {K V A E : Type 0} (capacity : ℕ) (old begun second : ArraysView K V) (is : begun ≡ unopened old)
+    (tickets : IsTicketState old.tickets) (law : AreArrays old) (answer : Result A E) (done : A)
     (alone : length begun.linked ≡ 0 → (answer ≡ Ok done) × (second ≡ begun)) where
   nothing_on : IsSettledAt capacity old → (answer ≡ Ok done) × (second ≡ begun)
   nothing_on there = alone (ap (λ (a : ArraysView K V). length a.linked) is ∙ there.alone)
@@ -115,7 +101,7 @@ module _ {K V E : Type 0} (capacity : ℕ) (old second : ArraysView K V) (first 
   stands answer none settled there wanted = record {
     kept = first.keeps;
     none_open = none;
-    order = record { between = second; first = carries_unopened old second first.order; again = inl refl };
+    order = record { between = second; first = order_at_other_tickets _ old second first.order; again = inl refl };
     current_len = inl first.current_len;
     settled = settled;
     there = there;
@@ -129,7 +115,7 @@ module _ {K V E : Type 0} (capacity : ℕ) (old second : ArraysView K V) (first 
   moved_all answer pushed third is then none gone apart = record {
     kept = keeps_both _ second third first.keeps (keeps_both second pushed third (pushed_keeps capacity second pushed is) then.keeps);
     none_open = none;
-    order = record { between = second; first = carries_unopened old second first.order; again = inr (pushed, is, then.order) };
+    order = record { between = second; first = order_at_other_tickets _ old second first.order; again = inr (pushed, is, then.order) };
     current_len = inr length_is;
     settled = settled answer gone;
     there = λ there. absurd (apart there.len);

@@ -1,13 +1,13 @@
 -- A cache's new array, and what it is once all pairs are in.
-use Rattle.bucket_table.proofs.Words.{ArraysView, Bool, IsEquivalence, IsNewArray, IsOneMap, IsPermutation}
-use Rattle.bucket_table.proofs.Words.{IsPermutation-map, IsPermutation-trans, List, TableView, [], ap, append-nil, arith, first_tickets}
-use Rattle.bucket_table.proofs.Words.{length, length_permutation, nil_from_length, pairs_of, refl, subst, sym, ℕ, ◌*◌, ◌++◌, ◌-◌, ◌<◌, ◌^◌}
-use Rattle.bucket_table.proofs.Words.{IsDistinct, IsDistinct-IsPermutation, map, ◌∙◌, ◌≡◌, ◌≤◌}
+use Rattle.bucket_table.proofs.Words.{ArraysView, Awaits, Bool, IsDistinct, IsDistinct-IsPermutation, IsEquivalence, IsLengthFor}
+use Rattle.bucket_table.proofs.Words.{IsNewArray, IsOneMap, IsPermutation, IsPermutation-map, IsPermutation-trans, List, Pours, TableView}
+use Rattle.bucket_table.proofs.Words.{ℕ, [], ap, append-nil, arith, arrays_by_age, first_tickets, length, length_permutation, map}
+use Rattle.bucket_table.proofs.Words.{nil_from_length, pairs_of, refl, subst, sym, ◌*◌, ◌++◌, ◌-◌, ◌<◌, ◌^◌, ◌∙◌, ◌≡◌, ◌≤◌}
 use Rattle.std.specs.Int.{IsPowerOfTwo}
-use Rattle.bucket_slots.specs.Sizing.{IsLengthFor, IsPowerIn}
+use Rattle.bucket_slots.specs.Sizing.{IsPowerIn}
 use Rattle.bucket_slots.proofs.Doublings.{double_fits}
 use Rattle.bucket_slots.proofs.PowersOfTwo.{exponent_le, power_parts}
-use Rattle.bucket_table.specs.Resize.Renewing.{Awaits, Pours, Renews, arrays_by_age}
+use Rattle.bucket_table.specs.Resize.Renewing.{Renews}
 use Rattle.bucket_table.specs.Resize.Resizing.{MakesArray}
 use Rattle.bucket_table.proofs.Map.MapKept.{keeps_pairs, nothing_kept, one_map_kept}
 use Rattle.bucket_table.proofs.Resize.ByAge.{each_by_age}
@@ -16,20 +16,14 @@ use Rattle.bucket_table.proofs.Resize.Growing.{kept_made, placed_made}
 -- an array for a power of two has that many slots
 pub full_length : (capacity len : ℕ) → IsPowerIn 64 (2 ^ 63) capacity → capacity ≤ 2 ^ 62 → IsLengthFor capacity len → 32 * len ≡ capacity
 full_length capacity len is fits (power, least, len_is) =
-    let most : power ≤ capacity = least.least capacity is.power (omega arith) in
-    let enough = least.at_least in
-    let large = is.at_least in
     let (k, capacity_is) = is.power in
-    let some : 5 ≤ k = exponent_le 5 k (omega (arith, capacity_is, large)) in
-    let parts = power_parts 5 k some in
-    let whole : capacity ≡ 2 ^ (k - 5) * 32 = capacity_is ∙ parts in
-    omega (arith, len_is, whole, most, enough, large, fits)
+    let parts = power_parts 5 k (exponent_le 5 k (omega (arith, capacity_is, is.at_least))) in
+    omega (arith, len_is, capacity_is ∙ parts, least.least capacity is.power (omega arith), least.at_least, is.at_least, fits)
 
 -- a power of two that is a number of 64 bits is at most 2^63
 pub power_in : (capacity : ℕ) → IsPowerOfTwo capacity → 64 ≤ capacity → capacity < 2 ^ 64 → IsPowerIn 64 (2 ^ 63) capacity
 power_in capacity power large fits =
-    let twice = double_fits capacity (2 ^ 64) power (64, refl) fits in
-    record { power = power; at_least = large; at_most = omega (arith, twice) }
+    record { power = power; at_least = large; at_most = omega (arith, double_fits capacity (2 ^ 64) power (64, refl) fits) }
 
 -- arrays of which a new one stands alone
 pub record IsFresh {K V : Type 0} (capacity : ℕ) (arrays : ArraysView K V) : Type 0 where
@@ -63,11 +57,10 @@ module _ {K V H : Type 0} {eq : K → K → Bool} (laws : IsEquivalence eq) (has
   pub awaits_all : 64 ≤ capacity → IsDistinct eq (map (λ (pair : K × V). pair.0) (pairs_of old)) → Awaits eq first (arrays_by_age old)
   awaits_all large distinct =
       let full = is.full in
-      let maximum : fresh.maximum ≡ capacity = ap (λ (a : ArraysView K V). a.maximum) is.others in
       record {
         stands = omega (arith, full, large);
         alone = ap (λ (a : ArraysView K V). length a.linked) is.others;
-        full = full ∙ sym maximum;
+        full = full ∙ sym (ap (λ (a : ArraysView K V). a.maximum) is.others);
         distinct = rw (fresh_empty capacity fresh is, append-nil (arrays_by_age old))
             (IsDistinct-IsPermutation eq laws.symm _ _ (IsPermutation-map (λ (pair : K × V). pair.0) _ _ (each_by_age old)) distinct);
       }

@@ -1,7 +1,6 @@
 -- Sums over samples of buckets, and that samples are within an array.
-use Rattle.bucket_table.proofs.Words.{BucketView, List, ap, arith, bucket_at, counted, empty_bucket, get_or, get_or-map, length, length-map}
-use Rattle.bucket_table.proofs.Words.{live_counts, pairs_in, ℕ, ◌+◌, ◌<◌, ◌∙◌, ◌≡◌}
-use Rattle.std.proofs.Common.{drop}
+use Rattle.bucket_table.proofs.Words.{BucketView, List, ℕ, ap, arith, bucket_at, counted, drop, empty_bucket, get_or, get_or-map, length}
+use Rattle.bucket_table.proofs.Words.{length-map, live_counts, pairs_in, ◌+◌, ◌<◌, ◌∙◌, ◌≡◌}
 use Rattle.std.proofs.lemmas.List.{get_or-drop, length-drop}
 use Rattle.std.proofs.lemmas.List.Sums.{sum_by_more}
 

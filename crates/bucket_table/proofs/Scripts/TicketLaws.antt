@@ -1,15 +1,13 @@
 -- An old array that went doesn't come back by calls of the rehash.
-use Rattle.bucket_table.proofs.Words.{All, Bool, Err, IsPermutation, List, None, Ok, Option, Result, Some, Starts, TicketState, [], arith}
-use Rattle.bucket_table.proofs.Words.{false, length_permutation, refl, suc, true, ℕ, ◌∷◌, ◌≡◌}
+use Rattle.bucket_table.proofs.Words.{All, Bool, Err, IsPermutation, List, None, NotDone, NotOpen, Ok, Option, Result, Run, Some, Starts}
+use Rattle.bucket_table.proofs.Words.{TicketError, TicketState, TicketStep, ℕ, [], arith, false, length_permutation, refl, suc, true, ◌∷◌}
+use Rattle.bucket_table.proofs.Words.{◌≡◌}
 use Rattle.bucket_table.specs.Rehash.Covered.{RehashState}
-use Rattle.bucket_table.specs.Scripts.Runs.{Run}
-use Rattle.bucket_table.specs.Scripts.TicketCalls.{EndsTicket, IsTicketCall, TicketStep, no_rehash}
+use Rattle.bucket_table.specs.Scripts.TicketCalls.{EndsTicket, IsTicketCall, no_rehash}
 use Rattle.bucket_table.specs.declared.script.call.Call.{Call}
 use Rattle.bucket_table.specs.declared.script.call.Call.TheVariants.{End, Peek, Start, Work}
 use Rattle.bucket_table.specs.declared.script.reply.Reply.{Reply}
 use Rattle.bucket_table.specs.declared.script.reply.Reply.TheVariants.{Done, Ended, Fault, NoTicket, NoWork, Refused, Ticket}
-use Rattle.bucket_table.specs.declared.tickets.TicketError.{TicketError}
-use Rattle.bucket_table.specs.declared.tickets.TicketError.TheVariants.{NotDone, NotOpen}
 
 -- from no old array the calls of the rehash lead to none
 none_started : (answer : Option ℕ) (after : RehashState) → Starts no_rehash.tickets answer after.tickets → after.killed ≡ []

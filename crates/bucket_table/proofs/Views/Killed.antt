@@ -1,9 +1,7 @@
 -- Killed buckets, and buckets without pairs.
-use Rattle.bucket_table.proofs.Words.{All, BucketView, List, [], ap, arith, bucket_at, empty_bucket, entries_among, entries_in, false}
-use Rattle.bucket_table.proofs.Words.{get_or, get_or-map, killed_flags, length, length-map, live_counts, map, nil_from_length, pairs_in}
-use Rattle.bucket_table.proofs.Words.{refl, suc, true, ℕ, ◌<◌, ◌∙◌, ◌∷◌, ◌≡◌}
-use Rattle.bucket_slots.proofs.PairsAfter.{map-entries_in}
-use Rattle.bucket_table.specs.Rehash.Covered.{AreAllKilled}
+use Rattle.bucket_table.proofs.Words.{All, AreAllKilled, BucketView, List, ℕ, [], ap, arith, bucket_at, empty_bucket, entries_among}
+use Rattle.bucket_table.proofs.Words.{entries_in, false, get_or, get_or-map, killed_flags, length, length-map, live_counts, map}
+use Rattle.bucket_table.proofs.Words.{map-entries_in, nil_from_length, pairs_in, refl, suc, true, ◌<◌, ◌∙◌, ◌∷◌, ◌≡◌}
 
 module _ {K V : Type 0} where
   none_mapped : (es : List ((K × V) × ℕ)) → map (λ (e : (K × V) × ℕ). e.0) es ≡ [] → es ≡ []
@@ -27,14 +25,12 @@ module _ {K V : Type 0} where
       → All (λ (bucket : BucketView K V). bucket.killed ≡ true → pairs_in bucket ≡ []) buckets → entries_among buckets ≡ []
   no_pairs [] killed emptied = refl
   no_pairs (bucket ∷ buckets) killed emptied =
-      let here : entries_in bucket ≡ [] = no_entries bucket (emptied 0 bucket (omega arith) (killed 0 (omega arith))) in
       let rest = no_pairs buckets (λ i below. killed (suc i) (omega arith)) (λ i d below. emptied (suc i) d (omega arith)) in
-      rw (here, rest) refl
+      rw (no_entries bucket (emptied 0 bucket (omega arith) (killed 0 (omega arith))), rest) refl
 
   -- nor has one of which no slot is live
   pub no_live : (buckets : List (BucketView K V)) → All (λ count. count ≡ 0) (live_counts buckets) → entries_among buckets ≡ []
   no_live [] all = refl
   no_live (bucket ∷ buckets) all =
       let here : entries_in bucket ≡ [] = no_entries bucket (nil_from_length (pairs_in bucket) (all 0 0 (omega arith))) in
-      let rest = no_live buckets (λ i d below. all (suc i) d (omega arith)) in
-      rw (here, rest) refl
+      rw (here, no_live buckets (λ i d below. all (suc i) d (omega arith))) refl

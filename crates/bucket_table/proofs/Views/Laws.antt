@@ -1,6 +1,6 @@
 -- What arrays keep where a new one is the current one, and tickets of no array.
-use Rattle.bucket_table.proofs.Words.{All, AreArrays, ArraysView, BucketView, IsNewArray, List, LosesNoUnit, TicketState, [], arith}
-use Rattle.bucket_table.proofs.Words.{cases_lt, first_tickets, inl, inr, length, refl, ℕ, ◌*◌, ◌<◌, ◌∙◌, ◌∷◌, ◌≡◌, ◌≤◌}
+use Rattle.bucket_table.proofs.Words.{All, AreArrays, ArraysView, BucketView, IsNewArray, List, LosesNoUnit, TicketState, ℕ, [], arith}
+use Rattle.bucket_table.proofs.Words.{cases_lt, first_tickets, inl, inr, length, refl, ◌*◌, ◌<◌, ◌∙◌, ◌∷◌, ◌≡◌, ◌≤◌}
 use Rattle.bucket_table.specs.Rehash.Finishing.{IsUnopened}
 use Rattle.bucket_table.specs.Rehash.State.{IsTicketState}
 use Rattle.bucket_slots.proofs.ArrayNumbers.{len_fits}

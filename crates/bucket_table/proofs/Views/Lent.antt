@@ -1,11 +1,9 @@
 -- One side of a table's arrays with another bucket.
-use Rattle.bucket_table.proofs.Words.{AreArrays, ArraysView, BucketView, Current, List, None, Old, Option, Side, Some, TicketState, arith}
-use Rattle.bucket_table.proofs.Words.{arrays_with, first_tickets, length, length-set, refl, set, sym, ℕ, ◌∙◌, ◌≡◌}
-use Rattle.std.proofs.Common.{Bool, ap}
+use Rattle.bucket_table.proofs.Words.{AreArrays, ArraysView, Bool, BucketView, Current, List, None, Old, Option, Side, Some, TicketState, ℕ}
+use Rattle.bucket_table.proofs.Words.{ap, arith, arrays_with, first_tickets, length, length-set, list_of, refl, set, sym, ◌∙◌, ◌≡◌}
 use Rattle.bucket_slots.specs.Digested.{TakesWanted}
 use Rattle.bucket_table.specs.Map.Taking.{TakesHome}
 use Rattle.bucket_table.specs.Views.ArrayLoan.{array_with}
-use Rattle.bucket_table.specs.Views.ArraysView.{list_of}
 
 module _ {K V : Type 0} where
   pub list_of-array_with : (held : Option (List (BucketView K V))) (index : ℕ) (bucket : BucketView K V)

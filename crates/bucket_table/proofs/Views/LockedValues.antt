@@ -1,5 +1,5 @@
 -- A borrowed bucket with another table behind it.
-use Rattle.bucket_table.proofs.Words.{ArraysView, IsLocked, Side, TableView, ap, subst, ℕ, ◌≡◌}
+use Rattle.bucket_table.proofs.Words.{ArraysView, IsLocked, Side, TableView, ℕ, ap, subst, ◌≡◌}
 use Rattle.std.proofs.Props.{props}
 use Rattle.bucket_table.specs.declared.hash_table.locked_bucket.LockedBucket.{LockedBucket}
 use Rattle.std.specs.declared.cmp.PartialEq as equals

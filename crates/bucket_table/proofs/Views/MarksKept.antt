@@ -1,9 +1,8 @@
 -- Marks of arrays: that none is new where a bucket changes, where a bucket's pairs move on, and where an array comes or goes.
-use Rattle.bucket_table.proofs.Words.{ArraysView, BucketView, Current, HasNoNewMark, KeepsEntries, List, MarksBy, Old, Side, [], arith}
+use Rattle.bucket_table.proofs.Words.{ArraysView, BucketView, Current, HasNoNewMark, KeepsEntries, List, MarksBy, Old, Side, ℕ, [], arith}
 use Rattle.bucket_table.proofs.Words.{arrays_with, bucket_at, bucket_on, by-no_new, empty_bucket, get_or, length, marks_among, marks_in}
-use Rattle.bucket_table.proofs.Words.{marks_of, no_new-refl, no_new-trans, refl, set, suc, ℕ, ◌++◌, ◌∷◌, ◌≡◌}
-use Rattle.bucket_slots.proofs.MarksAfter.{by-append, by-set, no_new-append, no_new-at, no_new-both, no_new-front, no_new-rest}
-use Rattle.bucket_slots.proofs.MarksAfter.{no_new-set}
+use Rattle.bucket_table.proofs.Words.{marks_of, no_new-append, no_new-refl, no_new-trans, refl, set, suc, ◌++◌, ◌∷◌, ◌≡◌}
+use Rattle.bucket_slots.proofs.MarksAfter.{by-append, by-set, no_new-at, no_new-both, no_new-front, no_new-rest, no_new-set}
 
 -- lists of which each element has the same parts, have the same parts in all
 pub all_alike : {A B : Type 0} (parts : A → List B) (all : List A → List B) → all [] ≡ []
@@ -13,9 +12,7 @@ all_alike parts all empty more none [] [] long each = refl
 all_alike parts all empty more none [] (b ∷ d) long each = absurd (omega arith)
 all_alike parts all empty more none (a ∷ c) [] long each = absurd (omega arith)
 all_alike parts all empty more none (a ∷ c) (b ∷ d) long each =
-    let first : parts b ≡ parts a = each 0 in
-    let rest = all_alike parts all empty more none c d (omega arith) (λ i. each (suc i)) in
-    rw (more a c, more b d, first, rest) refl
+    rw (more a c, more b d, each 0, all_alike parts all empty more none c d (omega arith) (λ i. each (suc i))) refl
 
 module _ {K V : Type 0} where
   -- another bucket that brings no mark

@@ -1,8 +1,7 @@
 -- The hasher, the capacities and the bag stay, one call after another.
-use Rattle.bucket_table.proofs.Words.{ArraysView, Bool, KeepsOpenTickets, KeepsPairs, TableView, ap, refl, ℕ, ◌∙◌, ◌≡◌}
+use Rattle.bucket_table.proofs.Words.{ArraysView, Bool, KeepsOpenTickets, KeepsPairs, KeepsSettings, RetainsAt, TableView, ℕ, ap, refl, ◌∙◌}
+use Rattle.bucket_table.proofs.Words.{◌≡◌}
 use Rattle.bucket_table.specs.Map.MapState.{state_of}
-use Rattle.bucket_table.specs.Views.Settings.{KeepsSettings}
-use Rattle.bucket_table.specs.Walking.Sweeps.{RetainsAt}
 use Rattle.bucket_table.proofs.Views.Keeping.{bag_both, bag_same}
 use Rattle.bucket_table.proofs.Map.MapKept.{hasher_kept, maximum_kept, minimum_kept}
 use Rattle.std.specs.Prelude.{count_by, ◌==◌}

@@ -1,17 +1,15 @@
 -- The law of two arrays, and all their pairs, where one bucket of one of them changes.
-use Rattle.bucket_table.proofs.Words.{All, All-permutation, All-tail, ArePlaced, AreSourcesKilled, AreTwoArrays, ArraysView, Bool}
-use Rattle.bucket_table.proofs.Words.{BucketView, Current, IsEntryHome, IsLocked, IsPermutation, IsPermutation-append_right}
+use Rattle.bucket_table.proofs.Words.{All, All-append, All-permutation, All-tail, ArePlaced, AreSourcesKilled, AreTwoArrays, ArraysView}
+use Rattle.bucket_table.proofs.Words.{Bool, BucketView, Current, IsEntryHome, IsLocked, IsPermutation, IsPermutation-append_right}
 use Rattle.bucket_table.proofs.Words.{IsPermutation-map, IsPermutation-trans, List, LosesNoUnit, Meets, Old, Place, Side, Some, TicketState}
-use Rattle.bucket_table.proofs.Words.{[], all_slots, ap, arith, arrays_with, bucket_at, buckets_on, cases_Bool, cases_eq, empty_bucket}
-use Rattle.bucket_table.proofs.Words.{entries_among, entries_in, entries_of, false, false≢true, get_or-set_other, inl, inr, killed_flags}
-use Rattle.bucket_table.proofs.Words.{length, length-set, length_permutation, live_pair, map, map-append, map-set, pairs_in, pairs_of, refl}
-use Rattle.bucket_table.proofs.Words.{rotated, set, slot_in, slots_without, subst, sym, true, ℕ, ◌++◌, ◌<◌, ◌∙◌, ◌∷◌, ◌≡◌, ◌≤◌}
-use Rattle.std.proofs.Common.{get_or-set_same}
-use Rattle.std.proofs.lemmas.List.{set-get_or}
-use Rattle.std.proofs.lemmas.List.Elements.{All-append, All-set}
-use Rattle.bucket_slots.proofs.Entries.{live_pairs-all_free, regrouped}
+use Rattle.bucket_table.proofs.Words.{ℕ, [], all_slots, ap, arith, arrays_with, bucket_at, buckets_on, cases_Bool, empty_bucket}
+use Rattle.bucket_table.proofs.Words.{entries_among, entries_in, entries_of, false, false≢true, inl, inr, killed_flags, length, length-set}
+use Rattle.bucket_table.proofs.Words.{length_permutation, live_pair, map, map-append, map-set, pairs_in, pairs_of, refl, rotated, set}
+use Rattle.bucket_table.proofs.Words.{set-get_or, slot_in, slots_without, subst, sym, true, ◌++◌, ◌<◌, ◌∙◌, ◌∷◌, ◌≡◌, ◌≤◌}
+use Rattle.std.proofs.lemmas.List.Elements.{All-set}
 use Rattle.bucket_slots.proofs.PairsAfter.{pairs_in-slots_without}
-use Rattle.bucket_table.proofs.Moves.Exchanges.{exchanged}
+use Rattle.bucket_slots.proofs.Entries.{live_pairs-all_free, regrouped}
+use Rattle.bucket_table.proofs.Moves.Exchanges.{changes_at, each_after, exchanged}
 use Rattle.bucket_table.proofs.Views.Killed.{get_or-killed_flags}
 use Rattle.bucket_table.proofs.Views.LockedLaw.{law_after_change}
 
@@ -52,10 +50,9 @@ module _ {K V : Type 0} where
       → IsPermutation (came ++ entries_of a) (out ++ entries_of (arrays_with a side i b))
   entries_exchanged a Old i came out b within moved =
       let c = entries_among a.current in
-      let l = a.linked in
-      IsPermutation-trans _ _ _ (rotated came c (entries_among l))
-      (IsPermutation-trans _ _ _ (IsPermutation-append_right c _ _ (exchanged came out l i b within moved))
-      (rotated c out (entries_among (set l i b))))
+      IsPermutation-trans _ _ _ (rotated came c (entries_among a.linked))
+      (IsPermutation-trans _ _ _ (IsPermutation-append_right c _ _ (exchanged came out a.linked i b within moved))
+      (rotated c out (entries_among (set a.linked i b))))
   entries_exchanged a Current i came out b within moved =
       let c = a.current in
       regrouped came out (entries_among c) (entries_among (set c i b)) (entries_among a.linked) (exchanged came out c i b within moved)
@@ -94,29 +91,16 @@ module _ {K V : Type 0} where
       → AreTwoArrays hash c l → index < length l → All (IsEntryHome hash (length l) index) (entries_in b)
       → b.killed ≡ (bucket_at l index).killed → b.killed ≡ false → AreTwoArrays hash c (set l index b)
   old_after_change hash c l index b law within homes same alive =
-      let len : length (set l index b) ≡ length l = length-set l index b in
-      let here : bucket_at (set l index b) index ≡ b = get_or-set_same l index b empty_bucket within
-      in
-      let other : (j : ℕ) → (j ≡ index → ⊥) → bucket_at (set l index b) j ≡ bucket_at l j = λ
-      j apart. get_or-set_other l index j b empty_bucket apart in
-      let flag : (j : ℕ) → (bucket_at (set l index b) j).killed ≡ (bucket_at l j).killed = λ j. elim (cases_eq j index) [
-        | inl at ↦ rw (at, here) same
-        | inr apart ↦ ap (λ (d : BucketView K V). d.killed) (other j apart)
-      ] in
+      let put = changes_at index b l within in
+      let len : length (set l index b) ≡ length l = put.len in
+      let flag = each_after put (λ j d. d.killed ≡ (bucket_at l j).killed) same (λ j apart. refl) in
       record {
         current_home = law.current_home;
-        linked_home = λ j below. elim (cases_eq j index) [
-          | inl at ↦ rw (at, here, len) homes
-          | inr apart ↦ rw (other j apart, len) (law.linked_home j (omega arith))
-        ];
+        linked_home = λ j below. rw len (each_after put (λ k d. k < length l → All (IsEntryHome hash (length l) k) (entries_in d))
+            (λ inside. homes) (λ k apart. law.linked_home k) j (omega arith));
         alive = law.alive;
-        killed_empty = λ j below dead. elim (cases_eq j index) [
-          | inl at ↦
-              let gone : b.killed ≡ true = sym (ap (λ (d : BucketView K V). d.killed) here) ∙ subst
-              (λ (k : ℕ). (bucket_at (set l index b) k).killed ≡ true) at dead in
-              absurd (false≢true (sym alive ∙ gone))
-          | inr apart ↦ rw (other j apart) (law.killed_empty j (omega arith) (sym (flag j) ∙ dead))
-        ];
+        killed_empty = λ j below. each_after put (λ k d. k < length l → d.killed ≡ true → pairs_in d ≡ [])
+            (λ inside dead. absurd (false≢true (sym alive ∙ dead))) (λ k apart. law.killed_empty k) j (omega arith);
         empty_targets = λ longer i j old_below below live meets.
             law.empty_targets (omega arith) i j (omega arith) below (sym (flag i) ∙ live)
             (subst (λ (n : ℕ). Meets n i (length c) j) len meets);
@@ -140,8 +124,7 @@ module _ {K V : Type 0} where
   no_pair : (b : BucketView K V) (at : Place) (p : K × V) → live_pair (slot_in b at) ≡ Some p → pairs_in b ≡ [] → ⊥
   no_pair b at p here none =
       let less = length_permutation (pairs_in b) (p ∷ pairs_in (slots_without b at)) (pairs_in-slots_without b at p here) in
-      let zero = ap (λ (ps : List (K × V)). length ps) none in
-      absurd (omega (arith, less, zero))
+      absurd (omega (arith, less, ap (λ (ps : List (K × V)). length ps) none))
 
   -- a bucket that has a pair is no empty target, and isn't killed
   pub changeable_filled : (hash : K → ℕ) (a : ArraysView K V) (side : Side) (i : ℕ) → ArePlaced hash a

@@ -1,14 +1,13 @@
 -- The law of one map, where it is known to hold and no proof of it is at hand: each of its parts has one proof at most, or is decided.
-use Rattle.bucket_table.proofs.Words.{AreHome, ArraysView, Bool, BucketView, Contains, IsOneMap, List, [], cases_eq, cases_lt, inl, inr}
-use Rattle.bucket_table.proofs.Words.{ap, arith, killed_flags, length, nil_from_length, refl, ℕ, ⊎_elim, ◌*◌, ◌<◌, ◌∷◌, ◌≡◌, ◌⊎◌}
+use Rattle.bucket_table.proofs.Words.{AreHome, ArraysView, Bool, BucketView, Contains, Contains-append_right, IsOneMap, IsUnitKilled, List}
+use Rattle.bucket_table.proofs.Words.{ℕ, [], ap, arith, cases_eq, cases_lt, inl, inr, killed_flags, length, nil_from_length, refl, ⊎_elim}
+use Rattle.bucket_table.proofs.Words.{◌*◌, ◌<◌, ◌∷◌, ◌≡◌, ◌⊎◌}
 use Rattle.std.proofs.Math.Bool.{Bool-set}
 use Rattle.std.proofs.Math.Bridge.{le_prop}
 use Rattle.std.proofs.Math.Logic.{∥∥₁_elim}
 use Rattle.std.proofs.Math.Nat.{ℕ_set}
-use Rattle.std.proofs.lemmas.List.Elements.{Contains-append_right}
 use Rattle.std.proofs.lemmas.Map.Keys.{IsDistinct-prop}
 use Rattle.std.proofs.lemmas.Map.Made.{Contains-tail}
-use Rattle.bucket_table.specs.Rehash.Covered.{IsUnitKilled}
 
 at_head : (unit : ℕ) (units : List ℕ) → Contains (unit ∷ units) unit
 at_head unit units = (0, omega arith, refl)

@@ -1,4 +1,4 @@
-use Rattle.bucket_table.proofs.Words.{IsLeastPowerOfTwo, min, rules, subst, ℕ, ◌^◌, ◌≡◌}
+use Rattle.bucket_table.proofs.Words.{IsLeastPowerOfTwo, ℕ, min, rules, subst, ◌^◌, ◌≡◌}
 use Rattle.bucket_slots.proofs.ArrayNumbers.{least_from_half}
 use Rattle.bucket_table.proofs.capacity.len_for.Goals as goal
 
