@@ -21,12 +21,12 @@ ghost use Rattle.bucket_table.specs.Scripts.TicketCalls.{TicketStep};
 
 use crate::replies::Replies;
 use crate::request::{Kind, NewTable, Question, Request, request_in};
-use bucket_slots::bucket::{AllocError, CACHE, INDEX, MAP};
+use bucket_slots::bucket::{CACHE, INDEX, MAP};
 use bucket_slots::lru::{DoublyLinkedList, LruList};
 use bucket_table::hash_table::HashTable;
 use bucket_table::script::{Call, FixedGeneration, Reply, ScriptHash, run};
 use line_io::stop::Stop;
-use std::alloc::Global;
+use std::alloc::{AllocError, Global};
 use std::io::Write;
 use std::mem;
 

@@ -30,7 +30,7 @@ mod walking;
 mod writing;
 
 use crate::bucket::room::fits_in_memory;
-use crate::bucket::{AllocError, BUCKET_LEN, Bucket};
+use crate::bucket::{BUCKET_LEN, Bucket};
 use crate::data_block::DataBlock;
 use crate::lru::LruList;
 use digests::Digests;
@@ -38,7 +38,7 @@ use part::{Part, spare_buckets};
 use parts::{bucket_in, place_in};
 use sizing::MINIMUM_CAPACITY;
 pub use sizing::{MAXIMUM_SLOTS, full_sample_size_of, large_sample_size_of, small_sample_size_of};
-use std::alloc::Global;
+use std::alloc::{AllocError, Global};
 use std::marker::Model;
 use std::mem::ManuallyDrop;
 pub use writing::NotPut;

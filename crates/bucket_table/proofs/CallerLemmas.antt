@@ -6,29 +6,23 @@ pub use Rattle.bucket_table.proofs.Map.LockedChanged.{table_same}
 pub use Rattle.bucket_table.proofs.Map.MapKept.{hasher_kept, keeps_pairs, state_found}
 pub use Rattle.bucket_table.proofs.Resize.Following.{made_keeps}
 pub use Rattle.bucket_table.proofs.Views.Keeping.{keeps_same, kept_none}
-
 -- a step of the map that follows one that keeps its pairs
 pub use Rattle.bucket_table.proofs.Map.Putting.{then_put}
 pub use Rattle.bucket_table.proofs.Scripts.CallSteps.{then_changed, there_before}
-
 -- one bucket of the arrays is another: its place, the pairs and the marks of all
 pub use Rattle.bucket_table.proofs.Map.LockedSteps.{put_there}
 pub use Rattle.bucket_table.proofs.Map.MapSteps.{set_again}
 pub use Rattle.bucket_table.proofs.Views.MarksKept.{marks_among-set}
 pub use Rattle.bucket_table.proofs.Views.SideChanges.{homes_on, pairs_exchanged}
-
 -- which pairs have their home in a bucket, and how many
 pub use Rattle.bucket_table.proofs.Moves.HomesByDivision.{home_of-interval}
 pub use Rattle.bucket_table.proofs.Moves.MovingPairs.{homed-permutation, homed_here}
-
 -- what stands in the rows of a chain, in a row of buckets, and what a walk is called with
 pub use Rattle.bucket_table.proofs.Moves.Staying.{from_row, in_row}
 pub use Rattle.bucket_table.proofs.Walking.EachPair.{calls_same}
 pub use Rattle.bucket_table.proofs.Walking.Filters.{IsPermutation-filter}
 pub use Rattle.bucket_table.proofs.Walking.Row.{pairs_in_row}
-
 -- when a table gives its array up
 pub use Rattle.bucket_table.proofs.Resize.GivingUp.{gives_up_at_zero}
-
 -- a table is sent and shared where its keys, values and hasher are
 pub use Rattle.bucket_table.proofs.Crosses.{HashTable-send, HashTable-sync}

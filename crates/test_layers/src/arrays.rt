@@ -3,9 +3,10 @@
 use crate::by_key::kill_empty;
 use crate::checks::check_same;
 use crate::sizes::power_of_two;
-use bucket_slots::bucket::{AllocError, CACHE, INDEX, MAP};
+use bucket_slots::bucket::{CACHE, INDEX, MAP};
 use bucket_slots::bucket_array::BucketArray;
 use bucket_table::hash_table::from_index_to_range;
+use std::alloc::AllocError;
 use std::process::Abort;
 use std::test::Fail;
 

@@ -4,8 +4,9 @@ ghost use Rattle.bucket_slots.specs.BucketView.{slot_in};
 ghost use Rattle.bucket_slots.specs.Slots.{is_live};
 
 use crate::steps::Spot;
-use bucket_slots::bucket::{AllocError, Bucket, CACHE, EntryPtr, Generation, INDEX};
+use bucket_slots::bucket::{Bucket, CACHE, EntryPtr, Generation, INDEX};
 use bucket_slots::lru::LruList;
+use std::alloc::AllocError;
 use std::mem;
 
 /// Returns a pointer to the pair of a key, if there is one.

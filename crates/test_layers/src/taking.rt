@@ -3,10 +3,11 @@ ghost use Rattle.std.specs.Prelude.{◌≡◌, ◌≢◌};
 ghost use Rattle.bucket_table.specs.Map.MapState.{state_of};
 ghost use Rattle.test_layers.specs.Taking.{TakesKey};
 
-use bucket_slots::bucket::{AllocError, INDEX};
+use bucket_slots::bucket::INDEX;
 use bucket_slots::lru::LruList;
 use bucket_table::hash_table::HashTable;
 use bucket_table::key_hash::KeyHash;
+use std::alloc::AllocError;
 
 /// Removes the pair whose key is equal; `None` if the map has none.
 ///

@@ -11,9 +11,10 @@ use crate::growth::DOUBLED;
 use crate::steps::steps;
 use crate::tables::Step::*;
 use crate::tables::{Step, Story, new_map, play, tell};
-use bucket_slots::bucket::{AllocError, Bucket, MAP};
+use bucket_slots::bucket::{Bucket, MAP};
 use bucket_table::script::ScriptHash;
 use bucket_table::tickets::TICKET_STEP;
+use std::alloc::AllocError;
 use std::test::Fail;
 
 type Pairs = Bucket<u64, u64, (), MAP>;

@@ -15,10 +15,10 @@ ghost use Rattle.bucket_slots.specs.Layout.ArrayParts.{unmade_bucket, with_unmad
 ghost use Rattle.bucket_slots.specs.Slots.{is_live, slot_at};
 ghost use Rattle.bucket_slots.specs.Spreading.{IsShifted, SpreadsSome};
 
+use crate::bucket::Bucket;
 use crate::bucket::room::fits_in_memory;
-use crate::bucket::{AllocError, Bucket};
 use crate::lru::LruList;
-use std::alloc::Global;
+use std::alloc::{AllocError, Global};
 use std::marker::Model;
 use std::mem;
 use std::mem::ManuallyDrop;

@@ -101,8 +101,11 @@ module _ {K V : Type 0} where
         (place_kept (bucket_at c j) p b at room) (λ k apart occupied. refl) i
 
     in_chain_kept : (q : K × V) → (i : ℕ) × StandsInChain (bucket_at c i) q → (i : ℕ) × StandsInChain (bucket_at d i) q
-    in_chain_kept q (i, has) = (i, each_after put (λ k x. StandsInChain (bucket_at c k) q → StandsInChain x q)
-        (chain_kept (bucket_at c j) p b q) (λ k apart was. was) i has)
+    in_chain_kept q (i, has) = (
+      i,
+      each_after put (λ k x. StandsInChain (bucket_at c k) q → StandsInChain x q)
+          (chain_kept (bucket_at c j) p b q) (λ k apart was. was) i has,
+    )
 
     listable_kept : (at : Landing) → IsListable c at → IsListable d at
     listable_kept at is = record {

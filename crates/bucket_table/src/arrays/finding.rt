@@ -16,8 +16,9 @@ ghost use Rattle.bucket_table.specs.Rehash.Units.{WorksUnits};
 
 use super::{Arrays, Side};
 use crate::key_hash::KeyHash;
-use bucket_slots::bucket::{AllocError, BUCKET_LEN, CACHE};
+use bucket_slots::bucket::{BUCKET_LEN, CACHE};
 use bucket_slots::lru::LruList;
+use std::alloc::AllocError;
 
 impl<K: Eq + Drop, V: Drop, L: LruList + Drop, const TYPE: u8> Arrays<K, V, L, TYPE> {
     /// Finds the bucket for a writer of a hash. Returns its side, and its index.

@@ -7,8 +7,8 @@ ghost use Rattle.bucket_table.specs.Views.Keeping.{KeepsArrays};
 
 use super::Arrays;
 use crate::key_hash::KeyHash;
-use bucket_slots::bucket::AllocError;
 use bucket_slots::lru::LruList;
+use std::alloc::AllocError;
 
 impl<K: Eq + Drop, V: Drop, L: LruList + Drop, const TYPE: u8> Arrays<K, V, L, TYPE> {
     /// Works the units of the old array, one after another, until that is dropped. Returns how

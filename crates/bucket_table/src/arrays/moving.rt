@@ -20,10 +20,10 @@ ghost use Rattle.bucket_table.specs.Rehash.Relocation.{KeepsOthers, MovesInto, h
 
 use crate::capacity::from_index_to_range;
 use crate::key_hash::KeyHash;
-use bucket_slots::bucket::{AllocError, BUCKET_LEN, Bucket, CACHE, EntryPtr};
+use bucket_slots::bucket::{BUCKET_LEN, Bucket, CACHE, EntryPtr};
 use bucket_slots::bucket_array::BucketArray;
 use bucket_slots::lru::LruList;
-use std::alloc::Global;
+use std::alloc::{AllocError, Global};
 
 /// Up to this number of targets, pairs are counted without memory.
 const COUNTED_TARGETS: usize = 8;

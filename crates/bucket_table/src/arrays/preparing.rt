@@ -9,8 +9,8 @@ ghost use Rattle.bucket_table.specs.Rehash.Units.{WantsMemory, WorksUnits};
 use super::{Arrays, Missing};
 use crate::capacity::from_index_to_range;
 use crate::key_hash::KeyHash;
-use bucket_slots::bucket::AllocError;
 use bucket_slots::lru::LruList;
+use std::alloc::AllocError;
 
 impl<K: Eq + Drop, V: Drop, L: LruList + Drop, const TYPE: u8> Arrays<K, V, L, TYPE> {
     /// Works a unit, and moves the sources of the home of a hash.

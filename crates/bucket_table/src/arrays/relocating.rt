@@ -11,8 +11,8 @@ ghost use Rattle.bucket_table.specs.Rehash.Units.{SpendsSome, WantsMemory, Works
 use super::Arrays;
 use super::moving::relocate;
 use crate::key_hash::KeyHash;
-use bucket_slots::bucket::AllocError;
 use bucket_slots::lru::LruList;
+use std::alloc::AllocError;
 
 impl<K: Eq + Drop, V: Drop, L: LruList + Drop, const TYPE: u8> Arrays<K, V, L, TYPE> {
     /// Moves the pairs of an old bucket to their homes in the current array, and kills it. The LRU

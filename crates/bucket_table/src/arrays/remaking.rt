@@ -6,8 +6,8 @@ ghost use Rattle.bucket_table.specs.Views.ArraysView.{ArePlaced};
 use super::Arrays;
 use crate::capacity::len_for;
 use crate::key_hash::KeyHash;
-use bucket_slots::bucket::AllocError;
 use bucket_slots::lru::LruList;
+use std::alloc::AllocError;
 
 impl<K: Eq + Drop, V: Drop, L: LruList + Drop, const TYPE: u8> Arrays<K, V, L, TYPE> {
     /// Ends the rehash that is under way, and moves all pairs into an array for a capacity, if the

@@ -13,9 +13,9 @@ ghost use Rattle.bucket_table.specs.Resize.Resizing.{Reserves, Resizes, TriesRes
 use super::plan::{Plan, plan_of};
 use super::{Arrays, Side};
 use crate::tickets::Tickets;
-use bucket_slots::bucket::AllocError;
 use bucket_slots::bucket_array::BucketArray;
 use bucket_slots::lru::LruList;
+use std::alloc::AllocError;
 
 impl<K, V, L: LruList, const TYPE: u8> Arrays<K, V, L, TYPE> {
     /// Returns the plan of a resize.

@@ -22,8 +22,9 @@ ghost use Rattle.bucket_table.specs.declared.arrays.side.Side.TheVariants.{Curre
 use crate::arrays::Side;
 use crate::hash_table::{HashTable, LockedBucket, Missing};
 use crate::key_hash::KeyHash;
-use bucket_slots::bucket::{AllocError, EntryPtr, Generation};
+use bucket_slots::bucket::{EntryPtr, Generation};
 use bucket_slots::lru::LruList;
+use std::alloc::AllocError;
 
 impl<K: Eq + Drop, V: Drop, H: KeyHash<K>, L: LruList + Drop, const TYPE: u8> HashTable<
     K,

@@ -7,8 +7,8 @@ ghost use Rattle.bucket_table.specs.Views.Keeping.{KeepsArrays};
 
 use crate::hash_table::HashTable;
 use crate::key_hash::KeyHash;
-use bucket_slots::bucket::AllocError;
 use bucket_slots::lru::LruList;
+use std::alloc::AllocError;
 
 impl<K: Eq + Drop, V: Drop, H: KeyHash<K>, L: LruList + Drop, const TYPE: u8> HashTable<
     K,

@@ -12,8 +12,9 @@ ghost use Rattle.bucket_table.specs.Walking.ByUse.{own_left};
 use crate::arrays::Arrays;
 use crate::hash_table::HashTable;
 use crate::key_hash::KeyHash;
-use bucket_slots::bucket::{AllocError, BUCKET_LEN, Bucket, CACHE, EntryPtr};
+use bucket_slots::bucket::{BUCKET_LEN, Bucket, CACHE, EntryPtr};
 use bucket_slots::lru::DoublyLinkedList;
+use std::alloc::AllocError;
 use std::mem;
 
 impl<K: Eq + Drop, V: Drop, H: KeyHash<K>, const TYPE: u8> HashTable<

@@ -13,9 +13,9 @@ ghost use Rattle.bucket_table.specs.Resize.Resizing.{Releases, Reserves, TriesRe
 
 use crate::hash_table::HashTable;
 use crate::key_hash::KeyHash;
-use bucket_slots::bucket::AllocError;
 use bucket_slots::bucket_array::BucketArray;
 use bucket_slots::lru::LruList;
+use std::alloc::AllocError;
 
 impl<K: Eq + Drop, V: Drop, H: KeyHash<K>, L: LruList + Drop, const TYPE: u8> HashTable<
     K,

@@ -22,8 +22,8 @@ ghost use Rattle.bucket_table.specs.Map.MapState.{KeepsPairs, state_of};
 use crate::hash_table::HashTable;
 use crate::key_hash::KeyHash;
 use crate::tickets::TicketError;
-use bucket_slots::bucket::AllocError;
 use bucket_slots::lru::LruList;
+use std::alloc::AllocError;
 
 impl<K: Eq, V, H: KeyHash<K>, L: LruList, const TYPE: u8> HashTable<K, V, H, L, TYPE> {
     /// Tests whether there is an old array with a bucket of this index.

@@ -21,8 +21,9 @@ use crate::capacity::from_index_to_range;
 use crate::hash_table::HashTable;
 use crate::key_hash::KeyHash;
 use crate::visit::{Read, Visit};
-use bucket_slots::bucket::{AllocError, Bucket};
+use bucket_slots::bucket::Bucket;
 use bucket_slots::lru::LruList;
+use std::alloc::AllocError;
 
 impl<K: Eq + Drop, V: Drop, H: KeyHash<K>, L: LruList + Drop, const TYPE: u8> HashTable<
     K,

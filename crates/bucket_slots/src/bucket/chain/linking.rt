@@ -16,8 +16,8 @@ use crate::bucket::blocks::{Block, Blocks, Far, Walk};
 use crate::bucket::entry_ptr::EntryPtr;
 use crate::bucket::room::fits_in_memory;
 use crate::bucket::row::Row;
-use crate::bucket::{AllocError, BUCKET_LEN, Generation};
-use std::alloc::Global;
+use crate::bucket::{BUCKET_LEN, Generation};
+use std::alloc::{AllocError, Global};
 use std::mem::replace;
 
 impl<K: Drop, V: Drop> Chain<K, V> {

@@ -21,8 +21,9 @@ ghost use Rattle.bucket_table.specs.declared.hash_table.Vacancy.TheVariants.{Rea
 use crate::arrays::Side;
 use crate::hash_table::{HashTable, Missing, NotInserted, Vacancy};
 use crate::key_hash::KeyHash;
-use bucket_slots::bucket::{AllocError, Bucket, CACHE};
+use bucket_slots::bucket::{Bucket, CACHE};
 use bucket_slots::lru::LruList;
+use std::alloc::AllocError;
 
 impl<K: Eq + Drop, V: Drop, H: KeyHash<K>, L: LruList + Drop, const TYPE: u8> HashTable<
     K,

@@ -11,9 +11,10 @@ ghost use Rattle.collections.specs.Room.{MapFits};
 use crate::hash_map::HashMap;
 use crate::hash_map::entry::VacantEntry;
 use crate::homes::learn_homes;
-use bucket_slots::bucket::{AllocError, MAP};
+use bucket_slots::bucket::MAP;
 use bucket_table::hash_table::{HashTable, Side};
 use bucket_table::key_hash::KeyHash;
+use std::alloc::AllocError;
 use std::alloc::AllocFailed;
 
 impl<'a, K: Eq, V, H: KeyHash<K>> VacantEntry<'a, K, V, H> {
